@@ -1,0 +1,305 @@
+//! Subtags of BCP 47 language tags: 1 to 8 letters or digits, whose case doesn't matter.
+#![tactic(auto)]
+
+ghost use Rattle.std.specs.Prelude.{◌≡◌, ◌≤◌, ◌<◌, [], ◌∷◌, ◌++◌, ◌↔◌, IsTrue, true, length, take, drop};
+ghost use Rattle.std.specs.Ordering.{nat_cmp};
+ghost use Rattle.std.specs.Cmp.Lexicographic.{slice_cmp};
+ghost use Rattle.std.specs.List.{list_all};
+ghost use Rattle.std.specs.Char.{is_ascii_alphanumeric};
+ghost use Rattle.lt_subtag.specs.Bytes.{is_subtag, folded, upper};
+ghost use Rattle.lt_subtag.specs.Shapes as shapes;
+ghost use Rattle.lt_subtag.specs.Reading.{subtag_of};
+ghost use Rattle.lt_subtag.specs.Reading as reading;
+
+use arrayvec::ArrayVec;
+use std::cmp::Ordering;
+use std::marker::Model;
+
+/// Why a piece of a text is no subtag.
+#[derive(Clone, Copy, Debug, PartialEq, Eq)]
+pub enum SubtagFault {
+    /// It has no byte.
+    Empty,
+    /// A byte is no ASCII letter or digit.
+    BadByte,
+    /// It has more than 8 bytes.
+    TooLong,
+}
+
+impl SubtagFault {
+    /// The fault's name, as it is written here.
+    pub fn name(self) -> &'static str
+        ensures { result.now ≡ reading.name_of self }
+    {
+        match self {
+            SubtagFault::Empty => "Empty",
+            SubtagFault::BadByte => "BadByte",
+            SubtagFault::TooLong => "TooLong",
+        }
+    }
+}
+
+/// How the letters of a subtag are shown.
+#[derive(Clone, Copy, Debug, PartialEq, Eq)]
+pub enum Case {
+    Lower,
+    Upper,
+    Title,
+}
+
+/// A subtag. A contract sees its lower-case bytes.
+#[derive(Debug, Drop, PartialEq, Eq, PartialOrd, Ord, Hash)]
+pub struct Subtag {
+    letters: ArrayVec<u8, 8>,
+}
+
+impl Model for Subtag {
+    ghost use Rattle.std.specs.Prelude.{◌≡◌, ℕ, List, true};
+    ghost use Rattle.lt_subtag.specs.Bytes.{is_subtag};
+
+    ghost Value = { List ℕ };
+
+    ghost view = { λ s. s.letters.items };
+
+    ghost invariant = { λ s. is_subtag s.letters.items ≡ true };
+
+    ghost inverse = { λ bytes. record { letters = record { items = bytes } } };
+}
+
+impl Default for Subtag {
+    ghost is_default = { λ subtag. subtag ≡ 120 ∷ [] };
+
+    /// `x`. It stands in the unused places of an `ArrayVec`.
+    #[tactic(auto, unfolding(crate::specs::Bytes::is_subtag))]
+    fn default() -> Subtag {
+        let mut letters = ArrayVec::new();
+        letters.push(b'x');
+        Subtag { letters }
+    }
+}
+
+impl Subtag {
+    /// The subtag that the bytes spell.
+    #[tactic(auto, using(crate::proofs::BytesLemmas::piece_folds))]
+    pub fn read(bytes: &[u8]) -> Result<Subtag, SubtagFault>
+        ensures { result ≡ subtag_of bytes.now }
+    {
+        if bytes.is_empty() {
+            return Err(SubtagFault::Empty);
+        }
+        if !is_alphanumeric(bytes) {
+            return Err(SubtagFault::BadByte);
+        }
+        if bytes.len() > 8 {
+            return Err(SubtagFault::TooLong);
+        }
+        Ok(Subtag {
+            letters: lower_case(bytes),
+        })
+    }
+
+    /// The lower-case bytes, 1 to 8 of them.
+    #[tactic(auto, using(crate::proofs::BytesLemmas::subtag_length))]
+    pub fn bytes(&self) -> &[u8]
+        ensures same { result.now ≡ self.now }
+        ensures subtag { is_subtag self.now ≡ true }
+        ensures some { 0 < length self.now }
+        ensures few { length self.now ≤ 8 }
+    {
+        self.letters.as_slice()
+    }
+
+    /// An equal subtag.
+    pub fn copy(&self) -> Subtag
+        ensures { result ≡ self.now }
+    {
+        let mut letters = ArrayVec::new();
+        for letter in self.letters.as_slice() {
+            letters.push(*letter);
+        }
+        Subtag { letters }
+    }
+
+    /// The bytes with the letters in a case.
+    #[tactic(auto, using(crate::proofs::BytesLemmas::subtag_length))]
+    pub fn cased(&self, case: Case) -> ArrayVec<u8, 8>
+        ensures { result.items ≡ reading.cased case self.now }
+    {
+        let bytes = self.letters.as_slice();
+        match case {
+            Case::Lower => capitalised(bytes, 0),
+            Case::Upper => capitalised(bytes, bytes.len()),
+            Case::Title => capitalised(bytes, 1),
+        }
+    }
+
+    /// 2 to 8 letters.
+    #[tactic(auto, unfolding(crate::specs::Shapes::is_language))]
+    pub fn is_language(&self) -> bool
+        ensures { result ≡ shapes.is_language self.now }
+    {
+        let length = self.letters.len();
+        is_alphabetic(self.letters.as_slice()) && 2 <= length && length <= 8
+    }
+
+    /// 3 letters.
+    #[tactic(auto, unfolding(crate::specs::Shapes::is_extlang))]
+    pub fn is_extlang(&self) -> bool
+        ensures { result ≡ shapes.is_extlang self.now }
+    {
+        is_alphabetic(self.letters.as_slice()) && self.letters.len() == 3
+    }
+
+    /// 4 letters.
+    #[tactic(auto, unfolding(crate::specs::Shapes::is_script))]
+    pub fn is_script(&self) -> bool
+        ensures { result ≡ shapes.is_script self.now }
+    {
+        is_alphabetic(self.letters.as_slice()) && self.letters.len() == 4
+    }
+
+    /// 2 letters or 3 digits.
+    #[tactic(auto, unfolding(crate::specs::Shapes::is_region))]
+    pub fn is_region(&self) -> bool
+        ensures { result ≡ shapes.is_region self.now }
+    {
+        let bytes = self.letters.as_slice();
+        is_alphabetic(bytes) && bytes.len() == 2 || is_numeric(bytes) && bytes.len() == 3
+    }
+
+    /// 5 to 8 letters or digits, or a digit and 3 letters or digits.
+    #[tactic(auto, unfolding(crate::specs::Shapes::is_variant))]
+    pub fn is_variant(&self) -> bool
+        ensures { result ≡ shapes.is_variant self.now }
+    {
+        let bytes = self.letters.as_slice();
+        5 <= bytes.len() || bytes.len() == 4 && bytes[0].is_ascii_digit()
+    }
+
+    /// One digit, or one letter other than `x`.
+    #[tactic(auto, unfolding(crate::specs::Shapes::is_single, crate::specs::Shapes::is_singleton))]
+    pub fn is_singleton(&self) -> bool
+        ensures { result ≡ shapes.is_singleton self.now }
+    {
+        match self.letters.as_slice() {
+            [byte] => *byte != b'x',
+            _ => false,
+        }
+    }
+
+    /// Two letters or digits.
+    #[tactic(auto, unfolding(crate::specs::Shapes::is_key))]
+    pub fn is_key(&self) -> bool
+        ensures { result ≡ shapes.is_key self.now }
+    {
+        self.letters.len() == 2
+    }
+
+    /// A letter and a digit.
+    #[tactic(auto, unfolding(crate::specs::Shapes::is_separator))]
+    pub fn is_separator(&self) -> bool
+        ensures { result ≡ shapes.is_separator self.now }
+    {
+        match self.letters.as_slice() {
+            [first, second] => first.is_ascii_lowercase() && second.is_ascii_digit(),
+            _ => false,
+        }
+    }
+}
+
+/// Whether the bytes are letters and digits alone, of either case.
+fn is_alphanumeric(bytes: &[u8]) -> bool
+    ensures { result ≡ list_all is_ascii_alphanumeric bytes.now }
+{
+    bytes.iter().all(|byte| byte.is_ascii_alphanumeric())
+}
+
+/// Whether the bytes are lower-case letters alone.
+fn is_alphabetic(bytes: &[u8]) -> bool
+    ensures { result ≡ shapes.is_alphabetic bytes.now }
+{
+    bytes.iter().all(|byte| byte.is_ascii_lowercase())
+}
+
+/// Whether the bytes are digits alone.
+fn is_numeric(bytes: &[u8]) -> bool
+    ensures { result ≡ shapes.is_numeric bytes.now }
+{
+    bytes.iter().all(|byte| byte.is_ascii_digit())
+}
+
+/// The bytes with their letters in lower case.
+fn lower_case(bytes: &[u8]) -> ArrayVec<u8, 8>
+    requires { length bytes.now ≤ 8 }
+    ensures { result.items ≡ folded bytes.now }
+{
+    let mut letters = ArrayVec::new();
+    for byte in bytes {
+        letters.push(byte.to_ascii_lowercase());
+    }
+    letters
+}
+
+/// The bytes with the first so many in upper case.
+fn capitalised(bytes: &[u8], capitals: usize) -> ArrayVec<u8, 8>
+    requires short { length bytes.now ≤ 8 }
+    requires within { capitals ≤ length bytes.now }
+    ensures { result.items ≡ upper (take capitals bytes.now) ++ drop capitals bytes.now }
+{
+    let mut shown = ArrayVec::new();
+    for byte in &bytes[..capitals] {
+        shown.push(byte.to_ascii_uppercase());
+    }
+    for rest in &bytes[capitals..] {
+        shown.push(*rest);
+    }
+    shown
+}
+
+/// The order is that of the lower-case bytes.
+pub fn order(left: &Subtag, right: &Subtag) -> Ordering
+    ensures { result ≡ slice_cmp nat_cmp left.now right.now }
+{
+    left.cmp(right)
+}
+
+/// Two subtags are equal exactly if their lower-case bytes are.
+pub fn is_same(left: &Subtag, right: &Subtag) -> bool
+    ensures { IsTrue result ↔ (left.now ≡ right.now) }
+{
+    left == right
+}
+
+#[cfg(test)]
+mod tests {
+    use super::*;
+    use std::hash::{DefaultHasher, Hash, Hasher};
+    use std::test::Fail;
+
+    fn hash_of(subtag: &Subtag) -> u64 {
+        let mut state = DefaultHasher::new();
+        subtag.hash(&mut state);
+        state.finish()
+    }
+
+    #[test]
+    fn reads(rt: HostRuntime) -> Result<(), Fail> {
+        assert_eq!(rt; Subtag::read(b"").err(), Some(SubtagFault::Empty));
+        assert_eq!(rt;
+            Subtag::read(b"en_US_abcdef").err(),
+            Some(SubtagFault::BadByte)
+        );
+        assert_eq!(rt;
+            Subtag::read(b"abcdefghi").err(),
+            Some(SubtagFault::TooLong)
+        );
+        let hans = Subtag::read(b"hANS").map_err(|_| "hans")?;
+        assert_eq!(rt; hans.bytes(), b"hans".as_slice());
+        assert_eq!(rt; hans.cased(Case::Title).as_slice(), b"Hans".as_slice());
+        assert_eq!(rt; hans.cased(Case::Upper).as_slice(), b"HANS".as_slice());
+        let again = Subtag::read(b"HANS").map_err(|_| "hans")?;
+        assert!(rt; hans == again && hash_of(&hans) == hash_of(&again) && hans == hans.copy());
+        assert!(rt; hans.is_script() && hans.is_language() && !hans.is_variant());
+        Ok(())
+    }
+}
