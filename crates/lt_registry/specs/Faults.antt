@@ -1,0 +1,117 @@
+-- The faults of a tag (RFC 5646, 2.2.9), each a kind and the place of a subtag, counted from 1.
+use Rattle.std.specs.Prelude.{ℕ, ◌≡◌, ◌≤◌, ◌+◌, false, List, [], ◌∷◌, ◌++◌, Some, length, ◌⊎◌}
+use Rattle.std.specs.Option.{option_to_list}
+use Rattle.lt_tag.specs.Parts.{CoreParts, ExtensionParts, TForm, TagForm, LangTag, PrivateUse, Grandfathered}
+use Rattle.lt_tag.specs.Spelling.{spell_core, spell_extensions}
+use Rattle.lt_registry.specs.Parts.{EntryParts}
+use Rattle.lt_registry.specs.Entries.{is_registered, prefixes, lists}
+use Rattle.lt_registry.specs.Validity.{transform, IsTransform}
+use Rattle.lt_registry.specs.declared.entries.Kind.TheVariants as kinds
+use Rattle.lt_registry.specs.declared.faults.ValidFaultKind.{ValidFaultKind}
+use Rattle.lt_registry.specs.declared.faults.ValidFaultKind.TheVariants as faults
+
+-- how many subtags stand before the script, the region, the variants
+abbrev pub before_script : CoreParts → ℕ
+before_script c = 1 + length c.extlangs
+
+abbrev pub before_region : CoreParts → ℕ
+before_region c = before_script c + length (option_to_list c.script)
+
+abbrev pub before_variants : CoreParts → ℕ
+before_variants c = before_region c + length (option_to_list c.region)
+
+-- the faults of a core that begins after so many subtags
+abbrev pub HasCoreFault : List EntryParts → ℕ → CoreParts → ValidFaultKind → ℕ → Type 0
+HasCoreFault R start c faults.UnknownLanguage place =
+    (place ≡ start + 1) × (is_registered R kinds.Language c.language ≡ false)
+HasCoreFault R start c faults.UnknownExtlang place =
+    (x : List ℕ) × (rest : List (List ℕ)) × (c.extlangs ≡ x ∷ rest) × (place ≡ start + 2) × (is_registered R kinds.Extlang x ≡ false)
+HasCoreFault R start c faults.ExtlangPrefix place =
+    (x : List ℕ) × (rest : List (List ℕ)) × (c.extlangs ≡ x ∷ rest) × (place ≡ start + 2)
+    × (lists (prefixes R kinds.Extlang x) c.language ≡ false)
+HasCoreFault R start c faults.TooManyExtlangs place =
+    (x y : List ℕ) × (rest : List (List ℕ)) × (c.extlangs ≡ x ∷ y ∷ rest) × (place ≡ start + 3)
+HasCoreFault R start c faults.UnknownScript place =
+    (s : List ℕ) × (c.script ≡ Some s) × (place ≡ start + before_script c + 1) × (is_registered R kinds.Script s ≡ false)
+HasCoreFault R start c faults.UnknownRegion place =
+    (s : List ℕ) × (c.region ≡ Some s) × (place ≡ start + before_region c + 1) × (is_registered R kinds.Region s ≡ false)
+HasCoreFault R start c faults.UnknownVariant place =
+    (before : List (List ℕ)) × (v : List ℕ) × (after : List (List ℕ)) × (c.variants ≡ before ++ v ∷ after)
+    × (place ≡ start + before_variants c + length before + 1) × (is_registered R kinds.Variant v ≡ false)
+HasCoreFault R start c faults.DuplicateVariant place =
+    (before : List (List ℕ)) × (v : List ℕ) × (between : List (List ℕ)) × (after : List (List ℕ))
+    × (c.variants ≡ before ++ v ∷ (between ++ v ∷ after))
+    × (place ≡ start + before_variants c + length before + 1 + length between + 1)
+HasCoreFault R start c faults.DuplicateSingleton place = ⊥
+HasCoreFault R start c faults.BadTransform place = ⊥
+
+-- no parts spell the subtags of the t extension
+pub record HasBadForm (e : ExtensionParts) : Type 0 where
+  pub transforms : e.singleton ≡ transform
+  pub formless : (p : TForm) → IsTransform e.subtags p → ⊥
+
+-- the source of a t extension
+pub record HasSource (e : ExtensionParts) (source : CoreParts) : Type 0 where
+  pub transforms : e.singleton ≡ transform
+  pub parts : TForm
+  pub formed : IsTransform e.subtags parts
+  pub there : parts.source ≡ Some source
+
+-- the faults of an extension whose singleton stands at a place
+abbrev pub HasExtensionFault : List EntryParts → ℕ → ExtensionParts → ValidFaultKind → ℕ → Type 0
+HasExtensionFault R start e kind place =
+    ((kind ≡ faults.BadTransform) × (place ≡ start) × HasBadForm e)
+    ⊎ ((source : CoreParts) × HasSource e source × HasCoreFault R start source kind place)
+
+-- the faults of an extension of a langtag, its singleton's repetition aside
+pub record IsFaultOfExtension (R : List EntryParts) (c : CoreParts) (es : List ExtensionParts) (kind : ValidFaultKind) (place : ℕ) : Type 0 where
+  pub before : List ExtensionParts
+  pub extension : ExtensionParts
+  pub after : List ExtensionParts
+  pub there : es ≡ before ++ extension ∷ after
+  pub fault : HasExtensionFault R (length (spell_core c) + length (spell_extensions before) + 1) extension kind place
+
+-- a singleton stands a second time, at a place
+pub record IsSecondSingleton (c : CoreParts) (es : List ExtensionParts) (place : ℕ) : Type 0 where
+  pub before : List ExtensionParts
+  pub first : ExtensionParts
+  pub between : List ExtensionParts
+  pub second : ExtensionParts
+  pub after : List ExtensionParts
+  pub there : es ≡ before ++ first ∷ (between ++ second ∷ after)
+  pub alike : first.singleton ≡ second.singleton
+  pub here : place ≡ length (spell_core c) + length (spell_extensions (before ++ first ∷ between)) + 1
+
+-- the tag has this fault at this place
+abbrev pub HasFault : List EntryParts → TagForm → ValidFaultKind → ℕ → Type 0
+HasFault R (LangTag c es ps) kind place =
+    HasCoreFault R 0 c kind place
+    ⊎ (IsFaultOfExtension R c es kind place ⊎ ((kind ≡ faults.DuplicateSingleton) × IsSecondSingleton c es place))
+HasFault R (PrivateUse ps) kind place = ⊥
+HasFault R (Grandfathered n) kind place = ⊥
+
+abbrev pub HasNoFault : List EntryParts → TagForm → Type 0
+HasNoFault R t = (kind : ValidFaultKind) (place : ℕ) → HasFault R t kind place → ⊥
+
+-- no fault but that variants repeat
+abbrev pub RepeatsAtMost : List EntryParts → TagForm → Type 0
+RepeatsAtMost R t = (kind : ValidFaultKind) (place : ℕ) → HasFault R t kind place → kind ≡ faults.DuplicateVariant
+
+-- of the faults at one place the one of the least rank is told
+abbrev pub rank_of : ValidFaultKind → ℕ
+rank_of faults.UnknownLanguage = 0
+rank_of faults.UnknownExtlang = 1
+rank_of faults.ExtlangPrefix = 2
+rank_of faults.TooManyExtlangs = 3
+rank_of faults.UnknownScript = 4
+rank_of faults.UnknownRegion = 5
+rank_of faults.UnknownVariant = 6
+rank_of faults.DuplicateVariant = 7
+rank_of faults.DuplicateSingleton = 8
+rank_of faults.BadTransform = 9
+
+-- the fault of the least place, and there of the least rank
+pub record IsFirstFault (R : List EntryParts) (t : TagForm) (kind : ValidFaultKind) (place : ℕ) : Type 0 where
+  pub there : HasFault R t kind place
+  pub leftmost : (other : ValidFaultKind) (elsewhere : ℕ) → HasFault R t other elsewhere → place ≤ elsewhere
+  pub earliest : (other : ValidFaultKind) → HasFault R t other place → rank_of kind ≤ rank_of other

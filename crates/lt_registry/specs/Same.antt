@@ -1,0 +1,40 @@
+-- Tests of equality that compute.
+use Rattle.std.specs.Prelude.{ℕ, Bool, true, false, ◌==◌, ◌&&◌, List, Option, Some, None, bytes_eq}
+use Rattle.std.specs.Cmp.Lexicographic.{pointwise}
+use Rattle.lt_tag.specs.Parts.{CoreParts, ExtensionParts, TagForm, LangTag, PrivateUse, Grandfathered}
+use Rattle.lt_registry.specs.declared.entries.Kind.{Kind}
+use Rattle.lt_registry.specs.declared.entries.Kind.TheVariants as kinds
+
+abbrev pub same_list : List (List ℕ) → List (List ℕ) → Bool
+same_list a b = pointwise bytes_eq a b
+
+abbrev pub same_option : Option (List ℕ) → Option (List ℕ) → Bool
+same_option None None = true
+same_option (Some a) (Some b) = bytes_eq a b
+same_option None (Some b) = false
+same_option (Some a) None = false
+
+abbrev pub same_core : CoreParts → CoreParts → Bool
+same_core c d =
+    bytes_eq c.language d.language
+    && (same_list c.extlangs d.extlangs
+    && (same_option c.script d.script && (same_option c.region d.region && same_list c.variants d.variants)))
+
+abbrev pub same_extension : ExtensionParts → ExtensionParts → Bool
+same_extension a b = (a.singleton == b.singleton) && same_list a.subtags b.subtags
+
+abbrev pub same_tag : TagForm → TagForm → Bool
+same_tag (LangTag c es ps) (LangTag d fs qs) = same_core c d && (pointwise same_extension es fs && same_list ps qs)
+same_tag (PrivateUse ps) (PrivateUse qs) = same_list ps qs
+same_tag (Grandfathered m) (Grandfathered n) = m == n
+same_tag _ _ = false
+
+abbrev pub same_kind : Kind → Kind → Bool
+same_kind kinds.Language kinds.Language = true
+same_kind kinds.Extlang kinds.Extlang = true
+same_kind kinds.Script kinds.Script = true
+same_kind kinds.Region kinds.Region = true
+same_kind kinds.Variant kinds.Variant = true
+same_kind kinds.Grandfathered kinds.Grandfathered = true
+same_kind kinds.Redundant kinds.Redundant = true
+same_kind _ _ = false

@@ -1,0 +1,74 @@
+-- Valid tags, and proper ones, in which variants may repeat (RFC 5646, 2.2.9).
+use Rattle.std.specs.Prelude.{ℕ, ◌≡◌, ◌≢◌, true, List, [], ◌∷◌, map, IfSome}
+use Rattle.std.specs.List.{AllByRecursion}
+use Rattle.lt_tag.specs.Parts.{CoreParts, ExtensionParts, TForm, TagForm, LangTag, PrivateUse, Grandfathered}
+use Rattle.lt_tag.specs.Extensions.{spell_t, IsT}
+use Rattle.lt_tag.specs.Values.{IsTagValue}
+use Rattle.lt_registry.specs.Parts.{EntryParts}
+use Rattle.lt_registry.specs.Entries.{is_registered, prefixes, lists}
+use Rattle.lt_registry.specs.declared.entries.Kind.TheVariants as kinds
+
+-- the singleton t
+abbrev pub transform : ℕ
+transform = 116
+
+-- these parts spell the subtags of a t extension
+pub record IsTransform (subtags : List (List ℕ)) (parts : TForm) : Type 0 where
+  pub shaped : IsT parts
+  pub spelled : spell_t parts ≡ subtags
+
+-- at most one extlang, which is registered, and the language is one of its Prefixes
+abbrev pub ExtlangsFit : List EntryParts → List ℕ → List (List ℕ) → Type 0
+ExtlangsFit R l [] = Unit {0}
+ExtlangsFit R l (x ∷ []) = (is_registered R kinds.Extlang x ≡ true) × (lists (prefixes R kinds.Extlang x) l ≡ true)
+ExtlangsFit R l (x ∷ y ∷ rest) = ⊥
+
+-- each subtag of the core is registered
+pub record IsProperCore (R : List EntryParts) (c : CoreParts) : Type 0 where
+  pub language : is_registered R kinds.Language c.language ≡ true
+  pub extlangs : ExtlangsFit R c.language c.extlangs
+  pub script : IfSome c.script (λ s. is_registered R kinds.Script s ≡ true)
+  pub region : IfSome c.region (λ s. is_registered R kinds.Region s ≡ true)
+  pub variants : AllByRecursion (λ v. is_registered R kinds.Variant v ≡ true) c.variants
+
+-- none stands twice
+abbrev pub Distinct : {A : Type 0} → List A → Type 0
+Distinct [] = Unit {0}
+Distinct (x ∷ xs) = AllByRecursion (λ y. y ≢ x) xs × Distinct xs
+
+pub record IsValidCore (R : List EntryParts) (c : CoreParts) : Type 0 where
+  pub proper : IsProperCore R c
+  pub distinct : Distinct c.variants
+
+-- the subtags of a t extension have the form of one, and its source is proper
+abbrev pub IsProperExtension : List EntryParts → ExtensionParts → Type 0
+IsProperExtension R e = e.singleton ≡ transform → (p : TForm) × IsTransform e.subtags p × IfSome p.source (IsProperCore R)
+
+pub record IsProperLangTag (R : List EntryParts) (c : CoreParts) (es : List ExtensionParts) : Type 0 where
+  pub core : IsProperCore R c
+  pub extensions : AllByRecursion (IsProperExtension R) es
+  pub singletons : Distinct (map (λ (e : ExtensionParts). e.singleton) es)
+
+abbrev pub HasProperParts : List EntryParts → TagForm → Type 0
+HasProperParts R (LangTag c es ps) = IsProperLangTag R c es
+HasProperParts R (PrivateUse ps) = Unit {0}
+HasProperParts R (Grandfathered n) = Unit {0}
+
+-- valid, but that variants may repeat, in the core or in a source
+pub record IsProper (R : List EntryParts) (t : TagForm) : Type 0 where
+  pub tag : IsTagValue t
+  pub parts : HasProperParts R t
+
+-- no variant stands twice in a source
+abbrev pub HasDistinctSource : ExtensionParts → Type 0
+HasDistinctSource e = e.singleton ≡ transform → (p : TForm) → IsTransform e.subtags p → IfSome p.source (λ (c : CoreParts). Distinct c.variants)
+
+-- no variant stands twice in the core, nor in a source
+abbrev pub RepeatsNoVariant : TagForm → Type 0
+RepeatsNoVariant (LangTag c es ps) = Distinct c.variants × AllByRecursion HasDistinctSource es
+RepeatsNoVariant (PrivateUse ps) = Unit {0}
+RepeatsNoVariant (Grandfathered n) = Unit {0}
+
+pub record IsValid (R : List EntryParts) (t : TagForm) : Type 0 where
+  pub proper : IsProper R t
+  pub distinct : RepeatsNoVariant t

@@ -1,0 +1,126 @@
+//! Entries of a registry.
+ghost use Rattle.std.specs.Prelude.{◌≡◌};
+ghost use Rattle.lt_registry.specs.Entries.{IsEntry, IsPrefix};
+
+use lt_subtag::Subtag;
+use lt_tag::Tag;
+use std::marker::Model;
+
+/// The type of a record (RFC 5646, 3.1.3).
+#[derive(Clone, Copy, Debug, PartialEq, Eq)]
+pub enum Kind {
+    Language,
+    Extlang,
+    Script,
+    Region,
+    Variant,
+    Grandfathered,
+    Redundant,
+}
+
+/// What a record names: one subtag, the subtags from a first to a last, or a whole tag
+/// (RFC 5646, 3.1.3 and 3.1.4).
+#[derive(Debug, Drop)]
+pub enum EntryName {
+    Single(Subtag),
+    Range(Subtag, Subtag),
+    Whole(Tag),
+}
+
+/// The `Preferred-Value` of a record: one subtag, or a whole tag (RFC 5646, 3.1.7).
+#[derive(Debug, Drop)]
+pub enum EntryValue {
+    One(Subtag),
+    Whole(Tag),
+}
+
+/// The subtags of a `Prefix` (RFC 5646, 3.1.8).
+#[derive(Debug, Drop)]
+pub struct Prefix {
+    subtags: Vec<Subtag>,
+}
+
+impl Model for Prefix {
+    ghost use Rattle.std.specs.Prelude.{ℕ, List};
+    ghost use Rattle.lt_registry.specs.Entries.{IsPrefix};
+
+    ghost Value = { List (List ℕ) };
+
+    ghost view = { λ p. p.subtags.items };
+
+    ghost invariant = { λ p. IsPrefix p.subtags.items };
+}
+
+impl Prefix {
+    /// The subtags in order. There is at least one.
+    pub fn subtags(&self) -> &[Subtag]
+        ensures value { result.now ≡ self.now }
+        ensures prefix { IsPrefix self.now }
+    {
+        self.subtags.as_slice()
+    }
+}
+
+/// A record of a registry: its number in the file, counted from 1, its kind, what it names, its
+/// value and its Prefixes. Name and value have the forms of the kind (RFC 5646, 2.1 and 3.1).
+#[derive(Debug, Drop)]
+pub struct Entry {
+    number: u32,
+    kind: Kind,
+    name: EntryName,
+    value: Option<EntryValue>,
+    prefixes: Vec<Prefix>,
+}
+
+impl Model for Entry {
+    ghost use Rattle.lt_registry.specs.Parts.{EntryParts};
+    ghost use Rattle.lt_registry.specs.Entries.{IsEntry};
+
+    ghost Value = { EntryParts };
+
+    ghost view = { λ e. record { number = e.number; kind = e.kind; name = e.name; value = e.value; prefixes = e.prefixes.items } };
+
+    ghost invariant = { λ e. IsEntry (record { number = e.number; kind = e.kind; name = e.name; value = e.value; prefixes = e.prefixes.items }) };
+}
+
+impl Entry {
+    /// The record's number in the file, counted from 1.
+    pub fn number(&self) -> u32
+        ensures value { result ≡ self.now.number }
+        ensures entry { IsEntry self.now }
+    {
+        self.number
+    }
+
+    /// The record's type.
+    pub fn kind(&self) -> Kind
+        ensures value { result ≡ self.now.kind }
+        ensures entry { IsEntry self.now }
+    {
+        self.kind
+    }
+
+    /// What the record names.
+    pub fn name(&self) -> &EntryName
+        ensures value { result.now ≡ self.now.name }
+        ensures entry { IsEntry self.now }
+    {
+        &self.name
+    }
+
+    /// The record's value, if it has one.
+    pub fn value(&self) -> &Option<EntryValue>
+        ensures value { result.now ≡ self.now.value }
+        ensures entry { IsEntry self.now }
+    {
+        &self.value
+    }
+
+    /// The record's Prefixes in order.
+    pub fn prefixes(&self) -> &[Prefix]
+        ensures value { result.now ≡ self.now.prefixes }
+        ensures entry { IsEntry self.now }
+    {
+        self.prefixes.as_slice()
+    }
+}

@@ -1,0 +1,30 @@
+//! What every table of entries answers.
+ghost use Rattle.std.specs.Prelude.{◌≡◌, List, All};
+ghost use Rattle.std.specs.Option.{option_copied};
+ghost use Rattle.lt_registry.specs.Parts.{EntryParts};
+ghost use Rattle.lt_registry.specs.Entries.{IsEntry, NumbersRise, entry, whole};
+
+use crate::entries::{Entry, Kind};
+use lt_subtag::Subtag;
+use lt_tag::Tag;
+
+/// A table of entries. Each answer is the one that the list of entries determines.
+pub trait Lookup {
+    /// The entries in the order of the file.
+    ghost listed: { Self → List EntryParts };
+
+    /// The entries in the order of the file.
+    fn entries(&self) -> &[Entry]
+        ensures value { result.now ≡ listed self.now }
+        ensures rising { NumbersRise (listed self.now) }
+        ensures forms { All IsEntry (listed self.now) };
+
+    /// The entry of a subtag under a kind: the first record of that name, else the first range that
+    /// holds it. No subtag has an entry as a grandfathered or redundant tag.
+    fn entry(&self, kind: Kind, subtag: &Subtag) -> Option<&Entry>
+        ensures { option_copied result ≡ entry (listed self.now) kind subtag.now };
+
+    /// The entry of a whole tag: the first grandfathered or redundant record of that tag.
+    fn whole(&self, tag: &Tag) -> Option<&Entry>
+        ensures { option_copied result ≡ whole (listed self.now) tag.now };
+}
