@@ -10,16 +10,16 @@ use Rattle.lt_tag.specs.Faults.{HasList}
 use Rattle.lt_tag.specs.Conventional.{conventional}
 
 -- A list is spelled by one core at most.
-abbrev pub OneCoreSpells : Type 0
-OneCoreSpells = (a b : CoreParts) → IsCore a → IsCore b → spell_core a ≡ spell_core b → a ≡ b
+abbrev pub OneCorePerList : Type 0
+OneCorePerList = (a b : CoreParts) → IsCore a → IsCore b → spell_core a ≡ spell_core b → a ≡ b
 
 -- The 26 grandfathered lists differ.
-abbrev pub OneNumberHas : Type 0
-OneNumberHas = (list : List (List ℕ)) (a b : ℕ) → IsGrandfathered list a → IsGrandfathered list b → a ≡ b
+abbrev pub OneNumberPerList : Type 0
+OneNumberPerList = (list : List (List ℕ)) (a b : ℕ) → IsGrandfathered list a → IsGrandfathered list b → a ≡ b
 
 -- A list is spelled by one tag at most.
-abbrev pub OneTagSpells : Type 0
-OneTagSpells = (a b : TagForm) → IsTag a → IsTag b → spell a ≡ spell b → a ≡ b
+abbrev pub OneTagPerList : Type 0
+OneTagPerList = (a b : TagForm) → IsTag a → IsTag b → spell a ≡ spell b → a ≡ b
 
 -- A text has a list, which is that of a tag and of no other tag.
 pub record IsTextOf (tag : TagForm) (text : List ℕ) : Type 0 where
