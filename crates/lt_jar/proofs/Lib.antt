@@ -1,0 +1,7 @@
+-- Lemmas on the definitions of the format.
+pub mod CutLemmas
+pub mod BoundaryLemmas
+pub mod TakeLemmas
+pub mod StepLemmas
+pub mod BodyLemmas
+pub mod GroupLemmas
