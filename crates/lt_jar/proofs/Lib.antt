@@ -5,3 +5,6 @@ pub mod TakeLemmas
 pub mod StepLemmas
 pub mod BodyLemmas
 pub mod GroupLemmas
+pub mod CountLemmas
+pub mod FaultLemmas
+pub mod ReadLemmas
