@@ -1,0 +1,2 @@
+-- Lemmas on the program's calls.
+pub mod ReadingLemmas
