@@ -9,3 +9,6 @@ mod words;
 pub use printing::{perform, report};
 pub use status::Status;
 pub use words::{Command, WordsFault, read_words};
+
+#[cfg(test)]
+mod tests;

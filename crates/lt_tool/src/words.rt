@@ -6,7 +6,6 @@ ghost use Rattle.lt_tool.specs.declared.words.WordsFault.TheVariants.{OutOfMemor
 ghost use Rattle.clap.specs.declared.builder.command.Command.TheViews.{out-Command as fields_of};
 ghost use Rattle.clap.specs.Words.{app_of, first_of, found_of, rows_of, subcommand_rows_of};
 ghost use Rattle.clap.specs.Values.{kind_of};
-ghost use Rattle.clap.specs.Walk.{texts};
 
 use clap::error::ErrorKind;
 use clap::{Arg, ArgAction, ArgMatches};
@@ -38,19 +37,31 @@ impl From<AllocError> for WordsFault {
     }
 }
 
-/// A subcommand with a required positional of each name.
+/// A word that a subcommand takes: its name, and what it is.
+struct Positional {
+    name: &'static str,
+    help: &'static str,
+}
+
+static TAG: Positional = Positional {
+    name: "TAG",
+    help: "A BCP 47 language tag",
+};
+
+/// A subcommand with these required positionals.
 fn new_subcommand<'a>(
     alloc: Global,
     name: &'a str,
     about: &'a str,
-    positionals: &[&'a str],
+    positionals: &[&'static Positional],
 ) -> Result<clap::Command<'a>, AllocError>
-    ensures app { IfOk result (λ r. app_of r ≡ subcommand name.entry.now (texts positionals.now)) }
+    ensures app { IfOk result (λ r. app_of r ≡ subcommand name.entry.now (map (λ p. p.now.name.now) positionals.now)) }
     ensures globals { IfOk result (λ r. (fields_of r).has_globals ≡ false) }
 {
     let mut command = clap::Command::new(alloc, name).about(about);
     for positional in positionals {
-        let argument = Arg::new(alloc, positional)
+        let argument = Arg::new(alloc, positional.name)
+            .help(positional.help)
             .required(true)
             .action(ArgAction::Set);
         command = command.arg(argument)?;
@@ -63,7 +74,7 @@ fn new_langtag<'a>(alloc: Global) -> Result<clap::Command<'a>, AllocError>
     ensures app { IfOk result (λ r. app_of r ≡ langtag) }
 {
     let about = "Prints the class of a tag and the tag in conventional case";
-    let classify = new_subcommand(alloc, "classify", about, &["TAG"])?;
+    let classify = new_subcommand(alloc, "classify", about, &[&TAG])?;
     clap::Command::new(alloc, "langtag")
         .about("BCP 47 language tags (RFC 5646)")
         .subcommand_required(true)
@@ -71,10 +82,15 @@ fn new_langtag<'a>(alloc: Global) -> Result<clap::Command<'a>, AllocError>
 }
 
 /// The value of a positional.
-fn value_of(alloc: Global, matches: &ArgMatches<'_>, name: &str) -> Result<String, WordsFault>
-    ensures value { IfOk result (λ value. first_of name.now (rows_of (found_of matches.now)) ≡ Some (string_bytes value)) }
-    ensures absent { IfErr result (IsAbsent (first_of name.now (rows_of (found_of matches.now)))) }
+fn value_of(
+    alloc: Global,
+    matches: &ArgMatches<'_>,
+    positional: &Positional,
+) -> Result<String, WordsFault>
+    ensures value { IfOk result (λ value. first_of positional.now.name.now (rows_of (found_of matches.now)) ≡ Some (string_bytes value)) }
+    ensures absent { IfErr result (IsAbsent (first_of positional.now.name.now (rows_of (found_of matches.now)))) }
 {
+    let name = positional.name;
     match matches.get_str(name) {
         Some(value) => Ok(String::from_str(alloc, value)?),
         None => Err(WordsFault::Usage(format!(in alloc; "error: {name} has no value\n")?)),
@@ -90,7 +106,7 @@ fn command_of(alloc: Global, matches: &ArgMatches<'_>) -> Result<Command, WordsF
         return Err(WordsFault::Usage(format!(in alloc; "error: no subcommand\n")?));
     };
     match name {
-        "classify" => Ok(Command::Classify(value_of(alloc, values, "TAG")?)),
+        "classify" => Ok(Command::Classify(value_of(alloc, values, &TAG)?)),
         _ => Err(WordsFault::Usage(format!(in alloc; "error: no subcommand {name}\n")?)),
     }
 }

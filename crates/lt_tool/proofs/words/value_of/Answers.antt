@@ -10,10 +10,10 @@ now_of s = s.now
 pub returns-in_ok-from_str-in-Some-clause-value : goal.returns-in_ok-from_str-in-Some-clause-value
 returns-in_ok-from_str-in-Some-clause-value c =
     let found = (out-ArgMatches c.args.matches.now).found in
-    sym (first_value-rows found c.args.name.now) ∙ sym c.get_str.ensures ∙ ap (option_map now_of) c.in-Some.is
+    sym (first_value-rows found c.args.positional.now.name.now) ∙ sym c.get_str.ensures ∙ ap (option_map now_of) c.in-Some.is
     ∙ ap (λ (text : List ℕ). Some text) (sym c.in_ok-from_str-in-Some.ensures.ok)
 
 pub returns-in_ok-format-in-None-clause-absent : goal.returns-in_ok-format-in-None-clause-absent
 returns-in_ok-format-in-None-clause-absent c =
     let found = (out-ArgMatches c.args.matches.now).found in
-    sym (first_value-rows found c.args.name.now) ∙ sym c.get_str.ensures ∙ ap (option_map now_of) c.in-None.is
+    sym (first_value-rows found c.args.positional.now.name.now) ∙ sym c.get_str.ensures ∙ ap (option_map now_of) c.in-None.is
