@@ -1,6 +1,10 @@
 pub mod Stars
-pub mod Forms
+pub mod NormalForms
 pub mod Sorting
 pub mod PartLists
 pub mod PartSteps
 pub mod UnicodeForms
+pub mod CoreLengths
+pub mod TransformForms
+pub mod FoundParts
+pub mod ExtensionForms

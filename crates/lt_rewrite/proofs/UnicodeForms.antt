@@ -13,7 +13,7 @@ use Rattle.lt_rewrite.specs.Rewriting.{Star, done, then, Rests}
 use Rattle.lt_rewrite.specs.Orderings.{ListStep}
 use Rattle.lt_rewrite.specs.Extensions.{text_cmp, key_cmp, UnicodeStep, on_attributes, on_keywords, on_types}
 use Rattle.lt_rewrite.proofs.Stars.{star_trans, star_path}
-use Rattle.lt_rewrite.proofs.Forms.{IsFormOf, star_map}
+use Rattle.lt_rewrite.proofs.NormalForms.{IsFormOf, star_map}
 use Rattle.lt_rewrite.proofs.Sorting.{sorted, list_step_keeps, sorted_reached, sorting_is_form}
 use Rattle.lt_rewrite.proofs.PartLists.{all_step, list_all_step, all_middle, all_replaced, step_some, some_long, empty_middle, spelled_step, spelled_replaced, length_step}
 use Rattle.lt_rewrite.proofs.PartSteps.{PartStep, on_part, on_order, parts_are_formed}

@@ -1,5 +1,5 @@
 use Rattle.std.proofs.Common.{sym}
-use Rattle.lt_rewrite.proofs.Forms.{form_is_normal, normal_is_form}
+use Rattle.lt_rewrite.proofs.NormalForms.{form_is_normal, normal_is_form}
 use Rattle.lt_rewrite.proofs.UnicodeForms.{u_form, u_formed, u_shaped}
 use Rattle.lt_rewrite.proofs.ordering_laws.one_form_of_unicode.Goals as goal
 
