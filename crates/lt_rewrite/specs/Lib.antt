@@ -6,3 +6,4 @@ pub mod Extensions
 pub mod TagSteps
 pub mod Labels
 pub mod Conditions
+pub mod Laws
