@@ -9,7 +9,6 @@ use Rattle.lt_rewrite.proofs.Stars.{star_trans, star_path}
 use Rattle.lt_rewrite.proofs.Chains.{IsEnd, chase_rests, chase_next}
 use Rattle.lt_rewrite.proofs.CoreForm.{Settles, pick_at, pick, settled, core, form_on, form}
 
-
 chain_at : (V : Values) (f : List ℕ → Option (List ℕ)) (at : List ℕ → CoreParts) → ((s t : List ℕ) → f s ≡ Some t → CoreStep V (at s) (at t)) → (n : ℕ) → ((t : List ℕ) → Star (CoreStep V) (at t) (at (chase f n t))) → (s : List ℕ) (o : Option (List ℕ)) → f s ≡ o → Star (CoreStep V) (at s) (at (chase f (suc n) s))
 chain_at V f at step n ih s None e = star_path (at s) (at (chase f (suc n) s)) (ap at (sym (chase_rests f (suc n) s e)))
 chain_at V f at step n ih s (Some t) e = then (step s t e) (subst (λ u. Star (CoreStep V) (at t) (at u)) (sym (chase_next f n s t e)) (ih t))

@@ -4,4 +4,7 @@ pub mod CoreForm
 pub mod CoreRest
 pub mod CoreReach
 pub mod Entries
+pub mod ChainLength
 pub mod CoreLaw
+pub mod Forms
+pub mod Proper
