@@ -8,3 +8,12 @@ pub mod CoreLengths
 pub mod TransformForms
 pub mod FoundParts
 pub mod ExtensionForms
+pub mod Chains
+pub mod CoreForm
+pub mod CoreRest
+pub mod CoreReach
+pub mod Entries
+pub mod ChainLength
+pub mod CoreLaw
+pub mod Forms
+pub mod Proper

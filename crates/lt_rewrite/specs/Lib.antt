@@ -7,3 +7,4 @@ pub mod TagSteps
 pub mod Labels
 pub mod Conditions
 pub mod OrderingLaws
+pub mod Laws

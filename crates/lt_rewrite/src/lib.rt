@@ -2,6 +2,7 @@
 #![tactic(auto)]
 
 pub mod ordering_laws;
+pub mod laws;
 mod steps;
 
 pub use steps::{Step, StepKind};

@@ -7,9 +7,9 @@ use Rattle.std.proofs.lemmas.Bool.{and_parts, and_from, or_cases, cases_Bool, eq
 use Rattle.std.proofs.lemmas.Bool.Decides.{nat_tests}
 use Rattle.std.proofs.lemmas.List.{append-nil}
 use Rattle.lt_subtag.specs.Bytes.{is_subtag, is_subtag_byte}
-use Rattle.lt_subtag.specs.Shapes.{is_alphabetic, is_numeric, is_language, is_extlang, is_script, is_region, is_variant, is_key, is_separator}
+use Rattle.lt_subtag.specs.Shapes.{is_alphabetic, is_numeric, is_language, is_extlang, is_script, is_region, is_variant, is_single, is_singleton, is_key, is_separator}
 use Rattle.lt_tag.specs.Parts.{CoreParts, ExtensionParts, KeywordParts, FieldParts, UForm, TForm}
-use Rattle.lt_tag.specs.Spelling.{spell_core, has_shape, IsCore, is_extension_subtag}
+use Rattle.lt_tag.specs.Spelling.{spell_core, has_shape, IsCore, IsExtension, is_extension_subtag}
 use Rattle.lt_tag.specs.Extensions.{is_long, spell_keyword, spell_u, IsKeyword, IsU, spell_field, spell_source, spell_t, IsField, IsT}
 use Rattle.lt_tag.specs.Growth.{of_language, grown_by}
 use Rattle.lt_tag.specs.Values.{IsExtensionValue, most_parts}
@@ -384,3 +384,19 @@ length-before mark [] = omega arith
 length-before mark (s ∷ ss) =
     let rest = length-before mark ss in
     elim (mark s) as (λ b. length (cond b [] (s ∷ before mark ss)) ≤ length (s ∷ ss)) [ true ↦ omega arith | false ↦ omega arith ]
+
+-- what parts spell is an extension
+pub u_is_extension : (p : UForm) → IsU p → IsExtension (record { singleton = 117; subtags = spell_u p })
+unfolding is_singleton is_single is_subtag
+u_is_extension p h = record { singleton = refl; subtags = u_extension p h; some = h.some }
+
+pub t_is_extension : (p : TForm) → IsT p → IsExtension (record { singleton = 116; subtags = spell_t p })
+unfolding is_singleton is_single is_subtag
+t_is_extension p h = record { singleton = refl; subtags = t_extension p h; some = h.some }
+
+-- and one that a value holds, if it has few subtags
+pub u_value : (p : UForm) (subtags : List (List ℕ)) → IsU p → length (spell_u p) ≤ most_parts → subtags ≡ spell_u p → IsExtensionValue (record { singleton = 117; subtags = subtags })
+u_value p subtags h few e = rw e (record { shaped = u_is_extension p h; subtags = few })
+
+pub t_value : (p : TForm) (subtags : List (List ℕ)) → IsT p → length (spell_t p) ≤ most_parts → subtags ≡ spell_t p → IsExtensionValue (record { singleton = 116; subtags = subtags })
+t_value p subtags h few e = rw e (record { shaped = t_is_extension p h; subtags = few })
