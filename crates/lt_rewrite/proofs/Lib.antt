@@ -17,3 +17,6 @@ pub mod ChainLength
 pub mod CoreLaw
 pub mod Forms
 pub mod Proper
+pub mod CoreShapes
+pub mod ExtensionShapes
+pub mod OrderingLaw
