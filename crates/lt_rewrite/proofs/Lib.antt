@@ -8,3 +8,4 @@ pub mod ChainLength
 pub mod CoreLaw
 pub mod Forms
 pub mod Proper
+pub mod OneStep
