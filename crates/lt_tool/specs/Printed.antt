@@ -1,7 +1,7 @@
 -- What the program prints, and how it ends.
 use Rattle.std.specs.Prelude.{◌≡◌, ◌≢◌, ◌≤◌, ◌⊎◌, ℕ, List, [], ◌∷◌, ◌++◌, Option, codes, length, string_bytes}
 use Rattle.std.specs.Fmt.{decimal}
-use Rattle.std.specs.Io.KnownBytes.{Appends, Keeps}
+use Rattle.std.specs.Io.KnownBytes.{Keeps}
 use Rattle.lt_tag.specs.Classes.{class_of}
 use Rattle.lt_tag.specs.Conventional.{conventional}
 use Rattle.lt_tag.specs.Faults.{HasList, IsFault, longest_text}
@@ -13,19 +13,14 @@ use Rattle.lt_tag.specs.declared.faults.TagFault.{TagFault}
 use Rattle.lt_tag.specs.declared.faults.TagFaultKind.TheVariants as kinds
 use Rattle.lt_tag.specs.declared.tags.Class.{Class}
 use Rattle.lt_tag.specs.declared.tags.Class.TheVariants as classes
+use Rattle.lt_tool.specs.Codes.{code_of}
+use Rattle.lt_tool.specs.Written.{Prints}
 use Rattle.lt_tool.specs.declared.status.Status.{Status}
 use Rattle.lt_tool.specs.declared.status.Status.TheVariants as status
 use Rattle.lt_tool.specs.declared.words.Command.{Command}
 use Rattle.lt_tool.specs.declared.words.Command.TheVariants as command
 use Rattle.lt_tool.specs.declared.words.WordsFault.{WordsFault}
 use Rattle.lt_tool.specs.declared.words.WordsFault.TheVariants as fault
-
--- the exit status
-abbrev pub code_of : Status → ℕ
-code_of status.Done = 0
-code_of status.Refused = 1
-code_of status.Usage = 3
-code_of status.Failed = 4
 
 -- the word for a class
 abbrev pub class_word : Class → List ℕ
@@ -64,14 +59,13 @@ Classifies text line status.Failed = ⊥
 abbrev pub Answers : Command → List ℕ → Status → Type 0
 Answers (command.Classify tag) = Classifies (string_bytes tag)
 
--- A run of a command failed, or it wrote the answer and nothing else.
+-- what a run of a command wrote, and its exit status: nothing for want of memory, else its answer
 abbrev pub Performs : Command → Option (List ℕ) → Option (List ℕ) → ℕ → Type 0
-Performs command before after result = (result ≡ code_of status.Failed)
-    ⊎ ((line : List ℕ) × (end : Status) × Answers command line end × (result ≡ code_of end) × Appends before after line)
+Performs command before after result = ((result ≡ code_of status.Failed) × Keeps before after)
+    ⊎ ((line : List ℕ) × (end : Status) × Answers command line end × Prints before after line end result)
 
--- help was written and nothing else, or a write failed; any other fault writes nothing there
+-- what a run whose words are no command wrote, and its exit status: help alone is written
 abbrev pub Reports : WordsFault → Option (List ℕ) → Option (List ℕ) → ℕ → Type 0
-Reports (fault.Help text) before after result = (result ≡ code_of status.Failed)
-    ⊎ ((result ≡ code_of status.Done) × Appends before after (string_bytes text))
+Reports (fault.Help text) before after result = Prints before after (string_bytes text) status.Done result
 Reports (fault.Usage text) before after result = (result ≡ code_of status.Usage) × Keeps before after
 Reports fault.OutOfMemory before after result = (result ≡ code_of status.Failed) × Keeps before after

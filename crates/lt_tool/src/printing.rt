@@ -1,6 +1,7 @@
-//! What a run of the program prints.
-ghost use Rattle.std.specs.Prelude.{◌≡◌, ◌⊎◌, OnOk};
-ghost use Rattle.std.specs.Io.KnownBytes.{Appends};
+//! What a run of the program writes.
+ghost use Rattle.std.specs.Prelude.{◌≡◌};
+ghost use Rattle.lt_tool.specs.Codes.{code_of};
+ghost use Rattle.lt_tool.specs.Written.{Prints, WritesOut};
 ghost use Rattle.lt_tool.specs.Printed.{Performs, Reports};
 ghost use Rattle.lt_tool.specs.declared.status.Status.TheVariants.{Failed};
 
@@ -8,28 +9,32 @@ use crate::lines::classify;
 use crate::status::Status;
 use crate::words::{Command, WordsFault};
 use std::alloc::Global;
-use std::io::{self, Read, Write};
+use std::io::{Read, Write};
 
-/// Writes all of a text.
-fn write_out<O: Write>(text: &[u8], output: &mut O) -> io::Result<()>
-    ensures { OnOk result (Appends (O.contents output.old) (O.contents output.new) text.now) }
+/// Writes a text, up to the first write that fails, and tells whether none did.
+fn write_out<O: Write>(text: &[u8], output: &mut O) -> bool
+    ensures { WritesOut (O.contents output.old) (O.contents output.new) text.now result }
 {
-    output.write_all(text)?;
-    output.flush()
+    let mut at = 0;
+    while at < text.len() {
+        match output.write(&text[at..]) {
+            Ok(0) => return false,
+            Ok(count) => at += count,
+            Err(_) => return false,
+        }
+    }
+    output.flush().is_ok()
 }
 
 /// Prints a text, for a run that ends so.
-fn print<O: Write, E: Write>(text: &[u8], status: Status, output: &mut O, errors: &mut E) -> Status
-    ensures { (result ≡ Failed)
-        ⊎ ((result ≡ status) × Appends (O.contents output.old) (O.contents output.new) text.now) }
+fn print<O: Write, E: Write>(text: &[u8], end: Status, output: &mut O, errors: &mut E) -> Status
+    ensures { Prints (O.contents output.old) (O.contents output.new) text.now end (code_of result) }
 {
-    match write_out(text, output) {
-        Ok(()) => status,
-        Err(_) => {
-            let _ = errors.write_all(b"! Write\n");
-            Status::Failed
-        }
+    if write_out(text, output) {
+        return end;
     }
+    let _ = errors.write_all(b"! Write\n");
+    Status::Failed
 }
 
 /// Says that no memory was left.
