@@ -14,7 +14,7 @@ use Rattle.lt_tag.specs.declared.faults.TagFaultKind.TheVariants as kinds
 use Rattle.lt_tag.specs.declared.tags.Class.{Class}
 use Rattle.lt_tag.specs.declared.tags.Class.TheVariants as classes
 use Rattle.lt_tool.specs.Codes.{code_of}
-use Rattle.lt_tool.specs.Written.{Prints}
+use Rattle.lt_tool.specs.Written.{LacksMemory, Prints, Says}
 use Rattle.lt_tool.specs.declared.status.Status.{Status}
 use Rattle.lt_tool.specs.declared.status.Status.TheVariants as status
 use Rattle.lt_tool.specs.declared.words.Command.{Command}
@@ -59,13 +59,21 @@ Classifies text line status.Failed = ⊥
 abbrev pub Answers : Command → List ℕ → Status → Type 0
 Answers (command.Classify tag) = Classifies (string_bytes tag)
 
--- what a run of a command wrote, and its exit status: nothing for want of memory, else its answer
-abbrev pub Performs : Command → Option (List ℕ) → Option (List ℕ) → ℕ → Type 0
-Performs command before after result = ((result ≡ code_of status.Failed) × Keeps before after)
-    ⊎ ((line : List ℕ) × (end : Status) × Answers command line end × Prints before after line end result)
+-- what a run of a command wrote to its output and its errors, and its exit status
+abbrev pub Performs : Command → (output output' errors errors' : Option (List ℕ)) → ℕ → Type 0
+Performs command output output' errors errors' result = LacksMemory output output' errors errors' result
+    ⊎ ((line : List ℕ) × (end : Status) × Answers command line end × Prints output output' errors errors' line end result)
 
--- what a run whose words are no command wrote, and its exit status: help alone is written
-abbrev pub Reports : WordsFault → Option (List ℕ) → Option (List ℕ) → ℕ → Type 0
-Reports (fault.Help text) before after result = Prints before after (string_bytes text) status.Done result
-Reports (fault.Usage text) before after result = (result ≡ code_of status.Usage) × Keeps before after
-Reports fault.OutOfMemory before after result = (result ≡ code_of status.Failed) × Keeps before after
+-- a run whose words are not those of a command says why on its errors
+pub record SaysUsage (output output' errors errors' : Option (List ℕ)) (text : List ℕ) (result : ℕ) : Type 0 where
+  pub usage : result ≡ code_of status.Usage
+  pub printed : Keeps output output'
+  pub said : Says errors errors' text
+
+-- what a run whose words ask for no command wrote, and its exit status
+abbrev pub Reports : WordsFault → (output output' errors errors' : Option (List ℕ)) → ℕ → Type 0
+Reports (fault.Help text) output output' errors errors' result =
+    Prints output output' errors errors' (string_bytes text) status.Done result
+Reports (fault.Usage text) output output' errors errors' result =
+    SaysUsage output output' errors errors' (string_bytes text) result
+Reports fault.OutOfMemory output output' errors errors' result = LacksMemory output output' errors errors' result

@@ -1,6 +1,6 @@
--- What stands on a writer after a text was written to it.
-use Rattle.std.specs.Prelude.{◌≡◌, ◌⊎◌, ℕ, Bool, true, List, ◌++◌, Option}
-use Rattle.std.specs.Io.KnownBytes.{Appends}
+-- What stands on writers after a text was written to one.
+use Rattle.std.specs.Prelude.{◌≡◌, ◌⊎◌, ℕ, Bool, true, List, [], ◌∷◌, ◌++◌, Option, codes}
+use Rattle.std.specs.Io.KnownBytes.{Appends, Keeps}
 use Rattle.lt_tool.specs.Codes.{code_of}
 use Rattle.lt_tool.specs.declared.status.Status.{Status}
 use Rattle.lt_tool.specs.declared.status.Status.TheVariants as status
@@ -16,9 +16,30 @@ pub record WritesOut (before after : Option (List ℕ)) (text : List ℕ) (all :
   pub front : IsFrontOf written text
   pub whole : all ≡ true → written ≡ text
 
--- a run that ends so once it has printed a text: it printed all of it, or the front of it and failed
-pub record Prints (before after : Option (List ℕ)) (text : List ℕ) (end : Status) (result : ℕ) : Type 0 where
+-- the front of a text was written, and nothing else
+pub record Says (before after : Option (List ℕ)) (text : List ℕ) : Type 0 where
   pub written : List ℕ
   pub appends : Appends before after written
   pub front : IsFrontOf written text
-  pub ends : ((result ≡ code_of end) × (written ≡ text)) ⊎ (result ≡ code_of status.Failed)
+
+-- the lines that name a failure
+abbrev pub write_line : List ℕ
+write_line = codes "! Write" ++ 10 ∷ []
+
+abbrev pub memory_line : List ℕ
+memory_line = codes "! OutOfMemory" ++ 10 ∷ []
+
+-- A run prints a text to its output, and ends so; or a write fails, the front of the text stands there, and the
+-- errors name it.
+pub record Prints (output output' errors errors' : Option (List ℕ)) (text : List ℕ) (end : Status) (result : ℕ) : Type 0 where
+  pub written : List ℕ
+  pub appends : Appends output output' written
+  pub front : IsFrontOf written text
+  pub ends : ((result ≡ code_of end) × (written ≡ text) × Keeps errors errors')
+      ⊎ ((result ≡ code_of status.Failed) × Says errors errors' write_line)
+
+-- a run that had no memory for its answer
+pub record LacksMemory (output output' errors errors' : Option (List ℕ)) (result : ℕ) : Type 0 where
+  pub failed : result ≡ code_of status.Failed
+  pub printed : Keeps output output'
+  pub said : Says errors errors' memory_line

@@ -1,7 +1,7 @@
 //! What a run of the program writes.
 ghost use Rattle.std.specs.Prelude.{◌≡◌};
 ghost use Rattle.lt_tool.specs.Codes.{code_of};
-ghost use Rattle.lt_tool.specs.Written.{Prints, WritesOut};
+ghost use Rattle.lt_tool.specs.Written.{Prints, Says, WritesOut, memory_line};
 ghost use Rattle.lt_tool.specs.Printed.{Performs, Reports};
 ghost use Rattle.lt_tool.specs.declared.status.Status.TheVariants.{Failed};
 
@@ -26,22 +26,31 @@ fn write_out<O: Write>(text: &[u8], output: &mut O) -> bool
     output.flush().is_ok()
 }
 
+/// Writes a text to the errors, where a write that fails is ignored.
+fn say<E: Write>(text: &[u8], errors: &mut E)
+    ensures { Says (E.contents errors.old) (E.contents errors.new) text.now }
+{
+    let _ = write_out(text, errors);
+}
+
 /// Prints a text, for a run that ends so.
 fn print<O: Write, E: Write>(text: &[u8], end: Status, output: &mut O, errors: &mut E) -> Status
-    ensures { Prints (O.contents output.old) (O.contents output.new) text.now end (code_of result) }
+    ensures { Prints (O.contents output.old) (O.contents output.new) (E.contents errors.old) (E.contents errors.new)
+        text.now end (code_of result) }
 {
     if write_out(text, output) {
         return end;
     }
-    let _ = errors.write_all(b"! Write\n");
+    say(b"! Write\n", errors);
     Status::Failed
 }
 
 /// Says that no memory was left.
 fn report_memory<E: Write>(errors: &mut E) -> Status
-    ensures { result ≡ Failed }
+    ensures status { result ≡ Failed }
+    ensures said { Says (E.contents errors.old) (E.contents errors.new) memory_line }
 {
-    let _ = errors.write_all(b"! OutOfMemory\n");
+    say(b"! OutOfMemory\n", errors);
     Status::Failed
 }
 
@@ -59,7 +68,8 @@ pub fn perform<I: Read, O: Write, E: Write>(
     output: &mut O,
     errors: &mut E,
 ) -> u8
-    ensures { Performs command.now (O.contents output.old) (O.contents output.new) result }
+    ensures { Performs command.now (O.contents output.old) (O.contents output.new) (E.contents errors.old)
+        (E.contents errors.new) result }
 {
     let answer = match command {
         Command::Classify(tag) => classify(alloc, tag.as_bytes()),
@@ -75,12 +85,13 @@ pub fn perform<I: Read, O: Write, E: Write>(
 ///
 /// Help goes to `output`, and any other fault to `errors`.
 pub fn report<O: Write, E: Write>(fault: &WordsFault, output: &mut O, errors: &mut E) -> u8
-    ensures { Reports fault.now (O.contents output.old) (O.contents output.new) result }
+    ensures { Reports fault.now (O.contents output.old) (O.contents output.new) (E.contents errors.old)
+        (E.contents errors.new) result }
 {
     let status = match fault {
         WordsFault::Help(text) => print(text.as_bytes(), Status::Done, output, errors),
         WordsFault::Usage(text) => {
-            let _ = errors.write_all(text.as_bytes());
+            say(text.as_bytes(), errors);
             Status::Usage
         }
         WordsFault::OutOfMemory => report_memory(errors),
