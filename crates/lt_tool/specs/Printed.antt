@@ -1,16 +1,14 @@
 -- What the program prints, and how it ends.
-use Rattle.std.specs.Prelude.{◌≡◌, ◌≢◌, ◌≤◌, ◌⊎◌, ℕ, List, [], ◌∷◌, ◌++◌, Option, codes, length, string_bytes}
+use Rattle.std.specs.Prelude.{◌≡◌, ◌⊎◌, ℕ, List, [], ◌∷◌, ◌++◌, Option, codes, string_bytes}
 use Rattle.std.specs.Fmt.{decimal}
 use Rattle.std.specs.Io.KnownBytes.{Keeps}
 use Rattle.lt_tag.specs.Classes.{class_of}
 use Rattle.lt_tag.specs.Conventional.{conventional}
-use Rattle.lt_tag.specs.Faults.{HasList, IsFault, longest_text}
-use Rattle.lt_tag.specs.Lists.{list_of}
+use Rattle.lt_tag.specs.Faults.{HasFault, HasTag}
 use Rattle.lt_tag.specs.Names.{name_of}
 use Rattle.lt_tag.specs.Parts.{TagForm}
-use Rattle.lt_tag.specs.WellFormed.{IsTag, spell}
+use Rattle.lt_tag.specs.WellFormed.{spell}
 use Rattle.lt_tag.specs.declared.faults.TagFault.{TagFault}
-use Rattle.lt_tag.specs.declared.faults.TagFaultKind.TheVariants as kinds
 use Rattle.lt_tag.specs.declared.tags.Class.{Class}
 use Rattle.lt_tag.specs.declared.tags.Class.TheVariants as classes
 use Rattle.lt_tool.specs.Codes.{code_of}
@@ -36,22 +34,10 @@ class_line form = class_word (class_of form) ++ 32 ∷ [] ++ conventional (spell
 abbrev pub fault_line : TagFault → List ℕ
 fault_line f = codes "! " ++ name_of f.kind ++ 32 ∷ [] ++ decimal f.place ++ 10 ∷ []
 
--- the text is read as this tag
-pub record IsReadAs (text : List ℕ) (form : TagForm) : Type 0 where
-  pub short : length text ≤ longest_text
-  pub listed : HasList text
-  pub tag : IsTag form
-  pub spelled : spell form ≡ list_of text
-
--- the text is refused with this fault
-pub record IsRefusedWith (text : List ℕ) (f : TagFault) : Type 0 where
-  pub fault : IsFault text f.kind f.place
-  pub judged : f.kind ≢ kinds.OutOfMemory
-
 -- what `classify` prints for a text, and how it ends
 abbrev pub Classifies : List ℕ → List ℕ → Status → Type 0
-Classifies text line status.Done = (form : TagForm) × IsReadAs text form × (line ≡ class_line form)
-Classifies text line status.Refused = (f : TagFault) × IsRefusedWith text f × (line ≡ fault_line f)
+Classifies text line status.Done = (form : TagForm) × HasTag text form × (line ≡ class_line form)
+Classifies text line status.Refused = (f : TagFault) × HasFault text f.kind f.place × (line ≡ fault_line f)
 Classifies text line status.Usage = ⊥
 Classifies text line status.Failed = ⊥
 
