@@ -26,7 +26,7 @@ pub record HasRead (text : List ℕ) (place : ℕ) (left : List (List ℕ)) (dra
   pub whole : with_front done (listed (place + 1) left) ≡ listed 1 (pieces text)
   pub drafts : draft_of done ≡ Some draft
 
-of_first : (s : List ℕ) → draft_of (s ∷ []) ≡ begun s
+pub of_first : (s : List ℕ) → draft_of (s ∷ []) ≡ begun s
 unfolding draft_of drafted_by
 of_first s = elim (begun s) as (λ o. option_and_then (λ draft. drafted_by draft []) o ≡ o) [ None ↦ refl | Some d ↦ refl ]
 
@@ -36,7 +36,7 @@ of_next s ss t draft h =
     draft_of-append s ss (t ∷ []) ∙ ap (option_and_then (λ d. drafted_by d (t ∷ []))) h
     ∙ (elim (drafted draft t) as (λ o. option_and_then (λ d. drafted_by d []) o ≡ o) [ None ↦ refl | Some d ↦ refl ])
 
-of_more : (done : List (List ℕ)) (t : List ℕ) (draft : Draft) → 0 < length done → draft_of done ≡ Some draft → draft_of (done ++ t ∷ []) ≡ drafted draft t
+pub of_more : (done : List (List ℕ)) (t : List ℕ) (draft : Draft) → 0 < length done → draft_of done ≡ Some draft → draft_of (done ++ t ∷ []) ≡ drafted draft t
 of_more [] t draft n h = absurd (omega arith)
 of_more (s ∷ ss) t draft n h = of_next s ss t draft h
 
@@ -45,7 +45,7 @@ ok_is (Ok x) h = (x, refl)
 ok_is (Err fault) h = cc
 
 -- a list of subtags that is neither grandfathered nor spelled by a shaped value
-bad_list : (text : List ℕ) (list : List (List ℕ)) → length text ≤ longest_text → listed 1 (pieces text) ≡ Ok list → IsNotGrandfathered (list_of text)
+pub bad_list : (text : List ℕ) (list : List (List ℕ)) → length text ≤ longest_text → listed 1 (pieces text) ≡ Ok list → IsNotGrandfathered (list_of text)
     → ((form : TagForm) → IsShaped form → spell form ≡ list → ⊥) → HasBadList text
 bad_list text list short all other none =
     let l = text_list text list all in
@@ -56,7 +56,7 @@ bad_list text list short all other none =
     }
 
 -- the first subtag behind those of a draft that can't stand there
-misplaced_behind : (done : List (List ℕ)) (s : List ℕ) (others : List (List ℕ)) (draft : Draft) → draft_of done ≡ Some draft → draft_of (done ++ s ∷ []) ≡ None
+pub misplaced_behind : (done : List (List ℕ)) (s : List ℕ) (others : List (List ℕ)) (draft : Draft) → draft_of done ≡ Some draft → draft_of (done ++ s ∷ []) ≡ None
     → IsFirstMisplaced ((done ++ s ∷ []) ++ others) (length done + 1)
 misplaced_behind done s others draft some none =
     let list : List (List ℕ) = (done ++ s ∷ []) ++ others in
