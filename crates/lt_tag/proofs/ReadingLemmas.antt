@@ -1,21 +1,19 @@
 -- What is known of a text while its subtags are read from left to right.
-use Rattle.std.proofs.Common.{◌≡◌, ℕ, ◌≤◌, ◌<◌, ◌+◌, zero, suc, List, [], ◌∷◌, ◌++◌, length, take, refl, sym, ap, ◌∙◌, subst, arith, inl, inr}
-use Rattle.std.specs.Prelude.{Result, Ok, Err, IsOk, Option, Some, None, MatchOption, option_and_then}
-use Rattle.std.proofs.Common.{Bor}
-use Rattle.std.proofs.lemmas.List.{append_assoc, append-nil, length-append, take_at, take-append-le, length_push}
+use Rattle.std.proofs.Common.{◌≡◌, ℕ, ◌≤◌, ◌<◌, ◌+◌, List, [], ◌∷◌, ◌++◌, length, take, refl, sym, ap, ◌∙◌, subst, arith, inl, inr}
+use Rattle.std.specs.Prelude.{Result, Ok, Err, IsOk, Some, None, option_and_then}
+use Rattle.std.proofs.lemmas.List.{append_assoc, length-append, take_at, length_push}
 use Rattle.lt_tag.specs.declared.faults.TagFault.{TagFault}
 use Rattle.lt_tag.specs.Parts.{TagForm}
 use Rattle.lt_tag.specs.Lists.{pieces, list_of}
-use Rattle.lt_tag.specs.Rest.{pieces_left}
 use Rattle.lt_tag.specs.Listing.{listed, with_front, read_at}
-use Rattle.lt_tag.specs.WellFormed.{spell, IsShaped, IsNotGrandfathered, IsWellFormed, IsFirstMisplaced, Begins, IsTag}
-use Rattle.lt_tag.specs.Faults.{IsFault, HasList, HasBadList, longest_text}
-use Rattle.lt_tag.specs.Draft.{Draft, begun, drafted, drafted_by, draft_of, finished, spell_draft}
+use Rattle.lt_tag.specs.WellFormed.{spell, IsShaped, IsNotGrandfathered, IsFirstMisplaced, Begins}
+use Rattle.lt_tag.specs.Faults.{HasList, HasBadList, longest_text}
+use Rattle.lt_tag.specs.Draft.{Draft, begun, drafted, finished, spell_draft}
+use Rattle.lt_tag.proofs.DraftLists.{drafted_by, draft_of}
 use Rattle.lt_tag.specs.DraftShapes.{IsDraft}
 use Rattle.lt_tag.specs.DraftViews.{HasRoom}
 use Rattle.lt_tag.proofs.ListingLemmas.{listed_next, listed_stop, front_next, front_end}
-use Rattle.lt_tag.proofs.ListedLemmas.{length-pieces}
-use Rattle.lt_tag.proofs.TextLemmas.{piece_fault, text_list}
+use Rattle.lt_tag.proofs.TextLemmas.{text_list}
 use Rattle.lt_tag.proofs.DraftResults.{draft_is, draft_of-append, misplaced, refused, finished_is, unfinished, bad_language, has_room}
 
 -- The pieces so far are subtags, of which this is the draft; these pieces are left.

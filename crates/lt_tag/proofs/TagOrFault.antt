@@ -1,6 +1,6 @@
 -- Each text has a tag or a fault.
 use Rattle.std.proofs.Common.{◌≡◌, ℕ, ◌≤◌, ◌<◌, ◌+◌, ◌⊎◌, zero, suc, List, [], ◌∷◌, ◌++◌, length, refl, sym, ap, ◌∙◌, subst, arith, inl, inr}
-use Rattle.std.specs.Prelude.{Result, Ok, Err, Option, Some, None, option_and_then}
+use Rattle.std.specs.Prelude.{Result, Ok, Err, Option, Some, None}
 use Rattle.std.proofs.lemmas.Bool.{cases_lt, cases_eq}
 use Rattle.std.proofs.lemmas.List.{append_assoc, append-nil, length_push, length-map}
 use Rattle.lt_subtag.specs.declared.SubtagFault.{SubtagFault}
@@ -13,9 +13,10 @@ use Rattle.lt_tag.specs.Lists.{pieces, list_of}
 use Rattle.lt_tag.specs.Listing.{listed, kind_of}
 use Rattle.lt_tag.specs.Grandfathered.{grandfathered_list, IsGrandfathered}
 use Rattle.lt_tag.specs.WellFormed.{spell, IsTag, IsShaped, IsNotGrandfathered, IsFirstMisplaced, Begins}
-use Rattle.lt_tag.specs.Faults.{HasFault, HasTag, HasList, longest_text}
-use Rattle.lt_tag.specs.Draft.{Draft, begun, drafted, drafted_by, draft_of, finished}
-use Rattle.lt_tag.proofs.ListedLemmas.{Stopped, listed-Err}
+use Rattle.lt_tag.specs.Faults.{HasFault, HasTag, longest_text}
+use Rattle.lt_tag.specs.Draft.{Draft, begun, drafted, finished}
+use Rattle.lt_tag.proofs.DraftLists.{draft_of}
+use Rattle.lt_tag.proofs.ListedLemmas.{listed-Err}
 use Rattle.lt_tag.proofs.TextLemmas.{piece_fault, text_list, some_pieces}
 use Rattle.lt_subtag.specs.Bytes.{folded}
 use Rattle.lt_tag.proofs.DraftResults.{draft_is, finished_is, unfinished, refused, bad_language}
@@ -105,10 +106,14 @@ module _ (text : List ℕ) (list : List (List ℕ)) (short : length text ≤ lon
       go None e =
           let u = unfinished list draft h (sym e) in
           let l = text_list text list all in
-          inr (kinds.Unfinished, length (list_of text) + 1, record {
-            fault = (bad_list text list short all unlisted u.1, subst (λ (z : List (List ℕ)). Begins z) l.1 u.0, refl);
-            memory_aside = λ e. cc;
-          })
+          inr (
+            kinds.Unfinished,
+            length (list_of text) + 1,
+            record {
+              fault = (bad_list text list short all unlisted u.1, subst (λ (z : List (List ℕ)). Begins z) l.1 u.0, refl);
+              memory_aside = λ e. cc;
+            },
+          )
 
   -- a list that the machine refuses
   misplaced_list : (place : ℕ) → draft_of list ≡ None → 0 < length list → IsFirstMisplaced list place → (1 < place) ⊎ (place ≡ 1) → HasTagOrFault text
@@ -131,6 +136,7 @@ by_machine text (s ∷ ss) short all other some = go (draft_of (s ∷ ss)) refl
     refusal none (Some draft) e =
         let m = first_misplaced (s ∷ []) ss draft (omega arith) (of_first s ∙ sym e) none in
         misplaced_list text (s ∷ ss) short all other m.0 none some m.1 (inl m.2)
+
     go : (o : Option Draft) → o ≡ draft_of (s ∷ ss) → HasTagOrFault text
     go (Some draft) e = drafted_list text (s ∷ ss) short all other draft (sym e)
     go None e = refusal (sym e) (begun s) refl

@@ -27,7 +27,10 @@ fn long_text(alloc: Global, first: &[u8], last: &[u8]) -> Result<Vec<u8>, Fail> 
 
 /// Whether these subtags have these bytes.
 fn are(subtags: &[Subtag], bytes: &[&[u8]]) -> bool {
-    subtags.iter().map(|subtag| subtag.bytes()).eq(bytes.iter().copied())
+    subtags
+        .iter()
+        .map(|subtag| subtag.bytes())
+        .eq(bytes.iter().copied())
 }
 
 #[test]
@@ -53,7 +56,10 @@ fn faults_of_lists(rt: HostRuntime) {
     assert_eq!(rt; fault_of(alloc, b"a-bb"), Some(("BadLanguage", 1)));
     assert_eq!(rt; fault_of(alloc, b"abcd-efg"), Some(("Misplaced", 2)));
     assert_eq!(rt; fault_of(alloc, b"en-419-GB"), Some(("Misplaced", 3)));
-    assert_eq!(rt; fault_of(alloc, b"en-aaa-bbb-ccc-ddd"), Some(("Misplaced", 5)));
+    assert_eq!(rt;
+        fault_of(alloc, b"en-aaa-bbb-ccc-ddd"),
+        Some(("Misplaced", 5))
+    );
     assert_eq!(rt; fault_of(alloc, b"en-a-x-b"), Some(("Misplaced", 3)));
     assert_eq!(rt; fault_of(alloc, b"en-a-b-cc"), Some(("Misplaced", 3)));
     assert_eq!(rt; fault_of(alloc, b"sgn-BE-FR-x-a"), Some(("Misplaced", 3)));
@@ -101,8 +107,14 @@ fn langtags(rt: HostRuntime) -> Result<(), Fail> {
     let core = tag.core().ok_or("core")?;
     assert_eq!(rt; core.language().bytes(), b"zh".as_slice());
     assert!(rt; are(core.extlangs(), &[b"yue"]));
-    assert_eq!(rt; core.script().map(|script| script.bytes()), Some(b"hant".as_slice()));
-    assert_eq!(rt; core.region().map(|region| region.bytes()), Some(b"hk".as_slice()));
+    assert_eq!(rt;
+        core.script().map(|script| script.bytes()),
+        Some(b"hant".as_slice())
+    );
+    assert_eq!(rt;
+        core.region().map(|region| region.bytes()),
+        Some(b"hk".as_slice())
+    );
     let tag = read_tag(alloc, b"sl-ROZAJ-1994")?;
     let core = tag.core().ok_or("core")?;
     assert!(rt; are(core.variants(), &[b"rozaj", b"1994"]));
