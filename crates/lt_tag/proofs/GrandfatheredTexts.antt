@@ -1,12 +1,13 @@
 -- A text has the list of a grandfathered tag exactly if it is that tag's text in some letter case.
-use Rattle.std.proofs.Common.{◌≡◌, ℕ, ◌≤◌, ◌<◌, ◌+◌, ◌-◌, ◌==◌, Bool, true, false, cond, ◌&&◌, List, [], ◌∷◌, ◌++◌, length, map, refl, sym, ap, ◌∙◌, subst, arith, inl, inr}
-use Rattle.std.specs.Prelude.{slice_index_or, is_ok, nat_le, Result, Ok, Err, if◌then◌else◌}
+use Rattle.std.proofs.Common.{◌≡◌, ℕ, ◌≤◌, ◌<◌, ◌+◌, ◌-◌, ◌==◌, Bool, true, false, ◌&&◌, List, [], ◌∷◌, length, map, refl, sym, ap, ◌∙◌, arith, inl, inr}
+use Rattle.std.specs.Prelude.{sum_by, slice_index_or, is_ok, nat_le, Result, Ok, Err, if◌then◌else◌}
 use Rattle.lt_subtag.specs.declared.SubtagFault.{SubtagFault}
 use Rattle.lt_subtag.specs.declared.SubtagFault.TheVariants as subtag_faults
 use Rattle.std.specs.List.{list_all, join_with_byte}
 use Rattle.std.specs.Char.{is_ascii_alphanumeric, to_ascii_lowercase}
 use Rattle.std.proofs.lemmas.List.{length-map, get_or-map}
-use Rattle.std.proofs.lemmas.Bool.{cases_Bool, and_parts, and_from, eqb-true}
+use Rattle.std.proofs.lemmas.List.Sums.{sum_by-cons}
+use Rattle.std.proofs.lemmas.Bool.{cases_Bool, eqb-true}
 use Rattle.std.proofs.lemmas.Bool.Decides.{nat_tests}
 use Rattle.lt_subtag.specs.Bytes.{folded}
 use Rattle.lt_subtag.specs.Reading.{subtag_of}
@@ -118,3 +119,21 @@ match_listed text number g =
     let known_good : list_all is_piece (pieces (known number)) ≡ true = list_all-at (λ (t : List ℕ). list_all is_piece (pieces t)) grandfathered_texts (number - 1) good_table (omega (arith, table_length, g.first, g.last)) in
     let good : list_all is_piece (pieces text) ≡ true = sym (folded_pieces (pieces text)) ∙ ap (list_all is_piece) g.same ∙ known_good in
     λ i n. list_all-at is_piece (pieces text) i good n
+
+sum-onto_first : (b : ℕ) (ps : List (List ℕ)) → 0 < length ps → sum_by length (onto_first b ps) + length (onto_first b ps) ≡ sum_by length ps + length ps + 1
+sum-onto_first b [] n = absurd (omega arith)
+sum-onto_first b (p ∷ ps) n = omega (arith, sum_by-cons (λ (x : List ℕ). length x) (b ∷ p) ps, sum_by-cons (λ (x : List ℕ). length x) p ps)
+
+-- the pieces have the bytes of the text but its hyphens
+pub sum-pieces : (text : List ℕ) → sum_by length (pieces text) + length (pieces text) ≡ length text + 1
+sum-pieces [] = refl
+sum-pieces (b ∷ bs) =
+    elim (cases_Bool (b == 45)) [
+      | inl e ↦ rw e (omega (arith, sum-pieces bs, sum_by-cons (λ (x : List ℕ). length x) [] (pieces bs)))
+      | inr e ↦ rw e (omega (arith, sum-pieces bs, sum-onto_first b (pieces bs) (some_pieces bs)))
+    ]
+
+-- how long the text of a list is
+pub list_length : (list : List (List ℕ)) (number : ℕ) → IsGrandfathered list number → sum_by length list + length list ≡ length (known number) + 1
+unfolding grandfathered_list
+list_length list number g = ap (λ (l : List (List ℕ)). sum_by length l + length l) g.same ∙ sum-pieces (known number)
