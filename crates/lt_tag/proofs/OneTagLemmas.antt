@@ -1,16 +1,16 @@
 -- A list is spelled by one tag at most.
-use Rattle.std.proofs.Common.{◌≡◌, ℕ, ◌≤◌, ◌<◌, ◌-◌, ◌==◌, Bool, true, false, ◌&&◌, not, zero, suc, List, [], ◌∷◌, ◌++◌, length, refl, sym, ap, ◌∙◌, subst, arith}
+use Rattle.std.proofs.Common.{◌≡◌, ℕ, ◌≤◌, ◌<◌, ◌-◌, ◌==◌, Bool, true, false, ◌&&◌, not, zero, suc, List, [], ◌∷◌, ◌++◌, length, refl, sym, ap, ◌∙◌, arith}
 use Rattle.std.specs.Prelude.{slice_index_or, ◌↔◌}
 use Rattle.std.specs.List.{list_all, AllByRecursion, join_with_byte}
 use Rattle.std.proofs.lemmas.Bool.{and_parts, and_from, eq-eqb, ne_eqb}
 use Rattle.std.proofs.lemmas.List.{append_assoc}
 use Rattle.lt_subtag.specs.Bytes.{is_subtag}
-use Rattle.lt_subtag.specs.Shapes.{is_x, is_language, is_singleton}
+use Rattle.lt_subtag.specs.Shapes.{is_x, is_singleton}
 use Rattle.lt_tag.specs.Parts.{CoreParts, ExtensionParts, TagForm, LangTag, PrivateUse, Grandfathered}
 use Rattle.lt_tag.specs.Lists.{pieces, list_of}
 use Rattle.lt_tag.specs.Grandfathered.{grandfathered_texts, grandfathered_list, IsGrandfathered}
-use Rattle.lt_tag.specs.Spelling.{spell_core, spell_extension, spell_extensions, spell_private, x_subtag, IsCore, IsExtension, IsPrivate}
-use Rattle.lt_tag.specs.WellFormed.{spell, IsTag, IsLangTag, IsNotGrandfathered}
+use Rattle.lt_tag.specs.Spelling.{spell_core, spell_extension, spell_extensions, spell_private, x_subtag, IsCore, IsExtension}
+use Rattle.lt_tag.specs.WellFormed.{spell, IsTag, IsNotGrandfathered}
 use Rattle.lt_tag.specs.Conventional.{conventional}
 use Rattle.lt_tag.specs.Laws.{IsTextOf}
 use Rattle.lt_tag.proofs.TagLemmas.{list_all-at, table_length}

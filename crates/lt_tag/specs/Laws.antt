@@ -3,7 +3,7 @@ use Rattle.std.specs.Prelude.{ℕ, ◌≡◌, ◌↔◌, List}
 use Rattle.lt_subtag.specs.Bytes.{folded}
 use Rattle.lt_tag.specs.Parts.{CoreParts, TagForm}
 use Rattle.lt_tag.specs.Lists.{list_of}
-use Rattle.lt_tag.specs.Grandfathered.{grandfathered_list, IsGrandfathered}
+use Rattle.lt_tag.specs.Grandfathered.{IsGrandfathered}
 use Rattle.lt_tag.specs.Spelling.{spell_core, IsCore}
 use Rattle.lt_tag.specs.WellFormed.{spell, IsTag}
 use Rattle.lt_tag.specs.Faults.{HasList}
