@@ -18,6 +18,7 @@ use Rattle.lt_tag.proofs.CompleteLemmas.{one_core}
 use Rattle.lt_tag.proofs.ShapeLemmas.{IsLong, core_all, extension_all, language_long, tag_subtags}
 use Rattle.lt_tag.proofs.AgainLemmas.{tag_again}
 use Rattle.lt_tag.proofs.LetterLemmas.{join_pieces, to_HasList}
+use Rattle.lt_tag.proofs.ListLemmas.{head_is, tail_is}
 
 -- the same bytes
 abbrev same : List ℕ → List ℕ → Bool
@@ -94,12 +95,6 @@ single_first (s ∷ ss) = length s == 1
 
 long_no_single : (s : List ℕ) → IsLong s → not (length s == 1) ≡ true
 long_no_single s l = ap not (ne_eqb (length s) 1 (λ e. omega (arith, l.long)))
-
-head_is : (x y : List ℕ) (xs ys : List (List ℕ)) → x ∷ xs ≡ y ∷ ys → x ≡ y
-head_is x y xs ys h = cc
-
-tail_is : (x y : List ℕ) (xs ys : List (List ℕ)) → x ∷ xs ≡ y ∷ ys → xs ≡ ys
-tail_is x y xs ys h = cc
 
 -- what stands before the first one-character subtag, and the rest
 before_single : (xs ys rest others : List (List ℕ)) → no_single xs ≡ true → no_single ys ≡ true → single_first rest ≡ true → single_first others ≡ true → xs ++ rest ≡ ys ++ others
