@@ -196,3 +196,6 @@ impl<T: Drop> From<AllocFailed<T>> for TransformFault {
         TransformFault::OutOfMemory
     }
 }
+
+#[cfg(test)]
+mod tests;
