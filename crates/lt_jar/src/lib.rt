@@ -4,6 +4,7 @@
 mod drafts;
 mod faults;
 mod jars;
+pub mod laws;
 mod lines;
 mod reading;
 
