@@ -11,3 +11,6 @@ mod reading;
 pub use faults::{JarFault, JarFaultKind};
 pub use jars::{Jar, JarField, Record};
 pub use reading::read_jar;
+
+#[cfg(test)]
+mod tests;
