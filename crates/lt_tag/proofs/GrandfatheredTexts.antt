@@ -1,16 +1,19 @@
 -- A text has the list of a grandfathered tag exactly if it is that tag's text in some letter case.
-use Rattle.std.proofs.Common.{◌≡◌, ℕ, ◌≤◌, ◌<◌, ◌-◌, List, [], length, map, refl, sym, ap, ◌∙◌, arith}
-use Rattle.std.specs.Prelude.{slice_index_or}
+use Rattle.std.proofs.Common.{◌≡◌, ℕ, ◌≤◌, ◌<◌, ◌-◌, List, [], length, map, refl, sym, ap, ◌∙◌, arith, ◌+◌, ◌==◌, Bool, ◌∷◌, inl, inr}
+use Rattle.std.specs.Prelude.{slice_index_or, sum_by}
 use Rattle.std.specs.List.{list_all, join_with_byte}
 use Rattle.std.proofs.lemmas.List.{get_or-map}
 use Rattle.lt_subtag.specs.Bytes.{is_subtag, folded}
 use Rattle.lt_tag.specs.Parts.{TagForm, Grandfathered}
-use Rattle.lt_tag.specs.Lists.{pieces, list_of}
+use Rattle.lt_tag.specs.Lists.{pieces, list_of, onto_first}
 use Rattle.lt_tag.specs.Grandfathered.{grandfathered_texts, grandfathered_list, IsGrandfathered}
 use Rattle.lt_tag.specs.Faults.{HasList}
 use Rattle.lt_tag.proofs.TagLemmas.{table_length}
+use Rattle.lt_tag.proofs.TextLemmas.{some_pieces}
 use Rattle.lt_tag.proofs.ShapeLemmas.{tag_subtags}
 use Rattle.lt_tag.proofs.LetterLemmas.{join_pieces, list_of_is, to_HasList}
+use Rattle.std.proofs.lemmas.List.Sums.{sum_by-cons}
+use Rattle.std.proofs.lemmas.Bool.{cases_Bool}
 
 -- the text of a number
 abbrev known : ℕ → List ℕ
@@ -39,3 +42,21 @@ match_needed text number g =
 -- a text that is grandfathered has a list
 pub match_listed : (text : List ℕ) (number : ℕ) → IsGrandfathered (list_of text) number → HasList text
 match_listed text number g = to_HasList text (ap (list_all is_subtag) g.same ∙ tag_subtags (Grandfathered number) (g.first, g.last))
+
+sum-onto_first : (b : ℕ) (ps : List (List ℕ)) → 0 < length ps → sum_by length (onto_first b ps) + length (onto_first b ps) ≡ sum_by length ps + length ps + 1
+sum-onto_first b [] n = absurd (omega arith)
+sum-onto_first b (p ∷ ps) n = omega (arith, sum_by-cons (λ (x : List ℕ). length x) (b ∷ p) ps, sum_by-cons (λ (x : List ℕ). length x) p ps)
+
+-- the pieces have the bytes of the text but its hyphens
+pub sum-pieces : (text : List ℕ) → sum_by length (pieces text) + length (pieces text) ≡ length text + 1
+sum-pieces [] = refl
+sum-pieces (b ∷ bs) =
+    elim (cases_Bool (b == 45)) [
+      | inl e ↦ rw e (omega (arith, sum-pieces bs, sum_by-cons (λ (x : List ℕ). length x) [] (pieces bs)))
+      | inr e ↦ rw e (omega (arith, sum-pieces bs, sum-onto_first b (pieces bs) (some_pieces bs)))
+    ]
+
+-- how long the text of a list is
+pub list_length : (list : List (List ℕ)) (number : ℕ) → IsGrandfathered list number → sum_by length list + length list ≡ length (known number) + 1
+unfolding grandfathered_list
+list_length list number g = ap (λ (l : List (List ℕ)). sum_by length l + length l) g.same ∙ sum-pieces (known number)
