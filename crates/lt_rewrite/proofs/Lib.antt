@@ -20,3 +20,4 @@ pub mod Proper
 pub mod CoreShapes
 pub mod ExtensionShapes
 pub mod OrderingLaw
+pub mod Same
