@@ -5,15 +5,15 @@ use Rattle.std.specs.List.{AllByRecursion}
 use Rattle.std.proofs.lemmas.List.{length-append, map-append}
 use Rattle.lt_tag.specs.Parts.{CoreParts, ExtensionParts, TForm, TagForm, LangTag, PrivateUse, Grandfathered}
 use Rattle.lt_tag.specs.Spelling.{spell_core, IsCore, IsExtension, IsPrivate}
-use Rattle.lt_tag.specs.Extensions.{spell_field, spell_source, spell_t, IsT}
+use Rattle.lt_tag.specs.Extensions.{spell_field, spell_source, spell_t, IsT, transform, IsTransform, unicode}
 use Rattle.lt_tag.specs.Values.{IsCoreValue, IsExtensionValue, IsTagValue, most_parts}
 use Rattle.lt_tag.specs.WellFormed.{spell, IsLangTag, IsTag, IsNotGrandfathered}
 use Rattle.lt_tag.proofs.TagLemmas.{not_grandfathered, AllByRecursion-weaker}
 use Rattle.lt_registry.specs.Parts.{EntryParts}
-use Rattle.lt_registry.specs.Validity.{transform, IsTransform, IsProperCore, Distinct, IsProperExtension, IsProperLangTag, HasProperParts, IsProper}
+use Rattle.lt_registry.specs.Validity.{IsProperCore, Distinct, IsProperExtension, IsProperLangTag, HasProperParts, IsProper}
 use Rattle.lt_rewrite.specs.CoreSteps.{values_of, CoreStep}
 use Rattle.lt_rewrite.specs.Orderings.{ListStep, by_swap, by_drop}
-use Rattle.lt_rewrite.specs.Extensions.{unicode, singleton_cmp, TransformStep, on_source, on_fields, ExtensionStep, in_unicode, in_transform, ExtensionsStep, inside, among}
+use Rattle.lt_rewrite.specs.Extensions.{singleton_cmp, TransformStep, on_source, on_fields, ExtensionStep, in_unicode, in_transform, ExtensionsStep, inside, among}
 use Rattle.lt_rewrite.specs.TagSteps.{TagChange, on_core, on_extensions, on_whole, TagStep}
 use Rattle.lt_rewrite.specs.Laws.{IsProperValue}
 use Rattle.lt_rewrite.proofs.Proper.{steps_keep_proper, proper_spells_none}

@@ -10,13 +10,13 @@ use Rattle.lt_tag.specs.Lists.{pieces}
 use Rattle.lt_tag.specs.Spelling.{spell_core, has_shape, IsCore}
 use Rattle.lt_tag.specs.Values.{IsCoreValue, most_parts}
 use Rattle.lt_tag.specs.Grandfathered.{grandfathered_texts, grandfathered_list, IsGrandfathered}
-use Rattle.lt_tag.proofs.ListLemmas.{list_all-append}
 use Rattle.lt_tag.proofs.TagLemmas.{table_length, list_all-at}
 use Rattle.lt_registry.specs.Parts.{EntryParts}
 use Rattle.lt_registry.specs.Entries.{entry, is_registered, replacement}
 use Rattle.lt_registry.specs.Validity.{ExtlangsFit, IsProperCore, Distinct}
 use Rattle.lt_registry.specs.declared.entries.Kind.TheVariants as kinds
-use Rattle.lt_rewrite.specs.CoreSteps.{values_of, CoreStep, by_extlang, by_language, by_script, by_region, by_variant, by_turn}
+use Rattle.lt_tag.specs.WellFormed.{IsNotGrandfathered}
+use Rattle.lt_rewrite.specs.CoreSteps.{Values, values_of, CoreStep, by_extlang, by_language, by_script, by_region, by_variant, by_turn}
 use Rattle.lt_rewrite.specs.Conditions.{IsRegistry, FitsGrandfathered, second_entry, MeetsCoreConditions}
 use Rattle.lt_rewrite.specs.Laws.{IsProperValue, StepsKeepProper, ProperCoresSpellNone}
 use Rattle.lt_rewrite.proofs.Entries.{entry_has, turn_is, variant_value_fits, language_value_fits}
@@ -49,69 +49,66 @@ fit_none R l (x ∷ xs) e = cc
 short_none : (l : List ℕ) (xs : List (List ℕ)) → xs ≡ [] → 0 < length xs → length l ≤ 3
 short_none l xs e n = let m = ap length e in absurd (omega (arith, m, n))
 
-kept : (R : List EntryParts) → IsRegistry R → MeetsCoreConditions R → (c d : CoreParts) → IsProperValue R c → CoreStep (values_of R) c d → IsProperValue R d
-kept R G C c d P (by_extlang x s) =
-    let fit : ExtlangsFit R c.language (x ∷ []) = subst (ExtlangsFit R c.language) s.one P.proper.extlangs in
-    let shape : is_extlang x ≡ true = (and_parts (is_extlang x) true (ap (list_all is_extlang) (sym s.one) ∙ P.value.shaped.extlangs)).0 in
-    let S = P.value.shaped in
-    subst (IsProperValue R) (sym s.result) (record {
-      value = record {
-        shaped = record { language = replacement_form R G x shape; extlangs = refl; up_to_three = omega arith; after_short = λ n. absurd (omega (arith, n)); script = S.script; region = S.region; variants = S.variants };
-        variants = P.value.variants;
-      };
-      proper = record { language = replacement_registered R C x fit.0; extlangs = tt; script = P.proper.script; region = P.proper.region; variants = P.proper.variants };
-    })
-kept R G C c d P (by_language v s) =
-    let S = P.value.shaped in
-    subst (IsProperValue R) (sym s.result) (record {
-      value = record {
-        shaped = record { language = value_form R G kinds.Language c.language v s.has; extlangs = S.extlangs; up_to_three = S.up_to_three; after_short = short_none v c.extlangs s.alone; script = S.script; region = S.region; variants = S.variants };
-        variants = P.value.variants;
-      };
-      proper = record { language = value_registered R C kinds.Language c.language v refl s.has; extlangs = fit_none R v c.extlangs s.alone; script = P.proper.script; region = P.proper.region; variants = P.proper.variants };
-    })
-kept R G C c d P (by_script a v s) =
-    let S = P.value.shaped in
-    subst (IsProperValue R) (sym s.result) (record {
-      value = record {
-        shaped = record { language = S.language; extlangs = S.extlangs; up_to_three = S.up_to_three; after_short = S.after_short; script = value_form R G kinds.Script a v s.has; region = S.region; variants = S.variants };
-        variants = P.value.variants;
-      };
-      proper = record { language = P.proper.language; extlangs = P.proper.extlangs; script = value_registered R C kinds.Script a v refl s.has; region = P.proper.region; variants = P.proper.variants };
-    })
-kept R G C c d P (by_region a v s) =
-    let S = P.value.shaped in
-    subst (IsProperValue R) (sym s.result) (record {
-      value = record {
-        shaped = record { language = S.language; extlangs = S.extlangs; up_to_three = S.up_to_three; after_short = S.after_short; script = S.script; region = value_form R G kinds.Region a v s.has; variants = S.variants };
-        variants = P.value.variants;
-      };
-      proper = record { language = P.proper.language; extlangs = P.proper.extlangs; script = P.proper.script; region = value_registered R C kinds.Region a v refl s.has; variants = P.proper.variants };
-    })
-kept R G C c d P (by_variant before v w after s) =
-    let S = P.value.shaped in
-    let n : length (before ++ w ∷ after) ≤ most_parts = omega (arith, length-append before (w ∷ after), length-append before (v ∷ after), ap length s.there, P.value.variants) in
-    subst (IsProperValue R) (sym s.result) (record {
-      value = record {
-        shaped = record { language = S.language; extlangs = S.extlangs; up_to_three = S.up_to_three; after_short = S.after_short; script = S.script; region = S.region; variants = test_replaced is_variant before v w after (ap (list_all is_variant) (sym s.there) ∙ S.variants) (variant_value_form R G v w s.has) };
-        variants = n;
-      };
-      proper = record { language = P.proper.language; extlangs = P.proper.extlangs; script = P.proper.script; region = P.proper.region; variants = all_replaced (λ v. is_registered R kinds.Variant v ≡ true) before v w after (subst (AllByRecursion (λ v. is_registered R kinds.Variant v ≡ true)) s.there P.proper.variants) (variant_value_fits R C v w s.has).0 };
-    })
-kept R G C c d P (by_turn before v m after s) =
-    let S = P.value.shaped in
+-- a core step keeps the shape
+pub step_shaped : (R : List EntryParts) → IsRegistry R → (c d : CoreParts) → IsCore c → CoreStep (values_of R) c d → IsCore d
+step_shaped R G c d S (by_extlang x s) =
+    let shape : is_extlang x ≡ true = (and_parts (is_extlang x) true (ap (list_all is_extlang) (sym s.one) ∙ S.extlangs)).0 in
+    subst IsCore (sym s.result) (record { language = replacement_form R G x shape; extlangs = refl; up_to_three = omega arith; after_short = λ n. absurd (omega (arith, n)); script = S.script; region = S.region; variants = S.variants })
+step_shaped R G c d S (by_language v s) =
+    subst IsCore (sym s.result) (record { language = value_form R G kinds.Language c.language v s.has; extlangs = S.extlangs; up_to_three = S.up_to_three; after_short = short_none v c.extlangs s.alone; script = S.script; region = S.region; variants = S.variants })
+step_shaped R G c d S (by_script a v s) =
+    subst IsCore (sym s.result) (record { language = S.language; extlangs = S.extlangs; up_to_three = S.up_to_three; after_short = S.after_short; script = value_form R G kinds.Script a v s.has; region = S.region; variants = S.variants })
+step_shaped R G c d S (by_region a v s) =
+    subst IsCore (sym s.result) (record { language = S.language; extlangs = S.extlangs; up_to_three = S.up_to_three; after_short = S.after_short; script = S.script; region = value_form R G kinds.Region a v s.has; variants = S.variants })
+step_shaped R G c d S (by_variant before v w after s) =
+    subst IsCore (sym s.result) (record { language = S.language; extlangs = S.extlangs; up_to_three = S.up_to_three; after_short = S.after_short; script = S.script; region = S.region; variants = test_replaced is_variant before v w after (ap (list_all is_variant) (sym s.there) ∙ S.variants) (variant_value_form R G v w s.has) })
+step_shaped R G c d S (by_turn before v m after s) =
     let t = (turn_is R c.language v m s.has).1 in
-    let n : length (before ++ after) ≤ most_parts = omega (arith, length-append before after, length-append before (v ∷ after), ap length s.there, P.value.variants) in
-    subst (IsProperValue R) (sym s.result) (record {
-      value = record {
-        shaped = record { language = language_value_form R G v m t; extlangs = S.extlangs; up_to_three = S.up_to_three; after_short = short_none m c.extlangs s.alone; script = S.script; region = S.region; variants = test_without is_variant before v after (ap (list_all is_variant) (sym s.there) ∙ S.variants) };
-        variants = n;
-      };
-      proper = record { language = language_value_fits R C v m t; extlangs = fit_none R m c.extlangs s.alone; script = P.proper.script; region = P.proper.region; variants = all_without (λ v. is_registered R kinds.Variant v ≡ true) before v after (subst (AllByRecursion (λ v. is_registered R kinds.Variant v ≡ true)) s.there P.proper.variants) };
-    })
+    subst IsCore (sym s.result) (record { language = language_value_form R G v m t; extlangs = S.extlangs; up_to_three = S.up_to_three; after_short = short_none m c.extlangs s.alone; script = S.script; region = S.region; variants = test_without is_variant before v after (ap (list_all is_variant) (sym s.there) ∙ S.variants) })
+
+-- a core step gives no more variants
+pub step_counts : (V : Values) (c d : CoreParts) → CoreStep V c d → length d.variants ≤ length c.variants
+step_counts V c d (by_extlang x s) = let n = ap (λ (z : CoreParts). length z.variants) s.result in omega (arith, n)
+step_counts V c d (by_language v s) = let n = ap (λ (z : CoreParts). length z.variants) s.result in omega (arith, n)
+step_counts V c d (by_script a v s) = let n = ap (λ (z : CoreParts). length z.variants) s.result in omega (arith, n)
+step_counts V c d (by_region a v s) = let n = ap (λ (z : CoreParts). length z.variants) s.result in omega (arith, n)
+step_counts V c d (by_variant before v w after s) =
+    let n = ap (λ (z : CoreParts). length z.variants) s.result in
+    omega (arith, n, length-append before (w ∷ after), length-append before (v ∷ after), ap length s.there)
+step_counts V c d (by_turn before v m after s) =
+    let n = ap (λ (z : CoreParts). length z.variants) s.result in
+    omega (arith, n, length-append before after, length-append before (v ∷ after), ap length s.there)
+
+abbrev RegisteredVariant : List EntryParts → List ℕ → Type 0
+RegisteredVariant R v = is_registered R kinds.Variant v ≡ true
+
+-- a core step keeps the core proper
+pub step_proper : (R : List EntryParts) → MeetsCoreConditions R → (c d : CoreParts) → IsProperCore R c → CoreStep (values_of R) c d → IsProperCore R d
+step_proper R C c d P (by_extlang x s) =
+    let fit : ExtlangsFit R c.language (x ∷ []) = subst (ExtlangsFit R c.language) s.one P.extlangs in
+    subst (IsProperCore R) (sym s.result) (record { language = replacement_registered R C x fit.0; extlangs = tt; script = P.script; region = P.region; variants = P.variants })
+step_proper R C c d P (by_language v s) =
+    subst (IsProperCore R) (sym s.result) (record { language = value_registered R C kinds.Language c.language v refl s.has; extlangs = fit_none R v c.extlangs s.alone; script = P.script; region = P.region; variants = P.variants })
+step_proper R C c d P (by_script a v s) =
+    subst (IsProperCore R) (sym s.result) (record { language = P.language; extlangs = P.extlangs; script = value_registered R C kinds.Script a v refl s.has; region = P.region; variants = P.variants })
+step_proper R C c d P (by_region a v s) =
+    subst (IsProperCore R) (sym s.result) (record { language = P.language; extlangs = P.extlangs; script = P.script; region = value_registered R C kinds.Region a v refl s.has; variants = P.variants })
+step_proper R C c d P (by_variant before v w after s) =
+    let all = subst (AllByRecursion (RegisteredVariant R)) s.there P.variants in
+    subst (IsProperCore R) (sym s.result) (record { language = P.language; extlangs = P.extlangs; script = P.script; region = P.region; variants = all_replaced (RegisteredVariant R) before v w after all (variant_value_fits R C v w s.has).0 })
+step_proper R C c d P (by_turn before v m after s) =
+    let t = (turn_is R c.language v m s.has).1 in
+    let all = subst (AllByRecursion (RegisteredVariant R)) s.there P.variants in
+    subst (IsProperCore R) (sym s.result) (record { language = language_value_fits R C v m t; extlangs = fit_none R m c.extlangs s.alone; script = P.script; region = P.region; variants = all_without (RegisteredVariant R) before v after all })
 
 pub steps_keep_proper : (R : List EntryParts) → IsRegistry R → MeetsCoreConditions R → StepsKeepProper R
-steps_keep_proper = kept
+steps_keep_proper R G C c d P s = record {
+  value = record {
+    shaped = step_shaped R G c d P.value.shaped s;
+    variants = let n = step_counts (values_of R) c d s in omega (arith, n, P.value.variants);
+  };
+  proper = step_proper R C c d P.proper s;
+}
 
 -- no proper core spells a grandfathered tag
 
@@ -196,9 +193,11 @@ second_has R P h (x ∷ xs) vs e q = (entry_has R kinds.Extlang x P h e q).0
 second_has R P h [] (v ∷ vs) e q = (entry_has R kinds.Variant v P h e q).0
 
 -- a proper core spells no grandfathered tag
-pub proper_spells_none : (R : List EntryParts) → All (FitsGrandfathered R) R → ProperCoresSpellNone R
-proper_spells_none R H c P number g =
-    let S = P.value.shaped in
-    let en : (e : EntryParts) × (second_entry R c.extlangs c.variants ≡ Some e) = second_registered R c number c.extlangs c.variants S refl refl P.proper.extlangs P.proper.variants g in
+pub proper_not_grandfathered : (R : List EntryParts) → All (FitsGrandfathered R) R → (c : CoreParts) → IsCore c → IsProperCore R c → IsNotGrandfathered (spell_core c)
+proper_not_grandfathered R H c S P number g =
+    let en : (e : EntryParts) × (second_entry R c.extlangs c.variants ≡ Some e) = second_registered R c number c.extlangs c.variants S refl refl P.extlangs P.variants g in
     let fits : FitsGrandfathered R en.0 = second_has R (FitsGrandfathered R) H c.extlangs c.variants en.0 en.1 in
-    fits.regular c number S g (record { proper = P.proper; distinct = spelled_distinct c number g }) en.1
+    fits.regular c number S g (record { proper = P; distinct = spelled_distinct c number g }) en.1
+
+pub proper_spells_none : (R : List EntryParts) → All (FitsGrandfathered R) R → ProperCoresSpellNone R
+proper_spells_none R H c P = proper_not_grandfathered R H c P.value.shaped P.proper

@@ -1,6 +1,6 @@
--- The laws of core steps, over a list of entries.
+-- The laws of steps, over a list of entries.
 use Rattle.std.specs.Prelude.{ℕ, ◌≡◌, List, None, length}
-use Rattle.lt_tag.specs.Parts.{CoreParts}
+use Rattle.lt_tag.specs.Parts.{CoreParts, TagForm}
 use Rattle.lt_tag.specs.Spelling.{spell_core}
 use Rattle.lt_tag.specs.Values.{IsCoreValue}
 use Rattle.lt_tag.specs.WellFormed.{IsNotGrandfathered}
@@ -9,6 +9,8 @@ use Rattle.lt_registry.specs.Validity.{IsProperCore}
 use Rattle.lt_registry.specs.declared.entries.Kind.{Kind}
 use Rattle.lt_rewrite.specs.CoreSteps.{values_of, CoreStep, IsCoreNormalForm, chase, Ends}
 use Rattle.lt_rewrite.specs.Conditions.{next_value}
+use Rattle.lt_rewrite.specs.Labels.{LeadsBy}
+use Rattle.lt_rewrite.specs.declared.steps.Step.{Step}
 
 -- a core's normal form, and the only one
 pub record IsOneNormalForm (R : List EntryParts) (c d : CoreParts) : Type 0 where
@@ -44,3 +46,7 @@ EndingChainsAreShort R =
 -- the chain from each subtag comes to an end
 abbrev pub ChainsEnd : List EntryParts → Type 0
 ChainsEnd R = (k : Kind) (s : List ℕ) → Ends (next_value R k) s
+
+-- the kind, the place and the number determine what a step leads to
+abbrev pub StepsAreDetermined : List EntryParts → Type 0
+StepsAreDetermined R = (t u v : TagForm) (step : Step) → LeadsBy R t step u → LeadsBy R t step v → u ≡ v

@@ -2,7 +2,7 @@
 ghost use Rattle.std.specs.Prelude.{List, All};
 ghost use Rattle.lt_registry.specs.Parts.{EntryParts};
 ghost use Rattle.lt_rewrite.specs.Conditions.{IsRegistry, HasEndingChain, FitsGrandfathered, MeetsCoreConditions};
-ghost use Rattle.lt_rewrite.specs.Laws.{HasOneNormalForm, StepsKeepNormalForm, StepsKeepProper, ProperCoresSpellNone, EndingChainsAreShort, ChainsEnd};
+ghost use Rattle.lt_rewrite.specs.Laws.{HasOneNormalForm, StepsKeepNormalForm, StepsKeepProper, ProperCoresSpellNone, EndingChainsAreShort, ChainsEnd, StepsAreDetermined};
 
 /// A chain of values that comes to an end has done so after as many values as there are records;
 /// and each comes to an end where the chains from all records do.
@@ -23,4 +23,9 @@ pub fn one_core_normal_form()
 pub fn core_steps_stay_proper()
     ensures proper { (R : List EntryParts) → IsRegistry R → MeetsCoreConditions R → StepsKeepProper R }
     ensures spelled { (R : List EntryParts) → All (FitsGrandfathered R) R → ProperCoresSpellNone R }
+{}
+
+/// In every registry the kind, the place and the number determine what a step leads to.
+pub fn steps_are_determined()
+    ensures { (R : List EntryParts) → StepsAreDetermined R }
 {}
