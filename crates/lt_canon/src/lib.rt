@@ -3,6 +3,7 @@
 
 mod conditions;
 mod refusals;
+pub mod upgrade_laws;
 
 pub use conditions::{Condition, UpgradeCondition};
 pub use refusals::Refusal;
