@@ -1,4 +1,13 @@
 pub mod Stars
+pub mod NormalForms
+pub mod Sorting
+pub mod PartLists
+pub mod PartSteps
+pub mod UnicodeForms
+pub mod CoreLengths
+pub mod TransformForms
+pub mod FoundParts
+pub mod ExtensionForms
 pub mod Chains
 pub mod CoreForm
 pub mod CoreRest
@@ -9,3 +18,6 @@ pub mod CoreLaw
 pub mod Forms
 pub mod Proper
 pub mod OneStep
+pub mod CoreShapes
+pub mod ExtensionShapes
+pub mod OrderingLaw

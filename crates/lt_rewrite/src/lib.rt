@@ -2,6 +2,7 @@
 #![tactic(auto)]
 
 pub mod laws;
+pub mod ordering_laws;
 mod steps;
 
 pub use steps::{Step, StepKind};
