@@ -4,3 +4,6 @@ pub mod TagProper
 pub mod TagForm
 pub mod TagRest
 pub mod TagLaws
+pub mod Checks
+pub mod UpgradeValid
+pub mod UpgradeCores

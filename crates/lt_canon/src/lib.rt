@@ -4,6 +4,7 @@
 mod conditions;
 pub mod laws;
 mod refusals;
+pub mod upgrade_laws;
 
 pub use conditions::{Condition, UpgradeCondition};
 pub use refusals::Refusal;
