@@ -1,4 +1,4 @@
--- What a registry that passes the check gives: the conditions on cores, and the whole record behind a value.
+-- What a registry that passes the check says of the whole record behind a value.
 use Rattle.std.proofs.Common.{◌≡◌, ℕ, ◌⊎◌, inl, inr, Bool, true, false, List, Option, Some, None, refl, sym, ap, ◌∙◌, subst, All}
 use Rattle.std.specs.Option.{option_and_then}
 use Rattle.lt_tag.specs.Parts.{TagForm, Grandfathered}
@@ -8,21 +8,11 @@ use Rattle.lt_registry.specs.declared.entries.Kind.{Kind}
 use Rattle.lt_registry.specs.declared.entries.Kind.TheVariants as kinds
 use Rattle.lt_registry.specs.declared.entries.EntryName.{EntryName}
 use Rattle.lt_registry.specs.declared.entries.EntryName.TheVariants as names
-use Rattle.lt_rewrite.specs.Conditions.{IsRegistry, FitsGrandfathered, MeetsCoreConditions}
+use Rattle.lt_rewrite.specs.Conditions.{FitsGrandfathered}
 use Rattle.lt_rewrite.proofs.Entries.{find_has}
 use Rattle.lt_rewrite.proofs.Same.{same_tag_is}
 use Rattle.lt_canon.specs.Conditions.{OfWhole, IsValidPlain, HasValidWhole, HasRestingWhole, HasAgreeingWhole, IsChecked}
 use Rattle.lt_canon.specs.declared.conditions.Condition.TheVariants as conditions
-
-pub core_conditions : (R : List EntryParts) → IsChecked R → MeetsCoreConditions R
-core_conditions R C = record {
-  names = C.passes conditions.OwnName;
-  values = C.passes conditions.RegisteredValue;
-  chains = C.passes conditions.EndingChain;
-  extlangs = C.passes conditions.FittingExtlang;
-  variants = C.passes conditions.FittingVariantValue;
-  turns = C.passes conditions.FinalPrefixes;
-}
 
 pub grandfathered_fit : (R : List EntryParts) → IsChecked R → All (FitsGrandfathered R) R
 grandfathered_fit R C = C.passes conditions.FittingGrandfathered

@@ -7,3 +7,6 @@ pub mod TagLaws
 pub mod Checks
 pub mod UpgradeValid
 pub mod UpgradeCores
+pub mod Distinctness
+pub mod TagRepeats
+pub mod NamedRepeats

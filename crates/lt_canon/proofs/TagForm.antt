@@ -14,13 +14,15 @@ use Rattle.lt_rewrite.specs.TagSteps.{IsPlain, CoreChange, TagChange, on_core, o
 use Rattle.lt_rewrite.proofs.Stars.{star_trans}
 use Rattle.lt_rewrite.proofs.NormalForms.{IsFormOf, star_map_while, star_keeps, form_is_normal, normal_is_form, form_again}
 use Rattle.lt_rewrite.proofs.Same.{same_core-Decides}
-use Rattle.lt_rewrite.proofs.CoreShapes.{step_shaped, core_form, core_formed}
+use Rattle.lt_rewrite.proofs.Proper.{step_shaped}
+use Rattle.lt_rewrite.proofs.CoreShapes.{core_form, core_formed}
 use Rattle.lt_rewrite.proofs.PartLists.{empty_middle, step_some}
 use Rattle.lt_rewrite.proofs.ExtensionForms.{extension_form, extensions_form, extensions_formed}
 use Rattle.lt_canon.specs.Conditions.{plain, IsValidPlain, HasRestingWhole, HasAgreeingWhole, IsChecked}
 use Rattle.lt_canon.specs.declared.conditions.Condition.TheVariants as conditions
 use Rattle.lt_canon.proofs.EndForms.{IsEndForm}
-use Rattle.lt_canon.proofs.CheckedRegistry.{core_conditions, ValuedWhole, valued_whole, whole_has, no_value, value_plain}
+use Rattle.lt_canon.proofs.Checks.{core_conditions}
+use Rattle.lt_canon.proofs.CheckedRegistry.{ValuedWhole, valued_whole, whole_has, no_value, value_plain}
 use Rattle.lt_canon.proofs.TagProper.{core_step_tag, extensions_step_tag, step_of_change}
 
 -- the end of a tag that is no langtag with extensions or private use
@@ -48,10 +50,13 @@ same_or_not c d = by (same_core c d) refl
 
 module _ (R : List EntryParts) (C : IsChecked R) where
   abbrev pub core_end : CoreParts → CoreParts
-  core_end = core_form R (core_conditions R C)
+  core_end = core_form R (core_conditions R C.passes)
 
   pub cores_formed : IsFormOf (CoreStep (values_of R)) core_end
-  cores_formed = core_formed R (core_conditions R C)
+  cores_formed = core_formed R (core_conditions R C.passes)
+
+  abbrev pub extension_end : ExtensionParts → ExtensionParts
+  extension_end = extension_form R core_end cores_formed (step_shaped R C.registry)
 
   abbrev pub extensions_end : List ExtensionParts → List ExtensionParts
   extensions_end = extensions_form R core_end cores_formed (step_shaped R C.registry)

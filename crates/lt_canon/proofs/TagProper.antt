@@ -1,11 +1,10 @@
 -- Each change of a proper tag leads to a proper tag.
 use Rattle.std.proofs.Common.{◌≡◌, ◌≢◌, ℕ, false, ◌≤◌, ◌+◌, inl, inr, List, [], ◌∷◌, ◌++◌, Option, Some, None, refl, sym, ap, ◌∙◌, subst, map, length, arith, IfSome}
-use Rattle.std.specs.Prelude.{flat_map}
 use Rattle.std.specs.List.{AllByRecursion}
-use Rattle.std.proofs.lemmas.List.{length-append, map-append}
+use Rattle.std.proofs.lemmas.List.{map-append}
 use Rattle.lt_tag.specs.Parts.{CoreParts, ExtensionParts, TForm, TagForm, LangTag, PrivateUse, Grandfathered}
 use Rattle.lt_tag.specs.Spelling.{spell_core, IsCore, IsExtension, IsPrivate}
-use Rattle.lt_tag.specs.Extensions.{spell_field, spell_source, spell_t, IsT, transform, IsTransform, unicode}
+use Rattle.lt_tag.specs.Extensions.{transform, IsTransform, unicode}
 use Rattle.lt_tag.specs.Values.{IsCoreValue, IsExtensionValue, IsTagValue, most_parts}
 use Rattle.lt_tag.specs.WellFormed.{spell, IsLangTag, IsTag, IsNotGrandfathered}
 use Rattle.lt_tag.proofs.TagLemmas.{not_grandfathered, AllByRecursion-weaker}
@@ -16,14 +15,14 @@ use Rattle.lt_rewrite.specs.Orderings.{ListStep, by_swap, by_drop}
 use Rattle.lt_rewrite.specs.Extensions.{singleton_cmp, TransformStep, on_source, on_fields, ExtensionStep, in_unicode, in_transform, ExtensionsStep, inside, among}
 use Rattle.lt_rewrite.specs.TagSteps.{TagChange, on_core, on_extensions, on_whole, TagStep}
 use Rattle.lt_rewrite.specs.Laws.{IsProperValue}
-use Rattle.lt_rewrite.proofs.Proper.{steps_keep_proper, proper_spells_none}
+use Rattle.lt_rewrite.proofs.Proper.{step_proper, steps_keep_proper, proper_spells_none}
 use Rattle.lt_rewrite.proofs.PartLists.{all_step, all_middle, all_replaced}
-use Rattle.lt_rewrite.proofs.CoreLengths.{core_length}
 use Rattle.lt_rewrite.proofs.TransformForms.{if_some_is, is_if_some}
 use Rattle.lt_rewrite.proofs.FoundParts.{one_transform}
 use Rattle.lt_rewrite.proofs.ExtensionShapes.{extension_step_singleton, extensions_step_values, extensions_step_count}
 use Rattle.lt_canon.specs.Conditions.{IsChecked}
-use Rattle.lt_canon.proofs.CheckedRegistry.{core_conditions, grandfathered_fit, value_plain}
+use Rattle.lt_canon.proofs.Checks.{core_conditions}
+use Rattle.lt_canon.proofs.CheckedRegistry.{grandfathered_fit, value_plain}
 
 -- the parts of a proper langtag
 pub record ProperParts (R : List EntryParts) (c : CoreParts) (es : List ExtensionParts) (ps : List (List ℕ)) : Type 0 where
@@ -100,48 +99,36 @@ distinct_step R es fs (inside before e f after w s) h =
     subst Distinct same h
 distinct_step R es fs (among s) h = distinct_order es fs s h
 
--- a source has no more variants than the extension has subtags
-source_variants : (p : TForm) (c : CoreParts) → p.source ≡ Some c → length c.variants ≤ length (spell_t p)
-source_variants p c e =
-    let a = ap (λ o. length (spell_source o)) e in
-    let b = length-append (spell_source p.source) (flat_map spell_field p.fields) in
-    omega (arith, core_length c, a, b)
-
 module _ (R : List EntryParts) (C : IsChecked R) where
   pub core_spells_none : (c : CoreParts) → IsProperValue R c → IsNotGrandfathered (spell_core c)
   core_spells_none c P = proper_spells_none R (grandfathered_fit R C) c P
 
-  proper_source : (e : ExtensionParts) (p : TForm) → IsExtensionValue e → IsProperExtension R e → e.singleton ≡ transform → IsTransform e.subtags p → IfSome p.source (IsProperCore R)
-  proper_source e p V P h k =
+  proper_source : (e : ExtensionParts) (p : TForm) → IsProperExtension R e → e.singleton ≡ transform → IsTransform e.subtags p → IfSome p.source (IsProperCore R)
+  proper_source e p P h k =
       let m = P h in
       subst (λ (z : TForm). IfSome z.source (IsProperCore R)) (one_transform e.subtags m.0 p m.1 k) m.2
 
-  transform_step_proper : (e : ExtensionParts) (p q : TForm) → length (spell_t p) ≤ most_parts → IsT p → TransformStep R p q → IfSome p.source (IsProperCore R) → IfSome q.source (IsProperCore R)
-  transform_step_proper e p q n k (on_source c d s) P =
-      let few : length c.variants ≤ most_parts = omega (arith, n, source_variants p c s.from) in
-      let value : IsProperValue R c = record { value = record { shaped = if_some_is IsCore p.source c s.from k.source; variants = few }; proper = if_some_is (IsProperCore R) p.source c s.from P } in
-      is_if_some (IsProperCore R) q.source d s.to (steps_keep_proper R C.registry (core_conditions R C) c d value s.step).proper
-  transform_step_proper e p q n k (on_fields h s) P = let Q : Option CoreParts → Type 0 = λ o. IfSome o (IsProperCore R) in subst Q (sym h) P
+  transform_step_proper : (p q : TForm) → TransformStep R p q → IfSome p.source (IsProperCore R) → IfSome q.source (IsProperCore R)
+  transform_step_proper p q (on_source c d s) P =
+      is_if_some (IsProperCore R) q.source d s.to (step_proper R (core_conditions R C.passes) c d (if_some_is (IsProperCore R) p.source c s.from P) s.step)
+  transform_step_proper p q (on_fields h s) P = let Q : Option CoreParts → Type 0 = λ o. IfSome o (IsProperCore R) in subst Q (sym h) P
 
-  extension_step_proper : (e f : ExtensionParts) → ExtensionStep R e f → IsExtensionValue e → IsProperExtension R e → IsProperExtension R f
-  extension_step_proper e f (in_unicode p q s) V P h = absurd (omega (arith, h, s.singleton, s.is_u))
-  extension_step_proper e f (in_transform p q s) V P h =
-      let n : length (spell_t p) ≤ most_parts = omega (arith, ap length s.from.spelled, V.subtags) in
-      (q, s.to, transform_step_proper e p q n s.from.shaped s.step (proper_source e p V P s.is_t s.from))
+  extension_step_proper : (e f : ExtensionParts) → ExtensionStep R e f → IsProperExtension R e → IsProperExtension R f
+  extension_step_proper e f (in_unicode p q s) P h = absurd (omega (arith, h, s.singleton, s.is_u))
+  extension_step_proper e f (in_transform p q s) P h = (q, s.to, transform_step_proper p q s.step (proper_source e p P s.is_t s.from))
 
-  extensions_step_proper : (es fs : List ExtensionParts) → ExtensionsStep R es fs → AllByRecursion IsExtensionValue es → AllByRecursion (IsProperExtension R) es → AllByRecursion (IsProperExtension R) fs
-  extensions_step_proper es fs (inside before e f after w s) V P =
-      let value = all_middle IsExtensionValue before e after (subst (AllByRecursion IsExtensionValue) w.there V) in
+  extensions_step_proper : (es fs : List ExtensionParts) → ExtensionsStep R es fs → AllByRecursion (IsProperExtension R) es → AllByRecursion (IsProperExtension R) fs
+  extensions_step_proper es fs (inside before e f after w s) P =
       let all = subst (AllByRecursion (IsProperExtension R)) w.there P in
-      let new = extension_step_proper e f s value (all_middle (IsProperExtension R) before e after all) in
+      let new = extension_step_proper e f s (all_middle (IsProperExtension R) before e after all) in
       subst (AllByRecursion (IsProperExtension R)) (sym w.result) (all_replaced (IsProperExtension R) before e f after all new)
-  extensions_step_proper es fs (among s) V P = all_step (IsProperExtension R) es fs s P
+  extensions_step_proper es fs (among s) P = all_step (IsProperExtension R) es fs s P
 
   -- a core step on the core
   pub core_step_tag : (c d : CoreParts) (es : List ExtensionParts) (ps : List (List ℕ)) → CoreStep (values_of R) c d → IsProper R (LangTag c es ps) → IsProper R (LangTag d es ps)
   core_step_tag c d es ps s P =
       let parts = proper_parts R c es ps P in
-      let core = steps_keep_proper R C.registry (core_conditions R C) c d parts.core s in
+      let core = steps_keep_proper R C.registry (core_conditions R C.passes) c d parts.core s in
       proper_langtag R d es ps (core_spells_none d core) (record { core = core; values = parts.values; count = parts.count; private = parts.private; private_count = parts.private_count; extensions = parts.extensions; singletons = parts.singletons })
 
   -- a step on the extensions
@@ -154,7 +141,7 @@ module _ (R : List EntryParts) (C : IsChecked R) where
         count = omega (arith, extensions_step_count R es fs s, parts.count);
         private = parts.private;
         private_count = parts.private_count;
-        extensions = extensions_step_proper es fs s parts.values parts.extensions;
+        extensions = extensions_step_proper es fs s parts.extensions;
         singletons = distinct_step R es fs s parts.singletons;
       })
 

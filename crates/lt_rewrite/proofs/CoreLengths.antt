@@ -31,7 +31,7 @@ core_step_no_longer V c d (by_turn before v m after s) =
     let n : length (before ++ after) ≤ length c.variants = omega (arith, length-append before after, length-append before (v ∷ after), ap length s.there) in
     subst (λ y. IsNoLonger y c) (sym s.result) (record { extlangs = omega arith; script = omega arith; region = omega arith; variants = n })
 
-pub core_length : (c : CoreParts) → length (spell_core c) ≡ 1 + (length c.extlangs + (length (option_to_list c.script) + (length (option_to_list c.region) + length c.variants)))
+core_length : (c : CoreParts) → length (spell_core c) ≡ 1 + (length c.extlangs + (length (option_to_list c.script) + (length (option_to_list c.region) + length c.variants)))
 core_length c =
     let a = length-append c.extlangs (option_to_list c.script ++ (option_to_list c.region ++ c.variants)) in
     let b = length-append (option_to_list c.script) (option_to_list c.region ++ c.variants) in

@@ -22,3 +22,4 @@ pub mod ExtensionShapes
 pub mod OrderingLaw
 pub mod Same
 pub mod OneStep
+pub mod Repeats
