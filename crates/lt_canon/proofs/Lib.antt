@@ -1,0 +1,12 @@
+pub mod EndForms
+pub mod CheckedRegistry
+pub mod TagProper
+pub mod TagForm
+pub mod TagRest
+pub mod TagLaws
+pub mod Checks
+pub mod UpgradeValid
+pub mod UpgradeCores
+pub mod Distinctness
+pub mod TagRepeats
+pub mod NamedRepeats

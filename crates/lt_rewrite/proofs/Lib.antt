@@ -20,4 +20,6 @@ pub mod Proper
 pub mod CoreShapes
 pub mod ExtensionShapes
 pub mod OrderingLaw
+pub mod Same
 pub mod OneStep
+pub mod Repeats
