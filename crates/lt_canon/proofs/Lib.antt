@@ -1,3 +1,10 @@
 pub mod Checks
 pub mod UpgradeValid
 pub mod UpgradeCores
+pub mod Deciding
+pub mod TagTests
+pub mod CoreTests
+pub mod WholeTests
+pub mod Findings
+pub mod Sample
+pub mod SampleRows

@@ -24,7 +24,6 @@ abbrev are_variants : (vs : List (List ℕ)) → Type 0
 are_variants vs = AllByRecursion (λ v. is_variant v ≡ true) vs
 
 pub step_shaped : (R : List EntryParts) → IsRegistry R → (c d : CoreParts) → IsCore c → CoreStep (values_of R) c d → IsCore d
-
 step_shaped R G c d S (by_extlang x s) =
     let shape : is_extlang x ≡ true = (and_parts (is_extlang x) true (ap (list_all is_extlang) (sym s.one) ∙ S.extlangs)).0 in
     subst IsCore (sym s.result) (record { language = replacement_form R G x shape; extlangs = refl; up_to_three = omega arith; after_short = λ n. absurd (omega (arith, n)); script = S.script; region = S.region; variants = S.variants })
@@ -48,7 +47,6 @@ abbrev pub core_form : (R : List EntryParts) → MeetsCoreConditions R → CoreP
 core_form R C = form (values_of R) (settles R C)
 
 pub core_formed : (R : List EntryParts) (C : MeetsCoreConditions R) → IsFormOf (CoreStep (values_of R)) (core_form R C)
-
 core_formed R C = record {
   kept = step_keeps (values_of R) (settles R C);
   reached = form_reached (values_of R) (settles R C);

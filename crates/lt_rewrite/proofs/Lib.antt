@@ -21,3 +21,4 @@ pub mod OneStep
 pub mod CoreShapes
 pub mod ExtensionShapes
 pub mod OrderingLaw
+pub mod Same
