@@ -1,3 +1,9 @@
+pub mod EndForms
+pub mod CheckedRegistry
+pub mod TagProper
+pub mod TagForm
+pub mod TagRest
+pub mod TagLaws
 pub mod Checks
 pub mod UpgradeValid
 pub mod UpgradeCores
@@ -8,3 +14,6 @@ pub mod WholeTests
 pub mod Findings
 pub mod Sample
 pub mod SampleRows
+pub mod Distinctness
+pub mod TagRepeats
+pub mod NamedRepeats

@@ -2,6 +2,7 @@
 #![tactic(auto)]
 
 mod conditions;
+pub mod laws;
 mod refusals;
 pub mod upgrade_laws;
 

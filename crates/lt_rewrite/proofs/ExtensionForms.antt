@@ -7,14 +7,13 @@ use Rattle.std.proofs.lemmas.Cmp.{on_total, nat_cmp_total}
 use Rattle.std.proofs.lemmas.Bool.{eq-eqb, eqb-true}
 use Rattle.lt_tag.specs.Parts.{CoreParts, ExtensionParts, UForm, TForm}
 use Rattle.lt_tag.specs.Spelling.{IsCore, IsExtension}
-use Rattle.lt_tag.specs.Extensions.{spell_u, spell_t, IsU, IsT}
+use Rattle.lt_tag.specs.Extensions.{spell_u, spell_t, IsU, IsT, transform, IsTransform, unicode, IsUnicode}
 use Rattle.lt_tag.specs.Splitting.{unicode_of, transform_of}
 use Rattle.lt_tag.proofs.PartsLemmas.{u_extension, t_extension}
 use Rattle.lt_registry.specs.Parts.{EntryParts}
-use Rattle.lt_registry.specs.Validity.{transform, IsTransform}
 use Rattle.lt_rewrite.specs.Rewriting.{Star, done, then}
 use Rattle.lt_rewrite.specs.CoreSteps.{values_of, CoreStep}
-use Rattle.lt_rewrite.specs.Extensions.{singleton_cmp, unicode, IsUnicode, UnicodeStep, TransformStep, InUnicode, InTransform, ExtensionStep, in_unicode, in_transform, Within, ExtensionsStep, inside, among}
+use Rattle.lt_rewrite.specs.Extensions.{singleton_cmp, UnicodeStep, TransformStep, InUnicode, InTransform, ExtensionStep, in_unicode, in_transform, Within, ExtensionsStep, inside, among}
 use Rattle.lt_rewrite.proofs.Stars.{star_trans, star_path}
 use Rattle.lt_rewrite.proofs.NormalForms.{IsFormOf, star_map, star_map_while, star_keeps}
 use Rattle.lt_rewrite.proofs.Sorting.{sorted}

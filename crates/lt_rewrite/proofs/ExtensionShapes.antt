@@ -3,11 +3,11 @@ use Rattle.std.proofs.Common.{◌≡◌, ℕ, ◌≤◌, List, [], ◌∷◌, �
 use Rattle.std.specs.List.{AllByRecursion}
 use Rattle.lt_tag.specs.Parts.{ExtensionParts, UForm, TForm}
 use Rattle.lt_tag.specs.Spelling.{IsExtension}
-use Rattle.lt_tag.specs.Extensions.{spell_u, spell_t}
+use Rattle.lt_tag.specs.Extensions.{spell_u, spell_t, unicode}
 use Rattle.lt_tag.specs.Values.{IsExtensionValue, most_parts}
 use Rattle.lt_tag.proofs.PartsLemmas.{u_is_extension, t_is_extension}
 use Rattle.lt_registry.specs.Parts.{EntryParts}
-use Rattle.lt_rewrite.specs.Extensions.{unicode, ExtensionStep, in_unicode, in_transform, ExtensionsStep, inside, among}
+use Rattle.lt_rewrite.specs.Extensions.{ExtensionStep, in_unicode, in_transform, ExtensionsStep, inside, among}
 use Rattle.lt_rewrite.proofs.PartLists.{all_step, all_middle, all_replaced, length_step, length_replaced}
 use Rattle.lt_rewrite.proofs.UnicodeForms.{u_step_length}
 use Rattle.lt_rewrite.proofs.TransformForms.{t_step_length}

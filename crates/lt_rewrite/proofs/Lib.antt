@@ -17,8 +17,9 @@ pub mod ChainLength
 pub mod CoreLaw
 pub mod Forms
 pub mod Proper
-pub mod OneStep
 pub mod CoreShapes
 pub mod ExtensionShapes
 pub mod OrderingLaw
 pub mod Same
+pub mod OneStep
+pub mod Repeats

@@ -4,15 +4,15 @@ use Rattle.std.specs.Prelude.{option_to_list, flat_map, codes}
 use Rattle.std.specs.List.{AllByRecursion}
 use Rattle.lt_tag.specs.Parts.{CoreParts, ExtensionParts, KeywordParts, UForm, TForm, TagForm, LangTag}
 use Rattle.lt_tag.specs.Spelling.{spell_core, spell_extension, spell_extensions}
-use Rattle.lt_tag.specs.Extensions.{spell_keyword, spell_u, spell_field, spell_source, spell_t}
+use Rattle.lt_tag.specs.Extensions.{spell_keyword, spell_u, spell_field, spell_source, spell_t, transform, unicode}
 use Rattle.lt_tag.proofs.PartsLaws.{u_unique, t_unique}
 use Rattle.lt_registry.specs.Parts.{EntryParts}
 use Rattle.lt_registry.specs.Entries.{whole_value}
 use Rattle.lt_registry.specs.Faults.{before_variants}
-use Rattle.lt_registry.specs.Validity.{transform, Distinct, IsProperLangTag, HasProperParts}
+use Rattle.lt_registry.specs.Validity.{Distinct, IsProperLangTag, HasProperParts}
 use Rattle.lt_rewrite.specs.CoreSteps.{values_of, CoreStep, by_extlang, by_language, by_script, by_region, by_variant, by_turn}
 use Rattle.lt_rewrite.specs.Orderings.{ListStep, by_swap, by_drop}
-use Rattle.lt_rewrite.specs.Extensions.{text_cmp, key_cmp, separator_cmp, singleton_cmp, unicode, UnicodeStep, on_attributes, on_keywords, on_types, TransformStep, on_source, on_fields, ExtensionStep, in_unicode, in_transform, ExtensionsStep, inside, among}
+use Rattle.lt_rewrite.specs.Extensions.{text_cmp, key_cmp, separator_cmp, singleton_cmp, UnicodeStep, on_attributes, on_keywords, on_types, TransformStep, on_source, on_fields, ExtensionStep, in_unicode, in_transform, ExtensionsStep, inside, among}
 use Rattle.lt_rewrite.specs.TagSteps.{TagChange, on_core, on_extensions, on_whole}
 use Rattle.lt_rewrite.specs.Labels.{core_label, list_label, unicode_label, transform_label, extension_label, extensions_label, tag_label}
 use Rattle.lt_rewrite.specs.Laws.{StepsAreDetermined}
@@ -238,12 +238,12 @@ same_extension f g a b = λ i. record { singleton = a i; subtags = b i }
 -- on one extension
 one_extension_result : (R : List EntryParts) (start : ℕ) (e f g : ExtensionParts) (s : ExtensionStep R e f) (u : ExtensionStep R e g) → extension_label R start s ≡ extension_label R start u → f ≡ g
 one_extension_result R start e f g (in_unicode p q s) (in_unicode p' q' u) h =
-    let same : p ≡ p' = u_unique p p' s.from.shaped u.from.shaped (s.from.spelled ∙ sym u.from.spelled) in
+    let same : p ≡ p' = u_unique e.subtags p p' s.from u.from in
     let P : UForm → Type 0 = λ x. (k : UnicodeStep x q') → unicode_label start s.step ≡ unicode_label start k → q ≡ q' in
     let k : q ≡ q' = subst P same (λ k h. one_unicode start p q q' s.step k h) u.step h in
     same_extension f g (s.singleton ∙ sym u.singleton) (sym s.to.spelled ∙ ap spell_u k ∙ u.to.spelled)
 one_extension_result R start e f g (in_transform p q s) (in_transform p' q' u) h =
-    let same : p ≡ p' = t_unique p p' s.from.shaped u.from.shaped (s.from.spelled ∙ sym u.from.spelled) in
+    let same : p ≡ p' = t_unique e.subtags p p' s.from u.from in
     let P : TForm → Type 0 = λ x. (k : TransformStep R x q') → transform_label R start s.step ≡ transform_label R start k → q ≡ q' in
     let k : q ≡ q' = subst P same (λ k h. one_transform R start p q q' s.step k h) u.step h in
     same_extension f g (s.singleton ∙ sym u.singleton) (sym s.to.spelled ∙ ap spell_t k ∙ u.to.spelled)

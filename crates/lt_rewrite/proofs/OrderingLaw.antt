@@ -6,7 +6,8 @@ use Rattle.lt_rewrite.specs.Extensions.{UnicodeStep, TransformStep, ExtensionsSt
 use Rattle.lt_rewrite.specs.Conditions.{IsRegistry, MeetsCoreConditions}
 use Rattle.lt_rewrite.specs.OrderingLaws.{HasOneForm, UnicodeHasOneForm, TransformHasOneForm, ExtensionsHaveOneForm}
 use Rattle.lt_rewrite.proofs.NormalForms.{IsFormOf, form_is_normal, normal_is_form}
-use Rattle.lt_rewrite.proofs.CoreShapes.{step_shaped, core_form, core_formed}
+use Rattle.lt_rewrite.proofs.Proper.{step_shaped}
+use Rattle.lt_rewrite.proofs.CoreShapes.{core_form, core_formed}
 use Rattle.lt_rewrite.proofs.UnicodeForms.{u_form, u_formed, u_shaped}
 use Rattle.lt_rewrite.proofs.TransformForms.{t_form, t_formed, t_shaped}
 use Rattle.lt_rewrite.proofs.ExtensionForms.{extensions_form, extensions_formed}

@@ -19,16 +19,9 @@ use Rattle.lt_tag.specs.WellFormed.{IsNotGrandfathered}
 use Rattle.lt_rewrite.specs.CoreSteps.{Values, values_of, CoreStep, by_extlang, by_language, by_script, by_region, by_variant, by_turn}
 use Rattle.lt_rewrite.specs.Conditions.{IsRegistry, FitsGrandfathered, second_entry, MeetsCoreConditions}
 use Rattle.lt_rewrite.specs.Laws.{IsProperValue, StepsKeepProper, ProperCoresSpellNone}
+use Rattle.lt_rewrite.proofs.PartLists.{all_replaced, all_without}
 use Rattle.lt_rewrite.proofs.Entries.{entry_has, turn_is, variant_value_fits, language_value_fits}
 use Rattle.lt_rewrite.proofs.Forms.{registered_entry, value_form, value_registered, replacement_form, replacement_registered, language_value_form, variant_value_form}
-
-pub all_replaced : {A : Type 0} (P : A → Type 0) (before : List A) (v w : A) (after : List A) → AllByRecursion P (before ++ v ∷ after) → P w → AllByRecursion P (before ++ w ∷ after)
-all_replaced P [] v w after h p = (p, h.1)
-all_replaced P (u ∷ us) v w after h p = (h.0, all_replaced P us v w after h.1 p)
-
-pub all_without : {A : Type 0} (P : A → Type 0) (before : List A) (v : A) (after : List A) → AllByRecursion P (before ++ v ∷ after) → AllByRecursion P (before ++ after)
-all_without P [] v after h = h.1
-all_without P (u ∷ us) v after h = (h.0, all_without P us v after h.1)
 
 test_replaced : {A : Type 0} (test : A → Bool) (before : List A) (v w : A) (after : List A) → list_all test (before ++ v ∷ after) ≡ true → test w ≡ true → list_all test (before ++ w ∷ after) ≡ true
 test_replaced test [] v w after h p = and_from (test w) (list_all test after) p (and_parts (test v) (list_all test after) h).1

@@ -6,7 +6,7 @@ use Rattle.std.proofs.lemmas.Bool.{and_parts, and_from, lt-ltb, ltb-true}
 use Rattle.lt_subtag.specs.Shapes.{is_key, is_separator}
 use Rattle.lt_tag.specs.Parts.{CoreParts, ExtensionParts, KeywordParts, FieldParts, UForm, TForm}
 use Rattle.lt_tag.specs.Spelling.{spell_core, IsCore, IsExtension, is_extension_subtag}
-use Rattle.lt_tag.specs.Extensions.{spell_u, IsU, spell_t, IsT}
+use Rattle.lt_tag.specs.Extensions.{spell_u, IsU, IsUnicode, spell_t, IsT, IsTransform}
 use Rattle.lt_tag.specs.Splitting.{before, keywords_of, fields_of, core_of_list, source_of_list, has_values, unicode_of, with_fields, transform_of}
 use Rattle.lt_tag.proofs.GrowthLemmas.{chosen}
 use Rattle.lt_tag.proofs.PartsLemmas.{u_extension, u_again, u_found, core_found, core_again, t_extension, t_again, t_found, IsFound}
@@ -14,26 +14,29 @@ use Rattle.lt_tag.proofs.PartsLemmas.{u_extension, u_again, u_found, core_found,
 some_same : {X : Type 0} (x y : X) → ◌≡◌ {A = Option X} (Some x) (Some y) → x ≡ y
 some_same x y h = cc
 
-pub has_parts : (e : ExtensionParts) → IsExtension e → (p : UForm) × IsU p × (spell_u p ≡ e.subtags)
+pub has_parts : (e : ExtensionParts) → IsExtension e → (p : UForm) × IsUnicode e.subtags p
 has_parts e h =
     let p : UForm = record { attributes = before is_key e.subtags; keywords = keywords_of e.subtags } in
-    let k = u_found e.subtags p h.subtags h.some refl refl in
-    (p, k.shaped, k.spelled)
+    (p, u_found e.subtags p h.subtags h.some refl refl)
 
 -- equal parts make equal values
 abbrev u_form : List (List ℕ) → List KeywordParts → UForm
 u_form attributes keywords = record { attributes = attributes; keywords = keywords }
 
-pub u_unique : (p q : UForm) → IsU p → IsU q → spell_u p ≡ spell_u q → p ≡ q
-u_unique p q h k e =
-    let a : p.attributes ≡ q.attributes = sym (u_again p h).0 ∙ ap (before is_key) e ∙ (u_again q k).0 in
-    let b : p.keywords ≡ q.keywords = sym (u_again p h).1 ∙ ap keywords_of e ∙ (u_again q k).1 in
+pub u_unique : (ss : List (List ℕ)) (p q : UForm) → IsUnicode ss p → IsUnicode ss q → p ≡ q
+u_unique ss p q h k =
+    let e : spell_u p ≡ spell_u q = h.spelled ∙ sym k.spelled in
+    let f = u_again p h.shaped in
+    let g = u_again q k.shaped in
+    let a : p.attributes ≡ q.attributes = sym f.0 ∙ ap (before is_key) e ∙ g.0 in
+    let b : p.keywords ≡ q.keywords = sym f.1 ∙ ap keywords_of e ∙ g.1 in
     ap (λ (z : List (List ℕ)). u_form z p.keywords) a ∙ ap (u_form q.attributes) b
 
-pub t_unique : (p q : TForm) → IsT p → IsT q → spell_t p ≡ spell_t q → p ≡ q
-t_unique p q h k e =
-    let f = t_again p h in
-    let g = t_again q k in
+pub t_unique : (ss : List (List ℕ)) (p q : TForm) → IsTransform ss p → IsTransform ss q → p ≡ q
+t_unique ss p q h k =
+    let e : spell_t p ≡ spell_t q = h.spelled ∙ sym k.spelled in
+    let f = t_again p h.shaped in
+    let g = t_again q k.shaped in
     let a : p.source ≡ q.source = some_same p.source q.source (sym f.source ∙ ap (λ (z : List (List ℕ)). source_of_list (before is_separator z)) e ∙ g.source) in
     let b : p.fields ≡ q.fields = sym f.fields ∙ ap fields_of e ∙ g.fields in
     ap (with_fields p.fields) a ∙ ap (λ (z : List FieldParts). with_fields z q.source) b
@@ -41,15 +44,14 @@ t_unique p q h k e =
 pub core_decided : (ss : List (List ℕ)) (core : CoreParts) → (core_of_list ss ≡ Some core) ↔ (IsCore core × (spell_core core ≡ ss))
 core_decided ss core = (core_found ss core, λ k. ap core_of_list (sym k.1) ∙ core_again core k.0)
 
-u_forward : (ss : List (List ℕ)) (p : UForm) → unicode_of ss ≡ Some p → IsU p × (spell_u p ≡ ss)
+u_forward : (ss : List (List ℕ)) (p : UForm) → unicode_of ss ≡ Some p → IsUnicode ss p
 unfolding unicode_of
 u_forward ss p h =
     elim (chosen (nat_lt 0 (length ss) && list_all is_extension_subtag ss) _ _ _ h) [
       | inl a ↦
-        let t = and_parts _ _ a.0 in
-        let e : u_form (before is_key ss) (keywords_of ss) ≡ p = some_same _ _ a.1 in
-        let k = u_found ss p t.1 (ltb-true 0 (length ss) t.0) (ap (λ (z : UForm). z.attributes) (sym e)) (ap (λ (z : UForm). z.keywords) (sym e)) in
-        (k.shaped, k.spelled)
+          let t = and_parts _ _ a.0 in
+          let e : u_form (before is_key ss) (keywords_of ss) ≡ p = some_same _ _ a.1 in
+          u_found ss p t.1 (ltb-true 0 (length ss) t.0) (ap (λ (z : UForm). z.attributes) (sym e)) (ap (λ (z : UForm). z.keywords) (sym e))
       | inr a ↦ let impossible : None ≡ Some p = a.1 in cc
     ]
 
@@ -62,8 +64,8 @@ u_backward p h =
     ∙ ap (λ (z : List (List ℕ)). Some (u_form z (keywords_of (spell_u p)))) again.0
     ∙ ap (λ (z : List KeywordParts). Some (u_form p.attributes z)) again.1
 
-pub u_decided : (ss : List (List ℕ)) (p : UForm) → (unicode_of ss ≡ Some p) ↔ (IsU p × (spell_u p ≡ ss))
-u_decided ss p = (u_forward ss p, λ k. ap unicode_of (sym k.1) ∙ u_backward p k.0)
+pub u_decided : (ss : List (List ℕ)) (p : UForm) → (unicode_of ss ≡ Some p) ↔ IsUnicode ss p
+u_decided ss p = (u_forward ss p, λ k. ap unicode_of (sym k.spelled) ∙ u_backward p k.shaped)
 
 t_at : (ss : List (List ℕ)) (p : TForm) (o : Option (Option CoreParts)) → source_of_list (before is_separator ss) ≡ o → option_map (with_fields (fields_of ss)) o ≡ Some p → list_all has_values (fields_of ss) ≡ true → 0 < length ss
     → IsFound ss p
@@ -77,14 +79,13 @@ t_at ss p (Some source) e h v n =
       some = n;
     }
 
-t_forward : (ss : List (List ℕ)) (p : TForm) → transform_of ss ≡ Some p → IsT p × (spell_t p ≡ ss)
+t_forward : (ss : List (List ℕ)) (p : TForm) → transform_of ss ≡ Some p → IsTransform ss p
 unfolding transform_of
 t_forward ss p h =
     elim (chosen (nat_lt 0 (length ss) && list_all has_values (fields_of ss)) _ _ _ h) [
       | inl a ↦
-        let t = and_parts _ _ a.0 in
-        let k = t_found ss p (t_at ss p (source_of_list (before is_separator ss)) refl a.1 t.1 (ltb-true 0 (length ss) t.0)) in
-        (k.shaped, k.spelled)
+          let t = and_parts _ _ a.0 in
+          t_found ss p (t_at ss p (source_of_list (before is_separator ss)) refl a.1 t.1 (ltb-true 0 (length ss) t.0))
       | inr a ↦ let impossible : None ≡ Some p = a.1 in cc
     ]
 
@@ -98,5 +99,5 @@ t_backward p h =
     ∙ ap (option_map (with_fields (fields_of ss))) again.source
     ∙ ap (λ (z : List FieldParts). Some (with_fields z p.source)) again.fields
 
-pub t_decided : (ss : List (List ℕ)) (p : TForm) → (transform_of ss ≡ Some p) ↔ (IsT p × (spell_t p ≡ ss))
-t_decided ss p = (t_forward ss p, λ k. ap transform_of (sym k.1) ∙ t_backward p k.0)
+pub t_decided : (ss : List (List ℕ)) (p : TForm) → (transform_of ss ≡ Some p) ↔ IsTransform ss p
+t_decided ss p = (t_forward ss p, λ k. ap transform_of (sym k.spelled) ∙ t_backward p k.shaped)

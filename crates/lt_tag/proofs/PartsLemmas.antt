@@ -10,7 +10,7 @@ use Rattle.lt_subtag.specs.Bytes.{is_subtag, is_subtag_byte}
 use Rattle.lt_subtag.specs.Shapes.{is_alphabetic, is_numeric, is_language, is_extlang, is_script, is_region, is_variant, is_single, is_singleton, is_key, is_separator}
 use Rattle.lt_tag.specs.Parts.{CoreParts, ExtensionParts, KeywordParts, FieldParts, UForm, TForm}
 use Rattle.lt_tag.specs.Spelling.{spell_core, has_shape, IsCore, IsExtension, is_extension_subtag}
-use Rattle.lt_tag.specs.Extensions.{is_long, spell_keyword, spell_u, IsKeyword, IsU, spell_field, spell_source, spell_t, IsField, IsT}
+use Rattle.lt_tag.specs.Extensions.{is_long, spell_keyword, spell_u, IsKeyword, IsU, IsUnicode, spell_field, spell_source, spell_t, IsField, IsT, IsTransform}
 use Rattle.lt_tag.specs.Growth.{of_language, grown_by}
 use Rattle.lt_tag.specs.Values.{IsExtensionValue, most_parts}
 use Rattle.lt_tag.specs.Transform.{IsTransformFault, IsFieldFault, IsSourceFault}
@@ -219,11 +219,6 @@ keywords_shaped (s ∷ ss) h =
       | inr e ↦ rw e (keywords_shaped ss p.1)
     ]
 
--- parts with their forms, and what they spell
-pub record IsUnicode (subtags : List (List ℕ)) (parts : UForm) : Type 0 where
-  pub shaped : IsU parts
-  pub spelled : spell_u parts ≡ subtags
-
 -- what is found has its form and spells the subtags
 pub u_found : (ss : List (List ℕ)) (p : UForm) → list_all is_extension_subtag ss ≡ true → 0 < length ss → p.attributes ≡ before is_key ss → p.keywords ≡ keywords_of ss → IsUnicode ss p
 u_found ss p h some a k =
@@ -332,17 +327,12 @@ fields_shaped [] h = tt
 fields_shaped (s ∷ ss) h =
     elim (cases_Bool (is_separator s)) [
       | inl e ↦
-        let k : list_all has_values (record { separator = s; values = before is_separator ss } ∷ fields_of ss) ≡ true = rw e at h in
-        let p = and_parts (are_values (before is_separator ss)) (list_all has_values (fields_of ss)) k in
-        let q = and_parts (nat_lt 0 (length (before is_separator ss))) (list_all is_long (before is_separator ss)) p.0 in
-        rw e (record { separator = e; values = q.1; some = ltb-true 0 (length (before is_separator ss)) q.0 }, fields_shaped ss p.1)
+          let k : list_all has_values (record { separator = s; values = before is_separator ss } ∷ fields_of ss) ≡ true = rw e at h in
+          let p = and_parts (are_values (before is_separator ss)) (list_all has_values (fields_of ss)) k in
+          let q = and_parts (nat_lt 0 (length (before is_separator ss))) (list_all is_long (before is_separator ss)) p.0 in
+          rw e (record { separator = e; values = q.1; some = ltb-true 0 (length (before is_separator ss)) q.0 }, fields_shaped ss p.1)
       | inr e ↦ rw e (fields_shaped ss (rw e at h))
     ]
-
--- parts with their forms, and what they spell
-pub record IsTransform (subtags : List (List ℕ)) (parts : TForm) : Type 0 where
-  pub shaped : IsT parts
-  pub spelled : spell_t parts ≡ subtags
 
 pub t_found : (ss : List (List ℕ)) (p : TForm) → IsFound ss p → IsTransform ss p
 t_found ss p h =
@@ -366,16 +356,16 @@ t_split e subtags front rest source fields h s f r o k v =
 -- a fault of a part is one of the whole
 pub source_fault : (fault : TransformFault) (ss subtags front : List (List ℕ)) → subtags ≡ ss → front ≡ before is_separator subtags → IsSourceFault fault front → IsTransformFault fault ss
 source_fault faults.BadTransform ss subtags front s f none =
-    λ p h e. let found = (t_again p h).source in
-    let same : source_of_list front ≡ source_of_list (before is_separator (spell_t p)) = ap source_of_list (f ∙ ap (before is_separator) (s ∙ sym e)) in
+    λ p h. let found = (t_again p h.shaped).source in
+    let same : source_of_list front ≡ source_of_list (before is_separator (spell_t p)) = ap source_of_list (f ∙ ap (before is_separator) (s ∙ sym h.spelled)) in
     cc
 source_fault faults.OutOfMemory ss subtags front s f none = tt
 
 pub field_fault : (fault : TransformFault) (ss subtags rest : List (List ℕ)) → subtags ≡ ss → rest ≡ onward is_separator subtags → IsFieldFault fault rest → IsTransformFault fault ss
 field_fault faults.BadTransform ss subtags rest s r none =
-    λ p h e. let found = (t_again p h).values in
+    λ p h. let found = (t_again p h.shaped).values in
     let same : list_all has_values (fields_of rest) ≡ list_all has_values (fields_of (spell_t p)) =
-    ap (list_all has_values) (ap fields_of r ∙ fields-onward subtags ∙ ap fields_of (s ∙ sym e)) in
+    ap (list_all has_values) (ap fields_of r ∙ fields-onward subtags ∙ ap fields_of (s ∙ sym h.spelled)) in
     cc
 field_fault faults.OutOfMemory ss subtags rest s r none = tt
 

@@ -1,7 +1,7 @@
 //! Joining parts to `u` and `t` extensions.
 ghost use Rattle.std.specs.Prelude.{◌≡◌, ◌≤◌, ◌++◌, length, flat_map, IfOk, OnOk};
 ghost use Rattle.lt_tag.specs.Spelling.{spell_core};
-ghost use Rattle.lt_tag.specs.Extensions.{spell_keyword, spell_u, IsU, spell_field, spell_source, spell_t, IsT};
+ghost use Rattle.lt_tag.specs.Extensions.{unicode, transform, spell_keyword, spell_u, IsU, spell_field, spell_source, spell_t, IsT};
 ghost use Rattle.lt_tag.specs.Values.{most_parts};
 
 use crate::cores::Core;
@@ -54,7 +54,7 @@ fn append_core(list: &mut Vec<Subtag>, core: &Core) -> Result<(), OutOfMemory>
 pub fn join_u(alloc: Global, parts: &UParts) -> Result<Extension, OutOfMemory>
     requires shaped { IsU parts.now }
     requires few { length (spell_u parts.now) ≤ most_parts }
-    ensures { IfOk result (λ extension. extension ≡ record { singleton = 117; subtags = spell_u parts.now }) }
+    ensures { IfOk result (λ extension. extension ≡ record { singleton = unicode; subtags = spell_u parts.now }) }
 {
     let mut subtags = Vec::new(alloc);
     append(&mut subtags, &parts.attributes)?;
@@ -68,7 +68,7 @@ pub fn join_u(alloc: Global, parts: &UParts) -> Result<Extension, OutOfMemory>
 pub fn join_t(alloc: Global, parts: &TParts) -> Result<Extension, OutOfMemory>
     requires shaped { IsT parts.now }
     requires few { length (spell_t parts.now) ≤ most_parts }
-    ensures { IfOk result (λ extension. extension ≡ record { singleton = 116; subtags = spell_t parts.now }) }
+    ensures { IfOk result (λ extension. extension ≡ record { singleton = transform; subtags = spell_t parts.now }) }
 {
     let mut subtags = Vec::new(alloc);
     if let Some(source) = &parts.source {

@@ -2,7 +2,7 @@
 ghost use Rattle.std.specs.Prelude.{◌≡◌, ◌≤◌, ◌++◌, ⊤, true, false, length, position, IfOk, IfErr, OnOk};
 ghost use Rattle.std.specs.List.{list_all};
 ghost use Rattle.lt_subtag.specs.Shapes.{is_key, is_separator};
-ghost use Rattle.lt_tag.specs.Extensions.{spell_u, spell_t, IsU, IsT};
+ghost use Rattle.lt_tag.specs.Extensions.{unicode, transform, spell_u, spell_t, IsUnicode, IsTransform};
 ghost use Rattle.lt_tag.specs.Extensions as extensions;
 ghost use Rattle.lt_tag.specs.Splitting.{before, onward, keywords_of, fields_of, has_values, source_of_list};
 ghost use Rattle.lt_tag.specs.Splitting as splitting;
@@ -151,9 +151,8 @@ fn read_source(alloc: Global, subtags: &[Subtag]) -> Result<Option<Core>, Transf
 /// subtags of 3 to 8 before the first two-character subtag are its attributes, each two-character subtag is
 /// a key, and the subtags of 3 to 8 that follow it are its types. The only refusal is want of memory.
 pub fn split_u(alloc: Global, extension: &Extension) -> Result<UParts, OutOfMemory>
-    requires { extension.now.singleton ≡ 117 }
-    ensures shaped { IfOk result (λ parts. IsU parts) }
-    ensures spelled { IfOk result (λ parts. spell_u parts ≡ extension.now.subtags) }
+    requires { extension.now.singleton ≡ unicode }
+    ensures parts { IfOk result (λ parts. IsUnicode extension.now.subtags parts) }
     ensures few { IfOk result (λ parts. length (spell_u parts) ≤ most_parts) }
 {
     let subtags = extension.subtags();
@@ -168,9 +167,8 @@ pub fn split_u(alloc: Global, extension: &Extension) -> Result<UParts, OutOfMemo
 /// at most one such value. BadTransform comes exactly where there is none; the tag is well-formed all the same.
 /// A separator may occur twice.
 pub fn split_t(alloc: Global, extension: &Extension) -> Result<TParts, TransformFault>
-    requires { extension.now.singleton ≡ 116 }
-    ensures shaped { IfOk result (λ parts. IsT parts) }
-    ensures spelled { IfOk result (λ parts. spell_t parts ≡ extension.now.subtags) }
+    requires { extension.now.singleton ≡ transform }
+    ensures parts { IfOk result (λ parts. IsTransform extension.now.subtags parts) }
     ensures few { IfOk result (λ parts. length (spell_t parts) ≤ most_parts) }
     ensures fault { IfErr result (λ fault. IsTransformFault fault extension.now.subtags) }
 {

@@ -19,13 +19,9 @@ returns-in_err-read_fields-clause-fault c =
     let p = err_from_is_err_and c.from_residual-in_err-read_fields.result c.from_residual-in_err-read_fields.ensures.1 in
     rw (p.1, p.2) (field_fault c.in_err-read_fields.field-0.0 c.args.extension.now.subtags _ _ c.subtags-subtags.ensures.value c.before_separator.ensures.rest c.in_err-read_fields.ensures.fault)
 
-pub returns-clause-shaped : goal.returns-clause-shaped
-returns-clause-shaped c =
-    (t_split c.args.extension.now _ _ _ _ _ c.subtags-subtags.ensures.extension c.subtags-subtags.ensures.value c.before_separator.ensures.front c.before_separator.ensures.rest c.in_ok-read_source.ensures.source c.in_ok-read_fields.ensures.fields c.in_ok-read_fields.ensures.values).shaped
-
-pub returns-clause-spelled : goal.returns-clause-spelled
-returns-clause-spelled c =
-    (t_split c.args.extension.now _ _ _ _ _ c.subtags-subtags.ensures.extension c.subtags-subtags.ensures.value c.before_separator.ensures.front c.before_separator.ensures.rest c.in_ok-read_source.ensures.source c.in_ok-read_fields.ensures.fields c.in_ok-read_fields.ensures.values).spelled
+pub returns-clause-parts : goal.returns-clause-parts
+returns-clause-parts c =
+    t_split c.args.extension.now _ _ _ _ _ c.subtags-subtags.ensures.extension c.subtags-subtags.ensures.value c.before_separator.ensures.front c.before_separator.ensures.rest c.in_ok-read_source.ensures.source c.in_ok-read_fields.ensures.fields c.in_ok-read_fields.ensures.values
 
 pub returns-clause-few : goal.returns-clause-few
 returns-clause-few c =
