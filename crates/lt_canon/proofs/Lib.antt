@@ -7,6 +7,13 @@ pub mod TagLaws
 pub mod Checks
 pub mod UpgradeValid
 pub mod UpgradeCores
+pub mod Deciding
+pub mod TagTests
+pub mod CoreTests
+pub mod WholeTests
+pub mod Findings
+pub mod Sample
+pub mod SampleRows
 pub mod Distinctness
 pub mod TagRepeats
 pub mod NamedRepeats

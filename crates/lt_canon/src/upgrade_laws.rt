@@ -10,4 +10,3 @@ ghost use Rattle.lt_canon.specs.Upgrade.{Upgrades};
 pub fn upgrades_keep_valid()
     ensures { (A B : List EntryParts) → IsChecked A → Upgrades A B → (t : TagForm) → IsValid A t → IsValid B t }
 {}
-
