@@ -31,6 +31,6 @@ abbrev pub failures_after_write : {E : Type 0} → Result ℕ E → List ℕ →
 failures_after_write (Ok n) bytes failures = if nat_eq n 0 && nat_lt 0 (length bytes) then one_more failures else failures
 failures_after_write (Err error) bytes failures = one_more failures
 
--- the device failed in a call that began at the one count and ended at the other
-abbrev pub HasFailed : ℕ → ℕ → Type 0
-HasFailed before after = (before < after) ⊎ (after ≡ greatest_count)
+-- the device failed in a call that moved it from old to new
+abbrev pub HasFailed : {T : Type 0} → Device T → Device T → Type 0
+HasFailed old new = (failures_of old < failures_of new) ⊎ (failures_of new ≡ greatest_count)

@@ -2,7 +2,7 @@
 ghost use Rattle.std.specs.Prelude.{◌≡◌, ◌<◌, IfOk, OnErr, OnOk, length};
 ghost use Rattle.std.specs.Io.{ReadsAtMost, WritesAtMost};
 ghost use Rattle.std.specs.Io.KnownBytes.{Keeps, ReadConsumes, WriteAppends};
-ghost use Rattle.lt_jar.specs.Devices as devices;
+ghost use Rattle.lt_jar.specs.Devices.{HasFailed, failures_after_read, failures_after_write, failures_of, inner_of, one_more, reads_of};
 
 use std::io::{self, Read, Write};
 
@@ -19,9 +19,9 @@ pub struct Device<T> {
 impl<T> Device<T> {
     /// A device that has not failed.
     pub fn new(inner: T) -> Device<T>
-        ensures inner { devices.inner_of result ≡ inner }
-        ensures failures { devices.failures_of result ≡ 0 }
-        ensures reads { devices.reads_of result ≡ 0 }
+        ensures inner { inner_of result ≡ inner }
+        ensures failures { failures_of result ≡ 0 }
+        ensures reads { reads_of result ≡ 0 }
     {
         Device {
             inner,
@@ -30,26 +30,27 @@ impl<T> Device<T> {
         }
     }
 
-    /// How often a read or a write answered an error, or a write took 0 bytes of a slice that is not empty. It stays
-    /// at its greatest value.
+    /// How often a read or a write answered an error, or a write took 0 bytes of a slice that is
+    /// not empty. It stays at its greatest value.
     pub fn failures(&self) -> u64
-        ensures { result ≡ devices.failures_of self.now }
+        ensures { result ≡ failures_of self.now }
     {
         self.failures
     }
 }
 
 impl<R: Read> Read for Device<R> {
-    ghost remaining = { λ device. R.remaining (devices.inner_of device) };
+    ghost remaining = { λ device. R.remaining (inner_of device) };
 
     /// What the reader answers.
     fn read(&mut self, buf: &mut [u8]) -> io::Result<usize>
         ensures bound { ReadsAtMost result buf.new }
-        ensures bytes { ReadConsumes (R.remaining (devices.inner_of self.old)) (R.remaining (devices.inner_of self.new)) result buf.new }
-        ensures counts { devices.failures_of self.new ≡ devices.failures_after_read result (devices.failures_of self.old) }
-        ensures works { OnOk result (devices.failures_of self.new ≡ devices.failures_of self.old) }
-        ensures fails { OnErr result (devices.HasFailed (devices.failures_of self.old) (devices.failures_of self.new)) }
-        ensures reads { devices.reads_of self.new ≡ devices.one_more (devices.reads_of self.old) }
+        ensures bytes { ReadConsumes (R.remaining (inner_of self.old)) (R.remaining (inner_of self.new))
+            result buf.new }
+        ensures counts { failures_of self.new ≡ failures_after_read result (failures_of self.old) }
+        ensures works { OnOk result (failures_of self.new ≡ failures_of self.old) }
+        ensures fails { OnErr result (HasFailed self.old self.new) }
+        ensures reads { reads_of self.new ≡ one_more (reads_of self.old) }
     {
         count_up(&mut self.reads);
         match self.inner.read(buf) {
@@ -63,17 +64,19 @@ impl<R: Read> Read for Device<R> {
 }
 
 impl<W: Write> Write for Device<W> {
-    ghost contents = { λ device. W.contents (devices.inner_of device) };
+    ghost contents = { λ device. W.contents (inner_of device) };
 
     /// What the writer answers.
     fn write(&mut self, buf: &[u8]) -> io::Result<usize>
         ensures bound { WritesAtMost result buf.now }
-        ensures bytes { WriteAppends (W.contents (devices.inner_of self.old)) (W.contents (devices.inner_of self.new)) result buf.now }
-        ensures counts { devices.failures_of self.new ≡ devices.failures_after_write result buf.now (devices.failures_of self.old) }
-        ensures works { IfOk result (λ count. 0 < count → devices.failures_of self.new ≡ devices.failures_of self.old) }
-        ensures takes_none { IfOk result (λ count. count ≡ 0 → 0 < length buf.now → devices.HasFailed (devices.failures_of self.old) (devices.failures_of self.new)) }
-        ensures fails { OnErr result (devices.HasFailed (devices.failures_of self.old) (devices.failures_of self.new)) }
-        ensures reads { devices.reads_of self.new ≡ devices.reads_of self.old }
+        ensures bytes { WriteAppends (W.contents (inner_of self.old)) (W.contents (inner_of self.new))
+            result buf.now }
+        ensures counts { failures_of self.new
+            ≡ failures_after_write result buf.now (failures_of self.old) }
+        ensures works { IfOk result (λ count. 0 < count → failures_of self.new ≡ failures_of self.old) }
+        ensures takes_none { IfOk result (λ count. count ≡ 0 → 0 < length buf.now → HasFailed self.old self.new) }
+        ensures fails { OnErr result (HasFailed self.old self.new) }
+        ensures reads { reads_of self.new ≡ reads_of self.old }
     {
         match self.inner.write(buf) {
             Ok(count) => {
@@ -91,9 +94,9 @@ impl<W: Write> Write for Device<W> {
 
     /// What the writer answers.
     fn flush(&mut self) -> io::Result<()>
-        ensures bytes { Keeps (W.contents (devices.inner_of self.old)) (W.contents (devices.inner_of self.new)) }
-        ensures counts { devices.failures_of self.new ≡ devices.failures_of self.old }
-        ensures reads { devices.reads_of self.new ≡ devices.reads_of self.old }
+        ensures bytes { Keeps (W.contents (inner_of self.old)) (W.contents (inner_of self.new)) }
+        ensures counts { failures_of self.new ≡ failures_of self.old }
+        ensures reads { reads_of self.new ≡ reads_of self.old }
     {
         self.inner.flush()
     }
@@ -101,7 +104,7 @@ impl<W: Write> Write for Device<W> {
 
 /// Counts one more, up to the greatest count.
 fn count_up(count: &mut u64)
-    ensures { count.new ≡ devices.one_more count.old }
+    ensures { count.new ≡ one_more count.old }
 {
     *count = count.saturating_add(1);
 }
