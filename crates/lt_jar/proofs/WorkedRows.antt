@@ -2,7 +2,7 @@
 use Rattle.std.proofs.Common.{◌≡◌, ℕ, List, [], ◌∷◌, ◌++◌, refl, codes, false}
 use Rattle.lt_jar.specs.Lines.{lines_of}
 use Rattle.lt_jar.specs.LineKinds.{Bad, Continuation, Separator, Start, line_of}
-use Rattle.lt_jar.specs.Records.{Field, HasRecords, Written, shown}
+use Rattle.lt_jar.specs.Records.{HasRecords, Written, shown}
 use Rattle.lt_jar.specs.Faults.{IsWrongAt, LeadingContinuation, begun}
 
 -- a line feed ends a line, and what follows the last one is a line only if it has a byte

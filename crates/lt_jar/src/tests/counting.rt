@@ -19,7 +19,7 @@ impl Write for Broken {
     }
 
     fn flush(&mut self) -> io::Result<()> {
-        Ok(())
+        Err(io::Error::from(io::ErrorKind::TimedOut))
     }
 }
 
@@ -71,6 +71,8 @@ fn failures_are_counted(rt: HostRuntime) {
     assert!(rt; broken.read(&mut buf).is_err());
     assert_eq!(rt; broken.failures(), 1);
     assert!(rt; broken.write(b"a").is_err());
+    assert_eq!(rt; broken.failures(), 2);
+    assert!(rt; broken.flush().is_err());
     assert_eq!(rt; broken.failures(), 2);
     let mut full = Device::new(Full);
     assert!(rt; full.write(b"").is_ok());
