@@ -1,10 +1,9 @@
 -- How a field grows by a continuation line.
 use Rattle.std.proofs.Common.{◌≡◌, ◌∙◌, ◌++◌, ◌∷◌, ℕ, List, [], true, refl, sym, ap, append_assoc, append-nil, map}
-use Rattle.std.specs.List.{filter, flat_map}
+use Rattle.std.specs.List.{filter}
 use Rattle.std.proofs.lemmas.List.{map-append}
-use Rattle.std.proofs.lemmas.List.Concat.{flat_map-cons}
 use Rattle.std.proofs.lemmas.List.Elements.{filter-append}
-use Rattle.lt_jar.specs.LineKinds.{Line, Continuation, Start}
+use Rattle.lt_jar.specs.LineKinds.{Continuation, Start}
 use Rattle.lt_jar.specs.Records.{Field, Written, field_of, is_something, joined, lines_of_field, lines_of_group}
 use Rattle.lt_jar.specs.Reading.{lengthened, with_text}
 

@@ -1,9 +1,9 @@
 -- How many records the lines of groups begin, and whether one goes on after them.
-use Rattle.std.proofs.Common.{◌≡◌, ◌∙◌, ◌++◌, ◌∷◌, ◌+◌, ◌&&◌, ℕ, List, [], Bool, true, false, refl, sym, ap, arith, length, map, length-append}
+use Rattle.std.proofs.Common.{◌≡◌, ◌∙◌, ◌++◌, ◌∷◌, ◌+◌, ◌&&◌, ℕ, List, [], Bool, true, false, refl, ap, arith, length, map, length-append}
 use Rattle.std.specs.List.{filter, flat_map}
 use Rattle.std.proofs.lemmas.List.Elements.{filter-append}
 use Rattle.lt_jar.specs.LineKinds.{Line, Blank, Separator, Continuation, Start, Bad}
-use Rattle.lt_jar.specs.Records.{Written, has_field, lines_of_ended, lines_of_field, lines_of_group}
+use Rattle.lt_jar.specs.Records.{Written, has_field, lines_of_ended, lines_of_group}
 use Rattle.lt_jar.specs.Faults.{begun, is_inside}
 use Rattle.lt_jar.proofs.GroupLemmas.{lines_of_groups}
 

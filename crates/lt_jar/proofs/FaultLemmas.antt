@@ -1,5 +1,5 @@
 -- What is computed of a line is right: nothing is wrong with it, or this is, and nothing that comes before it in the order.
-use Rattle.std.proofs.Common.{◌≡◌, ◌∙◌, ◌++◌, ◌∷◌, ◌⊎◌, inl, inr, ℕ, List, [], Bool, true, false, Result, Ok, Err, refl, sym, ap, subst, append-nil, map, nat_lt, length, ◌+◌, ◌<◌, ◌≤◌, arith, if◌then◌else◌, length-append, MatchResult}
+use Rattle.std.proofs.Common.{◌≡◌, ◌∙◌, ◌++◌, ◌∷◌, ◌⊎◌, inl, inr, ℕ, List, [], Bool, true, false, Result, Ok, Err, refl, sym, ap, subst, append-nil, map, nat_lt, length, ◌+◌, ◌<◌, ◌≤◌, arith, if◌then◌else◌, MatchResult}
 use Rattle.std.specs.List.{filter}
 use Rattle.std.specs.Str.{IsUtf8, is_utf8}
 use Rattle.std.proofs.lemmas.Str.{IsUtf8-from_is_utf8, is_utf8-from_IsUtf8}
@@ -11,8 +11,8 @@ use Rattle.lt_jar.specs.Limits.{longest_line, most_records}
 use Rattle.lt_jar.specs.Records.{Field, Written, field_of, has_field, is_shown, shown}
 use Rattle.lt_jar.specs.Faults.{Fault, LineTooLong, NotUtf8, LeadingContinuation, BadLine, TooManyRecords, IsWrong, begun, is_continuation, is_inside, rank}
 use Rattle.lt_jar.specs.Reading.{Going, GoesOn, Taken, continued, started, take_kind, take_line}
-use Rattle.lt_jar.proofs.CountLemmas.{begun-append, begun-groups, is_inside-append, is_inside-groups}
-use Rattle.lt_jar.proofs.GroupLemmas.{Leaves, going_of, lines_of_groups, records_of}
+use Rattle.lt_jar.proofs.CountLemmas.{begun-append, begun-groups, is_inside-groups}
+use Rattle.lt_jar.proofs.GroupLemmas.{Leaves, going_of, lines_of_groups}
 
 -- one line more
 pub shown-more : (before : List (List ℕ)) (line : List ℕ) → shown (before ++ line ∷ []) ≡ shown before ++ filter is_shown (line_of line ∷ [])

@@ -8,7 +8,7 @@ use Rattle.lt_jar.specs.LineKinds.{Line, Blank, Separator, Continuation, Start, 
 use Rattle.lt_jar.specs.Limits.{most_records}
 use Rattle.lt_jar.specs.Records.{Field, Written, field_of, has_field, is_shown, lines_of_ended, lines_of_field, lines_of_group, record_of}
 use Rattle.lt_jar.specs.Faults.{Fault, TooManyRecords}
-use Rattle.lt_jar.specs.Reading.{Ends, Going, GoesOn, Taken, finished, rest_of, start, started, take_kind, with_taken, with_text}
+use Rattle.lt_jar.specs.Reading.{Ends, Going, GoesOn, Taken, finished, start, take_kind, with_taken, with_text}
 use Rattle.lt_jar.proofs.BodyLemmas.{fields-continued, group_continued, joined_single, lines-continued}
 
 abbrev pub lines_of_groups : List (List Written) → List Written → List Line

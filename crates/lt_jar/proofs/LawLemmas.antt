@@ -1,12 +1,12 @@
 -- A text has records or a fault, and not both.
-use Rattle.std.proofs.Common.{◌≡◌, ◌∙◌, ◌++◌, ◌∷◌, ◌⊎◌, inl, inr, ℕ, zero, suc, List, [], Bool, true, false, Result, Ok, Err, refl, sym, ap, subst, append_assoc, map, length, ◌+◌, ◌<◌, ◌≤◌, ◌&&◌, arith}
+use Rattle.std.proofs.Common.{◌≡◌, ◌∙◌, ◌++◌, ◌∷◌, ◌⊎◌, inl, inr, ℕ, zero, suc, List, [], Bool, true, false, Result, Ok, Err, refl, sym, ap, subst, append_assoc, map, length, ◌+◌, ◌≤◌, ◌&&◌, arith}
 use Rattle.std.specs.List.{All, filter}
 use Rattle.std.specs.Str.{IsUtf8}
 use Rattle.std.proofs.lemmas.List.{map-append}
 use Rattle.std.proofs.lemmas.List.Elements.{All-head, All-tail, filter-append}
 use Rattle.lt_jar.specs.Lines.{lines_of}
 use Rattle.lt_jar.specs.LineKinds.{Line, Blank, Separator, Continuation, Start, Bad, line_of}
-use Rattle.lt_jar.specs.Limits.{longest_line, most_records}
+use Rattle.lt_jar.specs.Limits.{longest_line}
 use Rattle.lt_jar.specs.Records.{Field, HasRecords, IsWithin, has_field, is_shown, record_of, shown}
 use Rattle.lt_jar.specs.Faults.{Fault, LineTooLong, NotUtf8, LeadingContinuation, BadLine, TooManyRecords, IsTheFault, IsWrong, IsWrongAt, begun, is_continuation, is_inside, rank}
 use Rattle.lt_jar.specs.Reading.{Going, finished, step}

@@ -10,3 +10,4 @@ pub mod FaultLemmas
 pub mod ReadLemmas
 pub mod ParseLemmas
 pub mod LawLemmas
+pub mod WorkedRows

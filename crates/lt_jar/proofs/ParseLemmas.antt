@@ -1,9 +1,9 @@
 -- A list of lines is groups in one way.
 use Rattle.std.proofs.Common.{◌≡◌, ◌∙◌, ◌++◌, ◌∷◌, ℕ, List, [], refl, sym, ap, append_assoc, append-nil, map}
-use Rattle.std.specs.List.{filter, flat_map}
+use Rattle.std.specs.List.{flat_map}
 use Rattle.lt_jar.specs.Lines.{lines_of}
 use Rattle.lt_jar.specs.LineKinds.{Line, Blank, Separator, Continuation, Start, Bad}
-use Rattle.lt_jar.specs.Records.{Field, HasRecords, Written, has_field, lines_of_ended, lines_of_field, lines_of_group, record_of, shown}
+use Rattle.lt_jar.specs.Records.{Field, HasRecords, Written, lines_of_ended, lines_of_field, lines_of_group, shown}
 use Rattle.lt_jar.proofs.GroupLemmas.{lines_of_groups, records_of}
 
 -- the continuations at the front, and the groups behind them

@@ -6,14 +6,14 @@ use Rattle.std.proofs.lemmas.Str.{IsUtf8-from_is_utf8}
 use Rattle.std.proofs.lemmas.Bool.{ltb-false, ltb-true}
 use Rattle.std.proofs.lemmas.List.Elements.{All-append, All-cons, All-nil}
 use Rattle.lt_jar.specs.Lines.{lines_of}
-use Rattle.lt_jar.specs.LineKinds.{Line, line_of}
+use Rattle.lt_jar.specs.LineKinds.{line_of}
 use Rattle.lt_jar.specs.Limits.{longest_line, most_records}
-use Rattle.lt_jar.specs.Records.{Field, HasRecords, IsWithin, Written, field_of, has_field, is_shown, lines_of_group, record_of, shown}
-use Rattle.lt_jar.specs.Faults.{Fault, IsReached, IsTheFault, IsWrong, IsWrongAt, LineTooLong, NotUtf8, begun, is_inside, rank}
-use Rattle.lt_jar.specs.Reading.{Going, GoesOn, Taken, finished, on_taken, rest_of, start, step, take_kind, take_line, with_taken}
+use Rattle.lt_jar.specs.Records.{Field, HasRecords, IsWithin, Written, field_of, has_field, record_of, shown}
+use Rattle.lt_jar.specs.Faults.{Fault, IsReached, IsTheFault, IsWrong, IsWrongAt, LineTooLong, NotUtf8, begun, is_inside}
+use Rattle.lt_jar.specs.Reading.{Going, Taken, finished, on_taken, start, step, take_kind, take_line, with_taken}
 use Rattle.lt_jar.proofs.CountLemmas.{begun-groups, is_inside-groups}
 use Rattle.lt_jar.proofs.FaultLemmas.{Judges, judges, shown-more}
-use Rattle.lt_jar.proofs.GroupLemmas.{Leaves, finished-going_of, leaves_more, leaves_start, lines_of_groups, records_of}
+use Rattle.lt_jar.proofs.GroupLemmas.{Leaves, finished-going_of, leaves_more, leaves_start, lines_of_groups}
 
 abbrev IsShort : List ℕ → Type 0
 IsShort line = length line ≤ longest_line

@@ -1,4 +1,5 @@
 //! Small texts with their records, and faults with their lines.
+mod counting;
 mod sample;
 
 use super::*;

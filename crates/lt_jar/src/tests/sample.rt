@@ -1,7 +1,8 @@
 //! A small registry for tests, modelled on IANA's: `examples/sample-registry.txt` has its text.
 use std::alloc::{AllocError, Global};
 
-/// The records behind the header, 2 to 47: type, name, preferred value and prefix. An empty text stands for no field.
+/// The records behind the header, 2 to 47: type, name, preferred value and prefix. An empty text
+/// stands for no field.
 pub const ROWS: [(&str, &str, &str, &str); 46] = [
     ("language", "de", "", ""),
     ("language", "en", "", ""),

@@ -1,5 +1,4 @@
-use Rattle.std.proofs.Common.{rules, arith, inl, inr, ◌≡◌, ◌+◌, [], length, sym, subst, refl}
-use Rattle.std.proofs.lemmas.Grind.{common_steps}
+use Rattle.std.proofs.Common.{rules, arith, inl, inr, ◌≡◌, [], sym, subst}
 use Rattle.lt_jar.specs.Lines.{lines_of}
 use Rattle.lt_jar.specs.Records.{HasRecords, IsWithin}
 use Rattle.lt_jar.specs.Going.{going_in}

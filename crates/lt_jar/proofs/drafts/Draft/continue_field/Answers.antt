@@ -1,4 +1,4 @@
-use Rattle.std.proofs.Common.{rules, arith, sym, ap, ◌≡◌, ◌∙◌, ◌-◌, string_bytes, ℕ, length}
+use Rattle.std.proofs.Common.{rules, sym, ap, ◌∙◌, ◌-◌}
 use Rattle.std.specs.Vec.{vec_len}
 use Rattle.lt_jar.specs.Records.{Field}
 use Rattle.lt_jar.specs.Reading.{lengthened}
