@@ -1,10 +1,10 @@
 -- A text has the list of a grandfathered tag exactly if it is that tag's text in some letter case.
-use Rattle.std.proofs.Common.{◌≡◌, ℕ, ◌≤◌, ◌<◌, ◌-◌, List, [], length, map, refl, sym, ap, ◌∙◌, arith, ◌+◌, ◌==◌, Bool, ◌∷◌, inl, inr}
+use Rattle.std.proofs.Common.{◌≡◌, ℕ, ◌≤◌, ◌<◌, ◌-◌, List, [], length, map, refl, sym, ap, ◌∙◌, arith, ◌+◌, ◌==◌, ◌∷◌, inl, inr}
 use Rattle.std.specs.Prelude.{slice_index_or, sum_by}
 use Rattle.std.specs.List.{list_all, join_with_byte}
 use Rattle.std.proofs.lemmas.List.{get_or-map}
 use Rattle.lt_subtag.specs.Bytes.{is_subtag, folded}
-use Rattle.lt_tag.specs.Parts.{TagForm, Grandfathered}
+use Rattle.lt_tag.specs.Parts.{Grandfathered}
 use Rattle.lt_tag.specs.Lists.{pieces, list_of, onto_first}
 use Rattle.lt_tag.specs.Grandfathered.{grandfathered_texts, grandfathered_list, IsGrandfathered}
 use Rattle.lt_tag.specs.Faults.{HasList}
