@@ -10,3 +10,4 @@ pub mod UpgradeCores
 pub mod Distinctness
 pub mod TagRepeats
 pub mod NamedRepeats
+pub mod ExtlangForms

@@ -3,7 +3,7 @@
 ghost use Rattle.std.specs.Prelude.{List};
 ghost use Rattle.lt_registry.specs.Parts.{EntryParts};
 ghost use Rattle.lt_canon.specs.Conditions.{IsChecked};
-ghost use Rattle.lt_canon.specs.Laws.{StepsAreConfluent, OneCanonicalTag, CanonicalOrRepeats, RepeatTogether, EquivalenceIsEquality, RepeatsAreNamed};
+ghost use Rattle.lt_canon.specs.Laws.{StepsAreConfluent, OneCanonicalTag, CanonicalOrRepeats, RepeatTogether, EquivalenceIsEquality, RepeatsAreNamed, ExtlangFormsLeadBack};
 
 /// Where two tags are reached from one proper tag, some tag is reached from both; and a class of equivalent tags has
 /// at most one canonical tag.
@@ -24,4 +24,9 @@ pub fn tags_are_canonical_or_repeat()
 /// Where a valid tag can repeat a variant, there is one variant that the refusal names.
 pub fn repeats_are_named()
     ensures { (R : List EntryParts) → IsChecked R → RepeatsAreNamed R }
+{}
+
+/// The extlang form of a canonical tag is valid, and the tag is reached from it.
+pub fn extlang_forms_lead_back()
+    ensures { (R : List EntryParts) → IsChecked R → ExtlangFormsLeadBack R }
 {}

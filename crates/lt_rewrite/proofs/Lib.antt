@@ -23,3 +23,6 @@ pub mod OrderingLaw
 pub mod Same
 pub mod OneStep
 pub mod Repeats
+pub mod CoreEnds
+pub mod NameForms
+pub mod SortedLists
