@@ -11,3 +11,4 @@ pub mod Distinctness
 pub mod TagRepeats
 pub mod NamedRepeats
 pub mod ExtlangForms
+pub mod Answering

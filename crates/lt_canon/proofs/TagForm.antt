@@ -162,7 +162,7 @@ module _ (R : List EntryParts) (C : IsChecked R) where
   pub cores_proper : {c d : CoreParts} → Star (CoreStep (values_of R)) c d → (es : List ExtensionParts) (ps : List (List ℕ)) → IsProper R (LangTag c es ps) → IsProper R (LangTag d es ps)
   cores_proper r es ps P = star_keeps (λ x. IsProper R (LangTag x es ps)) (λ x y s p. core_step_tag R C x y es ps s p) r P
 
-  extensions_reached : (d : CoreParts) {es fs : List ExtensionParts} → Star (ExtensionsStep R) es fs → (ps : List (List ℕ)) → IsProper R (LangTag d es ps) → IsReached R (LangTag d es ps) (LangTag d fs ps)
+  pub extensions_reached : (d : CoreParts) {es fs : List ExtensionParts} → Star (ExtensionsStep R) es fs → (ps : List (List ℕ)) → IsProper R (LangTag d es ps) → IsReached R (LangTag d es ps) (LangTag d fs ps)
   extensions_reached d r ps P =
       star_map_while (λ x. IsProper R (LangTag d x ps)) (λ x. LangTag d x ps) (λ x y s p. extensions_step_tag R C d x y ps s p)
       (λ x y s p q. step_of_change R C (LangTag d x ps) (LangTag d y ps) (on_extensions d x y ps (record { from = refl; to = refl; step = s })) p) r P

@@ -3,7 +3,7 @@ use Rattle.std.specs.Prelude.{ℕ, ◌≡◌, ◌⊎◌, List}
 use Rattle.lt_tag.specs.Parts.{TagForm}
 use Rattle.lt_registry.specs.Parts.{EntryParts}
 use Rattle.lt_registry.specs.Validity.{IsProper, IsValid}
-use Rattle.lt_rewrite.specs.Rewriting.{IsConfluent}
+use Rattle.lt_rewrite.specs.Rewriting.{Rests, IsConfluent}
 use Rattle.lt_rewrite.specs.TagSteps.{TagStep, IsReached, AreEquivalent, IsCanonical, CanRepeat}
 use Rattle.lt_canon.specs.Answers.{IsCanonicalFormOf, IsNamedRepeat}
 use Rattle.lt_canon.specs.ExtlangForm.{extlang_form}
@@ -11,6 +11,13 @@ use Rattle.lt_canon.specs.ExtlangForm.{extlang_form}
 -- where two tags are reached from one proper tag, some tag is reached from both
 abbrev pub StepsAreConfluent : List EntryParts → Type 0
 StepsAreConfluent R = IsConfluent (IsProper R) (TagStep R)
+
+-- Each proper tag has an end that steps reach, that each step keeps, and from which none leads.
+pub record HasEndForms (R : List EntryParts) : Type 0 where
+  pub end : TagForm → TagForm
+  pub kept : (t u : TagForm) → TagStep R t u → end t ≡ end u
+  pub reached : (t : TagForm) → IsProper R t → IsReached R t (end t)
+  pub at_rest : (t : TagForm) → Rests (TagStep R) (end t)
 
 -- canonical tags that are equivalent are equal
 abbrev pub OneCanonicalTag : List EntryParts → Type 0

@@ -3,11 +3,13 @@
 ghost use Rattle.std.specs.Prelude.{List};
 ghost use Rattle.lt_registry.specs.Parts.{EntryParts};
 ghost use Rattle.lt_canon.specs.Conditions.{IsChecked};
-ghost use Rattle.lt_canon.specs.Laws.{StepsAreConfluent, OneCanonicalTag, CanonicalOrRepeats, RepeatTogether, EquivalenceIsEquality, RepeatsAreNamed, ExtlangFormsLeadBack};
+ghost use Rattle.lt_canon.specs.Laws.{HasEndForms, StepsAreConfluent, OneCanonicalTag, CanonicalOrRepeats, RepeatTogether, EquivalenceIsEquality, RepeatsAreNamed, ExtlangFormsLeadBack};
 
-/// Where two tags are reached from one proper tag, some tag is reached from both; and a class of equivalent tags has
-/// at most one canonical tag.
+/// Each proper tag has an end that steps reach, that each step keeps, and from which none leads; so where two tags
+/// are reached from one proper tag, some tag is reached from both, and a class of equivalent tags has at most one
+/// canonical tag.
 pub fn steps_are_confluent()
+    ensures ends { (R : List EntryParts) → IsChecked R → HasEndForms R }
     ensures confluent { (R : List EntryParts) → IsChecked R → StepsAreConfluent R }
     ensures one { (R : List EntryParts) → IsChecked R → OneCanonicalTag R }
 {}
