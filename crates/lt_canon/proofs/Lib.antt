@@ -17,3 +17,6 @@ pub mod SampleRows
 pub mod Distinctness
 pub mod TagRepeats
 pub mod NamedRepeats
+pub mod UpgradeTags
+pub mod UpgradeRepeats
+pub mod UpgradeLaw
