@@ -56,7 +56,7 @@ abbrev pub ExtlangFormsLeadBack : List EntryParts → Type 0
 ExtlangFormsLeadBack R = (c : TagForm) → IsCanonical R c → LeadsBack R c
 
 -- After an upgrade from A to B valid tags stay valid, equivalent tags equivalent, and what an old canonical form
--- comes to is what the tag comes to, a repeat included.
+-- comes to is what the tag comes to, a repeat and the variant that is named included.
 pub record UpgradeKeepsTags (A B : List EntryParts) : Type 0 where
   pub valid : (t : TagForm) → IsValid A t → IsValid B t
   pub equivalent : (t u : TagForm) → IsProper A t → IsProper A u → AreEquivalent A t u → AreEquivalent B t u
@@ -64,3 +64,4 @@ pub record UpgradeKeepsTags (A B : List EntryParts) : Type 0 where
   pub form_back : (t c d : TagForm) → IsCanonicalFormOf A t c → IsCanonicalFormOf B c d → IsCanonicalFormOf B t d
   pub repeats : (t c : TagForm) → IsCanonicalFormOf A t c → CanRepeat B t → CanRepeat B c
   pub repeats_back : (t c : TagForm) → IsCanonicalFormOf A t c → CanRepeat B c → CanRepeat B t
+  pub named : (t c : TagForm) (v : List ℕ) → IsCanonicalFormOf A t c → IsNamedRepeat B t v → IsNamedRepeat B c v
