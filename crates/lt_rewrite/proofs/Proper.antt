@@ -1,24 +1,23 @@
 -- A core step on a proper core gives a proper core, and no proper core spells a grandfathered tag.
-use Rattle.std.proofs.Common.{◌≡◌, ◌≢◌, ℕ, ◌≤◌, ◌<◌, ◌-◌, ◌==◌, ◌⊎◌, inl, inr, Bool, true, false, ◌&&◌, ◌||◌, not, List, [], ◌∷◌, ◌++◌, Option, Some, None, refl, sym, ap, ◌∙◌, subst, length, bytes_eq, arith, length-append, All, IfSome}
+use Rattle.std.proofs.Common.{◌≡◌, ◌≢◌, ℕ, ◌≤◌, ◌<◌, ◌-◌, Bool, true, false, ◌&&◌, ◌||◌, not, List, [], ◌∷◌, ◌++◌, Option, Some, None, refl, sym, ap, ◌∙◌, subst, length, bytes_eq, arith, length-append, All}
 use Rattle.std.specs.Prelude.{option_to_list}
 use Rattle.std.specs.List.{AllByRecursion, list_all}
 use Rattle.std.proofs.lemmas.Slice.Eq.{bytes_eq-Decides}
 use Rattle.std.proofs.lemmas.Bool.{and_parts, and_from, not-true}
-use Rattle.lt_subtag.specs.Shapes.{is_language, is_extlang, is_script, is_region, is_variant}
+use Rattle.lt_subtag.specs.Shapes.{is_extlang, is_script, is_region, is_variant}
 use Rattle.lt_tag.specs.Parts.{CoreParts}
 use Rattle.lt_tag.specs.Lists.{pieces}
 use Rattle.lt_tag.specs.Spelling.{spell_core, has_shape, IsCore}
-use Rattle.lt_tag.specs.Values.{IsCoreValue, most_parts}
 use Rattle.lt_tag.specs.Grandfathered.{grandfathered_texts, grandfathered_list, IsGrandfathered}
 use Rattle.lt_tag.proofs.TagLemmas.{table_length, list_all-at}
 use Rattle.lt_registry.specs.Parts.{EntryParts}
-use Rattle.lt_registry.specs.Entries.{entry, is_registered, replacement}
+use Rattle.lt_registry.specs.Entries.{is_registered}
 use Rattle.lt_registry.specs.Validity.{ExtlangsFit, IsProperCore, Distinct}
 use Rattle.lt_registry.specs.declared.entries.Kind.TheVariants as kinds
 use Rattle.lt_tag.specs.WellFormed.{IsNotGrandfathered}
 use Rattle.lt_rewrite.specs.CoreSteps.{Values, values_of, CoreStep, by_extlang, by_language, by_script, by_region, by_variant, by_turn}
 use Rattle.lt_rewrite.specs.Conditions.{IsRegistry, FitsGrandfathered, second_entry, MeetsCoreConditions}
-use Rattle.lt_rewrite.specs.Laws.{IsProperValue, StepsKeepProper, ProperCoresSpellNone}
+use Rattle.lt_rewrite.specs.Laws.{StepsKeepProper, ProperCoresSpellNone}
 use Rattle.lt_rewrite.proofs.PartLists.{all_replaced, all_without}
 use Rattle.lt_rewrite.proofs.Entries.{entry_has, turn_is, variant_value_fits, language_value_fits}
 use Rattle.lt_rewrite.proofs.Forms.{registered_entry, value_form, value_registered, replacement_form, replacement_registered, language_value_form, variant_value_form}
