@@ -1,13 +1,13 @@
 -- What code shows of its answer: that steps reach it and none leads from it. The rest follows from the laws.
-use Rattle.std.proofs.Common.{◌≡◌, ◌≢◌, ℕ, List, [], ◌∷◌, Some, None, refl, sym, ap, ◌∙◌, subst}
+use Rattle.std.proofs.Common.{◌≡◌, ℕ, List, [], Some, None, refl, sym, ap, ◌∙◌, subst}
 use Rattle.lt_tag.specs.Parts.{CoreParts, ExtensionParts, TagForm, LangTag, PrivateUse, Grandfathered}
 use Rattle.lt_registry.specs.Parts.{EntryParts}
 use Rattle.lt_registry.specs.Entries.{whole_value}
 use Rattle.lt_registry.specs.Validity.{IsProper, IsValid, RepeatsNoVariant}
-use Rattle.lt_rewrite.specs.Rewriting.{Star, done, then, Rests, IsNormalForm}
-use Rattle.lt_rewrite.specs.CoreSteps.{values_of, CoreStep, IsCoreNormalForm}
+use Rattle.lt_rewrite.specs.Rewriting.{done, then, Rests, IsNormalForm}
+use Rattle.lt_rewrite.specs.CoreSteps.{values_of, IsCoreNormalForm}
 use Rattle.lt_rewrite.specs.Extensions.{ExtensionsStep}
-use Rattle.lt_rewrite.specs.TagSteps.{IsPlain, TagStep, on_whole, IsReached, CanRepeat}
+use Rattle.lt_rewrite.specs.TagSteps.{IsPlain, TagStep, on_whole, IsReached}
 use Rattle.lt_rewrite.proofs.Stars.{star_trans}
 use Rattle.lt_rewrite.proofs.NormalForms.{normal_is_form}
 use Rattle.lt_canon.specs.Conditions.{plain, IsChecked}

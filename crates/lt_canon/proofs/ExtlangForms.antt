@@ -1,20 +1,17 @@
 -- The extlang form of a canonical tag is valid, and leads back to it.
-use Rattle.std.proofs.Common.{◌≡◌, ℕ, ◌≤◌, ◌⊎◌, inl, inr, Bool, true, false, cond, ◌&&◌, ◌||◌, List, [], ◌∷◌, Option, Some, None, refl, sym, ap, ◌∙◌, subst, length, arith}
-use Rattle.std.specs.Prelude.{is_some, nat_le}
-use Rattle.std.specs.List.{list_all}
+use Rattle.std.proofs.Common.{◌≡◌, ℕ, ◌⊎◌, inl, inr, Bool, true, false, cond, ◌&&◌, ◌||◌, List, [], ◌∷◌, Option, Some, None, refl, sym, ap, ◌∙◌, subst, length, arith}
+use Rattle.std.specs.Prelude.{is_some}
 use Rattle.std.proofs.lemmas.Slice.Eq.{bytes_eq-Decides}
 use Rattle.std.proofs.lemmas.Bool.{and_from, leb-true}
 use Rattle.lt_subtag.specs.Shapes.{is_language, is_extlang}
-use Rattle.lt_tag.specs.Parts.{CoreParts, ExtensionParts, TagForm, LangTag, PrivateUse, Grandfathered}
+use Rattle.lt_tag.specs.Parts.{CoreParts, ExtensionParts, LangTag, PrivateUse, Grandfathered}
 use Rattle.lt_tag.specs.Spelling.{IsCore}
 use Rattle.lt_registry.specs.Parts.{EntryParts}
-use Rattle.lt_registry.specs.Entries.{has_form, one_of, value_or, entry, prefixes, prefixes_of, lists, replacement, is_short, IsEntry}
+use Rattle.lt_registry.specs.Entries.{one_of, value_or, entry, prefixes, prefixes_of, lists, replacement, is_short}
 use Rattle.lt_registry.specs.Validity.{ExtlangsFit, IsProperCore, IsProper, IsValid}
-use Rattle.lt_registry.specs.declared.entries.Kind.{Kind}
 use Rattle.lt_registry.specs.declared.entries.Kind.TheVariants as kinds
-use Rattle.lt_rewrite.specs.Rewriting.{Rests, done, then}
+use Rattle.lt_rewrite.specs.Rewriting.{Rests, done}
 use Rattle.lt_rewrite.specs.CoreSteps.{values_of, CoreStep, by_extlang}
-use Rattle.lt_rewrite.specs.Conditions.{IsRegistry, IsFittingExtlang}
 use Rattle.lt_rewrite.specs.Laws.{IsProperValue}
 use Rattle.lt_rewrite.specs.TagSteps.{TagStep, IsReached, IsCanonical, on_core}
 use Rattle.lt_rewrite.proofs.CoreForm.{core}
@@ -27,7 +24,7 @@ use Rattle.lt_canon.specs.ExtlangForm.{prefix_of, behind, extlang_core}
 use Rattle.lt_canon.specs.Laws.{LeadsBack, ExtlangFormsLeadBack}
 use Rattle.lt_canon.proofs.Checks.{core_conditions}
 use Rattle.lt_canon.proofs.EndForms.{rest_is_end}
-use Rattle.lt_canon.proofs.TagProper.{ProperParts, proper_parts, proper_langtag, core_spells_none, core_step_tag, step_of_change}
+use Rattle.lt_canon.proofs.TagProper.{proper_parts, proper_langtag, core_spells_none, step_of_change}
 use Rattle.lt_canon.proofs.TagForm.{core_end, lang_end, tag_end, tag_reached, end_form}
 
 module _ (R : List EntryParts) (C : IsChecked R) where

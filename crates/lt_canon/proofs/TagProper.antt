@@ -1,15 +1,15 @@
 -- Each change of a proper tag leads to a proper tag.
-use Rattle.std.proofs.Common.{◌≡◌, ◌≢◌, ℕ, false, ◌≤◌, ◌+◌, inl, inr, List, [], ◌∷◌, ◌++◌, Option, Some, None, refl, sym, ap, ◌∙◌, subst, map, length, arith, IfSome}
+use Rattle.std.proofs.Common.{◌≡◌, ◌≢◌, ℕ, false, ◌≤◌, inl, List, [], ◌∷◌, ◌++◌, Option, sym, ap, ◌∙◌, subst, map, length, arith, IfSome}
 use Rattle.std.specs.List.{AllByRecursion}
 use Rattle.std.proofs.lemmas.List.{map-append}
-use Rattle.lt_tag.specs.Parts.{CoreParts, ExtensionParts, TForm, TagForm, LangTag, PrivateUse, Grandfathered}
-use Rattle.lt_tag.specs.Spelling.{spell_core, IsCore, IsExtension, IsPrivate}
-use Rattle.lt_tag.specs.Extensions.{transform, IsTransform, unicode}
-use Rattle.lt_tag.specs.Values.{IsCoreValue, IsExtensionValue, IsTagValue, most_parts}
-use Rattle.lt_tag.specs.WellFormed.{spell, IsLangTag, IsTag, IsNotGrandfathered}
+use Rattle.lt_tag.specs.Parts.{CoreParts, ExtensionParts, TForm, TagForm, LangTag}
+use Rattle.lt_tag.specs.Spelling.{spell_core, IsExtension, IsPrivate}
+use Rattle.lt_tag.specs.Extensions.{transform, IsTransform}
+use Rattle.lt_tag.specs.Values.{IsExtensionValue, most_parts}
+use Rattle.lt_tag.specs.WellFormed.{IsLangTag, IsNotGrandfathered}
 use Rattle.lt_tag.proofs.TagLemmas.{not_grandfathered, AllByRecursion-weaker}
 use Rattle.lt_registry.specs.Parts.{EntryParts}
-use Rattle.lt_registry.specs.Validity.{IsProperCore, Distinct, IsProperExtension, IsProperLangTag, HasProperParts, IsProper}
+use Rattle.lt_registry.specs.Validity.{IsProperCore, Distinct, IsProperExtension, IsProper}
 use Rattle.lt_rewrite.specs.CoreSteps.{values_of, CoreStep}
 use Rattle.lt_rewrite.specs.Orderings.{ListStep, by_swap, by_drop}
 use Rattle.lt_rewrite.specs.Extensions.{singleton_cmp, TransformStep, on_source, on_fields, ExtensionStep, in_unicode, in_transform, ExtensionsStep, inside, among}
