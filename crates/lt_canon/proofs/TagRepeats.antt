@@ -14,7 +14,7 @@ use Rattle.lt_rewrite.specs.Extensions.{singleton_cmp, TransformStep, on_source,
 use Rattle.lt_rewrite.specs.TagSteps.{TagChange, on_core, on_extensions, on_whole, TagStep, CanRepeat}
 use Rattle.lt_rewrite.proofs.NormalForms.{star_keeps}
 use Rattle.lt_rewrite.proofs.Sorting.{place_at, place, sorted}
-use Rattle.lt_rewrite.proofs.PartLists.{all_step, all_middle, all_replaced, all_unmapped}
+use Rattle.lt_rewrite.proofs.PartLists.{all_both, all_step, all_middle, all_replaced, all_unmapped}
 use Rattle.lt_rewrite.proofs.TransformForms.{t_form, if_some_is, is_if_some}
 use Rattle.lt_rewrite.proofs.FoundParts.{one_transform}
 use Rattle.lt_rewrite.proofs.Proper.{step_shaped}
@@ -47,10 +47,6 @@ unplace P cmp x (y ∷ ys) h = unplace_at P x y ys (place false cmp x ys) (unpla
 unsorted : {A : Type 0} (P : A → Type 0) (cmp : A → A → Ordering) (xs : List A) → AllByRecursion P (sorted false cmp xs) → AllByRecursion P xs
 unsorted P cmp [] h = tt
 unsorted P cmp (x ∷ xs) h = let r = unplace P cmp x (sorted false cmp xs) h in (r.0, unsorted P cmp xs r.1)
-
-all_both : {A : Type 0} (P Q S : A → Type 0) → ((a : A) → P a → Q a → S a) → (xs : List A) → AllByRecursion P xs → AllByRecursion Q xs → AllByRecursion S xs
-all_both P Q S f [] h k = tt
-all_both P Q S f (x ∷ xs) h k = (f x h.0 k.0, all_both P Q S f xs h.1 k.1)
 
 abbrev HasDistinctVariants : CoreParts → Type 0
 HasDistinctVariants c = Distinct c.variants

@@ -5,6 +5,8 @@ use Rattle.lt_registry.specs.Parts.{EntryParts}
 use Rattle.lt_registry.specs.Validity.{IsProper, IsValid}
 use Rattle.lt_rewrite.specs.Rewriting.{Rests, IsConfluent}
 use Rattle.lt_rewrite.specs.TagSteps.{TagStep, IsReached, AreEquivalent, IsCanonical, CanRepeat}
+use Rattle.lt_rewrite.specs.Labels.{IsTrace}
+use Rattle.lt_rewrite.specs.declared.steps.Step.{Step}
 use Rattle.lt_canon.specs.Answers.{IsCanonicalFormOf, IsNamedRepeat}
 use Rattle.lt_canon.specs.ExtlangForm.{extlang_form}
 
@@ -22,6 +24,10 @@ pub record HasEndForms (R : List EntryParts) : Type 0 where
 -- canonical tags that are equivalent are equal
 abbrev pub OneCanonicalTag : List EntryParts → Type 0
 OneCanonicalTag R = (a b : TagForm) → IsCanonical R a → IsCanonical R b → AreEquivalent R a b → a ≡ b
+
+-- the end of a trace is reached, and so equivalent
+abbrev pub TracesReachTheirEnd : List EntryParts → Type 0
+TracesReachTheirEnd R = (t end : TagForm) (steps : List Step) → IsTrace R t steps end → IsReached R t end × AreEquivalent R t end
 
 -- steps can repeat a variant, and no canonical tag is equivalent
 pub record RepeatsWithoutForm (R : List EntryParts) (t : TagForm) : Type 0 where

@@ -3,7 +3,7 @@
 ghost use Rattle.std.specs.Prelude.{List};
 ghost use Rattle.lt_registry.specs.Parts.{EntryParts};
 ghost use Rattle.lt_canon.specs.Conditions.{IsChecked};
-ghost use Rattle.lt_canon.specs.Laws.{HasEndForms, StepsAreConfluent, OneCanonicalTag, CanonicalOrRepeats, RepeatTogether, EquivalenceIsEquality, RepeatsAreNamed, ExtlangFormsLeadBack};
+ghost use Rattle.lt_canon.specs.Laws.{HasEndForms, StepsAreConfluent, OneCanonicalTag, CanonicalOrRepeats, RepeatTogether, EquivalenceIsEquality, RepeatsAreNamed, ExtlangFormsLeadBack, TracesReachTheirEnd};
 
 /// Each proper tag has an end that steps reach, that each step keeps, and from which none leads; so where two tags
 /// are reached from one proper tag, some tag is reached from both, and a class of equivalent tags has at most one
@@ -31,4 +31,9 @@ pub fn repeats_are_named()
 /// The extlang form of a canonical tag is valid, and the tag is reached from it.
 pub fn extlang_forms_lead_back()
     ensures { (R : List EntryParts) → IsChecked R → ExtlangFormsLeadBack R }
+{}
+
+/// The end of a trace is reached from the tag, and so equivalent to it, in every registry.
+pub fn traces_reach_their_end()
+    ensures { (R : List EntryParts) → TracesReachTheirEnd R }
 {}

@@ -26,3 +26,4 @@ pub mod Repeats
 pub mod CoreEnds
 pub mod NameForms
 pub mod SortedLists
+pub mod OrderingRows

@@ -56,6 +56,16 @@ pub empty_middle : {A : Type 0} (before : List A) (a : A) (after : List A) → b
 empty_middle [] a after e = cc
 empty_middle (b ∷ bs) a after e = cc
 
+pub all_both : {A : Type 0} (P Q S : A → Type 0) → ((a : A) → P a → Q a → S a) → (xs : List A) → AllByRecursion P xs → AllByRecursion Q xs → AllByRecursion S xs
+all_both P Q S f [] h k = tt
+all_both P Q S f (x ∷ xs) h k = (f x h.0 k.0, all_both P Q S f xs h.1 k.1)
+
+pub first_same : {A : Type 0} (x y : A) (xs ys : List A) → x ∷ xs ≡ y ∷ ys → x ≡ y
+first_same x y xs ys e = cc
+
+pub others_same : {A : Type 0} (x y : A) (xs ys : List A) → x ∷ xs ≡ y ∷ ys → xs ≡ ys
+others_same x y xs ys e = cc
+
 -- the subtags of parts
 
 spelled_middle : {A : Type 0} (spell : A → List (List ℕ)) (before : List A) (v : A) (after : List A) → length (flat_map spell (before ++ v ∷ after)) ≡ length (flat_map spell before) + (length (spell v) + length (flat_map spell after))
