@@ -62,6 +62,6 @@ fields-continued text field (next ∷ group) = ap (λ l. field_of field ∷ l) (
 pub lines-continued : (text : List ℕ) (field : Written) (group : List Written) → lines_of_group (group_continued text (field ∷ group)) ≡ lines_of_group (field ∷ group) ++ Continuation text ∷ []
 lines-continued text field [] =
     ap (λ l. l ++ []) (lines_of_field-continued field text) ∙ append-nil (lines_of_field field ++ Continuation text ∷ [])
-        ∙ ap (λ l. l ++ Continuation text ∷ []) (sym (append-nil (lines_of_field field)))
+    ∙ ap (λ l. l ++ Continuation text ∷ []) (sym (append-nil (lines_of_field field)))
 lines-continued text field (next ∷ group) =
     ap (λ l. lines_of_field field ++ l) (lines-continued text next group) ∙ sym (append_assoc (lines_of_field field) (lines_of_group (next ∷ group)) (Continuation text ∷ []))

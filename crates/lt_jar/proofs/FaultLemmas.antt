@@ -62,7 +62,7 @@ begun-line : (before : List (List ℕ)) (line : List ℕ) (kind : Line) (inside 
     → begun false (shown (before ++ line ∷ [])) ≡ begun false (shown before) + begun inside (filter is_shown (kind ∷ []))
 begun-line before line kind inside is at =
     ap (begun false) (shown-more before line ∙ ap (λ k. shown before ++ filter is_shown (k ∷ [])) is) ∙ begun-append false (shown before) (filter is_shown (kind ∷ []))
-        ∙ ap (λ b. begun false (shown before) + begun b (filter is_shown (kind ∷ []))) at
+    ∙ ap (λ b. begun false (shown before) + begun b (filter is_shown (kind ∷ []))) at
 
 none_begun : (inside : Bool) → begun inside [] ≡ 0
 none_begun true = refl
@@ -137,12 +137,12 @@ kind_judges earlier before line going (Continuation text) is (inr within) short 
 kind_judges earlier before line going (Start name body) is (inl outside) short utf8 few =
     let count = ap (λ n. earlier + n) outside.count in
     subst (λ fields. Judges earlier before line (started (earlier + length going.records) (name, body) fields)) (sym outside.fields)
-        (first_judges earlier before line (earlier + length going.records) name body is short utf8 outside.inside count _ refl)
+    (first_judges earlier before line (earlier + length going.records) name body is short utf8 outside.inside count _ refl)
 kind_judges earlier before line going (Start name body) is (inr within) short utf8 few =
     let more = begun-line before line (Start name body) true is within.inside in
     let same : earlier + begun false (shown (before ++ line ∷ [])) ≤ most_records = omega (arith, more) in
     subst (λ fields. Judges earlier before line (started (earlier + length going.records) (name, body) fields)) (sym within.fields)
-        (calm earlier before line (Start name body) is short utf8 (λ m. cc) (λ m. cc) same, same)
+    (calm earlier before line (Start name body) is short utf8 (λ m. cc) (λ m. cc) same, same)
 kind_judges earlier before line going Bad is at short utf8 few =
     (is, least earlier before line 3 short utf8 (λ w. absurd (no_continuation line Bad is refl w.0)) (λ w. omega arith) (omega arith))
 

@@ -4,9 +4,13 @@
 mod drafts;
 mod faults;
 mod jars;
+pub mod laws;
 mod lines;
 mod reading;
 
 pub use faults::{JarFault, JarFaultKind};
 pub use jars::{Jar, JarField, Record};
 pub use reading::read_jar;
+
+#[cfg(test)]
+mod tests;

@@ -79,7 +79,7 @@ pub(crate) fn append(list: &mut Vec<Subtag>, subtags: &[Subtag]) -> Result<(), O
 }
 
 /// Copies of subtags.
-fn copies(alloc: Global, subtags: &[Subtag]) -> Result<Vec<Subtag>, OutOfMemory>
+pub(crate) fn copies(alloc: Global, subtags: &[Subtag]) -> Result<Vec<Subtag>, OutOfMemory>
     ensures { IfOk result (λ list. list.items ≡ subtags.now) }
 {
     let mut list = Vec::new(alloc);
@@ -196,3 +196,6 @@ impl<T: Drop> From<AllocFailed<T>> for TransformFault {
         TransformFault::OutOfMemory
     }
 }
+
+#[cfg(test)]
+mod tests;
