@@ -27,6 +27,15 @@ same_kind_is kinds.Grandfathered kinds.Grandfathered h = refl
 same_kind_is kinds.Redundant kinds.Redundant h = refl
 same_kind_is _ _ h = cc
 
+pub same_kind_itself : (a : Kind) → same_kind a a ≡ true
+same_kind_itself kinds.Language = refl
+same_kind_itself kinds.Extlang = refl
+same_kind_itself kinds.Script = refl
+same_kind_itself kinds.Region = refl
+same_kind_itself kinds.Variant = refl
+same_kind_itself kinds.Grandfathered = refl
+same_kind_itself kinds.Redundant = refl
+
 find_at : {A : Type 0} (P : A → Type 0) (test : A → Bool) (x : A) (xs : List A) (a : A) → P x → (find test xs ≡ Some a → P a × (test a ≡ true)) → (b : Bool) → test x ≡ b → cond b (Some x) (find test xs) ≡ Some a → P a × (test a ≡ true)
 find_at P test x xs a h ih true t e = let same : x ≡ a = cc in (subst P same h, ap test (sym same) ∙ t)
 find_at P test x xs a h ih false t e = ih e
