@@ -1,5 +1,5 @@
 -- A core step on a proper core gives a proper core, and no proper core spells a grandfathered tag.
-use Rattle.std.proofs.Common.{◌≡◌, ◌≢◌, ℕ, ◌≤◌, ◌<◌, ◌-◌, Bool, true, false, ◌&&◌, ◌||◌, not, List, [], ◌∷◌, ◌++◌, Option, Some, None, refl, sym, ap, ◌∙◌, subst, length, bytes_eq, arith, length-append, All}
+use Rattle.std.proofs.Common.{◌≡◌, ◌≢◌, ℕ, ◌≤◌, ◌<◌, ◌-◌, Bool, true, false, ◌&&◌, ◌||◌, not, List, [], ◌∷◌, ◌++◌, Option, Some, None, refl, sym, ap, ◌∙◌, subst, length, bytes_eq, arith, All}
 use Rattle.std.specs.Prelude.{option_to_list}
 use Rattle.std.specs.List.{AllByRecursion, list_all}
 use Rattle.std.proofs.lemmas.Slice.Eq.{bytes_eq-Decides}
@@ -15,7 +15,7 @@ use Rattle.lt_registry.specs.Entries.{is_registered}
 use Rattle.lt_registry.specs.Validity.{ExtlangsFit, IsProperCore, Distinct}
 use Rattle.lt_registry.specs.declared.entries.Kind.TheVariants as kinds
 use Rattle.lt_tag.specs.WellFormed.{IsNotGrandfathered}
-use Rattle.lt_rewrite.specs.CoreSteps.{Values, values_of, CoreStep, by_extlang, by_language, by_script, by_region, by_variant, by_turn}
+use Rattle.lt_rewrite.specs.CoreSteps.{values_of, CoreStep, by_extlang, by_language, by_script, by_region, by_variant, by_turn}
 use Rattle.lt_rewrite.specs.Conditions.{IsRegistry, FitsGrandfathered, second_entry, MeetsCoreConditions}
 use Rattle.lt_rewrite.specs.Laws.{StepsKeepProper, ProperCoresSpellNone}
 use Rattle.lt_rewrite.proofs.CoreLengths.{core_step_no_longer}
