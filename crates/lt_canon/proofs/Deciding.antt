@@ -11,12 +11,11 @@ use Rattle.std.proofs.lemmas.Slice.Eq.{bytes_eq-Decides, slice_eq-Decides}
 use Rattle.lt_tag.specs.Parts.{ExtensionParts, TagForm, LangTag, PrivateUse, Grandfathered}
 use Rattle.lt_registry.specs.Same.{same_list, same_core, same_extension, same_tag, same_kind}
 use Rattle.lt_registry.specs.declared.entries.Kind.{Kind}
-use Rattle.lt_registry.specs.declared.entries.Kind.TheVariants as kinds
 use Rattle.lt_registry.specs.declared.entries.EntryName.{EntryName}
 use Rattle.lt_registry.specs.declared.entries.EntryName.TheVariants as names
 use Rattle.lt_registry.specs.declared.entries.EntryValue.{EntryValue}
 use Rattle.lt_registry.specs.declared.entries.EntryValue.TheVariants as values
-use Rattle.lt_rewrite.proofs.Entries.{same_kind_is}
+use Rattle.lt_rewrite.proofs.Entries.{same_kind_is, same_kind_itself}
 use Rattle.lt_rewrite.proofs.Same.{same_core-Decides, same_tag_is}
 
 pub Decides-true : (b : Bool) → Decides b (b ≡ true)
@@ -60,15 +59,6 @@ Decides-contained P q d xs =
     Decides-like (list_all q xs) (λ all a c. All-contains P xs a all c) (λ f. All-weaker (Contains xs) P f xs (All-contains_itself xs)) (Decides-all P q d xs)
 
 -- equal values
-
-pub same_kind_itself : (a : Kind) → same_kind a a ≡ true
-same_kind_itself kinds.Language = refl
-same_kind_itself kinds.Extlang = refl
-same_kind_itself kinds.Script = refl
-same_kind_itself kinds.Region = refl
-same_kind_itself kinds.Variant = refl
-same_kind_itself kinds.Grandfathered = refl
-same_kind_itself kinds.Redundant = refl
 
 pub Decides-kind : (a b : Kind) → Decides (same_kind a b) (a ≡ b)
 Decides-kind a b = (same_kind_is a b, λ e. ap (same_kind a) (sym e) ∙ same_kind_itself a)

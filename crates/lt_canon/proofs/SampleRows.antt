@@ -1,4 +1,4 @@
--- The sample passes the check, and each change is found.
+-- The sample passes the check, and what is changed is found.
 use Rattle.std.proofs.Common.{◌≡◌, List, [], ◌∷◌, ◌++◌, Some, None, refl, codes, arith}
 use Rattle.lt_registry.specs.Parts.{EntryParts}
 use Rattle.lt_registry.specs.declared.entries.Kind.TheVariants as kinds

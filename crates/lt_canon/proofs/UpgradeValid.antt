@@ -16,19 +16,10 @@ use Rattle.lt_registry.specs.declared.entries.Kind.TheVariants as kinds
 use Rattle.lt_registry.specs.declared.entries.EntryName.{EntryName}
 use Rattle.lt_registry.specs.declared.entries.EntryName.TheVariants as names
 use Rattle.lt_rewrite.specs.Conditions.{MeetsCoreConditions}
-use Rattle.lt_rewrite.proofs.Entries.{IsEntryOf, entry_has, prefixes_at}
+use Rattle.lt_rewrite.proofs.Entries.{same_kind_itself, IsEntryOf, entry_has, prefixes_at}
 use Rattle.lt_rewrite.proofs.Forms.{registered_entry, ExtlangEntry, extlang_entry}
 use Rattle.lt_canon.specs.Upgrade.{StaysRegistered, IsCovered, IsSameExtlang, KeepsExtlang, Upgrades}
 use Rattle.lt_canon.specs.declared.conditions.UpgradeCondition.TheVariants as upgrades
-
-same_kind_itself : (a : Kind) → same_kind a a ≡ true
-same_kind_itself kinds.Language = refl
-same_kind_itself kinds.Extlang = refl
-same_kind_itself kinds.Script = refl
-same_kind_itself kinds.Region = refl
-same_kind_itself kinds.Variant = refl
-same_kind_itself kinds.Grandfathered = refl
-same_kind_itself kinds.Redundant = refl
 
 -- the letter order is transitive
 
