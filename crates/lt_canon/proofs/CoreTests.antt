@@ -299,7 +299,7 @@ same_prefixes (p ∷ ps) (q ∷ qs) = same_list p q && same_prefixes ps qs
 same_prefixes [] (q ∷ qs) = false
 same_prefixes (p ∷ ps) [] = false
 
-Decides-prefixes : (ps qs : List (List (List ℕ))) → Decides (same_prefixes ps qs) (ps ≡ qs)
+pub Decides-prefixes : (ps qs : List (List (List ℕ))) → Decides (same_prefixes ps qs) (ps ≡ qs)
 Decides-prefixes [] [] = ((λ h. refl), (λ h. refl))
 Decides-prefixes (p ∷ ps) (q ∷ qs) =
     Decides-like (same_prefixes (p ∷ ps) (q ∷ qs)) (λ h. let a = h.0 in let b = h.1 in λ i. a i ∷ b i) (λ e. let a : p ≡ q = cc in let b : ps ≡ qs = cc in (a, b))

@@ -20,3 +20,6 @@ pub mod NamedRepeats
 pub mod UpgradeTags
 pub mod UpgradeRepeats
 pub mod UpgradeLaw
+pub mod UpgradeTests
+pub mod UpgradeFindings
+pub mod UpgradeRows

@@ -91,7 +91,7 @@ module _ (R : List EntryParts) (C : MeetsCoreConditions R) where
   abbrev pub end_of : CoreParts → CoreParts
   end_of = form (values_of R) (slow_settles R C)
 
-  is_end : (c d : CoreParts) → IsCoreNormalForm (values_of R) c d → end_of c ≡ d
+  pub is_end : (c d : CoreParts) → IsCoreNormalForm (values_of R) c d → end_of c ≡ d
   is_end c d n = normal_is_form (values_of R) (slow_settles R C) c d n
 
   end_is : (c : CoreParts) → IsCoreNormalForm (values_of R) c (end_of c)
