@@ -1,5 +1,5 @@
 -- What a registry that passes the check says of the whole record behind a value.
-use Rattle.std.proofs.Common.{◌≡◌, ℕ, ◌⊎◌, inl, inr, Bool, true, false, List, Option, Some, None, refl, sym, ap, ◌∙◌, subst, All}
+use Rattle.std.proofs.Common.{◌≡◌, ℕ, ◌⊎◌, inl, inr, true, List, Option, Some, None, refl, sym, ap, ◌∙◌, subst, All}
 use Rattle.std.specs.Option.{option_and_then}
 use Rattle.lt_tag.specs.Parts.{TagForm, Grandfathered}
 use Rattle.lt_registry.specs.Parts.{EntryParts}
@@ -11,7 +11,7 @@ use Rattle.lt_registry.specs.declared.entries.EntryName.TheVariants as names
 use Rattle.lt_rewrite.specs.Conditions.{FitsGrandfathered}
 use Rattle.lt_rewrite.proofs.Entries.{find_has}
 use Rattle.lt_rewrite.proofs.Same.{same_tag_is}
-use Rattle.lt_canon.specs.Conditions.{OfWhole, IsValidPlain, HasValidWhole, HasRestingWhole, HasAgreeingWhole, IsChecked}
+use Rattle.lt_canon.specs.Conditions.{IsValidPlain, HasValidWhole, IsChecked}
 use Rattle.lt_canon.specs.declared.conditions.Condition.TheVariants as conditions
 
 pub grandfathered_fit : (R : List EntryParts) → IsChecked R → All (FitsGrandfathered R) R

@@ -4,7 +4,7 @@ use Rattle.std.specs.List.{AllByRecursion}
 use Rattle.std.proofs.lemmas.Slice.Eq.{bytes_eq-Decides}
 use Rattle.lt_tag.specs.Parts.{CoreParts}
 use Rattle.lt_registry.specs.Validity.{Distinct}
-use Rattle.lt_rewrite.proofs.PartLists.{all_middle}
+use Rattle.lt_rewrite.proofs.PartLists.{all_middle, first_same, others_same}
 use Rattle.lt_canon.specs.Answers.{IsSecondOccurrence}
 
 -- a fact, or its refutation
@@ -95,23 +95,17 @@ pub data Aligned {A : Type 0} (a : List A) (v : A) (b : List A) (w : A) : Type 0
   shorter : (rest : List A) → b ≡ a ++ v ∷ rest → Aligned a v b w
   longer : (rest : List A) → a ≡ b ++ w ∷ rest → Aligned a v b w
 
-head_same : {A : Type 0} (x y : A) (xs ys : List A) → x ∷ xs ≡ y ∷ ys → x ≡ y
-head_same x y xs ys e = cc
-
-tail_same : {A : Type 0} (x y : A) (xs ys : List A) → x ∷ xs ≡ y ∷ ys → xs ≡ ys
-tail_same x y xs ys e = cc
-
 aligned_more : {A : Type 0} (x y : A) (a : List A) (v : A) (b : List A) (w : A) → x ≡ y → Aligned a v b w → Aligned (x ∷ a) v (y ∷ b) w
 aligned_more x y a v b w e (same k) = same k
 aligned_more x y a v b w e (shorter t k) = shorter t (λ i. sym e i ∷ k i)
 aligned_more x y a v b w e (longer t k) = longer t (λ i. e i ∷ k i)
 
 pub align : {A : Type 0} (a : List A) (v : A) (r b : List A) (w : A) (s : List A) → a ++ v ∷ r ≡ b ++ w ∷ s → Aligned a v b w
-align [] v r [] w s e = same (head_same v w r s e)
-align [] v r (y ∷ b) w s e = shorter b (ap (λ z. z ∷ b) (sym (head_same v y r (b ++ w ∷ s) e)))
-align (x ∷ a) v r [] w s e = longer a (ap (λ z. z ∷ a) (head_same x w (a ++ v ∷ r) s e))
+align [] v r [] w s e = same (first_same v w r s e)
+align [] v r (y ∷ b) w s e = shorter b (ap (λ z. z ∷ b) (sym (first_same v y r (b ++ w ∷ s) e)))
+align (x ∷ a) v r [] w s e = longer a (ap (λ z. z ∷ a) (first_same x w (a ++ v ∷ r) s e))
 align (x ∷ a) v r (y ∷ b) w s e =
-    aligned_more x y a v b w (head_same x y (a ++ v ∷ r) (b ++ w ∷ s) e) (align a v r b w s (tail_same x y (a ++ v ∷ r) (b ++ w ∷ s) e))
+    aligned_more x y a v b w (first_same x y (a ++ v ∷ r) (b ++ w ∷ s) e) (align a v r b w s (others_same x y (a ++ v ∷ r) (b ++ w ∷ s) e))
 
 front_apart : (a : List (List ℕ)) (v : List ℕ) (rest before between : List (List ℕ)) → a ≡ before ++ v ∷ between → Distinct (a ++ v ∷ rest) → ⊥
 front_apart a v rest before between e d =

@@ -17,6 +17,8 @@ pub mod SampleRows
 pub mod Distinctness
 pub mod TagRepeats
 pub mod NamedRepeats
+pub mod ExtlangForms
+pub mod Answering
 pub mod UpgradeTags
 pub mod UpgradeRepeats
 pub mod UpgradeLaw

@@ -1,28 +1,28 @@
 -- The end form of a tag: each step keeps it, each proper tag reaches it, and no step leads from it.
-use Rattle.std.proofs.Common.{◌≡◌, ◌≢◌, ℕ, ◌⊎◌, inl, inr, Bool, true, false, List, [], ◌∷◌, ◌++◌, Option, Some, None, refl, sym, ap, ◌∙◌, subst, map, All}
+use Rattle.std.proofs.Common.{◌≡◌, ◌≢◌, ℕ, ◌⊎◌, inl, inr, Bool, true, false, List, [], ◌∷◌, ◌++◌, Option, Some, None, refl, sym, ap, ◌∙◌, subst, All}
 use Rattle.lt_tag.specs.Parts.{CoreParts, ExtensionParts, TagForm, LangTag, PrivateUse, Grandfathered}
 use Rattle.lt_registry.specs.Parts.{EntryParts}
 use Rattle.lt_registry.specs.Entries.{tag_of, whole_value}
 use Rattle.lt_registry.specs.Same.{same_core}
 use Rattle.lt_registry.specs.Validity.{Distinct, IsProper}
 use Rattle.lt_registry.specs.declared.entries.EntryName.TheVariants as names
-use Rattle.lt_rewrite.specs.Rewriting.{Star, done, then, Rests}
+use Rattle.lt_rewrite.specs.Rewriting.{Star, done, then}
 use Rattle.lt_rewrite.specs.CoreSteps.{values_of, CoreStep, IsCoreNormalForm}
-use Rattle.lt_rewrite.specs.Orderings.{ListStep, by_swap, by_drop}
+use Rattle.lt_rewrite.specs.Orderings.{by_swap, by_drop}
 use Rattle.lt_rewrite.specs.Extensions.{ExtensionsStep, inside, among}
-use Rattle.lt_rewrite.specs.TagSteps.{IsPlain, CoreChange, TagChange, on_core, on_extensions, on_whole, TagStep, IsReached}
+use Rattle.lt_rewrite.specs.TagSteps.{IsPlain, TagChange, on_core, on_extensions, on_whole, TagStep, IsReached}
 use Rattle.lt_rewrite.proofs.Stars.{star_trans}
-use Rattle.lt_rewrite.proofs.NormalForms.{IsFormOf, star_map_while, star_keeps, form_is_normal, normal_is_form, form_again}
+use Rattle.lt_rewrite.proofs.NormalForms.{IsFormOf, star_map_while, star_keeps, form_is_normal, normal_is_form}
 use Rattle.lt_rewrite.proofs.Same.{same_core-Decides}
 use Rattle.lt_rewrite.proofs.Proper.{step_shaped}
 use Rattle.lt_rewrite.proofs.CoreShapes.{core_form, core_formed}
 use Rattle.lt_rewrite.proofs.PartLists.{empty_middle, step_some}
 use Rattle.lt_rewrite.proofs.ExtensionForms.{extension_form, extensions_form, extensions_formed}
-use Rattle.lt_canon.specs.Conditions.{plain, IsValidPlain, HasRestingWhole, HasAgreeingWhole, IsChecked}
+use Rattle.lt_canon.specs.Conditions.{plain, HasRestingWhole, HasAgreeingWhole, IsChecked}
 use Rattle.lt_canon.specs.declared.conditions.Condition.TheVariants as conditions
 use Rattle.lt_canon.proofs.EndForms.{IsEndForm}
 use Rattle.lt_canon.proofs.Checks.{core_conditions}
-use Rattle.lt_canon.proofs.CheckedRegistry.{ValuedWhole, valued_whole, whole_has, no_value, value_plain}
+use Rattle.lt_canon.proofs.CheckedRegistry.{valued_whole, whole_has, no_value, value_plain}
 use Rattle.lt_canon.proofs.TagProper.{core_step_tag, extensions_step_tag, step_of_change}
 
 -- the end of a tag that is no langtag with extensions or private use
@@ -162,7 +162,7 @@ module _ (R : List EntryParts) (C : IsChecked R) where
   pub cores_proper : {c d : CoreParts} → Star (CoreStep (values_of R)) c d → (es : List ExtensionParts) (ps : List (List ℕ)) → IsProper R (LangTag c es ps) → IsProper R (LangTag d es ps)
   cores_proper r es ps P = star_keeps (λ x. IsProper R (LangTag x es ps)) (λ x y s p. core_step_tag R C x y es ps s p) r P
 
-  extensions_reached : (d : CoreParts) {es fs : List ExtensionParts} → Star (ExtensionsStep R) es fs → (ps : List (List ℕ)) → IsProper R (LangTag d es ps) → IsReached R (LangTag d es ps) (LangTag d fs ps)
+  pub extensions_reached : (d : CoreParts) {es fs : List ExtensionParts} → Star (ExtensionsStep R) es fs → (ps : List (List ℕ)) → IsProper R (LangTag d es ps) → IsReached R (LangTag d es ps) (LangTag d fs ps)
   extensions_reached d r ps P =
       star_map_while (λ x. IsProper R (LangTag d x ps)) (λ x. LangTag d x ps) (λ x y s p. extensions_step_tag R C d x y ps s p)
       (λ x y s p q. step_of_change R C (LangTag d x ps) (LangTag d y ps) (on_extensions d x y ps (record { from = refl; to = refl; step = s })) p) r P

@@ -1,22 +1,22 @@
 -- Each change of a proper tag leads to a proper tag.
-use Rattle.std.proofs.Common.{◌≡◌, ◌≢◌, ℕ, false, ◌≤◌, ◌+◌, inl, inr, List, [], ◌∷◌, ◌++◌, Option, Some, None, refl, sym, ap, ◌∙◌, subst, map, length, arith, IfSome}
+use Rattle.std.proofs.Common.{◌≡◌, ◌≢◌, ℕ, false, ◌≤◌, inl, List, [], ◌∷◌, ◌++◌, Option, sym, ap, ◌∙◌, subst, map, length, arith, IfSome}
 use Rattle.std.specs.List.{AllByRecursion}
 use Rattle.std.proofs.lemmas.List.{map-append}
-use Rattle.lt_tag.specs.Parts.{CoreParts, ExtensionParts, TForm, TagForm, LangTag, PrivateUse, Grandfathered}
-use Rattle.lt_tag.specs.Spelling.{spell_core, IsCore, IsExtension, IsPrivate}
-use Rattle.lt_tag.specs.Extensions.{transform, IsTransform, unicode}
-use Rattle.lt_tag.specs.Values.{IsCoreValue, IsExtensionValue, IsTagValue, most_parts}
-use Rattle.lt_tag.specs.WellFormed.{spell, IsLangTag, IsTag, IsNotGrandfathered}
+use Rattle.lt_tag.specs.Parts.{CoreParts, ExtensionParts, TForm, TagForm, LangTag}
+use Rattle.lt_tag.specs.Spelling.{spell_core, IsExtension, IsPrivate}
+use Rattle.lt_tag.specs.Extensions.{transform, IsTransform}
+use Rattle.lt_tag.specs.Values.{IsExtensionValue, most_parts}
+use Rattle.lt_tag.specs.WellFormed.{IsLangTag, IsNotGrandfathered}
 use Rattle.lt_tag.proofs.TagLemmas.{not_grandfathered, AllByRecursion-weaker}
 use Rattle.lt_registry.specs.Parts.{EntryParts}
-use Rattle.lt_registry.specs.Validity.{IsProperCore, Distinct, IsProperExtension, IsProperLangTag, HasProperParts, IsProper}
+use Rattle.lt_registry.specs.Validity.{IsProperCore, Distinct, IsProperExtension, IsProper}
 use Rattle.lt_rewrite.specs.CoreSteps.{values_of, CoreStep}
 use Rattle.lt_rewrite.specs.Orderings.{ListStep, by_swap, by_drop}
 use Rattle.lt_rewrite.specs.Extensions.{singleton_cmp, TransformStep, on_source, on_fields, ExtensionStep, in_unicode, in_transform, ExtensionsStep, inside, among}
 use Rattle.lt_rewrite.specs.TagSteps.{TagChange, on_core, on_extensions, on_whole, TagStep}
 use Rattle.lt_rewrite.specs.Laws.{IsProperValue}
 use Rattle.lt_rewrite.proofs.Proper.{step_proper, steps_keep_proper, proper_spells_none}
-use Rattle.lt_rewrite.proofs.PartLists.{all_step, all_middle, all_replaced}
+use Rattle.lt_rewrite.proofs.PartLists.{all_both, all_step, all_middle, all_replaced}
 use Rattle.lt_rewrite.proofs.TransformForms.{if_some_is, is_if_some}
 use Rattle.lt_rewrite.proofs.FoundParts.{one_transform}
 use Rattle.lt_rewrite.proofs.ExtensionShapes.{extension_step_singleton, extensions_step_values, extensions_step_count}
@@ -33,10 +33,6 @@ pub record ProperParts (R : List EntryParts) (c : CoreParts) (es : List Extensio
   pub private_count : length ps ≤ most_parts
   pub extensions : AllByRecursion (IsProperExtension R) es
   pub singletons : Distinct (map (λ (e : ExtensionParts). e.singleton) es)
-
-all_both : {A : Type 0} (P Q S : A → Type 0) → ((a : A) → P a → Q a → S a) → (xs : List A) → AllByRecursion P xs → AllByRecursion Q xs → AllByRecursion S xs
-all_both P Q S f [] h k = tt
-all_both P Q S f (x ∷ xs) h k = (f x h.0 k.0, all_both P Q S f xs h.1 k.1)
 
 pub proper_parts : (R : List EntryParts) (c : CoreParts) (es : List ExtensionParts) (ps : List (List ℕ)) → IsProper R (LangTag c es ps) → ProperParts R c es ps
 proper_parts R c es ps P =

@@ -1,22 +1,20 @@
 -- Repeats of whole tags, and the laws of canonical tags.
-use Rattle.std.proofs.Common.{◌≡◌, ◌≢◌, ℕ, ◌⊎◌, inl, inr, false, List, [], ◌∷◌, ◌++◌, Option, Some, None, refl, sym, ap, ◌∙◌, subst, map, Ordering, Less, Equal, Greater, IfSome, arith}
+use Rattle.std.proofs.Common.{◌≡◌, ℕ, ◌⊎◌, inl, inr, false, List, [], ◌∷◌, Option, Some, None, refl, sym, ap, ◌∙◌, subst, map, Ordering, Less, Equal, Greater, IfSome, arith}
 use Rattle.std.specs.Prelude.{option_map}
 use Rattle.std.specs.List.{AllByRecursion}
 use Rattle.std.proofs.lemmas.Bool.{cases_eq}
 use Rattle.lt_tag.specs.Parts.{CoreParts, ExtensionParts, TForm, TagForm, LangTag, PrivateUse, Grandfathered}
-use Rattle.lt_tag.specs.Extensions.{unicode, transform, IsTransform, spell_t}
+use Rattle.lt_tag.specs.Extensions.{transform, IsTransform}
 use Rattle.lt_tag.proofs.TagLemmas.{AllByRecursion-weaker}
 use Rattle.lt_registry.specs.Parts.{EntryParts}
 use Rattle.lt_registry.specs.Entries.{whole_value}
-use Rattle.lt_registry.specs.Validity.{IsProperCore, Distinct, IsProperExtension, IsProper, HasDistinctSource, RepeatsNoVariant, IsValid}
-use Rattle.lt_rewrite.specs.Rewriting.{Star, done, then}
-use Rattle.lt_rewrite.specs.CoreSteps.{values_of, CoreStep}
-use Rattle.lt_rewrite.specs.Orderings.{ListStep}
+use Rattle.lt_registry.specs.Validity.{Distinct, IsProperExtension, IsProper, HasDistinctSource, RepeatsNoVariant, IsValid}
+use Rattle.lt_rewrite.specs.Rewriting.{Star}
 use Rattle.lt_rewrite.specs.Extensions.{singleton_cmp, TransformStep, on_source, on_fields, ExtensionStep, in_unicode, in_transform, ExtensionsStep, inside, among}
-use Rattle.lt_rewrite.specs.TagSteps.{TagChange, on_core, on_extensions, on_whole, TagStep, CanRepeat, IsCanonical}
+use Rattle.lt_rewrite.specs.TagSteps.{TagChange, on_core, on_extensions, on_whole, TagStep, CanRepeat}
 use Rattle.lt_rewrite.proofs.NormalForms.{star_keeps}
 use Rattle.lt_rewrite.proofs.Sorting.{place_at, place, sorted}
-use Rattle.lt_rewrite.proofs.PartLists.{all_step, all_middle, all_replaced, all_unmapped}
+use Rattle.lt_rewrite.proofs.PartLists.{all_both, all_step, all_middle, all_replaced, all_unmapped}
 use Rattle.lt_rewrite.proofs.TransformForms.{t_form, if_some_is, is_if_some}
 use Rattle.lt_rewrite.proofs.FoundParts.{one_transform}
 use Rattle.lt_rewrite.proofs.Proper.{step_shaped}
@@ -27,9 +25,9 @@ use Rattle.lt_canon.specs.Laws.{RepeatsWithoutForm, CanonicalOrRepeats, RepeatTo
 use Rattle.lt_canon.specs.Answers.{IsCanonicalFormOf}
 use Rattle.lt_canon.proofs.Checks.{core_conditions}
 use Rattle.lt_canon.proofs.CheckedRegistry.{IsGrandfatheredTag, value_plain, tag_plain}
-use Rattle.lt_canon.proofs.EndForms.{star_proper, star_end, star_equivalent, equivalent_end, equivalent_trans, equivalent_sym, rest_is_end, rest_unique}
+use Rattle.lt_canon.proofs.EndForms.{star_proper, star_end, star_equivalent, equivalent_end, equivalent_trans, equivalent_sym, rest_is_end}
 use Rattle.lt_canon.proofs.Distinctness.{Decided, decide_both, decide_each, decide_distinct, decide_source}
-use Rattle.lt_canon.proofs.TagForm.{or_value, core_end, cores_formed, extension_end, extensions_end, value_end, lang_end, tag_end, tag_reached, end_form}
+use Rattle.lt_canon.proofs.TagForm.{or_value, core_end, cores_formed, extension_end, value_end, lang_end, tag_end, tag_reached, end_form}
 use Rattle.lt_canon.proofs.TagRest.{tag_end_rests}
 
 if_some_weaker : {A : Type 0} (P Q : A → Type 0) → ((a : A) → P a → Q a) → (o : Option A) → IfSome o P → IfSome o Q
@@ -49,10 +47,6 @@ unplace P cmp x (y ∷ ys) h = unplace_at P x y ys (place false cmp x ys) (unpla
 unsorted : {A : Type 0} (P : A → Type 0) (cmp : A → A → Ordering) (xs : List A) → AllByRecursion P (sorted false cmp xs) → AllByRecursion P xs
 unsorted P cmp [] h = tt
 unsorted P cmp (x ∷ xs) h = let r = unplace P cmp x (sorted false cmp xs) h in (r.0, unsorted P cmp xs r.1)
-
-all_both : {A : Type 0} (P Q S : A → Type 0) → ((a : A) → P a → Q a → S a) → (xs : List A) → AllByRecursion P xs → AllByRecursion Q xs → AllByRecursion S xs
-all_both P Q S f [] h k = tt
-all_both P Q S f (x ∷ xs) h k = (f x h.0 k.0, all_both P Q S f xs h.1 k.1)
 
 abbrev HasDistinctVariants : CoreParts → Type 0
 HasDistinctVariants c = Distinct c.variants

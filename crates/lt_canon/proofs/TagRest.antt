@@ -3,7 +3,6 @@ use Rattle.std.proofs.Common.{◌≡◌, ◌≢◌, ℕ, List, [], ◌∷◌, Op
 use Rattle.lt_tag.specs.Parts.{CoreParts, ExtensionParts, TagForm, LangTag, PrivateUse, Grandfathered}
 use Rattle.lt_registry.specs.Parts.{EntryParts}
 use Rattle.lt_registry.specs.Entries.{whole_value}
-use Rattle.lt_registry.specs.Validity.{IsProper}
 use Rattle.lt_rewrite.specs.Rewriting.{Rests}
 use Rattle.lt_rewrite.specs.CoreSteps.{values_of, CoreStep}
 use Rattle.lt_rewrite.specs.Extensions.{ExtensionsStep}
@@ -14,10 +13,10 @@ use Rattle.lt_canon.proofs.CheckedRegistry.{value_plain}
 use Rattle.lt_canon.proofs.TagForm.{or_value, core_end, cores_formed, extensions_end, extensions_end_formed, value_end, lang_end, tag_end, value_rests, extensions_step_from, extensions_step_to}
 
 -- a langtag at its end
-record IsLangAtEnd (R : List EntryParts) (d : CoreParts) (es : List ExtensionParts) (ps : List (List ℕ)) : Type 0 where
-  core : Rests (CoreStep (values_of R)) d
-  extensions : Rests (ExtensionsStep R) es
-  whole : es ≡ [] → ps ≡ [] → whole_value R (plain d) ≡ None
+pub record IsLangAtEnd (R : List EntryParts) (d : CoreParts) (es : List ExtensionParts) (ps : List (List ℕ)) : Type 0 where
+  pub core : Rests (CoreStep (values_of R)) d
+  pub extensions : Rests (ExtensionsStep R) es
+  pub whole : es ≡ [] → ps ≡ [] → whole_value R (plain d) ≡ None
 
 lang_core : TagForm → CoreParts → CoreParts
 lang_core (LangTag c es ps) d = c
@@ -29,7 +28,7 @@ lang_extensions (LangTag c es ps) = es
 lang_extensions (PrivateUse ps) = []
 lang_extensions (Grandfathered n) = []
 
-lang_at_end : (R : List EntryParts) (d : CoreParts) (es : List ExtensionParts) (ps : List (List ℕ)) → IsLangAtEnd R d es ps → (u : TagForm) → TagChange R (LangTag d es ps) u → ⊥
+pub lang_at_end : (R : List EntryParts) (d : CoreParts) (es : List ExtensionParts) (ps : List (List ℕ)) → IsLangAtEnd R d es ps → (u : TagForm) → TagChange R (LangTag d es ps) u → ⊥
 unfolding lang_core lang_extensions
 lang_at_end R d es ps E u (on_core c c' fs qs s) =
     let same : c ≡ d = sym (ap (λ t. lang_core t d) s.from) in
@@ -44,20 +43,20 @@ lang_at_end R d es ps E u (on_whole s) =
     let k = s.has in
     cc
 
-abbrev NoChange : List EntryParts → TagForm → Type 0
+abbrev pub NoChange : List EntryParts → TagForm → Type 0
 NoChange R t = (u : TagForm) → TagChange R t u → ⊥
 
-grandfathered_rests : (R : List EntryParts) (n : ℕ) → whole_value R (Grandfathered n) ≡ None → NoChange R (Grandfathered n)
+pub grandfathered_rests : (R : List EntryParts) (n : ℕ) → whole_value R (Grandfathered n) ≡ None → NoChange R (Grandfathered n)
 grandfathered_rests R n h u (on_core c c' es ps s) = let a = s.from in cc
 grandfathered_rests R n h u (on_extensions c es fs ps s) = let a = s.from in cc
 grandfathered_rests R n h u (on_whole s) = let a = s.has in cc
 
-private_rests : (R : List EntryParts) (ps : List (List ℕ)) → NoChange R (PrivateUse ps)
+pub private_rests : (R : List EntryParts) (ps : List (List ℕ)) → NoChange R (PrivateUse ps)
 private_rests R ps u (on_core c c' es qs s) = let a = s.from in cc
 private_rests R ps u (on_extensions c es fs qs s) = let a = s.from in cc
 private_rests R ps u (on_whole s) = s.plain
 
-none_rests : (R : List EntryParts) → Rests (ExtensionsStep R) []
+pub none_rests : (R : List EntryParts) → Rests (ExtensionsStep R) []
 none_rests R fs s = extensions_step_from R [] fs s refl
 
 module _ (R : List EntryParts) (C : IsChecked R) where

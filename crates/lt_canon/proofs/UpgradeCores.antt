@@ -11,9 +11,10 @@ use Rattle.lt_registry.specs.declared.entries.Kind.{Kind}
 use Rattle.lt_registry.specs.declared.entries.Kind.TheVariants as kinds
 use Rattle.lt_registry.specs.declared.entries.EntryName.{EntryName}
 use Rattle.lt_registry.specs.declared.entries.EntryName.TheVariants as names
-use Rattle.lt_rewrite.specs.CoreSteps.{values_of, chase, EndsIn, CoreStep, by_extlang, by_language, by_script, by_region, by_variant, by_turn}
+use Rattle.lt_rewrite.specs.CoreSteps.{values_of, CoreStep, by_extlang, by_language, by_script, by_region, by_variant, by_turn}
 use Rattle.lt_rewrite.specs.Conditions.{next_value, HasNoRangeValue}
-use Rattle.lt_rewrite.proofs.Chains.{IsEnd, same_end}
+use Rattle.lt_rewrite.proofs.Chains.{IsEnd}
+use Rattle.lt_rewrite.proofs.CoreEnds.{end_is, form_of_language}
 use Rattle.lt_rewrite.proofs.CoreForm.{settled, core, form, form_on, step_keeps, none_or, map-append}
 use Rattle.lt_rewrite.proofs.Entries.{IsEntryOf, entry_of, ValuedEntry, valued, valued_has, settles, variant_value_is, language_value_is, turn_is, prefixes_at}
 use Rattle.lt_rewrite.proofs.Forms.{ExtlangEntry, extlang_entry, replacement_at}
@@ -25,12 +26,6 @@ use Rattle.lt_canon.proofs.Checks.{core_conditions}
 use Rattle.lt_canon.proofs.UpgradeValid.{same_extlang}
 
 -- ends
-
-end_is : {f : List ℕ → Option (List ℕ)} {g : List ℕ → List ℕ} → IsEnd f g → (s d : List ℕ) → EndsIn f s d → g s ≡ d
-end_is {f} {g} E s d h =
-    let n : ℕ = (E.reaches s).0 in
-    let a : chase f n s ≡ g s = (E.reaches s).1 in
-    sym a ∙ same_end f n h.0 s (ap f a ∙ E.done s) (ap f h.1 ∙ h.2) ∙ h.1
 
 one_end : {f : List ℕ → Option (List ℕ)} {g : List ℕ → List ℕ} → IsEnd f g → (s t : List ℕ) → SameEnd f s t → g s ≡ g t
 one_end E s t h = end_is E s h.end h.left ∙ sym (end_is E t h.end h.right)
@@ -58,10 +53,7 @@ module _ (A B : List EntryParts) (CA : IsChecked A) (CB : IsChecked B) (U : Upgr
 
   -- cores that differ in languages with one end
   language_same : (a b : List ℕ) (sc re : Option (List ℕ)) (vs : List (List ℕ)) → (settles B (core_conditions B CB.passes)).language a ≡ (settles B (core_conditions B CB.passes)).language b → new_form (core a [] sc re vs) ≡ new_form (core b [] sc re vs)
-  language_same a b sc re vs e =
-      let S = settles B (core_conditions B CB.passes) in
-      let us = map S.variant vs in
-      ap (λ x. let p = settled (values_of B) S (length us) x us in core p.0 [] (option_map S.script sc) (option_map S.region re) p.1) e
+  language_same a b sc re vs e = form_of_language (values_of B) (settles B (core_conditions B CB.passes)) a b sc re vs e
 
   same_turn : (v m : List ℕ) → language_value A v ≡ Some m → (n : ValuedEntry A kinds.Variant v m) → IsSameTurn B n.at v m
   same_turn v m h n =

@@ -11,7 +11,6 @@ use Rattle.lt_registry.specs.Same.{same_kind}
 use Rattle.lt_registry.specs.Entries.{is_named, holds, or_else, one_of, entry, value, prefixes, prefixes_of, lists, is_short, variant_value, language_value, is_registered}
 use Rattle.lt_registry.specs.declared.entries.Kind.{Kind}
 use Rattle.lt_registry.specs.declared.entries.Kind.TheVariants as kinds
-use Rattle.lt_registry.specs.declared.entries.EntryName.{EntryName}
 use Rattle.lt_rewrite.specs.CoreSteps.{values_of, Ends}
 use Rattle.lt_rewrite.specs.Conditions.{next_value, HasEndingChain, HasFittingVariantValue, StandsBesideFinalLanguages, IsFinalLanguage, MeetsCoreConditions}
 use Rattle.lt_rewrite.proofs.Chains.{chase_next, end_at, end_at-is_end}

@@ -23,3 +23,7 @@ pub mod OrderingLaw
 pub mod Same
 pub mod OneStep
 pub mod Repeats
+pub mod CoreEnds
+pub mod NameForms
+pub mod SortedLists
+pub mod OrderingRows
