@@ -1,5 +1,5 @@
 -- A registry upgrades another, or what the check of an upgrade finds, by tests that compute.
-use Rattle.std.proofs.Common.{◌≡◌, ℕ, ◌≤◌, ◌<◌, ◌⊎◌, inl, inr, Bool, true, false, not, ◌&&◌, ◌||◌, List, [], ◌∷◌, Option, Some, None, refl, sym, ap, ◌∙◌, subst, length, All, arith}
+use Rattle.std.proofs.Common.{◌≡◌, ℕ, ◌≤◌, ◌<◌, Bool, true, false, not, ◌&&◌, ◌||◌, List, [], ◌∷◌, Option, Some, None, refl, sym, ap, ◌∙◌, subst, length, All, arith}
 use Rattle.std.specs.Prelude.{nat_le, nat_lt, Contains, slice_index_or}
 use Rattle.std.specs.Bool.{Decides}
 use Rattle.std.specs.List.{list_all}
@@ -19,13 +19,13 @@ use Rattle.lt_rewrite.specs.Rewriting.{Star, done, then}
 use Rattle.lt_rewrite.specs.Conditions.{FitsGrandfathered}
 use Rattle.lt_rewrite.specs.TagSteps.{TagStep, IsReached}
 use Rattle.lt_rewrite.proofs.Proper.{distinct_test}
-use Rattle.lt_canon.specs.Conditions.{plain, OfWhole, IsValidPlain, HasValidWhole, IsChecked}
-use Rattle.lt_canon.specs.Upgrade.{MeetInCanonical, KeepsWhole, MeetsUpgrade, records_of, Upgrades, upgrade_rank_of, IsAtUpgradeFault, IsUpgradeFinding}
+use Rattle.lt_canon.specs.Conditions.{plain, IsValidPlain, HasValidWhole, IsChecked}
+use Rattle.lt_canon.specs.Upgrade.{MeetInCanonical, MeetsUpgrade, records_of, Upgrades, upgrade_rank_of, IsUpgradeFinding}
 use Rattle.lt_canon.specs.declared.conditions.Condition.TheVariants as conditions
 use Rattle.lt_canon.specs.declared.conditions.UpgradeCondition.{UpgradeCondition}
 use Rattle.lt_canon.specs.declared.conditions.UpgradeCondition.TheVariants as upgrades
 use Rattle.lt_canon.proofs.Checks.{core_conditions}
-use Rattle.lt_canon.proofs.CheckedRegistry.{IsGrandfatheredTag, grandfathered_fit, value_plain}
+use Rattle.lt_canon.proofs.CheckedRegistry.{grandfathered_fit, value_plain}
 use Rattle.lt_canon.proofs.CoreTests.{proper_test, Decides-proper, Decides-distinct}
 use Rattle.lt_canon.proofs.Deciding.{Decides-all, Decides-tag}
 use Rattle.lt_canon.proofs.EndForms.{star_proper, star_end, rest_is_end}

@@ -1,5 +1,5 @@
 -- What the check of an upgrade finds between the sample and the sample with one change.
-use Rattle.std.proofs.Common.{◌≡◌, List, [], ◌∷◌, ◌++◌, ◌==◌, not, Some, None, refl, codes}
+use Rattle.std.proofs.Common.{List, [], ◌∷◌, ◌++◌, ◌==◌, not, Some, None, refl, codes}
 use Rattle.std.specs.List.{filter}
 use Rattle.lt_subtag.specs.Bytes.{is_subtag}
 use Rattle.lt_subtag.specs.Shapes.{is_language, is_extlang, is_script, is_region, is_variant}

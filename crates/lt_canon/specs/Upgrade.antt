@@ -3,7 +3,7 @@
 use Rattle.std.specs.Prelude.{ℕ, ◌≡◌, ◌<◌, ◌≤◌, true, false, List, Option, Some, All, Contains, length}
 use Rattle.lt_tag.specs.Parts.{TagForm}
 use Rattle.lt_registry.specs.Parts.{EntryParts}
-use Rattle.lt_registry.specs.Entries.{one_of, tag_of, value_or, entry, value, variant_value, language_value, is_registered, is_short, prefixes, lists, letters_le}
+use Rattle.lt_registry.specs.Entries.{one_of, value_or, entry, value, language_value, is_registered, is_short, prefixes, lists, letters_le}
 use Rattle.lt_registry.specs.declared.entries.Kind.{Kind}
 use Rattle.lt_registry.specs.declared.entries.Kind.TheVariants as kinds
 use Rattle.lt_registry.specs.declared.entries.EntryName.TheVariants as names
