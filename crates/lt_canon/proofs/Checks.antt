@@ -1,8 +1,8 @@
 -- What a checked registry hands on.
-use Rattle.std.proofs.Common.{List, All}
+use Rattle.std.proofs.Common.{List}
 use Rattle.lt_registry.specs.Parts.{EntryParts}
-use Rattle.lt_rewrite.specs.Conditions.{FitsGrandfathered, MeetsCoreConditions}
-use Rattle.lt_canon.specs.Conditions.{Passes, IsChecked}
+use Rattle.lt_rewrite.specs.Conditions.{MeetsCoreConditions}
+use Rattle.lt_canon.specs.Conditions.{Passes}
 use Rattle.lt_canon.specs.declared.conditions.Condition.TheVariants as conditions
 
 -- the first six conditions

@@ -1,9 +1,8 @@
 -- Tests of the conditions that need no normal form.
-use Rattle.std.proofs.Common.{◌≡◌, ◌≢◌, ℕ, zero, suc, ◌+◌, ◌-◌, ◌≤◌, ◌<◌, ◌⊎◌, inl, inr, Bool, true, false, not, ◌&&◌, ◌||◌, ◌==◌, List, [], ◌∷◌, ◌++◌, Option, Some, None, refl, sym, ap, ◌∙◌, subst, length, is_some, is_none, bytes_eq, All, IfSome, arith}
-use Rattle.std.specs.Prelude.{nat_le, nat_lt, slice_index_or}
+use Rattle.std.proofs.Common.{◌≡◌, ◌≢◌, ℕ, zero, suc, ◌+◌, ◌-◌, ◌<◌, ◌⊎◌, Bool, true, false, not, ◌&&◌, ◌||◌, ◌==◌, List, [], ◌∷◌, Option, Some, None, refl, sym, ap, ◌∙◌, subst, length, is_some, is_none, bytes_eq, arith}
+use Rattle.std.specs.Prelude.{nat_lt, slice_index_or}
 use Rattle.std.specs.Bool.{Decides}
 use Rattle.std.specs.List.{AllByRecursion, list_all}
-use Rattle.std.proofs.lemmas.Bool.{and_parts, and_from}
 use Rattle.std.proofs.lemmas.Bool.Decides.{Decides-like, Decides-and, Decides-or, Decides-not, Decides-ltb, Decides-eqb}
 use Rattle.std.proofs.lemmas.Slice.Eq.{bytes_eq-Decides}
 use Rattle.lt_tag.specs.Parts.{CoreParts, TagForm, LangTag, PrivateUse, Grandfathered}
@@ -16,7 +15,7 @@ use Rattle.lt_tag.proofs.TagLemmas.{table_length}
 use Rattle.lt_tag.proofs.PartsLaws.{core_decided}
 use Rattle.lt_registry.specs.Parts.{EntryParts}
 use Rattle.lt_registry.specs.Same.{same_list, same_tag, same_kind}
-use Rattle.lt_registry.specs.Entries.{one_of, value_or, entry, value, is_registered, is_short, language_value, prefixes, lists}
+use Rattle.lt_registry.specs.Entries.{one_of, value_or, value, is_registered, is_short, language_value, prefixes, lists}
 use Rattle.lt_registry.specs.Validity.{ExtlangsFit, IsProperCore, Distinct, IsValidCore}
 use Rattle.lt_registry.specs.declared.entries.Kind.{Kind}
 use Rattle.lt_registry.specs.declared.entries.Kind.TheVariants as kinds
@@ -26,7 +25,7 @@ use Rattle.lt_rewrite.specs.CoreSteps.{chase, Ends, EndsIn}
 use Rattle.lt_rewrite.specs.Conditions.{Clash, HasOwnName, keeps_kind, HasRegisteredValue, next_value, HasEndingChain, IsFinalLanguage, IsFittingExtlang, FitsAsExtlang, HasFittingVariantValue, StandsBesideFinalLanguages, HasLangtagPrefixes, second_entry, FitsGrandfathered, HasNoRangeValue}
 use Rattle.lt_rewrite.proofs.Chains.{same_end}
 use Rattle.lt_rewrite.proofs.ChainLength.{chain_ends_within}
-use Rattle.lt_rewrite.proofs.Proper.{distinct_test, distinct_from_test}
+use Rattle.lt_rewrite.proofs.Proper.{distinct_test}
 use Rattle.lt_canon.proofs.Deciding.{Decides-true, Decides-false, Decides-implies, Decides-none, some_test, Decides-some, Decides-if_some, Decides-all, Decides-each, Decides-contained, Decides-kind, Decides-list, Decides-tag, same_name, Decides-name, same_value, Decides-value, both_test, Decides-both}
 use Rattle.lt_canon.proofs.TagTests.{grandfathered_test, Decides-not_grandfathered, empty_test, Decides-empty}
 
@@ -299,7 +298,7 @@ same_prefixes (p ∷ ps) (q ∷ qs) = same_list p q && same_prefixes ps qs
 same_prefixes [] (q ∷ qs) = false
 same_prefixes (p ∷ ps) [] = false
 
-Decides-prefixes : (ps qs : List (List (List ℕ))) → Decides (same_prefixes ps qs) (ps ≡ qs)
+pub Decides-prefixes : (ps qs : List (List (List ℕ))) → Decides (same_prefixes ps qs) (ps ≡ qs)
 Decides-prefixes [] [] = ((λ h. refl), (λ h. refl))
 Decides-prefixes (p ∷ ps) (q ∷ qs) =
     Decides-like (same_prefixes (p ∷ ps) (q ∷ qs)) (λ h. let a = h.0 in let b = h.1 in λ i. a i ∷ b i) (λ e. let a : p ≡ q = cc in let b : ps ≡ qs = cc in (a, b))

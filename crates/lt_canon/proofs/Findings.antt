@@ -1,5 +1,5 @@
 -- A registry passes, or what the check finds, by tests that compute.
-use Rattle.std.proofs.Common.{◌≡◌, ℕ, zero, suc, ◌≤◌, ◌<◌, Bool, true, false, not, ◌&&◌, ◌||◌, List, [], ◌∷◌, refl, sym, ap, ◌∙◌, subst, length, All, arith}
+use Rattle.std.proofs.Common.{◌≡◌, ℕ, ◌≤◌, ◌<◌, Bool, true, false, not, ◌||◌, List, [], ◌∷◌, refl, subst, length, All, arith}
 use Rattle.std.specs.Prelude.{nat_le, nat_lt, Contains, slice_index_or}
 use Rattle.std.specs.Bool.{Decides}
 use Rattle.std.specs.List.{list_all}
@@ -7,7 +7,7 @@ use Rattle.std.proofs.lemmas.Bool.{leb-true, lt-ltb, ltb-true}
 use Rattle.std.proofs.lemmas.List.Elements.{All-contains}
 use Rattle.lt_registry.specs.Parts.{EntryParts}
 use Rattle.lt_rewrite.specs.Conditions.{MeetsCoreConditions}
-use Rattle.lt_canon.specs.Conditions.{Meets, rank_of, Passes, IsAtFault, IsFinding}
+use Rattle.lt_canon.specs.Conditions.{Meets, rank_of, Passes, IsFinding}
 use Rattle.lt_canon.specs.declared.conditions.Condition.{Condition}
 use Rattle.lt_canon.specs.declared.conditions.Condition.TheVariants as conditions
 use Rattle.lt_canon.proofs.Deciding.{Decides-all}

@@ -22,3 +22,6 @@ pub mod Answering
 pub mod UpgradeTags
 pub mod UpgradeRepeats
 pub mod UpgradeLaw
+pub mod UpgradeTests
+pub mod UpgradeFindings
+pub mod UpgradeRows

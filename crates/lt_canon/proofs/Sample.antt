@@ -1,5 +1,5 @@
 -- A sample registry, and the same with one change.
-use Rattle.std.proofs.Common.{ℕ, List, [], ◌∷◌, ◌++◌, ◌==◌, cond, map, Option, Some, None, codes}
+use Rattle.std.proofs.Common.{ℕ, List, [], ◌∷◌, ◌==◌, cond, map, Option, Some, None, codes}
 use Rattle.lt_tag.specs.Parts.{Grandfathered}
 use Rattle.lt_registry.specs.Parts.{EntryParts}
 use Rattle.lt_registry.specs.declared.entries.Kind.{Kind}

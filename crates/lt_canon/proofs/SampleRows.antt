@@ -1,5 +1,5 @@
 -- The sample passes the check, and what is changed is found.
-use Rattle.std.proofs.Common.{◌≡◌, List, [], ◌∷◌, ◌++◌, Some, None, refl, codes, arith}
+use Rattle.std.proofs.Common.{List, [], ◌∷◌, ◌++◌, Some, None, refl, codes, arith}
 use Rattle.lt_registry.specs.Parts.{EntryParts}
 use Rattle.lt_registry.specs.declared.entries.Kind.TheVariants as kinds
 use Rattle.lt_registry.specs.declared.entries.EntryName.TheVariants as names
@@ -17,7 +17,7 @@ use Rattle.lt_canon.specs.Conditions.{plain, IsChecked, IsFinding}
 use Rattle.lt_canon.specs.declared.conditions.Condition.TheVariants as conditions
 use Rattle.lt_canon.proofs.TagTests.{Decides-registry}
 use Rattle.lt_canon.proofs.WholeTests.{slow_settles}
-use Rattle.lt_canon.proofs.Findings.{early_test, early_decides, meets_test, meets_decides, core_tested, passes_tested, FindingTests, finding_tested}
+use Rattle.lt_canon.proofs.Findings.{early_test, early_decides, meets_test, meets_decides, core_tested, passes_tested, finding_tested}
 use Rattle.lt_canon.proofs.Sample.{entry_at, sample, changed, with_value, with_prefixes}
 
 sample_registry : IsRegistry sample

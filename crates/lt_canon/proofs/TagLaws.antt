@@ -2,7 +2,7 @@
 use Rattle.std.proofs.Common.{List, [], ◌∷◌}
 use Rattle.lt_tag.specs.Parts.{TagForm}
 use Rattle.lt_registry.specs.Parts.{EntryParts}
-use Rattle.lt_rewrite.specs.Rewriting.{done, then}
+use Rattle.lt_rewrite.specs.Rewriting.{then}
 use Rattle.lt_rewrite.specs.TagSteps.{IsReached}
 use Rattle.lt_rewrite.specs.Labels.{IsTrace}
 use Rattle.lt_rewrite.specs.declared.steps.Step.{Step}

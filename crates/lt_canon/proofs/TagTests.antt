@@ -1,16 +1,16 @@
 -- Tests of the forms of tags and of entries.
-use Rattle.std.proofs.Common.{◌≡◌, ◌≢◌, ℕ, zero, suc, ◌+◌, ◌-◌, ◌≤◌, ◌<◌, ◌⊎◌, inl, inr, Bool, true, false, not, ◌&&◌, ◌||◌, ◌==◌, List, [], ◌∷◌, ◌++◌, Option, Some, None, refl, sym, ap, ◌∙◌, subst, length, is_some, is_none, bytes_eq, All, IfSome, arith}
-use Rattle.std.specs.Prelude.{nat_le, nat_lt, slice_index_or, ◌↔◌}
+use Rattle.std.proofs.Common.{◌≡◌, ℕ, zero, suc, ◌+◌, ◌-◌, ◌≤◌, ◌<◌, ◌⊎◌, inl, inr, Bool, true, false, not, ◌&&◌, ◌||◌, ◌==◌, List, [], ◌∷◌, refl, sym, ap, ◌∙◌, length, arith}
+use Rattle.std.specs.Prelude.{nat_le, nat_lt, slice_index_or}
 use Rattle.std.specs.Bool.{Decides}
-use Rattle.std.specs.List.{AllByRecursion, list_all, list_any}
-use Rattle.std.proofs.lemmas.Bool.{and_parts, and_from, or_cases, leb-true, le-leb, ltb-true, lt-ltb}
+use Rattle.std.specs.List.{list_all, list_any}
+use Rattle.std.proofs.lemmas.Bool.{or_cases, leb-true, le-leb}
 use Rattle.std.proofs.lemmas.Bool.Decides.{Decides-like, Decides-and, Decides-or, Decides-not, Decides-ltb, Decides-eqb}
 use Rattle.lt_subtag.specs.Bytes.{is_subtag}
 use Rattle.lt_subtag.specs.Shapes.{is_alphabetic, is_language, is_extlang, is_script, is_region, is_variant, is_singleton}
 use Rattle.lt_tag.specs.Parts.{CoreParts, ExtensionParts, TagForm, LangTag, PrivateUse, Grandfathered}
 use Rattle.lt_tag.specs.Lists.{pieces}
 use Rattle.lt_tag.specs.Grandfathered.{grandfathered_texts, grandfathered_list, IsGrandfathered}
-use Rattle.lt_tag.specs.Spelling.{has_shape, IsCore, is_extension_subtag, IsExtension, IsPrivate}
+use Rattle.lt_tag.specs.Spelling.{has_shape, IsCore, is_extension_subtag, IsExtension}
 use Rattle.lt_tag.specs.Values.{most_parts, FitsCounts, IsTagValue}
 use Rattle.lt_tag.specs.WellFormed.{spell, IsLangTag, IsPrivateUse, IsTag, IsNotGrandfathered}
 use Rattle.lt_tag.proofs.TagLemmas.{table_length}

@@ -1,11 +1,11 @@
 -- An old core step keeps the new core normal form.
-use Rattle.std.proofs.Common.{◌≡◌, ℕ, ◌⊎◌, inl, inr, Bool, true, false, cond, List, [], ◌∷◌, ◌++◌, Option, Some, None, refl, sym, ap, ◌∙◌, subst, map, length}
+use Rattle.std.proofs.Common.{◌≡◌, ℕ, ◌⊎◌, inl, inr, true, cond, List, [], ◌∷◌, ◌++◌, Option, Some, None, refl, sym, ap, ◌∙◌, subst, map}
 use Rattle.std.specs.Option.{option_map}
 use Rattle.std.specs.List.{AllByRecursion}
 use Rattle.std.proofs.lemmas.Slice.Eq.{bytes_eq-Decides}
 use Rattle.lt_tag.specs.Parts.{CoreParts}
 use Rattle.lt_registry.specs.Parts.{EntryParts}
-use Rattle.lt_registry.specs.Entries.{is_named, holds, one_of, entry, value, value_or, prefixes, lists, is_short, variant_value, language_value, replacement, is_registered}
+use Rattle.lt_registry.specs.Entries.{is_named, holds, one_of, value, value_or, prefixes, lists, language_value, replacement, is_registered}
 use Rattle.lt_registry.specs.Validity.{ExtlangsFit, IsProperCore}
 use Rattle.lt_registry.specs.declared.entries.Kind.{Kind}
 use Rattle.lt_registry.specs.declared.entries.Kind.TheVariants as kinds
@@ -15,8 +15,8 @@ use Rattle.lt_rewrite.specs.CoreSteps.{values_of, CoreStep, by_extlang, by_langu
 use Rattle.lt_rewrite.specs.Conditions.{next_value, HasNoRangeValue}
 use Rattle.lt_rewrite.proofs.Chains.{IsEnd}
 use Rattle.lt_rewrite.proofs.CoreEnds.{end_is, form_of_language}
-use Rattle.lt_rewrite.proofs.CoreForm.{settled, core, form, form_on, step_keeps, none_or, map-append}
-use Rattle.lt_rewrite.proofs.Entries.{IsEntryOf, entry_of, ValuedEntry, valued, valued_has, settles, variant_value_is, language_value_is, turn_is, prefixes_at}
+use Rattle.lt_rewrite.proofs.CoreForm.{core, form, form_on, step_keeps, none_or, map-append}
+use Rattle.lt_rewrite.proofs.Entries.{entry_of, ValuedEntry, valued, valued_has, settles, variant_value_is, language_value_is, turn_is, prefixes_at}
 use Rattle.lt_rewrite.proofs.Forms.{ExtlangEntry, extlang_entry, replacement_at}
 use Rattle.lt_canon.specs.Conditions.{IsChecked}
 use Rattle.lt_canon.specs.Upgrade.{SameEnd, KeepsKind, KeepsEnds, IsSameExtlang, IsSameTurn, KeepsTurn, HadTurn, Upgrades}

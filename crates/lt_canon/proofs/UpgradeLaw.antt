@@ -1,6 +1,6 @@
 -- After an upgrade valid tags stay valid, equivalent tags equivalent, and an old canonical form comes to what its tag
 -- comes to.
-use Rattle.std.proofs.Common.{◌≡◌, ℕ, List, sym, ◌∙◌, subst}
+use Rattle.std.proofs.Common.{◌≡◌, List, sym, ◌∙◌, subst}
 use Rattle.lt_tag.specs.Parts.{TagForm}
 use Rattle.lt_registry.specs.Parts.{EntryParts}
 use Rattle.lt_registry.specs.Validity.{IsValid, RepeatsNoVariant}

@@ -5,9 +5,9 @@ use Rattle.lt_tag.specs.Parts.{CoreParts, ExtensionParts, TForm, TagForm, LangTa
 use Rattle.lt_registry.specs.Parts.{EntryParts}
 use Rattle.lt_registry.specs.Entries.{whole_value}
 use Rattle.lt_registry.specs.Faults.{HasSource}
-use Rattle.lt_registry.specs.Validity.{IsProperCore, IsProperExtension, HasProperParts, IsProperLangTag, RepeatsNoVariant, Distinct}
+use Rattle.lt_registry.specs.Validity.{IsProperExtension, HasProperParts, IsProperLangTag, RepeatsNoVariant, Distinct}
 use Rattle.lt_rewrite.specs.Rewriting.{Star, done, then}
-use Rattle.lt_rewrite.specs.CoreSteps.{values_of, CoreStep, IsCoreNormalForm}
+use Rattle.lt_rewrite.specs.CoreSteps.{values_of, IsCoreNormalForm}
 use Rattle.lt_rewrite.specs.Orderings.{ListStep, by_swap, by_drop}
 use Rattle.lt_rewrite.specs.Extensions.{singleton_cmp, TransformStep, on_source, on_fields, ExtensionStep, in_unicode, in_transform, ExtensionsStep, inside, among}
 use Rattle.lt_rewrite.specs.TagSteps.{IsPlain, TagChange, on_core, on_extensions, on_whole, TagStep}
@@ -15,7 +15,7 @@ use Rattle.lt_rewrite.proofs.NormalForms.{form_is_normal, normal_is_form}
 use Rattle.lt_rewrite.proofs.PartLists.{all_middle, empty_middle}
 use Rattle.lt_rewrite.proofs.FoundParts.{one_transform}
 use Rattle.lt_canon.specs.Conditions.{plain, IsValidPlain, IsChecked}
-use Rattle.lt_canon.specs.Answers.{IsSecondOccurrence, IsRepeatOfCore, IsRepeatOfSource, HasDistinctForm, IsNamedRepeat}
+use Rattle.lt_canon.specs.Answers.{IsRepeatOfCore, IsRepeatOfSource, HasDistinctForm, IsNamedRepeat}
 use Rattle.lt_canon.specs.Upgrade.{MeetInCanonical, KeepsWhole, Upgrades}
 use Rattle.lt_canon.specs.declared.conditions.UpgradeCondition.TheVariants as upgrades
 use Rattle.lt_canon.proofs.CheckedRegistry.{valued_whole, whole_has, IsGrandfatheredTag, tag_plain}

@@ -1,5 +1,5 @@
 -- The steps of an old registry keep the end form of a newer one.
-use Rattle.std.proofs.Common.{◌≡◌, ℕ, false, List, [], ◌∷◌, ◌++◌, Option, Some, None, refl, sym, ap, ◌∙◌, subst, map, IfSome}
+use Rattle.std.proofs.Common.{◌≡◌, false, List, ◌∷◌, ◌++◌, Some, refl, sym, ap, ◌∙◌, subst, map, IfSome}
 use Rattle.std.specs.Prelude.{option_map}
 use Rattle.std.specs.List.{AllByRecursion}
 use Rattle.lt_tag.specs.Parts.{CoreParts, ExtensionParts, TForm, TagForm, LangTag}
@@ -7,7 +7,6 @@ use Rattle.lt_tag.specs.Extensions.{spell_t}
 use Rattle.lt_registry.specs.Parts.{EntryParts}
 use Rattle.lt_registry.specs.Validity.{IsProperCore, IsProperExtension, HasProperParts, IsProperLangTag}
 use Rattle.lt_rewrite.specs.Rewriting.{Equivalent, same, forth, back}
-use Rattle.lt_rewrite.specs.CoreSteps.{values_of, CoreStep}
 use Rattle.lt_rewrite.specs.Extensions.{singleton_cmp, separator_cmp, TransformStep, on_source, on_fields, InTransform, ExtensionStep, in_unicode, in_transform, ExtensionsStep, inside, among}
 use Rattle.lt_rewrite.specs.TagSteps.{TagChange, on_core, on_extensions, on_whole, TagStep}
 use Rattle.lt_rewrite.proofs.CoreForm.{map-append}

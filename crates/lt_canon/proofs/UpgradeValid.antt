@@ -1,7 +1,6 @@
 -- What the old registry registers the new one does, so proper tags stay proper.
-use Rattle.std.proofs.Common.{◌≡◌, ℕ, zero, suc, ◌<◌, ◌==◌, ◌⊎◌, inl, inr, Bool, true, false, cond, ◌&&◌, List, [], ◌∷◌, Option, Some, None, refl, sym, ap, ◌∙◌, subst, length, is_some, find, All, IfSome, arith}
+use Rattle.std.proofs.Common.{◌≡◌, ℕ, zero, suc, ◌<◌, ◌==◌, ◌⊎◌, inl, inr, Bool, true, false, cond, ◌&&◌, List, [], ◌∷◌, Option, Some, None, refl, sym, ap, ◌∙◌, length, is_some, find, IfSome, arith}
 use Rattle.std.specs.Prelude.{nat_lt, Contains}
-use Rattle.std.specs.List.{AllByRecursion}
 use Rattle.std.proofs.lemmas.Bool.{and_parts, and_from, eqb-true, eq-eqb, ne_eqb, lt-ltb, ltb-true}
 use Rattle.std.proofs.lemmas.Slice.Eq.{bytes_eq-Decides}
 use Rattle.lt_subtag.specs.Shapes.{is_alphabetic}
@@ -9,7 +8,7 @@ use Rattle.lt_tag.specs.Parts.{CoreParts, ExtensionParts, TagForm, LangTag, Priv
 use Rattle.lt_tag.proofs.TagLemmas.{AllByRecursion-weaker}
 use Rattle.lt_registry.specs.Parts.{EntryParts}
 use Rattle.lt_registry.specs.Same.{same_kind}
-use Rattle.lt_registry.specs.Entries.{is_named, holds, letters_le, or_else, entry, prefixes, lists, is_registered}
+use Rattle.lt_registry.specs.Entries.{is_named, holds, letters_le, or_else, lists, is_registered}
 use Rattle.lt_registry.specs.Validity.{ExtlangsFit, IsProperCore, IsProperExtension, HasProperParts, IsProper, IsValid}
 use Rattle.lt_registry.specs.declared.entries.Kind.{Kind}
 use Rattle.lt_registry.specs.declared.entries.Kind.TheVariants as kinds

@@ -1,8 +1,7 @@
 -- Tests of the conditions on whole records.
-use Rattle.std.proofs.Common.{◌≡◌, ◌≢◌, ℕ, ◌≤◌, ◌⊎◌, inl, inr, Bool, true, false, not, ◌&&◌, ◌||◌, List, [], ◌∷◌, Option, Some, None, refl, sym, ap, ◌∙◌, subst, length, is_none, All}
-use Rattle.std.specs.Prelude.{nat_le}
+use Rattle.std.proofs.Common.{◌≡◌, ◌≢◌, ◌⊎◌, Bool, true, false, not, ◌&&◌, ◌||◌, List, [], ◌∷◌, Option, Some, None, refl, sym, ap, ◌∙◌, subst, length, is_none, All}
 use Rattle.std.specs.Bool.{Decides}
-use Rattle.std.specs.List.{AllByRecursion, list_all}
+use Rattle.std.specs.List.{list_all}
 use Rattle.std.proofs.lemmas.Bool.Decides.{Decides-like, Decides-and, Decides-or, Decides-not}
 use Rattle.lt_tag.specs.Parts.{CoreParts, TagForm, LangTag, PrivateUse, Grandfathered}
 use Rattle.lt_registry.specs.Parts.{EntryParts}
@@ -21,7 +20,7 @@ use Rattle.lt_rewrite.proofs.Entries.{chains_end, settles}
 use Rattle.lt_rewrite.proofs.Proper.{distinct_test}
 use Rattle.lt_rewrite.proofs.Same.{same_core-Decides}
 use Rattle.lt_canon.specs.Conditions.{plain, OfWhole, IsValidPlain, HasValidWhole, HasRestingWhole, HasAgreeingWhole}
-use Rattle.lt_canon.proofs.Deciding.{Decides-true, Decides-implies, Decides-none, Decides-all, Decides-kind, Decides-name, Decides-tag}
+use Rattle.lt_canon.proofs.Deciding.{Decides-implies, Decides-none, Decides-all, Decides-kind, Decides-tag}
 use Rattle.lt_canon.proofs.TagTests.{tag_value_test, Decides-tag_value}
 use Rattle.lt_canon.proofs.CoreTests.{proper_test, Decides-proper, Decides-distinct}
 
@@ -91,7 +90,7 @@ module _ (R : List EntryParts) (C : MeetsCoreConditions R) where
   abbrev pub end_of : CoreParts → CoreParts
   end_of = form (values_of R) (slow_settles R C)
 
-  is_end : (c d : CoreParts) → IsCoreNormalForm (values_of R) c d → end_of c ≡ d
+  pub is_end : (c d : CoreParts) → IsCoreNormalForm (values_of R) c d → end_of c ≡ d
   is_end c d n = normal_is_form (values_of R) (slow_settles R C) c d n
 
   end_is : (c : CoreParts) → IsCoreNormalForm (values_of R) c (end_of c)
