@@ -4,3 +4,4 @@ pub mod Entries
 pub mod Validity
 pub mod Faults
 pub mod Names
+pub mod Checking

@@ -65,3 +65,14 @@ pub enum ValidRefusal {
     #[error("OutOfMemory")]
     OutOfMemory,
 }
+
+impl From<ValidFault> for ValidRefusal {
+    ghost use Rattle.std.specs.Prelude.{◌≡◌};
+    ghost use Rattle.lt_registry.specs.declared.faults.ValidRefusal.TheVariants as refusals;
+
+    ghost from_gives = { λ fault refusal. refusal ≡ refusals.Fault fault };
+
+    fn from(fault: ValidFault) -> ValidRefusal {
+        ValidRefusal::Fault(fault)
+    }
+}

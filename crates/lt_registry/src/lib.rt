@@ -4,8 +4,15 @@
 
 mod entries;
 mod faults;
+mod list_table;
 mod lookup;
+mod registry;
+mod same;
+mod validity;
 
 pub use entries::{Entry, EntryName, EntryValue, Kind, Prefix};
 pub use faults::{ValidFault, ValidFaultKind, ValidRefusal};
+pub use list_table::ListTable;
 pub use lookup::Lookup;
+pub use registry::Registry;
+pub use validity::{proper, validate};
