@@ -1,5 +1,5 @@
 -- What reading one piece of a text gives, and how a subtag is shown.
-use Rattle.std.specs.Prelude.{ℕ, codes, ◌&&◌, if◌then◌else◌, List, length, nat_le, ◌==◌, Result, Ok, Err}
+use Rattle.std.specs.Prelude.{ℕ, codes, if◌then◌else◌, List, length, nat_le, ◌==◌, Result, Ok, Err}
 use Rattle.std.specs.List.{list_all}
 use Rattle.std.specs.Char.{is_ascii_alphanumeric}
 use Rattle.lt_subtag.specs.Bytes.{folded, upper, title}

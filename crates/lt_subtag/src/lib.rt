@@ -1,9 +1,7 @@
 //! Subtags of BCP 47 language tags: 1 to 8 letters or digits, whose case doesn't matter.
 #![tactic(auto)]
 
-ghost use Rattle.std.specs.Prelude.{◌≡◌, ◌≤◌, ◌<◌, [], ◌∷◌, ◌++◌, ◌↔◌, IsTrue, true, length, take, drop};
-ghost use Rattle.std.specs.Ordering.{nat_cmp};
-ghost use Rattle.std.specs.Cmp.Lexicographic.{slice_cmp};
+ghost use Rattle.std.specs.Prelude.{◌≡◌, ◌≤◌, ◌<◌, [], ◌∷◌, ◌++◌, true, length, take, drop};
 ghost use Rattle.std.specs.List.{list_all};
 ghost use Rattle.std.specs.Char.{is_ascii_alphanumeric};
 ghost use Rattle.lt_subtag.specs.Bytes.{is_subtag, folded, upper};
@@ -11,8 +9,9 @@ ghost use Rattle.lt_subtag.specs.Shapes as shapes;
 ghost use Rattle.lt_subtag.specs.Reading.{subtag_of};
 ghost use Rattle.lt_subtag.specs.Reading as reading;
 
+pub mod laws;
+
 use arrayvec::ArrayVec;
-use std::cmp::Ordering;
 use std::marker::Model;
 
 /// Why a piece of a text is no subtag.
@@ -39,15 +38,17 @@ impl SubtagFault {
     }
 }
 
-/// How the letters of a subtag are shown.
+/// How the letters of a subtag are shown (RFC 5646, 2.1.1).
 #[derive(Clone, Copy, Debug, PartialEq, Eq)]
 pub enum Case {
     Lower,
     Upper,
+    /// The first letter alone in upper case.
     Title,
 }
 
-/// A subtag. A contract sees its lower-case bytes.
+/// A subtag: 1 to 8 letters or digits (RFC 5646, 2.1). Letter case never matters: a contract sees
+/// the lower-case bytes, and equality, order and hash are theirs.
 #[derive(Debug, Drop, PartialEq, Eq, PartialOrd, Ord, Hash)]
 pub struct Subtag {
     letters: ArrayVec<u8, 8>,
@@ -79,7 +80,8 @@ impl Default for Subtag {
 }
 
 impl Subtag {
-    /// The subtag that the bytes spell.
+    /// The subtag that the bytes spell, whatever the case of their letters. Refused as `Empty`, else
+    /// as `BadByte` where one is no ASCII letter or digit, else as `TooLong` above 8 bytes.
     #[tactic(auto, using(crate::proofs::BytesLemmas::piece_folds))]
     pub fn read(bytes: &[u8]) -> Result<Subtag, SubtagFault>
         ensures { result ≡ subtag_of bytes.now }
@@ -106,7 +108,7 @@ impl Subtag {
         ensures some { 0 < length self.now }
         ensures few { length self.now ≤ 8 }
     {
-        self.letters.as_slice()
+        &self.letters[..]
     }
 
     /// An equal subtag.
@@ -133,7 +135,7 @@ impl Subtag {
         }
     }
 
-    /// 2 to 8 letters.
+    /// Whether it has the form of a language: 2 to 8 letters (RFC 5646, 2.2.1).
     #[tactic(auto, unfolding(crate::specs::Shapes::is_language))]
     pub fn is_language(&self) -> bool
         ensures { result ≡ shapes.is_language self.now }
@@ -142,7 +144,7 @@ impl Subtag {
         is_alphabetic(self.letters.as_slice()) && 2 <= length && length <= 8
     }
 
-    /// 3 letters.
+    /// Whether it has the form of an extlang: 3 letters (RFC 5646, 2.2.2).
     #[tactic(auto, unfolding(crate::specs::Shapes::is_extlang))]
     pub fn is_extlang(&self) -> bool
         ensures { result ≡ shapes.is_extlang self.now }
@@ -150,7 +152,7 @@ impl Subtag {
         is_alphabetic(self.letters.as_slice()) && self.letters.len() == 3
     }
 
-    /// 4 letters.
+    /// Whether it has the form of a script: 4 letters (RFC 5646, 2.2.3).
     #[tactic(auto, unfolding(crate::specs::Shapes::is_script))]
     pub fn is_script(&self) -> bool
         ensures { result ≡ shapes.is_script self.now }
@@ -158,7 +160,7 @@ impl Subtag {
         is_alphabetic(self.letters.as_slice()) && self.letters.len() == 4
     }
 
-    /// 2 letters or 3 digits.
+    /// Whether it has the form of a region: 2 letters or 3 digits (RFC 5646, 2.2.4).
     #[tactic(auto, unfolding(crate::specs::Shapes::is_region))]
     pub fn is_region(&self) -> bool
         ensures { result ≡ shapes.is_region self.now }
@@ -167,7 +169,8 @@ impl Subtag {
         is_alphabetic(bytes) && bytes.len() == 2 || is_numeric(bytes) && bytes.len() == 3
     }
 
-    /// 5 to 8 letters or digits, or a digit and 3 letters or digits.
+    /// Whether it has the form of a variant: 5 to 8 letters or digits, or a digit and 3 letters or
+    /// digits (RFC 5646, 2.2.5).
     #[tactic(auto, unfolding(crate::specs::Shapes::is_variant))]
     pub fn is_variant(&self) -> bool
         ensures { result ≡ shapes.is_variant self.now }
@@ -176,7 +179,7 @@ impl Subtag {
         5 <= bytes.len() || bytes.len() == 4 && bytes[0].is_ascii_digit()
     }
 
-    /// One digit, or one letter other than `x`.
+    /// Whether it is a singleton: one digit, or one letter other than `x` (RFC 5646, 2.2.6).
     #[tactic(auto, unfolding(crate::specs::Shapes::is_single, crate::specs::Shapes::is_singleton))]
     pub fn is_singleton(&self) -> bool
         ensures { result ≡ shapes.is_singleton self.now }
@@ -187,7 +190,7 @@ impl Subtag {
         }
     }
 
-    /// Two letters or digits.
+    /// Whether it has the form of a key of a `u` extension: two letters or digits (RFC 6067, 2.1).
     #[tactic(auto, unfolding(crate::specs::Shapes::is_key))]
     pub fn is_key(&self) -> bool
         ensures { result ≡ shapes.is_key self.now }
@@ -195,7 +198,7 @@ impl Subtag {
         self.letters.len() == 2
     }
 
-    /// A letter and a digit.
+    /// Whether it has the form of a separator of a `t` extension: a letter and a digit (RFC 6497, 2.2).
     #[tactic(auto, unfolding(crate::specs::Shapes::is_separator))]
     pub fn is_separator(&self) -> bool
         ensures { result ≡ shapes.is_separator self.now }
@@ -256,20 +259,6 @@ fn capitalised(bytes: &[u8], capitals: usize) -> ArrayVec<u8, 8>
     shown
 }
 
-/// The order is that of the lower-case bytes.
-pub fn order(left: &Subtag, right: &Subtag) -> Ordering
-    ensures { result ≡ slice_cmp nat_cmp left.now right.now }
-{
-    left.cmp(right)
-}
-
-/// Two subtags are equal exactly if their lower-case bytes are.
-pub fn is_same(left: &Subtag, right: &Subtag) -> bool
-    ensures { IsTrue result ↔ (left.now ≡ right.now) }
-{
-    left == right
-}
-
 #[cfg(test)]
 mod tests {
     use super::*;
@@ -300,6 +289,26 @@ mod tests {
         let again = Subtag::read(b"HANS").map_err(|_| "hans")?;
         assert!(rt; hans == again && hash_of(&hans) == hash_of(&again) && hans == hans.copy());
         assert!(rt; hans.is_script() && hans.is_language() && !hans.is_variant());
+        assert_eq!(rt; SubtagFault::BadByte.name(), "BadByte");
+        Ok(())
+    }
+
+    #[test]
+    fn forms(rt: HostRuntime) -> Result<(), Fail> {
+        let yue = Subtag::read(b"yue").map_err(|_| "yue")?;
+        assert!(rt; yue.is_extlang() && yue.is_language() && !yue.is_region());
+        let area = Subtag::read(b"419").map_err(|_| "419")?;
+        assert!(rt; area.is_region() && !area.is_extlang() && !area.is_variant());
+        let year = Subtag::read(b"1994").map_err(|_| "1994")?;
+        assert!(rt; year.is_variant() && !year.is_script() && !year.is_key());
+        let field = Subtag::read(b"M0").map_err(|_| "m0")?;
+        assert!(rt; field.is_key() && field.is_separator() && !field.is_singleton());
+        let digits = Subtag::read(b"11").map_err(|_| "11")?;
+        assert!(rt; digits.is_key() && !digits.is_separator() && !digits.is_region());
+        let x = Subtag::read(b"X").map_err(|_| "x")?;
+        let u = Subtag::read(b"u").map_err(|_| "u")?;
+        assert!(rt; u.is_singleton() && !x.is_singleton());
+        assert!(rt; laws::order(&u, &x) == std::cmp::Ordering::Less && !laws::equality(&u, &x));
         Ok(())
     }
 }

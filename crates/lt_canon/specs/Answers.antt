@@ -1,0 +1,66 @@
+-- What is owed for a tag that is to be made canonical.
+use Rattle.std.specs.Prelude.{ℕ, ◌≡◌, ◌⊎◌, List, ◌∷◌, ◌++◌, Result, Ok, Err}
+use Rattle.lt_tag.specs.Parts.{CoreParts, ExtensionParts, TagForm, LangTag, PrivateUse, Grandfathered}
+use Rattle.lt_registry.specs.Parts.{EntryParts}
+use Rattle.lt_registry.specs.Validity.{IsValid, Distinct}
+use Rattle.lt_registry.specs.Faults.{HasSource, IsFirstFault}
+use Rattle.lt_rewrite.specs.CoreSteps.{values_of, IsCoreNormalForm}
+use Rattle.lt_rewrite.specs.TagSteps.{IsReached, IsCanonical, CanRepeat}
+use Rattle.lt_canon.specs.declared.refusals.Refusal.{Refusal}
+use Rattle.lt_canon.specs.declared.refusals.Refusal.TheVariants as refusals
+
+-- a variant that stands a second time, leftmost
+pub record IsSecondOccurrence (variants : List (List ℕ)) (v : List ℕ) : Type 0 where
+  pub before : List (List ℕ)
+  pub between : List (List ℕ)
+  pub after : List (List ℕ)
+  pub there : variants ≡ before ++ v ∷ (between ++ v ∷ after)
+  pub first : Distinct (before ++ v ∷ between)
+
+-- in the core normal form of the core
+pub record IsRepeatOfCore (R : List EntryParts) (c : CoreParts) (v : List ℕ) : Type 0 where
+  pub form : CoreParts
+  pub normal : IsCoreNormalForm (values_of R) c form
+  pub second : IsSecondOccurrence form.variants v
+
+-- in that of the source of an extension
+pub record IsRepeatOfSource (R : List EntryParts) (es : List ExtensionParts) (v : List ℕ) : Type 0 where
+  pub before : List ExtensionParts
+  pub extension : ExtensionParts
+  pub after : List ExtensionParts
+  pub there : es ≡ before ++ extension ∷ after
+  pub source : CoreParts
+  pub has_source : HasSource extension source
+  pub repeat : IsRepeatOfCore R source v
+
+-- the core normal form of the core repeats no variant
+pub record HasDistinctForm (R : List EntryParts) (c : CoreParts) : Type 0 where
+  pub form : CoreParts
+  pub normal : IsCoreNormalForm (values_of R) c form
+  pub distinct : Distinct form.variants
+
+-- the variant that a refusal names: of the core, or, where that repeats none, of the source
+abbrev pub IsNamedRepeat : List EntryParts → TagForm → List ℕ → Type 0
+IsNamedRepeat R (LangTag c es ps) v = IsRepeatOfCore R c v ⊎ (HasDistinctForm R c × IsRepeatOfSource R es v)
+IsNamedRepeat R (PrivateUse ps) v = ⊥
+IsNamedRepeat R (Grandfathered n) v = ⊥
+
+-- the canonical tag that a valid tag reaches where steps can repeat no variant
+pub record IsCanonicalFormOf (R : List EntryParts) (t c : TagForm) : Type 0 where
+  pub valid : IsValid R t
+  pub canonical : IsCanonical R c
+  pub reached : IsReached R t c
+  pub repeats_none : CanRepeat R t → ⊥
+
+-- steps can repeat a variant of a valid tag, and this one is named
+pub record IsRepeatOf (R : List EntryParts) (t : TagForm) (v : List ℕ) : Type 0 where
+  pub valid : IsValid R t
+  pub repeats : CanRepeat R t
+  pub named : IsNamedRepeat R t v
+
+-- the canonical form, or the refusal that is owed; want of memory aside
+abbrev pub IsCanonicalAnswer : List EntryParts → TagForm → Result TagForm Refusal → Type 0
+IsCanonicalAnswer R t (Ok c) = IsCanonicalFormOf R t c
+IsCanonicalAnswer R t (Err (refusals.Invalid fault)) = IsFirstFault R t fault.kind fault.place
+IsCanonicalAnswer R t (Err (refusals.ReplacementRepeats v)) = IsRepeatOf R t v
+IsCanonicalAnswer R t (Err refusals.OutOfMemory) = Unit {0}

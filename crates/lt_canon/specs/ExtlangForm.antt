@@ -1,0 +1,24 @@
+-- The extlang form of a canonical tag (RFC 5646, 4.5).
+use Rattle.std.specs.Prelude.{ℕ, if◌then◌else◌, List, [], ◌∷◌, Option, Some, None}
+use Rattle.lt_tag.specs.Parts.{CoreParts, TagForm, LangTag, PrivateUse, Grandfathered}
+use Rattle.lt_registry.specs.Parts.{EntryParts}
+use Rattle.lt_registry.specs.Entries.{prefixes, is_short}
+use Rattle.lt_registry.specs.declared.entries.Kind.TheVariants as kinds
+
+-- the one Prefix of a language as an extlang, if an extlang may stand after it
+abbrev pub prefix_of : List (List (List ℕ)) → Option (List ℕ)
+prefix_of ((p ∷ []) ∷ rest) = if is_short p then Some p else None
+prefix_of _ = None
+
+-- the Prefix becomes the language, and the old language the extlang
+abbrev pub behind : Option (List ℕ) → CoreParts → CoreParts
+behind None c = c
+behind (Some p) c = record c { language = p; extlangs = c.language ∷ [] }
+
+abbrev pub extlang_core : List EntryParts → CoreParts → CoreParts
+extlang_core R c = behind (prefix_of (prefixes R kinds.Extlang c.language)) c
+
+abbrev pub extlang_form : List EntryParts → TagForm → TagForm
+extlang_form R (LangTag c es ps) = LangTag (extlang_core R c) es ps
+extlang_form R (PrivateUse ps) = PrivateUse ps
+extlang_form R (Grandfathered n) = Grandfathered n

@@ -1,0 +1,89 @@
+//! The conditions that a registry meets, and those that a newer registry meets beside an older one.
+ghost use Rattle.std.specs.Prelude.{◌≡◌};
+ghost use Rattle.lt_canon.specs.Codes.{code_of, upgrade_code_of};
+
+/// The conditions on a registry, in the order in which they are judged.
+#[derive(Clone, Copy, Debug, PartialEq, Eq)]
+pub enum Condition {
+    /// No two records of one kind have one name, and no two whole records one tag.
+    OwnName,
+    /// The value of a language, script or region is registered under its kind.
+    RegisteredValue,
+    /// The chain of values from each value comes to an end.
+    EndingChain,
+    /// An extlang is one subtag with one Prefix, a language without a value; itself and its
+    /// replacement are languages whose chains end alike.
+    FittingExtlang,
+    /// The value of a variant is a language of 2 or 3 letters, or a variant that turns into none.
+    FittingVariantValue,
+    /// A variant with a language value has Prefixes, each a language without a value.
+    FinalPrefixes,
+    /// Each Prefix of a variant is a langtag without extensions and private use.
+    LangtagPrefixes,
+    /// A grandfathered record names one of the 26 tags, and no regular one is valid as a langtag.
+    FittingGrandfathered,
+    /// The value of a whole record, and a redundant tag that has one, are valid langtags without
+    /// extensions and private use.
+    ValidWhole,
+    /// The core normal form of the value of a whole record repeats no variant and has no value.
+    RestingWhole,
+    /// A redundant tag from which core steps lead comes to the same end as its value.
+    AgreeingWhole,
+    /// A range has no value.
+    NoRangeValue,
+}
+
+impl Condition {
+    /// The condition's code, from `C1` to `C12` in the order in which they are judged.
+    pub fn code(self) -> &'static str
+        ensures { result.now ≡ code_of self }
+    {
+        match self {
+            Condition::OwnName => "C1",
+            Condition::RegisteredValue => "C2",
+            Condition::EndingChain => "C3",
+            Condition::FittingExtlang => "C4",
+            Condition::FittingVariantValue => "C5",
+            Condition::FinalPrefixes => "C6",
+            Condition::LangtagPrefixes => "C7",
+            Condition::FittingGrandfathered => "C8",
+            Condition::ValidWhole => "C9",
+            Condition::RestingWhole => "C10",
+            Condition::AgreeingWhole => "C11",
+            Condition::NoRangeValue => "C12",
+        }
+    }
+}
+
+/// The conditions on a newer registry beside an older one, in the order in which they are judged.
+#[derive(Clone, Copy, Debug, PartialEq, Eq)]
+pub enum UpgradeCondition {
+    /// What the old registry names is registered in the new one.
+    StaysRegistered,
+    /// A subtag and its old value come to one end in the new registry.
+    SameEnds,
+    /// An extlang keeps its Prefix and the end of its replacement.
+    SameExtlang,
+    /// A variant with a language value keeps one of the same end, and its Prefixes.
+    SameTurn,
+    /// No variant that the old registry has without a language value gets one.
+    NoNewTurn,
+    /// An old whole tag and its old value reach one canonical tag in the new registry.
+    SameWhole,
+}
+
+impl UpgradeCondition {
+    /// The condition's code, from `U1` to `U6` in the order in which they are judged.
+    pub fn code(self) -> &'static str
+        ensures { result.now ≡ upgrade_code_of self }
+    {
+        match self {
+            UpgradeCondition::StaysRegistered => "U1",
+            UpgradeCondition::SameEnds => "U2",
+            UpgradeCondition::SameExtlang => "U3",
+            UpgradeCondition::SameTurn => "U4",
+            UpgradeCondition::NoNewTurn => "U5",
+            UpgradeCondition::SameWhole => "U6",
+        }
+    }
+}

@@ -1,0 +1,8 @@
+//! The check of a registry, canonical tags and their laws (RFC 5646, 4.5).
+#![tactic(auto)]
+
+mod conditions;
+mod refusals;
+
+pub use conditions::{Condition, UpgradeCondition};
+pub use refusals::Refusal;

@@ -1,0 +1,88 @@
+-- The steps on extensions (RFC 5646, 4.5; RFC 6067; RFC 6497).
+use Rattle.std.specs.Prelude.{ℕ, ◌≡◌, true, false, List, [], ◌∷◌, ◌++◌, Some, codes}
+use Rattle.std.proofs.Common.{Ordering}
+use Rattle.std.specs.Ordering.{nat_cmp}
+use Rattle.std.specs.Cmp.Lexicographic.{slice_cmp}
+use Rattle.lt_tag.specs.Parts.{CoreParts, ExtensionParts, KeywordParts, UForm, FieldParts, TForm}
+use Rattle.lt_tag.specs.Extensions.{spell_u, IsU}
+use Rattle.lt_registry.specs.Parts.{EntryParts}
+use Rattle.lt_registry.specs.Validity.{transform, IsTransform}
+use Rattle.lt_rewrite.specs.CoreSteps.{values_of, CoreStep}
+use Rattle.lt_rewrite.specs.Orderings.{ListStep}
+
+-- the order of subtags, of keywords by their keys, of fields by their separators, of extensions by their singletons
+abbrev pub text_cmp : List ℕ → List ℕ → Ordering
+text_cmp a b = slice_cmp nat_cmp a b
+
+abbrev pub key_cmp : KeywordParts → KeywordParts → Ordering
+key_cmp a b = text_cmp a.key b.key
+
+abbrev pub separator_cmp : FieldParts → FieldParts → Ordering
+separator_cmp a b = text_cmp a.separator b.separator
+
+abbrev pub singleton_cmp : ExtensionParts → ExtensionParts → Ordering
+singleton_cmp a b = nat_cmp a.singleton b.singleton
+
+-- the singleton u
+abbrev pub unicode : ℕ
+unicode = 117
+
+-- these parts spell the subtags of a u extension
+pub record IsUnicode (subtags : List (List ℕ)) (parts : UForm) : Type 0 where
+  pub shaped : IsU parts
+  pub spelled : spell_u parts ≡ subtags
+
+-- a keyword whose types are exactly true loses it
+pub record DropsTrue (before : List KeywordParts) (k : KeywordParts) (after : List KeywordParts) (p q : List KeywordParts) : Type 0 where
+  pub there : p ≡ before ++ k ∷ after
+  pub sole : k.types ≡ codes "true" ∷ []
+  pub result : q ≡ before ++ record k { types = [] } ∷ after
+
+-- one step on the parts of a u extension
+pub data UnicodeStep (p q : UForm) : Type 0 where
+  on_attributes : ListStep true text_cmp p.attributes q.attributes → q.keywords ≡ p.keywords → UnicodeStep p q
+  on_keywords : q.attributes ≡ p.attributes → ListStep true key_cmp p.keywords q.keywords → UnicodeStep p q
+  on_types : q.attributes ≡ p.attributes → (before : List KeywordParts) (k : KeywordParts) (after : List KeywordParts) → DropsTrue before k after p.keywords q.keywords → UnicodeStep p q
+
+-- a core step on the source
+pub record SourceStep (R : List EntryParts) (c d : CoreParts) (p q : TForm) : Type 0 where
+  pub from : p.source ≡ Some c
+  pub to : q.source ≡ Some d
+  pub step : CoreStep (values_of R) c d
+  pub fields : q.fields ≡ p.fields
+
+-- one step on the parts of a t extension
+pub data TransformStep (R : List EntryParts) (p q : TForm) : Type 0 where
+  on_source : (c d : CoreParts) → SourceStep R c d p q → TransformStep R p q
+  on_fields : q.source ≡ p.source → ListStep false separator_cmp p.fields q.fields → TransformStep R p q
+
+-- a step on parts that spell the subtags of two u extensions
+pub record InUnicode (p q : UForm) (e f : ExtensionParts) : Type 0 where
+  pub is_u : e.singleton ≡ unicode
+  pub singleton : f.singleton ≡ e.singleton
+  pub from : IsUnicode e.subtags p
+  pub to : IsUnicode f.subtags q
+  pub step : UnicodeStep p q
+
+-- a step on parts that spell the subtags of two t extensions
+pub record InTransform (R : List EntryParts) (p q : TForm) (e f : ExtensionParts) : Type 0 where
+  pub is_t : e.singleton ≡ transform
+  pub singleton : f.singleton ≡ e.singleton
+  pub from : IsTransform e.subtags p
+  pub to : IsTransform f.subtags q
+  pub step : TransformStep R p q
+
+-- one step inside an extension
+pub data ExtensionStep (R : List EntryParts) (e f : ExtensionParts) : Type 0 where
+  in_unicode : (p q : UForm) → InUnicode p q e f → ExtensionStep R e f
+  in_transform : (p q : TForm) → InTransform R p q e f → ExtensionStep R e f
+
+-- the extension e among others becomes f
+pub record Within (before : List ExtensionParts) (e f : ExtensionParts) (after : List ExtensionParts) (es fs : List ExtensionParts) : Type 0 where
+  pub there : es ≡ before ++ e ∷ after
+  pub result : fs ≡ before ++ f ∷ after
+
+-- one step on a list of extensions
+pub data ExtensionsStep (R : List EntryParts) (es fs : List ExtensionParts) : Type 0 where
+  inside : (before : List ExtensionParts) (e f : ExtensionParts) (after : List ExtensionParts) → Within before e f after es fs → ExtensionStep R e f → ExtensionsStep R es fs
+  among : ListStep false singleton_cmp es fs → ExtensionsStep R es fs

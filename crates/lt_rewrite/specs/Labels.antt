@@ -1,0 +1,72 @@
+-- A step's kind, its place, counted from 1, and the number of its record (0 where it uses none).
+use Rattle.std.specs.Prelude.{ℕ, ◌≡◌, ◌+◌, Bool, List, [], ◌∷◌, length, flat_map}
+use Rattle.std.proofs.Common.{Ordering}
+use Rattle.lt_tag.specs.Parts.{CoreParts, ExtensionParts, UForm, TForm, TagForm}
+use Rattle.lt_tag.specs.Spelling.{spell_core, spell_extension, spell_extensions}
+use Rattle.lt_tag.specs.Extensions.{spell_keyword, spell_field, spell_source}
+use Rattle.lt_registry.specs.Parts.{EntryParts}
+use Rattle.lt_registry.specs.Entries.{entry, whole, number_of}
+use Rattle.lt_registry.specs.Faults.{before_script, before_region, before_variants}
+use Rattle.lt_registry.specs.declared.entries.Kind.TheVariants as kinds
+use Rattle.lt_rewrite.specs.CoreSteps.{values_of, CoreStep, by_extlang, by_language, by_script, by_region, by_variant, by_turn}
+use Rattle.lt_rewrite.specs.Orderings.{ListStep, by_swap, by_drop}
+use Rattle.lt_rewrite.specs.Extensions.{UnicodeStep, on_attributes, on_keywords, on_types, TransformStep, on_source, on_fields, ExtensionStep, in_unicode, in_transform, ExtensionsStep, inside, among}
+use Rattle.lt_rewrite.specs.TagSteps.{TagChange, on_core, on_extensions, on_whole, TagStep}
+use Rattle.lt_rewrite.specs.declared.steps.Step.{Step}
+use Rattle.lt_rewrite.specs.declared.steps.StepKind.{StepKind}
+use Rattle.lt_rewrite.specs.declared.steps.StepKind.TheVariants as steps
+
+abbrev pub step_at : StepKind → ℕ → ℕ → Step
+step_at kind place number = record { kind = kind; place = place; number = number }
+
+-- of a core that begins after so many subtags
+abbrev pub core_label : (R : List EntryParts) (start : ℕ) {c d : CoreParts} → CoreStep (values_of R) c d → Step
+core_label R start {c} (by_extlang x s) = step_at steps.Extlang (start + 2) (number_of (entry R kinds.Extlang x))
+core_label R start {c} (by_language v s) = step_at steps.Language (start + 1) (number_of (entry R kinds.Language c.language))
+core_label R start {c} (by_script a v s) = step_at steps.Script (start + before_script c + 1) (number_of (entry R kinds.Script a))
+core_label R start {c} (by_region a v s) = step_at steps.Region (start + before_region c + 1) (number_of (entry R kinds.Region a))
+core_label R start {c} (by_variant before v w after s) =
+    step_at steps.Variant (start + before_variants c + length before + 1) (number_of (entry R kinds.Variant v))
+core_label R start {c} (by_turn before v m after s) =
+    step_at steps.VariantLanguage (start + before_variants c + length before + 1) (number_of (entry R kinds.Variant v))
+
+-- of a list of parts that begins after so many subtags: the kinds of a swap and of a drop, and the subtags of a part
+abbrev pub list_label : {A : Type 0} {once : Bool} {cmp : A → A → Ordering} {xs ys : List A} → StepKind → StepKind → (A → List (List ℕ)) → ℕ → ListStep once cmp xs ys → Step
+list_label swap drop spell start (by_swap before a b after s) = step_at swap (start + length (flat_map spell before) + 1) 0
+list_label swap drop spell start (by_drop before a between b after o s) =
+    step_at drop (start + length (flat_map spell before) + length (spell a) + length (flat_map spell between) + 1) 0
+
+-- of a u extension whose singleton stands at a place
+abbrev pub unicode_label : ℕ → {p q : UForm} → UnicodeStep p q → Step
+unicode_label start (on_attributes s k) = list_label steps.SwapAttributes steps.DropAttribute (λ a. a ∷ []) start s
+unicode_label start {p} (on_keywords a s) = list_label steps.SwapKeywords steps.DropKeyword spell_keyword (start + length p.attributes) s
+unicode_label start {p} (on_types a before k after s) =
+    step_at steps.DropTrue (start + length p.attributes + length (flat_map spell_keyword before) + 2) 0
+
+-- of a t extension whose singleton stands at a place
+abbrev pub transform_label : (R : List EntryParts) → ℕ → {p q : TForm} → TransformStep R p q → Step
+transform_label R start (on_source c d s) = core_label R start s.step
+transform_label R start {p} (on_fields a s) = list_label steps.SwapFields steps.SwapFields spell_field (start + length (spell_source p.source)) s
+
+abbrev pub extension_label : (R : List EntryParts) → ℕ → {e f : ExtensionParts} → ExtensionStep R e f → Step
+extension_label R start (in_unicode p q s) = unicode_label start s.step
+extension_label R start (in_transform p q s) = transform_label R start s.step
+
+-- of extensions that begin after so many subtags
+abbrev pub extensions_label : (R : List EntryParts) → ℕ → {es fs : List ExtensionParts} → ExtensionsStep R es fs → Step
+extensions_label R start (inside before e f after w s) = extension_label R (start + length (spell_extensions before) + 1) s
+extensions_label R start (among s) = list_label steps.SwapExtensions steps.SwapExtensions spell_extension start s
+
+abbrev pub tag_label : (R : List EntryParts) {t u : TagForm} → TagChange R t u → Step
+tag_label R (on_core c d es ps s) = core_label R 0 s.step
+tag_label R (on_extensions c es fs ps s) = extensions_label R (length (spell_core c)) s.step
+tag_label R {t} (on_whole s) = step_at steps.Whole 1 (number_of (whole R t))
+
+-- the step leads from t to u
+abbrev pub LeadsBy : List EntryParts → TagForm → Step → TagForm → Type 0
+LeadsBy R t step u = (s : TagStep R t u) × (tag_label R s.change ≡ step)
+
+-- the steps lead one after another from the tag to the end
+abbrev pub IsTrace : List EntryParts → TagForm → List Step → TagForm → Type 0
+IsTrace R t [] end = t ≡ end
+IsTrace R t (step ∷ steps) end = (u : TagForm) × LeadsBy R t step u × IsTrace R u steps end

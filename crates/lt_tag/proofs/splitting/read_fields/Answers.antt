@@ -1,0 +1,30 @@
+use Rattle.std.proofs.Common.{◌∙◌, arith, length, ap, sym}
+use Rattle.lt_subtag.specs.Shapes.{is_separator}
+use Rattle.lt_tag.specs.Splitting.{are_values}
+use Rattle.lt_tag.proofs.SplitLemmas.{fields_begin, fields_next, fields_fail, fields_end, length-onward}
+use Rattle.lt_tag.proofs.splitting.read_fields.Goals as goal
+
+pub loop-separator-init : goal.loop-separator-init
+loop-separator-init c = fields_begin c.args.subtags.now _ _ c.new-fields.ensures.items c.before_separator.ensures.rest
+
+pub loop-separator-smaller : goal.loop-separator-smaller
+loop-separator-smaller c =
+    let split = c.in-Some.ensures.cases in
+    let after = length-onward is_separator c.in-Some.others.now in
+    omega (arith, split.1, after, ap length c.before_separator-in-Some.ensures.rest)
+
+pub returns-then-not-are_values-clause-fault : goal.returns-then-not-are_values-clause-fault
+returns-then-not-are_values-clause-fault c =
+    fields_fail _ _ _ c.in-Some.separator.now c.in-Some.others.now _ c.loop-separator.invariant c.in-Some.ensures.cases.0 c.before_separator-in-Some.ensures.front (sym c.are_values.ensures ∙ c.if-not-are_values.true)
+
+pub loop-separator-preserved : goal.loop-separator-preserved
+loop-separator-preserved c =
+    let split = c.in-Some.ensures.cases in
+    fields_next _ _ _ _ c.in-Some.separator.now c.in-Some.others.now _ _ c.loop-separator.invariant split.0
+    (c.in_ok-copies.ensures ∙ c.before_separator-in-Some.ensures.front) c.before_separator-in-Some.ensures.rest (ap are_values c.in_ok-copies.ensures ∙ sym c.are_values.ensures ∙ c.if-not-are_values.false) (rw c.copy.ensures at c.in_ok-push.ensures.items)
+
+pub returns-clause-fields : goal.returns-clause-fields
+returns-clause-fields c = (fields_end _ _ _ c.loop-separator.invariant c.in_default.ensures.cases).0
+
+pub returns-clause-values : goal.returns-clause-values
+returns-clause-values c = (fields_end _ _ _ c.loop-separator.invariant c.in_default.ensures.cases).1

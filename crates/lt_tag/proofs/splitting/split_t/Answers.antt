@@ -1,0 +1,29 @@
+use Rattle.std.proofs.Common.{◌∙◌, arith, length, ap}
+use Rattle.std.proofs.lemmas.Result.{err_from_is_err_and}
+use Rattle.lt_subtag.specs.Shapes.{is_separator}
+use Rattle.lt_tag.proofs.PartsLemmas.{t_split, source_fault, field_fault, length-before}
+use Rattle.lt_tag.proofs.splitting.split_t.Goals as goal
+
+pub read_source-requires : goal.read_source-requires
+read_source-requires c =
+    let few = length-before is_separator c.subtags-subtags.result.now in
+    omega (arith, few, ap length c.before_separator.ensures.front, ap length c.subtags-subtags.ensures.value, c.subtags-subtags.ensures.extension.subtags)
+
+pub returns-in_err-read_source-clause-fault : goal.returns-in_err-read_source-clause-fault
+returns-in_err-read_source-clause-fault c =
+    let p = err_from_is_err_and c.from_residual.result c.from_residual.ensures.1 in
+    rw (p.1, p.2) (source_fault c.in_err-read_source.field-0.0 c.args.extension.now.subtags _ _ c.subtags-subtags.ensures.value c.before_separator.ensures.front c.in_err-read_source.ensures.fault)
+
+pub returns-in_err-read_fields-clause-fault : goal.returns-in_err-read_fields-clause-fault
+returns-in_err-read_fields-clause-fault c =
+    let p = err_from_is_err_and c.from_residual-in_err-read_fields.result c.from_residual-in_err-read_fields.ensures.1 in
+    rw (p.1, p.2) (field_fault c.in_err-read_fields.field-0.0 c.args.extension.now.subtags _ _ c.subtags-subtags.ensures.value c.before_separator.ensures.rest c.in_err-read_fields.ensures.fault)
+
+pub returns-clause-parts : goal.returns-clause-parts
+returns-clause-parts c =
+    t_split c.args.extension.now _ _ _ _ _ c.subtags-subtags.ensures.extension c.subtags-subtags.ensures.value c.before_separator.ensures.front c.before_separator.ensures.rest c.in_ok-read_source.ensures.source c.in_ok-read_fields.ensures.fields c.in_ok-read_fields.ensures.values
+
+pub returns-clause-few : goal.returns-clause-few
+returns-clause-few c =
+    let parts = t_split c.args.extension.now _ _ _ _ _ c.subtags-subtags.ensures.extension c.subtags-subtags.ensures.value c.before_separator.ensures.front c.before_separator.ensures.rest c.in_ok-read_source.ensures.source c.in_ok-read_fields.ensures.fields c.in_ok-read_fields.ensures.values in
+    rw parts.spelled c.subtags-subtags.ensures.extension.subtags

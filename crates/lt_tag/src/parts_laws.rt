@@ -1,0 +1,46 @@
+//! What follows from the forms of `u` and `t` extensions alone. Nothing is computed here: each contract is a law.
+ghost use Rattle.std.specs.Prelude.{ℕ, ◌≡◌, ◌↔◌, List, Some};
+ghost use Rattle.lt_tag.specs.Parts.{CoreParts, ExtensionParts, UForm, TForm};
+ghost use Rattle.lt_tag.specs.Spelling.{spell_core, IsCore, IsExtension};
+ghost use Rattle.lt_tag.specs.Extensions.{unicode, transform, spell_u, IsU, IsUnicode, spell_t, IsT, IsTransform};
+ghost use Rattle.lt_tag.specs.Splitting.{core_of_list, unicode_of, transform_of};
+
+/// Every `u` extension has parts that spell it.
+pub fn unicode_has_parts()
+    ensures { (extension : ExtensionParts) → IsExtension extension → (parts : UForm) × IsUnicode extension.subtags parts }
+{}
+
+/// A `u` extension has one way to be split.
+pub fn one_unicode()
+    ensures { (subtags : List (List ℕ)) (p q : UForm) → IsUnicode subtags p → IsUnicode subtags q → p ≡ q }
+{}
+
+/// A `t` extension has at most one way to be split.
+pub fn one_transform()
+    ensures { (subtags : List (List ℕ)) (p q : TForm) → IsTransform subtags p → IsTransform subtags q → p ≡ q }
+{}
+
+/// Whether subtags are those of a core is decided, and by which core.
+pub fn core_is_decided()
+    ensures { (subtags : List (List ℕ)) (core : CoreParts) → (core_of_list subtags ≡ Some core) ↔ (IsCore core × (spell_core core ≡ subtags)) }
+{}
+
+/// Whether subtags are those of a `u` extension is decided, and by which parts.
+pub fn unicode_is_decided()
+    ensures { (subtags : List (List ℕ)) (parts : UForm) → (unicode_of subtags ≡ Some parts) ↔ IsUnicode subtags parts }
+{}
+
+/// Whether subtags have the form of a `t` extension is decided, and by which parts.
+pub fn transform_is_decided()
+    ensures { (subtags : List (List ℕ)) (parts : TForm) → (transform_of subtags ≡ Some parts) ↔ IsTransform subtags parts }
+{}
+
+/// What the parts of a `u` extension spell is an extension.
+pub fn unicode_is_extension()
+    ensures { (parts : UForm) → IsU parts → IsExtension (record { singleton = unicode; subtags = spell_u parts }) }
+{}
+
+/// What the parts of a `t` extension spell is an extension.
+pub fn transform_is_extension()
+    ensures { (parts : TForm) → IsT parts → IsExtension (record { singleton = transform; subtags = spell_t parts }) }
+{}

@@ -1,0 +1,198 @@
+//! Splitting `u` and `t` extensions into their parts.
+ghost use Rattle.std.specs.Prelude.{◌≡◌, ◌≤◌, ◌++◌, ⊤, true, false, length, position, IfOk, IfErr, OnOk};
+ghost use Rattle.std.specs.List.{list_all};
+ghost use Rattle.lt_subtag.specs.Shapes.{is_key, is_separator};
+ghost use Rattle.lt_tag.specs.Extensions.{unicode, transform, spell_u, spell_t, IsUnicode, IsTransform};
+ghost use Rattle.lt_tag.specs.Extensions as extensions;
+ghost use Rattle.lt_tag.specs.Splitting.{before, onward, keywords_of, fields_of, has_values, source_of_list};
+ghost use Rattle.lt_tag.specs.Splitting as splitting;
+ghost use Rattle.lt_tag.specs.Values.{most_parts};
+ghost use Rattle.lt_tag.specs.Transform.{IsTransformFault, IsFieldFault, IsSourceFault, no_memory};
+
+use crate::cores::Core;
+use crate::extensions::Extension;
+use crate::faults::{OutOfMemory, TransformFault};
+use crate::parts::{Field, Keyword, TParts, UParts};
+use lt_subtag::Subtag;
+use std::alloc::{AllocFailed, Global};
+
+/// Where the first key is.
+fn first_key(subtags: &[Subtag]) -> Option<usize>
+    ensures { result ≡ position is_key subtags.now }
+{
+    subtags.iter().position(|subtag| subtag.is_key())
+}
+
+/// Where the first separator is.
+fn first_separator(subtags: &[Subtag]) -> Option<usize>
+    ensures { result ≡ position is_separator subtags.now }
+{
+    subtags.iter().position(|subtag| subtag.is_separator())
+}
+
+/// The subtags before the first key, and the others.
+fn before_key(subtags: &[Subtag]) -> (&[Subtag], &[Subtag])
+    ensures front { result.0.now ≡ before is_key subtags.now }
+    ensures rest { result.1.now ≡ onward is_key subtags.now }
+{
+    subtags.split_at(first_key(subtags).unwrap_or(subtags.len()))
+}
+
+/// The subtags before the first separator, and the others.
+fn before_separator(subtags: &[Subtag]) -> (&[Subtag], &[Subtag])
+    ensures front { result.0.now ≡ before is_separator subtags.now }
+    ensures rest { result.1.now ≡ onward is_separator subtags.now }
+{
+    subtags.split_at(first_separator(subtags).unwrap_or(subtags.len()))
+}
+
+/// 3 to 8 letters or digits.
+#[tactic(auto, unfolding(crate::specs::Extensions::is_long))]
+fn is_long(subtag: &Subtag) -> bool
+    ensures { result ≡ extensions.is_long subtag.now }
+{
+    3 <= subtag.bytes().len()
+}
+
+/// Whether each has 3 to 8 letters or digits.
+fn are_long(subtags: &[Subtag]) -> bool
+    ensures { result ≡ list_all extensions.is_long subtags.now }
+{
+    subtags.iter().all(|subtag| is_long(subtag))
+}
+
+/// One or more subtags of 3 to 8.
+fn are_values(subtags: &[Subtag]) -> bool
+    ensures { result ≡ splitting.are_values subtags.now }
+{
+    !subtags.is_empty() && are_long(subtags)
+}
+
+/// Adds copies of subtags at the end.
+pub(crate) fn append(list: &mut Vec<Subtag>, subtags: &[Subtag]) -> Result<(), OutOfMemory>
+    ensures { OnOk result (list.new.items ≡ list.old.items ++ subtags.now) }
+{
+    for subtag in subtags {
+        list.push(subtag.copy())?;
+    }
+    Ok(())
+}
+
+/// Copies of subtags.
+fn copies(alloc: Global, subtags: &[Subtag]) -> Result<Vec<Subtag>, OutOfMemory>
+    ensures { IfOk result (λ list. list.items ≡ subtags.now) }
+{
+    let mut list = Vec::new(alloc);
+    append(&mut list, subtags)?;
+    Ok(list)
+}
+
+/// The keywords from a first key on.
+fn read_keywords(alloc: Global, subtags: &[Subtag]) -> Result<Vec<Keyword>, OutOfMemory>
+    ensures { IfOk result (λ keywords. keywords.items ≡ keywords_of subtags.now) }
+{
+    let mut keywords = Vec::new(alloc);
+    let (_, mut rest) = before_key(subtags);
+    while let Some((key, others)) = rest.split_first() {
+        let (types, after) = before_key(others);
+        keywords.push(Keyword {
+            key: key.copy(),
+            types: copies(alloc, types)?,
+        })?;
+        rest = after;
+    }
+    Ok(keywords)
+}
+
+/// The fields from a first separator on, if each has a value.
+fn read_fields(alloc: Global, subtags: &[Subtag]) -> Result<Vec<Field>, TransformFault>
+    ensures fields { IfOk result (λ fields. fields.items ≡ fields_of subtags.now) }
+    ensures values { IfOk result (λ fields. list_all has_values fields.items ≡ true) }
+    ensures fault { IfErr result (λ fault. IsFieldFault fault subtags.now) }
+{
+    let mut fields = Vec::new(alloc);
+    let (_, mut rest) = before_separator(subtags);
+    while let Some((separator, others)) = rest.split_first() {
+        let (values, after) = before_separator(others);
+        if !are_values(values) {
+            return Err(TransformFault::BadTransform);
+        }
+        fields.push(Field {
+            separator: separator.copy(),
+            values: copies(alloc, values)?,
+        })?;
+        rest = after;
+    }
+    Ok(fields)
+}
+
+/// Reads subtags as a source. Without a subtag there is none.
+fn read_source(alloc: Global, subtags: &[Subtag]) -> Result<Option<Core>, TransformFault>
+    requires { length subtags.now ≤ most_parts }
+    ensures source { IfOk result (λ source. source_of_list subtags.now ≡ Some source) }
+    ensures fault { IfErr result (λ fault. IsSourceFault fault subtags.now) }
+{
+    let Some((language, others)) = subtags.split_first() else {
+        return Ok(None);
+    };
+    if !language.is_language() {
+        return Err(TransformFault::BadTransform);
+    }
+    let mut core = Core::of_language(alloc, language.copy());
+    for subtag in others {
+        if !core.grow(subtag)? {
+            return Err(TransformFault::BadTransform);
+        }
+    }
+    Ok(Some(core))
+}
+
+/// The parts that spell a `u` extension (RFC 6067). There is one such value for each `u` extension: the
+/// subtags of 3 to 8 before the first two-character subtag are its attributes, each two-character subtag is
+/// a key, and the subtags of 3 to 8 that follow it are its types. The only refusal is want of memory.
+pub fn split_u(alloc: Global, extension: &Extension) -> Result<UParts, OutOfMemory>
+    requires { extension.now.singleton ≡ unicode }
+    ensures parts { IfOk result (λ parts. IsUnicode extension.now.subtags parts) }
+    ensures few { IfOk result (λ parts. length (spell_u parts) ≤ most_parts) }
+{
+    let subtags = extension.subtags();
+    let (attributes, keywords) = before_key(subtags);
+    Ok(UParts {
+        attributes: copies(alloc, attributes)?,
+        keywords: read_keywords(alloc, keywords)?,
+    })
+}
+
+/// The parts that spell a `t` extension (RFC 6497): a source and any fields, or one or more fields. There is
+/// at most one such value. BadTransform comes exactly where there is none; the tag is well-formed all the same.
+/// A separator may occur twice.
+pub fn split_t(alloc: Global, extension: &Extension) -> Result<TParts, TransformFault>
+    requires { extension.now.singleton ≡ transform }
+    ensures parts { IfOk result (λ parts. IsTransform extension.now.subtags parts) }
+    ensures few { IfOk result (λ parts. length (spell_t parts) ≤ most_parts) }
+    ensures fault { IfErr result (λ fault. IsTransformFault fault extension.now.subtags) }
+{
+    let subtags = extension.subtags();
+    let (source, fields) = before_separator(subtags);
+    Ok(TParts {
+        source: read_source(alloc, source)?,
+        fields: read_fields(alloc, fields)?,
+    })
+}
+
+/// Want of memory as a fault of a `t` extension.
+impl From<OutOfMemory> for TransformFault {
+    ghost from_gives = { λ _ fault. fault ≡ no_memory };
+
+    fn from(_error: OutOfMemory) -> TransformFault {
+        TransformFault::OutOfMemory
+    }
+}
+
+impl<T: Drop> From<AllocFailed<T>> for TransformFault {
+    ghost from_gives = { λ _ fault. fault ≡ no_memory };
+
+    fn from(_error: AllocFailed<T>) -> TransformFault {
+        TransformFault::OutOfMemory
+    }
+}
