@@ -1,0 +1,49 @@
+-- Where a line ends.
+use Rattle.std.proofs.Common.{◌≡◌, ◌≢◌, ◌<◌, ◌+◌, ◌-◌, ◌++◌, ◌∷◌, ◌∙◌, ℕ, List, [], take, drop, length, sym, ap, arith, add-one, if◌then◌else◌, get_or, length-drop, suc, subst, refl}
+use Rattle.std.proofs.Math.Seq.{drop-cons, take-length}
+use Rattle.std.specs.List.{All}
+use Rattle.std.proofs.lemmas.Bool.{ne_eqb}
+use Rattle.std.proofs.lemmas.List.{take-append-drop}
+use Rattle.std.proofs.lemmas.List.Elements.{All-head, All-tail}
+use Rattle.lt_jar.specs.Lines.{begin_first, lines_of}
+
+abbrev IsNoEnd : ℕ → Type 0
+IsNoEnd byte = byte ≢ 10
+
+-- no line feed
+abbrev pub IsOneLine : List ℕ → Type 0
+IsOneLine text = All (λ byte. byte ≢ 10) text
+
+begins : (byte : ℕ) (text : List ℕ) → byte ≢ 10 → lines_of (byte ∷ text) ≡ begin_first byte (lines_of text)
+begins byte text other = ap (λ b. if b then [] ∷ lines_of text else begin_first byte (lines_of text)) (ne_eqb byte 10 other)
+
+-- a line and its line feed
+pub lines_of-ended : (line rest : List ℕ) → IsOneLine line → lines_of (line ++ 10 ∷ rest) ≡ line ∷ lines_of rest
+lines_of-ended [] rest one = refl
+lines_of-ended (byte ∷ line) rest one =
+    begins byte (line ++ 10 ∷ rest) (All-head IsNoEnd byte line one) ∙ ap (begin_first byte) (lines_of-ended line rest (All-tail IsNoEnd byte line one))
+
+-- a last line
+pub lines_of-last : (line : List ℕ) → IsOneLine line → 0 < length line → lines_of line ≡ line ∷ []
+lines_of-last [] one some = absurd (omega arith)
+lines_of-last (byte ∷ []) one some = begins byte [] (All-head IsNoEnd byte [] one)
+lines_of-last (byte ∷ next ∷ line) one some =
+    let tail = All-tail IsNoEnd byte (next ∷ line) one in
+    begins byte (next ∷ line) (All-head IsNoEnd byte (next ∷ line) one) ∙ ap (begin_first byte) (lines_of-last (next ∷ line) tail (omega arith))
+
+-- the first line feed is at i
+pub lines_of-cut : (text : List ℕ) (i : ℕ) → i < length text → get_or text i 0 ≡ 10 → IsOneLine (take i text)
+    → lines_of text ≡ take i text ∷ lines_of (take (length text - (i + 1)) (drop (i + 1) text))
+lines_of-cut text i below end one =
+    let next : drop (suc i) text ≡ drop (i + 1) text = ap (λ n. drop n text) (sym (add-one i)) in
+    let back : drop i text ≡ 10 ∷ drop (i + 1) text = drop-cons text i 0 below ∙ ap (λ b. b ∷ drop (suc i) text) end ∙ ap (λ l. 10 ∷ l) next in
+    let split : text ≡ take i text ++ 10 ∷ drop (i + 1) text = sym (take-append-drop i text) ∙ ap (λ l. take i text ++ l) back in
+    let range : take (length text - (i + 1)) (drop (i + 1) text) ≡ drop (i + 1) text = ap (λ n. take n (drop (i + 1) text)) (sym (length-drop (i + 1) text)) ∙ take-length (drop (i + 1) text) in
+    ap lines_of split ∙ lines_of-ended (take i text) (drop (i + 1) text) one ∙ ap (λ l. take i text ∷ lines_of l) (sym range)
+
+pub lines_of-empty : (text : List ℕ) → length text ≡ 0 → lines_of text ≡ []
+lines_of-empty [] empty = refl
+lines_of-empty (byte ∷ text) empty = absurd (omega arith)
+
+pub whole_line : (text : List ℕ) (i : ℕ) → i ≡ length text → IsOneLine (take i text) → IsOneLine text
+whole_line text i all one = subst IsOneLine (ap (λ n. take n text) all ∙ take-length text) one

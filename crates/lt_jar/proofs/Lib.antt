@@ -1,0 +1,10 @@
+-- Lemmas on the definitions of the format.
+pub mod CutLemmas
+pub mod BoundaryLemmas
+pub mod TakeLemmas
+pub mod StepLemmas
+pub mod BodyLemmas
+pub mod GroupLemmas
+pub mod CountLemmas
+pub mod FaultLemmas
+pub mod ReadLemmas

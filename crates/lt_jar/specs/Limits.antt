@@ -1,0 +1,9 @@
+-- How long a line may be, and how many records a text may have.
+use Rattle.std.specs.Prelude.{ℕ}
+
+-- in bytes, with the carriage return and without the line feed
+abbrev pub longest_line : ℕ
+longest_line = 65536
+
+abbrev pub most_records : ℕ
+most_records = 100000

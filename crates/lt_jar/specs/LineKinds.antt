@@ -1,0 +1,71 @@
+-- What a line of a record-jar text is.
+use Rattle.std.specs.Prelude.{ℕ, Bool, true, false, List, [], ◌∷◌, ◌==◌, ◌&&◌, ◌||◌, length, drop, reverse, if◌then◌else◌}
+use Rattle.std.specs.List.{list_all}
+use Rattle.std.specs.Char.{is_ascii_alphanumeric}
+use Rattle.lt_jar.specs.Lines.{content_of}
+
+-- a space or a tab
+abbrev pub is_blank : ℕ → Bool
+is_blank byte = (byte == 32) || (byte == 9)
+
+-- an ASCII letter, an ASCII digit or a hyphen
+abbrev pub is_name_byte : ℕ → Bool
+is_name_byte byte = is_ascii_alphanumeric byte || (byte == 45)
+
+-- the text without the spaces and tabs at its front
+abbrev pub trim_start : List ℕ → List ℕ
+trim_start [] = []
+trim_start (byte ∷ rest) = if is_blank byte then trim_start rest else byte ∷ rest
+
+-- the text without the spaces and tabs at its end
+abbrev pub trim_end : List ℕ → List ℕ
+trim_end text = reverse (trim_start (reverse text))
+
+-- the text without the spaces and tabs at both ends
+abbrev pub trim : List ℕ → List ℕ
+trim text = trim_end (trim_start text)
+
+-- the longest front that is made of the bytes of names
+abbrev pub name_at_front : List ℕ → List ℕ
+name_at_front [] = []
+name_at_front (byte ∷ rest) = if is_name_byte byte then byte ∷ name_at_front rest else []
+
+pub data Line : Type 0 where
+  -- nothing, or spaces and tabs alone: skipped
+  Blank : Line
+  -- `%%`: ends a record
+  Separator : Line
+  -- goes on with the body of the field before it
+  Continuation : List ℕ → Line
+  -- begins a field, with its name and what its body begins with
+  Start : List ℕ → List ℕ → Line
+  -- none of these
+  Bad : Line
+
+-- a field's line, by its name and what follows the name
+abbrev pub start_by : List ℕ → List ℕ → Line
+start_by [] rest = Bad
+start_by (byte ∷ name) [] = Bad
+start_by (byte ∷ name) (colon ∷ body) = if colon == 58 then Start (byte ∷ name) (trim body) else Bad
+
+-- a name, any spaces and tabs, a colon, and a body
+abbrev pub start_of : List ℕ → Line
+start_of text = let name = name_at_front text in start_by name (trim_start (drop (length name) text))
+
+-- two percent signs, with nothing but spaces and tabs after them
+abbrev pub is_separator : List ℕ → Bool
+is_separator [] = false
+is_separator (a ∷ []) = false
+is_separator (a ∷ b ∷ rest) = (a == 37) && ((b == 37) && list_all is_blank rest)
+
+abbrev pub begins_blank : List ℕ → Bool
+begins_blank [] = false
+begins_blank (byte ∷ rest) = is_blank byte
+
+-- what a line is that holds more than spaces and tabs
+abbrev pub kind_of_content : List ℕ → Line
+kind_of_content text = if begins_blank text then Continuation (trim text) else (if is_separator text then Separator else start_of text)
+
+-- what a line is
+abbrev pub line_of : List ℕ → Line
+line_of line = let text = content_of line in if list_all is_blank text then Blank else kind_of_content text

@@ -1,0 +1,17 @@
+-- The lines of a text.
+use Rattle.std.specs.Prelude.{ℕ, List, [], ◌∷◌, ◌==◌, if◌then◌else◌}
+use Rattle.std.specs.Io.BufRead.{strip_last}
+
+-- the byte stands in front of the first line
+abbrev pub begin_first : ℕ → List (List ℕ) → List (List ℕ)
+begin_first byte [] = (byte ∷ []) ∷ []
+begin_first byte (line ∷ lines) = (byte ∷ line) ∷ lines
+
+-- the lines of a text, without the line feeds (10) that end them; what follows the last line feed is a line if it is anything
+abbrev pub lines_of : List ℕ → List (List ℕ)
+lines_of [] = []
+lines_of (byte ∷ text) = if byte == 10 then [] ∷ lines_of text else begin_first byte (lines_of text)
+
+-- a line without the one carriage return (13) that may end it
+abbrev pub content_of : List ℕ → List ℕ
+content_of line = strip_last 13 line

@@ -1,0 +1,12 @@
+-- The names of the faults, as they are printed.
+use Rattle.std.specs.Prelude.{ℕ, List, codes}
+use Rattle.lt_jar.specs.declared.faults.JarFaultKind.{JarFaultKind}
+use Rattle.lt_jar.specs.declared.faults.JarFaultKind.TheVariants as kinds
+
+abbrev pub name_of : JarFaultKind → List ℕ
+name_of kinds.LineTooLong = codes "LineTooLong"
+name_of kinds.NotUtf8 = codes "NotUtf8"
+name_of kinds.LeadingContinuation = codes "LeadingContinuation"
+name_of kinds.BadLine = codes "BadLine"
+name_of kinds.TooManyRecords = codes "TooManyRecords"
+name_of kinds.OutOfMemory = codes "OutOfMemory"

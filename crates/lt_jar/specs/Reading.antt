@@ -1,0 +1,78 @@
+-- What a line does to the records that are read so far, computed.
+use Rattle.std.specs.Prelude.{◌+◌, ◌∷◌, ◌++◌, ℕ, List, [], length, Result, Ok, Err, nat_lt, if◌then◌else◌}
+use Rattle.std.specs.List.{filter}
+use Rattle.std.specs.Str.{is_utf8}
+use Rattle.lt_jar.specs.LineKinds.{Line, Blank, Separator, Continuation, Start, Bad, line_of}
+use Rattle.lt_jar.specs.Limits.{longest_line, most_records}
+use Rattle.lt_jar.specs.Records.{Field, is_something, joined}
+use Rattle.lt_jar.specs.Faults.{Fault, LineTooLong, NotUtf8, LeadingContinuation, BadLine, TooManyRecords}
+
+-- what a line makes of the fields of the record that goes on
+pub data Taken : Type 0 where
+  -- it goes on with these
+  GoesOn : List Field → Taken
+  -- it ends with these
+  Ends : List Field → Taken
+
+-- a body with a further text
+abbrev pub lengthened : List ℕ → List ℕ → List ℕ
+lengthened body text = joined (filter is_something (body ∷ text ∷ []))
+
+-- the text goes behind the body of the last field
+abbrev pub with_text : List ℕ → List Field → List Field
+with_text text [] = []
+with_text text (field ∷ []) = (field.0, lengthened field.1 text) ∷ []
+with_text text (field ∷ next ∷ fields) = field ∷ with_text text (next ∷ fields)
+
+abbrev pub separated : List Field → Taken
+separated [] = GoesOn []
+separated (field ∷ fields) = Ends (field ∷ fields)
+
+abbrev pub continued : List ℕ → List Field → Result Taken Fault
+continued text [] = Err LeadingContinuation
+continued text (field ∷ fields) = Ok (GoesOn (with_text text (field ∷ fields)))
+
+abbrev pub started : ℕ → Field → List Field → Result Taken Fault
+started ended new [] = if nat_lt ended most_records then Ok (GoesOn (new ∷ [])) else Err TooManyRecords
+started ended new (field ∷ fields) = Ok (GoesOn ((field ∷ fields) ++ new ∷ []))
+
+-- a line of this kind, behind so many records that have ended
+abbrev pub take_kind : ℕ → List Field → Line → Result Taken Fault
+take_kind ended fields Blank = Ok (GoesOn fields)
+take_kind ended fields Separator = Ok (separated fields)
+take_kind ended fields (Continuation text) = continued text fields
+take_kind ended fields (Start name body) = started ended (name, body) fields
+take_kind ended fields Bad = Err BadLine
+
+abbrev pub take_line : ℕ → List Field → List ℕ → Result Taken Fault
+take_line ended fields line =
+    if nat_lt longest_line (length line) then Err LineTooLong else (if is_utf8 line then take_kind ended fields (line_of line) else Err NotUtf8)
+
+-- the records that have ended, and the fields of the one that goes on
+pub record Going : Type 0 where
+  pub records : List (List Field)
+  pub fields : List Field
+
+abbrev pub start : Going
+start = record { records = []; fields = [] }
+
+abbrev pub with_taken : Going → Taken → Going
+with_taken going (GoesOn fields) = record { records = going.records; fields = fields }
+with_taken going (Ends fields) = record { records = going.records ++ fields ∷ []; fields = [] }
+
+abbrev pub on_taken : Going → Result Taken Fault → Result Going Fault
+on_taken going (Ok taken) = Ok (with_taken going taken)
+on_taken going (Err fault) = Err fault
+
+-- one line more, behind so many records of an earlier text
+abbrev pub step : ℕ → Going → List ℕ → Result Going Fault
+step earlier going line = on_taken going (take_line (earlier + length going.records) going.fields line)
+
+-- the record that goes on, if it has a field
+abbrev pub rest_of : List Field → List (List Field)
+rest_of [] = []
+rest_of (field ∷ fields) = (field ∷ fields) ∷ []
+
+-- the records at the end of a text
+abbrev pub finished : Going → List (List Field)
+finished going = going.records ++ rest_of going.fields

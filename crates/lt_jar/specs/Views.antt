@@ -1,0 +1,52 @@
+-- What the clauses see of the code's values.
+use Rattle.std.specs.Prelude.{◌≡◌, ◌⊎◌, ℕ, List, Option, Some, None, Result, Ok, Err}
+use Rattle.lt_jar.specs.LineKinds as lines
+use Rattle.lt_jar.specs.Records.{Field}
+use Rattle.lt_jar.specs.Faults as faults
+use Rattle.lt_jar.specs.Reading as reading
+use Rattle.lt_jar.specs.declared.faults.JarFaultKind.{JarFaultKind}
+use Rattle.lt_jar.specs.declared.faults.JarFaultKind.TheVariants.{LineTooLong, NotUtf8, LeadingContinuation, BadLine, TooManyRecords, OutOfMemory}
+use Rattle.lt_jar.specs.declared.faults.JarFault.{JarFault}
+use Rattle.lt_jar.specs.declared.lines.LineKind.{LineKind}
+use Rattle.lt_jar.specs.declared.lines.LineKind.TheVariants as kinds
+use Rattle.lt_jar.specs.declared.drafts.Progress.{Progress}
+use Rattle.lt_jar.specs.declared.drafts.Progress.TheVariants as progress
+
+abbrev pub line_in : LineKind → lines.Line
+line_in kinds.Blank = lines.Blank
+line_in kinds.Separator = lines.Separator
+line_in (kinds.Continuation text) = lines.Continuation text.now
+line_in (kinds.Start name body) = lines.Start name.now body.now
+line_in kinds.Bad = lines.Bad
+
+-- the fault of the format, if it is one
+abbrev pub fault_in : JarFaultKind → Option faults.Fault
+fault_in LineTooLong = Some faults.LineTooLong
+fault_in NotUtf8 = Some faults.NotUtf8
+fault_in LeadingContinuation = Some faults.LeadingContinuation
+fault_in BadLine = Some faults.BadLine
+fault_in TooManyRecords = Some faults.TooManyRecords
+fault_in OutOfMemory = None
+
+-- the fault of the text; or memory ran out at a line before which nothing is wrong
+abbrev pub IsFaultOf : List ℕ → JarFault → Type 0
+IsFaultOf text said = ((fault : faults.Fault) × (fault_in said.kind ≡ Some fault) × faults.IsTheFault 0 text fault said.line)
+    ⊎ ((said.kind ≡ OutOfMemory) × faults.IsReached 0 text said.line)
+
+-- what is said of a line was computed, or memory ran out
+abbrev pub IsSaid : {A : Type 0} → JarFaultKind → Result A faults.Fault → Type 0
+IsSaid kind said = (kind ≡ OutOfMemory) ⊎ ((fault : faults.Fault) × (fault_in kind ≡ Some fault) × (said ≡ Err fault))
+
+abbrev pub taken_in : Progress → List Field → reading.Taken
+taken_in progress.GoesOn fields = reading.GoesOn fields
+taken_in progress.Ends fields = reading.Ends fields
+
+-- the line was taken as computed, and left these fields
+abbrev pub IsTaken : Result Progress JarFaultKind → Result reading.Taken faults.Fault → List Field → Type 0
+IsTaken (Ok progress) said fields = said ≡ Ok (taken_in progress fields)
+IsTaken (Err kind) said fields = IsSaid kind said
+
+-- the step was made as computed
+abbrev pub IsStep : Result (Unit {0}) JarFaultKind → Result reading.Going faults.Fault → reading.Going → Type 0
+IsStep (Ok x) said going = said ≡ Ok going
+IsStep (Err kind) said going = IsSaid kind said

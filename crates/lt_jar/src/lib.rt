@@ -1,0 +1,12 @@
+//! The record-jar format, in which the IANA Language Subtag Registry is kept (RFC 5646, 3.1.1).
+#![tactic(auto)]
+
+mod drafts;
+mod faults;
+mod jars;
+mod lines;
+mod reading;
+
+pub use faults::{JarFault, JarFaultKind};
+pub use jars::{Jar, JarField, Record};
+pub use reading::read_jar;

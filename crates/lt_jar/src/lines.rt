@@ -1,0 +1,149 @@
+//! The lines of a text, and what a line is.
+ghost use Rattle.std.specs.Prelude.{◌≡◌, ◌<◌, ◌≤◌, ◌∷◌, length};
+ghost use Rattle.std.specs.List.{list_all};
+ghost use Rattle.lt_jar.specs.Lines.{content_of, lines_of};
+ghost use Rattle.lt_jar.specs.LineKinds as lines;
+ghost use Rattle.lt_jar.specs.Views.{line_in};
+
+/// The first line of a text, and what follows the line feed that ends it.
+pub(crate) fn cut_line(text: &[u8]) -> (&[u8], &[u8])
+    requires { 0 < length text.now }
+    ensures lines { lines_of text.now ≡ result.0.now ∷ lines_of result.1.now }
+    ensures shorter { length result.1.now < length text.now }
+{
+    for (i, byte) in text.iter().enumerate() {
+        if *byte == b'\n' {
+            return (&text[..i], &text[i + 1..]);
+        }
+    }
+    (text, &[])
+}
+
+/// What a line is.
+#[derive(Clone, Copy)]
+pub(crate) enum LineKind<'a> {
+    /// Nothing, or spaces and tabs alone.
+    Blank,
+    /// `%%`.
+    Separator,
+    /// What it adds to the body of the field before it.
+    Continuation(&'a str),
+    /// A field's name, and what its body begins with.
+    Start(&'a str, &'a str),
+    Bad,
+}
+
+/// What the line is, whose line feed was taken away.
+pub(crate) fn kind_of(line: &str) -> LineKind<'_>
+    ensures { line_in result ≡ lines.line_of line.now }
+{
+    let text = content(line);
+    let bytes = text.as_bytes();
+    if are_blank(bytes) {
+        return LineKind::Blank;
+    }
+    match bytes.first() {
+        Some(byte) if is_blank(*byte) => LineKind::Continuation(trim(text)),
+        _ if is_separator(bytes) => LineKind::Separator,
+        _ => field_start(text),
+    }
+}
+
+fn is_blank(byte: u8) -> bool
+    ensures { result ≡ lines.is_blank byte }
+{
+    byte == b' ' || byte == b'\t'
+}
+
+fn is_name_byte(byte: u8) -> bool
+    ensures { result ≡ lines.is_name_byte byte }
+{
+    byte.is_ascii_alphanumeric() || byte == b'-'
+}
+
+fn are_blank(bytes: &[u8]) -> bool
+    ensures { result ≡ list_all lines.is_blank bytes.now }
+{
+    for byte in bytes {
+        if !is_blank(*byte) {
+            return false;
+        }
+    }
+    true
+}
+
+fn is_separator(bytes: &[u8]) -> bool
+    ensures { result ≡ lines.is_separator bytes.now }
+{
+    match bytes {
+        [b'%', b'%', rest @ ..] => are_blank(rest),
+        _ => false,
+    }
+}
+
+/// The line without the carriage return that may end it.
+fn content(line: &str) -> &str
+    ensures { result.now ≡ content_of line.now }
+{
+    match line.as_bytes().last() {
+        Some(b'\r') => &line[..line.len() - 1],
+        _ => line,
+    }
+}
+
+/// The text without the spaces and tabs at its front.
+fn trim_start(text: &str) -> &str
+    ensures { result.now ≡ lines.trim_start text.now }
+{
+    for (i, byte) in text.as_bytes().iter().enumerate() {
+        if !is_blank(*byte) {
+            return &text[i..];
+        }
+    }
+    ""
+}
+
+/// The text without the spaces and tabs at its end.
+fn trim_end(text: &str) -> &str
+    ensures { result.now ≡ lines.trim_end text.now }
+{
+    let bytes = text.as_bytes();
+    let mut end = bytes.len();
+    while end > 0 && is_blank(bytes[end - 1]) {
+        end -= 1;
+    }
+    &text[..end]
+}
+
+fn trim(text: &str) -> &str
+    ensures { result.now ≡ lines.trim text.now }
+{
+    trim_end(trim_start(text))
+}
+
+/// The name at the front, and what follows it.
+fn split_name(text: &str) -> (&str, &str)
+    ensures name { result.0.now ≡ lines.name_at_front text.now }
+    ensures rest { result.1.now ≡ drop (length (lines.name_at_front text.now)) text.now }
+{
+    for (i, byte) in text.as_bytes().iter().enumerate() {
+        if !is_name_byte(*byte) {
+            return (&text[..i], &text[i..]);
+        }
+    }
+    (text, "")
+}
+
+ghost use Rattle.std.specs.Prelude.{drop};
+
+/// A line that begins a field, or a bad one.
+fn field_start(text: &str) -> LineKind<'_>
+    ensures { line_in result ≡ lines.start_of text.now }
+{
+    let (name, rest) = split_name(text);
+    let rest = trim_start(rest);
+    match rest.as_bytes().first() {
+        Some(b':') if !name.is_empty() => LineKind::Start(name, trim(&rest[1..])),
+        _ => LineKind::Bad,
+    }
+}
