@@ -2,7 +2,7 @@
 use Rattle.std.proofs.Common.{◌≡◌, ◌≢◌, ℕ, ◌≤◌, ◌<◌, Bool, true, false, ◌⊎◌, inl, inr, refl, sym, subst, ◌∙◌, arith}
 use Rattle.std.specs.Prelude.{Result, Ok, Err}
 use Rattle.lt_registry.specs.Faults.{IsFirstOf, rank_of}
-use Rattle.lt_registry.specs.Checking.{Check, and_then, unless, Tells, TellsOrLacks}
+use Rattle.lt_registry.specs.Checking.{Check, Counted, and_then, unless, Tells, TellsOrLacks}
 use Rattle.lt_registry.specs.declared.faults.ValidFault.{ValidFault}
 use Rattle.lt_registry.specs.declared.faults.ValidFaultKind.{ValidFaultKind}
 use Rattle.lt_registry.specs.declared.faults.ValidRefusal.{ValidRefusal}
@@ -129,3 +129,28 @@ upto_or m F G f g = λ a x h. elim h [ inl y ↦ f a x y | inr y ↦ g a x y ]
 
 pub past_less : (m n : ℕ) (F : Faults) → n ≤ m → Past m F → Past n F
 past_less m n F le f = λ a x y. let lt = f a x y in omega (arith, lt)
+
+pub same_trans : (F G H : Faults) → SameFaults F G → SameFaults G H → SameFaults F H
+same_trans F G H s t = record { there = λ k p f. t.there k p (s.there k p f); back = λ k p h. s.back k p (t.back k p h) }
+
+pub same_back : (F G : Faults) → SameFaults F G → SameFaults G F
+same_back F G s = record { there = s.back; back = s.there }
+
+pub same_counted : (r : Bool) (F G : Faults) → SameFaults F G → SameFaults (Counted r F) (Counted r G)
+same_counted r F G s = record { there = λ k p f. (s.there k p f.0, f.1); back = λ k p g. (s.back k p g.0, g.1) }
+
+pub counted_or : (r : Bool) (F G : Faults) → SameFaults (Or (Counted r F) (Counted r G)) (Counted r (Or F G))
+counted_or r F G = record {
+  there = λ k p h. elim h [ inl f ↦ (inl f.0, f.1) | inr g ↦ (inr g.0, g.1) ];
+  back = λ k p h. elim h.0 [ inl f ↦ inl (f, h.1) | inr g ↦ inr (g, h.1) ];
+}
+
+pub past_counted : (r : Bool) (m : ℕ) (F : Faults) → Past m F → Past m (Counted r F)
+past_counted r m F f = λ k p h. f k p h.0
+
+-- no fault of the first: those of the second alone
+pub same_second : (F G : Faults) → ((k : ValidFaultKind) (p : ℕ) → F k p → ⊥) → SameFaults (Or F G) G
+same_second F G none = record { there = λ k p h. elim h [ inl f ↦ absurd (none k p f) | inr g ↦ g ]; back = λ k p g. inr g }
+
+pub tells_told : (F : Faults) (a b : Check) → a ≡ b → Tells F a → Tells F b
+tells_told F a b e t = subst (Tells F) e t

@@ -1,7 +1,10 @@
 pub mod CheckLemmas
 pub mod CoreFaultLemmas
+pub mod ExtensionFaultLemmas
 pub mod FirstLemmas
+pub mod ListFaultLemmas
 pub mod ListLemmas
 pub mod OrderLemmas
 pub mod SameLemmas
+pub mod TagFaultLemmas
 pub mod VariantFaultLemmas

@@ -2,20 +2,11 @@
 use Rattle.std.specs.Prelude.{ℕ, ◌≡◌, ◌≢◌, true, List, [], ◌∷◌, map, IfSome}
 use Rattle.std.specs.List.{AllByRecursion}
 use Rattle.lt_tag.specs.Parts.{CoreParts, ExtensionParts, TForm, TagForm, LangTag, PrivateUse, Grandfathered}
-use Rattle.lt_tag.specs.Extensions.{spell_t, IsT}
+pub use Rattle.lt_tag.specs.Extensions.{transform, IsTransform}
 use Rattle.lt_tag.specs.Values.{IsTagValue}
 use Rattle.lt_registry.specs.Parts.{EntryParts}
 use Rattle.lt_registry.specs.Entries.{is_registered, prefixes, lists}
 use Rattle.lt_registry.specs.declared.entries.Kind.TheVariants as kinds
-
--- the singleton t
-abbrev pub transform : ℕ
-transform = 116
-
--- these parts spell the subtags of a t extension
-pub record IsTransform (subtags : List (List ℕ)) (parts : TForm) : Type 0 where
-  pub shaped : IsT parts
-  pub spelled : spell_t parts ≡ subtags
 
 -- at most one extlang, which is registered, and the language is one of its Prefixes
 abbrev pub ExtlangsFit : List EntryParts → List ℕ → List (List ℕ) → Type 0

@@ -10,7 +10,7 @@ use crate::entries::{Entry, EntryName, Kind};
 use crate::lookup::Lookup;
 use crate::registry::Registry;
 use crate::same::{same_kind, same_tag};
-use lt_subtag::{Subtag, order};
+use lt_subtag::Subtag;
 use lt_tag::Tag;
 use std::cmp::Ordering;
 use std::marker::Model;
@@ -120,7 +120,7 @@ fn is_alphabetic(subtag: &Subtag) -> bool
 fn is_up_to(first: &Subtag, other: &Subtag) -> bool
     ensures { result ≡ forms.letters_le first.now other.now }
 {
-    match order(first, other) {
+    match first.cmp(other) {
         Ordering::Less | Ordering::Equal => true,
         Ordering::Greater => false,
     }
