@@ -6,5 +6,7 @@ pub mod ListFaultLemmas
 pub mod ListLemmas
 pub mod OrderLemmas
 pub mod SameLemmas
+pub mod SplitListLemmas
 pub mod TagFaultLemmas
+pub mod ValidityLaws
 pub mod VariantFaultLemmas

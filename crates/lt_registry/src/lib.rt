@@ -4,6 +4,7 @@
 
 mod entries;
 mod faults;
+pub mod laws;
 mod list_table;
 mod lookup;
 mod registry;
