@@ -5,8 +5,6 @@ use Rattle.lt_registry.specs.Parts.{EntryParts}
 use Rattle.lt_registry.specs.Validity.{IsProper, IsValid}
 use Rattle.lt_rewrite.specs.Rewriting.{IsConfluent}
 use Rattle.lt_rewrite.specs.TagSteps.{TagStep, IsReached, AreEquivalent, IsCanonical, CanRepeat}
-use Rattle.lt_rewrite.specs.Labels.{LeadsBy}
-use Rattle.lt_rewrite.specs.declared.steps.Step.{Step}
 use Rattle.lt_canon.specs.Answers.{IsCanonicalFormOf, IsNamedRepeat}
 use Rattle.lt_canon.specs.ExtlangForm.{extlang_form}
 
@@ -49,10 +47,6 @@ pub record LeadsBack (R : List EntryParts) (c : TagForm) : Type 0 where
 
 abbrev pub ExtlangFormsLeadBack : List EntryParts → Type 0
 ExtlangFormsLeadBack R = (c : TagForm) → IsCanonical R c → LeadsBack R c
-
--- the kind, the place and the number determine what a step leads to
-abbrev pub StepsAreDetermined : List EntryParts → Type 0
-StepsAreDetermined R = (t u v : TagForm) (step : Step) → LeadsBy R t step u → LeadsBy R t step v → u ≡ v
 
 -- After an upgrade from A to B valid tags stay valid, equivalent tags equivalent, and what an old canonical form
 -- comes to is what the tag comes to, a repeat included.

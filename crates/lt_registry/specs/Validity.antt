@@ -2,7 +2,7 @@
 use Rattle.std.specs.Prelude.{ℕ, ◌≡◌, ◌≢◌, true, List, [], ◌∷◌, map, IfSome}
 use Rattle.std.specs.List.{AllByRecursion}
 use Rattle.lt_tag.specs.Parts.{CoreParts, ExtensionParts, TForm, TagForm, LangTag, PrivateUse, Grandfathered}
-pub use Rattle.lt_tag.specs.Extensions.{transform, IsTransform}
+use Rattle.lt_tag.specs.Extensions.{transform, IsTransform}
 use Rattle.lt_tag.specs.Values.{IsTagValue}
 use Rattle.lt_registry.specs.Parts.{EntryParts}
 use Rattle.lt_registry.specs.Entries.{is_registered, prefixes, lists}

@@ -4,9 +4,8 @@ use Rattle.std.proofs.Common.{Ordering}
 use Rattle.std.specs.Ordering.{nat_cmp}
 use Rattle.std.specs.Cmp.Lexicographic.{slice_cmp}
 use Rattle.lt_tag.specs.Parts.{CoreParts, ExtensionParts, KeywordParts, UForm, FieldParts, TForm}
-use Rattle.lt_tag.specs.Extensions.{spell_u, IsU}
+use Rattle.lt_tag.specs.Extensions.{unicode, IsUnicode, transform, IsTransform}
 use Rattle.lt_registry.specs.Parts.{EntryParts}
-use Rattle.lt_registry.specs.Validity.{transform, IsTransform}
 use Rattle.lt_rewrite.specs.CoreSteps.{values_of, CoreStep}
 use Rattle.lt_rewrite.specs.Orderings.{ListStep}
 
@@ -22,15 +21,6 @@ separator_cmp a b = text_cmp a.separator b.separator
 
 abbrev pub singleton_cmp : ExtensionParts → ExtensionParts → Ordering
 singleton_cmp a b = nat_cmp a.singleton b.singleton
-
--- the singleton u
-abbrev pub unicode : ℕ
-unicode = 117
-
--- these parts spell the subtags of a u extension
-pub record IsUnicode (subtags : List (List ℕ)) (parts : UForm) : Type 0 where
-  pub shaped : IsU parts
-  pub spelled : spell_u parts ≡ subtags
 
 -- a keyword whose types are exactly true loses it
 pub record DropsTrue (before : List KeywordParts) (k : KeywordParts) (after : List KeywordParts) (p q : List KeywordParts) : Type 0 where

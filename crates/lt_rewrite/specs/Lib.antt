@@ -6,3 +6,5 @@ pub mod Extensions
 pub mod TagSteps
 pub mod Labels
 pub mod Conditions
+pub mod OrderingLaws
+pub mod Laws

@@ -49,9 +49,9 @@ unfolding unicode_of
 u_forward ss p h =
     elim (chosen (nat_lt 0 (length ss) && list_all is_extension_subtag ss) _ _ _ h) [
       | inl a ↦
-        let t = and_parts _ _ a.0 in
-        let e : u_form (before is_key ss) (keywords_of ss) ≡ p = some_same _ _ a.1 in
-        u_found ss p t.1 (ltb-true 0 (length ss) t.0) (ap (λ (z : UForm). z.attributes) (sym e)) (ap (λ (z : UForm). z.keywords) (sym e))
+          let t = and_parts _ _ a.0 in
+          let e : u_form (before is_key ss) (keywords_of ss) ≡ p = some_same _ _ a.1 in
+          u_found ss p t.1 (ltb-true 0 (length ss) t.0) (ap (λ (z : UForm). z.attributes) (sym e)) (ap (λ (z : UForm). z.keywords) (sym e))
       | inr a ↦ let impossible : None ≡ Some p = a.1 in cc
     ]
 
@@ -84,8 +84,8 @@ unfolding transform_of
 t_forward ss p h =
     elim (chosen (nat_lt 0 (length ss) && list_all has_values (fields_of ss)) _ _ _ h) [
       | inl a ↦
-        let t = and_parts _ _ a.0 in
-        t_found ss p (t_at ss p (source_of_list (before is_separator ss)) refl a.1 t.1 (ltb-true 0 (length ss) t.0))
+          let t = and_parts _ _ a.0 in
+          t_found ss p (t_at ss p (source_of_list (before is_separator ss)) refl a.1 t.1 (ltb-true 0 (length ss) t.0))
       | inr a ↦ let impossible : None ≡ Some p = a.1 in cc
     ]
 

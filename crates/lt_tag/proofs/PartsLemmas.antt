@@ -327,10 +327,10 @@ fields_shaped [] h = tt
 fields_shaped (s ∷ ss) h =
     elim (cases_Bool (is_separator s)) [
       | inl e ↦
-        let k : list_all has_values (record { separator = s; values = before is_separator ss } ∷ fields_of ss) ≡ true = rw e at h in
-        let p = and_parts (are_values (before is_separator ss)) (list_all has_values (fields_of ss)) k in
-        let q = and_parts (nat_lt 0 (length (before is_separator ss))) (list_all is_long (before is_separator ss)) p.0 in
-        rw e (record { separator = e; values = q.1; some = ltb-true 0 (length (before is_separator ss)) q.0 }, fields_shaped ss p.1)
+          let k : list_all has_values (record { separator = s; values = before is_separator ss } ∷ fields_of ss) ≡ true = rw e at h in
+          let p = and_parts (are_values (before is_separator ss)) (list_all has_values (fields_of ss)) k in
+          let q = and_parts (nat_lt 0 (length (before is_separator ss))) (list_all is_long (before is_separator ss)) p.0 in
+          rw e (record { separator = e; values = q.1; some = ltb-true 0 (length (before is_separator ss)) q.0 }, fields_shaped ss p.1)
       | inr e ↦ rw e (fields_shaped ss (rw e at h))
     ]
 

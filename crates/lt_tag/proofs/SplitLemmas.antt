@@ -144,9 +144,9 @@ place_of mark ss =
     elim (cases_lt (position_or_len mark ss) (length ss)) [
       | inl h ↦ rw (lt-ltb (position_or_len mark ss) (length ss) h) refl
       | inr h ↦
-        let n : position_or_len mark ss ≤ length ss = prefix_len-le-length (λ (s : List ℕ). not (mark s)) ss in
-        let e : length ss ≡ position_or_len mark ss = omega arith in
-        rw (le-ltb (position_or_len mark ss) (length ss) h) e
+          let n : position_or_len mark ss ≤ length ss = prefix_len-le-length (λ (s : List ℕ). not (mark s)) ss in
+          let e : length ss ≡ position_or_len mark ss = omega arith in
+          rw (le-ltb (position_or_len mark ss) (length ss) h) e
     ]
 
 -- the two sides of a cut at that place

@@ -1,0 +1,162 @@
+-- The one core normal form.
+use Rattle.std.proofs.Common.{◌≡◌, ℕ, zero, suc, ◌⊎◌, inl, inr, List, [], ◌∷◌, ◌++◌, Option, Some, None, refl, sym, ap, ◌∙◌, length, map}
+use Rattle.std.specs.Option.{option_map}
+use Rattle.std.specs.List.{AllByRecursion}
+use Rattle.lt_tag.specs.Parts.{CoreParts}
+use Rattle.lt_rewrite.specs.CoreSteps.{Values, CoreStep, by_extlang, by_language, by_script, by_region, by_variant, by_turn, ExtlangStep, LanguageStep, ScriptStep, RegionStep, VariantStep, TurnStep}
+use Rattle.lt_rewrite.proofs.Chains.{IsEnd, end_same, end_next, end_keeps}
+
+-- the ends of the chains, and what the conditions on a registry say of them
+pub record Settles (V : Values) : Type 0 where
+  pub language : List ℕ → List ℕ
+  pub script : List ℕ → List ℕ
+  pub region : List ℕ → List ℕ
+  pub variant : List ℕ → List ℕ
+  pub language_end : IsEnd V.language language
+  pub script_end : IsEnd V.script script
+  pub region_end : IsEnd V.region region
+  pub variant_end : IsEnd V.variant variant
+  -- a language beside which a variant turns has no value
+  pub turns_at_rest : (l v m : List ℕ) → V.turn l v ≡ Some m → V.language l ≡ None
+  -- a variant with a variant value does not turn, and nor does its value
+  pub replaced : (v w : List ℕ) → V.variant v ≡ Some w → (l : List ℕ) → (V.turn l v ≡ None) × (V.turn l w ≡ None)
+
+-- the leftmost variant that turns: its language, and the others
+abbrev pub pick_at : Option (List ℕ) → List ℕ → List (List ℕ) → Option (List ℕ × List (List ℕ)) → Option (List ℕ × List (List ℕ))
+pick_at (Some m) v vs r = Some (m, vs)
+pick_at None v vs r = option_map (λ (p : List ℕ × List (List ℕ)). (p.0, v ∷ p.1)) r
+
+abbrev pub pick : Values → List ℕ → List (List ℕ) → Option (List ℕ × List (List ℕ))
+pick V l [] = None
+pick V l (v ∷ vs) = pick_at (V.turn l v) v vs (pick V l vs)
+
+-- turns done, at most n, from a language that has no value
+abbrev pub settled : (V : Values) → Settles V → ℕ → List ℕ → List (List ℕ) → List ℕ × List (List ℕ)
+settled V S zero x vs = (x, vs)
+settled V S (suc n) x vs = elim (pick V x vs) [ None ↦ (x, vs) | Some p ↦ settled V S n (S.language p.0) p.1 ]
+
+abbrev pub core : List ℕ → List (List ℕ) → Option (List ℕ) → Option (List ℕ) → List (List ℕ) → CoreParts
+core l xs sc re vs = record { language = l; extlangs = xs; script = sc; region = re; variants = vs }
+
+abbrev pub form_on : (V : Values) → Settles V → List (List ℕ) → List ℕ → Option (List ℕ) → Option (List ℕ) → List (List ℕ) → CoreParts
+form_on V S [] l sc re vs = let p = settled V S (length vs) (S.language l) vs in core p.0 [] sc re p.1
+form_on V S (x ∷ []) l sc re vs = let p = settled V S (length vs) (S.language (V.replacement x)) vs in core p.0 [] sc re p.1
+form_on V S (x ∷ y ∷ r) l sc re vs = core l (x ∷ y ∷ r) sc re vs
+
+-- the core normal form
+abbrev pub form : (V : Values) → Settles V → CoreParts → CoreParts
+form V S c = form_on V S c.extlangs c.language (option_map S.script c.script) (option_map S.region c.region) (map S.variant c.variants)
+
+-- every step keeps the form
+
+none_or : (o : Option (List ℕ)) → (o ≡ None) ⊎ ((t : List ℕ) × (o ≡ Some t))
+none_or None = inl refl
+none_or (Some t) = inr (t, refl)
+
+turn_end_at : (V : Values) (S : Settles V) (l v : List ℕ) → (o : Option (List ℕ)) → V.variant v ≡ o → V.turn l (S.variant v) ≡ V.turn l v
+turn_end_at V S l v None e = ap (V.turn l) (end_same S.variant_end v e)
+turn_end_at V S l v (Some w) e =
+    let here : V.turn l v ≡ None = (S.replaced v w e l).0 in
+    let P : List ℕ → Type 0 = λ s. V.turn l s ≡ None in
+    end_keeps S.variant_end P (λ s t h p. (S.replaced s t h l).1) v here ∙ sym here
+
+pub turn_end : (V : Values) (S : Settles V) (l v : List ℕ) → V.turn l (S.variant v) ≡ V.turn l v
+turn_end V S l v = turn_end_at V S l v (V.variant v) refl
+
+abbrev mapped : (List ℕ → List ℕ) → List ℕ × List (List ℕ) → List ℕ × List (List ℕ)
+mapped g p = (p.0, map g p.1)
+
+pick_at_map : (g : List ℕ → List ℕ) (o : Option (List ℕ)) (v : List ℕ) (vs : List (List ℕ)) (r : Option (List ℕ × List (List ℕ))) → pick_at o (g v) (map g vs) (option_map (mapped g) r) ≡ option_map (mapped g) (pick_at o v vs r)
+pick_at_map g (Some m) v vs r = refl
+pick_at_map g None v vs None = refl
+pick_at_map g None v vs (Some p) = refl
+
+pub pick_map : (V : Values) (S : Settles V) (l : List ℕ) (vs : List (List ℕ)) → pick V l (map S.variant vs) ≡ option_map (mapped S.variant) (pick V l vs)
+pick_map V S l [] = refl
+pick_map V S l (v ∷ vs) =
+    ap (λ o. pick_at o (S.variant v) (map S.variant vs) (pick V l (map S.variant vs))) (turn_end V S l v)
+    ∙ ap (pick_at (V.turn l v) (S.variant v) (map S.variant vs)) (pick_map V S l vs)
+    ∙ pick_at_map S.variant (V.turn l v) v vs (pick V l vs)
+
+pub pick_leftmost : (V : Values) (l : List ℕ) (before : List (List ℕ)) (v m : List ℕ) (after : List (List ℕ)) → AllByRecursion (λ u. V.turn l u ≡ None) before → V.turn l v ≡ Some m → pick V l (before ++ v ∷ after) ≡ Some (m, before ++ after)
+pick_leftmost V l [] v m after h e = ap (λ o. pick_at o v after (pick V l after)) e
+pick_leftmost V l (u ∷ us) v m after h e =
+    ap (λ o. pick_at o u (us ++ v ∷ after) (pick V l (us ++ v ∷ after))) h.0
+    ∙ ap (pick_at None u (us ++ v ∷ after)) (pick_leftmost V l us v m after h.1 e)
+
+pick_at_length : (o : Option (List ℕ)) (v : List ℕ) (vs : List (List ℕ)) (r : Option (List ℕ × List (List ℕ))) (p : List ℕ × List (List ℕ)) → ((q : List ℕ × List (List ℕ)) → r ≡ Some q → length vs ≡ suc (length q.1)) → pick_at o v vs r ≡ Some p → length (v ∷ vs) ≡ suc (length p.1)
+pick_at_length (Some m) v vs r p ih e = cc
+pick_at_length None v vs None p ih e = cc
+pick_at_length None v vs (Some q) p ih e =
+    let l : length vs ≡ suc (length q.1) = ih q refl in
+    let same : p ≡ (q.0, v ∷ q.1) = cc in
+    ap suc l ∙ sym (ap (λ (z : List ℕ × List (List ℕ)). suc (length z.1)) same)
+
+pub pick_length : (V : Values) (l : List ℕ) (vs : List (List ℕ)) (p : List ℕ × List (List ℕ)) → pick V l vs ≡ Some p → length vs ≡ suc (length p.1)
+pick_length V l [] p e = cc
+pick_length V l (v ∷ vs) p e = pick_at_length (V.turn l v) v vs (pick V l vs) p (pick_length V l vs) e
+
+pub settled_some : (V : Values) (S : Settles V) (x : List ℕ) (vs : List (List ℕ)) (p : List ℕ × List (List ℕ)) → pick V x vs ≡ Some p → settled V S (length vs) x vs ≡ settled V S (length p.1) (S.language p.0) p.1
+settled_some V S x vs p e =
+    ap (λ n. settled V S n x vs) (pick_length V x vs p e)
+    ∙ ap (λ (o : Option (List ℕ × List (List ℕ))). elim o as (λ _. List ℕ × List (List ℕ)) [ None ↦ (x, vs) | Some q ↦ settled V S (length p.1) (S.language q.0) q.1 ]) e
+
+map-append : {A B : Type 0} (f : A → B) (xs ys : List A) → map f (xs ++ ys) ≡ map f xs ++ map f ys
+map-append f [] ys = refl
+map-append f (x ∷ xs) ys = ap (λ l. f x ∷ l) (map-append f xs ys)
+
+keeps_extlang : (V : Values) (S : Settles V) (c d : CoreParts) (x : List ℕ) → ExtlangStep V c x d → form V S c ≡ form V S d
+keeps_extlang V S c d x s =
+    ap (λ xs. form_on V S xs c.language (option_map S.script c.script) (option_map S.region c.region) (map S.variant c.variants)) s.one
+    ∙ sym (ap (form V S) s.result)
+
+keeps_language : (V : Values) (S : Settles V) (c d : CoreParts) (v : List ℕ) → LanguageStep V c v d → form V S c ≡ form V S d
+keeps_language V S c d v s =
+    let sc = option_map S.script c.script in
+    let re = option_map S.region c.region in
+    let vs = map S.variant c.variants in
+    ap (λ xs. form_on V S xs c.language sc re vs) s.alone
+    ∙ ap (λ x. let p = settled V S (length vs) x vs in core p.0 [] sc re p.1) (end_next S.language_end c.language v s.has)
+    ∙ ap (λ xs. form_on V S xs v sc re vs) (sym s.alone)
+    ∙ sym (ap (form V S) s.result)
+
+keeps_script : (V : Values) (S : Settles V) (c d : CoreParts) (s v : List ℕ) → ScriptStep V c s v d → form V S c ≡ form V S d
+keeps_script V S c d s v h =
+    ap (λ o. form_on V S c.extlangs c.language o (option_map S.region c.region) (map S.variant c.variants)) (ap (option_map S.script) h.there ∙ ap Some (end_next S.script_end s v h.has))
+    ∙ sym (ap (form V S) h.result)
+
+keeps_region : (V : Values) (S : Settles V) (c d : CoreParts) (s v : List ℕ) → RegionStep V c s v d → form V S c ≡ form V S d
+keeps_region V S c d s v h =
+    ap (λ o. form_on V S c.extlangs c.language (option_map S.script c.script) o (map S.variant c.variants)) (ap (option_map S.region) h.there ∙ ap Some (end_next S.region_end s v h.has))
+    ∙ sym (ap (form V S) h.result)
+
+keeps_variant : (V : Values) (S : Settles V) (c d : CoreParts) (before : List (List ℕ)) (v w : List ℕ) (after : List (List ℕ)) → VariantStep V c before v w after d → form V S c ≡ form V S d
+keeps_variant V S c d before v w after h =
+    ap (λ vs. form_on V S c.extlangs c.language (option_map S.script c.script) (option_map S.region c.region) vs)
+    (ap (map S.variant) h.there ∙ map-append S.variant before (v ∷ after) ∙ ap (λ u. map S.variant before ++ u ∷ map S.variant after) (end_next S.variant_end v w h.has) ∙ sym (map-append S.variant before (w ∷ after)))
+    ∙ sym (ap (form V S) h.result)
+
+keeps_turn : (V : Values) (S : Settles V) (c d : CoreParts) (before : List (List ℕ)) (v m : List ℕ) (after : List (List ℕ)) → TurnStep V c before v m after d → form V S c ≡ form V S d
+keeps_turn V S c d before v m after s =
+    let sc = option_map S.script c.script in
+    let re = option_map S.region c.region in
+    let vs = map S.variant c.variants in
+    let rest : S.language c.language ≡ c.language = end_same S.language_end c.language (S.turns_at_rest c.language v m s.has) in
+    let found : pick V c.language vs ≡ Some (m, map S.variant (before ++ after)) =
+    pick_map V S c.language c.variants
+    ∙ ap (λ us. option_map (mapped S.variant) (pick V c.language us)) s.there
+    ∙ ap (option_map (mapped S.variant)) (pick_leftmost V c.language before v m after s.leftmost s.has) in
+    ap (λ xs. form_on V S xs c.language sc re vs) s.alone
+    ∙ ap (λ x. let p = settled V S (length vs) x vs in core p.0 [] sc re p.1) rest
+    ∙ ap (λ (p : List ℕ × List (List ℕ)). core p.0 [] sc re p.1) (settled_some V S c.language vs (m, map S.variant (before ++ after)) found)
+    ∙ ap (λ xs. form_on V S xs m sc re (map S.variant (before ++ after))) (sym s.alone)
+    ∙ sym (ap (form V S) s.result)
+
+-- every core step keeps the form
+pub step_keeps : (V : Values) (S : Settles V) (c d : CoreParts) → CoreStep V c d → form V S c ≡ form V S d
+step_keeps V S c d (by_extlang x s) = keeps_extlang V S c d x s
+step_keeps V S c d (by_language v s) = keeps_language V S c d v s
+step_keeps V S c d (by_script s v h) = keeps_script V S c d s v h
+step_keeps V S c d (by_region s v h) = keeps_region V S c d s v h
+step_keeps V S c d (by_variant before v w after h) = keeps_variant V S c d before v w after h
+step_keeps V S c d (by_turn before v m after s) = keeps_turn V S c d before v m after s

@@ -1,0 +1,46 @@
+-- A function that names the one normal form.
+use Rattle.std.proofs.Common.{◌≡◌, refl, sym, ◌∙◌}
+use Rattle.lt_rewrite.specs.Rewriting.{Star, done, then, Rests, IsNormalForm}
+
+-- each step keeps it, steps reach it, and none leads from it
+pub record IsFormOf {A : Type 0} (Step : A → A → Type 0) (form : A → A) : Type 0 where
+  pub kept : (a b : A) → Step a b → form a ≡ form b
+  pub reached : (a : A) → Star Step a (form a)
+  pub rests : (a : A) → Rests Step (form a)
+
+pub star_rests : {A : Type 0} {Step : A → A → Type 0} {a b : A} → Star Step a b → Rests Step a → a ≡ b
+star_rests done h = refl
+star_rests (then {b = b} s r) h = absurd (h b s)
+
+pub star_form : {A : Type 0} {Step : A → A → Type 0} {form : A → A} → IsFormOf Step form → {a b : A} → Star Step a b → form a ≡ form b
+star_form F done = refl
+star_form F (then {a = a} {b = b} s r) = F.kept a b s ∙ star_form F r
+
+-- from which no step leads is its own form
+pub rest_is_form : {A : Type 0} {Step : A → A → Type 0} {form : A → A} → IsFormOf Step form → (a : A) → Rests Step a → form a ≡ a
+rest_is_form F a h = sym (star_rests (F.reached a) h)
+
+pub form_is_normal : {A : Type 0} {Step : A → A → Type 0} {form : A → A} → IsFormOf Step form → (a : A) → IsNormalForm Step a (form a)
+form_is_normal F a = record { reached = F.reached a; at_rest = F.rests a }
+
+pub normal_is_form : {A : Type 0} {Step : A → A → Type 0} {form : A → A} → IsFormOf Step form → (a b : A) → IsNormalForm Step a b → form a ≡ b
+normal_is_form F a b n = star_form F n.reached ∙ rest_is_form F b n.at_rest
+
+-- the form of a form is itself
+pub form_again : {A : Type 0} {Step : A → A → Type 0} {form : A → A} → IsFormOf Step form → (a : A) → form (form a) ≡ form a
+form_again {form = form} F a = rest_is_form F (form a) (F.rests a)
+
+-- steps lead to steps
+pub star_map : {A B : Type 0} {Step : A → A → Type 0} {Other : B → B → Type 0} (g : A → B) → ((a b : A) → Step a b → Other (g a) (g b)) → {a b : A} → Star Step a b → Star Other (g a) (g b)
+star_map g h done = done
+star_map g h (then {a = a} {b = b} s r) = then (h a b s) (star_map g h r)
+
+-- what each step keeps, many steps keep
+pub star_keeps : {A : Type 0} {Step : A → A → Type 0} (P : A → Type 0) → ((a b : A) → Step a b → P a → P b) → {a b : A} → Star Step a b → P a → P b
+star_keeps P h done p = p
+star_keeps P h (then {a = a} {b = b} s r) p = star_keeps P h r (h a b s p)
+
+-- and they lead to steps where what they keep holds
+pub star_map_while : {A B : Type 0} {Step : A → A → Type 0} {Other : B → B → Type 0} (P : A → Type 0) (g : A → B) → ((a b : A) → Step a b → P a → P b) → ((a b : A) → Step a b → P a → P b → Other (g a) (g b)) → {a b : A} → Star Step a b → P a → Star Other (g a) (g b)
+star_map_while P g k h done p = done
+star_map_while P g k h (then {a = a} {b = b} s r) p = let q = k a b s p in then (h a b s p q) (star_map_while P g k h r q)

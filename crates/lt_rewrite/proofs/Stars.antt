@@ -1,0 +1,10 @@
+-- Any number of steps, one after another.
+use Rattle.std.proofs.Common.{◌≡◌, subst}
+use Rattle.lt_rewrite.specs.Rewriting.{Star, done, then}
+
+pub star_trans : {A : Type 0} {Step : A → A → Type 0} {a b c : A} → Star Step a b → Star Step b c → Star Step a c
+star_trans done t = t
+star_trans (then s r) t = then s (star_trans r t)
+
+pub star_path : {A : Type 0} {Step : A → A → Type 0} (a b : A) → a ≡ b → Star Step a b
+star_path {A} {Step} a b e = subst (λ x. Star Step a x) e done

@@ -1,0 +1,5 @@
+use Rattle.lt_rewrite.proofs.Proper.{steps_keep_proper, proper_spells_none}
+use Rattle.lt_rewrite.proofs.laws.core_steps_stay_proper.Goals as goal
+
+pub returns : goal.returns
+returns c = record { proper = steps_keep_proper; spelled = proper_spells_none }

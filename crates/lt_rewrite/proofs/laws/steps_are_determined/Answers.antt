@@ -1,0 +1,5 @@
+use Rattle.lt_rewrite.proofs.OneStep.{steps_determined}
+use Rattle.lt_rewrite.proofs.laws.steps_are_determined.Goals as goal
+
+pub returns : goal.returns
+returns c = steps_determined

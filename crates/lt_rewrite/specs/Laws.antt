@@ -1,0 +1,52 @@
+-- The laws of steps, over a list of entries.
+use Rattle.std.specs.Prelude.{ℕ, ◌≡◌, List, None, length}
+use Rattle.lt_tag.specs.Parts.{CoreParts, TagForm}
+use Rattle.lt_tag.specs.Spelling.{spell_core}
+use Rattle.lt_tag.specs.Values.{IsCoreValue}
+use Rattle.lt_tag.specs.WellFormed.{IsNotGrandfathered}
+use Rattle.lt_registry.specs.Parts.{EntryParts}
+use Rattle.lt_registry.specs.Validity.{IsProperCore}
+use Rattle.lt_registry.specs.declared.entries.Kind.{Kind}
+use Rattle.lt_rewrite.specs.CoreSteps.{values_of, CoreStep, IsCoreNormalForm, chase, Ends}
+use Rattle.lt_rewrite.specs.Conditions.{next_value}
+use Rattle.lt_rewrite.specs.Labels.{LeadsBy}
+use Rattle.lt_rewrite.specs.declared.steps.Step.{Step}
+
+-- a core's normal form, and the only one
+pub record IsOneNormalForm (R : List EntryParts) (c d : CoreParts) : Type 0 where
+  pub normal : IsCoreNormalForm (values_of R) c d
+  pub alone : (e : CoreParts) → IsCoreNormalForm (values_of R) c e → e ≡ d
+
+-- each core has exactly one core normal form
+abbrev pub HasOneNormalForm : List EntryParts → Type 0
+HasOneNormalForm R = (c : CoreParts) → (d : CoreParts) × IsOneNormalForm R c d
+
+-- a core step keeps the core normal form
+abbrev pub StepsKeepNormalForm : List EntryParts → Type 0
+StepsKeepNormalForm R = (c d e : CoreParts) → CoreStep (values_of R) c d → IsCoreNormalForm (values_of R) c e → IsCoreNormalForm (values_of R) d e
+
+-- a proper core as a value has it
+pub record IsProperValue (R : List EntryParts) (c : CoreParts) : Type 0 where
+  pub value : IsCoreValue c
+  pub proper : IsProperCore R c
+
+-- a core step leads from a proper core to a proper core
+abbrev pub StepsKeepProper : List EntryParts → Type 0
+StepsKeepProper R = (c d : CoreParts) → IsProperValue R c → CoreStep (values_of R) c d → IsProperValue R d
+
+-- a proper core spells no grandfathered tag
+abbrev pub ProperCoresSpellNone : List EntryParts → Type 0
+ProperCoresSpellNone R = (c : CoreParts) → IsProperValue R c → IsNotGrandfathered (spell_core c)
+
+-- a chain of values that comes to an end has done so after as many values as there are records
+abbrev pub EndingChainsAreShort : List EntryParts → Type 0
+EndingChainsAreShort R =
+    (k : Kind) (s : List ℕ) → Ends (next_value R k) s → next_value R k (chase (next_value R k) (length R) s) ≡ None
+
+-- the chain from each subtag comes to an end
+abbrev pub ChainsEnd : List EntryParts → Type 0
+ChainsEnd R = (k : Kind) (s : List ℕ) → Ends (next_value R k) s
+
+-- the kind, the place and the number determine what a step leads to
+abbrev pub StepsAreDetermined : List EntryParts → Type 0
+StepsAreDetermined R = (t u v : TagForm) (step : Step) → LeadsBy R t step u → LeadsBy R t step v → u ≡ v

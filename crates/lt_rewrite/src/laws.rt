@@ -1,0 +1,31 @@
+//! What follows from the definitions alone, for every list of entries.
+ghost use Rattle.std.specs.Prelude.{List, All};
+ghost use Rattle.lt_registry.specs.Parts.{EntryParts};
+ghost use Rattle.lt_rewrite.specs.Conditions.{IsRegistry, HasEndingChain, FitsGrandfathered, MeetsCoreConditions};
+ghost use Rattle.lt_rewrite.specs.Laws.{HasOneNormalForm, StepsKeepNormalForm, StepsKeepProper, ProperCoresSpellNone, EndingChainsAreShort, ChainsEnd, StepsAreDetermined};
+
+/// A chain of values that comes to an end has done so after as many values as there are records;
+/// and each comes to an end where the chains from all records do.
+pub fn chains_end()
+    ensures short { (R : List EntryParts) → EndingChainsAreShort R }
+    ensures end { (R : List EntryParts) → All (HasEndingChain R) R → ChainsEnd R }
+{}
+
+/// Under the conditions on core steps each core has exactly one core normal form, and each core
+/// step keeps it.
+pub fn one_core_normal_form()
+    ensures one { (R : List EntryParts) → MeetsCoreConditions R → HasOneNormalForm R }
+    ensures kept { (R : List EntryParts) → MeetsCoreConditions R → StepsKeepNormalForm R }
+{}
+
+/// A core step on a proper core gives a proper core; and no proper core spells a grandfathered tag
+/// where the registry makes none of them valid.
+pub fn core_steps_stay_proper()
+    ensures proper { (R : List EntryParts) → IsRegistry R → MeetsCoreConditions R → StepsKeepProper R }
+    ensures spelled { (R : List EntryParts) → All (FitsGrandfathered R) R → ProperCoresSpellNone R }
+{}
+
+/// In every registry the kind, the place and the number determine what a step leads to.
+pub fn steps_are_determined()
+    ensures { (R : List EntryParts) → StepsAreDetermined R }
+{}

@@ -1,0 +1,20 @@
+//! What follows from the definitions of the steps on extensions alone.
+ghost use Rattle.std.specs.Prelude.{List};
+ghost use Rattle.lt_registry.specs.Parts.{EntryParts};
+ghost use Rattle.lt_rewrite.specs.Conditions.{IsRegistry, MeetsCoreConditions};
+ghost use Rattle.lt_rewrite.specs.OrderingLaws.{UnicodeHasOneForm, TransformHasOneForm, ExtensionsHaveOneForm};
+
+/// The parts of a `u` extension have one normal form.
+pub fn one_form_of_unicode()
+    ensures { UnicodeHasOneForm }
+{}
+
+/// Under the conditions on core steps the parts of a `t` extension have one normal form.
+pub fn one_form_of_transform()
+    ensures { (R : List EntryParts) → IsRegistry R → MeetsCoreConditions R → TransformHasOneForm R }
+{}
+
+/// Under the conditions on core steps a list of extensions has one normal form.
+pub fn one_form_of_extensions()
+    ensures { (R : List EntryParts) → IsRegistry R → MeetsCoreConditions R → ExtensionsHaveOneForm R }
+{}

@@ -1,0 +1,13 @@
+use Rattle.std.proofs.Common.{◌≤◌, ◌+◌, length}
+use Rattle.lt_tag.specs.Rest.{pieces_left}
+use Rattle.lt_tag.specs.DraftViews.{draft_view}
+use Rattle.lt_tag.proofs.ReadingLemmas.{HasRead}
+use Rattle.lt_tag.proofs.reading.read_other.Given as goal
+
+-- the draft is that of the subtags so far
+abbrev pub invariant-loop-rest : goal.invariant-loop-rest
+invariant-loop-rest l =
+    (l.place + length (pieces_left l.rest) ≤ 1025) × HasRead l.text l.place (pieces_left l.rest) (draft_view l.draft)
+
+abbrev pub decreases-loop-rest : goal.decreases-loop-rest
+decreases-loop-rest l = length (pieces_left l.rest)

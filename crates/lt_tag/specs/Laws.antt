@@ -1,0 +1,40 @@
+-- What follows from the definitions alone.
+use Rattle.std.specs.Prelude.{ℕ, ◌≡◌, ◌↔◌, List}
+use Rattle.lt_subtag.specs.Bytes.{folded}
+use Rattle.lt_tag.specs.Parts.{CoreParts, TagForm}
+use Rattle.lt_tag.specs.Lists.{list_of}
+use Rattle.lt_tag.specs.Grandfathered.{grandfathered_list, IsGrandfathered}
+use Rattle.lt_tag.specs.Spelling.{spell_core, IsCore}
+use Rattle.lt_tag.specs.WellFormed.{spell, IsTag}
+use Rattle.lt_tag.specs.Faults.{HasList}
+use Rattle.lt_tag.specs.Conventional.{conventional}
+
+-- A list is spelled by one core at most.
+abbrev pub OneCorePerList : Type 0
+OneCorePerList = (a b : CoreParts) → IsCore a → IsCore b → spell_core a ≡ spell_core b → a ≡ b
+
+-- The 26 grandfathered lists differ.
+abbrev pub OneNumberPerList : Type 0
+OneNumberPerList = (list : List (List ℕ)) (a b : ℕ) → IsGrandfathered list a → IsGrandfathered list b → a ≡ b
+
+-- A list is spelled by one tag at most.
+abbrev pub OneTagPerList : Type 0
+OneTagPerList = (a b : TagForm) → IsTag a → IsTag b → spell a ≡ spell b → a ≡ b
+
+-- A text has a list, which is that of a tag and of no other tag.
+pub record IsTextOf (tag : TagForm) (text : List ℕ) : Type 0 where
+  pub listed : HasList text
+  pub same : list_of text ≡ spell tag
+  pub alone : (other : TagForm) → IsTag other → spell other ≡ list_of text → other ≡ tag
+
+-- The text of a tag is read again as that tag and as no other.
+abbrev pub TextOfTagIsReadAgain : Type 0
+TextOfTagIsReadAgain = (tag : TagForm) → IsTag tag → IsTextOf tag (conventional (spell tag))
+
+-- Two tags have the same text exactly if they are equal.
+abbrev pub SameTextForSameTag : Type 0
+SameTextForSameTag = (a b : TagForm) → IsTag a → IsTag b → (conventional (spell a) ≡ conventional (spell b)) ↔ (a ≡ b)
+
+-- Two texts that have lists are printed alike exactly if they differ in letter case alone.
+abbrev pub PrintedAlikeForSameLetters : Type 0
+PrintedAlikeForSameLetters = (a b : List ℕ) → HasList a → HasList b → (conventional (list_of a) ≡ conventional (list_of b)) ↔ (folded a ≡ folded b)

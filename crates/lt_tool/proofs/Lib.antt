@@ -1,0 +1,3 @@
+-- Lemmas on the program's calls.
+pub mod ReadingLemmas
+mod WorkedRows

@@ -1,0 +1,58 @@
+-- The command that the words of a command line name.
+use Rattle.std.specs.Prelude.{◌≡◌, ⊤, ℕ, List, [], ◌∷◌, Option, Some, None, map, codes, string_bytes}
+use Rattle.clap.specs.Words.{Row, Text, first_of, subcommand_of, fault_of, IsAmong}
+use Rattle.clap.specs.declared.error.kind.ErrorKind.{ErrorKind}
+use Rattle.clap.specs.declared.error.kind.ErrorKind.TheVariants as kind
+use Rattle.lt_tool.specs.CommandLine.{langtag}
+use Rattle.lt_tool.specs.declared.words.Command.{Command}
+use Rattle.lt_tool.specs.declared.words.Command.TheVariants as command
+use Rattle.lt_tool.specs.declared.words.WordsFault.{WordsFault}
+use Rattle.lt_tool.specs.declared.words.WordsFault.TheVariants as fault
+
+-- what a parse found is the subcommand of this name, and its positionals have these values
+pub record Gives (found : Option (Text × List Row)) (name : Text) (positionals values : List Text) : Type 0 where
+  pub rows : List Row
+  pub named : found ≡ Some (name, rows)
+  pub given : map (λ positional. first_of positional rows) positionals ≡ map (λ value. Some value) values
+
+-- what a parse found is this command, with the values of its positionals
+abbrev pub IsNamed : Option (Text × List Row) → Command → Type 0
+IsNamed found (command.Classify tag) =
+    Gives found (codes "classify") (codes "TAG" ∷ []) (string_bytes tag ∷ [])
+
+-- the words name this command, by `clap`'s definition of the matches of a simple command
+abbrev pub Names : List Text → Command → Type 0
+Names words = IsNamed (subcommand_of langtag words)
+
+-- nothing is wrong with the words, and they name this command
+pub record Reads (words : List Text) (command : Command) : Type 0 where
+  pub right : fault_of langtag words ≡ []
+  pub names : Names words command
+
+-- Want of memory aside: help answers a request for help, and words that are that alone are answered by nothing
+-- else; words that name a command are no fault of usage.
+abbrev pub IsRefused : List Text → WordsFault → Type 0
+IsRefused words (fault.Help text) = IsAmong kind.DisplayHelp (fault_of langtag words)
+IsRefused words (fault.Usage text) =
+    ((command : Command) → Reads words command → ⊥) × (fault_of langtag words ≡ kind.DisplayHelp ∷ [] → ⊥)
+IsRefused words fault.OutOfMemory = ⊤
+
+-- ---- the steps
+
+-- want of memory aside, the value is not there
+abbrev pub IsAbsent : Option Text → WordsFault → Type 0
+IsAbsent value (fault.Help text) = ⊥
+IsAbsent value (fault.Usage text) = value ≡ None
+IsAbsent value fault.OutOfMemory = ⊤
+
+-- want of memory aside, what a parse found is no command
+abbrev pub NamesNone : Option (Text × List Row) → WordsFault → Type 0
+NamesNone found (fault.Help text) = ⊥
+NamesNone found (fault.Usage text) = (command : Command) → IsNamed found command → ⊥
+NamesNone found fault.OutOfMemory = ⊤
+
+-- the fault of a parse that failed so
+abbrev pub IsFaultOf : ErrorKind → WordsFault → Type 0
+IsFaultOf k (fault.Help text) = k ≡ kind.DisplayHelp
+IsFaultOf k (fault.Usage text) = (k ≡ kind.DisplayHelp → ⊥) × (k ≡ kind.OutOfMemory → ⊥)
+IsFaultOf k fault.OutOfMemory = ⊤

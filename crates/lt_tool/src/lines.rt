@@ -1,0 +1,65 @@
+//! The lines that the program prints.
+ghost use Rattle.std.specs.Prelude.{◌≡◌, IfOk};
+ghost use Rattle.lt_tool.specs.Printed.{class_line, class_word, fault_line, Classifies};
+
+use crate::status::Status;
+use lt_tag::{Class, OutOfMemory, Tag, TagFault, TagFaultKind, read_tag, write_tag};
+use std::alloc::Global;
+
+/// A line, and the status of a run that prints it.
+#[derive(Drop)]
+pub struct Answer {
+    pub line: Vec<u8>,
+    pub status: Status,
+}
+
+/// The word for a class.
+fn class_name(class: Class) -> &'static str
+    ensures { result.now ≡ class_word class }
+{
+    match class {
+        Class::LangTag => "langtag",
+        Class::PrivateUse => "privateuse",
+        Class::Grandfathered => "grandfathered",
+    }
+}
+
+/// The class of a tag, and the tag in conventional case.
+fn line_of_tag(alloc: Global, tag: &Tag) -> Result<Vec<u8>, OutOfMemory>
+    ensures { IfOk result (λ line. line.items ≡ class_line tag.now) }
+{
+    let text = write_tag(alloc, tag)?;
+    let mut line = Vec::new(alloc);
+    line.extend_from_slice(class_name(tag.class()).as_bytes())?;
+    line.push(b' ')?;
+    line.extend_from_slice(&text)?;
+    line.push(b'\n')?;
+    Ok(line)
+}
+
+/// The name of a fault, and its place.
+fn line_of_fault(alloc: Global, fault: TagFault) -> Result<Vec<u8>, OutOfMemory>
+    ensures { IfOk result (λ line. line.items ≡ fault_line fault) }
+{
+    let name = fault.kind.name();
+    let place = fault.place;
+    let line = format!(in alloc; "! {name} {place}\n")?;
+    Ok(line.into_bytes())
+}
+
+/// What `classify` answers to a text.
+pub fn classify(alloc: Global, text: &[u8]) -> Result<Answer, OutOfMemory>
+    ensures { IfOk result (λ answer. Classifies text.now answer.line.items answer.status) }
+{
+    match read_tag(alloc, text) {
+        Ok(tag) => Ok(Answer {
+            line: line_of_tag(alloc, &tag)?,
+            status: Status::Done,
+        }),
+        Err(fault) if fault.kind == TagFaultKind::OutOfMemory => Err(OutOfMemory),
+        Err(fault) => Ok(Answer {
+            line: line_of_fault(alloc, fault)?,
+            status: Status::Refused,
+        }),
+    }
+}
