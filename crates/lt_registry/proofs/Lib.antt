@@ -4,8 +4,11 @@ pub mod ExtensionFaultLemmas
 pub mod FirstLemmas
 pub mod ListFaultLemmas
 pub mod ListLemmas
+pub mod NameReadLemmas
 pub mod OrderLemmas
+pub mod RecordLaws
 pub mod SameLemmas
+pub mod ScanLemmas
 pub mod SplitListLemmas
 pub mod TagFaultLemmas
 pub mod ValidityLaws

@@ -5,3 +5,6 @@ pub mod Validity
 pub mod Faults
 pub mod Names
 pub mod Checking
+pub mod Records
+pub mod RecordRefusals
+pub mod RecordSteps

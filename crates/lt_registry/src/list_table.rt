@@ -4,15 +4,14 @@ ghost use Rattle.std.specs.Option.{option_copied};
 ghost use Rattle.lt_registry.specs.Parts.{EntryParts};
 ghost use Rattle.lt_registry.specs.Same as same;
 ghost use Rattle.lt_registry.specs.Entries as forms;
-ghost use Rattle.lt_subtag.specs.Shapes as shapes;
 
 use crate::entries::{Entry, EntryName, Kind};
 use crate::lookup::Lookup;
+use crate::names::{is_alphabetic, is_up_to};
 use crate::registry::Registry;
 use crate::same::{same_kind, same_tag};
 use lt_subtag::Subtag;
 use lt_tag::Tag;
-use std::cmp::Ordering;
 use std::marker::Model;
 
 /// A table that looks at one entry after another.
@@ -106,22 +105,5 @@ fn is_whole(name: &EntryName, tag: &Tag) -> bool
     match name {
         EntryName::Whole(whole) => same_tag(whole, tag),
         _ => false,
-    }
-}
-
-/// Letters alone.
-fn is_alphabetic(subtag: &Subtag) -> bool
-    ensures { result ≡ shapes.is_alphabetic subtag.now }
-{
-    subtag.bytes().iter().all(|byte| byte.is_ascii_lowercase())
-}
-
-/// Whether the first is the other or stands before it in letter order.
-fn is_up_to(first: &Subtag, other: &Subtag) -> bool
-    ensures { result ≡ forms.letters_le first.now other.now }
-{
-    match first.cmp(other) {
-        Ordering::Less | Ordering::Equal => true,
-        Ordering::Greater => false,
     }
 }

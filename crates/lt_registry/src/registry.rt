@@ -1,8 +1,15 @@
 //! The entries of a registry.
-ghost use Rattle.std.specs.Prelude.{◌≡◌};
+ghost use Rattle.std.specs.Prelude.{◌≡◌, ◌≤◌, length, IfOk, IfErr};
 ghost use Rattle.lt_registry.specs.Entries.{IsRegistry};
+ghost use Rattle.lt_registry.specs.Records.{HasEntries};
+ghost use Rattle.lt_registry.specs.RecordRefusals.{IsRecordRefusal};
 
 use crate::entries::Entry;
+use crate::faults::{RecordFault, RecordFaultKind};
+use crate::fields::is_header;
+use crate::records::read_entry;
+use lt_jar::Record;
+use std::alloc::Global;
 use std::marker::Model;
 
 /// The entries of a registry in the order of the file.
@@ -24,6 +31,29 @@ impl Model for Registry {
 }
 
 impl Registry {
+    /// The entries of a file's records: each record but the header gives one. A refusal names the lowest
+    /// record at fault and, there, the first fault; for want of memory the record that was being made.
+    pub fn from_records(alloc: Global, records: &[Record]) -> Result<Registry, RecordFault>
+        requires { length records.now ≤ 100000 }
+        ensures ok { IfOk result (HasEntries records.now) }
+        ensures err { IfErr result (IsRecordRefusal records.now) }
+    {
+        let mut entries = Vec::new(alloc);
+        for (index, record) in records.iter().enumerate() {
+            let number = index as u32 + 1;
+            if number == 1 && is_header(record) {
+                continue;
+            }
+            let entry = read_entry(alloc, record, number)
+                .map_err(|kind| RecordFault { kind, number })?;
+            entries.push(entry).map_err(|_| RecordFault {
+                kind: RecordFaultKind::OutOfMemory,
+                number,
+            })?;
+        }
+        Ok(Registry { entries })
+    }
+
     /// The entries in the order of the file.
     pub fn entries(&self) -> &[Entry]
         ensures value { result.now ≡ self.now }
