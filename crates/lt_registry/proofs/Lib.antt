@@ -7,6 +7,7 @@ pub mod ListLemmas
 pub mod NameReadLemmas
 pub mod OrderLemmas
 pub mod RecordLaws
+pub mod RegistryLemmas
 pub mod SameLemmas
 pub mod ScanLemmas
 pub mod SplitListLemmas

@@ -1,25 +1,28 @@
 -- A record gives one entry or has one first fault, and not both.
 use Rattle.std.proofs.Common.{◌≡◌, ◌≢◌, ℕ, zero, suc, ◌+◌, ◌<◌, ◌≤◌, Bool, true, false, if◌then◌else◌, eqb, ◌⊎◌, inl, inr, List, [], ◌∷◌, ◌++◌, length, Option, Some, None, refl, sym, ap, ◌∙◌, subst, arith}
-use Rattle.std.specs.Prelude.{Result, Ok, Err}
+use Rattle.std.specs.Prelude.{Result, Ok, Err, IfOk, IfErr}
+use Rattle.std.specs.List.{AllByRecursion}
 use Rattle.lt_subtag.specs.Reading.{subtag_of}
 use Rattle.lt_tag.specs.Parts.{TagForm}
 use Rattle.lt_tag.specs.Faults.{HasTag}
 use Rattle.lt_tag.proofs.OneTagLemmas.{one_tag}
 use Rattle.lt_jar.specs.Records.{Field}
 use Rattle.lt_registry.specs.Parts.{EntryParts}
-use Rattle.lt_registry.specs.Entries.{is_whole_kind, has_value_form}
-use Rattle.lt_registry.specs.Records.{body, bodies, type_name, subtag_name, tag_name, value_name, repeats_field, kind_of, HasKind, name_field, formed, subtags_named, HasNoTag, IsName, IsValue, IsValueOf, prefixes_in, IsEntryOf, HasRecordFault, record_rank, IsFirstOfRecord}
-use Rattle.lt_registry.specs.RecordSteps.{kind_or, kind_by, IsNameIn, IsNameFault, IsValueFault, IsPrefixFault}
+use Rattle.lt_registry.specs.Entries.{is_whole_kind, has_value_form, IsPrefix}
+use Rattle.lt_registry.specs.Records.{body, bodies, type_name, subtag_name, tag_name, value_name, repeats_field, kind_of, HasKind, name_field, formed, subtags_named, HasNoTag, IsName, IsValue, IsValueOf, prefix_name, has_prefixes, prefixes_of, prefixes_in, IsEntryOf, HasRecordFault, record_rank, IsFirstOfRecord}
+use Rattle.lt_registry.specs.RecordSteps.{kind_or, kind_by, IsNameIn, IsNameFault, IsTextFault, IsValueFault, IsPrefixFault}
 use Rattle.lt_registry.specs.RecordRefusals.{IsRefused}
 use Rattle.lt_registry.specs.declared.entries.Kind.{Kind}
+use Rattle.lt_registry.specs.declared.entries.Kind.TheVariants as kinds
 use Rattle.lt_registry.specs.declared.entries.EntryName.{EntryName}
 use Rattle.lt_registry.specs.declared.entries.EntryName.TheVariants as names
 use Rattle.lt_registry.specs.declared.entries.EntryValue.{EntryValue}
 use Rattle.lt_registry.specs.declared.entries.EntryValue.TheVariants as values
 use Rattle.lt_registry.specs.declared.faults.RecordFaultKind.{RecordFaultKind}
 use Rattle.lt_registry.specs.declared.faults.RecordFaultKind.TheVariants as faults
+use Rattle.lt_registry.proofs.NameReadLemmas.{IsSubtagsResult, subtags_fit, prefixes_are}
 
-same_some : {A : Type 0} (o : Option A) (a b : A) → o ≡ Some a → o ≡ Some b → a ≡ b
+pub same_some : {A : Type 0} (o : Option A) (a b : A) → o ≡ Some a → o ≡ Some b → a ≡ b
 same_some None a b h k = cc
 same_some (Some c) a b h k = cc
 
@@ -48,10 +51,10 @@ no_unknown_type r k h f =
     let same : h.0 ≡ f.0 = same_some (body type_name r) h.0 f.0 h.1 f.1 in
     not_none (kind_of f.0) k (ap kind_of (sym same) ∙ h.2) f.2
 
-field_of_subtag : (k : Kind) → is_whole_kind k ≡ false → name_field k ≡ subtag_name
+pub field_of_subtag : (k : Kind) → is_whole_kind k ≡ false → name_field k ≡ subtag_name
 field_of_subtag k e = ap (λ b. if b then tag_name else subtag_name) e
 
-field_of_tag : (k : Kind) → is_whole_kind k ≡ true → name_field k ≡ tag_name
+pub field_of_tag : (k : Kind) → is_whole_kind k ≡ true → name_field k ≡ tag_name
 field_of_tag k e = ap (λ b. if b then tag_name else subtag_name) e
 
 no_missing_name : (r : List Field) (k : Kind) (s : List ℕ) → HasKind r k → body (name_field k) r ≡ Some s → HasRecordFault r faults.MissingName → ⊥
@@ -341,3 +344,52 @@ one_entry r n e f h g =
     let value : e.value ≡ f.value = one_value_of f.kind (body value_name r) e.value f.value (subst (λ (z : Kind). IsValueOf z (body value_name r) e.value) kind h.valued) g.valued in
     let prefixes : e.prefixes ≡ f.prefixes = same_some (prefixes_in f.kind r) e.prefixes f.prefixes (ap (λ (z : Kind). prefixes_in z r) (sym kind) ∙ h.prefixed) g.prefixed in
     λ i. record { number = number i; kind = kind i; name = name i; value = value i; prefixes = prefixes i }
+
+-- what the steps tell
+
+subtags_told : (r : List Field) (k : Kind) (s : List ℕ) (a : Result EntryName RecordFaultKind) → is_whole_kind k ≡ false → body (name_field k) r ≡ Some s → subtags_named k s ≡ a → IsSubtagsResult k a → IfOk a (IsNameIn k r) × IfErr a (IsNameFault k r)
+subtags_told r k s (Ok (names.Single n)) whole there e fits = ((s, there, (whole, e)), tt)
+subtags_told r k s (Ok (names.Range a b)) whole there e fits = ((s, there, (whole, e)), tt)
+subtags_told r k s (Ok (names.Whole t)) whole there e fits = absurd fits
+subtags_told r k s (Err fault) whole there e (inl bad) =
+    let here : body subtag_name r ≡ Some s = ap (λ z. body z r) (sym (field_of_subtag k whole)) ∙ there in
+    (tt, subst (IsNameFault k r) (sym bad) (s, whole, here, e ∙ ap Err bad))
+subtags_told r k s (Err fault) whole there e (inr bad) =
+    let here : body subtag_name r ≡ Some s = ap (λ z. body z r) (sym (field_of_subtag k whole)) ∙ there in
+    (tt, subst (IsNameFault k r) (sym bad) (s, whole, here, e ∙ ap Err bad))
+
+pub name_told : (r : List Field) (k : Kind) (s : List ℕ) (a : Result EntryName RecordFaultKind) → is_whole_kind k ≡ false → body (name_field k) r ≡ Some s → a ≡ subtags_named k s → IfOk a (IsNameIn k r) × IfErr a (IsNameFault k r)
+name_told r k s a whole there e = subtags_told r k s a whole there (sym e) (subst (IsSubtagsResult k) (sym e) (subtags_fit k s))
+
+pub text_told : (r : List Field) (k : Kind) (s : List ℕ) → body value_name r ≡ Some s → (fault : RecordFaultKind) → IsTextFault k s fault → IsValueFault k r fault
+text_told r k s there faults.RepeatedField f = absurd f
+text_told r k s there faults.MissingType f = absurd f
+text_told r k s there faults.UnknownType f = absurd f
+text_told r k s there faults.MissingName f = absurd f
+text_told r k s there faults.BadRange f = absurd f
+text_told r k s there faults.BadSubtag f = absurd f
+text_told r k s there faults.BadTag f = absurd f
+text_told r k s there faults.BadPreferred f = (s, there, f)
+text_told r k s there faults.BadPrefix f = absurd f
+text_told r k s there faults.OutOfMemory f = tt
+
+-- the entry has its forms
+
+prefixes_by : (k : Kind) (r : List Field) (ps : List (List (List ℕ))) (b : Bool) → has_prefixes k ≡ b → prefixes_in k r ≡ Some ps → AllByRecursion IsPrefix ps
+prefixes_by k r ps true e h = let told : prefixes_of (bodies prefix_name r) ≡ Some ps = rw e at h in prefixes_are (bodies prefix_name r) ps told
+prefixes_by k r ps false e h = let told : Some [] ≡ Some ps = rw e at h in let same : [] ≡ ps = cc in subst (AllByRecursion IsPrefix) same tt
+
+pub prefixes_fit : (k : Kind) (r : List Field) (ps : List (List (List ℕ))) → prefixes_in k r ≡ Some ps → AllByRecursion IsPrefix ps
+prefixes_fit k r ps h = prefixes_by k r ps (has_prefixes k) refl h
+
+none_listed : (ps : List (List (List ℕ))) → Some [] ≡ Some ps → ps ≡ []
+none_listed ps h = cc
+
+pub prefixes_where : (k : Kind) (r : List Field) (ps : List (List (List ℕ))) → prefixes_in k r ≡ Some ps → (ps ≡ []) ⊎ ((k ≡ kinds.Extlang) ⊎ (k ≡ kinds.Variant))
+prefixes_where kinds.Language r ps h = inl (none_listed ps h)
+prefixes_where kinds.Extlang r ps h = inr (inl refl)
+prefixes_where kinds.Script r ps h = inl (none_listed ps h)
+prefixes_where kinds.Region r ps h = inl (none_listed ps h)
+prefixes_where kinds.Variant r ps h = inr (inr refl)
+prefixes_where kinds.Grandfathered r ps h = inl (none_listed ps h)
+prefixes_where kinds.Redundant r ps h = inl (none_listed ps h)

@@ -6,6 +6,10 @@ use Rattle.lt_registry.specs.declared.faults.RecordFault.{RecordFault}
 use Rattle.lt_registry.specs.declared.faults.RecordFaultKind.{RecordFaultKind}
 use Rattle.lt_registry.specs.declared.faults.RecordFaultKind.TheVariants as faults
 
+-- no memory was left at the record of this number
+abbrev pub no_room : ℕ → RecordFault
+no_room number = record { kind = faults.OutOfMemory; number = number }
+
 -- the first fault of a record, or memory was wanting
 abbrev pub IsRefused : List Field → RecordFaultKind → Type 0
 IsRefused r kind = (kind ≡ faults.OutOfMemory) ⊎ IsFirstOfRecord r kind

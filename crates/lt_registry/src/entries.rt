@@ -101,7 +101,8 @@ impl Entry {
         prefixes: Vec<Prefix>,
     ) -> Entry
         requires { IsEntry (record { number = number; kind = kind; name = name; value = value; prefixes = prefixes.items }) }
-        ensures { result ≡ record { number = number; kind = kind; name = name; value = value; prefixes = prefixes.items } }
+        ensures value { result ≡ record { number = number; kind = kind; name = name; value = value; prefixes = prefixes.items } }
+        ensures entry { IsEntry result }
     {
         Entry {
             number,

@@ -28,7 +28,7 @@ pub(crate) fn is_called(field: &JarField, name: &str) -> bool
 
 /// The body of the first field of a name.
 pub(crate) fn body<'a>(record: &'a Record, name: &str) -> Option<&'a str>
-    ensures { option_copied result ≡ record_words.body name.now record.now }
+    ensures { option_copied result ≡ record_words.body name.now «record».now }
 {
     let field = record.fields().iter().find(|field| is_called(field, name))?;
     Some(field.body())
@@ -36,7 +36,7 @@ pub(crate) fn body<'a>(record: &'a Record, name: &str) -> Option<&'a str>
 
 /// Whether a second field has a name.
 fn is_repeated(record: &Record, name: &str) -> bool
-    ensures { result ≡ record_words.is_repeated name.now record.now }
+    ensures { result ≡ record_words.is_repeated name.now «record».now }
 {
     let fields = record.fields();
     1 < fields.iter().filter(|field| is_called(field, name)).count()
@@ -44,7 +44,7 @@ fn is_repeated(record: &Record, name: &str) -> bool
 
 /// Whether Type, Subtag, Tag or Preferred-Value stands twice.
 pub(crate) fn repeats_field(record: &Record) -> bool
-    ensures { result ≡ record_words.repeats_field record.now }
+    ensures { result ≡ record_words.repeats_field «record».now }
 {
     is_repeated(record, "Type")
         || is_repeated(record, "Subtag")
@@ -52,11 +52,18 @@ pub(crate) fn repeats_field(record: &Record) -> bool
         || is_repeated(record, "Preferred-Value")
 }
 
-/// Whether the first record is the header of the file.
-pub(crate) fn is_header(record: &Record) -> bool
-    ensures { result ≡ record_words.is_header record.now }
+/// Whether a record has a date and no type.
+fn is_header(record: &Record) -> bool
+    ensures { result ≡ record_words.is_header «record».now }
 {
     body(record, "File-Date").is_some() && body(record, "Type").is_none()
+}
+
+/// Whether the record of a number is the header of the file.
+pub(crate) fn is_header_at(number: u32, record: &Record) -> bool
+    ensures { result ≡ record_words.is_header_at number «record».now }
+{
+    number == 1 && is_header(record)
 }
 
 /// The kind that a type names.
@@ -129,10 +136,10 @@ pub(crate) fn read_prefix(alloc: Global, text: &[u8]) -> Result<Option<Prefix>, 
     let mut rest = text;
     'pieces: loop {
         let (piece, after) = cut(rest);
-        let Ok(subtag) = Subtag::read(piece) else {
-            return Ok(None);
-        };
-        subtags.push(subtag)?;
+        match Subtag::read(piece) {
+            Ok(subtag) => subtags.push(subtag)?,
+            Err(_) => return Ok(None),
+        }
         match after {
             Some(bytes) => rest = bytes,
             None => return Ok(Some(Prefix::of_subtags(subtags))),

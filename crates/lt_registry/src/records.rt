@@ -26,8 +26,9 @@ pub(crate) fn read_entry(
     record: &Record,
     number: u32,
 ) -> Result<Entry, RecordFaultKind>
-    ensures ok { IfOk result (IsEntryOf record.now number) }
-    ensures err { IfErr result (IsRefused record.now) }
+    ensures ok { IfOk result (IsEntryOf «record».now number) }
+    ensures forms { IfOk result IsEntry }
+    ensures err { IfErr result (IsRefused «record».now) }
 {
     if repeats_field(record) {
         return Err(RecordFaultKind::RepeatedField);
@@ -40,7 +41,7 @@ pub(crate) fn read_entry(
 }
 
 fn read_kind(record: &Record) -> Result<Kind, RecordFaultKind>
-    ensures { result ≡ steps.kind_by (record_words.body record_words.type_name record.now) }
+    ensures { result ≡ steps.kind_by (record_words.body record_words.type_name «record».now) }
 {
     match body(record, "Type") {
         Some(text) => kind_of(text).ok_or(RecordFaultKind::UnknownType),
@@ -69,9 +70,9 @@ fn read_name(
     kind: Kind,
     record: &Record,
 ) -> Result<EntryName, RecordFaultKind>
-    ensures ok { IfOk result (steps.IsNameIn kind record.now) }
+    ensures ok { IfOk result (steps.IsNameIn kind «record».now) }
     ensures fits { IfOk result (FitsName kind) }
-    ensures err { IfErr result (IsNameFault kind record.now) }
+    ensures err { IfErr result (IsNameFault kind «record».now) }
 {
     let Some(text) = body(record, name_field(kind)) else {
         return Err(RecordFaultKind::MissingName);
@@ -95,8 +96,10 @@ fn read_whole(alloc: Global, text: &[u8]) -> Result<Option<Tag>, OutOfMemory>
             let _ = tag.core();
             Ok(Some(tag))
         }
-        Err(fault) if fault.kind == TagFaultKind::OutOfMemory => Err(OutOfMemory),
-        Err(_) => Ok(None),
+        Err(fault) => match fault.kind {
+            TagFaultKind::OutOfMemory => Err(OutOfMemory),
+            _ => Ok(None),
+        },
     }
 }
 
@@ -167,9 +170,9 @@ fn read_value(
     kind: Kind,
     record: &Record,
 ) -> Result<Option<EntryValue>, RecordFaultKind>
-    ensures ok { IfOk result (IsValueOf kind (record_words.body record_words.value_name record.now)) }
+    ensures ok { IfOk result (IsValueOf kind (record_words.body record_words.value_name «record».now)) }
     ensures fits { IfOk result (λ value. IfSome value (FitsValue kind)) }
-    ensures err { IfErr result (IsValueFault kind record.now) }
+    ensures err { IfErr result (IsValueFault kind «record».now) }
 {
     match body(record, "Preferred-Value") {
         Some(text) => Ok(Some(read_one_value(alloc, kind, text.as_bytes())?)),
@@ -241,8 +244,8 @@ fn read_prefixes(
     kind: Kind,
     record: &Record,
 ) -> Result<Vec<Prefix>, RecordFaultKind>
-    ensures ok { IfOk result (λ prefixes. record_words.prefixes_in kind record.now ≡ Some prefixes.items) }
-    ensures err { IfErr result (IsPrefixFault kind record.now) }
+    ensures ok { IfOk result (λ prefixes. record_words.prefixes_in kind «record».now ≡ Some prefixes.items) }
+    ensures err { IfErr result (IsPrefixFault kind «record».now) }
 {
     if has_prefixes(kind) {
         read_all_prefixes(alloc, record)
@@ -252,16 +255,16 @@ fn read_prefixes(
 }
 
 fn read_all_prefixes(alloc: Global, record: &Record) -> Result<Vec<Prefix>, RecordFaultKind>
-    ensures ok { IfOk result (λ prefixes. record_words.prefixes_of (record_words.bodies record_words.prefix_name record.now) ≡ Some prefixes.items) }
-    ensures err { IfErr result (steps.IsPrefixesFault record.now) }
+    ensures ok { IfOk result (λ prefixes. record_words.prefixes_of (record_words.bodies record_words.prefix_name «record».now) ≡ Some prefixes.items) }
+    ensures err { IfErr result (steps.IsPrefixesFault «record».now) }
 {
     let mut prefixes = Vec::new(alloc);
     for field in record.fields() {
         if is_called(field, "Prefix") {
-            let Some(prefix) = read_prefix(alloc, field.body().as_bytes())? else {
-                return Err(RecordFaultKind::BadPrefix);
-            };
-            prefixes.push(prefix)?;
+            match read_prefix(alloc, field.body().as_bytes())? {
+                Some(prefix) => prefixes.push(prefix)?,
+                None => return Err(RecordFaultKind::BadPrefix),
+            }
         }
     }
     Ok(prefixes)

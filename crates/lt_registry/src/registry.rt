@@ -1,12 +1,12 @@
 //! The entries of a registry.
-ghost use Rattle.std.specs.Prelude.{◌≡◌, ◌≤◌, length, IfOk, IfErr};
+ghost use Rattle.std.specs.Prelude.{◌≡◌, ◌≤◌, ◌∷◌, ◌++◌, [], length, IfOk, IfErr, OnOk};
 ghost use Rattle.lt_registry.specs.Entries.{IsRegistry};
 ghost use Rattle.lt_registry.specs.Records.{HasEntries};
-ghost use Rattle.lt_registry.specs.RecordRefusals.{IsRecordRefusal};
+ghost use Rattle.lt_registry.specs.RecordRefusals.{IsRecordRefusal, no_room};
 
 use crate::entries::Entry;
 use crate::faults::{RecordFault, RecordFaultKind};
-use crate::fields::is_header;
+use crate::fields::is_header_at;
 use crate::records::read_entry;
 use lt_jar::Record;
 use std::alloc::Global;
@@ -41,15 +41,12 @@ impl Registry {
         let mut entries = Vec::new(alloc);
         for (index, record) in records.iter().enumerate() {
             let number = index as u32 + 1;
-            if number == 1 && is_header(record) {
-                continue;
+            if !is_header_at(number, record) {
+                match read_entry(alloc, record, number) {
+                    Ok(entry) => put(&mut entries, entry, number)?,
+                    Err(kind) => return Err(RecordFault { kind, number }),
+                }
             }
-            let entry = read_entry(alloc, record, number)
-                .map_err(|kind| RecordFault { kind, number })?;
-            entries.push(entry).map_err(|_| RecordFault {
-                kind: RecordFaultKind::OutOfMemory,
-                number,
-            })?;
         }
         Ok(Registry { entries })
     }
@@ -61,4 +58,15 @@ impl Registry {
     {
         self.entries.as_slice()
     }
+}
+
+/// Puts an entry behind the others.
+fn put(entries: &mut Vec<Entry>, entry: Entry, number: u32) -> Result<(), RecordFault>
+    ensures ok { OnOk result (entries.new.items ≡ entries.old.items ++ entry ∷ []) }
+    ensures err { IfErr result (λ fault. fault ≡ no_room number) }
+{
+    entries.push(entry).map_err(|_| RecordFault {
+        kind: RecordFaultKind::OutOfMemory,
+        number,
+    })
 }

@@ -55,7 +55,7 @@ fn records_with_entries(rt: HostRuntime) -> Result<(), Fail> {
     assert_eq!(rt; entry.number(), 2);
     assert_eq!(rt; entry.kind(), Kind::Language);
     let named = match entry.name() {
-        EntryName::Single(subtag) => subtag.bytes() == b"en",
+        EntryName::Single(subtag) => subtag.bytes() == b"en".as_slice(),
         _ => false,
     };
     assert!(rt; named && entry.value().is_none() && entry.prefixes().is_empty());
@@ -88,7 +88,7 @@ fn look_up(rt: HostRuntime) -> Result<(), Fail> {
     assert_eq!(rt; table.whole(&old).map(|entry| entry.number()), Some(40));
     let iw = Subtag::read(b"iw").map_err(|fault| fault.name())?;
     let value = match table.entry(Kind::Language, &iw).map(|entry| entry.value()) {
-        Some(Some(EntryValue::One(subtag))) => subtag.bytes() == b"he",
+        Some(Some(EntryValue::One(subtag))) => subtag.bytes() == b"he".as_slice(),
         _ => false,
     };
     assert!(rt; value);
