@@ -65,19 +65,25 @@ fn push_line(text: &mut String, label: &str, body: &str) -> Result<(), AllocErro
     Ok(())
 }
 
+/// Puts the lines of a record behind the text, the separator first.
+fn push_record(text: &mut String, row: (&str, &str, &str, &str)) -> Result<(), AllocError> {
+    let (kind, name, value, prefix) = row;
+    let label = match kind {
+        "grandfathered" | "redundant" => "Tag: ",
+        _ => "Subtag: ",
+    };
+    text.push_str("%%\n")?;
+    push_line(text, "Type: ", kind)?;
+    push_line(text, label, name)?;
+    push_line(text, "Preferred-Value: ", value)?;
+    push_line(text, "Prefix: ", prefix)
+}
+
 /// The text of the registry.
 fn sample_text(alloc: Global) -> Result<String, AllocError> {
     let mut text = String::from_str(alloc, "File-Date: 2024-01-01\n")?;
-    for (kind, name, value, prefix) in ROWS {
-        text.push_str("%%\n")?;
-        push_line(&mut text, "Type: ", kind)?;
-        let label = match kind {
-            "grandfathered" | "redundant" => "Tag: ",
-            _ => "Subtag: ",
-        };
-        push_line(&mut text, label, name)?;
-        push_line(&mut text, "Preferred-Value: ", value)?;
-        push_line(&mut text, "Prefix: ", prefix)?;
+    for row in ROWS {
+        push_record(&mut text, row)?;
     }
     Ok(text)
 }
