@@ -1,17 +1,17 @@
 -- The check of a core tells the first of its faults.
 use Rattle.std.proofs.Common.{◌≡◌, ◌≢◌, ℕ, ◌+◌, ◌<◌, ◌≤◌, Bool, true, false, ◌⊎◌, inl, inr, List, [], ◌∷◌, ◌++◌, length, Option, Some, None, is_some, refl, sym, ap, ◌∙◌, subst, arith, length-append, append_assoc}
-use Rattle.std.specs.Prelude.{Ok, Err}
+use Rattle.std.specs.Prelude.{Ok}
 use Rattle.std.specs.Option.{option_to_list}
 use Rattle.lt_tag.specs.Parts.{CoreParts}
 use Rattle.lt_registry.specs.Parts.{EntryParts}
-use Rattle.lt_registry.specs.Entries.{entry, is_registered, prefixes, prefixes_of, lists}
-use Rattle.lt_registry.specs.Faults.{rank_of, HasCoreFault, before_script, before_region, before_variants}
-use Rattle.lt_registry.specs.Checking.{Check, and_then, unless, Tells, Counted, language_check, prefix_check, second_check, extlangs_check, part_check, variants_check, core_check, stands_in}
+use Rattle.lt_registry.specs.Entries.{entry, is_registered, prefixes_of, lists}
+use Rattle.lt_registry.specs.Faults.{HasCoreFault, before_script, before_region, before_variants}
+use Rattle.lt_registry.specs.Checking.{Check, and_then, unless, Tells, Counted, language_check, prefix_check, second_check, extlangs_check, part_check, variants_check, core_check}
 use Rattle.lt_registry.specs.declared.entries.Kind.{Kind}
 use Rattle.lt_registry.specs.declared.entries.Kind.TheVariants as kinds
 use Rattle.lt_registry.specs.declared.faults.ValidFaultKind.{ValidFaultKind}
 use Rattle.lt_registry.specs.declared.faults.ValidFaultKind.TheVariants as faults
-use Rattle.lt_registry.proofs.FirstLemmas.{Faults, Or, SameFaults, Precede, precede_by, Upto, Past, Single, tells_and, tells_same, tells_unless, first_left, single_first, single_precede, single_same, single_upto, single_past, upto_or, past_or, past_less}
+use Rattle.lt_registry.proofs.FirstLemmas.{Or, SameFaults, Precede, precede_by, Upto, Past, Single, tells_and, tells_same, tells_unless, first_left, single_first, single_precede, single_same, single_upto, single_past, past_or, past_less}
 use Rattle.lt_registry.proofs.VariantFaultLemmas.{VariantFault, variants_from, variants_to, variants_tell, variants_shown, IsUnknownAt, IsRepeatedAt, unknown_hidden, repeated_hidden, stands_at, stands_there}
 
 abbrev pub LanguagePart : List EntryParts → ℕ → List ℕ → ValidFaultKind → ℕ → Type 0

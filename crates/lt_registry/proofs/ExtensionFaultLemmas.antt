@@ -1,17 +1,17 @@
 -- The faults of one extension.
-use Rattle.std.proofs.Common.{◌≡◌, ◌≢◌, ℕ, ◌+◌, ◌<◌, ◌≤◌, Bool, true, false, ◌⊎◌, inl, inr, List, [], ◌∷◌, ◌++◌, length, Option, Some, None, refl, sym, ap, ◌∙◌, subst, arith, length-append}
-use Rattle.std.specs.Prelude.{Ok, Err, flat_map}
+use Rattle.std.proofs.Common.{◌≡◌, ◌≢◌, ℕ, ◌+◌, ◌<◌, ◌≤◌, Bool, true, false, ◌⊎◌, inl, inr, List, ◌++◌, length, Option, Some, None, refl, sym, ap, ◌∙◌, subst, arith, length-append}
+use Rattle.std.specs.Prelude.{flat_map}
 use Rattle.std.specs.Option.{option_to_list}
-use Rattle.lt_tag.specs.Parts.{CoreParts, ExtensionParts, TForm, FieldParts}
+use Rattle.lt_tag.specs.Parts.{CoreParts, ExtensionParts, TForm}
 use Rattle.lt_tag.specs.Spelling.{spell_core}
 use Rattle.lt_tag.specs.Extensions.{spell_t, spell_source, spell_field, transform, IsTransform}
 use Rattle.lt_tag.proofs.PartsLaws.{t_unique}
 use Rattle.lt_registry.specs.Parts.{EntryParts}
-use Rattle.lt_registry.specs.Faults.{rank_of, IsFirstOf, HasCoreFault, HasExtensionFault, HasSource, HasBadForm, before_variants}
-use Rattle.lt_registry.specs.Checking.{Check, Tells, Counted, core_check, source_check}
+use Rattle.lt_registry.specs.Faults.{rank_of, IsFirstOf, HasCoreFault, HasExtensionFault, before_variants}
+use Rattle.lt_registry.specs.Checking.{Tells, Counted, core_check, source_check}
 use Rattle.lt_registry.specs.declared.faults.ValidFaultKind.{ValidFaultKind}
 use Rattle.lt_registry.specs.declared.faults.ValidFaultKind.TheVariants as faults
-use Rattle.lt_registry.proofs.FirstLemmas.{Faults, SameFaults, Upto, Past, tells_same}
+use Rattle.lt_registry.proofs.FirstLemmas.{SameFaults, tells_same}
 use Rattle.lt_registry.proofs.CoreFaultLemmas.{CoreFault, core_tells, core_past, core_upto}
 
 some_same : {A : Type 0} (a b : A) → Some a ≡ Some b → a ≡ b

@@ -1,9 +1,8 @@
 -- The first of several faults.
-use Rattle.std.proofs.Common.{◌≡◌, ◌≢◌, ℕ, ◌≤◌, ◌<◌, Bool, true, false, ◌⊎◌, inl, inr, refl, sym, subst, ◌∙◌, arith}
+use Rattle.std.proofs.Common.{◌≡◌, ℕ, ◌≤◌, ◌<◌, Bool, true, false, ◌⊎◌, inl, inr, refl, sym, subst, ◌∙◌, arith}
 use Rattle.std.specs.Prelude.{Result, Ok, Err}
 use Rattle.lt_registry.specs.Faults.{IsFirstOf, rank_of}
 use Rattle.lt_registry.specs.Checking.{Check, Counted, and_then, unless, Tells, TellsOrLacks}
-use Rattle.lt_registry.specs.declared.faults.ValidFault.{ValidFault}
 use Rattle.lt_registry.specs.declared.faults.ValidFaultKind.{ValidFaultKind}
 use Rattle.lt_registry.specs.declared.faults.ValidRefusal.{ValidRefusal}
 use Rattle.lt_registry.specs.declared.faults.ValidRefusal.TheVariants as refusals

@@ -1,19 +1,17 @@
 -- The faults of extensions, one after another.
-use Rattle.std.proofs.Common.{◌≡◌, ◌≢◌, ℕ, ◌+◌, ◌<◌, ◌≤◌, Bool, true, false, ◌||◌, eqb, ◌⊎◌, inl, inr, List, [], ◌∷◌, ◌++◌, length, take, drop, get_or, refl, sym, ap, ◌∙◌, subst, arith, length-append, append_assoc}
+use Rattle.std.proofs.Common.{◌≡◌, ℕ, ◌+◌, ◌<◌, ◌≤◌, Bool, true, false, inl, inr, List, [], ◌∷◌, ◌++◌, length, take, drop, get_or, refl, sym, subst, arith}
 use Rattle.std.specs.Prelude.{Result, Ok, Err}
-use Rattle.std.proofs.lemmas.Bool.{or_cases, eqb-true, eq-eqb}
 use Rattle.std.proofs.lemmas.List.{drop_all}
-use Rattle.lt_tag.specs.Parts.{CoreParts, ExtensionParts, TagForm, LangTag}
-use Rattle.lt_tag.specs.Spelling.{spell_core, spell_extension, spell_extensions}
+use Rattle.lt_tag.specs.Parts.{ExtensionParts}
 use Rattle.lt_registry.specs.Parts.{EntryParts}
-use Rattle.lt_registry.specs.Faults.{rank_of, IsFirstOf, HasCoreFault, HasExtensionFault, HasFault, IsFaultOfExtension, IsSecondSingleton}
+use Rattle.lt_registry.specs.Faults.{rank_of, IsFirstOf}
 use Rattle.lt_registry.specs.Checking.{Counted, TellsOrLacks, HeadFault, ListFault, has_singleton}
 use Rattle.lt_registry.specs.declared.faults.ValidFaultKind.{ValidFaultKind}
 use Rattle.lt_registry.specs.declared.faults.ValidFaultKind.TheVariants as faults
 use Rattle.lt_registry.specs.declared.faults.ValidRefusal.{ValidRefusal}
 use Rattle.lt_registry.specs.declared.faults.ValidRefusal.TheVariants as refusals
 use Rattle.lt_registry.proofs.ListLemmas.{drop_turn, take_turn}
-use Rattle.lt_registry.proofs.FirstLemmas.{Faults, Or, SameFaults, Precede, precede_by, Upto, Past, first_same, first_left, first_right, same_trans, same_back, same_counted, counted_or, past_counted, same_second}
+use Rattle.lt_registry.proofs.FirstLemmas.{Faults, Or, SameFaults, precede_by, Past, first_same, first_left, same_trans, same_back, same_counted, counted_or, past_counted, same_second}
 use Rattle.lt_registry.proofs.ExtensionFaultLemmas.{ExtensionFault, fault_at}
 
 -- the faults from an extension on

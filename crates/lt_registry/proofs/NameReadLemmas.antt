@@ -1,9 +1,9 @@
 -- What the texts of a record's fields give has the forms of its kind.
-use Rattle.std.proofs.Common.{◌≡◌, ◌≢◌, ℕ, zero, suc, ◌+◌, ◌<◌, ◌≤◌, Bool, true, false, ◌&&◌, eqb, leb, ◌⊎◌, inl, inr, List, [], ◌∷◌, ◌++◌, length, Option, Some, None, refl, sym, ap, ◌∙◌, subst, arith}
-use Rattle.std.specs.Prelude.{Result, Ok, Err, IfSome, option_map}
+use Rattle.std.proofs.Common.{◌≡◌, ℕ, zero, suc, ◌<◌, Bool, true, false, ◌&&◌, eqb, leb, ◌⊎◌, inl, inr, List, [], ◌∷◌, length, Option, Some, None, refl, sym, ap, ◌∙◌, subst, arith}
+use Rattle.std.specs.Prelude.{Result, Ok, Err}
 use Rattle.std.specs.List.{list_all, AllByRecursion}
 use Rattle.std.specs.Char.{is_ascii_alphanumeric}
-use Rattle.std.proofs.lemmas.Bool.{and_parts, and_from, eqb-true, leb-true, lt-ltb, cases_Bool}
+use Rattle.std.proofs.lemmas.Bool.{and_parts, and_from, eqb-true, leb-true, cases_Bool}
 use Rattle.lt_subtag.specs.Bytes.{is_subtag, folded}
 use Rattle.lt_subtag.specs.Reading.{subtag_of}
 use Rattle.lt_subtag.specs.Shapes.{is_alphabetic}
@@ -11,8 +11,7 @@ use Rattle.lt_subtag.specs.declared.SubtagFault.{SubtagFault}
 use Rattle.lt_subtag.specs.declared.SubtagFault.TheVariants as subtag_faults
 use Rattle.lt_subtag.proofs.BytesLemmas.{piece_folds}
 use Rattle.lt_tag.specs.Lists.{pieces, onto_first}
-use Rattle.lt_registry.specs.Parts.{EntryParts}
-use Rattle.lt_registry.specs.Entries.{has_form, has_value_form, letters_le, IsRange, FitsName, IsPrefix, is_whole_kind}
+use Rattle.lt_registry.specs.Entries.{has_form, letters_le, IsRange, IsPrefix}
 use Rattle.lt_registry.specs.Records.{formed, is_range, range_of, single_of, name_by, ends_of, subtags_named, with_subtag, subtags_of, prefix_of, with_prefix, prefixes_of}
 use Rattle.lt_registry.specs.declared.entries.Kind.{Kind}
 use Rattle.lt_registry.specs.declared.entries.EntryName.{EntryName}
@@ -72,16 +71,16 @@ subtag_is piece n h =
     elim (cases_Bool (eqb (length piece) 0)) [
       | inl empty ↦ let bad : Err subtag_faults.Empty ≡ Ok n = rw empty at h in cc
       | inr some ↦ elim (cases_Bool (list_all is_ascii_alphanumeric piece)) [
-          | inr bytes ↦ let bad : Err subtag_faults.BadByte ≡ Ok n = rw (some, bytes) at h in cc
-          | inl bytes ↦ elim (cases_Bool (leb (length piece) 8)) [
-              | inr long ↦ let bad : Err subtag_faults.TooLong ≡ Ok n = rw (some, bytes, long) at h in cc
-              | inl few ↦
-                let told : Ok (folded piece) ≡ Ok n = rw (some, bytes, few) at h in
-                let same : folded piece ≡ n = cc in
-                let positive : 0 < length piece = not_zero (length piece) some in
-                ap is_subtag (sym same) ∙ piece_folds piece bytes positive (leb-true (length piece) 8 few)
-            ]
+        | inr bytes ↦ let bad : Err subtag_faults.BadByte ≡ Ok n = rw (some, bytes) at h in cc
+        | inl bytes ↦ elim (cases_Bool (leb (length piece) 8)) [
+          | inr long ↦ let bad : Err subtag_faults.TooLong ≡ Ok n = rw (some, bytes, long) at h in cc
+          | inl few ↦
+              let told : Ok (folded piece) ≡ Ok n = rw (some, bytes, few) at h in
+              let same : folded piece ≡ n = cc in
+              let positive : 0 < length piece = not_zero (length piece) some in
+              ap is_subtag (sym same) ∙ piece_folds piece bytes positive (leb-true (length piece) 8 few)
         ]
+      ]
     ]
   where
     not_zero : (m : ℕ) → eqb m 0 ≡ false → 0 < m

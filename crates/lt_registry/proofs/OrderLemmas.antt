@@ -1,6 +1,6 @@
 -- Letter order.
-use Rattle.std.proofs.Common.{◌≡◌, ℕ, Bool, true, false, cond, eqb, ltb, List, [], ◌∷◌, refl, sym, ap, ◌∙◌, inl, inr, arith}
-use Rattle.std.specs.Ordering.{nat_cmp, ordering_then}
+use Rattle.std.proofs.Common.{◌≡◌, ℕ, Bool, true, false, eqb, ltb, List, [], ◌∷◌, refl, inl, inr, arith}
+use Rattle.std.specs.Ordering.{nat_cmp}
 use Rattle.std.specs.Cmp.Lexicographic.{slice_cmp}
 use Rattle.std.specs.declared.cmp.Ordering.{Ordering}
 use Rattle.std.specs.declared.cmp.Ordering.TheVariants.{Less, Equal, Greater}
@@ -25,7 +25,7 @@ letters_le_is (x ∷ xs) (y ∷ ys) =
     elim (cases_Bool (ltb x y)) [
       | inl h ↦ rw (apart x y h, h) refl
       | inr h ↦ elim (cases_Bool (eqb x y)) [
-          | inl e ↦ rw (h, e) (letters_le_is xs ys)
-          | inr e ↦ rw (h, e) refl
-        ]
+        | inl e ↦ rw (h, e) (letters_le_is xs ys)
+        | inr e ↦ rw (h, e) refl
+      ]
     ]

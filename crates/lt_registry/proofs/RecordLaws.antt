@@ -1,5 +1,5 @@
 -- A record gives one entry or has one first fault, and not both.
-use Rattle.std.proofs.Common.{◌≡◌, ◌≢◌, ℕ, zero, suc, ◌+◌, ◌<◌, ◌≤◌, Bool, true, false, if◌then◌else◌, eqb, ◌⊎◌, inl, inr, List, [], ◌∷◌, ◌++◌, length, Option, Some, None, refl, sym, ap, ◌∙◌, subst, arith}
+use Rattle.std.proofs.Common.{◌≡◌, ◌≢◌, ℕ, ◌≤◌, Bool, true, false, if◌then◌else◌, ◌⊎◌, inl, inr, List, [], Option, Some, None, refl, sym, ap, ◌∙◌, subst, arith}
 use Rattle.std.specs.Prelude.{Result, Ok, Err, IfOk, IfErr}
 use Rattle.std.specs.List.{AllByRecursion}
 use Rattle.lt_subtag.specs.Reading.{subtag_of}
@@ -9,7 +9,7 @@ use Rattle.lt_tag.proofs.OneTagLemmas.{one_tag}
 use Rattle.lt_jar.specs.Records.{Field}
 use Rattle.lt_registry.specs.Parts.{EntryParts}
 use Rattle.lt_registry.specs.Entries.{is_whole_kind, has_value_form, IsPrefix}
-use Rattle.lt_registry.specs.Records.{body, bodies, type_name, subtag_name, tag_name, value_name, repeats_field, kind_of, HasKind, name_field, formed, subtags_named, HasNoTag, IsName, IsValue, IsValueOf, prefix_name, has_prefixes, prefixes_of, prefixes_in, IsEntryOf, HasRecordFault, record_rank, IsFirstOfRecord}
+use Rattle.lt_registry.specs.Records.{body, bodies, type_name, subtag_name, tag_name, value_name, repeats_field, kind_of, HasKind, name_field, formed, subtags_named, IsName, IsValue, IsValueOf, prefix_name, has_prefixes, prefixes_of, prefixes_in, IsEntryOf, HasRecordFault, record_rank}
 use Rattle.lt_registry.specs.RecordSteps.{kind_or, kind_by, IsNameIn, IsNameFault, IsTextFault, IsValueFault, IsPrefixFault}
 use Rattle.lt_registry.specs.RecordRefusals.{IsRefused}
 use Rattle.lt_registry.specs.declared.entries.Kind.{Kind}

@@ -1,5 +1,5 @@
 -- The entries of records, one record after another.
-use Rattle.std.proofs.Common.{◌≡◌, ◌≢◌, ℕ, zero, suc, ◌+◌, ◌<◌, ◌≤◌, Bool, true, false, ◌&&◌, if◌then◌else◌, eqb, ◌⊎◌, inl, inr, List, [], ◌∷◌, ◌++◌, length, take, drop, get_or, refl, sym, ap, ◌∙◌, subst, arith, length-append, add-one}
+use Rattle.std.proofs.Common.{◌≡◌, ◌≢◌, ℕ, ◌+◌, ◌<◌, ◌≤◌, Bool, true, false, if◌then◌else◌, eqb, inl, inr, List, [], ◌∷◌, ◌++◌, length, take, drop, get_or, refl, sym, ap, ◌∙◌, subst, arith}
 use Rattle.std.specs.Prelude.{All}
 use Rattle.std.specs.List.{AllByRecursion}
 use Rattle.std.proofs.lemmas.List.{take_all, length-take-le, take-append-drop}
@@ -8,9 +8,8 @@ use Rattle.std.proofs.lemmas.List.Elements.{All-push, All-nil}
 use Rattle.lt_jar.specs.Records.{Field}
 use Rattle.lt_registry.specs.Parts.{EntryParts}
 use Rattle.lt_registry.specs.Entries.{IsEntry, NumbersRise, IsRegistry}
-use Rattle.lt_registry.specs.Records.{is_header_at, EntriesFrom, HasEntries, IsEntryOf, HasRecordFault, HasFaultAt, IsFirstOfRecord, IsFirstRecordFault, IsReached, record_rank}
+use Rattle.lt_registry.specs.Records.{is_header_at, EntriesFrom, HasEntries, IsEntryOf, HasRecordFault, HasFaultAt, IsFirstRecordFault, record_rank}
 use Rattle.lt_registry.specs.RecordRefusals.{IsRefused, IsRecordRefusal, no_room}
-use Rattle.lt_registry.specs.declared.faults.RecordFault.{RecordFault}
 use Rattle.lt_registry.specs.declared.faults.RecordFaultKind.{RecordFaultKind}
 use Rattle.lt_registry.specs.declared.faults.RecordFaultKind.TheVariants as faults
 use Rattle.lt_registry.proofs.ListLemmas.{drop_turn, take_turn}

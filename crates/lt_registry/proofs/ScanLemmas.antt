@@ -1,15 +1,13 @@
 -- Texts that are read from the left.
-use Rattle.std.proofs.Common.{◌≡◌, ℕ, zero, suc, ◌+◌, ◌-◌, ◌<◌, ◌≤◌, Bool, true, false, ◌&&◌, eqb, List, [], ◌∷◌, ◌++◌, length, take, drop, get_or, Option, Some, None, refl, sym, ap, ◌∙◌, subst, arith, add-one, append_assoc}
-use Rattle.std.specs.Prelude.{Result, Ok, Err, option_map, map, filter}
+use Rattle.std.proofs.Common.{◌≡◌, ℕ, ◌+◌, ◌<◌, ◌≤◌, Bool, true, false, ◌&&◌, eqb, List, [], ◌∷◌, ◌++◌, length, take, drop, get_or, Option, Some, None, refl, sym, ap, ◌∙◌, arith, add-one, append_assoc}
+use Rattle.std.specs.Prelude.{Ok, Err, option_map}
 use Rattle.std.proofs.Math.Seq.{drop-cons}
-use Rattle.std.proofs.lemmas.List.{take_more, drop_all, drop-drop, append-nil, take_rest}
-use Rattle.std.proofs.lemmas.Bool.{cases_Bool}
+use Rattle.std.proofs.lemmas.List.{take_more, drop_all, drop-drop, append-nil}
 use Rattle.lt_subtag.specs.Reading.{subtag_of}
 use Rattle.lt_subtag.specs.declared.SubtagFault.{SubtagFault}
 use Rattle.lt_tag.specs.Lists.{pieces}
-use Rattle.lt_tag.specs.Rest.{pieces_left}
 use Rattle.lt_jar.specs.Records.{Field}
-use Rattle.lt_registry.specs.Records.{begins_dot, begins_dots, with_first, ends_of, with_subtag, subtags_of, with_prefix, prefix_of, prefixes_of, bodies, is_called}
+use Rattle.lt_registry.specs.Records.{begins_dots, with_first, ends_of, with_subtag, subtags_of, with_prefix, prefix_of, prefixes_of, bodies, is_called}
 use Rattle.lt_registry.proofs.ListLemmas.{drop_turn}
 
 -- two full stops
@@ -108,7 +106,7 @@ unfolding prefixes_of
 prefixes_step s ss = refl
 
 module _ (name : List ℕ) (all r : List Field) (i : ℕ) (front : List (List (List ℕ))) (f : Field) (l : i < length r) (is : f ≡ get_or r i f)
-  (so_far : prefixes_of (bodies name all) ≡ after front (prefixes_of (bodies name (drop i r)))) where
+    (so_far : prefixes_of (bodies name all) ≡ after front (prefixes_of (bodies name (drop i r)))) where
   here : bodies name (drop i r) ≡ bodies name (f ∷ drop (i + 1) r)
   here = ap (bodies name) (drop_turn r i f l is)
 

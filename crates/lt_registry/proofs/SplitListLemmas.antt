@@ -1,5 +1,5 @@
 -- Facts on each element of a list, and on each pair, by the places where they stand.
-use Rattle.std.proofs.Common.{◌≡◌, ◌≢◌, ℕ, List, [], ◌∷◌, ◌++◌, refl, sym, ap, ◌∙◌, subst}
+use Rattle.std.proofs.Common.{◌≡◌, ◌≢◌, List, [], ◌∷◌, ◌++◌, refl, sym, ap, ◌∙◌, subst}
 use Rattle.std.specs.Prelude.{map}
 use Rattle.std.specs.List.{AllByRecursion}
 use Rattle.lt_registry.specs.Validity.{Distinct}
@@ -17,9 +17,10 @@ all_at P xs b y a e h = all_there P b y a (subst (AllByRecursion P) e h)
 
 pub distinct_from : {A : Type 0} (xs : List A) → ((b : List A) (v : A) (c d : List A) → xs ≡ b ++ v ∷ (c ++ v ∷ d) → ⊥) → Distinct xs
 distinct_from [] f = tt
-distinct_from (x ∷ xs) f =
-    (all_from (λ y. y ≢ x) xs (λ b y a e same. f [] x b a (ap (λ zs. x ∷ zs) (e ∙ ap (λ z. b ++ z ∷ a) same))),
-    distinct_from xs (λ b v c d e. f (x ∷ b) v c d (ap (λ zs. x ∷ zs) e)))
+distinct_from (x ∷ xs) f = (
+  all_from (λ y. y ≢ x) xs (λ b y a e same. f [] x b a (ap (λ zs. x ∷ zs) (e ∙ ap (λ z. b ++ z ∷ a) same))),
+  distinct_from xs (λ b v c d e. f (x ∷ b) v c d (ap (λ zs. x ∷ zs) e)),
+)
 
 distinct_there : {A : Type 0} (b : List A) (v : A) (c d : List A) → Distinct (b ++ v ∷ (c ++ v ∷ d)) → ⊥
 distinct_there [] v c d h = all_there (λ y. y ≢ v) c v d h.0 refl
@@ -36,9 +37,10 @@ all_map_from f P (x ∷ xs) h = (h [] x xs refl, all_map_from f P xs (λ b y a e
 
 pub distinct_map_from : {A B : Type 0} (f : A → B) (xs : List A) → ((b : List A) (x : A) (c : List A) (y : A) (d : List A) → xs ≡ b ++ x ∷ (c ++ y ∷ d) → f x ≡ f y → ⊥) → Distinct (map f xs)
 distinct_map_from f [] h = tt
-distinct_map_from f (x ∷ xs) h =
-    (all_map_from f (λ z. z ≢ f x) xs (λ b y a e same. h [] x b y a (ap (λ zs. x ∷ zs) e) (sym same)),
-    distinct_map_from f xs (λ b y c z d e. h (x ∷ b) y c z d (ap (λ zs. x ∷ zs) e)))
+distinct_map_from f (x ∷ xs) h = (
+  all_map_from f (λ z. z ≢ f x) xs (λ b y a e same. h [] x b y a (ap (λ zs. x ∷ zs) e) (sym same)),
+  distinct_map_from f xs (λ b y c z d e. h (x ∷ b) y c z d (ap (λ zs. x ∷ zs) e)),
+)
 
 all_map_there : {A B : Type 0} (f : A → B) (P : B → Type 0) (b : List A) (y : A) (a : List A) → AllByRecursion P (map f (b ++ y ∷ a)) → P (f y)
 all_map_there f P [] y a h = h.0

@@ -1,19 +1,18 @@
 -- The faults of a tag are those of its core and of its extensions from left to right.
-use Rattle.std.proofs.Common.{◌≡◌, ◌≢◌, ℕ, ◌+◌, ◌<◌, ◌≤◌, Bool, true, false, ◌||◌, eqb, ◌⊎◌, inl, inr, List, [], ◌∷◌, ◌++◌, length, refl, sym, ap, ◌∙◌, subst, arith, length-append, append_assoc}
-use Rattle.std.specs.Prelude.{Result, Ok, Err, Option, Some, None}
+use Rattle.std.proofs.Common.{◌≡◌, ℕ, ◌+◌, Bool, true, false, ◌||◌, eqb, ◌⊎◌, inl, inr, List, [], ◌∷◌, ◌++◌, length, refl, sym, ap, ◌∙◌, subst, arith, length-append, append_assoc}
+use Rattle.std.specs.Prelude.{Result, Ok, Err, Some}
 use Rattle.std.proofs.lemmas.Bool.{or_cases, eqb-true, eq-eqb}
 use Rattle.lt_tag.specs.Parts.{CoreParts, ExtensionParts, TagForm, LangTag, PrivateUse, Grandfathered}
 use Rattle.lt_tag.specs.Spelling.{spell_core, spell_extensions}
 use Rattle.lt_tag.specs.Values.{core_of, extensions_of}
 use Rattle.lt_registry.specs.Parts.{EntryParts}
-use Rattle.lt_registry.specs.Faults.{rank_of, IsFirstOf, HasCoreFault, HasExtensionFault, HasFault, IsFaultOfExtension, IsSecondSingleton, before_variants}
-use Rattle.lt_registry.specs.Checking.{Check, Counted, Tells, TellsOrLacks, ListFault, has_singleton, core_check}
+use Rattle.lt_registry.specs.Faults.{IsFirstOf, HasCoreFault, HasExtensionFault, HasFault, IsFaultOfExtension, IsSecondSingleton}
+use Rattle.lt_registry.specs.Checking.{Counted, Tells, TellsOrLacks, ListFault, has_singleton, core_check}
 use Rattle.lt_registry.specs.declared.faults.ValidFault.{ValidFault}
 use Rattle.lt_registry.specs.declared.faults.ValidFaultKind.{ValidFaultKind}
 use Rattle.lt_registry.specs.declared.faults.ValidFaultKind.TheVariants as faults
 use Rattle.lt_registry.specs.declared.faults.ValidRefusal.{ValidRefusal}
-use Rattle.lt_registry.specs.declared.faults.ValidRefusal.TheVariants as refusals
-use Rattle.lt_registry.proofs.FirstLemmas.{Faults, Or, SameFaults, precede_by, first_same, first_left, tells_or_lacks_same, same_trans, same_back, same_counted, counted_or, past_counted, same_second}
+use Rattle.lt_registry.proofs.FirstLemmas.{Or, SameFaults, precede_by, first_same, first_left, tells_or_lacks_same, same_trans, same_back, same_counted, counted_or, same_second}
 use Rattle.lt_registry.proofs.CoreFaultLemmas.{CoreFault, core_tells, core_upto}
 use Rattle.lt_registry.proofs.ExtensionFaultLemmas.{length_core}
 use Rattle.lt_registry.proofs.ListFaultLemmas.{list_from}
@@ -72,12 +71,12 @@ shown R here before (e ∷ after) k p (inl (inr f)) =
 shown R here before (e ∷ after) k p (inr f) =
     elim (shown R (here + (1 + length e.subtags)) (before ++ e ∷ []) after k p f) [
       | inl a ↦
-        let long = length_more e a.front in
-        inl (record { front = e ∷ a.front; extension = a.extension; after = a.after; there = ap (λ ws. e ∷ ws) a.there; fault = moved R (here + (1 + length e.subtags) + length (spell_extensions a.front)) (here + length (spell_extensions (e ∷ a.front))) a.extension k p (omega (arith, long)) a.fault })
+          let long = length_more e a.front in
+          inl (record { front = e ∷ a.front; extension = a.extension; after = a.after; there = ap (λ ws. e ∷ ws) a.there; fault = moved R (here + (1 + length e.subtags) + length (spell_extensions a.front)) (here + length (spell_extensions (e ∷ a.front))) a.extension k p (omega (arith, long)) a.fault })
       | inr a ↦
-        let long = length_more e a.1.front in
-        let again = ap (λ bs. has_singleton bs a.1.extension.singleton) (sym (append_assoc before (e ∷ []) a.1.front)) ∙ a.1.again in
-        inr (a.0, record { front = e ∷ a.1.front; extension = a.1.extension; after = a.1.after; there = ap (λ ws. e ∷ ws) a.1.there; placed = omega (arith, long, a.1.placed); again = again })
+          let long = length_more e a.1.front in
+          let again = ap (λ bs. has_singleton bs a.1.extension.singleton) (sym (append_assoc before (e ∷ []) a.1.front)) ∙ a.1.again in
+          inr (a.0, record { front = e ∷ a.1.front; extension = a.1.extension; after = a.1.after; there = ap (λ ws. e ∷ ws) a.1.there; placed = omega (arith, long, a.1.placed); again = again })
     ]
 
 extension_hidden : (R : List EntryParts) (here : ℕ) (before front : List ExtensionParts) (e : ExtensionParts) (after : List ExtensionParts) (k : ValidFaultKind) (p : ℕ) → HasExtensionFault R (here + length (spell_extensions front)) e k p → ListFault R here before (front ++ e ∷ after) k p
@@ -107,10 +106,10 @@ module _ (R : List EntryParts) (c : CoreParts) (es : List ExtensionParts) where
       elim (shown R first [] es k p f) [
         | inl a ↦ inl (record { before = a.front; extension = a.extension; after = a.after; there = a.there; fault = moved R (first + length (spell_extensions a.front)) (length (spell_core c) + length (spell_extensions a.front) + 1) a.extension k p (omega arith) a.fault })
         | inr a ↦
-          let at = one_singleton a.1.front a.1.extension.singleton a.1.again in
-          let split : es ≡ at.0 ++ at.1 ∷ (at.2 ++ a.1.extension ∷ a.1.after) = a.1.there ∙ ap (λ ws. ws ++ a.1.extension ∷ a.1.after) at.3 ∙ append_assoc at.0 (at.1 ∷ at.2) (a.1.extension ∷ a.1.after) in
-          let long : length (spell_extensions a.1.front) ≡ length (spell_extensions (at.0 ++ at.1 ∷ at.2)) = ap (λ ws. length (spell_extensions ws)) at.3 in
-          inr (a.0, record { before = at.0; first = at.1; between = at.2; second = a.1.extension; after = a.1.after; there = split; alike = at.4; here = omega (arith, long, a.1.placed) })
+            let at = one_singleton a.1.front a.1.extension.singleton a.1.again in
+            let split : es ≡ at.0 ++ at.1 ∷ (at.2 ++ a.1.extension ∷ a.1.after) = a.1.there ∙ ap (λ ws. ws ++ a.1.extension ∷ a.1.after) at.3 ∙ append_assoc at.0 (at.1 ∷ at.2) (a.1.extension ∷ a.1.after) in
+            let long : length (spell_extensions a.1.front) ≡ length (spell_extensions (at.0 ++ at.1 ∷ at.2)) = ap (λ ws. length (spell_extensions ws)) at.3 in
+            inr (a.0, record { before = at.0; first = at.1; between = at.2; second = a.1.extension; after = a.1.after; there = split; alike = at.4; here = omega (arith, long, a.1.placed) })
       ]
 
   list_hidden : (k : ValidFaultKind) (p : ℕ) → Extensions k p → ListFault R first [] es k p

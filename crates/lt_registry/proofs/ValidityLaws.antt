@@ -1,8 +1,6 @@
 -- A tag is valid exactly if it has no fault.
-use Rattle.std.proofs.Common.{◌≡◌, ◌≢◌, ℕ, ◌+◌, ◌≤◌, Bool, true, false, if◌then◌else◌, eqb, ◌⊎◌, inl, inr, List, [], ◌∷◌, ◌++◌, length, Option, Some, None, refl, sym, ap, ◌∙◌, subst, arith}
-use Rattle.std.specs.Prelude.{◌↔◌, map, IfSome}
-use Rattle.std.specs.List.{AllByRecursion}
-use Rattle.std.proofs.lemmas.Bool.{cases_Bool}
+use Rattle.std.proofs.Common.{◌≡◌, ℕ, ◌+◌, ◌≤◌, Bool, true, false, if◌then◌else◌, eqb, inl, inr, List, [], ◌∷◌, ◌++◌, length, Option, Some, None, refl, sym, ap, ◌∙◌, subst, arith}
+use Rattle.std.specs.Prelude.{◌↔◌, IfSome}
 use Rattle.lt_tag.specs.Parts.{CoreParts, ExtensionParts, TForm, TagForm, LangTag, PrivateUse, Grandfathered}
 use Rattle.lt_tag.specs.Spelling.{spell_core, spell_extensions}
 use Rattle.lt_tag.specs.Extensions.{transform, IsTransform}
@@ -11,9 +9,8 @@ use Rattle.lt_tag.specs.Values.{IsTagValue}
 use Rattle.lt_tag.proofs.PartsLaws.{t_unique, t_decided}
 use Rattle.lt_registry.specs.Parts.{EntryParts}
 use Rattle.lt_registry.specs.Entries.{is_registered, prefixes, lists}
-use Rattle.lt_registry.specs.Validity.{ExtlangsFit, IsProperCore, Distinct, IsProperExtension, IsProperLangTag, HasProperParts, IsProper, HasDistinctSource, RepeatsNoVariant, IsValid}
-use Rattle.lt_registry.specs.Faults.{before_script, before_region, before_variants, HasCoreFault, HasBadForm, HasSource, HasExtensionFault, IsFaultOfExtension, IsSecondSingleton, HasFault, HasNoFault, RepeatsAtMost, rank_of, IsFirstFault}
-use Rattle.lt_registry.specs.declared.entries.Kind.{Kind}
+use Rattle.lt_registry.specs.Validity.{ExtlangsFit, IsProperCore, Distinct, IsProperExtension, HasProperParts, IsProper, HasDistinctSource, RepeatsNoVariant, IsValid}
+use Rattle.lt_registry.specs.Faults.{before_script, before_region, before_variants, HasCoreFault, HasExtensionFault, HasFault, HasNoFault, RepeatsAtMost, rank_of, IsFirstFault}
 use Rattle.lt_registry.specs.declared.entries.Kind.TheVariants as kinds
 use Rattle.lt_registry.specs.declared.faults.ValidFaultKind.{ValidFaultKind}
 use Rattle.lt_registry.specs.declared.faults.ValidFaultKind.TheVariants as faults

@@ -1,16 +1,14 @@
 -- The faults of variants, from a place on.
-use Rattle.std.proofs.Common.{◌≡◌, ℕ, zero, suc, ◌+◌, ◌<◌, ◌≤◌, Bool, true, false, ◌||◌, not, ◌⊎◌, inl, inr, List, [], ◌∷◌, ◌++◌, length, refl, sym, ap, ◌∙◌, subst, arith, length-append, append_assoc, bytes_eq}
-use Rattle.std.specs.Prelude.{Ok, Err}
+use Rattle.std.proofs.Common.{◌≡◌, ℕ, ◌+◌, ◌<◌, ◌≤◌, Bool, true, false, ◌||◌, not, ◌⊎◌, inl, inr, List, [], ◌∷◌, ◌++◌, length, refl, sym, ap, ◌∙◌, arith, append_assoc, bytes_eq}
 use Rattle.std.proofs.lemmas.Bool.{or_cases}
 use Rattle.std.proofs.lemmas.Slice.Eq.{bytes_eq-Decides}
 use Rattle.lt_registry.specs.Parts.{EntryParts}
 use Rattle.lt_registry.specs.Entries.{is_registered}
-use Rattle.lt_registry.specs.Faults.{rank_of}
-use Rattle.lt_registry.specs.Checking.{Check, and_then, unless, Tells, stands_in, variant_check, variants_check}
+use Rattle.lt_registry.specs.Checking.{unless, Tells, stands_in, variant_check, variants_check}
 use Rattle.lt_registry.specs.declared.entries.Kind.TheVariants as kinds
 use Rattle.lt_registry.specs.declared.faults.ValidFaultKind.{ValidFaultKind}
 use Rattle.lt_registry.specs.declared.faults.ValidFaultKind.TheVariants as faults
-use Rattle.lt_registry.proofs.FirstLemmas.{Faults, Or, Precede, precede_by, Upto, Past, Single, tells_and, tells_unless, single_precede, single_upto, single_past, upto_or, past_or, past_less}
+use Rattle.lt_registry.proofs.FirstLemmas.{Or, precede_by, Upto, Single, tells_and, tells_unless, single_precede, single_upto, upto_or}
 
 -- a list holds what stands in it
 pub stands_at : (front : List (List ℕ)) (v : List ℕ) → stands_in front v ≡ true → (b c : List (List ℕ)) × (front ≡ b ++ v ∷ c)

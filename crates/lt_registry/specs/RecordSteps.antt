@@ -1,10 +1,10 @@
 -- What each step of reading a record gives. No public contract cites this.
-use Rattle.std.specs.Prelude.{ℕ, ◌≡◌, true, false, List, [], ◌∷◌, ◌++◌, Option, Some, None, option_map, Result, Ok, Err, take, drop}
+use Rattle.std.specs.Prelude.{ℕ, ◌≡◌, true, false, List, Option, Some, None, Result, Ok, Err}
 use Rattle.lt_tag.specs.Parts.{TagForm}
 use Rattle.lt_tag.specs.Faults.{HasTag}
 use Rattle.lt_jar.specs.Records.{Field}
 use Rattle.lt_registry.specs.Entries.{is_whole_kind}
-use Rattle.lt_registry.specs.Records.{body, type_name, subtag_name, tag_name, value_name, kind_of, name_field, subtags_named, HasNoTag, IsName, IsValue, IsValueOf, prefixes_in, prefixes_of, bodies, prefix_name}
+use Rattle.lt_registry.specs.Records.{body, subtag_name, tag_name, value_name, kind_of, name_field, subtags_named, HasNoTag, IsName, IsValue, prefixes_in, prefixes_of, bodies, prefix_name}
 use Rattle.lt_registry.specs.declared.entries.Kind.{Kind}
 use Rattle.lt_registry.specs.declared.entries.EntryName.{EntryName}
 use Rattle.lt_registry.specs.declared.entries.EntryValue.{EntryValue}

@@ -62,18 +62,14 @@ impl Lookup for ListTable {
 fn single<'a>(entries: &'a [Entry], kind: Kind, subtag: &Subtag) -> Option<&'a Entry>
     ensures { option_copied result ≡ find (λ (e : EntryParts). same.same_kind e.kind kind && forms.is_named subtag.now e.name) entries.now }
 {
-    entries
-        .iter()
-        .find(|entry| same_kind(entry.kind(), kind) && is_named(entry.name(), subtag))
+    entries.iter().find(|entry| same_kind(entry.kind(), kind) && is_named(entry.name(), subtag))
 }
 
 /// The first range of a kind that holds a subtag.
 fn range<'a>(entries: &'a [Entry], kind: Kind, subtag: &Subtag) -> Option<&'a Entry>
     ensures { option_copied result ≡ find (λ (e : EntryParts). same.same_kind e.kind kind && forms.holds subtag.now e.name) entries.now }
 {
-    entries
-        .iter()
-        .find(|entry| same_kind(entry.kind(), kind) && holds(entry.name(), subtag))
+    entries.iter().find(|entry| same_kind(entry.kind(), kind) && holds(entry.name(), subtag))
 }
 
 fn is_named(name: &EntryName, subtag: &Subtag) -> bool

@@ -65,11 +65,7 @@ fn name_field(kind: Kind) -> &'static str
     if is_whole_kind(kind) { "Tag" } else { "Subtag" }
 }
 
-fn read_name(
-    alloc: Global,
-    kind: Kind,
-    record: &Record,
-) -> Result<EntryName, RecordFaultKind>
+fn read_name(alloc: Global, kind: Kind, record: &Record) -> Result<EntryName, RecordFaultKind>
     ensures ok { IfOk result (steps.IsNameIn kind «record».now) }
     ensures fits { IfOk result (FitsName kind) }
     ensures err { IfErr result (IsNameFault kind «record».now) }
@@ -181,11 +177,7 @@ fn read_value(
 }
 
 /// The value that a text gives.
-fn read_one_value(
-    alloc: Global,
-    kind: Kind,
-    text: &[u8],
-) -> Result<EntryValue, RecordFaultKind>
+fn read_one_value(alloc: Global, kind: Kind, text: &[u8]) -> Result<EntryValue, RecordFaultKind>
     ensures ok { IfOk result (IsValue kind text.now) }
     ensures fits { IfOk result (FitsValue kind) }
     ensures err { IfErr result (steps.IsTextFault kind text.now) }
@@ -239,11 +231,7 @@ fn has_prefixes(kind: Kind) -> bool
     }
 }
 
-fn read_prefixes(
-    alloc: Global,
-    kind: Kind,
-    record: &Record,
-) -> Result<Vec<Prefix>, RecordFaultKind>
+fn read_prefixes(alloc: Global, kind: Kind, record: &Record) -> Result<Vec<Prefix>, RecordFaultKind>
     ensures ok { IfOk result (λ prefixes. record_words.prefixes_in kind «record».now ≡ Some prefixes.items) }
     ensures err { IfErr result (IsPrefixFault kind «record».now) }
 {

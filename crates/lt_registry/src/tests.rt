@@ -30,14 +30,26 @@ fn records_with_faults(rt: HostRuntime) -> Result<(), Fail> {
         (b"Type: script\nSubtag: en".as_slice(), "BadSubtag"),
         (b"Type: language\nSubtag: qtz..qaa".as_slice(), "BadRange"),
         (b"Type: redundant\nTag: en--".as_slice(), "BadTag"),
-        (b"Type: language\ntype: script\nSubtag: en".as_slice(), "RepeatedField"),
-        (b"Type: region\nSubtag: DD\nPreferred-Value: Latn".as_slice(), "BadPreferred"),
-        (b"Type: variant\nSubtag: 1901\nPrefix: de_CH".as_slice(), "BadPrefix"),
+        (
+            b"Type: language\ntype: script\nSubtag: en".as_slice(),
+            "RepeatedField",
+        ),
+        (
+            b"Type: region\nSubtag: DD\nPreferred-Value: Latn".as_slice(),
+            "BadPreferred",
+        ),
+        (
+            b"Type: variant\nSubtag: 1901\nPrefix: de_CH".as_slice(),
+            "BadPrefix",
+        ),
         (b"Type: region\nSubtag: 001..009".as_slice(), "BadRange"),
         (b"Type: language\nSubtag: aa..bb..cc".as_slice(), "BadRange"),
         (b"Type: language\nSubtag: aa ..bb".as_slice(), "BadRange"),
         (b"Type: language\nSubtag: a...b".as_slice(), "BadRange"),
-        (b"Type: variant\nSubtag: 1901\nPrefix:".as_slice(), "BadPrefix"),
+        (
+            b"Type: variant\nSubtag: 1901\nPrefix:".as_slice(),
+            "BadPrefix",
+        ),
     ];
     for (text, name) in rows {
         let answer = registry_of(rt.alloc(), text)?;

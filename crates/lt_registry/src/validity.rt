@@ -83,11 +83,23 @@ fn check_core<L: Lookup>(
     check(known, ValidFaultKind::UnknownLanguage, start + 1)?;
     check_extlangs(table, start, language, core.extlangs())?;
     let mut place = start + 2 + core.extlangs().len() as u32;
-    check_part(table, Kind::Script, ValidFaultKind::UnknownScript, place, core.script())?;
+    check_part(
+        table,
+        Kind::Script,
+        ValidFaultKind::UnknownScript,
+        place,
+        core.script(),
+    )?;
     if core.script().is_some() {
         place += 1;
     }
-    check_part(table, Kind::Region, ValidFaultKind::UnknownRegion, place, core.region())?;
+    check_part(
+        table,
+        Kind::Region,
+        ValidFaultKind::UnknownRegion,
+        place,
+        core.region(),
+    )?;
     if core.region().is_some() {
         place += 1;
     }
@@ -118,14 +130,14 @@ fn check_extlangs<L: Lookup>(
         return Ok(());
     };
     check_prefix(table.entry(Kind::Extlang, first), start, language)?;
-    check(others.is_empty(), ValidFaultKind::TooManyExtlangs, start + 3)
+    check(
+        others.is_empty(),
+        ValidFaultKind::TooManyExtlangs,
+        start + 3,
+    )
 }
 
-fn check_prefix(
-    extlang: Option<&Entry>,
-    start: u32,
-    language: &Subtag,
-) -> Result<(), ValidFault>
+fn check_prefix(extlang: Option<&Entry>, start: u32, language: &Subtag) -> Result<(), ValidFault>
     requires { start ≤ 1100000 }
     ensures { result ≡ checking.prefix_check start language.now (option_copied extlang.entry) }
 {

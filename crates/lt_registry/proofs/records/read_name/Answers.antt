@@ -1,6 +1,6 @@
-use Rattle.std.proofs.Common.{◌≡◌, Some, true, false, sym, ap, ◌∙◌, subst}
+use Rattle.std.proofs.Common.{◌≡◌, Some, true, sym, ap, ◌∙◌, subst}
 use Rattle.lt_registry.specs.Entries.{is_whole_kind}
-use Rattle.lt_registry.specs.Records.{body, name_field, tag_name, HasNoTag, subtags_named}
+use Rattle.lt_registry.specs.Records.{body, name_field, HasNoTag, subtags_named}
 use Rattle.lt_registry.specs.RecordSteps.{IsTagOf}
 use Rattle.lt_registry.proofs.RecordLaws.{name_told, field_of_tag}
 use Rattle.lt_registry.proofs.records.read_name.Goals as goal

@@ -1,4 +1,4 @@
-use Rattle.std.proofs.Common.{sym, ap, ◌∙◌, subst}
+use Rattle.std.proofs.Common.{sym, ◌∙◌}
 use Rattle.std.proofs.lemmas.Result.{err_from_is_err_and}
 use Rattle.lt_registry.proofs.TagFaultLemmas.{tag_core_first, tag_extensions_told}
 use Rattle.lt_registry.proofs.validity.check_tag.Goals as goal

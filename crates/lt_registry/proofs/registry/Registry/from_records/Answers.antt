@@ -1,7 +1,7 @@
 use Rattle.std.proofs.Common.{◌≡◌, ◌+◌, false, true, sym, ap, ◌∙◌, subst}
 use Rattle.std.proofs.lemmas.Result.{err_from_is_err_and}
 use Rattle.lt_registry.specs.Records.{is_header_at}
-use Rattle.lt_registry.proofs.RegistryLemmas.{Made, made_none, made_more, made_skip, made_all, made_lacks, made_refused}
+use Rattle.lt_registry.proofs.RegistryLemmas.{Made, made_none, made_more, made_skip, made_lacks, made_refused}
 use Rattle.lt_registry.proofs.registry.Registry.from_records.Goals as goal
 use Rattle.lt_registry.proofs.registry.Registry.from_records.Goals.{then-not-is_header_at+in-Ok+in_ok-put-in-Ok, else-not-is_header_at}
 
@@ -22,11 +22,11 @@ pub loop-index-preserved : goal.loop-index-preserved
 loop-index-preserved c =
     elim c.if-not-is_header_at.branch [
       | then-not-is_header_at+in-Ok+in_ok-put-in-Ok w ↦
-        let head : is_header_at (c.loop-index.index + 1) c.index-records-index.result ≡ false = sym w.if-not-is_header_at.ensures in
-        subst (Made c.args.records.now (c.loop-index.index + 1)) (sym (ap (λ z. z.items) w.entries-is ∙ w.in_ok-put-in-Ok.ensures.ok))
-        (made_more c.args.records.now c.loop-index.index c.index-records-index.result c.loop-index.entries.items w.in-Ok.entry c.loop-index-test.true c.index-records-index.is head w.in-Ok.ensures.ok w.in-Ok.ensures.forms c.loop-index.invariant)
+          let head : is_header_at (c.loop-index.index + 1) c.index-records-index.result ≡ false = sym w.if-not-is_header_at.ensures in
+          subst (Made c.args.records.now (c.loop-index.index + 1)) (sym (ap (λ z. z.items) w.entries-is ∙ w.in_ok-put-in-Ok.ensures.ok))
+          (made_more c.args.records.now c.loop-index.index c.index-records-index.result c.loop-index.entries.items w.in-Ok.entry c.loop-index-test.true c.index-records-index.is head w.in-Ok.ensures.ok w.in-Ok.ensures.forms c.loop-index.invariant)
       | else-not-is_header_at w ↦
-        let head : is_header_at (c.loop-index.index + 1) c.index-records-index.result ≡ true = sym w.if-not-is_header_at.ensures in
-        subst (Made c.args.records.now (c.loop-index.index + 1)) (sym (ap (λ z. z.items) w.entries-is))
-        (made_skip c.args.records.now c.loop-index.index c.index-records-index.result c.loop-index.entries.items c.loop-index-test.true c.index-records-index.is head c.loop-index.invariant)
+          let head : is_header_at (c.loop-index.index + 1) c.index-records-index.result ≡ true = sym w.if-not-is_header_at.ensures in
+          subst (Made c.args.records.now (c.loop-index.index + 1)) (sym (ap (λ z. z.items) w.entries-is))
+          (made_skip c.args.records.now c.loop-index.index c.index-records-index.result c.loop-index.entries.items c.loop-index-test.true c.index-records-index.is head c.loop-index.invariant)
     ]
