@@ -3,8 +3,10 @@ use Rattle.std.specs.Prelude.{ℕ, ◌≡◌, ◌⊎◌, List}
 use Rattle.lt_tag.specs.Parts.{TagForm}
 use Rattle.lt_registry.specs.Parts.{EntryParts}
 use Rattle.lt_registry.specs.Validity.{IsProper, IsValid}
-use Rattle.lt_rewrite.specs.Rewriting.{IsConfluent}
+use Rattle.lt_rewrite.specs.Rewriting.{Rests, IsConfluent}
 use Rattle.lt_rewrite.specs.TagSteps.{TagStep, IsReached, AreEquivalent, IsCanonical, CanRepeat}
+use Rattle.lt_rewrite.specs.Labels.{IsTrace}
+use Rattle.lt_rewrite.specs.declared.steps.Step.{Step}
 use Rattle.lt_canon.specs.Answers.{IsCanonicalFormOf, IsNamedRepeat}
 use Rattle.lt_canon.specs.ExtlangForm.{extlang_form}
 
@@ -12,9 +14,20 @@ use Rattle.lt_canon.specs.ExtlangForm.{extlang_form}
 abbrev pub StepsAreConfluent : List EntryParts → Type 0
 StepsAreConfluent R = IsConfluent (IsProper R) (TagStep R)
 
+-- Each proper tag has an end that steps reach, that each step keeps, and from which none leads.
+pub record HasEndForms (R : List EntryParts) : Type 0 where
+  pub end : TagForm → TagForm
+  pub kept : (t u : TagForm) → TagStep R t u → end t ≡ end u
+  pub reached : (t : TagForm) → IsProper R t → IsReached R t (end t)
+  pub at_rest : (t : TagForm) → Rests (TagStep R) (end t)
+
 -- canonical tags that are equivalent are equal
 abbrev pub OneCanonicalTag : List EntryParts → Type 0
 OneCanonicalTag R = (a b : TagForm) → IsCanonical R a → IsCanonical R b → AreEquivalent R a b → a ≡ b
+
+-- the end of a trace is reached, and so equivalent
+abbrev pub TracesReachTheirEnd : List EntryParts → Type 0
+TracesReachTheirEnd R = (t end : TagForm) (steps : List Step) → IsTrace R t steps end → IsReached R t end × AreEquivalent R t end
 
 -- steps can repeat a variant, and no canonical tag is equivalent
 pub record RepeatsWithoutForm (R : List EntryParts) (t : TagForm) : Type 0 where
@@ -49,7 +62,7 @@ abbrev pub ExtlangFormsLeadBack : List EntryParts → Type 0
 ExtlangFormsLeadBack R = (c : TagForm) → IsCanonical R c → LeadsBack R c
 
 -- After an upgrade from A to B valid tags stay valid, equivalent tags equivalent, and what an old canonical form
--- comes to is what the tag comes to, a repeat included.
+-- comes to is what the tag comes to, a repeat and the variant that is named included.
 pub record UpgradeKeepsTags (A B : List EntryParts) : Type 0 where
   pub valid : (t : TagForm) → IsValid A t → IsValid B t
   pub equivalent : (t u : TagForm) → IsProper A t → IsProper A u → AreEquivalent A t u → AreEquivalent B t u
@@ -57,3 +70,4 @@ pub record UpgradeKeepsTags (A B : List EntryParts) : Type 0 where
   pub form_back : (t c d : TagForm) → IsCanonicalFormOf A t c → IsCanonicalFormOf B c d → IsCanonicalFormOf B t d
   pub repeats : (t c : TagForm) → IsCanonicalFormOf A t c → CanRepeat B t → CanRepeat B c
   pub repeats_back : (t c : TagForm) → IsCanonicalFormOf A t c → CanRepeat B c → CanRepeat B t
+  pub named : (t c : TagForm) (v : List ℕ) → IsCanonicalFormOf A t c → IsNamedRepeat B t v → IsNamedRepeat B c v

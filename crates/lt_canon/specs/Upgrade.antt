@@ -3,7 +3,7 @@
 use Rattle.std.specs.Prelude.{ℕ, ◌≡◌, ◌<◌, ◌≤◌, true, false, List, Option, Some, All, Contains, length}
 use Rattle.lt_tag.specs.Parts.{TagForm}
 use Rattle.lt_registry.specs.Parts.{EntryParts}
-use Rattle.lt_registry.specs.Entries.{one_of, tag_of, value_or, entry, value, variant_value, language_value, is_registered, is_short, prefixes, lists, letters_le}
+use Rattle.lt_registry.specs.Entries.{one_of, value_or, entry, value, language_value, is_registered, is_short, prefixes, lists, letters_le}
 use Rattle.lt_registry.specs.declared.entries.Kind.{Kind}
 use Rattle.lt_registry.specs.declared.entries.Kind.TheVariants as kinds
 use Rattle.lt_registry.specs.declared.entries.EntryName.TheVariants as names
@@ -108,3 +108,25 @@ records_of _ A B = A
 
 abbrev pub Upgrades : List EntryParts → List EntryParts → Type 0
 Upgrades A B = (condition : UpgradeCondition) → All (MeetsUpgrade condition A B) (records_of condition A B)
+
+-- the conditions are judged in this order
+abbrev pub upgrade_rank_of : UpgradeCondition → ℕ
+upgrade_rank_of upgrades.StaysRegistered = 1
+upgrade_rank_of upgrades.SameEnds = 2
+upgrade_rank_of upgrades.SameExtlang = 3
+upgrade_rank_of upgrades.SameTurn = 4
+upgrade_rank_of upgrades.NoNewTurn = 5
+upgrade_rank_of upgrades.SameWhole = 6
+
+-- a record of this number, of the registry that the condition speaks of, is at fault
+pub record IsAtUpgradeFault (A B : List EntryParts) (condition : UpgradeCondition) (number : ℕ) : Type 0 where
+  pub entry : EntryParts
+  pub there : Contains (records_of condition A B) entry
+  pub numbered : entry.number ≡ number
+  pub fails : MeetsUpgrade condition A B entry → ⊥
+
+-- the lowest condition that fails, and there the lowest record at fault
+pub record IsUpgradeFinding (A B : List EntryParts) (condition : UpgradeCondition) (number : ℕ) : Type 0 where
+  pub fault : IsAtUpgradeFault A B condition number
+  pub lower : (other : UpgradeCondition) → upgrade_rank_of other < upgrade_rank_of condition → All (MeetsUpgrade other A B) (records_of other A B)
+  pub first : (other : ℕ) → IsAtUpgradeFault A B condition other → number ≤ other

@@ -2,7 +2,9 @@
 #![tactic(auto)]
 
 mod conditions;
+pub mod laws;
 mod refusals;
+pub mod upgrade_laws;
 
 pub use conditions::{Condition, UpgradeCondition};
 pub use refusals::Refusal;

@@ -1,10 +1,9 @@
 -- How a field grows by a continuation line.
 use Rattle.std.proofs.Common.{◌≡◌, ◌∙◌, ◌++◌, ◌∷◌, ℕ, List, [], true, refl, sym, ap, append_assoc, append-nil, map}
-use Rattle.std.specs.List.{filter, flat_map}
+use Rattle.std.specs.List.{filter}
 use Rattle.std.proofs.lemmas.List.{map-append}
-use Rattle.std.proofs.lemmas.List.Concat.{flat_map-cons}
 use Rattle.std.proofs.lemmas.List.Elements.{filter-append}
-use Rattle.lt_jar.specs.LineKinds.{Line, Continuation, Start}
+use Rattle.lt_jar.specs.LineKinds.{Continuation, Start}
 use Rattle.lt_jar.specs.Records.{Field, Written, field_of, is_something, joined, lines_of_field, lines_of_group}
 use Rattle.lt_jar.specs.Reading.{lengthened, with_text}
 
@@ -62,6 +61,6 @@ fields-continued text field (next ∷ group) = ap (λ l. field_of field ∷ l) (
 pub lines-continued : (text : List ℕ) (field : Written) (group : List Written) → lines_of_group (group_continued text (field ∷ group)) ≡ lines_of_group (field ∷ group) ++ Continuation text ∷ []
 lines-continued text field [] =
     ap (λ l. l ++ []) (lines_of_field-continued field text) ∙ append-nil (lines_of_field field ++ Continuation text ∷ [])
-        ∙ ap (λ l. l ++ Continuation text ∷ []) (sym (append-nil (lines_of_field field)))
+    ∙ ap (λ l. l ++ Continuation text ∷ []) (sym (append-nil (lines_of_field field)))
 lines-continued text field (next ∷ group) =
     ap (λ l. lines_of_field field ++ l) (lines-continued text next group) ∙ sym (append_assoc (lines_of_field field) (lines_of_group (next ∷ group)) (Continuation text ∷ []))

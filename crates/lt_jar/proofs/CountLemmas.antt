@@ -1,9 +1,9 @@
 -- How many records the lines of groups begin, and whether one goes on after them.
-use Rattle.std.proofs.Common.{◌≡◌, ◌∙◌, ◌++◌, ◌∷◌, ◌+◌, ◌&&◌, ℕ, List, [], Bool, true, false, refl, sym, ap, arith, length, map, length-append}
+use Rattle.std.proofs.Common.{◌≡◌, ◌∙◌, ◌++◌, ◌∷◌, ◌+◌, ◌&&◌, ℕ, List, [], Bool, true, false, refl, ap, arith, length, map, length-append}
 use Rattle.std.specs.List.{filter, flat_map}
 use Rattle.std.proofs.lemmas.List.Elements.{filter-append}
 use Rattle.lt_jar.specs.LineKinds.{Line, Blank, Separator, Continuation, Start, Bad}
-use Rattle.lt_jar.specs.Records.{Written, has_field, lines_of_ended, lines_of_field, lines_of_group}
+use Rattle.lt_jar.specs.Records.{Written, has_field, lines_of_ended, lines_of_group}
 use Rattle.lt_jar.specs.Faults.{begun, is_inside}
 use Rattle.lt_jar.proofs.GroupLemmas.{lines_of_groups}
 
@@ -81,8 +81,8 @@ fits-rest : (group : List Written) → fits true (lines_of_group group) ≡ true
 fits-rest [] = refl
 fits-rest (field ∷ group) =
     fits-append true (map Continuation field.more) (lines_of_group group)
-        ∙ ap (λ b. b && fits (is_inside true (map Continuation field.more)) (lines_of_group group)) (fits-texts field.more)
-        ∙ ap (λ b. fits b (lines_of_group group)) (inside-texts true field.more) ∙ fits-rest group
+    ∙ ap (λ b. b && fits (is_inside true (map Continuation field.more)) (lines_of_group group)) (fits-texts field.more)
+    ∙ ap (λ b. fits b (lines_of_group group)) (inside-texts true field.more) ∙ fits-rest group
 
 -- a whole group
 inside-group : (group : List Written) → is_inside false (lines_of_group group) ≡ has_field group
@@ -102,7 +102,7 @@ inside-ended : (ended : List (List Written)) → is_inside false (flat_map lines
 inside-ended [] = refl
 inside-ended (group ∷ ended) =
     is_inside-append false (lines_of_ended group) (flat_map lines_of_ended ended)
-        ∙ ap (λ b. is_inside b (flat_map lines_of_ended ended)) (is_inside-append false (lines_of_group group) (Separator ∷ [])) ∙ inside-ended ended
+    ∙ ap (λ b. is_inside b (flat_map lines_of_ended ended)) (is_inside-append false (lines_of_group group) (Separator ∷ [])) ∙ inside-ended ended
 
 begun-separator : (inside : Bool) → begun inside (Separator ∷ []) ≡ 0
 begun-separator true = refl
@@ -133,7 +133,7 @@ fits-ended : (ended : List (List Written)) → fits false (flat_map lines_of_end
 fits-ended [] = refl
 fits-ended (group ∷ ended) =
     fits-append false (lines_of_ended group) (flat_map lines_of_ended ended) ∙ ap (λ b. b && fits (is_inside false (lines_of_ended group)) (flat_map lines_of_ended ended)) (fits-ended_group group)
-        ∙ ap (λ b. fits b (flat_map lines_of_ended ended)) (is_inside-append false (lines_of_group group) (Separator ∷ [])) ∙ fits-ended ended
+    ∙ ap (λ b. fits b (flat_map lines_of_ended ended)) (is_inside-append false (lines_of_group group) (Separator ∷ [])) ∙ fits-ended ended
 
 pub is_inside-groups : (ended : List (List Written)) (last : List Written) → is_inside false (lines_of_groups ended last) ≡ has_field last
 is_inside-groups ended last =
@@ -152,4 +152,4 @@ begun-groups ended last =
 pub fits-groups : (ended : List (List Written)) (last : List Written) → fits false (lines_of_groups ended last) ≡ true
 fits-groups ended last =
     fits-append false (flat_map lines_of_ended ended) (lines_of_group last) ∙ ap (λ b. b && fits (is_inside false (flat_map lines_of_ended ended)) (lines_of_group last)) (fits-ended ended)
-        ∙ ap (λ b. fits b (lines_of_group last)) (inside-ended ended) ∙ fits-group last
+    ∙ ap (λ b. fits b (lines_of_group last)) (inside-ended ended) ∙ fits-group last

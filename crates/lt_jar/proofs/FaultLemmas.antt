@@ -1,5 +1,5 @@
 -- What is computed of a line is right: nothing is wrong with it, or this is, and nothing that comes before it in the order.
-use Rattle.std.proofs.Common.{◌≡◌, ◌∙◌, ◌++◌, ◌∷◌, ◌⊎◌, inl, inr, ℕ, List, [], Bool, true, false, Result, Ok, Err, refl, sym, ap, subst, append-nil, map, nat_lt, length, ◌+◌, ◌<◌, ◌≤◌, arith, if◌then◌else◌, length-append, MatchResult}
+use Rattle.std.proofs.Common.{◌≡◌, ◌∙◌, ◌++◌, ◌∷◌, ◌⊎◌, inl, inr, ℕ, List, [], Bool, true, false, Result, Ok, Err, refl, sym, ap, subst, append-nil, map, nat_lt, length, ◌+◌, ◌<◌, ◌≤◌, arith, if◌then◌else◌, MatchResult}
 use Rattle.std.specs.List.{filter}
 use Rattle.std.specs.Str.{IsUtf8, is_utf8}
 use Rattle.std.proofs.lemmas.Str.{IsUtf8-from_is_utf8, is_utf8-from_IsUtf8}
@@ -11,8 +11,8 @@ use Rattle.lt_jar.specs.Limits.{longest_line, most_records}
 use Rattle.lt_jar.specs.Records.{Field, Written, field_of, has_field, is_shown, shown}
 use Rattle.lt_jar.specs.Faults.{Fault, LineTooLong, NotUtf8, LeadingContinuation, BadLine, TooManyRecords, IsWrong, begun, is_continuation, is_inside, rank}
 use Rattle.lt_jar.specs.Reading.{Going, GoesOn, Taken, continued, started, take_kind, take_line}
-use Rattle.lt_jar.proofs.CountLemmas.{begun-append, begun-groups, is_inside-append, is_inside-groups}
-use Rattle.lt_jar.proofs.GroupLemmas.{Leaves, going_of, lines_of_groups, records_of}
+use Rattle.lt_jar.proofs.CountLemmas.{begun-append, begun-groups, is_inside-groups}
+use Rattle.lt_jar.proofs.GroupLemmas.{Leaves, going_of, lines_of_groups}
 
 -- one line more
 pub shown-more : (before : List (List ℕ)) (line : List ℕ) → shown (before ++ line ∷ []) ≡ shown before ++ filter is_shown (line_of line ∷ [])
@@ -62,7 +62,7 @@ begun-line : (before : List (List ℕ)) (line : List ℕ) (kind : Line) (inside 
     → begun false (shown (before ++ line ∷ [])) ≡ begun false (shown before) + begun inside (filter is_shown (kind ∷ []))
 begun-line before line kind inside is at =
     ap (begun false) (shown-more before line ∙ ap (λ k. shown before ++ filter is_shown (k ∷ [])) is) ∙ begun-append false (shown before) (filter is_shown (kind ∷ []))
-        ∙ ap (λ b. begun false (shown before) + begun b (filter is_shown (kind ∷ []))) at
+    ∙ ap (λ b. begun false (shown before) + begun b (filter is_shown (kind ∷ []))) at
 
 none_begun : (inside : Bool) → begun inside [] ≡ 0
 none_begun true = refl
@@ -137,12 +137,12 @@ kind_judges earlier before line going (Continuation text) is (inr within) short 
 kind_judges earlier before line going (Start name body) is (inl outside) short utf8 few =
     let count = ap (λ n. earlier + n) outside.count in
     subst (λ fields. Judges earlier before line (started (earlier + length going.records) (name, body) fields)) (sym outside.fields)
-        (first_judges earlier before line (earlier + length going.records) name body is short utf8 outside.inside count _ refl)
+    (first_judges earlier before line (earlier + length going.records) name body is short utf8 outside.inside count _ refl)
 kind_judges earlier before line going (Start name body) is (inr within) short utf8 few =
     let more = begun-line before line (Start name body) true is within.inside in
     let same : earlier + begun false (shown (before ++ line ∷ [])) ≤ most_records = omega (arith, more) in
     subst (λ fields. Judges earlier before line (started (earlier + length going.records) (name, body) fields)) (sym within.fields)
-        (calm earlier before line (Start name body) is short utf8 (λ m. cc) (λ m. cc) same, same)
+    (calm earlier before line (Start name body) is short utf8 (λ m. cc) (λ m. cc) same, same)
 kind_judges earlier before line going Bad is at short utf8 few =
     (is, least earlier before line 3 short utf8 (λ w. absurd (no_continuation line Bad is refl w.0)) (λ w. omega arith) (omega arith))
 

@@ -8,7 +8,7 @@ use Rattle.lt_jar.specs.LineKinds.{Line, Blank, Separator, Continuation, Start, 
 use Rattle.lt_jar.specs.Limits.{most_records}
 use Rattle.lt_jar.specs.Records.{Field, Written, field_of, has_field, is_shown, lines_of_ended, lines_of_field, lines_of_group, record_of}
 use Rattle.lt_jar.specs.Faults.{Fault, TooManyRecords}
-use Rattle.lt_jar.specs.Reading.{Ends, Going, GoesOn, Taken, finished, rest_of, start, started, take_kind, with_taken, with_text}
+use Rattle.lt_jar.specs.Reading.{Ends, Going, GoesOn, Taken, finished, start, take_kind, with_taken, with_text}
 use Rattle.lt_jar.proofs.BodyLemmas.{fields-continued, group_continued, joined_single, lines-continued}
 
 abbrev pub lines_of_groups : List (List Written) → List Written → List Line
@@ -49,7 +49,7 @@ if_ok false x y fault e = absurd (not_ok fault y e)
 lines-separated : (ended : List (List Written)) (last : List Written) → lines_of_groups ended last ++ Separator ∷ [] ≡ lines_of_groups (ended ++ last ∷ []) []
 lines-separated ended last =
     append_assoc (flat_map lines_of_ended ended) (lines_of_group last) (Separator ∷ []) ∙ ap (λ l. flat_map lines_of_ended ended ++ l) (sym (append-nil (lines_of_ended last)))
-        ∙ sym (flat_map-append lines_of_ended ended (last ∷ [])) ∙ sym (append-nil (flat_map lines_of_ended (ended ++ last ∷ [])))
+    ∙ sym (flat_map-append lines_of_ended ended (last ∷ [])) ∙ sym (append-nil (flat_map lines_of_ended (ended ++ last ∷ [])))
 
 separates : (ended : List (List Written)) (last : List Written) (taken : Taken) (n : ℕ) → take_kind n (map field_of last) Separator ≡ Ok taken
     → Leaves (lines_of_groups ended last ++ Separator ∷ []) (with_taken (going_of ended last) taken)
@@ -88,7 +88,7 @@ written name body = record { name = name; first = body; more = [] }
 lines-started : (ended : List (List Written)) (last : List Written) (name body : List ℕ) → lines_of_groups ended last ++ Start name body ∷ [] ≡ lines_of_groups ended (last ++ written name body ∷ [])
 lines-started ended last name body =
     append_assoc (flat_map lines_of_ended ended) (lines_of_group last) (Start name body ∷ [])
-        ∙ ap (λ l. flat_map lines_of_ended ended ++ l) (sym (flat_map-append lines_of_field last (written name body ∷ [])))
+    ∙ ap (λ l. flat_map lines_of_ended ended ++ l) (sym (flat_map-append lines_of_field last (written name body ∷ [])))
 
 fields-started : (last : List Written) (name body : List ℕ) → map field_of (last ++ written name body ∷ []) ≡ map field_of last ++ (name, body) ∷ []
 fields-started last name body =
@@ -113,7 +113,7 @@ after_kind : (ended : List (List Written)) (last : List Written) (kind : Line) (
     → Leaves (lines_of_groups ended last ++ filter is_shown (kind ∷ [])) (with_taken (going_of ended last) taken)
 after_kind ended last Blank taken n said =
     subst (λ t. Leaves (lines_of_groups ended last ++ []) (with_taken (going_of ended last) t)) (ok_is (GoesOn (map field_of last)) taken said)
-        (record { ended = ended; last = last; lines_are = append-nil (lines_of_groups ended last); going_is = refl })
+    (record { ended = ended; last = last; lines_are = append-nil (lines_of_groups ended last); going_is = refl })
 after_kind ended last Separator taken n said = separates ended last taken n said
 after_kind ended last (Continuation text) taken n said = continues ended last text taken n said
 after_kind ended last (Start name body) taken n said = starts ended last name body taken n said

@@ -8,3 +8,6 @@ pub mod GroupLemmas
 pub mod CountLemmas
 pub mod FaultLemmas
 pub mod ReadLemmas
+pub mod ParseLemmas
+pub mod LawLemmas
+pub mod WorkedRows

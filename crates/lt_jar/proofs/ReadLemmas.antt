@@ -6,14 +6,14 @@ use Rattle.std.proofs.lemmas.Str.{IsUtf8-from_is_utf8}
 use Rattle.std.proofs.lemmas.Bool.{ltb-false, ltb-true}
 use Rattle.std.proofs.lemmas.List.Elements.{All-append, All-cons, All-nil}
 use Rattle.lt_jar.specs.Lines.{lines_of}
-use Rattle.lt_jar.specs.LineKinds.{Line, line_of}
+use Rattle.lt_jar.specs.LineKinds.{line_of}
 use Rattle.lt_jar.specs.Limits.{longest_line, most_records}
-use Rattle.lt_jar.specs.Records.{Field, HasRecords, IsWithin, Written, field_of, has_field, is_shown, lines_of_group, record_of, shown}
-use Rattle.lt_jar.specs.Faults.{Fault, IsReached, IsTheFault, IsWrong, IsWrongAt, LineTooLong, NotUtf8, begun, is_inside, rank}
-use Rattle.lt_jar.specs.Reading.{Going, GoesOn, Taken, finished, on_taken, rest_of, start, step, take_kind, take_line, with_taken}
+use Rattle.lt_jar.specs.Records.{Field, HasRecords, IsWithin, Written, field_of, has_field, record_of, shown}
+use Rattle.lt_jar.specs.Faults.{Fault, IsReached, IsTheFault, IsWrong, IsWrongAt, LineTooLong, NotUtf8, begun, is_inside}
+use Rattle.lt_jar.specs.Reading.{Going, Taken, finished, on_taken, start, step, take_kind, take_line, with_taken}
 use Rattle.lt_jar.proofs.CountLemmas.{begun-groups, is_inside-groups}
 use Rattle.lt_jar.proofs.FaultLemmas.{Judges, judges, shown-more}
-use Rattle.lt_jar.proofs.GroupLemmas.{Leaves, finished-going_of, leaves_more, leaves_start, lines_of_groups, records_of}
+use Rattle.lt_jar.proofs.GroupLemmas.{Leaves, finished-going_of, leaves_more, leaves_start, lines_of_groups}
 
 abbrev IsShort : List ℕ → Type 0
 IsShort line = length line ≤ longest_line
@@ -22,10 +22,10 @@ IsShort line = length line ≤ longest_line
 abbrev pub IsClean : ℕ → List (List ℕ) → ℕ → Type 0
 IsClean earlier lines n = (front : List (List ℕ)) (line : List ℕ) (after : List (List ℕ)) (other : Fault) → lines ≡ front ++ line ∷ after → length front < n → IsWrong earlier other front line → ⊥
 
--- so many lines of the text are read, and `rest` is not
-pub record HasRead (earlier : ℕ) (text : List ℕ) (number : ℕ) (rest : List ℕ) (going : Going) : Type 0 where
+-- so many lines of the text are read, and these are left
+pub record HasRead (earlier : ℕ) (text : List ℕ) (number : ℕ) (left : List (List ℕ)) (going : Going) : Type 0 where
   pub before : List (List ℕ)
-  pub all : lines_of text ≡ before ++ lines_of rest
+  pub all : lines_of text ≡ before ++ left
   pub counted : number ≡ length before
   pub leaves : Leaves (shown before) going
   pub few : earlier + begun false (shown before) ≤ most_records
@@ -33,7 +33,7 @@ pub record HasRead (earlier : ℕ) (text : List ℕ) (number : ℕ) (rest : List
   pub short : All IsShort before
   pub utf8 : All IsUtf8 before
 
-pub read_none : (earlier : ℕ) (text : List ℕ) → earlier ≤ most_records → HasRead earlier text 0 text start
+pub read_none : (earlier : ℕ) (text : List ℕ) → earlier ≤ most_records → HasRead earlier text 0 (lines_of text) start
 read_none earlier text few = record {
   before = [];
   all = refl;
@@ -118,9 +118,9 @@ step_err going (Ok taken) fault e = cc
 step_err going (Err other) fault e = let same : other ≡ fault = cc in ap (λ f. let r : Result Taken Fault = Err f in r) same
 
 -- one line more
-pub read_more : (earlier : ℕ) (text : List ℕ) (number : ℕ) (rest : List ℕ) (going : Going) (line after : List ℕ) (new : Going) → HasRead earlier text number rest going
-    → lines_of rest ≡ line ∷ lines_of after → step earlier going line ≡ Ok new → HasRead earlier text (number + 1) after new
-read_more earlier text number rest going line after new read cut said =
+pub read_more : (earlier : ℕ) (text : List ℕ) (number : ℕ) (left : List (List ℕ)) (going : Going) (line : List ℕ) (after : List (List ℕ)) (new : Going) → HasRead earlier text number left going
+    → left ≡ line ∷ after → step earlier going line ≡ Ok new → HasRead earlier text (number + 1) after new
+read_more earlier text number left going line after new read cut said =
     let before = read.before in
     let there = read.all ∙ ap (λ l. before ++ l) cut in
     let taken = step_ok going (take_line (earlier + length going.records) going.fields line) new said in
@@ -130,37 +130,37 @@ read_more earlier text number rest going line after new read cut said =
     let long = length-append before (line ∷ []) in
     record {
       before = before ++ line ∷ [];
-      all = there ∙ sym (append_assoc before (line ∷ []) (lines_of after));
+      all = there ∙ sym (append_assoc before (line ∷ []) after);
       counted = omega (arith, read.counted, long);
       leaves = subst (λ g. Leaves (shown (before ++ line ∷ [])) g) taken.2 (subst (λ l. Leaves l (with_taken going taken.0)) (sym (shown-more before line)) leaves);
       few = judged.1;
-      clean = clean_more earlier (lines_of text) before line (lines_of after) there read.clean judged.0;
+      clean = clean_more earlier (lines_of text) before line after there read.clean judged.0;
       short = All-append IsShort before (line ∷ []) read.short (All-cons IsShort line [] passed.0 (All-nil IsShort));
       utf8 = All-append IsUtf8 before (line ∷ []) read.utf8 (All-cons IsUtf8 line [] passed.1 (All-nil IsUtf8));
     }
 
 -- a line that is wrong
-pub read_fault : (earlier : ℕ) (text : List ℕ) (number : ℕ) (rest : List ℕ) (going : Going) (line after : List ℕ) (fault : Fault) → HasRead earlier text number rest going
-    → lines_of rest ≡ line ∷ lines_of after → step earlier going line ≡ Err fault → IsTheFault earlier text fault (number + 1)
-read_fault earlier text number rest going line after fault read cut said =
+pub read_fault : (earlier : ℕ) (text : List ℕ) (number : ℕ) (left : List (List ℕ)) (going : Going) (line : List ℕ) (after : List (List ℕ)) (fault : Fault) → HasRead earlier text number left going
+    → left ≡ line ∷ after → step earlier going line ≡ Err fault → IsTheFault earlier text fault (number + 1)
+read_fault earlier text number left going line after fault read cut said =
     let before = read.before in
     let there = read.all ∙ ap (λ l. before ++ l) cut in
     let is = step_err going (take_line (earlier + length going.records) going.fields line) fault said in
     let judged = subst (Judges earlier before line) is (judges earlier before line going read.leaves read.few) in
     record {
-      wrong = record { before = before; line = line; after = lines_of after; all = there; counted = ap (λ n. n + 1) read.counted; wrong = judged.0 };
+      wrong = record { before = before; line = line; after = after; all = there; counted = ap (λ n. n + 1) read.counted; wrong = judged.0 };
       lowest = λ other at wrong. let low = lowest_of earlier text (length before) read.clean other at wrong in omega (arith, low, read.counted);
       first = λ other wrong.
           let at : length wrong.before ≡ length before = omega (arith, wrong.counted, read.counted) in
-          let cut_there = same_cut before line (lines_of after) wrong.before wrong.line wrong.after (sym there ∙ wrong.all) at in
+          let cut_there = same_cut before line after wrong.before wrong.line wrong.after (sym there ∙ wrong.all) at in
           judged.1 other (subst (λ x. IsWrong earlier other before x) cut_there.1 (subst (λ x. IsWrong earlier other x wrong.line) cut_there.0 wrong.wrong));
     }
 
 -- the next line is reached
-pub next_reached : (earlier : ℕ) (text : List ℕ) (number : ℕ) (rest : List ℕ) (going : Going) (line after : List ℕ) → HasRead earlier text number rest going
-    → lines_of rest ≡ line ∷ lines_of after → IsReached earlier text (number + 1)
-next_reached earlier text number rest going line after read cut =
-    let long = ap length (read.all ∙ ap (λ l. read.before ++ l) cut) ∙ length-append read.before (line ∷ lines_of after) in
+pub next_reached : (earlier : ℕ) (text : List ℕ) (number : ℕ) (left : List (List ℕ)) (going : Going) (line : List ℕ) (after : List (List ℕ)) → HasRead earlier text number left going
+    → left ≡ line ∷ after → IsReached earlier text (number + 1)
+next_reached earlier text number left going line after read cut =
+    let long = ap length (read.all ∙ ap (λ l. read.before ++ l) cut) ∙ length-append read.before (line ∷ after) in
     record {
       from = omega arith;
       to = omega (arith, long, read.counted);
@@ -177,9 +177,9 @@ some_read [] going leaves some = absurd (some (ap (λ g. g.fields) leaves.going_
 some_read (line ∷ before) going leaves some = omega arith
 
 -- the last line is reached
-pub last_reached : (earlier : ℕ) (text : List ℕ) (number : ℕ) (rest : List ℕ) (going : Going) → HasRead earlier text number rest going → lines_of rest ≡ [] → going.fields ≢ []
+pub last_reached : (earlier : ℕ) (text : List ℕ) (number : ℕ) (left : List (List ℕ)) (going : Going) → HasRead earlier text number left going → left ≡ [] → going.fields ≢ []
     → IsReached earlier text number
-last_reached earlier text number rest going read none some =
+last_reached earlier text number left going read none some =
     let all = ap length (read.all ∙ ap (λ l. read.before ++ l) none ∙ append-nil read.before) in
     let from = some_read read.before going read.leaves some in
     record {
@@ -188,13 +188,13 @@ last_reached earlier text number rest going read none some =
       clean = λ other at wrong. let low = lowest_of earlier text (length read.before) read.clean other at wrong in omega (arith, low, read.counted);
     }
 
-length-map : {A B : Type 0} (f : A → B) (xs : List A) → length (map f xs) ≡ length xs
+pub length-map : {A B : Type 0} (f : A → B) (xs : List A) → length (map f xs) ≡ length xs
 length-map f [] = refl
 length-map f (x ∷ xs) = let rest = length-map f xs in omega (arith, rest)
 
 -- the text is read, and these are its records
-pub records_at_end : (earlier : ℕ) (text : List ℕ) (number : ℕ) (rest : List ℕ) (going : Going) → HasRead earlier text number rest going → lines_of rest ≡ [] → HasRecords text (finished going)
-records_at_end earlier text number rest going read none =
+pub records_at_end : (earlier : ℕ) (text : List ℕ) (number : ℕ) (left : List (List ℕ)) (going : Going) → HasRead earlier text number left going → left ≡ [] → HasRecords text (finished going)
+records_at_end earlier text number left going read none =
     let all = read.all ∙ ap (λ l. read.before ++ l) none ∙ append-nil read.before in
     let leaves = read.leaves in
     record {
@@ -204,8 +204,8 @@ records_at_end earlier text number rest going read none =
       all = ap finished leaves.going_is ∙ finished-going_of leaves.ended leaves.last;
     }
 
-pub within_at_end : (text : List ℕ) (number : ℕ) (rest : List ℕ) (going : Going) → HasRead 0 text number rest going → lines_of rest ≡ [] → IsWithin text (finished going)
-within_at_end text number rest going read none =
+pub within_at_end : (text : List ℕ) (number : ℕ) (left : List (List ℕ)) (going : Going) → HasRead 0 text number left going → left ≡ [] → IsWithin text (finished going)
+within_at_end text number left going read none =
     let all = read.all ∙ ap (λ l. read.before ++ l) none ∙ append-nil read.before in
     let leaves = read.leaves in
     let records = ap finished leaves.going_is ∙ finished-going_of leaves.ended leaves.last in

@@ -1,6 +1,5 @@
 -- A line's step, where the code counts the records.
-use Rattle.std.proofs.Common.{◌≡◌, ◌∙◌, ◌+◌, ◌⊎◌, inl, inr, ℕ, List, Result, Ok, Err, sym, ap, length}
-use Rattle.lt_jar.specs.Records.{Field}
+use Rattle.std.proofs.Common.{◌≡◌, ◌∙◌, ◌+◌, inl, inr, ℕ, List, Result, sym, ap, length}
 use Rattle.lt_jar.specs.Faults.{Fault}
 use Rattle.lt_jar.specs.Reading.{Going, on_taken, step, take_line}
 use Rattle.lt_jar.specs.Views.{IsSaid}

@@ -8,3 +8,4 @@ pub mod Reading
 pub mod Views
 pub mod Names
 pub mod Going
+pub mod Devices

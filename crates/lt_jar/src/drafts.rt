@@ -49,7 +49,8 @@ impl Draft {
         line: &[u8],
         ended: usize,
     ) -> Result<Progress, JarFaultKind>
-        ensures { IsTaken result (reading.take_line ended self.old.fields.items line.now) self.new.fields.items }
+        ensures { IsTaken result (reading.take_line ended self.old.fields.items line.now)
+            self.new.fields.items }
     {
         if line.len() > LONGEST_LINE {
             return Err(JarFaultKind::LineTooLong);
@@ -66,7 +67,8 @@ impl Draft {
         kind: LineKind<'_>,
         ended: usize,
     ) -> Result<Progress, JarFaultKind>
-        ensures { IsTaken result (reading.take_kind ended self.old.fields.items (line_in kind.entry)) self.new.fields.items }
+        ensures { IsTaken result (reading.take_kind ended self.old.fields.items (line_in kind.entry))
+            self.new.fields.items }
     {
         match kind {
             LineKind::Blank => Ok(Progress::GoesOn),
@@ -97,7 +99,8 @@ impl Draft {
         body: &str,
         ended: usize,
     ) -> Result<Progress, JarFaultKind>
-        ensures { IsTaken result (reading.started ended (name.now, body.now) self.old.fields.items) self.new.fields.items }
+        ensures { IsTaken result (reading.started ended (name.now, body.now) self.old.fields.items)
+            self.new.fields.items }
     {
         if self.fields.is_empty() && ended >= MOST_RECORDS {
             return Err(JarFaultKind::TooManyRecords);

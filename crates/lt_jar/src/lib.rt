@@ -1,12 +1,18 @@
 //! The record-jar format, in which the IANA Language Subtag Registry is kept (RFC 5646, 3.1.1).
 #![tactic(auto)]
 
+mod devices;
 mod drafts;
 mod faults;
 mod jars;
+pub mod laws;
 mod lines;
 mod reading;
 
+pub use devices::Device;
 pub use faults::{JarFault, JarFaultKind};
 pub use jars::{Jar, JarField, Record};
 pub use reading::read_jar;
+
+#[cfg(test)]
+mod tests;

@@ -1,6 +1,6 @@
 -- Where a chain of values ends.
 use Rattle.std.proofs.Common.{◌≡◌, ℕ, zero, suc, List, Option, Some, None, refl, sym, ap, ◌∙◌, subst}
-use Rattle.lt_rewrite.specs.CoreSteps.{chase, Ends, EndsIn}
+use Rattle.lt_rewrite.specs.CoreSteps.{chase, Ends}
 
 pub chase_rests : (f : List ℕ → Option (List ℕ)) (n : ℕ) (s : List ℕ) → f s ≡ None → chase f n s ≡ s
 chase_rests f zero s h = refl

@@ -49,7 +49,7 @@ form V S c = form_on V S c.extlangs c.language (option_map S.script c.script) (o
 
 -- every step keeps the form
 
-none_or : (o : Option (List ℕ)) → (o ≡ None) ⊎ ((t : List ℕ) × (o ≡ Some t))
+pub none_or : (o : Option (List ℕ)) → (o ≡ None) ⊎ ((t : List ℕ) × (o ≡ Some t))
 none_or None = inl refl
 none_or (Some t) = inr (t, refl)
 
@@ -101,7 +101,7 @@ settled_some V S x vs p e =
     ap (λ n. settled V S n x vs) (pick_length V x vs p e)
     ∙ ap (λ (o : Option (List ℕ × List (List ℕ))). elim o as (λ _. List ℕ × List (List ℕ)) [ None ↦ (x, vs) | Some q ↦ settled V S (length p.1) (S.language q.0) q.1 ]) e
 
-map-append : {A B : Type 0} (f : A → B) (xs ys : List A) → map f (xs ++ ys) ≡ map f xs ++ map f ys
+pub map-append : {A B : Type 0} (f : A → B) (xs ys : List A) → map f (xs ++ ys) ≡ map f xs ++ map f ys
 map-append f [] ys = refl
 map-append f (x ∷ xs) ys = ap (λ l. f x ∷ l) (map-append f xs ys)
 

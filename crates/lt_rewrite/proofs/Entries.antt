@@ -11,7 +11,6 @@ use Rattle.lt_registry.specs.Same.{same_kind}
 use Rattle.lt_registry.specs.Entries.{is_named, holds, or_else, one_of, entry, value, prefixes, prefixes_of, lists, is_short, variant_value, language_value, is_registered}
 use Rattle.lt_registry.specs.declared.entries.Kind.{Kind}
 use Rattle.lt_registry.specs.declared.entries.Kind.TheVariants as kinds
-use Rattle.lt_registry.specs.declared.entries.EntryName.{EntryName}
 use Rattle.lt_rewrite.specs.CoreSteps.{values_of, Ends}
 use Rattle.lt_rewrite.specs.Conditions.{next_value, HasEndingChain, HasFittingVariantValue, StandsBesideFinalLanguages, IsFinalLanguage, MeetsCoreConditions}
 use Rattle.lt_rewrite.proofs.Chains.{chase_next, end_at, end_at-is_end}
@@ -26,6 +25,15 @@ same_kind_is kinds.Variant kinds.Variant h = refl
 same_kind_is kinds.Grandfathered kinds.Grandfathered h = refl
 same_kind_is kinds.Redundant kinds.Redundant h = refl
 same_kind_is _ _ h = cc
+
+pub same_kind_itself : (a : Kind) → same_kind a a ≡ true
+same_kind_itself kinds.Language = refl
+same_kind_itself kinds.Extlang = refl
+same_kind_itself kinds.Script = refl
+same_kind_itself kinds.Region = refl
+same_kind_itself kinds.Variant = refl
+same_kind_itself kinds.Grandfathered = refl
+same_kind_itself kinds.Redundant = refl
 
 find_at : {A : Type 0} (P : A → Type 0) (test : A → Bool) (x : A) (xs : List A) (a : A) → P x → (find test xs ≡ Some a → P a × (test a ≡ true)) → (b : Bool) → test x ≡ b → cond b (Some x) (find test xs) ≡ Some a → P a × (test a ≡ true)
 find_at P test x xs a h ih true t e = let same : x ≡ a = cc in (subst P same h, ap test (sym same) ∙ t)

@@ -1,25 +1,22 @@
 -- The normal form of an extension and of a list of extensions, where each core has one.
-use Rattle.std.proofs.Common.{◌≡◌, ◌≢◌, ℕ, ◌≤◌, ◌<◌, ◌==◌, Bool, true, false, List, [], ◌∷◌, ◌++◌, refl, sym, ap, ◌∙◌, subst, map, length, arith}
+use Rattle.std.proofs.Common.{◌≡◌, ℕ, ◌==◌, Bool, true, false, List, refl, sym, ap, ◌∙◌, subst, map}
 use Rattle.std.specs.Prelude.{Option, Some, None, option_map}
-use Rattle.std.specs.List.{list_all, AllByRecursion}
 use Rattle.std.specs.Cmp.{IsTotalOrder}
 use Rattle.std.proofs.lemmas.Cmp.{on_total, nat_cmp_total}
 use Rattle.std.proofs.lemmas.Bool.{eq-eqb, eqb-true}
 use Rattle.lt_tag.specs.Parts.{CoreParts, ExtensionParts, UForm, TForm}
-use Rattle.lt_tag.specs.Spelling.{IsCore, IsExtension}
+use Rattle.lt_tag.specs.Spelling.{IsCore}
 use Rattle.lt_tag.specs.Extensions.{spell_u, spell_t, IsU, IsT, transform, IsTransform, unicode, IsUnicode}
 use Rattle.lt_tag.specs.Splitting.{unicode_of, transform_of}
-use Rattle.lt_tag.proofs.PartsLemmas.{u_extension, t_extension}
 use Rattle.lt_registry.specs.Parts.{EntryParts}
-use Rattle.lt_rewrite.specs.Rewriting.{Star, done, then}
+use Rattle.lt_rewrite.specs.Rewriting.{Star, done}
 use Rattle.lt_rewrite.specs.CoreSteps.{values_of, CoreStep}
-use Rattle.lt_rewrite.specs.Extensions.{singleton_cmp, UnicodeStep, TransformStep, InUnicode, InTransform, ExtensionStep, in_unicode, in_transform, Within, ExtensionsStep, inside, among}
-use Rattle.lt_rewrite.proofs.Stars.{star_trans, star_path}
+use Rattle.lt_rewrite.specs.Extensions.{singleton_cmp, UnicodeStep, TransformStep, ExtensionStep, in_unicode, in_transform, ExtensionsStep, inside, among}
 use Rattle.lt_rewrite.proofs.NormalForms.{IsFormOf, star_map, star_map_while, star_keeps}
 use Rattle.lt_rewrite.proofs.Sorting.{sorted}
 use Rattle.lt_rewrite.proofs.PartSteps.{PartStep, on_part, on_order, parts_are_formed}
-use Rattle.lt_rewrite.proofs.UnicodeForms.{u_form, u_formed, u_shaped, u_step_length}
-use Rattle.lt_rewrite.proofs.TransformForms.{t_form, t_formed, t_shaped, t_step_length}
+use Rattle.lt_rewrite.proofs.UnicodeForms.{u_form, u_formed, u_shaped}
+use Rattle.lt_rewrite.proofs.TransformForms.{t_form, t_formed, t_shaped}
 use Rattle.lt_rewrite.proofs.FoundParts.{unicode_found, unicode_is, transform_found, transform_is}
 
 pub singleton_total : IsTotalOrder singleton_cmp

@@ -1,10 +1,10 @@
 -- A step on an extension keeps its shape, and makes its subtags no more.
-use Rattle.std.proofs.Common.{◌≡◌, ℕ, ◌≤◌, List, [], ◌∷◌, ◌++◌, refl, sym, ap, ◌∙◌, subst, length, arith}
+use Rattle.std.proofs.Common.{◌≡◌, ◌≤◌, List, sym, ap, ◌∙◌, subst, length, arith}
 use Rattle.std.specs.List.{AllByRecursion}
-use Rattle.lt_tag.specs.Parts.{ExtensionParts, UForm, TForm}
+use Rattle.lt_tag.specs.Parts.{ExtensionParts}
 use Rattle.lt_tag.specs.Spelling.{IsExtension}
-use Rattle.lt_tag.specs.Extensions.{spell_u, spell_t, unicode}
-use Rattle.lt_tag.specs.Values.{IsExtensionValue, most_parts}
+use Rattle.lt_tag.specs.Extensions.{spell_u, spell_t}
+use Rattle.lt_tag.specs.Values.{IsExtensionValue}
 use Rattle.lt_tag.proofs.PartsLemmas.{u_is_extension, t_is_extension}
 use Rattle.lt_registry.specs.Parts.{EntryParts}
 use Rattle.lt_rewrite.specs.Extensions.{ExtensionStep, in_unicode, in_transform, ExtensionsStep, inside, among}

@@ -1,5 +1,5 @@
 -- The parts that are computed from the subtags of an extension are those that spell them.
-use Rattle.std.proofs.Common.{◌≡◌, ℕ, List, sym, ◌∙◌}
+use Rattle.std.proofs.Common.{◌≡◌, ℕ, List}
 use Rattle.std.specs.Prelude.{Some}
 use Rattle.lt_tag.specs.Parts.{UForm, TForm}
 use Rattle.lt_tag.specs.Splitting.{unicode_of, transform_of}

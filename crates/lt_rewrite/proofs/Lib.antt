@@ -20,4 +20,10 @@ pub mod Proper
 pub mod CoreShapes
 pub mod ExtensionShapes
 pub mod OrderingLaw
+pub mod Same
 pub mod OneStep
+pub mod Repeats
+pub mod CoreEnds
+pub mod NameForms
+pub mod SortedLists
+pub mod OrderingRows

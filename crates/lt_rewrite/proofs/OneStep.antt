@@ -1,8 +1,8 @@
 -- The kind and the place of a step determine its result.
 use Rattle.std.proofs.Common.{◌≡◌, ◌≢◌, ℕ, ◌+◌, ◌≤◌, ◌<◌, Bool, true, false, Ordering, List, [], ◌∷◌, ◌++◌, Option, Some, refl, sym, ap, ◌∙◌, subst, length, map, append_assoc, length-append, arith}
-use Rattle.std.specs.Prelude.{option_to_list, flat_map, codes}
+use Rattle.std.specs.Prelude.{option_to_list, flat_map}
 use Rattle.std.specs.List.{AllByRecursion}
-use Rattle.lt_tag.specs.Parts.{CoreParts, ExtensionParts, KeywordParts, UForm, TForm, TagForm, LangTag}
+use Rattle.lt_tag.specs.Parts.{CoreParts, ExtensionParts, UForm, TForm, TagForm, LangTag}
 use Rattle.lt_tag.specs.Spelling.{spell_core, spell_extension, spell_extensions}
 use Rattle.lt_tag.specs.Extensions.{spell_keyword, spell_u, spell_field, spell_source, spell_t, transform, unicode}
 use Rattle.lt_tag.proofs.PartsLaws.{u_unique, t_unique}

@@ -1,15 +1,14 @@
 -- The laws of the steps on extensions.
 use Rattle.std.proofs.Common.{List, sym}
 use Rattle.lt_registry.specs.Parts.{EntryParts}
-use Rattle.lt_rewrite.specs.CoreSteps.{values_of}
-use Rattle.lt_rewrite.specs.Extensions.{UnicodeStep, TransformStep, ExtensionsStep}
 use Rattle.lt_rewrite.specs.Conditions.{IsRegistry, MeetsCoreConditions}
 use Rattle.lt_rewrite.specs.OrderingLaws.{HasOneForm, UnicodeHasOneForm, TransformHasOneForm, ExtensionsHaveOneForm}
 use Rattle.lt_rewrite.proofs.NormalForms.{IsFormOf, form_is_normal, normal_is_form}
-use Rattle.lt_rewrite.proofs.CoreShapes.{step_shaped, core_form, core_formed}
-use Rattle.lt_rewrite.proofs.UnicodeForms.{u_form, u_formed, u_shaped}
-use Rattle.lt_rewrite.proofs.TransformForms.{t_form, t_formed, t_shaped}
-use Rattle.lt_rewrite.proofs.ExtensionForms.{extensions_form, extensions_formed}
+use Rattle.lt_rewrite.proofs.Proper.{step_shaped}
+use Rattle.lt_rewrite.proofs.CoreShapes.{core_form, core_formed}
+use Rattle.lt_rewrite.proofs.UnicodeForms.{u_formed, u_shaped}
+use Rattle.lt_rewrite.proofs.TransformForms.{t_formed, t_shaped}
+use Rattle.lt_rewrite.proofs.ExtensionForms.{extensions_formed}
 use Rattle.lt_rewrite.proofs.ExtensionShapes.{extensions_step_values}
 
 one_form : {A : Type 0} {Step : A → A → Type 0} {form : A → A} → IsFormOf Step form → (a : A) → HasOneForm Step a

@@ -1,34 +1,27 @@
 -- A core step on a proper core gives a proper core, and no proper core spells a grandfathered tag.
-use Rattle.std.proofs.Common.{◌≡◌, ◌≢◌, ℕ, ◌≤◌, ◌<◌, ◌-◌, ◌==◌, ◌⊎◌, inl, inr, Bool, true, false, ◌&&◌, ◌||◌, not, List, [], ◌∷◌, ◌++◌, Option, Some, None, refl, sym, ap, ◌∙◌, subst, length, bytes_eq, arith, length-append, All, IfSome}
+use Rattle.std.proofs.Common.{◌≡◌, ◌≢◌, ℕ, ◌≤◌, ◌<◌, ◌-◌, Bool, true, false, ◌&&◌, ◌||◌, not, List, [], ◌∷◌, ◌++◌, Option, Some, None, refl, sym, ap, ◌∙◌, subst, length, bytes_eq, arith, All}
 use Rattle.std.specs.Prelude.{option_to_list}
 use Rattle.std.specs.List.{AllByRecursion, list_all}
 use Rattle.std.proofs.lemmas.Slice.Eq.{bytes_eq-Decides}
 use Rattle.std.proofs.lemmas.Bool.{and_parts, and_from, not-true}
-use Rattle.lt_subtag.specs.Shapes.{is_language, is_extlang, is_script, is_region, is_variant}
+use Rattle.lt_subtag.specs.Shapes.{is_extlang, is_script, is_region, is_variant}
 use Rattle.lt_tag.specs.Parts.{CoreParts}
 use Rattle.lt_tag.specs.Lists.{pieces}
 use Rattle.lt_tag.specs.Spelling.{spell_core, has_shape, IsCore}
-use Rattle.lt_tag.specs.Values.{IsCoreValue, most_parts}
 use Rattle.lt_tag.specs.Grandfathered.{grandfathered_texts, grandfathered_list, IsGrandfathered}
 use Rattle.lt_tag.proofs.TagLemmas.{table_length, list_all-at}
 use Rattle.lt_registry.specs.Parts.{EntryParts}
-use Rattle.lt_registry.specs.Entries.{entry, is_registered, replacement}
+use Rattle.lt_registry.specs.Entries.{is_registered}
 use Rattle.lt_registry.specs.Validity.{ExtlangsFit, IsProperCore, Distinct}
 use Rattle.lt_registry.specs.declared.entries.Kind.TheVariants as kinds
 use Rattle.lt_tag.specs.WellFormed.{IsNotGrandfathered}
-use Rattle.lt_rewrite.specs.CoreSteps.{Values, values_of, CoreStep, by_extlang, by_language, by_script, by_region, by_variant, by_turn}
+use Rattle.lt_rewrite.specs.CoreSteps.{values_of, CoreStep, by_extlang, by_language, by_script, by_region, by_variant, by_turn}
 use Rattle.lt_rewrite.specs.Conditions.{IsRegistry, FitsGrandfathered, second_entry, MeetsCoreConditions}
-use Rattle.lt_rewrite.specs.Laws.{IsProperValue, StepsKeepProper, ProperCoresSpellNone}
+use Rattle.lt_rewrite.specs.Laws.{StepsKeepProper, ProperCoresSpellNone}
+use Rattle.lt_rewrite.proofs.CoreLengths.{core_step_no_longer}
+use Rattle.lt_rewrite.proofs.PartLists.{all_replaced, all_without}
 use Rattle.lt_rewrite.proofs.Entries.{entry_has, turn_is, variant_value_fits, language_value_fits}
 use Rattle.lt_rewrite.proofs.Forms.{registered_entry, value_form, value_registered, replacement_form, replacement_registered, language_value_form, variant_value_form}
-
-pub all_replaced : {A : Type 0} (P : A → Type 0) (before : List A) (v w : A) (after : List A) → AllByRecursion P (before ++ v ∷ after) → P w → AllByRecursion P (before ++ w ∷ after)
-all_replaced P [] v w after h p = (p, h.1)
-all_replaced P (u ∷ us) v w after h p = (h.0, all_replaced P us v w after h.1 p)
-
-pub all_without : {A : Type 0} (P : A → Type 0) (before : List A) (v : A) (after : List A) → AllByRecursion P (before ++ v ∷ after) → AllByRecursion P (before ++ after)
-all_without P [] v after h = h.1
-all_without P (u ∷ us) v after h = (h.0, all_without P us v after h.1)
 
 test_replaced : {A : Type 0} (test : A → Bool) (before : List A) (v w : A) (after : List A) → list_all test (before ++ v ∷ after) ≡ true → test w ≡ true → list_all test (before ++ w ∷ after) ≡ true
 test_replaced test [] v w after h p = and_from (test w) (list_all test after) p (and_parts (test v) (list_all test after) h).1
@@ -66,19 +59,6 @@ step_shaped R G c d S (by_turn before v m after s) =
     let t = (turn_is R c.language v m s.has).1 in
     subst IsCore (sym s.result) (record { language = language_value_form R G v m t; extlangs = S.extlangs; up_to_three = S.up_to_three; after_short = short_none m c.extlangs s.alone; script = S.script; region = S.region; variants = test_without is_variant before v after (ap (list_all is_variant) (sym s.there) ∙ S.variants) })
 
--- a core step gives no more variants
-pub step_counts : (V : Values) (c d : CoreParts) → CoreStep V c d → length d.variants ≤ length c.variants
-step_counts V c d (by_extlang x s) = let n = ap (λ (z : CoreParts). length z.variants) s.result in omega (arith, n)
-step_counts V c d (by_language v s) = let n = ap (λ (z : CoreParts). length z.variants) s.result in omega (arith, n)
-step_counts V c d (by_script a v s) = let n = ap (λ (z : CoreParts). length z.variants) s.result in omega (arith, n)
-step_counts V c d (by_region a v s) = let n = ap (λ (z : CoreParts). length z.variants) s.result in omega (arith, n)
-step_counts V c d (by_variant before v w after s) =
-    let n = ap (λ (z : CoreParts). length z.variants) s.result in
-    omega (arith, n, length-append before (w ∷ after), length-append before (v ∷ after), ap length s.there)
-step_counts V c d (by_turn before v m after s) =
-    let n = ap (λ (z : CoreParts). length z.variants) s.result in
-    omega (arith, n, length-append before after, length-append before (v ∷ after), ap length s.there)
-
 abbrev RegisteredVariant : List EntryParts → List ℕ → Type 0
 RegisteredVariant R v = is_registered R kinds.Variant v ≡ true
 
@@ -105,7 +85,7 @@ pub steps_keep_proper : (R : List EntryParts) → IsRegistry R → MeetsCoreCond
 steps_keep_proper R G C c d P s = record {
   value = record {
     shaped = step_shaped R G c d P.value.shaped s;
-    variants = let n = step_counts (values_of R) c d s in omega (arith, n, P.value.variants);
+    variants = let n = (core_step_no_longer (values_of R) c d s).variants in omega (arith, n, P.value.variants);
   };
   proper = step_proper R C c d P.proper s;
 }

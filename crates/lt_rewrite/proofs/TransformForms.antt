@@ -1,17 +1,17 @@
 -- The normal form of the parts of a t extension, where each core has one.
-use Rattle.std.proofs.Common.{◌≡◌, ℕ, false, ◌≤◌, ◌<◌, ◌+◌, List, [], ◌∷◌, ◌++◌, Option, Some, None, refl, sym, ap, ◌∙◌, subst, length, arith, IfSome}
+use Rattle.std.proofs.Common.{◌≡◌, false, ◌≤◌, ◌<◌, List, [], ◌∷◌, ◌++◌, Option, Some, None, refl, sym, ap, ◌∙◌, subst, length, arith, IfSome}
 use Rattle.std.specs.Prelude.{flat_map, option_map}
 use Rattle.std.specs.List.{AllByRecursion}
 use Rattle.std.specs.Cmp.{IsTotalOrder}
 use Rattle.std.proofs.lemmas.Cmp.{on_total}
 use Rattle.std.proofs.lemmas.List.{length-append}
 use Rattle.lt_tag.specs.Parts.{CoreParts, FieldParts, TForm}
-use Rattle.lt_tag.specs.Spelling.{IsCore, spell_core}
+use Rattle.lt_tag.specs.Spelling.{IsCore}
 use Rattle.lt_tag.specs.Extensions.{spell_field, spell_source, spell_t, IsField, IsT}
 use Rattle.lt_registry.specs.Parts.{EntryParts}
-use Rattle.lt_rewrite.specs.Rewriting.{Star, done, then}
+use Rattle.lt_rewrite.specs.Rewriting.{Star, done}
 use Rattle.lt_rewrite.specs.CoreSteps.{values_of, CoreStep}
-use Rattle.lt_rewrite.specs.Extensions.{separator_cmp, SourceStep, TransformStep, on_source, on_fields}
+use Rattle.lt_rewrite.specs.Extensions.{separator_cmp, TransformStep, on_source, on_fields}
 use Rattle.lt_rewrite.proofs.Stars.{star_trans}
 use Rattle.lt_rewrite.proofs.NormalForms.{IsFormOf, star_map}
 use Rattle.lt_rewrite.proofs.Sorting.{sorted, list_step_keeps, sorted_reached, sorting_is_form}

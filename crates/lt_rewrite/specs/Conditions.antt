@@ -11,7 +11,6 @@ use Rattle.lt_registry.specs.Entries.{IsEntry, NumbersRise, entry, one_of, value
 use Rattle.lt_registry.specs.Validity.{IsValidCore}
 use Rattle.lt_registry.specs.declared.entries.Kind.{Kind}
 use Rattle.lt_registry.specs.declared.entries.Kind.TheVariants as kinds
-use Rattle.lt_registry.specs.declared.entries.EntryName.{EntryName}
 use Rattle.lt_registry.specs.declared.entries.EntryName.TheVariants as names
 use Rattle.lt_rewrite.specs.CoreSteps.{Ends, EndsIn}
 

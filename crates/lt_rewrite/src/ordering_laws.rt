@@ -2,7 +2,7 @@
 ghost use Rattle.std.specs.Prelude.{List};
 ghost use Rattle.lt_registry.specs.Parts.{EntryParts};
 ghost use Rattle.lt_rewrite.specs.Conditions.{IsRegistry, MeetsCoreConditions};
-ghost use Rattle.lt_rewrite.specs.OrderingLaws.{UnicodeHasOneForm, TransformHasOneForm, ExtensionsHaveOneForm};
+ghost use Rattle.lt_rewrite.specs.OrderingLaws.{UnicodeHasOneForm, TransformHasOneForm, ExtensionsHaveOneForm, SortedFieldsAreNormal, SortedExtensionsAreNormal};
 
 /// The parts of a `u` extension have one normal form.
 pub fn one_form_of_unicode()
@@ -17,4 +17,10 @@ pub fn one_form_of_transform()
 /// Under the conditions on core steps a list of extensions has one normal form.
 pub fn one_form_of_extensions()
     ensures { (R : List EntryParts) → IsRegistry R → MeetsCoreConditions R → ExtensionsHaveOneForm R }
+{}
+
+/// A stable sort of fields, or of extensions, does what the steps do that only exchange neighbours.
+pub fn stable_sorts_are_normal()
+    ensures fields { SortedFieldsAreNormal }
+    ensures extensions { SortedExtensionsAreNormal }
 {}

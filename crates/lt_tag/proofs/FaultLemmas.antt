@@ -1,5 +1,5 @@
--- A text has a tag or a fault, and one fault at most.
-use Rattle.std.proofs.Common.{◌≡◌, ℕ, ◌≤◌, ◌<◌, ◌+◌, ◌-◌, ◌⊎◌, List, [], ◌∷◌, length, take, refl, sym, ap, ◌∙◌, subst, arith, inl, inr}
+-- A text that has a fault has no tag, and one fault alone.
+use Rattle.std.proofs.Common.{◌≡◌, ℕ, ◌≤◌, ◌<◌, ◌+◌, ◌-◌, List, [], length, refl, sym, ap, subst, arith, inl, inr}
 use Rattle.std.specs.Prelude.{Result, Ok, Err, IsOk, slice_index_or}
 use Rattle.std.proofs.lemmas.List.{take_all}
 use Rattle.std.proofs.lemmas.Bool.{cases_order}
@@ -55,13 +55,13 @@ good_or_bad text fault place l b =
     let ok = l (place - 1) (omega (arith, b.first, b.within)) in
     bad_ok (subtag_of (slice_index_or (pieces text) (place - 1) [])) fault here ok
 
-cause_or_tag : (text : List ℕ) (kind : TagFaultKind) (place : ℕ) (tag : TagForm) → Cause text kind place → HasTag text tag → ⊥
-cause_or_tag text kind place tag (long n) t = omega (arith, t.short)
-cause_or_tag text kind place tag (piece fault at n b) t = good_or_bad text fault at t.listed b
-cause_or_tag text kind place tag (bad l _) t = l.bad (tag_formed tag (list_of text) t.tag t.spelled)
+cause_excludes_tag : (text : List ℕ) (kind : TagFaultKind) (place : ℕ) (tag : TagForm) → Cause text kind place → HasTag text tag → ⊥
+cause_excludes_tag text kind place tag (long n) t = omega (arith, t.short)
+cause_excludes_tag text kind place tag (piece fault at n b) t = good_or_bad text fault at t.listed b
+cause_excludes_tag text kind place tag (bad l _) t = l.bad (tag_formed tag (list_of text) t.tag t.spelled)
 
-pub fault_or_tag : (text : List ℕ) (kind : TagFaultKind) (place : ℕ) (tag : TagForm) → HasFault text kind place → HasTag text tag → ⊥
-fault_or_tag text kind place tag f t = cause_or_tag text kind place tag (cause text kind place f.fault f.memory_aside) t
+pub fault_excludes_tag : (text : List ℕ) (kind : TagFaultKind) (place : ℕ) (tag : TagForm) → HasFault text kind place → HasTag text tag → ⊥
+fault_excludes_tag text kind place tag f t = cause_excludes_tag text kind place tag (cause text kind place f.fault f.memory_aside) t
 
 -- the least place is one
 one_place : (list : List (List ℕ)) (a b : ℕ) → IsFirstMisplaced list a → IsFirstMisplaced list b → a ≡ b

@@ -1,58 +1,19 @@
 -- A text has the list of a grandfathered tag exactly if it is that tag's text in some letter case.
-use Rattle.std.proofs.Common.{◌≡◌, ℕ, ◌≤◌, ◌<◌, ◌+◌, ◌-◌, ◌==◌, Bool, true, false, cond, ◌&&◌, List, [], ◌∷◌, ◌++◌, length, map, refl, sym, ap, ◌∙◌, subst, arith, inl, inr}
-use Rattle.std.specs.Prelude.{slice_index_or, is_ok, nat_le, Result, Ok, Err, if◌then◌else◌}
-use Rattle.lt_subtag.specs.declared.SubtagFault.{SubtagFault}
-use Rattle.lt_subtag.specs.declared.SubtagFault.TheVariants as subtag_faults
+use Rattle.std.proofs.Common.{◌≡◌, ℕ, ◌≤◌, ◌<◌, ◌-◌, List, [], length, map, refl, sym, ap, ◌∙◌, arith, ◌+◌, ◌==◌, ◌∷◌, inl, inr}
+use Rattle.std.specs.Prelude.{slice_index_or, sum_by}
 use Rattle.std.specs.List.{list_all, join_with_byte}
-use Rattle.std.specs.Char.{is_ascii_alphanumeric, to_ascii_lowercase}
-use Rattle.std.proofs.lemmas.List.{length-map, get_or-map}
-use Rattle.std.proofs.lemmas.Bool.{cases_Bool, and_parts, and_from, eqb-true}
-use Rattle.std.proofs.lemmas.Bool.Decides.{nat_tests}
-use Rattle.lt_subtag.specs.Bytes.{folded}
-use Rattle.lt_subtag.specs.Reading.{subtag_of}
-use Rattle.lt_tag.specs.Lists.{pieces, onto_first, list_of}
+use Rattle.std.proofs.lemmas.List.{get_or-map}
+use Rattle.lt_subtag.specs.Bytes.{is_subtag, folded}
+use Rattle.lt_tag.specs.Parts.{Grandfathered}
+use Rattle.lt_tag.specs.Lists.{pieces, list_of, onto_first}
 use Rattle.lt_tag.specs.Grandfathered.{grandfathered_texts, grandfathered_list, IsGrandfathered}
 use Rattle.lt_tag.specs.Faults.{HasList}
-use Rattle.lt_tag.proofs.TagLemmas.{list_all-at, table_length}
+use Rattle.lt_tag.proofs.TagLemmas.{table_length}
 use Rattle.lt_tag.proofs.TextLemmas.{some_pieces}
-
--- folding makes no hyphen and takes none away
-lower_hyphen : (b : ℕ) → (to_ascii_lowercase b == 45) ≡ (b == 45)
-lower_hyphen b = grind (arith, nat_tests)
-
-folded-onto_first : (b : ℕ) (ps : List (List ℕ)) → map folded (onto_first b ps) ≡ onto_first (to_ascii_lowercase b) (map folded ps)
-folded-onto_first b [] = refl
-folded-onto_first b (p ∷ ps) = refl
-
--- the list of a text is the pieces of its text in lower case
-list_of-folded : (text : List ℕ) → list_of text ≡ pieces (folded text)
-list_of-folded [] = refl
-list_of-folded (b ∷ bs) =
-    elim (cases_Bool (b == 45)) [
-      | inl e ↦ rw (lower_hyphen b, e) (ap (λ (z : List (List ℕ)). [] ∷ z) (list_of-folded bs))
-      | inr e ↦ rw (lower_hyphen b, e) (folded-onto_first b (pieces bs) ∙ ap (onto_first (to_ascii_lowercase b)) (list_of-folded bs))
-    ]
-
-join-onto_first : (b : ℕ) (ps : List (List ℕ)) → join_with_byte 45 (onto_first b ps) ≡ b ∷ join_with_byte 45 ps
-join-onto_first b [] = refl
-join-onto_first b (p ∷ []) = refl
-join-onto_first b (p ∷ q ∷ ps) = refl
-
-join-empty : (ps : List (List ℕ)) → 0 < length ps → join_with_byte 45 ([] ∷ ps) ≡ 45 ∷ join_with_byte 45 ps
-join-empty [] n = absurd (omega arith)
-join-empty (p ∷ ps) n = refl
-
--- the pieces of a text are the text again
-join-pieces : (text : List ℕ) → join_with_byte 45 (pieces text) ≡ text
-join-pieces [] = refl
-join-pieces (b ∷ bs) =
-    elim (cases_Bool (b == 45)) [
-      | inl e ↦ let same = eqb-true b 45 e in rw e (join-empty (pieces bs) (some_pieces bs) ∙ ap (λ (z : List ℕ). 45 ∷ z) (join-pieces bs) ∙ ap (λ (z : ℕ). z ∷ bs) (sym same))
-      | inr e ↦ rw e (join-onto_first b (pieces bs) ∙ ap (λ (z : List ℕ). b ∷ z) (join-pieces bs))
-    ]
-
-one_text : (a b : List ℕ) → pieces a ≡ pieces b → a ≡ b
-one_text a b h = sym (join-pieces a) ∙ ap (join_with_byte 45) h ∙ join-pieces b
+use Rattle.lt_tag.proofs.ShapeLemmas.{tag_subtags}
+use Rattle.lt_tag.proofs.LetterLemmas.{join_pieces, list_of_is, to_HasList}
+use Rattle.std.proofs.lemmas.List.Sums.{sum_by-cons}
+use Rattle.std.proofs.lemmas.Bool.{cases_Bool}
 
 -- the text of a number
 abbrev known : ℕ → List ℕ
@@ -70,51 +31,32 @@ folded-known number first last =
 pub match_found : (text : List ℕ) (number : ℕ) → 1 ≤ number → number ≤ 26 → folded text ≡ folded (known number) → IsGrandfathered (list_of text) number
 unfolding grandfathered_list
 match_found text number first last h =
-    record { first = first; last = last; same = list_of-folded text ∙ ap pieces (h ∙ folded-known number first last) }
+    record { first = first; last = last; same = list_of_is text ∙ ap pieces (h ∙ folded-known number first last) }
 
 -- a text that has the list of a number
 pub match_needed : (text : List ℕ) (number : ℕ) → IsGrandfathered (list_of text) number → folded text ≡ folded (known number)
 unfolding grandfathered_list
-match_needed text number g = one_text (folded text) (known number) (sym (list_of-folded text) ∙ g.same) ∙ sym (folded-known number g.first g.last)
-
--- a piece is a subtag
-abbrev is_piece : List ℕ → Bool
-is_piece p = is_ok (subtag_of p)
-
-good_table : list_all (λ (t : List ℕ). list_all is_piece (pieces t)) grandfathered_texts ≡ true
-unfolding grandfathered_texts
-good_table = refl
-
-lower_alphanumeric : (b : ℕ) → is_ascii_alphanumeric (to_ascii_lowercase b) ≡ is_ascii_alphanumeric b
-lower_alphanumeric b = grind (arith, nat_tests)
-
-folded_alphanumeric : (p : List ℕ) → list_all is_ascii_alphanumeric (folded p) ≡ list_all is_ascii_alphanumeric p
-folded_alphanumeric [] = refl
-folded_alphanumeric (b ∷ p) = rw (lower_alphanumeric b) (ap (λ (z : Bool). is_ascii_alphanumeric b && z) (folded_alphanumeric p))
-
--- the tests of a piece tell alone whether it is a subtag
-abbrev judged : Bool → Bool → Bool → List ℕ → Result (List ℕ) SubtagFault
-judged empty good short s = if empty then Err subtag_faults.Empty else (if good then (if short then Ok s else Err subtag_faults.TooLong) else Err subtag_faults.BadByte)
-
-same_judgement : (empty good short : Bool) (s t : List ℕ) → is_ok (judged empty good short s) ≡ is_ok (judged empty good short t)
-same_judgement true good short s t = refl
-same_judgement false false short s t = refl
-same_judgement false true true s t = refl
-same_judgement false true false s t = refl
-
-folded_piece : (p : List ℕ) → is_piece (folded p) ≡ is_piece p
-folded_piece p =
-    rw (folded_alphanumeric p, length-map p to_ascii_lowercase)
-    (same_judgement (length p == 0) (list_all is_ascii_alphanumeric p) (nat_le (length p) 8) (folded (folded p)) (folded p))
-
-folded_pieces : (ps : List (List ℕ)) → list_all is_piece (map folded ps) ≡ list_all is_piece ps
-folded_pieces [] = refl
-folded_pieces (p ∷ ps) = rw (folded_piece p) (ap (λ (z : Bool). is_piece p && z) (folded_pieces ps))
+match_needed text number g =
+    sym (join_pieces (folded text)) ∙ ap (join_with_byte 45) (sym (list_of_is text) ∙ g.same) ∙ join_pieces (known number) ∙ sym (folded-known number g.first g.last)
 
 -- a text that is grandfathered has a list
 pub match_listed : (text : List ℕ) (number : ℕ) → IsGrandfathered (list_of text) number → HasList text
+match_listed text number g = to_HasList text (ap (list_all is_subtag) g.same ∙ tag_subtags (Grandfathered number) (g.first, g.last))
+
+sum-onto_first : (b : ℕ) (ps : List (List ℕ)) → 0 < length ps → sum_by length (onto_first b ps) + length (onto_first b ps) ≡ sum_by length ps + length ps + 1
+sum-onto_first b [] n = absurd (omega arith)
+sum-onto_first b (p ∷ ps) n = omega (arith, sum_by-cons (λ (x : List ℕ). length x) (b ∷ p) ps, sum_by-cons (λ (x : List ℕ). length x) p ps)
+
+-- the pieces have the bytes of the text but its hyphens
+pub sum-pieces : (text : List ℕ) → sum_by length (pieces text) + length (pieces text) ≡ length text + 1
+sum-pieces [] = refl
+sum-pieces (b ∷ bs) =
+    elim (cases_Bool (b == 45)) [
+      | inl e ↦ rw e (omega (arith, sum-pieces bs, sum_by-cons (λ (x : List ℕ). length x) [] (pieces bs)))
+      | inr e ↦ rw e (omega (arith, sum-pieces bs, sum-onto_first b (pieces bs) (some_pieces bs)))
+    ]
+
+-- how long the text of a list is
+pub list_length : (list : List (List ℕ)) (number : ℕ) → IsGrandfathered list number → sum_by length list + length list ≡ length (known number) + 1
 unfolding grandfathered_list
-match_listed text number g =
-    let known_good : list_all is_piece (pieces (known number)) ≡ true = list_all-at (λ (t : List ℕ). list_all is_piece (pieces t)) grandfathered_texts (number - 1) good_table (omega (arith, table_length, g.first, g.last)) in
-    let good : list_all is_piece (pieces text) ≡ true = sym (folded_pieces (pieces text)) ∙ ap (list_all is_piece) g.same ∙ known_good in
-    λ i n. list_all-at is_piece (pieces text) i good n
+list_length list number g = ap (λ (l : List (List ℕ)). sum_by length l + length l) g.same ∙ sum-pieces (known number)

@@ -1,23 +1,24 @@
 -- A list is spelled by one tag at most.
-use Rattle.std.proofs.Common.{◌≡◌, ℕ, ◌≤◌, ◌<◌, ◌-◌, ◌==◌, Bool, true, false, ◌&&◌, not, zero, suc, List, [], ◌∷◌, ◌++◌, length, refl, sym, ap, ◌∙◌, subst, arith}
+use Rattle.std.proofs.Common.{◌≡◌, ℕ, ◌≤◌, ◌<◌, ◌-◌, ◌==◌, Bool, true, false, ◌&&◌, not, zero, suc, List, [], ◌∷◌, ◌++◌, length, refl, sym, ap, ◌∙◌, arith}
 use Rattle.std.specs.Prelude.{slice_index_or, ◌↔◌}
 use Rattle.std.specs.List.{list_all, AllByRecursion, join_with_byte}
 use Rattle.std.proofs.lemmas.Bool.{and_parts, and_from, eq-eqb, ne_eqb}
 use Rattle.std.proofs.lemmas.List.{append_assoc}
 use Rattle.lt_subtag.specs.Bytes.{is_subtag}
-use Rattle.lt_subtag.specs.Shapes.{is_x, is_language, is_singleton}
+use Rattle.lt_subtag.specs.Shapes.{is_x, is_singleton}
 use Rattle.lt_tag.specs.Parts.{CoreParts, ExtensionParts, TagForm, LangTag, PrivateUse, Grandfathered}
 use Rattle.lt_tag.specs.Lists.{pieces, list_of}
 use Rattle.lt_tag.specs.Grandfathered.{grandfathered_texts, grandfathered_list, IsGrandfathered}
-use Rattle.lt_tag.specs.Spelling.{spell_core, spell_extension, spell_extensions, spell_private, x_subtag, IsCore, IsExtension, IsPrivate}
-use Rattle.lt_tag.specs.WellFormed.{spell, IsTag, IsLangTag, IsNotGrandfathered}
+use Rattle.lt_tag.specs.Spelling.{spell_core, spell_extension, spell_extensions, spell_private, x_subtag, IsCore, IsExtension}
+use Rattle.lt_tag.specs.WellFormed.{spell, IsTag, IsNotGrandfathered}
 use Rattle.lt_tag.specs.Conventional.{conventional}
-use Rattle.lt_tag.specs.Laws.{IsTextOf}
+use Rattle.lt_tag.specs.Faults.{HasList, HasTag, longest_text}
 use Rattle.lt_tag.proofs.TagLemmas.{list_all-at, table_length}
 use Rattle.lt_tag.proofs.CompleteLemmas.{one_core}
 use Rattle.lt_tag.proofs.ShapeLemmas.{IsLong, core_all, extension_all, language_long, tag_subtags}
 use Rattle.lt_tag.proofs.AgainLemmas.{tag_again}
 use Rattle.lt_tag.proofs.LetterLemmas.{join_pieces, to_HasList}
+use Rattle.lt_tag.proofs.ListLemmas.{head_is, tail_is}
 
 -- the same bytes
 abbrev same : List ℕ → List ℕ → Bool
@@ -94,12 +95,6 @@ single_first (s ∷ ss) = length s == 1
 
 long_no_single : (s : List ℕ) → IsLong s → not (length s == 1) ≡ true
 long_no_single s l = ap not (ne_eqb (length s) 1 (λ e. omega (arith, l.long)))
-
-head_is : (x y : List ℕ) (xs ys : List (List ℕ)) → x ∷ xs ≡ y ∷ ys → x ≡ y
-head_is x y xs ys h = cc
-
-tail_is : (x y : List ℕ) (xs ys : List (List ℕ)) → x ∷ xs ≡ y ∷ ys → xs ≡ ys
-tail_is x y xs ys h = cc
 
 -- what stands before the first one-character subtag, and the rest
 before_single : (xs ys rest others : List (List ℕ)) → no_single xs ≡ true → no_single ys ≡ true → single_first rest ≡ true → single_first others ≡ true → xs ++ rest ≡ ys ++ others
@@ -203,15 +198,17 @@ one_tag (Grandfathered m) (LangTag d fs qs) h k e = absurd (no_number _ m k.1 h.
 one_tag (Grandfathered m) (PrivateUse qs) h k e = absurd (no_private qs m h.0 h.1 (sym e))
 one_tag (Grandfathered m) (Grandfathered n) h k e = ap (λ (z : ℕ). Grandfathered z) (one_list m n h.0 h.1 k.0 k.1 e)
 
--- the text of a tag has the tag's list, which no other tag spells
-pub text_of_tag : (tag : TagForm) → IsTag tag → IsTextOf tag (conventional (spell tag))
-text_of_tag tag k =
-    let again = tag_again tag k in
-    record {
-      listed = to_HasList (conventional (spell tag)) (ap (list_all is_subtag) again ∙ tag_subtags tag k);
-      same = again;
-      alone = λ other h e. one_tag other tag h k (e ∙ again);
-    }
+pub one_tag_of_text : (text : List ℕ) (a b : TagForm) → HasTag text a → HasTag text b → a ≡ b
+one_tag_of_text text a b h k = one_tag a b h.tag k.tag (h.spelled ∙ sym k.spelled)
+
+-- the text of a tag has the tag's list
+pub text_of_tag : (tag : TagForm) → IsTag tag → HasList (conventional (spell tag)) × (list_of (conventional (spell tag)) ≡ spell tag)
+text_of_tag tag k = (to_HasList (conventional (spell tag)) (ap (list_all is_subtag) (tag_again tag k) ∙ tag_subtags tag k), tag_again tag k)
+
+pub read_again : (tag : TagForm) → IsTag tag → length (conventional (spell tag)) ≤ longest_text → HasTag (conventional (spell tag)) tag
+read_again tag k short =
+    let text = text_of_tag tag k in
+    record { short = short; listed = text.0; tag = k; spelled = sym text.1 }
 
 pub same_text : (a b : TagForm) → IsTag a → IsTag b → (conventional (spell a) ≡ conventional (spell b)) ↔ (a ≡ b)
 same_text a b h k = (

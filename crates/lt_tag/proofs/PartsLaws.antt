@@ -1,5 +1,5 @@
 -- The laws of the parts of extensions.
-use Rattle.std.proofs.Common.{◌≡◌, ℕ, ◌<◌, ◌↔◌, ◌⊎◌, Bool, true, false, ◌&&◌, cond, List, [], ◌∷◌, length, refl, sym, ap, ◌∙◌, subst, arith, inl, inr}
+use Rattle.std.proofs.Common.{◌≡◌, ℕ, ◌<◌, ◌↔◌, Bool, true, ◌&&◌, cond, List, length, refl, sym, ap, ◌∙◌, inl, inr}
 use Rattle.std.specs.Prelude.{Option, Some, None, option_map, nat_lt}
 use Rattle.std.specs.List.{list_all}
 use Rattle.std.proofs.lemmas.Bool.{and_parts, and_from, lt-ltb, ltb-true}
@@ -9,7 +9,7 @@ use Rattle.lt_tag.specs.Spelling.{spell_core, IsCore, IsExtension, is_extension_
 use Rattle.lt_tag.specs.Extensions.{spell_u, IsU, IsUnicode, spell_t, IsT, IsTransform}
 use Rattle.lt_tag.specs.Splitting.{before, keywords_of, fields_of, core_of_list, source_of_list, has_values, unicode_of, with_fields, transform_of}
 use Rattle.lt_tag.proofs.GrowthLemmas.{chosen}
-use Rattle.lt_tag.proofs.PartsLemmas.{u_extension, u_again, u_found, core_found, core_again, t_extension, t_again, t_found, IsFound}
+use Rattle.lt_tag.proofs.PartsLemmas.{u_extension, u_again, u_found, core_found, core_again, t_again, t_found, IsFound}
 
 some_same : {X : Type 0} (x y : X) → ◌≡◌ {A = Option X} (Some x) (Some y) → x ≡ y
 some_same x y h = cc

@@ -1,9 +1,9 @@
 -- The subtags of the parts of extensions, and the parts that are found in subtags.
-use Rattle.std.proofs.Common.{◌≡◌, ℕ, ◌≤◌, ◌<◌, ◌+◌, ◌⊎◌, Bool, true, false, ◌&&◌, ◌||◌, ◌==◌, not, cond, List, [], ◌∷◌, ◌++◌, length, refl, sym, ap, ◌∙◌, subst, arith, inl, inr}
+use Rattle.std.proofs.Common.{◌≡◌, ℕ, ◌≤◌, ◌<◌, Bool, true, false, ◌&&◌, ◌||◌, ◌==◌, not, cond, List, [], ◌∷◌, ◌++◌, length, refl, sym, ap, ◌∙◌, subst, arith, inl, inr}
 use Rattle.std.specs.Prelude.{Option, Some, None, IfSome, option_to_list, option_map, flat_map, nat_le, nat_lt}
 use Rattle.std.specs.List.{list_all, AllByRecursion}
 use Rattle.std.specs.Char.{is_ascii_lowercase, is_ascii_digit}
-use Rattle.std.proofs.lemmas.Bool.{and_parts, and_from, or_cases, cases_Bool, eqb-true, leb-true, le-leb, lt-ltb, ltb-true, not_from_false, both_ways}
+use Rattle.std.proofs.lemmas.Bool.{and_parts, and_from, cases_Bool, eqb-true, leb-true, le-leb, lt-ltb, ltb-true, not_from_false, both_ways}
 use Rattle.std.proofs.lemmas.Bool.Decides.{nat_tests}
 use Rattle.std.proofs.lemmas.List.{append-nil}
 use Rattle.lt_subtag.specs.Bytes.{is_subtag, is_subtag_byte}
@@ -11,12 +11,11 @@ use Rattle.lt_subtag.specs.Shapes.{is_alphabetic, is_numeric, is_language, is_ex
 use Rattle.lt_tag.specs.Parts.{CoreParts, ExtensionParts, KeywordParts, FieldParts, UForm, TForm}
 use Rattle.lt_tag.specs.Spelling.{spell_core, has_shape, IsCore, IsExtension, is_extension_subtag}
 use Rattle.lt_tag.specs.Extensions.{is_long, spell_keyword, spell_u, IsKeyword, IsU, IsUnicode, spell_field, spell_source, spell_t, IsField, IsT, IsTransform}
-use Rattle.lt_tag.specs.Growth.{of_language, grown_by}
 use Rattle.lt_tag.specs.Values.{IsExtensionValue, most_parts}
 use Rattle.lt_tag.specs.Transform.{IsTransformFault, IsFieldFault, IsSourceFault}
 use Rattle.lt_tag.specs.declared.faults.TransformFault.{TransformFault}
 use Rattle.lt_tag.specs.declared.faults.TransformFault.TheVariants as faults
-use Rattle.lt_tag.specs.Splitting.{before, onward, keywords_of, fields_of, core_of_list, source_of_list, are_values, has_values, unicode_of, with_fields, transform_of}
+use Rattle.lt_tag.specs.Splitting.{before, onward, keywords_of, fields_of, core_of_list, source_of_list, are_values, has_values}
 use Rattle.lt_tag.proofs.ListLemmas.{list_all-append}
 use Rattle.lt_tag.proofs.TagLemmas.{AllByRecursion-weaker}
 use Rattle.lt_tag.proofs.Apart.{false_if, extlang_is, script_is, region_is, variant_is}

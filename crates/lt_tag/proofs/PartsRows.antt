@@ -1,8 +1,8 @@
 -- The parts of extensions on worked rows, by computation.
-use Rattle.std.proofs.Common.{◌≡◌, ℕ, List, [], ◌∷◌, refl, Some, None}
+use Rattle.std.proofs.Common.{◌≡◌, [], ◌∷◌, refl, Some, None}
 use Rattle.std.specs.Prelude.{codes}
 use Rattle.lt_subtag.specs.Bytes.{is_subtag}
-use Rattle.lt_subtag.specs.Shapes.{is_language, is_extlang, is_script, is_region, is_variant, is_key, is_separator}
+use Rattle.lt_subtag.specs.Shapes.{is_language, is_extlang, is_key, is_separator}
 use Rattle.lt_tag.specs.Lists.{list_of}
 use Rattle.lt_tag.specs.Spelling.{is_extension_subtag}
 use Rattle.lt_tag.specs.Extensions.{is_long}

@@ -1,21 +1,19 @@
 -- What is known of a text while its subtags are read from left to right.
-use Rattle.std.proofs.Common.{◌≡◌, ℕ, ◌≤◌, ◌<◌, ◌+◌, zero, suc, List, [], ◌∷◌, ◌++◌, length, take, refl, sym, ap, ◌∙◌, subst, arith, inl, inr}
-use Rattle.std.specs.Prelude.{Result, Ok, Err, IsOk, Option, Some, None, MatchOption, option_and_then}
-use Rattle.std.proofs.Common.{Bor}
-use Rattle.std.proofs.lemmas.List.{append_assoc, append-nil, length-append, take_at, take-append-le, length_push}
+use Rattle.std.proofs.Common.{◌≡◌, ℕ, ◌≤◌, ◌<◌, ◌+◌, List, [], ◌∷◌, ◌++◌, length, take, refl, sym, ap, ◌∙◌, subst, arith, inl, inr}
+use Rattle.std.specs.Prelude.{Result, Ok, Err, IsOk, Some, None, option_and_then}
+use Rattle.std.proofs.lemmas.List.{append_assoc, length-append, take_at, length_push}
 use Rattle.lt_tag.specs.declared.faults.TagFault.{TagFault}
 use Rattle.lt_tag.specs.Parts.{TagForm}
 use Rattle.lt_tag.specs.Lists.{pieces, list_of}
-use Rattle.lt_tag.specs.Rest.{pieces_left}
 use Rattle.lt_tag.specs.Listing.{listed, with_front, read_at}
-use Rattle.lt_tag.specs.WellFormed.{spell, IsShaped, IsNotGrandfathered, IsWellFormed, IsFirstMisplaced, Begins, IsTag}
-use Rattle.lt_tag.specs.Faults.{IsFault, HasList, HasBadList, longest_text}
-use Rattle.lt_tag.specs.Draft.{Draft, begun, drafted, drafted_by, draft_of, finished, spell_draft}
+use Rattle.lt_tag.specs.WellFormed.{spell, IsShaped, IsNotGrandfathered, IsFirstMisplaced, Begins}
+use Rattle.lt_tag.specs.Faults.{HasList, HasBadList, longest_text}
+use Rattle.lt_tag.specs.Draft.{Draft, begun, drafted, finished, spell_draft}
+use Rattle.lt_tag.proofs.DraftLists.{drafted_by, draft_of}
 use Rattle.lt_tag.specs.DraftShapes.{IsDraft}
 use Rattle.lt_tag.specs.DraftViews.{HasRoom}
 use Rattle.lt_tag.proofs.ListingLemmas.{listed_next, listed_stop, front_next, front_end}
-use Rattle.lt_tag.proofs.ListedLemmas.{length-pieces}
-use Rattle.lt_tag.proofs.TextLemmas.{piece_fault, text_list}
+use Rattle.lt_tag.proofs.TextLemmas.{text_list}
 use Rattle.lt_tag.proofs.DraftResults.{draft_is, draft_of-append, misplaced, refused, finished_is, unfinished, bad_language, has_room}
 
 -- The pieces so far are subtags, of which this is the draft; these pieces are left.
@@ -26,7 +24,7 @@ pub record HasRead (text : List ℕ) (place : ℕ) (left : List (List ℕ)) (dra
   pub whole : with_front done (listed (place + 1) left) ≡ listed 1 (pieces text)
   pub drafts : draft_of done ≡ Some draft
 
-of_first : (s : List ℕ) → draft_of (s ∷ []) ≡ begun s
+pub of_first : (s : List ℕ) → draft_of (s ∷ []) ≡ begun s
 unfolding draft_of drafted_by
 of_first s = elim (begun s) as (λ o. option_and_then (λ draft. drafted_by draft []) o ≡ o) [ None ↦ refl | Some d ↦ refl ]
 
@@ -36,7 +34,7 @@ of_next s ss t draft h =
     draft_of-append s ss (t ∷ []) ∙ ap (option_and_then (λ d. drafted_by d (t ∷ []))) h
     ∙ (elim (drafted draft t) as (λ o. option_and_then (λ d. drafted_by d []) o ≡ o) [ None ↦ refl | Some d ↦ refl ])
 
-of_more : (done : List (List ℕ)) (t : List ℕ) (draft : Draft) → 0 < length done → draft_of done ≡ Some draft → draft_of (done ++ t ∷ []) ≡ drafted draft t
+pub of_more : (done : List (List ℕ)) (t : List ℕ) (draft : Draft) → 0 < length done → draft_of done ≡ Some draft → draft_of (done ++ t ∷ []) ≡ drafted draft t
 of_more [] t draft n h = absurd (omega arith)
 of_more (s ∷ ss) t draft n h = of_next s ss t draft h
 
@@ -45,7 +43,7 @@ ok_is (Ok x) h = (x, refl)
 ok_is (Err fault) h = cc
 
 -- a list of subtags that is neither grandfathered nor spelled by a shaped value
-bad_list : (text : List ℕ) (list : List (List ℕ)) → length text ≤ longest_text → listed 1 (pieces text) ≡ Ok list → IsNotGrandfathered (list_of text)
+pub bad_list : (text : List ℕ) (list : List (List ℕ)) → length text ≤ longest_text → listed 1 (pieces text) ≡ Ok list → IsNotGrandfathered (list_of text)
     → ((form : TagForm) → IsShaped form → spell form ≡ list → ⊥) → HasBadList text
 bad_list text list short all other none =
     let l = text_list text list all in
@@ -56,7 +54,7 @@ bad_list text list short all other none =
     }
 
 -- the first subtag behind those of a draft that can't stand there
-misplaced_behind : (done : List (List ℕ)) (s : List ℕ) (others : List (List ℕ)) (draft : Draft) → draft_of done ≡ Some draft → draft_of (done ++ s ∷ []) ≡ None
+pub misplaced_behind : (done : List (List ℕ)) (s : List ℕ) (others : List (List ℕ)) (draft : Draft) → draft_of done ≡ Some draft → draft_of (done ++ s ∷ []) ≡ None
     → IsFirstMisplaced ((done ++ s ∷ []) ++ others) (length done + 1)
 misplaced_behind done s others draft some none =
     let list : List (List ℕ) = (done ++ s ∷ []) ++ others in

@@ -1,13 +1,13 @@
 -- Reading subtags as a source.
 use Rattle.std.proofs.Common.{◌≡◌, ℕ, ◌≤◌, ◌<◌, ◌+◌, true, false, List, [], ◌∷◌, ◌++◌, length, take, drop, get_or, refl, sym, ap, ◌∙◌, arith}
-use Rattle.std.specs.Prelude.{Option, Some, None, option_map, option_and_then}
+use Rattle.std.specs.Prelude.{Some, None, option_map, option_and_then}
 use Rattle.std.proofs.lemmas.List.{take_all, take-append-drop}
 use Rattle.std.proofs.lemmas.Grind.{take_at_read}
 use Rattle.lt_subtag.specs.Shapes.{is_language}
 use Rattle.lt_tag.specs.Parts.{CoreParts}
 use Rattle.lt_tag.specs.Growth.{of_language, grown, grown_by}
 use Rattle.lt_tag.specs.Splitting.{core_of_list, source_of_list}
-use Rattle.lt_tag.proofs.GrowthLemmas.{Grows, grown-Grows}
+use Rattle.lt_tag.proofs.GrowthLemmas.{grown-Grows}
 use Rattle.lt_tag.proofs.CompleteLemmas.{grown_more, grown_by-append}
 
 -- the first subtag is a language, and the core has grown by the subtags so far

@@ -1,12 +1,12 @@
 -- What follows from the definitions alone.
-use Rattle.std.specs.Prelude.{ℕ, ◌≡◌, ◌↔◌, List}
+use Rattle.std.specs.Prelude.{ℕ, ◌≡◌, ◌≤◌, ◌↔◌, List, length}
 use Rattle.lt_subtag.specs.Bytes.{folded}
 use Rattle.lt_tag.specs.Parts.{CoreParts, TagForm}
 use Rattle.lt_tag.specs.Lists.{list_of}
-use Rattle.lt_tag.specs.Grandfathered.{grandfathered_list, IsGrandfathered}
+use Rattle.lt_tag.specs.Grandfathered.{IsGrandfathered}
 use Rattle.lt_tag.specs.Spelling.{spell_core, IsCore}
 use Rattle.lt_tag.specs.WellFormed.{spell, IsTag}
-use Rattle.lt_tag.specs.Faults.{HasList}
+use Rattle.lt_tag.specs.Faults.{HasList, HasTag, longest_text}
 use Rattle.lt_tag.specs.Conventional.{conventional}
 
 -- A list is spelled by one core at most.
@@ -21,15 +21,17 @@ OneNumberPerList = (list : List (List ℕ)) (a b : ℕ) → IsGrandfathered list
 abbrev pub OneTagPerList : Type 0
 OneTagPerList = (a b : TagForm) → IsTag a → IsTag b → spell a ≡ spell b → a ≡ b
 
--- A text has a list, which is that of a tag and of no other tag.
-pub record IsTextOf (tag : TagForm) (text : List ℕ) : Type 0 where
-  pub listed : HasList text
-  pub same : list_of text ≡ spell tag
-  pub alone : (other : TagForm) → IsTag other → spell other ≡ list_of text → other ≡ tag
+-- A text is read as one tag at most.
+abbrev pub OneTagPerText : Type 0
+OneTagPerText = (text : List ℕ) (a b : TagForm) → HasTag text a → HasTag text b → a ≡ b
 
--- The text of a tag is read again as that tag and as no other.
+-- The text of a tag has the list that the tag spells, whatever its length.
+abbrev pub TextOfTagHasItsList : Type 0
+TextOfTagHasItsList = (tag : TagForm) → IsTag tag → HasList (conventional (spell tag)) × (list_of (conventional (spell tag)) ≡ spell tag)
+
+-- The text of a tag is read again as that tag, if it has at most 1,024 bytes.
 abbrev pub TextOfTagIsReadAgain : Type 0
-TextOfTagIsReadAgain = (tag : TagForm) → IsTag tag → IsTextOf tag (conventional (spell tag))
+TextOfTagIsReadAgain = (tag : TagForm) → IsTag tag → length (conventional (spell tag)) ≤ longest_text → HasTag (conventional (spell tag)) tag
 
 -- Two tags have the same text exactly if they are equal.
 abbrev pub SameTextForSameTag : Type 0

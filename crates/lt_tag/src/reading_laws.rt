@@ -1,11 +1,18 @@
-//! What follows from the definitions of a text's tag and of its fault.
-ghost use Rattle.std.specs.Prelude.{◌≡◌, ℕ, List};
+//! A text has one tag or one fault: what `read_tag` answers, want of memory aside, follows from
+//! the text alone. Each law is the contract of a function that does nothing.
+ghost use Rattle.std.specs.Prelude.{◌≡◌, ℕ, List, ◌⊎◌};
 ghost use Rattle.lt_tag.specs.Parts.{TagForm};
 ghost use Rattle.lt_tag.specs.Faults.{HasFault, HasTag};
 ghost use Rattle.lt_tag.specs.declared.faults.TagFaultKind.{TagFaultKind};
 
-/// A text that has a fault is no tag.
-pub fn fault_or_tag()
+/// A text has a tag or a fault.
+pub fn tag_or_fault()
+    ensures { (text : List ℕ) → ((tag : TagForm) × HasTag text tag)
+        ⊎ ((kind : TagFaultKind) × (place : ℕ) × HasFault text kind place) }
+{}
+
+/// A text that has a fault has no tag.
+pub fn fault_excludes_tag()
     ensures { (text : List ℕ) (kind : TagFaultKind) (place : ℕ) (tag : TagForm)
         → HasFault text kind place → HasTag text tag → ⊥ }
 {}

@@ -9,7 +9,7 @@ ghost use Rattle.lt_tag.specs.Splitting as splitting;
 ghost use Rattle.lt_tag.specs.Values.{most_parts};
 ghost use Rattle.lt_tag.specs.Transform.{IsTransformFault, IsFieldFault, IsSourceFault, no_memory};
 
-use crate::cores::Core;
+use crate::cores::{Core, copy_subtags};
 use crate::extensions::Extension;
 use crate::faults::{OutOfMemory, TransformFault};
 use crate::parts::{Field, Keyword, TParts, UParts};
@@ -78,15 +78,6 @@ pub(crate) fn append(list: &mut Vec<Subtag>, subtags: &[Subtag]) -> Result<(), O
     Ok(())
 }
 
-/// Copies of subtags.
-fn copies(alloc: Global, subtags: &[Subtag]) -> Result<Vec<Subtag>, OutOfMemory>
-    ensures { IfOk result (λ list. list.items ≡ subtags.now) }
-{
-    let mut list = Vec::new(alloc);
-    append(&mut list, subtags)?;
-    Ok(list)
-}
-
 /// The keywords from a first key on.
 fn read_keywords(alloc: Global, subtags: &[Subtag]) -> Result<Vec<Keyword>, OutOfMemory>
     ensures { IfOk result (λ keywords. keywords.items ≡ keywords_of subtags.now) }
@@ -97,7 +88,7 @@ fn read_keywords(alloc: Global, subtags: &[Subtag]) -> Result<Vec<Keyword>, OutO
         let (types, after) = before_key(others);
         keywords.push(Keyword {
             key: key.copy(),
-            types: copies(alloc, types)?,
+            types: copy_subtags(alloc, types)?,
         })?;
         rest = after;
     }
@@ -119,7 +110,7 @@ fn read_fields(alloc: Global, subtags: &[Subtag]) -> Result<Vec<Field>, Transfor
         }
         fields.push(Field {
             separator: separator.copy(),
-            values: copies(alloc, values)?,
+            values: copy_subtags(alloc, values)?,
         })?;
         rest = after;
     }
@@ -158,7 +149,7 @@ pub fn split_u(alloc: Global, extension: &Extension) -> Result<UParts, OutOfMemo
     let subtags = extension.subtags();
     let (attributes, keywords) = before_key(subtags);
     Ok(UParts {
-        attributes: copies(alloc, attributes)?,
+        attributes: copy_subtags(alloc, attributes)?,
         keywords: read_keywords(alloc, keywords)?,
     })
 }
@@ -196,3 +187,6 @@ impl<T: Drop> From<AllocFailed<T>> for TransformFault {
         TransformFault::OutOfMemory
     }
 }
+
+#[cfg(test)]
+mod tests;

@@ -1,3 +1,4 @@
 -- Lemmas on the program's calls.
 pub mod ReadingLemmas
+pub mod WrittenLemmas
 mod WorkedRows

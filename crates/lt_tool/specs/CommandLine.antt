@@ -1,5 +1,5 @@
 -- The command line of the program, as `clap` sees it.
-use Rattle.std.specs.Prelude.{ℕ, List, [], ◌∷◌, Some, true, codes, fold}
+use Rattle.std.specs.Prelude.{List, [], ◌∷◌, Some, true, codes}
 use Rattle.clap.specs.Words.{App, Rule, Text, new_app, new_rule, with_rule, with_subcommand}
 use Rattle.clap.specs.declared.builder.action.ArgAction.TheVariants.{Set}
 

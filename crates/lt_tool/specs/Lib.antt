@@ -1,4 +1,6 @@
 -- What the contracts of the program's calls cite.
 pub mod CommandLine
 pub mod Reading
+pub mod Codes
+pub mod Written
 pub mod Printed

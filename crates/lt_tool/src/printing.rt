@@ -1,6 +1,7 @@
-//! What a run of the program prints.
-ghost use Rattle.std.specs.Prelude.{◌≡◌, ◌⊎◌, OnOk};
-ghost use Rattle.std.specs.Io.KnownBytes.{Appends};
+//! What a run of the program writes.
+ghost use Rattle.std.specs.Prelude.{◌≡◌};
+ghost use Rattle.lt_tool.specs.Codes.{code_of};
+ghost use Rattle.lt_tool.specs.Written.{Prints, Says, WritesOut, memory_line};
 ghost use Rattle.lt_tool.specs.Printed.{Performs, Reports};
 ghost use Rattle.lt_tool.specs.declared.status.Status.TheVariants.{Failed};
 
@@ -8,35 +9,48 @@ use crate::lines::classify;
 use crate::status::Status;
 use crate::words::{Command, WordsFault};
 use std::alloc::Global;
-use std::io::{self, Read, Write};
+use std::io::{Read, Write};
 
-/// Writes all of a text.
-fn write_out<O: Write>(text: &[u8], output: &mut O) -> io::Result<()>
-    ensures { OnOk result (Appends (O.contents output.old) (O.contents output.new) text.now) }
+/// Writes a text, up to the first write that fails, and tells whether none did.
+fn write_out<O: Write>(text: &[u8], output: &mut O) -> bool
+    ensures { WritesOut (O.contents output.old) (O.contents output.new) text.now result }
 {
-    output.write_all(text)?;
-    output.flush()
+    let mut at = 0;
+    while at < text.len() {
+        match output.write(&text[at..]) {
+            Ok(0) => return false,
+            Ok(count) => at += count,
+            Err(_) => return false,
+        }
+    }
+    output.flush().is_ok()
+}
+
+/// Writes a text to the errors, where a write that fails is ignored.
+fn say<E: Write>(text: &[u8], errors: &mut E)
+    ensures { Says (E.contents errors.old) (E.contents errors.new) text.now }
+{
+    let _ = write_out(text, errors);
 }
 
 /// Prints a text, for a run that ends so.
-fn print<O: Write, E: Write>(text: &[u8], status: Status, output: &mut O, errors: &mut E) -> Status
-    ensures { (result ≡ Failed)
-        ⊎ ((result ≡ status) × Appends (O.contents output.old) (O.contents output.new) text.now) }
+fn print<O: Write, E: Write>(text: &[u8], end: Status, output: &mut O, errors: &mut E) -> Status
+    ensures { Prints (O.contents output.old) (O.contents output.new) (E.contents errors.old) (E.contents errors.new)
+        text.now end (code_of result) }
 {
-    match write_out(text, output) {
-        Ok(()) => status,
-        Err(_) => {
-            let _ = errors.write_all(b"! Write\n");
-            Status::Failed
-        }
+    if write_out(text, output) {
+        return end;
     }
+    say(b"! Write\n", errors);
+    Status::Failed
 }
 
 /// Says that no memory was left.
 fn report_memory<E: Write>(errors: &mut E) -> Status
-    ensures { result ≡ Failed }
+    ensures status { result ≡ Failed }
+    ensures said { Says (E.contents errors.old) (E.contents errors.new) memory_line }
 {
-    let _ = errors.write_all(b"! OutOfMemory\n");
+    say(b"! OutOfMemory\n", errors);
     Status::Failed
 }
 
@@ -54,7 +68,8 @@ pub fn perform<I: Read, O: Write, E: Write>(
     output: &mut O,
     errors: &mut E,
 ) -> u8
-    ensures { Performs command.now (O.contents output.old) (O.contents output.new) result }
+    ensures { Performs command.now (O.contents output.old) (O.contents output.new) (E.contents errors.old)
+        (E.contents errors.new) result }
 {
     let answer = match command {
         Command::Classify(tag) => classify(alloc, tag.as_bytes()),
@@ -70,12 +85,13 @@ pub fn perform<I: Read, O: Write, E: Write>(
 ///
 /// Help goes to `output`, and any other fault to `errors`.
 pub fn report<O: Write, E: Write>(fault: &WordsFault, output: &mut O, errors: &mut E) -> u8
-    ensures { Reports fault.now (O.contents output.old) (O.contents output.new) result }
+    ensures { Reports fault.now (O.contents output.old) (O.contents output.new) (E.contents errors.old)
+        (E.contents errors.new) result }
 {
     let status = match fault {
         WordsFault::Help(text) => print(text.as_bytes(), Status::Done, output, errors),
         WordsFault::Usage(text) => {
-            let _ = errors.write_all(text.as_bytes());
+            say(text.as_bytes(), errors);
             Status::Usage
         }
         WordsFault::OutOfMemory => report_memory(errors),

@@ -1,6 +1,6 @@
 //! The exit statuses of the program.
 ghost use Rattle.std.specs.Prelude.{◌≡◌};
-ghost use Rattle.lt_tool.specs.Printed.{code_of};
+ghost use Rattle.lt_tool.specs.Codes.{code_of};
 
 /// How a run of the program ended.
 #[derive(Clone, Copy, Debug, PartialEq, Eq)]

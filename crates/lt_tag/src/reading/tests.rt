@@ -99,10 +99,10 @@ fn grandfathered(rt: HostRuntime) -> Result<(), Fail> {
     Ok(())
 }
 
+// It takes no memory.
 #[test]
-fn langtags(rt: HostRuntime) -> Result<(), Fail> {
-    let alloc = rt.alloc();
-    let tag = read_tag(alloc, b"ZH-yue-hant-hk")?;
+fn usual_langtag(rt: HostRuntime) -> Result<(), Fail> {
+    let tag = read_tag(rt.alloc(), b"ZH-yue-hant-hk")?;
     assert_eq!(rt; tag.class(), Class::LangTag);
     let core = tag.core().ok_or("core")?;
     assert_eq!(rt; core.language().bytes(), b"zh".as_slice());
@@ -115,6 +115,12 @@ fn langtags(rt: HostRuntime) -> Result<(), Fail> {
         core.region().map(|region| region.bytes()),
         Some(b"hk".as_slice())
     );
+    Ok(())
+}
+
+#[test]
+fn variants(rt: HostRuntime) -> Result<(), Fail> {
+    let alloc = rt.alloc();
     let tag = read_tag(alloc, b"sl-ROZAJ-1994")?;
     let core = tag.core().ok_or("core")?;
     assert!(rt; are(core.variants(), &[b"rozaj", b"1994"]));

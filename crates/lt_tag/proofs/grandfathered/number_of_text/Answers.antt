@@ -1,4 +1,4 @@
-use Rattle.std.proofs.Common.{◌≡◌, ◌+◌, true, arith, below_more, ℕ, ap, sym, ◌∙◌}
+use Rattle.std.proofs.Common.{arith, below_more, ℕ, ap, sym, ◌∙◌}
 use Rattle.lt_subtag.specs.Bytes.{folded}
 use Rattle.lt_tag.specs.Lists.{list_of}
 use Rattle.lt_tag.specs.Grandfathered.{IsGrandfathered}

@@ -1,4 +1,4 @@
-use Rattle.std.proofs.Common.{◌≡◌, ◌<◌, ◌+◌, ◌^◌, List, ℕ, [], length}
+use Rattle.std.proofs.Common.{◌≡◌, ◌<◌, ◌+◌, ◌^◌, List, ℕ, length}
 use Rattle.lt_tag.specs.Rest.{pieces_left}
 use Rattle.lt_tag.specs.Listing.{listed, with_front}
 use Rattle.lt_tag.proofs.lists.check_pieces.Given as goal

@@ -1,10 +1,9 @@
-use Rattle.std.proofs.Common.{◌≡◌, ◌≤◌, ◌+◌, ℕ, List, ◌∷◌, length, sym, ap, ◌∙◌, subst, arith}
+use Rattle.std.proofs.Common.{◌≡◌, ℕ, List, length, sym, ap, ◌∙◌, subst, arith}
 use Rattle.std.specs.Prelude.{Some, None}
 use Rattle.std.proofs.lemmas.Result.{err_from_is_err_and}
-use Rattle.lt_tag.specs.Lists.{pieces, list_of}
 use Rattle.lt_tag.specs.Rest.{pieces_left}
 use Rattle.lt_tag.specs.WellFormed.{IsNotGrandfathered}
-use Rattle.lt_tag.specs.Draft.{begun, drafted, spell_draft}
+use Rattle.lt_tag.specs.Draft.{begun, drafted}
 use Rattle.lt_tag.specs.DraftViews.{draft_view}
 use Rattle.lt_tag.proofs.MatchLemmas.{cut_left}
 use Rattle.lt_tag.proofs.ListedLemmas.{length-pieces}

@@ -1,5 +1,3 @@
-use Rattle.std.proofs.Common.{ℕ, ap, ◌∙◌, take, drop}
-use Rattle.std.specs.Prelude.{unwrap_or}
 use Rattle.lt_subtag.specs.Shapes.{is_separator}
 use Rattle.lt_tag.proofs.SplitLemmas.{cut_front, cut_rest}
 use Rattle.lt_tag.proofs.splitting.before_separator.Goals as goal

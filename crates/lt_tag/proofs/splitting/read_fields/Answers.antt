@@ -21,7 +21,7 @@ pub loop-separator-preserved : goal.loop-separator-preserved
 loop-separator-preserved c =
     let split = c.in-Some.ensures.cases in
     fields_next _ _ _ _ c.in-Some.separator.now c.in-Some.others.now _ _ c.loop-separator.invariant split.0
-    (c.in_ok-copies.ensures ∙ c.before_separator-in-Some.ensures.front) c.before_separator-in-Some.ensures.rest (ap are_values c.in_ok-copies.ensures ∙ sym c.are_values.ensures ∙ c.if-not-are_values.false) (rw c.copy.ensures at c.in_ok-push.ensures.items)
+    (c.in_ok-copy_subtags.ensures ∙ c.before_separator-in-Some.ensures.front) c.before_separator-in-Some.ensures.rest (ap are_values c.in_ok-copy_subtags.ensures ∙ sym c.are_values.ensures ∙ c.if-not-are_values.false) (rw c.copy.ensures at c.in_ok-push.ensures.items)
 
 pub returns-clause-fields : goal.returns-clause-fields
 returns-clause-fields c = (fields_end _ _ _ c.loop-separator.invariant c.in_default.ensures.cases).0

@@ -1,5 +1,3 @@
-use Rattle.std.proofs.Common.{◌≡◌, ◌≤◌, length, take}
-use Rattle.std.specs.Prelude.{Some}
 use Rattle.lt_tag.proofs.SourceLemmas.{IsSourceSoFar}
 use Rattle.lt_tag.proofs.splitting.read_source.Given as goal
 

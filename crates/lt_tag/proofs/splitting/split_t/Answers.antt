@@ -1,4 +1,4 @@
-use Rattle.std.proofs.Common.{◌∙◌, arith, length, ap}
+use Rattle.std.proofs.Common.{arith, length, ap}
 use Rattle.std.proofs.lemmas.Result.{err_from_is_err_and}
 use Rattle.lt_subtag.specs.Shapes.{is_separator}
 use Rattle.lt_tag.proofs.PartsLemmas.{t_split, source_fault, field_fault, length-before}

@@ -1,4 +1,4 @@
-use Rattle.std.proofs.Common.{rules, arith}
+use Rattle.std.proofs.Common.{rules}
 use Rattle.lt_jar.specs.Going.{going_in}
 use Rattle.lt_jar.proofs.StepLemmas.{step-said}
 use Rattle.lt_jar.proofs.reading.JarBuilder.take_line.Goals as goal

@@ -1,6 +1,5 @@
 use Rattle.std.proofs.Common.{◌∷◌, [], ap, arith, length}
 use Rattle.std.proofs.lemmas.List.{length-append}
-use Rattle.lt_tag.specs.Parts.{ExtensionParts}
 use Rattle.lt_tag.specs.Spelling.{x_subtag}
 use Rattle.lt_tag.proofs.DraftResults.{few_extensions, few_closed}
 use Rattle.lt_tag.proofs.drafts.TagDraft.finish.Goals as goal

@@ -1,0 +1,197 @@
+-- The end form of a tag: each step keeps it, each proper tag reaches it, and no step leads from it.
+use Rattle.std.proofs.Common.{◌≡◌, ◌≢◌, ℕ, ◌⊎◌, inl, inr, Bool, true, false, List, [], ◌∷◌, ◌++◌, Option, Some, None, refl, sym, ap, ◌∙◌, subst, All}
+use Rattle.lt_tag.specs.Parts.{CoreParts, ExtensionParts, TagForm, LangTag, PrivateUse, Grandfathered}
+use Rattle.lt_registry.specs.Parts.{EntryParts}
+use Rattle.lt_registry.specs.Entries.{tag_of, whole_value}
+use Rattle.lt_registry.specs.Same.{same_core}
+use Rattle.lt_registry.specs.Validity.{Distinct, IsProper}
+use Rattle.lt_registry.specs.declared.entries.EntryName.TheVariants as names
+use Rattle.lt_rewrite.specs.Rewriting.{Star, done, then}
+use Rattle.lt_rewrite.specs.CoreSteps.{values_of, CoreStep, IsCoreNormalForm}
+use Rattle.lt_rewrite.specs.Orderings.{by_swap, by_drop}
+use Rattle.lt_rewrite.specs.Extensions.{ExtensionsStep, inside, among}
+use Rattle.lt_rewrite.specs.TagSteps.{IsPlain, TagChange, on_core, on_extensions, on_whole, TagStep, IsReached}
+use Rattle.lt_rewrite.proofs.Stars.{star_trans}
+use Rattle.lt_rewrite.proofs.NormalForms.{IsFormOf, star_map_while, star_keeps, form_is_normal, normal_is_form}
+use Rattle.lt_rewrite.proofs.Same.{same_core-Decides}
+use Rattle.lt_rewrite.proofs.Proper.{step_shaped}
+use Rattle.lt_rewrite.proofs.CoreShapes.{core_form, core_formed}
+use Rattle.lt_rewrite.proofs.PartLists.{empty_middle, step_some}
+use Rattle.lt_rewrite.proofs.ExtensionForms.{extension_form, extensions_form, extensions_formed}
+use Rattle.lt_canon.specs.Conditions.{plain, HasRestingWhole, HasAgreeingWhole, IsChecked}
+use Rattle.lt_canon.specs.declared.conditions.Condition.TheVariants as conditions
+use Rattle.lt_canon.proofs.EndForms.{IsEndForm}
+use Rattle.lt_canon.proofs.Checks.{core_conditions}
+use Rattle.lt_canon.proofs.CheckedRegistry.{valued_whole, whole_has, no_value, value_plain}
+use Rattle.lt_canon.proofs.TagProper.{core_step_tag, extensions_step_tag, step_of_change}
+
+-- the end of a tag that is no langtag with extensions or private use
+abbrev pub or_value : TagForm → (TagForm → TagForm) → Option TagForm → TagForm
+or_value t end None = t
+or_value t end (Some u) = end u
+
+-- a step on extensions leads from some to some
+pub extensions_step_from : (R : List EntryParts) (es fs : List ExtensionParts) → ExtensionsStep R es fs → es ≢ []
+extensions_step_from R es fs (inside before e f after w s) h = empty_middle before e after (sym w.there ∙ h)
+extensions_step_from R es fs (among (by_swap before a b after s)) h = empty_middle before a (b ∷ after) (sym s.there ∙ h)
+extensions_step_from R es fs (among (by_drop before a between b after o s)) h = empty_middle before a (between ++ b ∷ after) (sym s.there ∙ h)
+
+pub extensions_step_to : (R : List EntryParts) (es fs : List ExtensionParts) → ExtensionsStep R es fs → fs ≢ []
+extensions_step_to R es fs (inside before e f after w s) h = empty_middle before f after (sym w.result ∙ h)
+extensions_step_to R es fs (among s) h = step_some es fs s h
+
+-- cores that are equal, or not
+same_or_not : (c d : CoreParts) → (c ≡ d) ⊎ (c ≢ d)
+same_or_not c d = by (same_core c d) refl
+  where
+    by : (b : Bool) → same_core c d ≡ b → (c ≡ d) ⊎ (c ≢ d)
+    by true e = inl ((same_core-Decides c d).0 e)
+    by false e = inr (λ h. let t : same_core c d ≡ true = (same_core-Decides c d).1 h in cc)
+
+module _ (R : List EntryParts) (C : IsChecked R) where
+  abbrev pub core_end : CoreParts → CoreParts
+  core_end = core_form R (core_conditions R C.passes)
+
+  pub cores_formed : IsFormOf (CoreStep (values_of R)) core_end
+  cores_formed = core_formed R (core_conditions R C.passes)
+
+  abbrev pub extension_end : ExtensionParts → ExtensionParts
+  extension_end = extension_form R core_end cores_formed (step_shaped R C.registry)
+
+  abbrev pub extensions_end : List ExtensionParts → List ExtensionParts
+  extensions_end = extensions_form R core_end cores_formed (step_shaped R C.registry)
+
+  pub extensions_end_formed : IsFormOf (ExtensionsStep R) extensions_end
+  extensions_end_formed = extensions_formed R core_end cores_formed (step_shaped R C.registry)
+
+  abbrev pub value_end : TagForm → TagForm
+  value_end (LangTag c es ps) = LangTag (core_end c) es ps
+  value_end (PrivateUse ps) = PrivateUse ps
+  value_end (Grandfathered n) = Grandfathered n
+
+  -- the end of the value of a whole record, or the tag
+  abbrev pub whole_end : TagForm → TagForm
+  whole_end t = or_value t value_end (whole_value R t)
+
+  -- of a langtag whose core is at its end
+  abbrev pub lang_end : CoreParts → List ExtensionParts → List (List ℕ) → TagForm
+  lang_end d [] [] = whole_end (plain d)
+  lang_end d [] (p ∷ ps) = LangTag d [] (p ∷ ps)
+  lang_end d (e ∷ es) ps = LangTag d (extensions_end (e ∷ es)) ps
+
+  -- the end form
+  abbrev pub tag_end : TagForm → TagForm
+  tag_end (LangTag c es ps) = lang_end (core_end c) es ps
+  tag_end (PrivateUse ps) = PrivateUse ps
+  tag_end (Grandfathered n) = whole_end (Grandfathered n)
+
+  pub whole_end_none : (t : TagForm) → whole_value R t ≡ None → whole_end t ≡ t
+  whole_end_none t e = ap (or_value t value_end) e
+
+  pub whole_end_some : (t u : TagForm) → whole_value R t ≡ Some u → whole_end t ≡ value_end u
+  whole_end_some t u e = ap (or_value t value_end) e
+
+  pub lang_end_some : (d : CoreParts) (es : List ExtensionParts) (ps : List (List ℕ)) → es ≢ [] → lang_end d es ps ≡ LangTag d (extensions_end es) ps
+  lang_end_some d [] ps h = absurd (h refl)
+  lang_end_some d (e ∷ es) ps h = refl
+
+  pub core_normal : (c : CoreParts) → IsCoreNormalForm (values_of R) c (core_end c)
+  core_normal c = form_is_normal cores_formed c
+
+  -- what the core normal form of the value of a whole record has
+  pub resting : (t : TagForm) (c : CoreParts) → whole_value R t ≡ Some (plain c) → Distinct (core_end c).variants × All (λ (f : EntryParts). f.name ≡ names.Whole (plain (core_end c)) → tag_of f.value ≡ None) R
+  resting t c e =
+      let w = valued_whole R t (plain c) e in
+      whole_has R t (plain c) (HasRestingWhole R) (C.passes conditions.RestingWhole) w t (plain c) w.named w.gives c (core_end c) refl (core_normal c)
+
+  -- the end of a value is its core normal form
+  pub value_rests : (t : TagForm) (c : CoreParts) → whole_value R t ≡ Some (plain c) → whole_value R (plain (core_end c)) ≡ None
+  value_rests t c e = no_value R (plain (core_end c)) (resting t c e).1
+
+  value_end_is : (t : TagForm) (c : CoreParts) → whole_value R t ≡ Some (plain c) → tag_end (plain c) ≡ plain (core_end c)
+  value_end_is t c e = whole_end_none (plain (core_end c)) (value_rests t c e)
+
+  -- a core that is a whole record with a value: its own end is that of its value
+  plain_kept : (c q : CoreParts) → whole_value R (plain c) ≡ Some (plain q) → whole_end (plain (core_end c)) ≡ plain (core_end q)
+  plain_kept c q e = by (same_or_not (core_end c) c)
+    where
+      agree : core_end c ≢ c → (core_end c ≡ core_end q) ⊎ ((r : CoreParts) × (whole_value R (plain (core_end c)) ≡ Some (plain r)) × IsCoreNormalForm (values_of R) r (core_end q))
+      agree n =
+          let w = valued_whole R (plain c) (plain q) e in
+          whole_has R (plain c) (plain q) (HasAgreeingWhole R) (C.passes conditions.AgreeingWhole) w (plain c) (plain q) w.named w.gives c (core_end c) q (core_end q) refl refl (core_normal c) n (core_normal q)
+
+      then_by : (core_end c ≡ core_end q) ⊎ ((r : CoreParts) × (whole_value R (plain (core_end c)) ≡ Some (plain r)) × IsCoreNormalForm (values_of R) r (core_end q)) → whole_end (plain (core_end c)) ≡ plain (core_end q)
+      then_by (inl s) = ap (λ d. whole_end (plain d)) s ∙ whole_end_none (plain (core_end q)) (value_rests (plain c) q e)
+      then_by (inr k) = whole_end_some (plain (core_end c)) (plain k.0) k.1 ∙ ap plain (normal_is_form cores_formed k.0 (core_end q) k.2)
+
+      by : (core_end c ≡ c) ⊎ (core_end c ≢ c) → whole_end (plain (core_end c)) ≡ plain (core_end q)
+      by (inl s) = whole_end_some (plain (core_end c)) (plain q) (ap (λ d. whole_value R (plain d)) s ∙ e)
+      by (inr n) = then_by (agree n)
+
+  whole_kept_at : (t : TagForm) (q : CoreParts) → IsPlain t → whole_value R t ≡ Some (plain q) → tag_end t ≡ tag_end (plain q)
+  whole_kept_at (Grandfathered n) q h e = whole_end_some (Grandfathered n) (plain q) e ∙ sym (value_end_is (Grandfathered n) q e)
+  whole_kept_at (LangTag c [] []) q h e = plain_kept c q e ∙ sym (value_end_is (plain c) q e)
+  whole_kept_at (LangTag c (x ∷ es) ps) q h e = let a = h.0 in cc
+  whole_kept_at (LangTag c [] (p ∷ ps)) q h e = let a = h.1 in cc
+  whole_kept_at (PrivateUse ps) q h e = absurd h
+
+  whole_kept : (t u : TagForm) → IsPlain t → whole_value R t ≡ Some u → tag_end t ≡ tag_end u
+  whole_kept t u h e =
+      let v = value_plain R C t u e in
+      whole_kept_at t v.core h (e ∙ ap Some v.is) ∙ sym (ap tag_end v.is)
+
+  extensions_kept : (d : CoreParts) (es fs : List ExtensionParts) (ps : List (List ℕ)) → ExtensionsStep R es fs → lang_end d es ps ≡ lang_end d fs ps
+  extensions_kept d es fs ps s =
+      lang_end_some d es ps (extensions_step_from R es fs s)
+      ∙ ap (λ l. LangTag d l ps) (extensions_end_formed.kept es fs s)
+      ∙ sym (lang_end_some d fs ps (extensions_step_to R es fs s))
+
+  -- each step keeps the end form
+  pub change_kept : (t u : TagForm) → TagChange R t u → tag_end t ≡ tag_end u
+  change_kept t u (on_core c d es ps s) = ap tag_end s.from ∙ ap (λ x. lang_end x es ps) (cores_formed.kept c d s.step) ∙ sym (ap tag_end s.to)
+  change_kept t u (on_extensions c es fs ps s) = ap tag_end s.from ∙ extensions_kept (core_end c) es fs ps s.step ∙ sym (ap tag_end s.to)
+  change_kept t u (on_whole s) = whole_kept t u s.plain s.has
+
+  -- each proper tag reaches its end form
+
+  pub cores_reached : {c d : CoreParts} → Star (CoreStep (values_of R)) c d → (es : List ExtensionParts) (ps : List (List ℕ)) → IsProper R (LangTag c es ps) → IsReached R (LangTag c es ps) (LangTag d es ps)
+  cores_reached r es ps P =
+      star_map_while (λ x. IsProper R (LangTag x es ps)) (λ x. LangTag x es ps) (λ x y s p. core_step_tag R C x y es ps s p)
+      (λ x y s p q. step_of_change R C (LangTag x es ps) (LangTag y es ps) (on_core x y es ps (record { from = refl; to = refl; step = s })) p) r P
+
+  pub cores_proper : {c d : CoreParts} → Star (CoreStep (values_of R)) c d → (es : List ExtensionParts) (ps : List (List ℕ)) → IsProper R (LangTag c es ps) → IsProper R (LangTag d es ps)
+  cores_proper r es ps P = star_keeps (λ x. IsProper R (LangTag x es ps)) (λ x y s p. core_step_tag R C x y es ps s p) r P
+
+  pub extensions_reached : (d : CoreParts) {es fs : List ExtensionParts} → Star (ExtensionsStep R) es fs → (ps : List (List ℕ)) → IsProper R (LangTag d es ps) → IsReached R (LangTag d es ps) (LangTag d fs ps)
+  extensions_reached d r ps P =
+      star_map_while (λ x. IsProper R (LangTag d x ps)) (λ x. LangTag d x ps) (λ x y s p. extensions_step_tag R C d x y ps s p)
+      (λ x y s p q. step_of_change R C (LangTag d x ps) (LangTag d y ps) (on_extensions d x y ps (record { from = refl; to = refl; step = s })) p) r P
+
+  whole_reached_at : (t : TagForm) → IsPlain t → IsProper R t → (o : Option TagForm) → whole_value R t ≡ o → IsReached R t (or_value t value_end o)
+  whole_reached_at t h P None e = done
+  whole_reached_at t h P (Some u) e =
+      let v = value_plain R C t u e in
+      let Q : IsProper R (plain v.core) = subst (IsProper R) v.is v.valid.proper in
+      let e' : whole_value R t ≡ Some (plain v.core) = e ∙ ap Some v.is in
+      let one : TagStep R t (plain v.core) = step_of_change R C t (plain v.core) (on_whole (record { plain = h; has = e' })) P in
+      let rest : IsReached R t (plain (core_end v.core)) = then one (cores_reached (cores_formed.reached v.core) [] [] Q) in
+      subst (λ x. IsReached R t (value_end x)) (sym v.is) rest
+
+  whole_reached : (t : TagForm) → IsPlain t → IsProper R t → IsReached R t (whole_end t)
+  whole_reached t h P = whole_reached_at t h P (whole_value R t) refl
+
+  lang_reached : (d : CoreParts) (es : List ExtensionParts) (ps : List (List ℕ)) → IsProper R (LangTag d es ps) → IsReached R (LangTag d es ps) (lang_end d es ps)
+  lang_reached d [] [] P = whole_reached (plain d) (refl, refl) P
+  lang_reached d [] (p ∷ ps) P = done
+  lang_reached d (e ∷ es) ps P = extensions_reached d (extensions_end_formed.reached (e ∷ es)) ps P
+
+  pub tag_reached : (t : TagForm) → IsProper R t → IsReached R t (tag_end t)
+  tag_reached (LangTag c es ps) P =
+      let r = cores_formed.reached c in
+      star_trans (cores_reached r es ps P) (lang_reached (core_end c) es ps (cores_proper r es ps P))
+  tag_reached (PrivateUse ps) P = done
+  tag_reached (Grandfathered n) P = whole_reached (Grandfathered n) tt P
+
+  -- so the end form is one
+  pub end_form : IsEndForm (IsProper R) (TagStep R) tag_end
+  end_form = record { to = λ a b s. s.to; kept = λ a b s. change_kept a b s.change; reached = tag_reached }

@@ -1,0 +1,199 @@
+-- Repeats of whole tags, and the laws of canonical tags.
+use Rattle.std.proofs.Common.{◌≡◌, ℕ, ◌⊎◌, inl, inr, false, List, [], ◌∷◌, Option, Some, None, refl, sym, ap, ◌∙◌, subst, map, Ordering, Less, Equal, Greater, IfSome, arith}
+use Rattle.std.specs.Prelude.{option_map}
+use Rattle.std.specs.List.{AllByRecursion}
+use Rattle.std.proofs.lemmas.Bool.{cases_eq}
+use Rattle.lt_tag.specs.Parts.{CoreParts, ExtensionParts, TForm, TagForm, LangTag, PrivateUse, Grandfathered}
+use Rattle.lt_tag.specs.Extensions.{transform, IsTransform}
+use Rattle.lt_tag.proofs.TagLemmas.{AllByRecursion-weaker}
+use Rattle.lt_registry.specs.Parts.{EntryParts}
+use Rattle.lt_registry.specs.Entries.{whole_value}
+use Rattle.lt_registry.specs.Validity.{Distinct, IsProperExtension, IsProper, HasDistinctSource, RepeatsNoVariant, IsValid}
+use Rattle.lt_rewrite.specs.Rewriting.{Star}
+use Rattle.lt_rewrite.specs.Extensions.{singleton_cmp, TransformStep, on_source, on_fields, ExtensionStep, in_unicode, in_transform, ExtensionsStep, inside, among}
+use Rattle.lt_rewrite.specs.TagSteps.{TagChange, on_core, on_extensions, on_whole, TagStep, CanRepeat}
+use Rattle.lt_rewrite.proofs.NormalForms.{star_keeps}
+use Rattle.lt_rewrite.proofs.Sorting.{place_at, place, sorted}
+use Rattle.lt_rewrite.proofs.PartLists.{all_both, all_step, all_middle, all_replaced, all_unmapped}
+use Rattle.lt_rewrite.proofs.TransformForms.{t_form, if_some_is, is_if_some}
+use Rattle.lt_rewrite.proofs.FoundParts.{one_transform}
+use Rattle.lt_rewrite.proofs.Proper.{step_shaped}
+use Rattle.lt_rewrite.proofs.ExtensionForms.{transform_form, t_form_is}
+use Rattle.lt_rewrite.proofs.Repeats.{TurnsOnce, turning, distinct_filter, turns_once_kept, form_distinct}
+use Rattle.lt_canon.specs.Conditions.{plain, IsValidPlain, IsChecked}
+use Rattle.lt_canon.specs.Laws.{RepeatsWithoutForm, CanonicalOrRepeats, RepeatTogether, EquivalenceIsEquality}
+use Rattle.lt_canon.specs.Answers.{IsCanonicalFormOf}
+use Rattle.lt_canon.proofs.Checks.{core_conditions}
+use Rattle.lt_canon.proofs.CheckedRegistry.{IsGrandfatheredTag, value_plain, tag_plain}
+use Rattle.lt_canon.proofs.EndForms.{star_proper, star_end, star_equivalent, equivalent_end, equivalent_trans, equivalent_sym, rest_is_end}
+use Rattle.lt_canon.proofs.Distinctness.{Decided, decide_both, decide_each, decide_distinct, decide_source}
+use Rattle.lt_canon.proofs.TagForm.{or_value, core_end, cores_formed, extension_end, value_end, lang_end, tag_end, tag_reached, end_form}
+use Rattle.lt_canon.proofs.TagRest.{tag_end_rests}
+
+if_some_weaker : {A : Type 0} (P Q : A → Type 0) → ((a : A) → P a → Q a) → (o : Option A) → IfSome o P → IfSome o Q
+if_some_weaker P Q h None a = tt
+if_some_weaker P Q h (Some x) a = h x a
+
+unplace_at : {A : Type 0} (P : A → Type 0) (x y : A) (ys placed : List A) → (AllByRecursion P placed → P x × AllByRecursion P ys) → (p : Ordering) → AllByRecursion P (place_at false p x y ys placed) → P x × AllByRecursion P (y ∷ ys)
+unplace_at P x y ys placed ih Less h = let r = ih h.1 in (r.0, (h.0, r.1))
+unplace_at P x y ys placed ih Equal h = (h.0, h.1)
+unplace_at P x y ys placed ih Greater h = (h.0, h.1)
+
+unplace : {A : Type 0} (P : A → Type 0) (cmp : A → A → Ordering) (x : A) (ys : List A) → AllByRecursion P (place false cmp x ys) → P x × AllByRecursion P ys
+unplace P cmp x [] h = (h.0, tt)
+unplace P cmp x (y ∷ ys) h = unplace_at P x y ys (place false cmp x ys) (unplace P cmp x ys) (cmp y x) h
+
+-- what each part has in order, each part has
+unsorted : {A : Type 0} (P : A → Type 0) (cmp : A → A → Ordering) (xs : List A) → AllByRecursion P (sorted false cmp xs) → AllByRecursion P xs
+unsorted P cmp [] h = tt
+unsorted P cmp (x ∷ xs) h = let r = unplace P cmp x (sorted false cmp xs) h in (r.0, unsorted P cmp xs r.1)
+
+abbrev HasDistinctVariants : CoreParts → Type 0
+HasDistinctVariants c = Distinct c.variants
+
+-- no variant with a language value stands twice in the source
+abbrev TurnsOnceExtension : List EntryParts → ExtensionParts → Type 0
+TurnsOnceExtension R e = e.singleton ≡ transform → (p : TForm) → IsTransform e.subtags p → IfSome p.source (TurnsOnce R)
+
+-- nor in the core
+abbrev TurnsOnceTag : List EntryParts → TagForm → Type 0
+TurnsOnceTag R (LangTag c es ps) = TurnsOnce R c × AllByRecursion (TurnsOnceExtension R) es
+TurnsOnceTag R (PrivateUse ps) = Unit {0}
+TurnsOnceTag R (Grandfathered n) = Unit {0}
+
+distinct_once : (R : List EntryParts) (t : TagForm) → RepeatsNoVariant t → TurnsOnceTag R t
+distinct_once R (LangTag c es ps) h = (
+  distinct_filter (turning R) c.variants h.0,
+  AllByRecursion-weaker HasDistinctSource (TurnsOnceExtension R) (λ e d s p k. if_some_weaker HasDistinctVariants (TurnsOnce R) (λ c x. distinct_filter (turning R) c.variants x) p.source (d s p k)) es h.1,
+)
+distinct_once R (PrivateUse ps) h = tt
+distinct_once R (Grandfathered n) h = tt
+
+module _ (R : List EntryParts) (C : IsChecked R) where
+  transform_once : (p q : TForm) → TransformStep R p q → IfSome p.source (TurnsOnce R) → IfSome q.source (TurnsOnce R)
+  transform_once p q (on_source c d s) h =
+      is_if_some (TurnsOnce R) q.source d s.to (turns_once_kept R (core_conditions R C.passes) c d s.step (if_some_is (TurnsOnce R) p.source c s.from h))
+  transform_once p q (on_fields g s) h = let Q : Option CoreParts → Type 0 = λ x. IfSome x (TurnsOnce R) in subst Q (sym g) h
+
+  extension_once : (e f : ExtensionParts) → ExtensionStep R e f → TurnsOnceExtension R e → TurnsOnceExtension R f
+  extension_once e f (in_unicode p q s) h = λ x. absurd (omega (arith, x, s.singleton, s.is_u))
+  extension_once e f (in_transform p q s) h = λ x r k. subst (λ (z : TForm). IfSome z.source (TurnsOnce R)) (one_transform f.subtags q r s.to k) (transform_once p q s.step (h s.is_t p s.from))
+
+  extensions_once : (es fs : List ExtensionParts) → ExtensionsStep R es fs → AllByRecursion (TurnsOnceExtension R) es → AllByRecursion (TurnsOnceExtension R) fs
+  extensions_once es fs (inside before e f after w s) h =
+      let all = subst (AllByRecursion (TurnsOnceExtension R)) w.there h in
+      subst (AllByRecursion (TurnsOnceExtension R)) (sym w.result) (all_replaced (TurnsOnceExtension R) before e f after all (extension_once e f s (all_middle (TurnsOnceExtension R) before e after all)))
+  extensions_once es fs (among s) h = all_step (TurnsOnceExtension R) es fs s h
+
+  change_once : (t u : TagForm) → TagChange R t u → TurnsOnceTag R t → TurnsOnceTag R u
+  change_once t u (on_core c d es ps s) h =
+      let k : TurnsOnceTag R (LangTag c es ps) = subst (TurnsOnceTag R) s.from h in
+      subst (TurnsOnceTag R) (sym s.to) (turns_once_kept R (core_conditions R C.passes) c d s.step k.0, k.1)
+  change_once t u (on_extensions c es fs ps s) h =
+      let k : TurnsOnceTag R (LangTag c es ps) = subst (TurnsOnceTag R) s.from h in
+      subst (TurnsOnceTag R) (sym s.to) (k.0, extensions_once es fs s.step k.1)
+  change_once t u (on_whole s) h =
+      let v = value_plain R C t u s.has in
+      let d : RepeatsNoVariant (plain v.core) = subst RepeatsNoVariant v.is v.valid.distinct in
+      subst (TurnsOnceTag R) (sym v.is) (distinct_filter (turning R) v.core.variants d.0, tt)
+
+  star_once : {t u : TagForm} → Star (TagStep R) t u → TurnsOnceTag R t → TurnsOnceTag R u
+  star_once r h = star_keeps (TurnsOnceTag R) (λ a b s k. change_once a b s.change k) r h
+
+  -- a plain core whose end repeats no variant
+  whole_distinct : (d : CoreParts) → (o : Option TagForm) → whole_value R (plain d) ≡ o → RepeatsNoVariant (or_value (plain d) (value_end R C) o) → Distinct d.variants
+  whole_distinct d None e h = h.0
+  whole_distinct d (Some u) e h = by (tag_plain R C (plain d) u e)
+    where
+      by : IsGrandfatheredTag (plain d) ⊎ IsValidPlain R (plain d) → Distinct d.variants
+      by (inl g) = let x = g.is in cc
+      by (inr g) = g.valid.distinct.0
+
+  source_distinct : (o : Option CoreParts) → IfSome o (TurnsOnce R) → IfSome (option_map (core_end R C) o) HasDistinctVariants → IfSome o HasDistinctVariants
+  source_distinct None h k = tt
+  source_distinct (Some c) h k = form_distinct R (core_conditions R C.passes) c h k
+
+  -- the parts of the end of a t extension
+  pub end_parts : (e : ExtensionParts) (p : TForm) → e.singleton ≡ transform → IsTransform e.subtags p → IsTransform (extension_end R C e).subtags (t_form R (core_end R C) (cores_formed R C) p)
+  end_parts e p s q =
+      let form : TForm = t_form R (core_end R C) (cores_formed R C) p in
+      let is = transform_form R (core_end R C) (cores_formed R C) (step_shaped R C.registry) e p s q in
+      let parts = t_form_is R (core_end R C) (cores_formed R C) (step_shaped R C.registry) e.subtags p q in
+      subst (λ l. IsTransform l form) (ap (λ (x : ExtensionParts). x.subtags) (sym is)) parts
+
+  extension_distinct : (e : ExtensionParts) → TurnsOnceExtension R e → HasDistinctSource (extension_end R C e) → HasDistinctSource e
+  extension_distinct e h k = λ s p q. source_distinct p.source (h s p q) (k s (t_form R (core_end R C) (cores_formed R C) p) (end_parts e p s q))
+
+  lang_distinct : (c : CoreParts) (es : List ExtensionParts) (ps : List (List ℕ)) → TurnsOnce R c → AllByRecursion (TurnsOnceExtension R) es → RepeatsNoVariant (lang_end R C (core_end R C c) es ps) → Distinct c.variants × AllByRecursion HasDistinctSource es
+  lang_distinct c [] [] h k d = (form_distinct R (core_conditions R C.passes) c h (whole_distinct (core_end R C c) (whole_value R (plain (core_end R C c))) refl d), tt)
+  lang_distinct c [] (p ∷ ps) h k d = (form_distinct R (core_conditions R C.passes) c h d.0, tt)
+  lang_distinct c (e ∷ es) ps h k d = (
+    form_distinct R (core_conditions R C.passes) c h d.0,
+    all_both (TurnsOnceExtension R) (λ e. HasDistinctSource (extension_end R C e)) HasDistinctSource extension_distinct (e ∷ es) k
+        (all_unmapped HasDistinctSource (extension_end R C) (e ∷ es) (unsorted HasDistinctSource singleton_cmp (map (extension_end R C) (e ∷ es)) d.1)),
+  )
+
+  -- where the end form repeats no variant, the tag repeats none
+  end_distinct : (t : TagForm) → TurnsOnceTag R t → RepeatsNoVariant (tag_end R C t) → RepeatsNoVariant t
+  end_distinct (LangTag c es ps) h d = lang_distinct c es ps h.0 h.1 d
+  end_distinct (PrivateUse ps) h d = tt
+  end_distinct (Grandfathered n) h d = tt
+
+  -- from a valid tag a repeat is reached only if its end form has one
+  pub repeats_at_end : (t : TagForm) → IsValid R t → CanRepeat R t → RepeatsNoVariant (tag_end R C t) → ⊥
+  repeats_at_end t V r d =
+      let once : TurnsOnceTag R r.tag = star_once r.reached (distinct_once R t V.distinct) in
+      let same : tag_end R C t ≡ tag_end R C r.tag = star_end (end_form R C) r.reached in
+      r.repeats (end_distinct r.tag once (subst RepeatsNoVariant same d))
+
+  extension_decided : (e : ExtensionParts) → (s : e.singleton ≡ transform) (p : TForm) → IsTransform e.subtags p → Decided (IfSome p.source HasDistinctVariants) → Decided (HasDistinctSource e)
+  extension_decided e s p k (inl d) = inl (λ _ q j. subst (λ (z : TForm). IfSome z.source HasDistinctVariants) (one_transform e.subtags p q k j) d)
+  extension_decided e s p k (inr n) = inr (λ h. n (h s p k))
+
+  decide_extension : (e : ExtensionParts) → IsProperExtension R e → Decided (HasDistinctSource e)
+  decide_extension e P = by (cases_eq e.singleton transform)
+    where
+      by : (e.singleton ≡ transform) ⊎ (e.singleton ≡ transform → ⊥) → Decided (HasDistinctSource e)
+      by (inl s) = let m = P s in extension_decided e s m.0 m.1 (decide_source m.0.source)
+      by (inr n) = inl (λ s. absurd (n s))
+
+  decide_tag : (t : TagForm) → IsProper R t → Decided (RepeatsNoVariant t)
+  decide_tag (LangTag c es ps) P = decide_both (decide_distinct c.variants) (decide_each (IsProperExtension R) HasDistinctSource decide_extension es P.parts.extensions)
+  decide_tag (PrivateUse ps) P = inl tt
+  decide_tag (Grandfathered n) P = inl tt
+
+  end_proper : (t : TagForm) → IsProper R t → IsProper R (tag_end R C t)
+  end_proper t P = star_proper (end_form R C) (tag_reached R C t P) P
+
+  pub canonical_or_repeats : CanonicalOrRepeats R
+  canonical_or_repeats t V = by (decide_tag (tag_end R C t) (end_proper t V.proper))
+    where
+      by : Decided (RepeatsNoVariant (tag_end R C t)) → ((c : TagForm) × IsCanonicalFormOf R t c) ⊎ RepeatsWithoutForm R t
+      by (inl d) = inl (
+        tag_end R C t,
+        record {
+          valid = V;
+          canonical = record { valid = record { proper = end_proper t V.proper; distinct = d }; at_rest = tag_end_rests R C t };
+          reached = tag_reached R C t V.proper;
+          repeats_none = λ r. repeats_at_end t V r d;
+        },
+      )
+      by (inr n) = inr (record {
+        repeats = record { tag = tag_end R C t; reached = tag_reached R C t V.proper; repeats = n };
+        formless = λ c k e. n (subst RepeatsNoVariant (sym (equivalent_end (end_form R C) e ∙ rest_is_end (end_form R C) c k.valid.proper k.at_rest)) k.valid.distinct);
+      })
+
+  pub repeat_together : RepeatTogether R
+  repeat_together t u V W e r =
+      let same : tag_end R C t ≡ tag_end R C u = equivalent_end (end_form R C) e in
+      record { tag = tag_end R C u; reached = tag_reached R C u W.proper; repeats = λ d. repeats_at_end t V r (subst RepeatsNoVariant (sym same) d) }
+
+  -- the canonical form is the end form
+  pub form_is_end : (t c : TagForm) → IsCanonicalFormOf R t c → tag_end R C t ≡ c
+  form_is_end t c h = star_end (end_form R C) h.reached ∙ rest_is_end (end_form R C) c h.canonical.valid.proper h.canonical.at_rest
+
+  pub equivalence_is_equality : EquivalenceIsEquality R
+  equivalence_is_equality = record {
+    equal = λ t u c d h k e. sym (form_is_end t c h) ∙ equivalent_end (end_form R C) e ∙ form_is_end u d k;
+    equivalent = λ t u c h k. equivalent_trans (star_equivalent h.reached) (equivalent_sym (star_equivalent k.reached));
+  }

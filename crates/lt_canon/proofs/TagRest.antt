@@ -1,0 +1,93 @@
+-- No step leads from the end form.
+use Rattle.std.proofs.Common.{◌≡◌, ◌≢◌, ℕ, List, [], ◌∷◌, Option, Some, None, refl, sym, ap, ◌∙◌, subst}
+use Rattle.lt_tag.specs.Parts.{CoreParts, ExtensionParts, TagForm, LangTag, PrivateUse, Grandfathered}
+use Rattle.lt_registry.specs.Parts.{EntryParts}
+use Rattle.lt_registry.specs.Entries.{whole_value}
+use Rattle.lt_rewrite.specs.Rewriting.{Rests}
+use Rattle.lt_rewrite.specs.CoreSteps.{values_of, CoreStep}
+use Rattle.lt_rewrite.specs.Extensions.{ExtensionsStep}
+use Rattle.lt_rewrite.specs.TagSteps.{TagChange, on_core, on_extensions, on_whole, TagStep}
+use Rattle.lt_rewrite.proofs.NormalForms.{star_keeps}
+use Rattle.lt_canon.specs.Conditions.{plain, IsChecked}
+use Rattle.lt_canon.proofs.CheckedRegistry.{value_plain}
+use Rattle.lt_canon.proofs.TagForm.{or_value, core_end, cores_formed, extensions_end, extensions_end_formed, value_end, lang_end, tag_end, value_rests, extensions_step_from, extensions_step_to}
+
+-- a langtag at its end
+pub record IsLangAtEnd (R : List EntryParts) (d : CoreParts) (es : List ExtensionParts) (ps : List (List ℕ)) : Type 0 where
+  pub core : Rests (CoreStep (values_of R)) d
+  pub extensions : Rests (ExtensionsStep R) es
+  pub whole : es ≡ [] → ps ≡ [] → whole_value R (plain d) ≡ None
+
+lang_core : TagForm → CoreParts → CoreParts
+lang_core (LangTag c es ps) d = c
+lang_core (PrivateUse ps) d = d
+lang_core (Grandfathered n) d = d
+
+lang_extensions : TagForm → List ExtensionParts
+lang_extensions (LangTag c es ps) = es
+lang_extensions (PrivateUse ps) = []
+lang_extensions (Grandfathered n) = []
+
+pub lang_at_end : (R : List EntryParts) (d : CoreParts) (es : List ExtensionParts) (ps : List (List ℕ)) → IsLangAtEnd R d es ps → (u : TagForm) → TagChange R (LangTag d es ps) u → ⊥
+unfolding lang_core lang_extensions
+lang_at_end R d es ps E u (on_core c c' fs qs s) =
+    let same : c ≡ d = sym (ap (λ t. lang_core t d) s.from) in
+    E.core c' (subst (λ x. CoreStep (values_of R) x c') same s.step)
+lang_at_end R d es ps E u (on_extensions c es' fs qs s) =
+    let same : es' ≡ es = sym (ap lang_extensions s.from) in
+    E.extensions fs (subst (λ x. ExtensionsStep R x fs) same s.step)
+lang_at_end R d es ps E u (on_whole s) =
+    let n : whole_value R (plain d) ≡ None = E.whole s.plain.0 s.plain.1 in
+    let same : LangTag d es ps ≡ plain d = λ i. LangTag d (s.plain.0 i) (s.plain.1 i) in
+    let m : whole_value R (LangTag d es ps) ≡ None = ap (whole_value R) same ∙ n in
+    let k = s.has in
+    cc
+
+abbrev pub NoChange : List EntryParts → TagForm → Type 0
+NoChange R t = (u : TagForm) → TagChange R t u → ⊥
+
+pub grandfathered_rests : (R : List EntryParts) (n : ℕ) → whole_value R (Grandfathered n) ≡ None → NoChange R (Grandfathered n)
+grandfathered_rests R n h u (on_core c c' es ps s) = let a = s.from in cc
+grandfathered_rests R n h u (on_extensions c es fs ps s) = let a = s.from in cc
+grandfathered_rests R n h u (on_whole s) = let a = s.has in cc
+
+pub private_rests : (R : List EntryParts) (ps : List (List ℕ)) → NoChange R (PrivateUse ps)
+private_rests R ps u (on_core c c' es qs s) = let a = s.from in cc
+private_rests R ps u (on_extensions c es fs qs s) = let a = s.from in cc
+private_rests R ps u (on_whole s) = s.plain
+
+pub none_rests : (R : List EntryParts) → Rests (ExtensionsStep R) []
+none_rests R fs s = extensions_step_from R [] fs s refl
+
+module _ (R : List EntryParts) (C : IsChecked R) where
+  plain_end : (c : CoreParts) → whole_value R (plain (core_end R C c)) ≡ None → NoChange R (plain (core_end R C c))
+  plain_end c n = lang_at_end R (core_end R C c) [] [] (record { core = (cores_formed R C).rests c; extensions = none_rests R; whole = λ _ _. n })
+
+  value_rests_at : (t u : TagForm) → whole_value R t ≡ Some u → NoChange R (value_end R C u)
+  value_rests_at t u e =
+      let v = value_plain R C t u e in
+      let e' : whole_value R t ≡ Some (plain v.core) = e ∙ ap Some v.is in
+      subst (λ x. NoChange R (value_end R C x)) (sym v.is) (plain_end v.core (value_rests R C t v.core e'))
+
+  whole_rests_at : (t : TagForm) → (whole_value R t ≡ None → NoChange R t) → (o : Option TagForm) → whole_value R t ≡ o → NoChange R (or_value t (value_end R C) o)
+  whole_rests_at t h None e = h e
+  whole_rests_at t h (Some u) e = value_rests_at t u e
+
+  some_end : (es : List ExtensionParts) → es ≢ [] → extensions_end R C es ≢ []
+  some_end es n = star_keeps (λ l. l ≢ []) (λ a b s _. extensions_step_to R a b s) ((extensions_end_formed R C).reached es) n
+
+  lang_rests : (c : CoreParts) (es : List ExtensionParts) (ps : List (List ℕ)) → NoChange R (lang_end R C (core_end R C c) es ps)
+  lang_rests c [] [] = whole_rests_at (plain (core_end R C c)) (plain_end c) (whole_value R (plain (core_end R C c))) refl
+  lang_rests c [] (p ∷ ps) = lang_at_end R (core_end R C c) [] (p ∷ ps) (record { core = (cores_formed R C).rests c; extensions = none_rests R; whole = λ _ h. absurd (cc) })
+  lang_rests c (e ∷ es) ps =
+      lang_at_end R (core_end R C c) (extensions_end R C (e ∷ es)) ps (record {
+        core = (cores_formed R C).rests c;
+        extensions = (extensions_end_formed R C).rests (e ∷ es);
+        whole = λ h _. absurd (some_end (e ∷ es) (λ k. cc) h);
+      })
+
+  -- no change leads from the end form of a tag
+  pub tag_end_rests : (t : TagForm) → Rests (TagStep R) (tag_end R C t)
+  tag_end_rests (LangTag c es ps) u s = lang_rests c es ps u s.change
+  tag_end_rests (PrivateUse ps) u s = private_rests R ps u s.change
+  tag_end_rests (Grandfathered n) u s = whole_rests_at (Grandfathered n) (grandfathered_rests R n) (whole_value R (Grandfathered n)) refl u s.change

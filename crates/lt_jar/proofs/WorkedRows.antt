@@ -1,0 +1,84 @@
+-- The definitions on small texts, computed.
+use Rattle.std.proofs.Common.{◌≡◌, ℕ, List, [], ◌∷◌, ◌++◌, refl, codes, false}
+use Rattle.lt_jar.specs.Lines.{lines_of}
+use Rattle.lt_jar.specs.LineKinds.{Bad, Continuation, Separator, Start, line_of}
+use Rattle.lt_jar.specs.Records.{HasRecords, Written, shown}
+use Rattle.lt_jar.specs.Faults.{IsWrongAt, LeadingContinuation, begun}
+
+-- a line feed ends a line, and what follows the last one is a line only if it has a byte
+lines_ended : lines_of (codes "a" ++ 10 ∷ 10 ∷ []) ≡ codes "a" ∷ [] ∷ []
+lines_ended = refl
+
+line_not_ended : lines_of (codes "a" ++ 10 ∷ codes "b") ≡ codes "a" ∷ codes "b" ∷ []
+line_not_ended = refl
+
+-- `A:`, `  b `, a tab and `c`
+abbrev folded : List ℕ
+folded = codes "A:" ++ 10 ∷ (codes "  b " ++ 10 ∷ 9 ∷ codes "c")
+
+folded_lines : shown (lines_of folded) ≡ Start (codes "A") [] ∷ Continuation (codes "b") ∷ Continuation (codes "c") ∷ []
+folded_lines = refl
+
+abbrev folded_field : Written
+folded_field = record { name = codes "A"; first = []; more = codes "b" ∷ codes "c" ∷ [] }
+
+-- one record with the one field `A`, body `b c`
+folded_records : HasRecords folded (((codes "A", codes "b c") ∷ []) ∷ [])
+folded_records = record { ended = []; last = folded_field ∷ []; lines = refl; all = refl }
+
+empty_records : HasRecords [] []
+empty_records = record { ended = []; last = []; lines = refl; all = refl }
+
+-- `%%`, an empty line, `%%`
+no_records : HasRecords (codes "%%" ++ 10 ∷ 10 ∷ (codes "%%" ++ 10 ∷ [])) []
+no_records = record { ended = [] ∷ [] ∷ []; last = []; lines = refl; all = refl }
+
+abbrev gap_field : Written
+gap_field = record { name = codes "A"; first = codes "b:c"; more = [] }
+
+-- `A : b:c`, then `%%` with a tab after it
+with_gap : HasRecords (codes "A : b:c" ++ 10 ∷ (codes "%%" ++ 9 ∷ [])) (((codes "A", codes "b:c") ∷ []) ∷ [])
+with_gap = record { ended = (gap_field ∷ []) ∷ []; last = []; lines = refl; all = refl }
+
+abbrev blanks_field : Written
+blanks_field = record { name = codes "A"; first = codes "b"; more = codes "c" ∷ [] }
+
+-- a line of one space, `A: b`, a line of one space, ` c`
+with_blanks : HasRecords (codes " " ++ 10 ∷ (codes "A: b" ++ 10 ∷ (codes " " ++ 10 ∷ codes " c"))) (((codes "A", codes "b c") ∷ []) ∷ [])
+with_blanks = record { ended = []; last = blanks_field ∷ []; lines = refl; all = refl }
+
+bad_word : line_of (codes "abc") ≡ Bad
+bad_word = refl
+
+bad_separator : line_of (codes "%%x") ≡ Bad
+bad_separator = refl
+
+bad_name : line_of (codes ": b") ≡ Bad
+bad_name = refl
+
+separator_returned : line_of (codes "%% " ++ 13 ∷ []) ≡ Separator
+separator_returned = refl
+
+-- one carriage return is dropped
+returned : line_of (codes "Type: a" ++ 13 ∷ []) ≡ Start (codes "Type") (codes "a")
+returned = refl
+
+returned_twice : line_of (codes "Type: a" ++ 13 ∷ 13 ∷ []) ≡ Start (codes "Type") (codes "a" ++ 13 ∷ [])
+returned_twice = refl
+
+-- `Type: language`, `Subtag: en`, `%%`, `  x`: wrong at line 4
+abbrev leading : List ℕ
+leading = codes "Type: language" ++ 10 ∷ (codes "Subtag: en" ++ 10 ∷ (codes "%%" ++ 10 ∷ codes "  x"))
+
+leading_wrong : IsWrongAt 0 leading LeadingContinuation 4
+leading_wrong = record {
+  before = codes "Type: language" ∷ codes "Subtag: en" ∷ codes "%%" ∷ [];
+  line = codes "  x";
+  after = [];
+  all = refl;
+  counted = refl;
+  wrong = (refl, refl);
+}
+
+begun_two : begun false (shown (lines_of (codes "A:" ++ 10 ∷ (codes "B:" ++ 10 ∷ (codes "%%" ++ 10 ∷ codes "C:"))))) ≡ 2
+begun_two = refl

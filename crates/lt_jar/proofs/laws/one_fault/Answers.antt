@@ -1,0 +1,5 @@
+use Rattle.lt_jar.proofs.LawLemmas.{same_fault}
+use Rattle.lt_jar.proofs.laws.one_fault.Goals as goal
+
+pub returns : goal.returns
+returns c = same_fault

@@ -1,0 +1,5 @@
+use Rattle.lt_jar.proofs.LawLemmas.{decided}
+use Rattle.lt_jar.proofs.laws.records_or_fault.Goals as goal
+
+pub returns : goal.returns
+returns c = decided

@@ -1,0 +1,36 @@
+-- What the clauses see of a device, and how it counts.
+use Rattle.std.specs.Prelude.{◌≡◌, ◌<◌, ◌-◌, ◌+◌, ◌^◌, ◌⊎◌, ◌&&◌, ℕ, List, length, min, if◌then◌else◌, nat_lt, nat_eq, Result, Ok, Err}
+use Rattle.lt_jar.specs.declared.devices.Device.{Device}
+
+-- the reader or the writer
+abbrev pub inner_of : {T : Type 0} → Device T → T
+inner_of device = device.inner
+
+-- how often it failed
+abbrev pub failures_of : {T : Type 0} → Device T → ℕ
+failures_of device = device.failures
+
+-- how often it was read
+abbrev pub reads_of : {T : Type 0} → Device T → ℕ
+reads_of device = device.reads
+
+-- the greatest count, at which a count stays
+abbrev pub greatest_count : ℕ
+greatest_count = 2 ^ 64 - 1
+
+abbrev pub one_more : ℕ → ℕ
+one_more count = min (count + 1) greatest_count
+
+-- the failures after a read with this answer
+abbrev pub failures_after_read : {E : Type 0} → Result ℕ E → ℕ → ℕ
+failures_after_read (Ok n) failures = failures
+failures_after_read (Err error) failures = one_more failures
+
+-- the failures after a write of these bytes with this answer: to take none of them, where there are any, is a failure
+abbrev pub failures_after_write : {E : Type 0} → Result ℕ E → List ℕ → ℕ → ℕ
+failures_after_write (Ok n) bytes failures = if nat_eq n 0 && nat_lt 0 (length bytes) then one_more failures else failures
+failures_after_write (Err error) bytes failures = one_more failures
+
+-- the device failed in a call that moved it from old to new
+abbrev pub HasFailed : {T : Type 0} → Device T → Device T → Type 0
+HasFailed old new = (failures_of old < failures_of new) ⊎ (failures_of new ≡ greatest_count)

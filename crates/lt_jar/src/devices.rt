@@ -1,0 +1,110 @@
+//! Devices, which count the failures of a reader or a writer.
+ghost use Rattle.std.specs.Prelude.{◌≡◌, ◌<◌, IfOk, OnErr, OnOk, length};
+ghost use Rattle.std.specs.Io.{ReadsAtMost, WritesAtMost};
+ghost use Rattle.std.specs.Io.KnownBytes.{Keeps, ReadConsumes, WriteAppends};
+ghost use Rattle.lt_jar.specs.Devices.{HasFailed, failures_after_read, failures_after_write, failures_of, inner_of, one_more, reads_of};
+
+use std::io::{self, Read, Write};
+
+/// A reader or a writer that is read and written through this value alone, and how often it failed.
+///
+/// A device failed in a call where its count of failures rose, or stands at its greatest value.
+#[derive(Drop)]
+pub struct Device<T> {
+    inner: T,
+    failures: u64,
+    reads: u64,
+}
+
+impl<T> Device<T> {
+    /// A device that has not failed.
+    pub fn new(inner: T) -> Device<T>
+        ensures inner { inner_of result ≡ inner }
+        ensures failures { failures_of result ≡ 0 }
+        ensures reads { reads_of result ≡ 0 }
+    {
+        Device {
+            inner,
+            failures: 0,
+            reads: 0,
+        }
+    }
+
+    /// How often a read or a write answered an error, or a write took 0 bytes of a slice that is
+    /// not empty. It stays at its greatest value.
+    pub fn failures(&self) -> u64
+        ensures { result ≡ failures_of self.now }
+    {
+        self.failures
+    }
+}
+
+impl<R: Read> Read for Device<R> {
+    ghost remaining = { λ device. R.remaining (inner_of device) };
+
+    /// What the reader answers.
+    fn read(&mut self, buf: &mut [u8]) -> io::Result<usize>
+        ensures bound { ReadsAtMost result buf.new }
+        ensures bytes { ReadConsumes (R.remaining (inner_of self.old)) (R.remaining (inner_of self.new))
+            result buf.new }
+        ensures counts { failures_of self.new ≡ failures_after_read result (failures_of self.old) }
+        ensures works { OnOk result (failures_of self.new ≡ failures_of self.old) }
+        ensures fails { OnErr result (HasFailed self.old self.new) }
+        ensures reads { reads_of self.new ≡ one_more (reads_of self.old) }
+    {
+        count_up(&mut self.reads);
+        match self.inner.read(buf) {
+            Ok(count) => Ok(count),
+            Err(error) => {
+                count_up(&mut self.failures);
+                Err(error)
+            }
+        }
+    }
+}
+
+impl<W: Write> Write for Device<W> {
+    ghost contents = { λ device. W.contents (inner_of device) };
+
+    /// What the writer answers.
+    fn write(&mut self, buf: &[u8]) -> io::Result<usize>
+        ensures bound { WritesAtMost result buf.now }
+        ensures bytes { WriteAppends (W.contents (inner_of self.old)) (W.contents (inner_of self.new))
+            result buf.now }
+        ensures counts { failures_of self.new
+            ≡ failures_after_write result buf.now (failures_of self.old) }
+        ensures works { IfOk result (λ count. 0 < count → failures_of self.new ≡ failures_of self.old) }
+        ensures takes_none { IfOk result (λ count. count ≡ 0 → 0 < length buf.now → HasFailed self.old self.new) }
+        ensures fails { OnErr result (HasFailed self.old self.new) }
+        ensures reads { reads_of self.new ≡ reads_of self.old }
+    {
+        match self.inner.write(buf) {
+            Ok(count) => {
+                if count == 0 && !buf.is_empty() {
+                    count_up(&mut self.failures);
+                }
+                Ok(count)
+            }
+            Err(error) => {
+                count_up(&mut self.failures);
+                Err(error)
+            }
+        }
+    }
+
+    /// What the writer answers.
+    fn flush(&mut self) -> io::Result<()>
+        ensures bytes { Keeps (W.contents (inner_of self.old)) (W.contents (inner_of self.new)) }
+        ensures counts { failures_of self.new ≡ failures_of self.old }
+        ensures reads { reads_of self.new ≡ reads_of self.old }
+    {
+        self.inner.flush()
+    }
+}
+
+/// Counts one more, up to the greatest count.
+fn count_up(count: &mut u64)
+    ensures { count.new ≡ one_more count.old }
+{
+    *count = count.saturating_add(1);
+}

@@ -1,0 +1,45 @@
+-- Rows of the normal forms of parts, by computation.
+use Rattle.std.proofs.Common.{◌≡◌, ℕ, false, List, [], ◌∷◌, refl}
+use Rattle.std.specs.Prelude.{codes}
+use Rattle.lt_tag.specs.Parts.{ExtensionParts, KeywordParts, UForm, FieldParts}
+use Rattle.lt_rewrite.specs.Extensions.{separator_cmp, singleton_cmp}
+use Rattle.lt_rewrite.proofs.Sorting.{sorted}
+use Rattle.lt_rewrite.proofs.UnicodeForms.{u_form}
+
+abbrev keyword : List ℕ → List (List ℕ) → KeywordParts
+keyword key types = record { key = key; types = types }
+
+abbrev field : List ℕ → List (List ℕ) → FieldParts
+field separator values = record { separator = separator; values = values }
+
+abbrev extension : ℕ → List (List ℕ) → ExtensionParts
+extension singleton subtags = record { singleton = singleton; subtags = subtags }
+
+abbrev parts : List (List ℕ) → List KeywordParts → UForm
+parts attributes keywords = record { attributes = attributes; keywords = keywords }
+
+-- foo-bar-foo-nu-latn-ca-buddhist-nu-arab
+repeated : u_form (parts (codes "foo" ∷ codes "bar" ∷ codes "foo" ∷ []) (keyword (codes "nu") (codes "latn" ∷ []) ∷ keyword (codes "ca") (codes "buddhist" ∷ []) ∷ keyword (codes "nu") (codes "arab" ∷ []) ∷ []))
+    ≡ parts (codes "bar" ∷ codes "foo" ∷ []) (keyword (codes "ca") (codes "buddhist" ∷ []) ∷ keyword (codes "nu") (codes "latn" ∷ []) ∷ [])
+repeated = refl
+
+-- kn-true, and kn-true-true, which keeps its types
+sole_true : u_form (parts [] (keyword (codes "kn") (codes "true" ∷ []) ∷ [])) ≡ parts [] (keyword (codes "kn") [] ∷ [])
+sole_true = refl
+
+two_types : u_form (parts [] (keyword (codes "kn") (codes "true" ∷ codes "true" ∷ []) ∷ [])) ≡ parts [] (keyword (codes "kn") (codes "true" ∷ codes "true" ∷ []) ∷ [])
+two_types = refl
+
+-- the attribute true stays
+true_attribute : u_form (parts (codes "true" ∷ []) []) ≡ parts (codes "true" ∷ []) []
+true_attribute = refl
+
+-- m0-names-bgn-a0-xyz-m0-aaa: fields may repeat, and keep the order of their values
+fields : sorted false separator_cmp (field (codes "m0") (codes "names" ∷ codes "bgn" ∷ []) ∷ field (codes "a0") (codes "xyz" ∷ []) ∷ field (codes "m0") (codes "aaa" ∷ []) ∷ [])
+    ≡ field (codes "a0") (codes "xyz" ∷ []) ∷ field (codes "m0") (codes "names" ∷ codes "bgn" ∷ []) ∷ field (codes "m0") (codes "aaa" ∷ []) ∷ []
+fields = refl
+
+-- b-ccc-bbb-a-aaa
+extensions : sorted false singleton_cmp (extension 98 (codes "ccc" ∷ codes "bbb" ∷ []) ∷ extension 97 (codes "aaa" ∷ []) ∷ [])
+    ≡ extension 97 (codes "aaa" ∷ []) ∷ extension 98 (codes "ccc" ∷ codes "bbb" ∷ []) ∷ []
+extensions = refl
