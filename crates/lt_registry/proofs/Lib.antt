@@ -1,0 +1,16 @@
+pub mod CheckLemmas
+pub mod CoreFaultLemmas
+pub mod ExtensionFaultLemmas
+pub mod FirstLemmas
+pub mod ListFaultLemmas
+pub mod ListLemmas
+pub mod NameReadLemmas
+pub mod OrderLemmas
+pub mod RecordLaws
+pub mod RegistryLemmas
+pub mod SameLemmas
+pub mod ScanLemmas
+pub mod SplitListLemmas
+pub mod TagFaultLemmas
+pub mod ValidityLaws
+pub mod VariantFaultLemmas

@@ -1,7 +1,7 @@
 -- The entries of a registry, and what they say of a subtag or a tag (RFC 5646, 3.1).
-use Rattle.std.specs.Prelude.{ℕ, ◌≡◌, ◌≢◌, ◌<◌, ◌≤◌, ◌⊎◌, Bool, true, false, if◌then◌else◌, ◌==◌, nat_lt, nat_le, ◌&&◌, ◌||◌, List, [], ◌∷◌, length, Option, Some, None, find, is_some, bytes_eq, IfSome}
+use Rattle.std.specs.Prelude.{ℕ, ◌≡◌, ◌<◌, ◌⊎◌, Bool, true, false, if◌then◌else◌, ◌==◌, nat_lt, nat_le, ◌&&◌, ◌||◌, List, [], ◌∷◌, length, Option, Some, None, find, is_some, bytes_eq, IfSome, All}
 use Rattle.std.specs.List.{list_all, list_any, AllByRecursion}
-use Rattle.std.specs.Option.{option_and_then}
+use Rattle.std.specs.Option.{option_and_then, option_or}
 use Rattle.lt_subtag.specs.Bytes.{is_subtag}
 use Rattle.lt_subtag.specs.Shapes.{is_alphabetic, is_language, is_extlang, is_script, is_region, is_variant}
 use Rattle.lt_tag.specs.Parts.{TagForm}
@@ -88,6 +88,11 @@ abbrev pub NumbersRise : List EntryParts → Type 0
 NumbersRise [] = Unit {0}
 NumbersRise (e ∷ es) = AllByRecursion (λ (f : EntryParts). e.number < f.number) es × NumbersRise es
 
+-- a registry: the numbers rise, and each entry has its forms
+pub record IsRegistry (es : List EntryParts) : Type 0 where
+  pub rising : NumbersRise es
+  pub forms : All IsEntry es
+
 abbrev pub is_named : List ℕ → EntryName → Bool
 is_named s (names.Single n) = bytes_eq n s
 is_named s _ = false
@@ -97,14 +102,10 @@ abbrev pub holds : List ℕ → EntryName → Bool
 holds s (names.Range a b) = (length s == length a) && (is_alphabetic s && (letters_le a s && letters_le s b))
 holds s _ = false
 
-abbrev pub or_else : Option EntryParts → Option EntryParts → Option EntryParts
-or_else (Some e) other = Some e
-or_else None other = other
-
 -- the first single record of that name, else the first range that holds it
 abbrev pub entry : List EntryParts → Kind → List ℕ → Option EntryParts
 entry R k s =
-    or_else (find (λ (e : EntryParts). same_kind e.kind k && is_named s e.name) R)
+    option_or (find (λ (e : EntryParts). same_kind e.kind k && is_named s e.name) R)
     (find (λ (e : EntryParts). same_kind e.kind k && holds s e.name) R)
 
 abbrev pub is_registered : List EntryParts → Kind → List ℕ → Bool

@@ -1,5 +1,5 @@
 -- The faults of a tag (RFC 5646, 2.2.9), each a kind and the place of a subtag, counted from 1.
-use Rattle.std.specs.Prelude.{ℕ, ◌≡◌, ◌≤◌, ◌+◌, false, List, [], ◌∷◌, ◌++◌, Some, length, ◌⊎◌}
+use Rattle.std.specs.Prelude.{ℕ, ◌≡◌, ◌≤◌, ◌+◌, false, List, ◌∷◌, ◌++◌, Some, length, ◌⊎◌}
 use Rattle.std.specs.Option.{option_to_list}
 use Rattle.lt_tag.specs.Parts.{CoreParts, ExtensionParts, TForm, TagForm, LangTag, PrivateUse, Grandfathered}
 use Rattle.lt_tag.specs.Spelling.{spell_core, spell_extensions}
@@ -9,6 +9,8 @@ use Rattle.lt_tag.specs.Extensions.{transform, IsTransform}
 use Rattle.lt_registry.specs.declared.entries.Kind.TheVariants as kinds
 use Rattle.lt_registry.specs.declared.faults.ValidFaultKind.{ValidFaultKind}
 use Rattle.lt_registry.specs.declared.faults.ValidFaultKind.TheVariants as faults
+use Rattle.lt_registry.specs.declared.faults.ValidRefusal.{ValidRefusal}
+use Rattle.lt_registry.specs.declared.faults.ValidRefusal.TheVariants as refusals
 
 -- how many subtags stand before the script, the region, the variants
 abbrev pub before_script : CoreParts → ℕ
@@ -110,8 +112,17 @@ rank_of faults.DuplicateVariant = 7
 rank_of faults.DuplicateSingleton = 8
 rank_of faults.BadTransform = 9
 
--- the fault of the least place, and there of the least rank
-pub record IsFirstFault (R : List EntryParts) (t : TagForm) (kind : ValidFaultKind) (place : ℕ) : Type 0 where
-  pub there : HasFault R t kind place
-  pub leftmost : (other : ValidFaultKind) (elsewhere : ℕ) → HasFault R t other elsewhere → place ≤ elsewhere
-  pub earliest : (other : ValidFaultKind) → HasFault R t other place → rank_of kind ≤ rank_of other
+-- of some faults the one of the least place, and there of the least rank
+pub record IsFirstOf (F : ValidFaultKind → ℕ → Type 0) (kind : ValidFaultKind) (place : ℕ) : Type 0 where
+  pub there : F kind place
+  pub leftmost : (other : ValidFaultKind) (elsewhere : ℕ) → F other elsewhere → place ≤ elsewhere
+  pub earliest : (other : ValidFaultKind) → F other place → rank_of kind ≤ rank_of other
+
+-- the fault of a tag that is told
+abbrev pub IsFirstFault : List EntryParts → TagForm → ValidFaultKind → ℕ → Type 0
+IsFirstFault R t kind place = IsFirstOf (HasFault R t) kind place
+
+-- the first fault; or memory was wanting
+abbrev pub IsRefusal : List EntryParts → TagForm → ValidRefusal → Type 0
+IsRefusal R t (refusals.Fault fault) = IsFirstFault R t fault.kind fault.place
+IsRefusal R t refusals.OutOfMemory = Unit {0}

@@ -4,3 +4,7 @@ pub mod Entries
 pub mod Validity
 pub mod Faults
 pub mod Names
+pub mod Checking
+pub mod Records
+pub mod RecordRefusals
+pub mod RecordSteps

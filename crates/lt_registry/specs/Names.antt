@@ -2,6 +2,8 @@
 use Rattle.std.specs.Prelude.{ℕ, List, codes}
 use Rattle.lt_registry.specs.declared.faults.ValidFaultKind.{ValidFaultKind}
 use Rattle.lt_registry.specs.declared.faults.ValidFaultKind.TheVariants as faults
+use Rattle.lt_registry.specs.declared.faults.RecordFaultKind.{RecordFaultKind}
+use Rattle.lt_registry.specs.declared.faults.RecordFaultKind.TheVariants as records
 
 abbrev pub name_of : ValidFaultKind → List ℕ
 name_of faults.UnknownLanguage = codes "UnknownLanguage"
@@ -14,3 +16,15 @@ name_of faults.UnknownVariant = codes "UnknownVariant"
 name_of faults.DuplicateVariant = codes "DuplicateVariant"
 name_of faults.DuplicateSingleton = codes "DuplicateSingleton"
 name_of faults.BadTransform = codes "BadTransform"
+
+abbrev pub record_name_of : RecordFaultKind → List ℕ
+record_name_of records.RepeatedField = codes "RepeatedField"
+record_name_of records.MissingType = codes "MissingType"
+record_name_of records.UnknownType = codes "UnknownType"
+record_name_of records.MissingName = codes "MissingName"
+record_name_of records.BadRange = codes "BadRange"
+record_name_of records.BadSubtag = codes "BadSubtag"
+record_name_of records.BadTag = codes "BadTag"
+record_name_of records.BadPreferred = codes "BadPreferred"
+record_name_of records.BadPrefix = codes "BadPrefix"
+record_name_of records.OutOfMemory = codes "OutOfMemory"

@@ -52,6 +52,14 @@ impl Model for Prefix {
 }
 
 impl Prefix {
+    /// The Prefix of these subtags.
+    pub(crate) fn of_subtags(subtags: Vec<Subtag>) -> Prefix
+        requires { IsPrefix subtags.items }
+        ensures { result ≡ subtags.items }
+    {
+        Prefix { subtags }
+    }
+
     /// The subtags in order. There is at least one.
     pub fn subtags(&self) -> &[Subtag]
         ensures value { result.now ≡ self.now }
@@ -84,6 +92,27 @@ impl Model for Entry {
 }
 
 impl Entry {
+    /// The entry of these parts.
+    pub(crate) fn of_parts(
+        number: u32,
+        kind: Kind,
+        name: EntryName,
+        value: Option<EntryValue>,
+        prefixes: Vec<Prefix>,
+    ) -> Entry
+        requires { IsEntry (record { number = number; kind = kind; name = name; value = value; prefixes = prefixes.items }) }
+        ensures value { result ≡ record { number = number; kind = kind; name = name; value = value; prefixes = prefixes.items } }
+        ensures entry { IsEntry result }
+    {
+        Entry {
+            number,
+            kind,
+            name,
+            value,
+            prefixes,
+        }
+    }
+
     /// The record's number in the file, counted from 1.
     pub fn number(&self) -> u32
         ensures value { result ≡ self.now.number }

@@ -1,7 +1,9 @@
-//! Why a tag is not valid.
+//! Why a tag is not valid, and why a record gives no entry.
 ghost use Rattle.std.specs.Prelude.{◌≡◌};
-ghost use Rattle.lt_registry.specs.Names.{name_of};
+ghost use Rattle.lt_registry.specs.Names.{name_of, record_name_of};
 
+use lt_tag::OutOfMemory;
+use std::alloc::AllocFailed;
 use thiserror::Error;
 
 /// Why a tag is not valid (RFC 5646, 2.2.9).
@@ -64,4 +66,90 @@ pub enum ValidRefusal {
     Fault(ValidFault),
     #[error("OutOfMemory")]
     OutOfMemory,
+}
+
+impl From<ValidFault> for ValidRefusal {
+    ghost use Rattle.std.specs.Prelude.{◌≡◌};
+    ghost use Rattle.lt_registry.specs.declared.faults.ValidRefusal.TheVariants as refusals;
+
+    ghost from_gives = { λ fault refusal. refusal ≡ refusals.Fault fault };
+
+    fn from(fault: ValidFault) -> ValidRefusal {
+        ValidRefusal::Fault(fault)
+    }
+}
+
+/// Why a record gives no entry.
+#[derive(Clone, Copy, Debug, PartialEq, Eq)]
+pub enum RecordFaultKind {
+    /// Type, Subtag, Tag or Preferred-Value stands twice.
+    RepeatedField,
+    /// There is no Type.
+    MissingType,
+    /// The Type is none of the seven.
+    UnknownType,
+    /// There is no Subtag or, for a grandfathered or redundant tag, no Tag.
+    MissingName,
+    /// The Subtag holds two full stops and is no range of its kind.
+    BadRange,
+    /// The Subtag has not the form of its kind.
+    BadSubtag,
+    /// The Tag is not well-formed.
+    BadTag,
+    /// The Preferred-Value has not the form of its kind.
+    BadPreferred,
+    /// A Prefix of an extlang or variant is no list of subtags.
+    BadPrefix,
+    /// No memory was left.
+    OutOfMemory,
+}
+
+impl RecordFaultKind {
+    /// The kind's name, as it is written here.
+    pub fn name(self) -> &'static str
+        ensures { result.now ≡ record_name_of self }
+    {
+        match self {
+            RecordFaultKind::RepeatedField => "RepeatedField",
+            RecordFaultKind::MissingType => "MissingType",
+            RecordFaultKind::UnknownType => "UnknownType",
+            RecordFaultKind::MissingName => "MissingName",
+            RecordFaultKind::BadRange => "BadRange",
+            RecordFaultKind::BadSubtag => "BadSubtag",
+            RecordFaultKind::BadTag => "BadTag",
+            RecordFaultKind::BadPreferred => "BadPreferred",
+            RecordFaultKind::BadPrefix => "BadPrefix",
+            RecordFaultKind::OutOfMemory => "OutOfMemory",
+        }
+    }
+}
+
+impl From<OutOfMemory> for RecordFaultKind {
+    ghost use Rattle.std.specs.Prelude.{◌≡◌};
+    ghost use Rattle.lt_registry.specs.declared.faults.RecordFaultKind.TheVariants as records;
+
+    ghost from_gives = { λ _ kind. kind ≡ records.OutOfMemory };
+
+    fn from(_error: OutOfMemory) -> RecordFaultKind {
+        RecordFaultKind::OutOfMemory
+    }
+}
+
+impl<T: Drop> From<AllocFailed<T>> for RecordFaultKind {
+    ghost use Rattle.std.specs.Prelude.{◌≡◌};
+    ghost use Rattle.lt_registry.specs.declared.faults.RecordFaultKind.TheVariants as records;
+
+    ghost from_gives = { λ _ kind. kind ≡ records.OutOfMemory };
+
+    fn from(_error: AllocFailed<T>) -> RecordFaultKind {
+        RecordFaultKind::OutOfMemory
+    }
+}
+
+/// Why a record gives no entry, and the record's number in the file, counted from 1.
+#[derive(Clone, Copy, Debug, Drop, Error, PartialEq, Eq)]
+#[error("{kind:?} {number}")]
+pub struct RecordFault {
+    pub kind: RecordFaultKind,
+    pub number: u32,
 }

@@ -4,8 +4,22 @@
 
 mod entries;
 mod faults;
+mod fields;
+pub mod laws;
+mod list_table;
 mod lookup;
+mod names;
+mod records;
+mod registry;
+mod same;
+mod validity;
 
 pub use entries::{Entry, EntryName, EntryValue, Kind, Prefix};
-pub use faults::{ValidFault, ValidFaultKind, ValidRefusal};
+pub use faults::{RecordFault, RecordFaultKind, ValidFault, ValidFaultKind, ValidRefusal};
+pub use list_table::ListTable;
 pub use lookup::Lookup;
+pub use registry::Registry;
+pub use validity::{proper, validate};
+
+#[cfg(test)]
+mod tests;

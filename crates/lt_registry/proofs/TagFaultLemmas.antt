@@ -1,0 +1,175 @@
+-- The faults of a tag are those of its core and of its extensions from left to right.
+use Rattle.std.proofs.Common.{◌≡◌, ℕ, ◌+◌, Bool, true, false, ◌||◌, eqb, ◌⊎◌, inl, inr, List, [], ◌∷◌, ◌++◌, length, refl, sym, ap, ◌∙◌, subst, arith, length-append, append_assoc}
+use Rattle.std.specs.Prelude.{Result, Ok, Err, Some}
+use Rattle.std.proofs.lemmas.Bool.{or_cases, eqb-true, eq-eqb}
+use Rattle.lt_tag.specs.Parts.{CoreParts, ExtensionParts, TagForm, LangTag, PrivateUse, Grandfathered}
+use Rattle.lt_tag.specs.Spelling.{spell_core, spell_extensions}
+use Rattle.lt_tag.specs.Values.{core_of, extensions_of}
+use Rattle.lt_registry.specs.Parts.{EntryParts}
+use Rattle.lt_registry.specs.Faults.{IsFirstOf, HasCoreFault, HasExtensionFault, HasFault, IsFaultOfExtension, IsSecondSingleton}
+use Rattle.lt_registry.specs.Checking.{Counted, Tells, TellsOrLacks, ListFault, has_singleton, core_check}
+use Rattle.lt_registry.specs.declared.faults.ValidFault.{ValidFault}
+use Rattle.lt_registry.specs.declared.faults.ValidFaultKind.{ValidFaultKind}
+use Rattle.lt_registry.specs.declared.faults.ValidFaultKind.TheVariants as faults
+use Rattle.lt_registry.specs.declared.faults.ValidRefusal.{ValidRefusal}
+use Rattle.lt_registry.proofs.FirstLemmas.{Or, SameFaults, precede_by, first_same, first_left, tells_or_lacks_same, same_trans, same_back, same_counted, counted_or, same_second}
+use Rattle.lt_registry.proofs.CoreFaultLemmas.{CoreFault, core_tells, core_upto}
+use Rattle.lt_registry.proofs.ExtensionFaultLemmas.{length_core}
+use Rattle.lt_registry.proofs.ListFaultLemmas.{list_from}
+
+-- a singleton that stands among others
+one_singleton : (front : List ExtensionParts) (s : ℕ) → has_singleton front s ≡ true → (b : List ExtensionParts) × (f : ExtensionParts) × (c : List ExtensionParts) × (front ≡ b ++ f ∷ c) × (f.singleton ≡ s)
+one_singleton [] s h = cc
+one_singleton (f ∷ fs) s h =
+    elim (or_cases (eqb f.singleton s) (has_singleton fs s) h) [
+      | inl e ↦ ([], f, fs, refl, eqb-true f.singleton s e)
+      | inr e ↦ let r = one_singleton fs s e in (f ∷ r.0, r.1, r.2, ap (λ ws. f ∷ ws) r.3, r.4)
+    ]
+
+or_true : (b : Bool) → (b || true) ≡ true
+or_true true = refl
+or_true false = refl
+
+singleton_there : (b c : List ExtensionParts) (f : ExtensionParts) (s : ℕ) → f.singleton ≡ s → has_singleton (b ++ f ∷ c) s ≡ true
+singleton_there [] c f s e = ap (λ x. x || has_singleton c s) (eq-eqb f.singleton s e)
+singleton_there (u ∷ b) c f s e = ap (λ x. eqb u.singleton s || x) (singleton_there b c f s e) ∙ or_true (eqb u.singleton s)
+
+append_none : (xs : List ExtensionParts) → xs ++ [] ≡ xs
+append_none [] = refl
+append_none (x ∷ xs) = ap (λ ys. x ∷ ys) (append_none xs)
+
+length_more : (u : ExtensionParts) (front : List ExtensionParts) → length (spell_extensions (u ∷ front)) ≡ 1 + length u.subtags + length (spell_extensions front)
+length_more u front = let a = length-append u.subtags (spell_extensions front) in omega (arith, a)
+
+-- a fault of one of some extensions
+record IsExtensionAt (R : List EntryParts) (here : ℕ) (es : List ExtensionParts) (k : ValidFaultKind) (p : ℕ) : Type 0 where
+  front : List ExtensionParts
+  extension : ExtensionParts
+  after : List ExtensionParts
+  there : es ≡ front ++ extension ∷ after
+  fault : HasExtensionFault R (here + length (spell_extensions front)) extension k p
+
+-- a singleton that stands again
+record IsSecondAt (here : ℕ) (before es : List ExtensionParts) (p : ℕ) : Type 0 where
+  front : List ExtensionParts
+  extension : ExtensionParts
+  after : List ExtensionParts
+  there : es ≡ front ++ extension ∷ after
+  placed : p ≡ here + length (spell_extensions front)
+  again : has_singleton (before ++ front) extension.singleton ≡ true
+
+moved : (R : List EntryParts) (m n : ℕ) (e : ExtensionParts) (k : ValidFaultKind) (p : ℕ) → m ≡ n → HasExtensionFault R m e k p → HasExtensionFault R n e k p
+moved R m n e k p same f = subst (λ z. HasExtensionFault R z e k p) same f
+
+shown : (R : List EntryParts) (here : ℕ) (before es : List ExtensionParts) (k : ValidFaultKind) (p : ℕ) → ListFault R here before es k p → IsExtensionAt R here es k p ⊎ ((k ≡ faults.DuplicateSingleton) × IsSecondAt here before es p)
+unfolding ListFault
+shown R here before [] k p f = absurd f
+shown R here before (e ∷ after) k p (inl (inl d)) =
+    inr (d.0, record { front = []; extension = e; after = after; there = refl; placed = omega (arith, d.1); again = ap (λ bs. has_singleton bs e.singleton) (append_none before) ∙ d.2 })
+shown R here before (e ∷ after) k p (inl (inr f)) =
+    inl (record { front = []; extension = e; after = after; there = refl; fault = moved R here (here + 0) e k p (omega arith) f })
+shown R here before (e ∷ after) k p (inr f) =
+    elim (shown R (here + (1 + length e.subtags)) (before ++ e ∷ []) after k p f) [
+      | inl a ↦
+          let long = length_more e a.front in
+          inl (record { front = e ∷ a.front; extension = a.extension; after = a.after; there = ap (λ ws. e ∷ ws) a.there; fault = moved R (here + (1 + length e.subtags) + length (spell_extensions a.front)) (here + length (spell_extensions (e ∷ a.front))) a.extension k p (omega (arith, long)) a.fault })
+      | inr a ↦
+          let long = length_more e a.1.front in
+          let again = ap (λ bs. has_singleton bs a.1.extension.singleton) (sym (append_assoc before (e ∷ []) a.1.front)) ∙ a.1.again in
+          inr (a.0, record { front = e ∷ a.1.front; extension = a.1.extension; after = a.1.after; there = ap (λ ws. e ∷ ws) a.1.there; placed = omega (arith, long, a.1.placed); again = again })
+    ]
+
+extension_hidden : (R : List EntryParts) (here : ℕ) (before front : List ExtensionParts) (e : ExtensionParts) (after : List ExtensionParts) (k : ValidFaultKind) (p : ℕ) → HasExtensionFault R (here + length (spell_extensions front)) e k p → ListFault R here before (front ++ e ∷ after) k p
+unfolding ListFault
+extension_hidden R here before [] e after k p f = inl (inr (moved R (here + 0) here e k p (omega arith) f))
+extension_hidden R here before (u ∷ front) e after k p f =
+    let long = length_more u front in
+    inr (extension_hidden R (here + (1 + length u.subtags)) (before ++ u ∷ []) front e after k p
+    (moved R (here + length (spell_extensions (u ∷ front))) (here + (1 + length u.subtags) + length (spell_extensions front)) e k p (omega (arith, long)) f))
+
+second_hidden : (R : List EntryParts) (here : ℕ) (before front : List ExtensionParts) (e : ExtensionParts) (after : List ExtensionParts) (p : ℕ) → p ≡ here + length (spell_extensions front) → has_singleton (before ++ front) e.singleton ≡ true → ListFault R here before (front ++ e ∷ after) faults.DuplicateSingleton p
+unfolding ListFault
+second_hidden R here before [] e after p placed again = inl (inl (refl, omega (arith, placed), ap (λ bs. has_singleton bs e.singleton) (sym (append_none before)) ∙ again))
+second_hidden R here before (u ∷ front) e after p placed again =
+    let long = length_more u front in
+    inr (second_hidden R (here + (1 + length u.subtags)) (before ++ u ∷ []) front e after p (omega (arith, placed, long)) (ap (λ bs. has_singleton bs e.singleton) (append_assoc before (u ∷ []) front) ∙ again))
+
+module _ (R : List EntryParts) (c : CoreParts) (es : List ExtensionParts) where
+  abbrev pub first : ℕ
+  first = length (spell_core c) + 1
+
+  abbrev pub Extensions : ValidFaultKind → ℕ → Type 0
+  Extensions k p = IsFaultOfExtension R c es k p ⊎ ((k ≡ faults.DuplicateSingleton) × IsSecondSingleton c es p)
+
+  list_shown : (k : ValidFaultKind) (p : ℕ) → ListFault R first [] es k p → Extensions k p
+  list_shown k p f =
+      elim (shown R first [] es k p f) [
+        | inl a ↦ inl (record { before = a.front; extension = a.extension; after = a.after; there = a.there; fault = moved R (first + length (spell_extensions a.front)) (length (spell_core c) + length (spell_extensions a.front) + 1) a.extension k p (omega arith) a.fault })
+        | inr a ↦
+            let at = one_singleton a.1.front a.1.extension.singleton a.1.again in
+            let split : es ≡ at.0 ++ at.1 ∷ (at.2 ++ a.1.extension ∷ a.1.after) = a.1.there ∙ ap (λ ws. ws ++ a.1.extension ∷ a.1.after) at.3 ∙ append_assoc at.0 (at.1 ∷ at.2) (a.1.extension ∷ a.1.after) in
+            let long : length (spell_extensions a.1.front) ≡ length (spell_extensions (at.0 ++ at.1 ∷ at.2)) = ap (λ ws. length (spell_extensions ws)) at.3 in
+            inr (a.0, record { before = at.0; first = at.1; between = at.2; second = a.1.extension; after = a.1.after; there = split; alike = at.4; here = omega (arith, long, a.1.placed) })
+      ]
+
+  list_hidden : (k : ValidFaultKind) (p : ℕ) → Extensions k p → ListFault R first [] es k p
+  list_hidden k p (inl a) =
+      subst (λ z. ListFault R first [] z k p) (sym a.there)
+      (extension_hidden R first [] a.before a.extension a.after k p (moved R (length (spell_core c) + length (spell_extensions a.before) + 1) (first + length (spell_extensions a.before)) a.extension k p (omega arith) a.fault))
+  list_hidden k p (inr a) =
+      let split : es ≡ (a.1.before ++ a.1.first ∷ a.1.between) ++ a.1.second ∷ a.1.after = a.1.there ∙ sym (append_assoc a.1.before (a.1.first ∷ a.1.between) (a.1.second ∷ a.1.after)) in
+      subst (λ z. ListFault R first [] z k p) (sym split)
+      (subst (λ z. ListFault R first [] ((a.1.before ++ a.1.first ∷ a.1.between) ++ a.1.second ∷ a.1.after) z p) (sym a.0)
+      (second_hidden R first [] (a.1.before ++ a.1.first ∷ a.1.between) a.1.second a.1.after p (omega (arith, a.1.here)) (singleton_there a.1.before a.1.between a.1.first a.1.second.singleton a.1.alike)))
+
+  same_list_faults : SameFaults (ListFault R first [] es) Extensions
+  same_list_faults = record { there = list_shown; back = list_hidden }
+
+  parted : SameFaults (Or (HasCoreFault R 0 c) (ListFault R first [] es)) (Or (HasCoreFault R 0 c) Extensions)
+  parted = record {
+    there = λ k p f. elim f [ inl h ↦ inl h | inr h ↦ inr (list_shown k p h) ];
+    back = λ k p f. elim f [ inl h ↦ inl h | inr h ↦ inr (list_hidden k p h) ];
+  }
+
+  module _ (r : Bool) where
+    abbrev CoreList : ValidFaultKind → ℕ → Type 0
+    CoreList = Or (CoreFault R r 0 c) (Counted r (ListFault R first [] es))
+
+    abbrev TagFault : ValidFaultKind → ℕ → Type 0
+    TagFault = Counted r (Or (HasCoreFault R 0 c) Extensions)
+
+    both_parts : SameFaults CoreList TagFault
+    both_parts =
+        same_trans CoreList (Counted r (Or (HasCoreFault R 0 c) (ListFault R first [] es))) TagFault (counted_or r (HasCoreFault R 0 c) (ListFault R first [] es))
+        (same_counted r (Or (HasCoreFault R 0 c) (ListFault R first [] es)) (Or (HasCoreFault R 0 c) Extensions) parted)
+
+    core_first : (fault : ValidFault) → core_check R r 0 c ≡ Err fault → IsFirstOf TagFault fault.kind fault.place
+    core_first fault told =
+        let long = length_core c in
+        first_same CoreList TagFault fault.kind fault.place both_parts
+        (first_left (CoreFault R r 0 c) (Counted r (ListFault R first [] es)) fault.kind fault.place
+        (precede_by (CoreFault R r 0 c) (Counted r (ListFault R first [] es)) (length (spell_core c))
+        (λ k p f. let l = core_upto R r 0 c k p f in omega (arith, l, long))
+        (λ k p f. let l = list_from R first [] es k p f.0 in omega (arith, l)))
+        (subst (Tells (CoreFault R r 0 c)) told (core_tells R r 0 c)))
+
+    extensions_told : (a : Result (Unit {0}) ValidRefusal) → core_check R r 0 c ≡ Ok tt → TellsOrLacks (Counted r (ListFault R first [] es)) a → TellsOrLacks TagFault a
+    extensions_told a told t =
+        let none : (k : ValidFaultKind) (p : ℕ) → CoreFault R r 0 c k p → ⊥ = subst (Tells (CoreFault R r 0 c)) told (core_tells R r 0 c) in
+        tells_or_lacks_same (Counted r (ListFault R first [] es)) TagFault a
+        (same_trans (Counted r (ListFault R first [] es)) CoreList TagFault (same_back CoreList (Counted r (ListFault R first [] es)) (same_second (CoreFault R r 0 c) (Counted r (ListFault R first [] es)) none)) both_parts) t
+
+-- what the check of a langtag tells
+pub tag_core_first : (R : List EntryParts) (r : Bool) (t : TagForm) (c : CoreParts) (fault : ValidFault) → Some c ≡ core_of t → core_check R r 0 c ≡ Err fault → IsFirstOf (Counted r (HasFault R t)) fault.kind fault.place
+tag_core_first R r (LangTag d es ps) c fault is told =
+    let same : c ≡ d = cc in
+    core_first R d es r fault (ap (core_check R r 0) (sym same) ∙ told)
+tag_core_first R r (PrivateUse ps) c fault is told = cc
+tag_core_first R r (Grandfathered n) c fault is told = cc
+
+pub tag_extensions_told : (R : List EntryParts) (r : Bool) (t : TagForm) (c : CoreParts) (a : Result (Unit {0}) ValidRefusal) → Some c ≡ core_of t → core_check R r 0 c ≡ Ok tt → TellsOrLacks (Counted r (ListFault R (length (spell_core c) + 1) [] (extensions_of t))) a → TellsOrLacks (Counted r (HasFault R t)) a
+tag_extensions_told R r (LangTag d es ps) c a is told t =
+    let same : c ≡ d = cc in
+    extensions_told R d es r a (ap (core_check R r 0) (sym same) ∙ told) (subst (λ z. TellsOrLacks (Counted r (ListFault R (length (spell_core z) + 1) [] es)) a) same t)
+tag_extensions_told R r (PrivateUse ps) c a is told t = cc
+tag_extensions_told R r (Grandfathered n) c a is told t = cc

@@ -1,0 +1,8 @@
+use Rattle.std.proofs.Common.{◌≡◌, take, drop}
+use Rattle.lt_registry.specs.Records.{ends_of}
+use Rattle.lt_registry.proofs.ScanLemmas.{behind}
+use Rattle.lt_registry.proofs.fields.ends_of.Given as goal
+
+-- no two full stops so far
+abbrev pub invariant-loop-index : goal.invariant-loop-index
+invariant-loop-index l = ends_of l.text ≡ behind (take l.index l.text) (ends_of (drop l.index l.text))

@@ -1,0 +1,12 @@
+use Rattle.std.proofs.Common.{◌≡◌, length}
+use Rattle.lt_tag.specs.Lists.{pieces}
+use Rattle.lt_registry.specs.Records.{subtags_of}
+use Rattle.lt_registry.proofs.ScanLemmas.{after}
+use Rattle.lt_registry.proofs.fields.read_prefix.Given as goal
+
+-- the subtags so far stand before those of the rest
+abbrev pub invariant-pieces : goal.invariant-pieces
+invariant-pieces l = subtags_of (pieces l.fn.text) ≡ after l.subtags.items (subtags_of (pieces l.rest))
+
+abbrev pub decreases-pieces : goal.decreases-pieces
+decreases-pieces l = length l.rest

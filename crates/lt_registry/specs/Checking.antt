@@ -1,0 +1,110 @@
+-- The first fault of a core, looked for from left to right. No public contract cites this; it is shown to
+-- agree with the relations of Faults.
+use Rattle.std.specs.Prelude.{ℕ, ◌≡◌, ◌≢◌, ◌+◌, Bool, true, false, not, ◌||◌, List, [], ◌∷◌, ◌++◌, length, Option, Some, None, Result, Ok, Err, bytes_eq, ◌==◌, ◌⊎◌}
+use Rattle.std.specs.List.{list_any}
+use Rattle.lt_tag.specs.Parts.{CoreParts, ExtensionParts}
+use Rattle.lt_registry.specs.Parts.{EntryParts}
+use Rattle.lt_registry.specs.Entries.{entry, is_registered, lists}
+use Rattle.lt_registry.specs.Faults.{IsFirstOf, HasExtensionFault, before_script, before_region, before_variants}
+use Rattle.lt_registry.specs.declared.entries.Kind.{Kind}
+use Rattle.lt_registry.specs.declared.entries.Kind.TheVariants as kinds
+use Rattle.lt_registry.specs.declared.faults.ValidFault.{ValidFault}
+use Rattle.lt_registry.specs.declared.faults.ValidFaultKind.{ValidFaultKind}
+use Rattle.lt_registry.specs.declared.faults.ValidFaultKind.TheVariants as faults
+use Rattle.lt_registry.specs.declared.faults.ValidRefusal.{ValidRefusal}
+use Rattle.lt_registry.specs.declared.faults.ValidRefusal.TheVariants as refusals
+
+-- nothing, or a fault
+abbrev pub Check : Type 0
+Check = Result (Unit {0}) ValidFault
+
+-- the fault unless the test holds
+abbrev pub unless : Bool → ValidFaultKind → ℕ → Check
+unless true kind place = Ok tt
+unless false kind place = Err (record { kind = kind; place = place })
+
+-- the first fault of one check, else that of the next
+abbrev pub and_then : Check → Check → Check
+and_then (Ok done) next = next
+and_then (Err fault) next = Err fault
+
+abbrev pub language_check : List EntryParts → ℕ → List ℕ → Check
+language_check R start l = unless (is_registered R kinds.Language l) faults.UnknownLanguage (start + 1)
+
+abbrev pub prefix_check : ℕ → List ℕ → Option EntryParts → Check
+prefix_check start l None = Err (record { kind = faults.UnknownExtlang; place = start + 2 })
+prefix_check start l (Some e) = unless (lists e.prefixes l) faults.ExtlangPrefix (start + 2)
+
+abbrev pub second_check : ℕ → List (List ℕ) → Check
+second_check start [] = Ok tt
+second_check start (x ∷ rest) = Err (record { kind = faults.TooManyExtlangs; place = start + 3 })
+
+abbrev pub extlangs_check : List EntryParts → ℕ → List ℕ → List (List ℕ) → Check
+extlangs_check R start l [] = Ok tt
+extlangs_check R start l (x ∷ rest) = and_then (prefix_check start l (entry R kinds.Extlang x)) (second_check start rest)
+
+-- a script or a region
+abbrev pub part_check : List EntryParts → Kind → ValidFaultKind → ℕ → Option (List ℕ) → Check
+part_check R kind fault place None = Ok tt
+part_check R kind fault place (Some s) = unless (is_registered R kind s) fault place
+
+abbrev pub stands_in : List (List ℕ) → List ℕ → Bool
+stands_in before v = list_any (λ u. bytes_eq u v) before
+
+-- a variant behind others
+abbrev pub variant_check : List EntryParts → Bool → ℕ → List (List ℕ) → List ℕ → Check
+variant_check R may_repeat place before v =
+    and_then (unless (is_registered R kinds.Variant v) faults.UnknownVariant place)
+    (unless (may_repeat || not (stands_in before v)) faults.DuplicateVariant place)
+
+-- the variants from a place on, behind others
+unfoldable pub variants_check : List EntryParts → Bool → ℕ → List (List ℕ) → List (List ℕ) → Check
+variants_check R may_repeat place before [] = Ok tt
+variants_check R may_repeat place before (v ∷ after) =
+    and_then (variant_check R may_repeat place before v)
+    (variants_check R may_repeat (place + 1) (before ++ v ∷ []) after)
+
+-- a core that begins after so many subtags
+unfoldable pub core_check : List EntryParts → Bool → ℕ → CoreParts → Check
+core_check R may_repeat start c =
+    and_then (language_check R start c.language)
+    (and_then (extlangs_check R start c.language c.extlangs)
+    (and_then (part_check R kinds.Script faults.UnknownScript (start + before_script c + 1) c.script)
+    (and_then (part_check R kinds.Region faults.UnknownRegion (start + before_region c + 1) c.region)
+    (variants_check R may_repeat (start + before_variants c + 1) [] c.variants))))
+
+-- the source of a t extension whose singleton stands at a place
+abbrev pub source_check : List EntryParts → Bool → ℕ → Option CoreParts → Check
+source_check R may_repeat place None = Ok tt
+source_check R may_repeat place (Some c) = core_check R may_repeat place c
+
+abbrev pub has_singleton : List ExtensionParts → ℕ → Bool
+has_singleton es s = list_any (λ (e : ExtensionParts). e.singleton == s) es
+
+-- the faults of an extension whose singleton stands at a place, behind others
+abbrev pub HeadFault : List EntryParts → ℕ → List ExtensionParts → ExtensionParts → ValidFaultKind → ℕ → Type 0
+HeadFault R here before e kind place =
+    ((kind ≡ faults.DuplicateSingleton) × (place ≡ here) × (has_singleton before e.singleton ≡ true))
+    ⊎ HasExtensionFault R here e kind place
+
+-- the faults of extensions of which the first has its singleton at a place, behind others
+unfoldable pub ListFault : List EntryParts → ℕ → List ExtensionParts → List ExtensionParts → ValidFaultKind → ℕ → Type 0
+ListFault R here before [] kind place = ⊥
+ListFault R here before (e ∷ after) kind place =
+    HeadFault R here before e kind place
+    ⊎ ListFault R (here + (1 + length e.subtags)) (before ++ e ∷ []) after kind place
+
+-- faults, those aside that a variant stands twice where variants may repeat
+abbrev pub Counted : Bool → (ValidFaultKind → ℕ → Type 0) → ValidFaultKind → ℕ → Type 0
+Counted may_repeat F kind place = F kind place × (may_repeat ≡ true → kind ≢ faults.DuplicateVariant)
+
+-- there is no fault, or the first one is told
+abbrev pub Tells : (ValidFaultKind → ℕ → Type 0) → Check → Type 0
+Tells F (Ok done) = (kind : ValidFaultKind) (place : ℕ) → F kind place → ⊥
+Tells F (Err fault) = IsFirstOf F fault.kind fault.place
+
+-- the same, but that memory may be wanting
+abbrev pub TellsOrLacks : (ValidFaultKind → ℕ → Type 0) → Result (Unit {0}) ValidRefusal → Type 0
+TellsOrLacks F (Ok done) = (kind : ValidFaultKind) (place : ℕ) → F kind place → ⊥
+TellsOrLacks F (Err (refusals.Fault fault)) = IsFirstOf F fault.kind fault.place
+TellsOrLacks F (Err refusals.OutOfMemory) = Unit {0}

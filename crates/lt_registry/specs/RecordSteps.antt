@@ -1,0 +1,94 @@
+-- What each step of reading a record gives. No public contract cites this.
+use Rattle.std.specs.Prelude.{ℕ, ◌≡◌, true, false, List, Option, Some, None, Result, Ok, Err}
+use Rattle.lt_tag.specs.Parts.{TagForm}
+use Rattle.lt_tag.specs.Faults.{HasTag}
+use Rattle.lt_jar.specs.Records.{Field}
+use Rattle.lt_registry.specs.Entries.{is_whole_kind}
+use Rattle.lt_registry.specs.Records.{body, subtag_name, tag_name, value_name, kind_of, name_field, subtags_named, HasNoTag, IsName, IsValue, prefixes_in, prefixes_of, bodies, prefix_name}
+use Rattle.lt_registry.specs.declared.entries.Kind.{Kind}
+use Rattle.lt_registry.specs.declared.entries.EntryName.{EntryName}
+use Rattle.lt_registry.specs.declared.entries.EntryValue.{EntryValue}
+use Rattle.lt_registry.specs.declared.faults.RecordFaultKind.{RecordFaultKind}
+use Rattle.lt_registry.specs.declared.faults.RecordFaultKind.TheVariants as faults
+
+abbrev pub kind_or : Option Kind → Result Kind RecordFaultKind
+kind_or (Some k) = Ok k
+kind_or None = Err faults.UnknownType
+
+abbrev pub kind_by : Option (List ℕ) → Result Kind RecordFaultKind
+kind_by (Some s) = kind_or (kind_of s)
+kind_by None = Err faults.MissingType
+
+-- the name that a record of a kind has
+abbrev pub IsNameIn : Kind → List Field → EntryName → Type 0
+IsNameIn k r name = (s : List ℕ) × (body (name_field k) r ≡ Some s) × IsName k s name
+
+-- what is wrong with the name of a record of a kind
+abbrev pub IsNameFault : Kind → List Field → RecordFaultKind → Type 0
+IsNameFault k r faults.RepeatedField = ⊥
+IsNameFault k r faults.MissingType = ⊥
+IsNameFault k r faults.UnknownType = ⊥
+IsNameFault k r faults.MissingName = body (name_field k) r ≡ None
+IsNameFault k r faults.BadRange = (s : List ℕ) × (is_whole_kind k ≡ false) × (body subtag_name r ≡ Some s) × (subtags_named k s ≡ Err faults.BadRange)
+IsNameFault k r faults.BadSubtag = (s : List ℕ) × (is_whole_kind k ≡ false) × (body subtag_name r ≡ Some s) × (subtags_named k s ≡ Err faults.BadSubtag)
+IsNameFault k r faults.BadTag = (s : List ℕ) × (is_whole_kind k ≡ true) × (body tag_name r ≡ Some s) × HasNoTag s
+IsNameFault k r faults.BadPreferred = ⊥
+IsNameFault k r faults.BadPrefix = ⊥
+IsNameFault k r faults.OutOfMemory = Unit {0}
+
+-- what is wrong with the text of a value
+abbrev pub IsTextFault : Kind → List ℕ → RecordFaultKind → Type 0
+IsTextFault k s faults.BadPreferred = (v : EntryValue) → IsValue k s v → ⊥
+IsTextFault k s faults.OutOfMemory = Unit {0}
+IsTextFault k s faults.RepeatedField = ⊥
+IsTextFault k s faults.MissingType = ⊥
+IsTextFault k s faults.UnknownType = ⊥
+IsTextFault k s faults.MissingName = ⊥
+IsTextFault k s faults.BadRange = ⊥
+IsTextFault k s faults.BadSubtag = ⊥
+IsTextFault k s faults.BadTag = ⊥
+IsTextFault k s faults.BadPrefix = ⊥
+
+-- what is wrong with its value
+abbrev pub IsValueFault : Kind → List Field → RecordFaultKind → Type 0
+IsValueFault k r faults.BadPreferred = (s : List ℕ) × (body value_name r ≡ Some s) × ((v : EntryValue) → IsValue k s v → ⊥)
+IsValueFault k r faults.OutOfMemory = Unit {0}
+IsValueFault k r faults.RepeatedField = ⊥
+IsValueFault k r faults.MissingType = ⊥
+IsValueFault k r faults.UnknownType = ⊥
+IsValueFault k r faults.MissingName = ⊥
+IsValueFault k r faults.BadRange = ⊥
+IsValueFault k r faults.BadSubtag = ⊥
+IsValueFault k r faults.BadTag = ⊥
+IsValueFault k r faults.BadPrefix = ⊥
+
+-- what is wrong with its Prefixes
+abbrev pub IsPrefixFault : Kind → List Field → RecordFaultKind → Type 0
+IsPrefixFault k r faults.BadPrefix = prefixes_in k r ≡ None
+IsPrefixFault k r faults.OutOfMemory = Unit {0}
+IsPrefixFault k r faults.RepeatedField = ⊥
+IsPrefixFault k r faults.MissingType = ⊥
+IsPrefixFault k r faults.UnknownType = ⊥
+IsPrefixFault k r faults.MissingName = ⊥
+IsPrefixFault k r faults.BadRange = ⊥
+IsPrefixFault k r faults.BadSubtag = ⊥
+IsPrefixFault k r faults.BadTag = ⊥
+IsPrefixFault k r faults.BadPreferred = ⊥
+
+-- a Prefix is no list of subtags
+abbrev pub IsPrefixesFault : List Field → RecordFaultKind → Type 0
+IsPrefixesFault r faults.BadPrefix = prefixes_of (bodies prefix_name r) ≡ None
+IsPrefixesFault r faults.OutOfMemory = Unit {0}
+IsPrefixesFault r faults.RepeatedField = ⊥
+IsPrefixesFault r faults.MissingType = ⊥
+IsPrefixesFault r faults.UnknownType = ⊥
+IsPrefixesFault r faults.MissingName = ⊥
+IsPrefixesFault r faults.BadRange = ⊥
+IsPrefixesFault r faults.BadSubtag = ⊥
+IsPrefixesFault r faults.BadTag = ⊥
+IsPrefixesFault r faults.BadPreferred = ⊥
+
+-- the tag of a text, or none
+abbrev pub IsTagOf : List ℕ → Option TagForm → Type 0
+IsTagOf s None = HasNoTag s
+IsTagOf s (Some t) = HasTag s t

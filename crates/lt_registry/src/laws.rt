@@ -1,0 +1,43 @@
+//! What follows from the definitions alone. Nothing is computed here: each contract is a law.
+ghost use Rattle.std.specs.Prelude.{ℕ, ◌≡◌, ◌↔◌, List};
+ghost use Rattle.lt_tag.specs.Parts.{TagForm};
+ghost use Rattle.lt_tag.specs.Values.{IsTagValue};
+ghost use Rattle.lt_registry.specs.Parts.{EntryParts};
+ghost use Rattle.lt_registry.specs.Validity.{IsValid, IsProper};
+ghost use Rattle.lt_registry.specs.Faults.{HasNoFault, RepeatsAtMost, IsFirstFault};
+ghost use Rattle.lt_jar.specs.Records.{Field};
+ghost use Rattle.lt_registry.specs.Records.{HasEntries, HasFaultAt, IsFirstRecordFault};
+ghost use Rattle.lt_registry.specs.declared.faults.ValidFaultKind.{ValidFaultKind};
+ghost use Rattle.lt_registry.specs.declared.faults.RecordFaultKind.{RecordFaultKind};
+
+/// A tag is valid exactly if it has no fault.
+pub fn valid_is_faultless()
+    ensures { (R : List EntryParts) (t : TagForm) → IsTagValue t → IsValid R t ↔ HasNoFault R t }
+{}
+
+/// A tag is proper exactly if it has no fault but that variants repeat.
+pub fn proper_repeats_at_most()
+    ensures { (R : List EntryParts) (t : TagForm) → IsTagValue t → IsProper R t ↔ RepeatsAtMost R t }
+{}
+
+/// One fault of a tag is told.
+pub fn one_first_fault()
+    ensures { (R : List EntryParts) (t : TagForm) (k l : ValidFaultKind) (p q : ℕ) → IsFirstFault R t k p → IsFirstFault R t l q → (k ≡ l) × (p ≡ q) }
+{}
+
+/// Records give one list of entries.
+pub fn one_list_of_entries()
+    ensures { (records : List (List Field)) (a b : List EntryParts) → HasEntries records a → HasEntries records b → a ≡ b }
+{}
+
+/// Records of which one has a fault give no entries.
+pub fn fault_or_entries()
+    ensures { (records : List (List Field)) (entries : List EntryParts) (kind : RecordFaultKind) (number : ℕ)
+        → HasEntries records entries → HasFaultAt records kind number → ⊥ }
+{}
+
+/// One fault of some records is told.
+pub fn one_first_record_fault()
+    ensures { (records : List (List Field)) (k l : RecordFaultKind) (m n : ℕ)
+        → IsFirstRecordFault records k m → IsFirstRecordFault records l n → (k ≡ l) × (m ≡ n) }
+{}

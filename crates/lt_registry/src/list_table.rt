@@ -1,0 +1,105 @@
+//! A table that looks at one entry after another.
+ghost use Rattle.std.specs.Prelude.{◌≡◌, ◌&&◌, find};
+ghost use Rattle.std.specs.Option.{option_copied};
+ghost use Rattle.lt_registry.specs.Parts.{EntryParts};
+ghost use Rattle.lt_registry.specs.Same as same;
+ghost use Rattle.lt_registry.specs.Entries as forms;
+
+use crate::entries::{Entry, EntryName, Kind};
+use crate::lookup::Lookup;
+use crate::names::{is_alphabetic, is_up_to};
+use crate::registry::Registry;
+use crate::same::{same_kind, same_tag};
+use lt_subtag::Subtag;
+use lt_tag::Tag;
+use std::marker::Model;
+
+/// A table that looks at one entry after another.
+#[derive(Debug, Drop)]
+pub struct ListTable {
+    registry: Registry,
+}
+
+impl Model for ListTable {
+    ghost use Rattle.std.specs.Prelude.{List};
+    ghost use Rattle.lt_registry.specs.Parts.{EntryParts};
+
+    ghost Value = { List EntryParts };
+
+    ghost view = { λ t. t.registry };
+}
+
+impl ListTable {
+    /// The table of a registry's entries.
+    pub fn new(registry: Registry) -> ListTable
+        ensures { result ≡ registry }
+    {
+        ListTable { registry }
+    }
+}
+
+impl Lookup for ListTable {
+    ghost listed = { λ t. t };
+
+    fn entries(&self) -> &[Entry] {
+        self.registry.entries()
+    }
+
+    fn entry(&self, kind: Kind, subtag: &Subtag) -> Option<&Entry> {
+        let entries = self.registry.entries();
+        single(entries, kind, subtag).or(range(entries, kind, subtag))
+    }
+
+    fn whole(&self, tag: &Tag) -> Option<&Entry> {
+        self.registry
+            .entries()
+            .iter()
+            .find(|entry| is_whole(entry.name(), tag))
+    }
+}
+
+/// The first record of a kind that names a subtag alone.
+fn single<'a>(entries: &'a [Entry], kind: Kind, subtag: &Subtag) -> Option<&'a Entry>
+    ensures { option_copied result ≡ find (λ (e : EntryParts). same.same_kind e.kind kind && forms.is_named subtag.now e.name) entries.now }
+{
+    entries.iter().find(|entry| same_kind(entry.kind(), kind) && is_named(entry.name(), subtag))
+}
+
+/// The first range of a kind that holds a subtag.
+fn range<'a>(entries: &'a [Entry], kind: Kind, subtag: &Subtag) -> Option<&'a Entry>
+    ensures { option_copied result ≡ find (λ (e : EntryParts). same.same_kind e.kind kind && forms.holds subtag.now e.name) entries.now }
+{
+    entries.iter().find(|entry| same_kind(entry.kind(), kind) && holds(entry.name(), subtag))
+}
+
+fn is_named(name: &EntryName, subtag: &Subtag) -> bool
+    ensures { result ≡ forms.is_named subtag.now name.now }
+{
+    match name {
+        EntryName::Single(single) => single == subtag,
+        _ => false,
+    }
+}
+
+fn holds(name: &EntryName, subtag: &Subtag) -> bool
+    ensures { result ≡ forms.holds subtag.now name.now }
+{
+    match name {
+        EntryName::Range(first, last) => {
+            subtag.bytes().len() == first.bytes().len()
+                && is_alphabetic(subtag)
+                && is_up_to(first, subtag)
+                && is_up_to(subtag, last)
+        }
+        _ => false,
+    }
+}
+
+fn is_whole(name: &EntryName, tag: &Tag) -> bool
+    ensures { result ≡ forms.is_whole tag.now name.now }
+{
+    match name {
+        EntryName::Whole(whole) => same_tag(whole, tag),
+        _ => false,
+    }
+}

@@ -1,0 +1,24 @@
+//! Letters and their order, for ranges.
+ghost use Rattle.std.specs.Prelude.{◌≡◌};
+ghost use Rattle.lt_subtag.specs.Shapes as shapes;
+ghost use Rattle.lt_registry.specs.Entries as forms;
+
+use lt_subtag::Subtag;
+use std::cmp::Ordering;
+
+/// Letters alone.
+pub(crate) fn is_alphabetic(subtag: &Subtag) -> bool
+    ensures { result ≡ shapes.is_alphabetic subtag.now }
+{
+    subtag.bytes().iter().all(|byte| byte.is_ascii_lowercase())
+}
+
+/// Whether the first is the other or stands before it in letter order.
+pub(crate) fn is_up_to(first: &Subtag, other: &Subtag) -> bool
+    ensures { result ≡ forms.letters_le first.now other.now }
+{
+    match first.cmp(other) {
+        Ordering::Less | Ordering::Equal => true,
+        Ordering::Greater => false,
+    }
+}

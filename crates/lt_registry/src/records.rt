@@ -1,0 +1,259 @@
+//! The entry that a record gives (RFC 5646, 3.1).
+ghost use Rattle.std.specs.Prelude.{◌≡◌, IfOk, IfErr, IfSome, true, false};
+ghost use Rattle.std.specs.List.{AllByRecursion};
+ghost use Rattle.lt_subtag.specs.Reading.{subtag_of};
+ghost use Rattle.lt_tag.specs.Values.{IsTagValue};
+ghost use Rattle.lt_registry.specs.Entries.{FitsName, FitsValue, IsPrefix, IsEntry};
+ghost use Rattle.lt_registry.specs.Entries as entry_words;
+ghost use Rattle.lt_registry.specs.Records as record_words;
+ghost use Rattle.lt_registry.specs.Records.{IsEntryOf, IsValue, IsValueOf};
+ghost use Rattle.lt_registry.specs.RecordSteps as steps;
+ghost use Rattle.lt_registry.specs.RecordSteps.{IsNameFault, IsValueFault, IsPrefixFault, IsTagOf};
+ghost use Rattle.lt_registry.specs.RecordRefusals.{IsRefused};
+
+use crate::entries::{Entry, EntryName, EntryValue, Kind, Prefix};
+use crate::faults::RecordFaultKind;
+use crate::fields::{body, ends_of, is_called, kind_of, read_prefix, repeats_field};
+use crate::names::{is_alphabetic, is_up_to};
+use lt_jar::Record;
+use lt_subtag::Subtag;
+use lt_tag::{OutOfMemory, Tag, TagFaultKind, read_tag};
+use std::alloc::Global;
+
+/// The entry of a record, which has this number in the file; or the first of what is wrong with it.
+pub(crate) fn read_entry(
+    alloc: Global,
+    record: &Record,
+    number: u32,
+) -> Result<Entry, RecordFaultKind>
+    ensures ok { IfOk result (IsEntryOf «record».now number) }
+    ensures forms { IfOk result IsEntry }
+    ensures err { IfErr result (IsRefused «record».now) }
+{
+    if repeats_field(record) {
+        return Err(RecordFaultKind::RepeatedField);
+    }
+    let kind = read_kind(record)?;
+    let name = read_name(alloc, kind, record)?;
+    let value = read_value(alloc, kind, record)?;
+    let prefixes = read_prefixes(alloc, kind, record)?;
+    Ok(Entry::of_parts(number, kind, name, value, prefixes))
+}
+
+fn read_kind(record: &Record) -> Result<Kind, RecordFaultKind>
+    ensures { result ≡ steps.kind_by (record_words.body record_words.type_name «record».now) }
+{
+    match body(record, "Type") {
+        Some(text) => kind_of(text).ok_or(RecordFaultKind::UnknownType),
+        None => Err(RecordFaultKind::MissingType),
+    }
+}
+
+/// Grandfathered and redundant tags are named by a Tag.
+fn is_whole_kind(kind: Kind) -> bool
+    ensures { result ≡ entry_words.is_whole_kind kind }
+{
+    match kind {
+        Kind::Grandfathered | Kind::Redundant => true,
+        Kind::Language | Kind::Extlang | Kind::Script | Kind::Region | Kind::Variant => false,
+    }
+}
+
+fn name_field(kind: Kind) -> &'static str
+    ensures { result.now ≡ record_words.name_field kind }
+{
+    if is_whole_kind(kind) { "Tag" } else { "Subtag" }
+}
+
+fn read_name(alloc: Global, kind: Kind, record: &Record) -> Result<EntryName, RecordFaultKind>
+    ensures ok { IfOk result (steps.IsNameIn kind «record».now) }
+    ensures fits { IfOk result (FitsName kind) }
+    ensures err { IfErr result (IsNameFault kind «record».now) }
+{
+    let Some(text) = body(record, name_field(kind)) else {
+        return Err(RecordFaultKind::MissingName);
+    };
+    if !is_whole_kind(kind) {
+        return read_subtags(kind, text.as_bytes());
+    }
+    match read_whole(alloc, text.as_bytes())? {
+        Some(tag) => Ok(EntryName::Whole(tag)),
+        None => Err(RecordFaultKind::BadTag),
+    }
+}
+
+/// The tag of a text, if it is well-formed.
+fn read_whole(alloc: Global, text: &[u8]) -> Result<Option<Tag>, OutOfMemory>
+    ensures tag { IfOk result (IsTagOf text.now) }
+    ensures value { IfOk result (λ tag. IfSome tag IsTagValue) }
+{
+    match read_tag(alloc, text) {
+        Ok(tag) => {
+            let _ = tag.core();
+            Ok(Some(tag))
+        }
+        Err(fault) => match fault.kind {
+            TagFaultKind::OutOfMemory => Err(OutOfMemory),
+            _ => Ok(None),
+        },
+    }
+}
+
+/// The subtag, or the range, that a text names.
+fn read_subtags(kind: Kind, text: &[u8]) -> Result<EntryName, RecordFaultKind>
+    ensures { result ≡ record_words.subtags_named kind text.now }
+{
+    match ends_of(text) {
+        Some((first, last)) => read_range(kind, first, last),
+        None => match read_formed(kind, text) {
+            Some(subtag) => Ok(EntryName::Single(subtag)),
+            None => Err(RecordFaultKind::BadSubtag),
+        },
+    }
+}
+
+/// The subtag of a text, if it has the form of a kind.
+fn read_formed(kind: Kind, text: &[u8]) -> Option<Subtag>
+    ensures { result ≡ record_words.formed (entry_words.has_form kind) (subtag_of text.now) }
+{
+    let subtag = Subtag::read(text).ok()?;
+    if has_form(kind, &subtag) {
+        Some(subtag)
+    } else {
+        None
+    }
+}
+
+fn has_form(kind: Kind, subtag: &Subtag) -> bool
+    ensures { result ≡ entry_words.has_form kind subtag.now }
+{
+    match kind {
+        Kind::Language => subtag.is_language(),
+        Kind::Extlang => subtag.is_extlang(),
+        Kind::Script => subtag.is_script(),
+        Kind::Region => subtag.is_region(),
+        Kind::Variant => subtag.is_variant(),
+        Kind::Grandfathered | Kind::Redundant => false,
+    }
+}
+
+fn read_range(kind: Kind, first: &[u8], last: &[u8]) -> Result<EntryName, RecordFaultKind>
+    ensures { result ≡ record_words.range_of kind (subtag_of first.now) (subtag_of last.now) }
+{
+    let (Ok(from), Ok(to)) = (Subtag::read(first), Subtag::read(last)) else {
+        return Err(RecordFaultKind::BadRange);
+    };
+    if is_range(kind, &from, &to) {
+        Ok(EntryName::Range(from, to))
+    } else {
+        Err(RecordFaultKind::BadRange)
+    }
+}
+
+fn is_range(kind: Kind, first: &Subtag, last: &Subtag) -> bool
+    ensures { result ≡ record_words.is_range kind first.now last.now }
+{
+    has_form(kind, first)
+        && has_form(kind, last)
+        && is_alphabetic(first)
+        && is_alphabetic(last)
+        && first.bytes().len() == last.bytes().len()
+        && is_up_to(first, last)
+}
+
+fn read_value(
+    alloc: Global,
+    kind: Kind,
+    record: &Record,
+) -> Result<Option<EntryValue>, RecordFaultKind>
+    ensures ok { IfOk result (IsValueOf kind (record_words.body record_words.value_name «record».now)) }
+    ensures fits { IfOk result (λ value. IfSome value (FitsValue kind)) }
+    ensures err { IfErr result (IsValueFault kind «record».now) }
+{
+    match body(record, "Preferred-Value") {
+        Some(text) => Ok(Some(read_one_value(alloc, kind, text.as_bytes())?)),
+        None => Ok(None),
+    }
+}
+
+/// The value that a text gives.
+fn read_one_value(alloc: Global, kind: Kind, text: &[u8]) -> Result<EntryValue, RecordFaultKind>
+    ensures ok { IfOk result (IsValue kind text.now) }
+    ensures fits { IfOk result (FitsValue kind) }
+    ensures err { IfErr result (steps.IsTextFault kind text.now) }
+{
+    if !is_whole_kind(kind) {
+        return match read_valued(kind, text) {
+            Some(subtag) => Ok(EntryValue::One(subtag)),
+            None => Err(RecordFaultKind::BadPreferred),
+        };
+    }
+    match read_whole(alloc, text)? {
+        Some(tag) => Ok(EntryValue::Whole(tag)),
+        None => Err(RecordFaultKind::BadPreferred),
+    }
+}
+
+/// The subtag of a text, if it has the form of a kind's values.
+fn read_valued(kind: Kind, text: &[u8]) -> Option<Subtag>
+    ensures { result ≡ record_words.formed (entry_words.has_value_form kind) (subtag_of text.now) }
+{
+    let subtag = Subtag::read(text).ok()?;
+    if has_value_form(kind, &subtag) {
+        Some(subtag)
+    } else {
+        None
+    }
+}
+
+fn has_value_form(kind: Kind, subtag: &Subtag) -> bool
+    ensures { result ≡ entry_words.has_value_form kind subtag.now }
+{
+    match kind {
+        Kind::Language | Kind::Extlang => subtag.is_language(),
+        Kind::Script => subtag.is_script(),
+        Kind::Region => subtag.is_region(),
+        Kind::Variant => {
+            subtag.is_variant() || subtag.is_language() && subtag.bytes().len() <= 3
+        }
+        Kind::Grandfathered | Kind::Redundant => false,
+    }
+}
+
+fn has_prefixes(kind: Kind) -> bool
+    ensures { result ≡ record_words.has_prefixes kind }
+{
+    match kind {
+        Kind::Extlang | Kind::Variant => true,
+        Kind::Language | Kind::Script | Kind::Region | Kind::Grandfathered | Kind::Redundant => {
+            false
+        }
+    }
+}
+
+fn read_prefixes(alloc: Global, kind: Kind, record: &Record) -> Result<Vec<Prefix>, RecordFaultKind>
+    ensures ok { IfOk result (λ prefixes. record_words.prefixes_in kind «record».now ≡ Some prefixes.items) }
+    ensures err { IfErr result (IsPrefixFault kind «record».now) }
+{
+    if has_prefixes(kind) {
+        read_all_prefixes(alloc, record)
+    } else {
+        Ok(Vec::new(alloc))
+    }
+}
+
+fn read_all_prefixes(alloc: Global, record: &Record) -> Result<Vec<Prefix>, RecordFaultKind>
+    ensures ok { IfOk result (λ prefixes. record_words.prefixes_of (record_words.bodies record_words.prefix_name «record».now) ≡ Some prefixes.items) }
+    ensures err { IfErr result (steps.IsPrefixesFault «record».now) }
+{
+    let mut prefixes = Vec::new(alloc);
+    for field in record.fields() {
+        if is_called(field, "Prefix") {
+            match read_prefix(alloc, field.body().as_bytes())? {
+                Some(prefix) => prefixes.push(prefix)?,
+                None => return Err(RecordFaultKind::BadPrefix),
+            }
+        }
+    }
+    Ok(prefixes)
+}

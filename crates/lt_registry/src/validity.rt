@@ -1,0 +1,294 @@
+//! Which tags are valid (RFC 5646, 2.2.9).
+ghost use Rattle.std.specs.Prelude.{◌≡◌, ◌≤◌, ◌+◌, ◌↔◌, [], ◌∷◌, length, IsTrue, OnOk, IfOk, IfErr};
+ghost use Rattle.std.specs.Option.{option_copied};
+ghost use Rattle.lt_tag.specs.Spelling.{spell_core};
+ghost use Rattle.lt_registry.specs.Entries as forms;
+ghost use Rattle.lt_registry.specs.Faults.{HasNoFault, HasFault, HasExtensionFault, IsRefusal, RepeatsAtMost};
+ghost use Rattle.lt_registry.specs.Same as same;
+ghost use Rattle.lt_registry.specs.Checking as checking;
+ghost use Rattle.lt_registry.specs.Checking.{Counted, TellsOrLacks};
+
+use crate::entries::{Entry, Kind, Prefix};
+use crate::faults::{ValidFault, ValidFaultKind, ValidRefusal};
+use crate::lookup::Lookup;
+use crate::same::same_list;
+use lt_subtag::Subtag;
+use lt_tag::{Core, Extension, OutOfMemory, Tag, TransformFault, split_t};
+use std::alloc::Global;
+
+/// Whether a tag is valid: the fault of the least place and, there, of the first kind, if there is one.
+/// Memory is taken only for the parts of a `t` extension.
+pub fn validate<L: Lookup>(alloc: Global, table: &L, tag: &Tag) -> Result<(), ValidRefusal>
+    ensures ok { OnOk result (HasNoFault (L.listed table.now) tag.now) }
+    ensures err { IfErr result (IsRefusal (L.listed table.now) tag.now) }
+{
+    check_tag(alloc, table, tag, false)
+}
+
+/// Whether a tag is valid, or lacks validity only because variants repeat.
+pub fn proper<L: Lookup>(alloc: Global, table: &L, tag: &Tag) -> Result<bool, OutOfMemory>
+    ensures { IfOk result (λ proper. IsTrue proper ↔ RepeatsAtMost (L.listed table.now) tag.now) }
+{
+    match check_tag(alloc, table, tag, true) {
+        Ok(()) => Ok(true),
+        Err(ValidRefusal::Fault(_)) => Ok(false),
+        Err(ValidRefusal::OutOfMemory) => Err(OutOfMemory),
+    }
+}
+
+fn check_tag<L: Lookup>(
+    alloc: Global,
+    table: &L,
+    tag: &Tag,
+    may_repeat: bool,
+) -> Result<(), ValidRefusal>
+    ensures { TellsOrLacks (Counted may_repeat (HasFault (L.listed table.now) tag.now)) result }
+{
+    let Some(core) = tag.core() else {
+        return Ok(());
+    };
+    check_core(table, core, 0, may_repeat)?;
+    let place = core_length(core) + 1;
+    check_extensions(alloc, table, tag.extensions(), place, may_repeat)
+}
+
+/// How many subtags a core has.
+fn core_length(core: &Core) -> u32
+    ensures same { result ≡ length (spell_core core.now) }
+    ensures few { result ≤ 1030 }
+{
+    let mut length = 1 + core.extlangs().len() + core.variants().len();
+    if core.script().is_some() {
+        length += 1;
+    }
+    if core.region().is_some() {
+        length += 1;
+    }
+    length as u32
+}
+
+/// Checks a core that begins after so many subtags.
+#[tactic(auto, unfolding(crate::specs::Checking::core_check))]
+fn check_core<L: Lookup>(
+    table: &L,
+    core: &Core,
+    start: u32,
+    may_repeat: bool,
+) -> Result<(), ValidFault>
+    requires { start ≤ 1100000 }
+    ensures { result ≡ checking.core_check (L.listed table.now) may_repeat start core.now }
+{
+    let language = core.language();
+    let known = table.entry(Kind::Language, language).is_some();
+    check(known, ValidFaultKind::UnknownLanguage, start + 1)?;
+    check_extlangs(table, start, language, core.extlangs())?;
+    let mut place = start + 2 + core.extlangs().len() as u32;
+    check_part(
+        table,
+        Kind::Script,
+        ValidFaultKind::UnknownScript,
+        place,
+        core.script(),
+    )?;
+    if core.script().is_some() {
+        place += 1;
+    }
+    check_part(
+        table,
+        Kind::Region,
+        ValidFaultKind::UnknownRegion,
+        place,
+        core.region(),
+    )?;
+    if core.region().is_some() {
+        place += 1;
+    }
+    check_variants(table, place, core.variants(), may_repeat)
+}
+
+/// The fault unless a test holds.
+fn check(holds: bool, kind: ValidFaultKind, place: u32) -> Result<(), ValidFault>
+    ensures { result ≡ checking.unless holds kind place }
+{
+    if holds {
+        Ok(())
+    } else {
+        Err(ValidFault { kind, place })
+    }
+}
+
+fn check_extlangs<L: Lookup>(
+    table: &L,
+    start: u32,
+    language: &Subtag,
+    extlangs: &[Subtag],
+) -> Result<(), ValidFault>
+    requires { start ≤ 1100000 }
+    ensures { result ≡ checking.extlangs_check (L.listed table.now) start language.now extlangs.now }
+{
+    let Some((first, others)) = extlangs.split_first() else {
+        return Ok(());
+    };
+    check_prefix(table.entry(Kind::Extlang, first), start, language)?;
+    check(
+        others.is_empty(),
+        ValidFaultKind::TooManyExtlangs,
+        start + 3,
+    )
+}
+
+fn check_prefix(extlang: Option<&Entry>, start: u32, language: &Subtag) -> Result<(), ValidFault>
+    requires { start ≤ 1100000 }
+    ensures { result ≡ checking.prefix_check start language.now (option_copied extlang.entry) }
+{
+    match extlang {
+        None => Err(ValidFault {
+            kind: ValidFaultKind::UnknownExtlang,
+            place: start + 2,
+        }),
+        Some(entry) => {
+            let listed = lists(entry.prefixes(), language);
+            check(listed, ValidFaultKind::ExtlangPrefix, start + 2)
+        }
+    }
+}
+
+/// Whether a language is one of some Prefixes.
+fn lists(prefixes: &[Prefix], language: &Subtag) -> bool
+    ensures { result ≡ forms.lists prefixes.now language.now }
+{
+    prefixes.iter().any(|prefix| is_language(prefix, language))
+}
+
+fn is_language(prefix: &Prefix, language: &Subtag) -> bool
+    ensures { result ≡ same.same_list prefix.now (language.now ∷ []) }
+{
+    match prefix.subtags() {
+        [only] => only == language,
+        _ => false,
+    }
+}
+
+fn check_part<L: Lookup>(
+    table: &L,
+    kind: Kind,
+    fault: ValidFaultKind,
+    place: u32,
+    part: Option<&Subtag>,
+) -> Result<(), ValidFault>
+    ensures { result ≡ checking.part_check (L.listed table.now) kind fault place (option_copied part.entry) }
+{
+    match part {
+        None => Ok(()),
+        Some(subtag) => check(table.entry(kind, subtag).is_some(), fault, place),
+    }
+}
+
+fn check_variants<L: Lookup>(
+    table: &L,
+    start: u32,
+    variants: &[Subtag],
+    may_repeat: bool,
+) -> Result<(), ValidFault>
+    requires place { start ≤ 1100000 + 6 }
+    requires few { length variants.now ≤ 1024 }
+    ensures { result ≡ checking.variants_check (L.listed table.now) may_repeat start [] variants.now }
+{
+    let mut place = start;
+    for (index, variant) in variants.iter().enumerate() {
+        check_variant(table, place, &variants[..index], variant, may_repeat)?;
+        place += 1;
+    }
+    Ok(())
+}
+
+/// Checks a variant that stands behind others.
+fn check_variant<L: Lookup>(
+    table: &L,
+    place: u32,
+    before: &[Subtag],
+    variant: &Subtag,
+    may_repeat: bool,
+) -> Result<(), ValidFault>
+    ensures { result ≡ checking.variant_check (L.listed table.now) may_repeat place before.now variant.now }
+{
+    let known = table.entry(Kind::Variant, variant).is_some();
+    check(known, ValidFaultKind::UnknownVariant, place)?;
+    let fits = may_repeat || !before.contains(variant);
+    check(fits, ValidFaultKind::DuplicateVariant, place)
+}
+
+/// Checks the extensions of a langtag, of which the first has its singleton at a place.
+fn check_extensions<L: Lookup>(
+    alloc: Global,
+    table: &L,
+    extensions: &[Extension],
+    first: u32,
+    may_repeat: bool,
+) -> Result<(), ValidRefusal>
+    requires place { first ≤ 1031 }
+    requires few { length extensions.now ≤ 1024 }
+    ensures { TellsOrLacks (Counted may_repeat (checking.ListFault (L.listed table.now) first [] extensions.now)) result }
+{
+    let mut place = first;
+    for (index, extension) in extensions.iter().enumerate() {
+        if has_singleton(&extensions[..index], extension.singleton()) {
+            return Err(ValidRefusal::Fault(ValidFault {
+                kind: ValidFaultKind::DuplicateSingleton,
+                place,
+            }));
+        }
+        check_extension(alloc, table, extension, place, may_repeat)?;
+        place += 1 + extension.subtags().len() as u32;
+    }
+    Ok(())
+}
+
+/// Whether one of the extensions has a singleton.
+fn has_singleton(extensions: &[Extension], singleton: u8) -> bool
+    ensures { result ≡ checking.has_singleton extensions.now singleton }
+{
+    extensions
+        .iter()
+        .any(|extension| extension.singleton() == singleton)
+}
+
+/// Checks an extension whose singleton stands at a place. Of a `t` extension the source is looked at.
+fn check_extension<L: Lookup>(
+    alloc: Global,
+    table: &L,
+    extension: &Extension,
+    place: u32,
+    may_repeat: bool,
+) -> Result<(), ValidRefusal>
+    requires { place ≤ 1100000 }
+    ensures { TellsOrLacks (Counted may_repeat (HasExtensionFault (L.listed table.now) place extension.now)) result }
+{
+    if extension.singleton() != b't' {
+        return Ok(());
+    }
+    match split_t(alloc, extension) {
+        Ok(parts) => Ok(check_source(table, &parts.source, place, may_repeat)?),
+        Err(TransformFault::BadTransform) => Err(ValidRefusal::Fault(ValidFault {
+            kind: ValidFaultKind::BadTransform,
+            place,
+        })),
+        Err(TransformFault::OutOfMemory) => Err(ValidRefusal::OutOfMemory),
+    }
+}
+
+/// Checks the source of a `t` extension whose singleton stands at a place.
+fn check_source<L: Lookup>(
+    table: &L,
+    source: &Option<Core>,
+    place: u32,
+    may_repeat: bool,
+) -> Result<(), ValidFault>
+    requires { place ≤ 1100000 }
+    ensures { result ≡ checking.source_check (L.listed table.now) may_repeat place source.now }
+{
+    match source {
+        None => Ok(()),
+        Some(core) => check_core(table, core, place, may_repeat),
+    }
+}
