@@ -47,10 +47,10 @@ pub tells_same : (F G : Faults) (a : Check) → SameFaults F G → Tells F a →
 tells_same F G (Ok done) s t = λ k p g. t k p (s.back k p g)
 tells_same F G (Err fault) s t = first_same F G fault.kind fault.place s t
 
-pub tells_or_lacks_same : (F G : Faults) (a : Result (Unit {0}) ValidRefusal) → SameFaults F G → TellsOrLacks F a → TellsOrLacks G a
-tells_or_lacks_same F G (Ok done) s t = λ k p g. t k p (s.back k p g)
-tells_or_lacks_same F G (Err (refusals.Fault fault)) s t = first_same F G fault.kind fault.place s t
-tells_or_lacks_same F G (Err refusals.OutOfMemory) s t = tt
+pub tells_or_lacks_same : (F G : Faults) (M : Type 0) (a : Result (Unit {0}) ValidRefusal) → SameFaults F G → TellsOrLacks F M a → TellsOrLacks G M a
+tells_or_lacks_same F G M (Ok done) s t = λ k p g. t k p (s.back k p g)
+tells_or_lacks_same F G M (Err (refusals.Fault fault)) s t = first_same F G fault.kind fault.place s t
+tells_or_lacks_same F G M (Err refusals.OutOfMemory) s t = t
 
 pub first_left : (F G : Faults) (k : ValidFaultKind) (p : ℕ) → Precede F G → IsFirstOf F k p → IsFirstOf (Or F G) k p
 first_left F G k p before first = record {

@@ -4,13 +4,14 @@ use Rattle.std.specs.Prelude.{Result, Ok, Err}
 use Rattle.std.proofs.lemmas.List.{drop_all}
 use Rattle.lt_tag.specs.Parts.{ExtensionParts}
 use Rattle.lt_registry.specs.Parts.{EntryParts}
-use Rattle.lt_registry.specs.Faults.{rank_of, IsFirstOf}
+use Rattle.lt_tag.specs.Extensions.{transform}
+use Rattle.lt_registry.specs.Faults.{rank_of, IsFirstOf, HasTransform}
 use Rattle.lt_registry.specs.Checking.{Counted, TellsOrLacks, HeadFault, ListFault, has_singleton}
 use Rattle.lt_registry.specs.declared.faults.ValidFaultKind.{ValidFaultKind}
 use Rattle.lt_registry.specs.declared.faults.ValidFaultKind.TheVariants as faults
 use Rattle.lt_registry.specs.declared.faults.ValidRefusal.{ValidRefusal}
 use Rattle.lt_registry.specs.declared.faults.ValidRefusal.TheVariants as refusals
-use Rattle.lt_registry.proofs.ListLemmas.{drop_turn, take_turn}
+use Rattle.lt_registry.proofs.ListLemmas.{drop_turn, take_turn, whole_turn}
 use Rattle.lt_registry.proofs.FirstLemmas.{Faults, Or, SameFaults, precede_by, Past, first_same, first_left, same_trans, same_back, same_counted, counted_or, past_counted, same_second}
 use Rattle.lt_registry.proofs.ExtensionFaultLemmas.{ExtensionFault, fault_at}
 
@@ -112,21 +113,21 @@ module _ (R : List EntryParts) (r : Bool) (first : ℕ) (es : List ExtensionPart
       let past : Past here G = λ k p f. let a = rest_past R here (take (i + 1) es) (drop (i + 1) es) e k p f in omega (arith, a) in
       first_same (Counted r (Or (HeadFault R here (take i es) e) G)) Whole faults.DuplicateSingleton here (same_back Whole (Counted r (Or (HeadFault R here (take i es) e) G)) (turned here i e l is so_far)) (dup_first R r here (take i es) e G past again)
 
-  pub told_extension : (here i : ℕ) (e : ExtensionParts) (a : Result (Unit {0}) ValidRefusal) (refusal : ValidRefusal) → i < length es → e ≡ get_or es i e → SameFaults Whole (From here i) → has_singleton (take i es) e.singleton ≡ false → a ≡ Err refusal → TellsOrLacks (ExtensionFault R r here e) a → TellsOrLacks Whole (Err refusal)
-  told_extension here i e a refusal l is so_far new was told = by refusal (subst (TellsOrLacks (ExtensionFault R r here e)) was told)
+  pub told_extension : (here i : ℕ) (e : ExtensionParts) (a : Result (Unit {0}) ValidRefusal) (refusal : ValidRefusal) → i < length es → e ≡ get_or es i e → SameFaults Whole (From here i) → has_singleton (take i es) e.singleton ≡ false → a ≡ Err refusal → TellsOrLacks (ExtensionFault R r here e) (e.singleton ≡ transform) a → TellsOrLacks Whole (HasTransform es) (Err refusal)
+  told_extension here i e a refusal l is so_far new was told = by refusal (subst (TellsOrLacks (ExtensionFault R r here e) (e.singleton ≡ transform)) was told)
     where
-      by : (x : ValidRefusal) → TellsOrLacks (ExtensionFault R r here e) (Err x) → TellsOrLacks Whole (Err x)
+      by : (x : ValidRefusal) → TellsOrLacks (ExtensionFault R r here e) (e.singleton ≡ transform) (Err x) → TellsOrLacks Whole (HasTransform es) (Err x)
       by (refusals.Fault fault) told' =
           let G : Faults = ListFault R (here + (1 + length e.subtags)) (take (i + 1) es) (drop (i + 1) es) in
           first_same (Counted r (Or (HeadFault R here (take i es) e) G)) Whole fault.kind fault.place (same_back Whole (Counted r (Or (HeadFault R here (take i es) e) G)) (turned here i e l is so_far))
           (ext_first R r here (take i es) e G fault.kind fault.place (rest_past R here (take (i + 1) es) (drop (i + 1) es) e) new told')
-      by refusals.OutOfMemory told' = tt
+      by refusals.OutOfMemory told' = (take i es, e, drop (i + 1) es, whole_turn es i e l is, told')
 
-  pub stepped : (here i : ℕ) (e : ExtensionParts) (a : Result (Unit {0}) ValidRefusal) → i < length es → e ≡ get_or es i e → SameFaults Whole (From here i) → has_singleton (take i es) e.singleton ≡ false → a ≡ Ok tt → TellsOrLacks (ExtensionFault R r here e) a → SameFaults Whole (From (here + (1 + length e.subtags)) (i + 1))
+  pub stepped : (here i : ℕ) (e : ExtensionParts) (a : Result (Unit {0}) ValidRefusal) → i < length es → e ≡ get_or es i e → SameFaults Whole (From here i) → has_singleton (take i es) e.singleton ≡ false → a ≡ Ok tt → TellsOrLacks (ExtensionFault R r here e) (e.singleton ≡ transform) a → SameFaults Whole (From (here + (1 + length e.subtags)) (i + 1))
   stepped here i e a l is so_far new was told =
       let G : Faults = ListFault R (here + (1 + length e.subtags)) (take (i + 1) es) (drop (i + 1) es) in
       let H : Faults = HeadFault R here (take i es) e in
-      let none : (k : ValidFaultKind) (p : ℕ) → Counted r H k p → ⊥ = λ k p f. (subst (TellsOrLacks (ExtensionFault R r here e)) was told) k p ((same_head R r here (take i es) e new).back k p f) in
+      let none : (k : ValidFaultKind) (p : ℕ) → Counted r H k p → ⊥ = λ k p f. (subst (TellsOrLacks (ExtensionFault R r here e) (e.singleton ≡ transform)) was told) k p ((same_head R r here (take i es) e new).back k p f) in
       same_trans Whole (Counted r (Or H G)) (Counted r G) (turned here i e l is so_far)
       (same_trans (Counted r (Or H G)) (Or (Counted r H) (Counted r G)) (Counted r G) (same_back (Or (Counted r H) (Counted r G)) (Counted r (Or H G)) (counted_or r H G)) (same_second (Counted r H) (Counted r G) none))
 

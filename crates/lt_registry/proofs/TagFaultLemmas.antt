@@ -153,10 +153,10 @@ module _ (R : List EntryParts) (c : CoreParts) (es : List ExtensionParts) where
         (λ k p f. let l = list_from R first [] es k p f.0 in omega (arith, l)))
         (subst (Tells (CoreFault R r 0 c)) told (core_tells R r 0 c)))
 
-    extensions_told : (a : Result (Unit {0}) ValidRefusal) → core_check R r 0 c ≡ Ok tt → TellsOrLacks (Counted r (ListFault R first [] es)) a → TellsOrLacks TagFault a
-    extensions_told a told t =
+    extensions_told : (M : Type 0) (a : Result (Unit {0}) ValidRefusal) → core_check R r 0 c ≡ Ok tt → TellsOrLacks (Counted r (ListFault R first [] es)) M a → TellsOrLacks TagFault M a
+    extensions_told M a told t =
         let none : (k : ValidFaultKind) (p : ℕ) → CoreFault R r 0 c k p → ⊥ = subst (Tells (CoreFault R r 0 c)) told (core_tells R r 0 c) in
-        tells_or_lacks_same (Counted r (ListFault R first [] es)) TagFault a
+        tells_or_lacks_same (Counted r (ListFault R first [] es)) TagFault M a
         (same_trans (Counted r (ListFault R first [] es)) CoreList TagFault (same_back CoreList (Counted r (ListFault R first [] es)) (same_second (CoreFault R r 0 c) (Counted r (ListFault R first [] es)) none)) both_parts) t
 
 -- what the check of a langtag tells
@@ -167,9 +167,9 @@ tag_core_first R r (LangTag d es ps) c fault is told =
 tag_core_first R r (PrivateUse ps) c fault is told = cc
 tag_core_first R r (Grandfathered n) c fault is told = cc
 
-pub tag_extensions_told : (R : List EntryParts) (r : Bool) (t : TagForm) (c : CoreParts) (a : Result (Unit {0}) ValidRefusal) → Some c ≡ core_of t → core_check R r 0 c ≡ Ok tt → TellsOrLacks (Counted r (ListFault R (length (spell_core c) + 1) [] (extensions_of t))) a → TellsOrLacks (Counted r (HasFault R t)) a
-tag_extensions_told R r (LangTag d es ps) c a is told t =
+pub tag_extensions_told : (R : List EntryParts) (r : Bool) (t : TagForm) (c : CoreParts) (M : Type 0) (a : Result (Unit {0}) ValidRefusal) → Some c ≡ core_of t → core_check R r 0 c ≡ Ok tt → TellsOrLacks (Counted r (ListFault R (length (spell_core c) + 1) [] (extensions_of t))) M a → TellsOrLacks (Counted r (HasFault R t)) M a
+tag_extensions_told R r (LangTag d es ps) c M a is told t =
     let same : c ≡ d = cc in
-    extensions_told R d es r a (ap (core_check R r 0) (sym same) ∙ told) (subst (λ z. TellsOrLacks (Counted r (ListFault R (length (spell_core z) + 1) [] es)) a) same t)
-tag_extensions_told R r (PrivateUse ps) c a is told t = cc
-tag_extensions_told R r (Grandfathered n) c a is told t = cc
+    extensions_told R d es r M a (ap (core_check R r 0) (sym same) ∙ told) (subst (λ z. TellsOrLacks (Counted r (ListFault R (length (spell_core z) + 1) [] es)) M a) same t)
+tag_extensions_told R r (PrivateUse ps) c M a is told t = cc
+tag_extensions_told R r (Grandfathered n) c M a is told t = cc

@@ -103,8 +103,8 @@ abbrev pub Tells : (ValidFaultKind → ℕ → Type 0) → Check → Type 0
 Tells F (Ok done) = (kind : ValidFaultKind) (place : ℕ) → F kind place → ⊥
 Tells F (Err fault) = IsFirstOf F fault.kind fault.place
 
--- the same, but that memory may be wanting
-abbrev pub TellsOrLacks : (ValidFaultKind → ℕ → Type 0) → Result (Unit {0}) ValidRefusal → Type 0
-TellsOrLacks F (Ok done) = (kind : ValidFaultKind) (place : ℕ) → F kind place → ⊥
-TellsOrLacks F (Err (refusals.Fault fault)) = IsFirstOf F fault.kind fault.place
-TellsOrLacks F (Err refusals.OutOfMemory) = Unit {0}
+-- the same, but that memory may be wanting where something holds
+abbrev pub TellsOrLacks : (ValidFaultKind → ℕ → Type 0) → Type 0 → Result (Unit {0}) ValidRefusal → Type 0
+TellsOrLacks F M (Ok done) = (kind : ValidFaultKind) (place : ℕ) → F kind place → ⊥
+TellsOrLacks F M (Err (refusals.Fault fault)) = IsFirstOf F fault.kind fault.place
+TellsOrLacks F M (Err refusals.OutOfMemory) = M

@@ -102,10 +102,13 @@ abbrev pub holds : List ℕ → EntryName → Bool
 holds s (names.Range a b) = (length s == length a) && (is_alphabetic s && (letters_le a s && letters_le s b))
 holds s _ = false
 
+abbrev pub or_else : Option EntryParts → Option EntryParts → Option EntryParts
+or_else found other = option_or found other
+
 -- the first single record of that name, else the first range that holds it
 abbrev pub entry : List EntryParts → Kind → List ℕ → Option EntryParts
 entry R k s =
-    option_or (find (λ (e : EntryParts). same_kind e.kind k && is_named s e.name) R)
+    or_else (find (λ (e : EntryParts). same_kind e.kind k && is_named s e.name) R)
     (find (λ (e : EntryParts). same_kind e.kind k && holds s e.name) R)
 
 abbrev pub is_registered : List EntryParts → Kind → List ℕ → Bool

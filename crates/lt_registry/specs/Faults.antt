@@ -3,6 +3,7 @@ use Rattle.std.specs.Prelude.{ℕ, ◌≡◌, ◌≤◌, ◌+◌, false, List, �
 use Rattle.std.specs.Option.{option_to_list}
 use Rattle.lt_tag.specs.Parts.{CoreParts, ExtensionParts, TForm, TagForm, LangTag, PrivateUse, Grandfathered}
 use Rattle.lt_tag.specs.Spelling.{spell_core, spell_extensions}
+use Rattle.lt_tag.specs.Values.{extensions_of}
 use Rattle.lt_registry.specs.Parts.{EntryParts}
 use Rattle.lt_registry.specs.Entries.{is_registered, prefixes, lists}
 use Rattle.lt_tag.specs.Extensions.{transform, IsTransform}
@@ -122,7 +123,12 @@ pub record IsFirstOf (F : ValidFaultKind → ℕ → Type 0) (kind : ValidFaultK
 abbrev pub IsFirstFault : List EntryParts → TagForm → ValidFaultKind → ℕ → Type 0
 IsFirstFault R t kind place = IsFirstOf (HasFault R t) kind place
 
--- the first fault; or memory was wanting
+-- one of the extensions is a t extension
+abbrev pub HasTransform : List ExtensionParts → Type 0
+HasTransform es =
+    (before : List ExtensionParts) × (e : ExtensionParts) × (after : List ExtensionParts) × (es ≡ before ++ e ∷ after) × (e.singleton ≡ transform)
+
+-- the first fault; or memory was wanting for the parts of a t extension
 abbrev pub IsRefusal : List EntryParts → TagForm → ValidRefusal → Type 0
 IsRefusal R t (refusals.Fault fault) = IsFirstFault R t fault.kind fault.place
-IsRefusal R t refusals.OutOfMemory = Unit {0}
+IsRefusal R t refusals.OutOfMemory = HasTransform (extensions_of t)

@@ -1,9 +1,11 @@
 //! Which tags are valid (RFC 5646, 2.2.9).
-ghost use Rattle.std.specs.Prelude.{◌≡◌, ◌≤◌, ◌+◌, ◌↔◌, [], ◌∷◌, length, IsTrue, OnOk, IfOk, IfErr};
+ghost use Rattle.std.specs.Prelude.{◌≡◌, ◌≤◌, ◌+◌, ◌↔◌, [], ◌∷◌, length, IsTrue, OnOk, OnErr, IfOk, IfErr};
 ghost use Rattle.std.specs.Option.{option_copied};
 ghost use Rattle.lt_tag.specs.Spelling.{spell_core};
+ghost use Rattle.lt_tag.specs.Extensions.{transform};
+ghost use Rattle.lt_tag.specs.Values.{extensions_of};
 ghost use Rattle.lt_registry.specs.Entries as forms;
-ghost use Rattle.lt_registry.specs.Faults.{HasNoFault, HasFault, HasExtensionFault, IsRefusal, RepeatsAtMost};
+ghost use Rattle.lt_registry.specs.Faults.{HasNoFault, HasFault, HasExtensionFault, HasTransform, IsRefusal, RepeatsAtMost};
 ghost use Rattle.lt_registry.specs.Same as same;
 ghost use Rattle.lt_registry.specs.Checking as checking;
 ghost use Rattle.lt_registry.specs.Checking.{Counted, TellsOrLacks};
@@ -27,7 +29,8 @@ pub fn validate<L: Lookup>(alloc: Global, table: &L, tag: &Tag) -> Result<(), Va
 
 /// Whether a tag is valid, or lacks validity only because variants repeat.
 pub fn proper<L: Lookup>(alloc: Global, table: &L, tag: &Tag) -> Result<bool, OutOfMemory>
-    ensures { IfOk result (λ proper. IsTrue proper ↔ RepeatsAtMost (L.listed table.now) tag.now) }
+    ensures answer { IfOk result (λ proper. IsTrue proper ↔ RepeatsAtMost (L.listed table.now) tag.now) }
+    ensures memory { OnErr result (HasTransform (extensions_of tag.now)) }
 {
     match check_tag(alloc, table, tag, true) {
         Ok(()) => Ok(true),
@@ -42,7 +45,7 @@ fn check_tag<L: Lookup>(
     tag: &Tag,
     may_repeat: bool,
 ) -> Result<(), ValidRefusal>
-    ensures { TellsOrLacks (Counted may_repeat (HasFault (L.listed table.now) tag.now)) result }
+    ensures { TellsOrLacks (Counted may_repeat (HasFault (L.listed table.now) tag.now)) (HasTransform (extensions_of tag.now)) result }
 {
     let Some(core) = tag.core() else {
         return Ok(());
@@ -228,7 +231,7 @@ fn check_extensions<L: Lookup>(
 ) -> Result<(), ValidRefusal>
     requires place { first ≤ 1031 }
     requires few { length extensions.now ≤ 1024 }
-    ensures { TellsOrLacks (Counted may_repeat (checking.ListFault (L.listed table.now) first [] extensions.now)) result }
+    ensures { TellsOrLacks (Counted may_repeat (checking.ListFault (L.listed table.now) first [] extensions.now)) (HasTransform extensions.now) result }
 {
     let mut place = first;
     for (index, extension) in extensions.iter().enumerate() {
@@ -262,7 +265,7 @@ fn check_extension<L: Lookup>(
     may_repeat: bool,
 ) -> Result<(), ValidRefusal>
     requires { place ≤ 1100000 }
-    ensures { TellsOrLacks (Counted may_repeat (HasExtensionFault (L.listed table.now) place extension.now)) result }
+    ensures { TellsOrLacks (Counted may_repeat (HasExtensionFault (L.listed table.now) place extension.now)) (extension.now.singleton ≡ transform) result }
 {
     if extension.singleton() != b't' {
         return Ok(());

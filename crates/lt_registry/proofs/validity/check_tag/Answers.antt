@@ -1,5 +1,7 @@
 use Rattle.std.proofs.Common.{sym, ◌∙◌}
 use Rattle.std.proofs.lemmas.Result.{err_from_is_err_and}
+use Rattle.lt_tag.specs.Values.{extensions_of}
+use Rattle.lt_registry.specs.Faults.{HasTransform}
 use Rattle.lt_registry.proofs.TagFaultLemmas.{tag_core_first, tag_extensions_told}
 use Rattle.lt_registry.proofs.validity.check_tag.Goals as goal
 
@@ -11,4 +13,4 @@ returns-in_err-check_core g c =
 pub returns : goal.returns
 returns g c =
     let told = rw (c.core_length-place.ensures.same, c.extensions.ensures.value) at c.check_extensions.ensures in
-    tag_extensions_told (g.L.Lookup.listed c.args.table.now) c.args.may_repeat c.args.tag.now c.in-Some.core.now c.check_extensions.result c.in-Some.ensures.value (sym c.check_core.ensures ∙ c.in_ok-check_core.was) told
+    tag_extensions_told (g.L.Lookup.listed c.args.table.now) c.args.may_repeat c.args.tag.now c.in-Some.core.now (HasTransform (extensions_of c.args.tag.now)) c.check_extensions.result c.in-Some.ensures.value (sym c.check_core.ensures ∙ c.in_ok-check_core.was) told
