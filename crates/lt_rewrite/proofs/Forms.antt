@@ -1,9 +1,9 @@
 -- What the forms of entries say of names and values.
-use Rattle.std.proofs.Common.{◌≡◌, ℕ, ◌≤◌, ◌⊎◌, inl, inr, Bool, true, false, ◌&&◌, ◌||◌, ◌==◌, List, [], ◌∷◌, Option, Some, None, refl, sym, ap, ◌∙◌, subst, length, bytes_eq, arith, All, IfSome}
+use Rattle.std.proofs.Common.{◌≡◌, ℕ, ◌⊎◌, inl, inr, true, false, ◌&&◌, List, Option, Some, None, refl, sym, ap, ◌∙◌, subst, length, bytes_eq, arith, IfSome}
 use Rattle.std.specs.Prelude.{nat_le, is_some}
 use Rattle.std.proofs.lemmas.Slice.Eq.{bytes_eq-Decides}
-use Rattle.std.proofs.lemmas.Bool.{and_parts, and_from, or_cases, eqb-true, leb-true, lt-leb}
-use Rattle.lt_subtag.specs.Shapes.{is_alphabetic, is_language, is_extlang, is_script, is_region, is_variant}
+use Rattle.std.proofs.lemmas.Bool.{and_parts, and_from, or_cases, lt-leb}
+use Rattle.lt_subtag.specs.Shapes.{is_alphabetic, is_language, is_extlang, is_variant}
 use Rattle.lt_tag.proofs.Apart.{extlang_is, variant_is}
 use Rattle.lt_registry.specs.Parts.{EntryParts}
 use Rattle.lt_registry.specs.Entries.{has_value_form, FitsValue, IsEntry, is_named, holds, one_of, entry, value, value_or, variant_value, language_value, is_registered, is_short, replacement}
@@ -24,7 +24,7 @@ some_at (Some a) e = (a, refl)
 pub registered_entry : (R : List EntryParts) (k : Kind) (s : List ℕ) → is_registered R k s ≡ true → (e : EntryParts) × (entry R k s ≡ Some e)
 registered_entry R k s h = some_at (entry R k s) h
 
-value_form_at : (k : Kind) (o : Option EntryValue) (v : List ℕ) → IfSome o (FitsValue k) → one_of o ≡ Some v → has_value_form k v ≡ true
+pub value_form_at : (k : Kind) (o : Option EntryValue) (v : List ℕ) → IfSome o (FitsValue k) → one_of o ≡ Some v → has_value_form k v ≡ true
 value_form_at k None v h e = cc
 value_form_at k (Some (values.One s)) v h e = let same : s ≡ v = cc in subst (λ x. has_value_form k x ≡ true) same h
 value_form_at k (Some (values.Whole t)) v h e = cc

@@ -21,3 +21,8 @@ pub mod CoreShapes
 pub mod ExtensionShapes
 pub mod OrderingLaw
 pub mod OneStep
+pub mod ChainWalks
+pub mod PlacedParts
+pub mod ValueForms
+pub mod CoreSettled
+pub mod ExtensionSettled
