@@ -42,7 +42,7 @@ keeps_at : (f : List ℕ → Option (List ℕ)) (P : List ℕ → Type 0) → ((
 keeps_at f P keeps n s ih None e p = subst P (sym (chase_rests f (suc n) s e)) p
 keeps_at f P keeps n s ih (Some t) e p = subst P (sym (chase_next f n s t e)) (ih t (keeps s t e p))
 
-chase_keeps : (f : List ℕ → Option (List ℕ)) (P : List ℕ → Type 0) → ((s t : List ℕ) → f s ≡ Some t → P s → P t) → (n : ℕ) (s : List ℕ) → P s → P (chase f n s)
+pub chase_keeps : (f : List ℕ → Option (List ℕ)) (P : List ℕ → Type 0) → ((s t : List ℕ) → f s ≡ Some t → P s → P t) → (n : ℕ) (s : List ℕ) → P s → P (chase f n s)
 chase_keeps f P keeps zero s p = p
 chase_keeps f P keeps (suc n) s p = keeps_at f P keeps n s (chase_keeps f P keeps n) (f s) refl p
 

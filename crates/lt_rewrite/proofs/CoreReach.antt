@@ -13,7 +13,7 @@ chain_at : (V : Values) (f : List ℕ → Option (List ℕ)) (at : List ℕ → 
 chain_at V f at step n ih s None e = star_path (at s) (at (chase f (suc n) s)) (ap at (sym (chase_rests f (suc n) s e)))
 chain_at V f at step n ih s (Some t) e = then (step s t e) (subst (λ u. Star (CoreStep V) (at t) (at u)) (sym (chase_next f n s t e)) (ih t))
 
-chain : (V : Values) (f : List ℕ → Option (List ℕ)) (at : List ℕ → CoreParts) → ((s t : List ℕ) → f s ≡ Some t → CoreStep V (at s) (at t)) → (n : ℕ) (s : List ℕ) → Star (CoreStep V) (at s) (at (chase f n s))
+pub chain : (V : Values) (f : List ℕ → Option (List ℕ)) (at : List ℕ → CoreParts) → ((s t : List ℕ) → f s ≡ Some t → CoreStep V (at s) (at t)) → (n : ℕ) (s : List ℕ) → Star (CoreStep V) (at s) (at (chase f n s))
 chain V f at step zero s = done
 chain V f at step (suc n) s = chain_at V f at step n (chain V f at step n) s (f s) refl
 

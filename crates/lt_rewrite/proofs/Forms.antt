@@ -24,7 +24,7 @@ some_at (Some a) e = (a, refl)
 pub registered_entry : (R : List EntryParts) (k : Kind) (s : List ℕ) → is_registered R k s ≡ true → (e : EntryParts) × (entry R k s ≡ Some e)
 registered_entry R k s h = some_at (entry R k s) h
 
-value_form_at : (k : Kind) (o : Option EntryValue) (v : List ℕ) → IfSome o (FitsValue k) → one_of o ≡ Some v → has_value_form k v ≡ true
+pub value_form_at : (k : Kind) (o : Option EntryValue) (v : List ℕ) → IfSome o (FitsValue k) → one_of o ≡ Some v → has_value_form k v ≡ true
 value_form_at k None v h e = cc
 value_form_at k (Some (values.One s)) v h e = let same : s ≡ v = cc in subst (λ x. has_value_form k x ≡ true) same h
 value_form_at k (Some (values.Whole t)) v h e = cc

@@ -27,3 +27,8 @@ pub mod CoreEnds
 pub mod NameForms
 pub mod SortedLists
 pub mod OrderingRows
+pub mod ChainWalks
+pub mod PlacedParts
+pub mod ValueForms
+pub mod CoreSettled
+pub mod ExtensionSettled

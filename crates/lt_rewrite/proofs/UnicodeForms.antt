@@ -11,6 +11,7 @@ use Rattle.lt_tag.specs.Parts.{KeywordParts, UForm}
 use Rattle.lt_tag.specs.Extensions.{is_long, spell_keyword, spell_u, IsKeyword, IsU}
 use Rattle.lt_rewrite.specs.Rewriting.{Star, done, then}
 use Rattle.lt_rewrite.specs.Extensions.{text_cmp, key_cmp, UnicodeStep, on_attributes, on_keywords, on_types}
+use Rattle.lt_rewrite.specs.ExtensionSettling.{without_true, untrue}
 use Rattle.lt_rewrite.proofs.Stars.{star_trans}
 use Rattle.lt_rewrite.proofs.NormalForms.{IsFormOf, star_map}
 use Rattle.lt_rewrite.proofs.Sorting.{sorted, list_step_keeps, sorted_reached, sorting_is_form}
@@ -22,15 +23,6 @@ text_total = nat_list_cmp_total
 
 pub key_total : IsTotalOrder key_cmp
 key_total = on_total (λ (k : KeywordParts). k.key) text_total
-
--- a sole type true goes
-abbrev pub without_true : List (List ℕ) → List (List ℕ)
-without_true [] = []
-without_true (t ∷ []) = cond (bytes_eq t (codes "true")) [] (t ∷ [])
-without_true (t ∷ u ∷ ts) = t ∷ u ∷ ts
-
-abbrev pub untrue : KeywordParts → KeywordParts
-untrue k = record { key = k.key; types = without_true k.types }
 
 -- a keyword whose types are exactly true loses it
 record LosesTrue (k l : KeywordParts) : Type 0 where

@@ -8,3 +8,6 @@ pub mod Labels
 pub mod Conditions
 pub mod OrderingLaws
 pub mod Laws
+pub mod ChainEnds
+pub mod CoreSettling
+pub mod ExtensionSettling

@@ -1,0 +1,6 @@
+use Rattle.lt_rewrite.proofs.Entries.{chains_end}
+use Rattle.lt_rewrite.proofs.core_settling.certain_end.Goals as goal
+
+pub unreachable-requires : goal.unreachable-requires
+unreachable-requires g c =
+    c.in-Err.ensures.cycle (chains_end (g.L.Lookup.listed c.args.table.now) c.requires c.args.kind c.args.subtag.now)

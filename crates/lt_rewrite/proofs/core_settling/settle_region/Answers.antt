@@ -1,0 +1,16 @@
+use Rattle.std.proofs.Common.{sym, ap, ◌∙◌, subst}
+use Rattle.std.specs.Option.{option_copied}
+use Rattle.lt_tag.specs.Parts.{CoreParts}
+use Rattle.lt_rewrite.specs.Rewriting.{Star, done}
+use Rattle.lt_rewrite.specs.CoreSteps.{values_of, CoreStep}
+use Rattle.lt_rewrite.proofs.CoreSettled.{region_reached}
+use Rattle.lt_rewrite.proofs.core_settling.settle_region.Goals as goal
+
+pub returns-in_default-clause-reached : goal.returns-in_default-clause-reached
+returns-in_default-clause-reached g c = done
+
+pub returns-in-Some-clause-reached : goal.returns-in-Some-clause-reached
+returns-in-Some-clause-reached g c =
+    let R = g.L.Lookup.listed c.args.table.now in
+    subst (λ (d : CoreParts). Star (CoreStep (values_of R)) c.args.core.now d) (sym c.set_region.ensures)
+    (region_reached R c.args.core.now c.in-Some.region.now c.certain_end-end.result (sym c.region.ensures.value ∙ ap option_copied c.in-Some.is) c.certain_end-end.ensures.end)

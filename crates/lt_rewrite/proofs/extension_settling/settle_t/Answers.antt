@@ -1,0 +1,27 @@
+use Rattle.std.proofs.Common.{false, Option, Some, List, sym, ap, ◌∙◌, subst}
+use Rattle.lt_tag.specs.Parts.{CoreParts, FieldParts, TForm}
+use Rattle.lt_tag.specs.contracts.parts.TParts.{the_view}
+use Rattle.lt_rewrite.specs.Rewriting.{IsNormalForm}
+use Rattle.lt_rewrite.specs.Orderings.{ListStep}
+use Rattle.lt_rewrite.specs.Extensions.{separator_cmp, TransformStep}
+use Rattle.lt_rewrite.proofs.ExtensionSettled.{SourceSettles, transform_settles}
+use Rattle.lt_rewrite.proofs.extension_settling.settle_t.Goals as goal
+use Rattle.lt_rewrite.proofs.extension_settling.settle_t.Goals.{in-Some, in_default}
+
+pub returns-clause-settled : goal.returns-clause-settled
+returns-clause-settled g c =
+    let R = g.L.Lookup.listed c.args.table.now in
+    let p : TForm = c.args.parts.now in
+    let fields : IsNormalForm (ListStep false separator_cmp) p.fields c.put_in_order.new.parts.items =
+    subst (λ (fs : List FieldParts). IsNormalForm (ListStep false separator_cmp) fs c.put_in_order.new.parts.items) (ap (λ (t : TForm). t.fields) c.parts.view_is) c.put_in_order.ensures in
+    let source = ap (λ (t : TForm). t.source) c.parts.view_is in
+    elim c.match-parts.branch [
+      | in-Some w ↦
+          subst (IsNormalForm (TransformStep R) p) (sym (ap the_view w.parts-inside-is))
+          (transform_settles R p (record { source = Some w.settle_core.new.core; fields = c.put_in_order.new.parts.items })
+          (subst (λ (o : Option CoreParts). SourceSettles R o (Some w.settle_core.new.core)) (sym w.in-Some.is ∙ source) w.settle_core.ensures) fields)
+      | in_default w ↦
+          subst (IsNormalForm (TransformStep R) p) (sym (ap the_view w.parts-inside-is))
+          (transform_settles R p (record { source = c.parts.inside.source; fields = c.put_in_order.new.parts.items })
+          (subst (λ (o : Option CoreParts). SourceSettles R o c.parts.inside.source) source (subst (λ (o : Option CoreParts). SourceSettles R o o) (sym w.in_default.is) tt)) fields)
+    ]

@@ -1,0 +1,122 @@
+//! Chains of values: each subtag's value, that one's value, and so on (RFC 5646, 3.1.7).
+ghost use Rattle.std.specs.Prelude.{◌≡◌, true, IfSome, IfOk, OnErr};
+ghost use Rattle.std.specs.Option.{option_copied};
+ghost use Rattle.lt_subtag.specs.Shapes.{is_language, is_extlang};
+ghost use Rattle.lt_registry.specs.Entries.{one_of, has_form, has_value_form, is_short};
+ghost use Rattle.lt_registry.specs.Entries as entries;
+ghost use Rattle.lt_rewrite.specs.CoreSteps.{Ends, EndsIn};
+ghost use Rattle.lt_rewrite.specs.Conditions as conditions;
+ghost use Rattle.lt_rewrite.specs.ChainEnds.{ChainEnds, ChainEndsIn};
+
+use lt_registry::{Entry, EntryValue, Kind, Lookup};
+use lt_subtag::Subtag;
+use std::fmt;
+
+/// The chain of values from a subtag has no end.
+#[derive(Clone, Copy, Debug, Drop, PartialEq, Eq)]
+pub struct Cycle;
+
+impl fmt::Display for Cycle {
+    fn fmt<W: fmt::Write>(&self, f: &mut fmt::Formatter<W>) -> fmt::Result {
+        write!(f, "Cycle")
+    }
+}
+
+impl std::error::Error for Cycle {}
+
+/// The one subtag that an entry gives as its value.
+pub(crate) fn one_value(entry: &Entry) -> Option<&Subtag>
+    ensures value { option_copied result ≡ one_of entry.now.value }
+    ensures form { IfSome result (λ value. has_value_form entry.now.kind value.now ≡ true) }
+{
+    match entry.value() {
+        Some(EntryValue::One(value)) => Some(value),
+        _ => None,
+    }
+}
+
+/// Whether a value of a variant is a language: it has 2 or 3 letters.
+pub(crate) fn is_short(subtag: &Subtag) -> bool
+    ensures { result ≡ is_short subtag.now }
+{
+    subtag.bytes().len() <= 3
+}
+
+/// The value of a subtag under a kind.
+fn value<'a, L: Lookup>(table: &'a L, kind: Kind, subtag: &Subtag) -> Option<&'a Subtag>
+    ensures value { option_copied result ≡ entries.value (L.listed table.now) kind subtag.now }
+    ensures form { IfSome result (λ value. has_value_form kind value.now ≡ true) }
+{
+    match table.entry(kind, subtag) {
+        Some(entry) => one_value(entry),
+        None => None,
+    }
+}
+
+/// The value that follows in a chain: that of a variant only where it is a variant.
+pub(crate) fn next_value<'a, L: Lookup>(
+    table: &'a L,
+    kind: Kind,
+    subtag: &Subtag,
+) -> Option<&'a Subtag>
+    ensures { option_copied result ≡ conditions.next_value (L.listed table.now) kind subtag.now }
+{
+    match kind {
+        Kind::Language | Kind::Script | Kind::Region => value(table, kind, subtag),
+        Kind::Variant => match value(table, kind, subtag) {
+            Some(next) if !is_short(next) => Some(next),
+            _ => None,
+        },
+        Kind::Extlang | Kind::Grandfathered | Kind::Redundant => None,
+    }
+}
+
+/// Where the chain of a kind ends. It does so within as many values as there are entries, if it ends.
+pub(crate) fn end_of_chain<L: Lookup>(
+    table: &L,
+    kind: Kind,
+    subtag: &Subtag,
+) -> Result<Subtag, Cycle>
+    ensures end { IfOk result (λ end. EndsIn (conditions.next_value (L.listed table.now) kind) subtag.now end) }
+    ensures form { IfOk result (λ end. has_form kind subtag.now ≡ true → has_form kind end ≡ true) }
+    ensures cycle { OnErr result (Ends (conditions.next_value (L.listed table.now) kind) subtag.now → ⊥) }
+{
+    let mut end = subtag.copy();
+    for _turn in 0..table.entries().len() {
+        match next_value(table, kind, &end) {
+            Some(next) => end = next.copy(),
+            None => return Ok(end),
+        }
+    }
+    match next_value(table, kind, &end) {
+        Some(_) => Err(Cycle),
+        None => Ok(end),
+    }
+}
+
+/// The replacement of an extlang: its value, or itself.
+#[tactic(auto, using(crate::proofs::Forms::extlang_is_language))]
+pub(crate) fn replacement<L: Lookup>(table: &L, extlang: &Subtag) -> Subtag
+    ensures value { result ≡ entries.replacement (L.listed table.now) extlang.now }
+    ensures form { is_extlang extlang.now ≡ true → is_language result ≡ true }
+{
+    match value(table, Kind::Extlang, extlang) {
+        Some(value) => value.copy(),
+        None => extlang.copy(),
+    }
+}
+
+/// The last subtag of the chain of values that begins with a subtag of a kind. A variant's chain
+/// follows variant values alone; for an extlang it is the chain of its replacement as a language,
+/// where an extlang that has no value, or is not registered, is its own replacement. Any other subtag
+/// without a value is its own end. Refused exactly where the chain has no end. Takes no memory; it
+/// looks up at most one subtag more than there are entries.
+pub fn chain_end<L: Lookup>(table: &L, kind: Kind, subtag: &Subtag) -> Result<Subtag, Cycle>
+    ensures end { IfOk result (λ end. ChainEndsIn (L.listed table.now) kind subtag.now end) }
+    ensures cycle { OnErr result (ChainEnds (L.listed table.now) kind subtag.now → ⊥) }
+{
+    match kind {
+        Kind::Extlang => end_of_chain(table, Kind::Language, &replacement(table, subtag)),
+        _ => end_of_chain(table, kind, subtag),
+    }
+}

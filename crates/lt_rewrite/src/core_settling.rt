@@ -1,0 +1,177 @@
+//! The core normal form (RFC 5646, 4.5).
+ghost use Rattle.std.specs.Prelude.{◌≡◌, ◌<◌, ℕ, true, Some, None, [], ◌∷◌, List, All, IfSome, length, MatchOption};
+ghost use Rattle.std.specs.Option.{option_copied};
+ghost use Rattle.lt_subtag.specs.Shapes.{is_language};
+ghost use Rattle.lt_registry.specs.Same.{same_list};
+ghost use Rattle.lt_registry.specs.Entries.{has_form, lists};
+ghost use Rattle.lt_rewrite.specs.Rewriting.{Star};
+ghost use Rattle.lt_rewrite.specs.CoreSteps.{values_of, CoreStep, IsCoreNormalForm, EndsIn};
+ghost use Rattle.lt_rewrite.specs.Conditions as conditions;
+ghost use Rattle.lt_rewrite.specs.Conditions.{HasEndingChain};
+ghost use Rattle.lt_rewrite.specs.CoreSettling.{IsFirstTurn, HasNoTurn, HasFinalLanguage, HasFinalScript, HasFinalRegion, HasFinalVariants};
+
+use crate::chain_ends::{end_of_chain, is_short, one_value, replacement};
+use lt_registry::{Kind, Lookup, Prefix};
+use lt_subtag::Subtag;
+use lt_tag::Core;
+
+/// The end of a chain, in a registry whose chains end.
+fn certain_end<L: Lookup>(table: &L, kind: Kind, subtag: &Subtag) -> Subtag
+    requires { All (HasEndingChain (L.listed table.now)) (L.listed table.now) }
+    ensures end { EndsIn (conditions.next_value (L.listed table.now) kind) subtag.now result }
+    ensures form { has_form kind subtag.now ≡ true → has_form kind result ≡ true }
+{
+    match end_of_chain(table, kind, subtag) {
+        Ok(end) => end,
+        Err(_) => unreachable!(),
+    }
+}
+
+/// Replaces the script by the end of its chain.
+fn settle_script<L: Lookup>(table: &L, core: &mut Core)
+    requires { All (HasEndingChain (L.listed table.now)) (L.listed table.now) }
+    ensures reached { Star (CoreStep (values_of (L.listed table.now))) core.old core.new }
+    ensures at_rest { HasFinalScript (values_of (L.listed table.now)) core.new }
+    ensures others { core.new ≡ record core.old { script = core.new.script } }
+{
+    if let Some(script) = core.script() {
+        let end = certain_end(table, Kind::Script, script);
+        core.set_script(end);
+    }
+}
+
+/// Replaces the region by the end of its chain.
+fn settle_region<L: Lookup>(table: &L, core: &mut Core)
+    requires { All (HasEndingChain (L.listed table.now)) (L.listed table.now) }
+    ensures reached { Star (CoreStep (values_of (L.listed table.now))) core.old core.new }
+    ensures at_rest { HasFinalRegion (values_of (L.listed table.now)) core.new }
+    ensures others { core.new ≡ record core.old { region = core.new.region } }
+{
+    if let Some(region) = core.region() {
+        let end = certain_end(table, Kind::Region, region);
+        core.set_region(end);
+    }
+}
+
+/// Replaces each variant by the end of its chain of variants.
+fn settle_variants<L: Lookup>(table: &L, core: &mut Core)
+    requires { All (HasEndingChain (L.listed table.now)) (L.listed table.now) }
+    ensures reached { Star (CoreStep (values_of (L.listed table.now))) core.old core.new }
+    ensures at_rest { HasFinalVariants (values_of (L.listed table.now)) core.new }
+    ensures others { core.new ≡ record core.old { variants = core.new.variants } }
+{
+    for index in 0..core.variants().len() {
+        let end = certain_end(table, Kind::Variant, &core.variants()[index]);
+        core.set_variant(index, end);
+    }
+}
+
+/// Replaces the language and a sole extlang by the extlang's replacement.
+fn settle_extlang<L: Lookup>(table: &L, core: &mut Core)
+    ensures reached { Star (CoreStep (values_of (L.listed table.now))) core.old core.new }
+    ensures at_rest { (x : List ℕ) → core.new.extlangs ≡ x ∷ [] → ⊥ }
+    ensures others { core.new ≡ record core.old { language = core.new.language; extlangs = core.new.extlangs } }
+{
+    if let [extlang] = core.extlangs() {
+        let language = replacement(table, extlang);
+        core.drop_extlangs();
+        core.set_language(language);
+    }
+}
+
+/// Replaces a language without extlangs by the end of its chain.
+fn settle_language<L: Lookup>(table: &L, core: &mut Core)
+    requires chains { All (HasEndingChain (L.listed table.now)) (L.listed table.now) }
+    requires alone { core.old.extlangs ≡ [] }
+    ensures reached { Star (CoreStep (values_of (L.listed table.now))) core.old core.new }
+    ensures at_rest { HasFinalLanguage (values_of (L.listed table.now)) core.new }
+    ensures others { core.new ≡ record core.old { language = core.new.language } }
+{
+    let end = certain_end(table, Kind::Language, core.language());
+    core.set_language(end);
+}
+
+/// Whether a Prefix is the language alone.
+fn is_language_alone(prefix: &Prefix, language: &Subtag) -> bool
+    ensures { result ≡ same_list prefix.now (language.now ∷ []) }
+{
+    match prefix.subtags() {
+        [only] => only.bytes() == language.bytes(),
+        _ => false,
+    }
+}
+
+/// Whether the language alone is among Prefixes.
+fn lists(prefixes: &[Prefix], language: &Subtag) -> bool
+    ensures { result ≡ lists prefixes.now language.now }
+{
+    prefixes
+        .iter()
+        .any(|prefix| is_language_alone(prefix, language))
+}
+
+/// The language that a variant turns into beside a language.
+fn turn<'a, L: Lookup>(table: &'a L, language: &Subtag, variant: &Subtag) -> Option<&'a Subtag>
+    ensures value { option_copied result ≡ (values_of (L.listed table.now)).turn language.now variant.now }
+    ensures form { IfSome result (λ value. is_language value.now ≡ true) }
+{
+    match table.entry(Kind::Variant, variant) {
+        Some(entry) => match one_value(entry) {
+            Some(value) if is_short(value) && lists(entry.prefixes(), language) => Some(value),
+            _ => None,
+        },
+        None => None,
+    }
+}
+
+/// The leftmost variant that turns beside the language: its index, and what it turns into.
+fn first_turn<L: Lookup>(table: &L, core: &Core) -> Option<(usize, Subtag)>
+    ensures turn { MatchOption result
+        (HasNoTurn (values_of (L.listed table.now)) core.now)
+        (λ turn. IsFirstTurn (values_of (L.listed table.now)) core.now turn.0 turn.1) }
+    ensures form { IfSome result (λ turn. is_language turn.1 ≡ true) }
+{
+    for (index, variant) in core.variants().iter().enumerate() {
+        if let Some(language) = turn(table, core.language(), variant) {
+            return Some((index, language.copy()));
+        }
+    }
+    None
+}
+
+/// Replaces a language without extlangs by the end of its chain; and as long as a variant turns
+/// beside it, the leftmost becomes the language, whose chain is followed again.
+fn settle_turns<L: Lookup>(table: &L, core: &mut Core)
+    requires chains { All (HasEndingChain (L.listed table.now)) (L.listed table.now) }
+    requires alone { core.old.extlangs ≡ [] }
+    requires variants { HasFinalVariants (values_of (L.listed table.now)) core.old }
+    ensures reached { Star (CoreStep (values_of (L.listed table.now))) core.old core.new }
+    ensures language { HasFinalLanguage (values_of (L.listed table.now)) core.new }
+    ensures turns { HasNoTurn (values_of (L.listed table.now)) core.new }
+    ensures variants { HasFinalVariants (values_of (L.listed table.now)) core.new }
+    ensures others { core.new ≡ record core.old { language = core.new.language; variants = core.new.variants } }
+{
+    settle_language(table, core);
+    while let Some((index, language)) = first_turn(table, core) {
+        core.remove_variant(index);
+        core.set_language(language);
+        settle_language(table, core);
+    }
+}
+
+/// Puts a core into its core normal form: each subtag is replaced by the end of its chain of values,
+/// a sole extlang by its replacement as the language, and a variant beside the language that its
+/// value replaces becomes that value. A core with more extlangs keeps them and its language. The
+/// chains of the registry end, as they do where `first_cycle` is None. Takes no memory.
+pub fn settle_core<L: Lookup>(table: &L, core: &mut Core)
+    requires { All (HasEndingChain (L.listed table.now)) (L.listed table.now) }
+    ensures { IsCoreNormalForm (values_of (L.listed table.now)) core.old core.new }
+{
+    settle_script(table, core);
+    settle_region(table, core);
+    settle_variants(table, core);
+    settle_extlang(table, core);
+    if core.extlangs().is_empty() {
+        settle_turns(table, core);
+    }
+}

@@ -1,0 +1,54 @@
+//! The normal forms of `u` and `t` extensions (RFC 5646, 4.5; RFC 6067; RFC 6497).
+ghost use Rattle.std.specs.Prelude.{◌≡◌, List, All, IsOk, map};
+ghost use Rattle.lt_rewrite.specs.Rewriting.{IsNormalForm};
+ghost use Rattle.lt_rewrite.specs.Extensions.{UnicodeStep, TransformStep};
+ghost use Rattle.lt_rewrite.specs.Conditions.{HasEndingChain};
+ghost use Rattle.lt_rewrite.specs.ExtensionSettling.{untrue};
+
+use crate::core_settling::settle_core;
+use crate::part_ordering::put_in_order;
+use lt_registry::Lookup;
+use lt_tag::{Keyword, OutOfMemory, TParts, UParts};
+use std::alloc::Global;
+
+/// Drops a sole type `true`.
+fn drop_true(keyword: &mut Keyword)
+    ensures { keyword.new ≡ untrue keyword.old }
+{
+    if let [only] = keyword.types.as_slice()
+        && only.bytes() == b"true".as_slice()
+    {
+        keyword.types.clear();
+    }
+}
+
+/// Puts the parts of a `u` extension into their normal form: sole types `true` go, of equal
+/// attributes and of keywords of one key the first stays, and both stand in their order. The types
+/// of a keyword keep theirs. It takes no memory, and so is never refused.
+pub fn settle_u(_alloc: Global, parts: &mut UParts) -> Result<(), OutOfMemory>
+    ensures settled { IsNormalForm UnicodeStep parts.old parts.new }
+    ensures ok { IsOk result }
+{
+    put_in_order(&mut parts.attributes, true);
+    for keyword in parts.keywords.iter_mut() {
+        drop_true(keyword);
+    }
+    put_in_order(&mut parts.keywords, true);
+    Ok(())
+}
+
+/// Puts the parts of a `t` extension into their normal form: the source is put into its core normal
+/// form, and the fields into the order of their separators, where those of one separator keep their
+/// order. The values of a field keep theirs. The chains of the registry end, as they do where
+/// `first_cycle` is None. It takes no memory, and so is never refused.
+pub fn settle_t<L: Lookup>(_alloc: Global, table: &L, parts: &mut TParts) -> Result<(), OutOfMemory>
+    requires { All (HasEndingChain (L.listed table.now)) (L.listed table.now) }
+    ensures settled { IsNormalForm (TransformStep (L.listed table.now)) parts.old parts.new }
+    ensures ok { IsOk result }
+{
+    put_in_order(&mut parts.fields, false);
+    if let Some(source) = &mut parts.source {
+        settle_core(table, source);
+    }
+    Ok(())
+}
