@@ -1,150 +1,171 @@
 use super::*;
 use crate::tags::Class;
-use lt_subtag::Subtag;
-use std::test::Fail;
+use crate::words::{has_class, has_words, long_text};
+use std::alloc::AllocError;
 
-/// The name and the place of a text's fault.
-fn fault_of(alloc: Global, text: &[u8]) -> Option<(&'static str, u32)> {
-    read_tag(alloc, text)
-        .err()
-        .map(|fault| (fault.kind.name(), fault.place))
-}
-
-/// The number of the grandfathered tag that a text is.
-fn number_of(alloc: Global, text: &[u8]) -> Result<Option<u8>, TagFault> {
-    Ok(read_tag(alloc, text)?.grandfathered())
-}
-
-/// A text of one piece, 113 others of eight letters, and a last one.
-fn long_text(alloc: Global, first: &[u8], last: &[u8]) -> Result<Vec<u8>, Fail> {
-    let mut text = Vec::from_slice(alloc, first)?;
-    for _ in 0..113 {
-        text.extend_from_slice(b"-aaaaaaaa")?;
-    }
-    text.extend_from_slice(last)?;
-    Ok(text)
-}
-
-/// Whether these subtags have these bytes.
-fn are(subtags: &[Subtag], bytes: &[&[u8]]) -> bool {
-    subtags
-        .iter()
-        .map(|subtag| subtag.bytes())
-        .eq(bytes.iter().copied())
-}
-
-#[test]
-fn faults_of_pieces(rt: HostRuntime) {
-    let alloc = rt.alloc();
-    assert_eq!(rt; fault_of(alloc, b""), Some(("EmptySubtag", 1)));
-    assert_eq!(rt; fault_of(alloc, b"en-"), Some(("EmptySubtag", 2)));
-    assert_eq!(rt; fault_of(alloc, b"en--us"), Some(("EmptySubtag", 2)));
-    assert_eq!(rt; fault_of(alloc, b"en_US"), Some(("BadByte", 1)));
-    assert_eq!(rt; fault_of(alloc, b"en-abcdefgh_"), Some(("BadByte", 2)));
-    assert_eq!(rt; fault_of(alloc, b"en-abcdefghi"), Some(("LongSubtag", 2)));
+/// Texts with the names and the places of their faults.
+const FAULTS: [(&str, &str, u32); 22] = [
+    ("", "EmptySubtag", 1),
+    ("en-", "EmptySubtag", 2),
+    ("en--us", "EmptySubtag", 2),
+    ("en_US", "BadByte", 1),
+    ("en-abcdefgh_", "BadByte", 2),
+    ("en-abcdefghi", "LongSubtag", 2),
     // A piece that is no subtag comes first, even behind a misplaced subtag.
-    assert_eq!(rt; fault_of(alloc, b"e1-a-b_"), Some(("BadByte", 3)));
-    assert_eq!(rt; fault_of(alloc, b"en-419-GB-"), Some(("EmptySubtag", 4)));
-    assert_eq!(rt; fault_of(alloc, b"en-a-"), Some(("EmptySubtag", 3)));
+    ("e1-a-b_", "BadByte", 3),
+    ("en-419-GB-", "EmptySubtag", 4),
+    ("en-a-", "EmptySubtag", 3),
+    ("e1", "BadLanguage", 1),
+    ("i-foo", "BadLanguage", 1),
+    ("a-bb", "BadLanguage", 1),
+    ("abcd-efg", "Misplaced", 2),
+    ("en-419-GB", "Misplaced", 3),
+    ("en-aaa-bbb-ccc-ddd", "Misplaced", 5),
+    ("en-a-x-b", "Misplaced", 3),
+    ("en-a-b-cc", "Misplaced", 3),
+    ("sgn-BE-FR-x-a", "Misplaced", 3),
+    ("en-GB-oed-x-a", "Misplaced", 3),
+    ("en-a", "Unfinished", 3),
+    ("qaa-x", "Unfinished", 3),
+    ("x", "Unfinished", 2),
+];
+
+/// Whether a text has a fault of this name at this place.
+fn has_fault(alloc: Global, text: &[u8], name: &str, place: u32) -> bool {
+    match read_tag(alloc, text) {
+        Ok(_) => false,
+        Err(fault) => fault.kind.name() == name && fault.place == place,
+    }
 }
 
 #[test]
-fn faults_of_lists(rt: HostRuntime) {
-    let alloc = rt.alloc();
-    assert_eq!(rt; fault_of(alloc, b"e1"), Some(("BadLanguage", 1)));
-    assert_eq!(rt; fault_of(alloc, b"i-foo"), Some(("BadLanguage", 1)));
-    assert_eq!(rt; fault_of(alloc, b"a-bb"), Some(("BadLanguage", 1)));
-    assert_eq!(rt; fault_of(alloc, b"abcd-efg"), Some(("Misplaced", 2)));
-    assert_eq!(rt; fault_of(alloc, b"en-419-GB"), Some(("Misplaced", 3)));
-    assert_eq!(rt;
-        fault_of(alloc, b"en-aaa-bbb-ccc-ddd"),
-        Some(("Misplaced", 5))
-    );
-    assert_eq!(rt; fault_of(alloc, b"en-a-x-b"), Some(("Misplaced", 3)));
-    assert_eq!(rt; fault_of(alloc, b"en-a-b-cc"), Some(("Misplaced", 3)));
-    assert_eq!(rt; fault_of(alloc, b"sgn-BE-FR-x-a"), Some(("Misplaced", 3)));
-    assert_eq!(rt; fault_of(alloc, b"en-GB-oed-x-a"), Some(("Misplaced", 3)));
-    assert_eq!(rt; fault_of(alloc, b"en-a"), Some(("Unfinished", 3)));
-    assert_eq!(rt; fault_of(alloc, b"qaa-x"), Some(("Unfinished", 3)));
-    assert_eq!(rt; fault_of(alloc, b"x"), Some(("Unfinished", 2)));
+fn faults(rt: HostRuntime) {
+    for (text, name, place) in &FAULTS {
+        assert!(rt;
+            has_fault(rt.alloc(), text.as_bytes(), name, *place),
+            "{text}"
+        );
+    }
+}
+
+/// Texts of 1,024 bytes: the first piece, the last one, and how many variants and subtags of
+/// private use they have.
+const LONGEST: [(&str, &str, usize, usize); 2] = [("en-x", "-aa", 0, 114), ("en", "-1aaa", 114, 0)];
+
+/// Whether a text's tag has so many variants and subtags of private use.
+fn has_counts(
+    alloc: Global,
+    text: &[u8],
+    variants: usize,
+    private: usize,
+) -> Result<bool, TagFault> {
+    let tag = read_tag(alloc, text)?;
+    Ok(match tag.core() {
+        Some(core) => core.variants().len() == variants && tag.private().len() == private,
+        None => false,
+    })
+}
+
+/// Whether such a text has 1,024 bytes and is read.
+fn is_read(
+    alloc: Global,
+    first: &str,
+    last: &str,
+    variants: usize,
+    private: usize,
+) -> Result<bool, TagFault> {
+    let text = long_text(alloc, first, last)?;
+    Ok(text.len() == 1024 && has_counts(alloc, &text, variants, private)?)
 }
 
 #[test]
-fn limit(rt: HostRuntime) -> Result<(), Fail> {
-    let alloc = rt.alloc();
-    let text = long_text(alloc, b"en-x", b"-aa")?;
-    assert_eq!(rt; text.len(), 1024);
-    assert_eq!(rt; read_tag(alloc, text.as_slice())?.private().len(), 114);
-    let text = long_text(alloc, b"en-x", b"-aaa")?;
-    assert_eq!(rt; fault_of(alloc, text.as_slice()), Some(("TooLong", 0)));
-    let text = long_text(alloc, b"en", b"-1aaa")?;
-    assert_eq!(rt; text.len(), 1024);
-    let tag = read_tag(alloc, text.as_slice())?;
-    assert_eq!(rt; tag.core().map(|core| core.variants().len()), Some(114));
-    let text = long_text(alloc, b"en", b"-aaaaa")?;
-    assert_eq!(rt; fault_of(alloc, text.as_slice()), Some(("TooLong", 0)));
+fn longest_texts(rt: HostRuntime) -> Result<(), TagFault> {
+    for (first, last, variants, private) in &LONGEST {
+        assert!(rt;
+            is_read(rt.alloc(), first, last, *variants, *private)?,
+            "{first}"
+        );
+    }
     Ok(())
 }
 
+/// The first and the last piece of texts of 1,025 bytes.
+const LONGER: [(&str, &str); 2] = [("en-x", "-aaa"), ("en", "-aaaaa")];
+
+/// Whether such a text has 1,025 bytes and is refused.
+fn is_too_long(alloc: Global, first: &str, last: &str) -> Result<bool, AllocError> {
+    let text = long_text(alloc, first, last)?;
+    Ok(text.len() == 1025 && has_fault(alloc, &text, "TooLong", 0))
+}
+
 #[test]
-fn grandfathered(rt: HostRuntime) -> Result<(), Fail> {
-    let alloc = rt.alloc();
-    assert_eq!(rt; number_of(alloc, b"en-gb-OED")?, Some(1));
-    assert_eq!(rt; number_of(alloc, b"SGN-be-fr")?, Some(15));
-    assert_eq!(rt; number_of(alloc, b"zh-MIN")?, Some(24));
-    assert_eq!(rt; number_of(alloc, b"ZH-min-nan")?, Some(25));
-    assert_eq!(rt; number_of(alloc, b"zh-xiang")?, Some(26));
-    assert_eq!(rt; number_of(alloc, b"zh-min-x-a")?, None);
-    assert_eq!(rt; read_tag(alloc, b"zh-MIN")?.class(), Class::Grandfathered);
+fn longer_texts(rt: HostRuntime) -> Result<(), AllocError> {
+    for (first, last) in &LONGER {
+        assert!(rt; is_too_long(rt.alloc(), first, last)?, "{first}");
+    }
+    Ok(())
+}
+
+/// Texts with their classes and the numbers of those that are grandfathered.
+const CLASSES: [(&str, Class, Option<u8>); 10] = [
+    ("en-gb-OED", Class::Grandfathered, Some(1)),
+    ("SGN-be-fr", Class::Grandfathered, Some(15)),
+    ("zh-MIN", Class::Grandfathered, Some(24)),
+    ("ZH-min-nan", Class::Grandfathered, Some(25)),
+    ("zh-xiang", Class::Grandfathered, Some(26)),
+    ("zh-min-x-a", Class::LangTag, None),
+    ("art-lojban-x-A", Class::LangTag, None),
+    ("sl-rozaj-b-ccc-a-aaa-x-yz-1", Class::LangTag, None),
+    ("X-a", Class::PrivateUse, None),
+    ("x-ab-c", Class::PrivateUse, None),
+];
+
+#[test]
+fn classes(rt: HostRuntime) -> Result<(), TagFault> {
+    for (text, class, number) in &CLASSES {
+        assert!(rt; has_class(rt.alloc(), text, *class, *number)?, "{text}");
+    }
     Ok(())
 }
 
 // It takes no memory.
 #[test]
-fn usual_langtag(rt: HostRuntime) -> Result<(), Fail> {
-    let tag = read_tag(rt.alloc(), b"ZH-yue-hant-hk")?;
-    assert_eq!(rt; tag.class(), Class::LangTag);
-    let core = tag.core().ok_or("core")?;
-    assert_eq!(rt; core.language().bytes(), b"zh".as_slice());
-    assert!(rt; are(core.extlangs(), &[b"yue"]));
-    assert_eq!(rt;
-        core.script().map(|script| script.bytes()),
-        Some(b"hant".as_slice())
-    );
-    assert_eq!(rt;
-        core.region().map(|region| region.bytes()),
-        Some(b"hk".as_slice())
-    );
+fn usual_langtag(rt: HostRuntime) -> Result<(), TagFault> {
+    assert!(rt; has_class(rt.alloc(), "ZH-yue-hant-hk", Class::LangTag, None)?);
     Ok(())
 }
 
-#[test]
-fn variants(rt: HostRuntime) -> Result<(), Fail> {
-    let alloc = rt.alloc();
-    let tag = read_tag(alloc, b"sl-ROZAJ-1994")?;
-    let core = tag.core().ok_or("core")?;
-    assert!(rt; are(core.variants(), &[b"rozaj", b"1994"]));
-    let tag = read_tag(alloc, b"en-1ABC")?;
-    let core = tag.core().ok_or("core")?;
-    assert!(rt; are(core.variants(), &[b"1abc"]));
-    Ok(())
-}
+/// Texts with the parts of their tags.
+const PARTS: [(&str, &str); 11] = [
+    (
+        "ZH-yue-hant-hk",
+        " language zh extlang yue script hant region hk",
+    ),
+    (
+        "zh-yue-hant-hk-1901",
+        " language zh extlang yue script hant region hk variant 1901",
+    ),
+    ("sl-ROZAJ-1994", " language sl variant rozaj variant 1994"),
+    ("en-1ABC", " language en variant 1abc"),
+    ("en-Latn-a-bb", " language en script latn extension a bb"),
+    (
+        "en-1-AA-x-C-DD",
+        " language en extension 1 aa private c private dd",
+    ),
+    ("art-lojban-x-A", " language art variant lojban private a"),
+    (
+        "sl-rozaj-b-ccc-a-aaa-x-yz-1",
+        " language sl variant rozaj extension b ccc extension a aaa private yz private 1",
+    ),
+    ("X-a", " private a"),
+    ("x-ab-c", " private ab private c"),
+    ("zh-MIN", ""),
+];
 
 #[test]
-fn extensions_and_private_use(rt: HostRuntime) -> Result<(), Fail> {
-    let alloc = rt.alloc();
-    let tag = read_tag(alloc, b"en-1-AA-x-C-DD")?;
-    assert!(rt; are(tag.private(), &[b"c", b"dd"]));
-    let [extension] = tag.extensions() else {
-        return Err(Fail::from("extensions"));
-    };
-    assert_eq!(rt; extension.singleton(), b'1');
-    assert!(rt; are(extension.subtags(), &[b"aa"]));
-    let tag = read_tag(alloc, b"art-lojban-x-A")?;
-    assert_eq!(rt; tag.class(), Class::LangTag);
-    assert!(rt; are(tag.private(), &[b"a"]));
-    let tag = read_tag(alloc, b"X-a")?;
-    assert_eq!(rt; tag.class(), Class::PrivateUse);
-    assert!(rt; are(tag.private(), &[b"a"]));
+fn parts_of_tags(rt: HostRuntime) -> Result<(), TagFault> {
+    for (text, words) in &PARTS {
+        assert!(rt; has_words(rt.alloc(), text, words)?, "{text}");
+    }
     Ok(())
 }

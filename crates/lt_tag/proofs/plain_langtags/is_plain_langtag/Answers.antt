@@ -1,0 +1,28 @@
+use Rattle.std.proofs.Common.{length, sym, ap, arith, ◌≤◌, ◌<◌}
+use Rattle.lt_tag.proofs.PlainLangTagLemmas.{room_begin, room_more, stops, ends_plain, short_left, long_left}
+use Rattle.lt_tag.proofs.plain_langtags.is_plain_langtag.Goals as goal
+use Rattle.lt_tag.proofs.plain_langtags.is_plain_langtag.Goals.{then-bytes-le3, else-bytes-le3}
+
+pub loop-subtag-init : goal.loop-subtag-init
+loop-subtag-init c =
+    let language = c.in-Some.language.now in
+    let bytes = ap length c.bytes.ensures.same in
+    room_begin c.args.subtags.now c.in-Some.others.now language c.in-Some.ensures.cases.0 (sym c.if-not-is_language.ensures) c.if-bytes-le3.extlangs
+    (elim c.if-bytes-le3.branch [
+      | then-bytes-le3 w ↦ let n : length language ≤ 3 = omega (arith, bytes, w.if-bytes-le3) in short_left language c.if-bytes-le3.extlangs n w.extlangs-is
+      | else-bytes-le3 w ↦ let n : 3 < length language = omega (arith, bytes, w.if-bytes-le3) in long_left language c.if-bytes-le3.extlangs n w.extlangs-is
+    ])
+
+pub returns-in-None : goal.returns-in-None
+returns-in-None c = (
+  (λ t. cc),
+  (λ p. absurd (stops c.args.subtags.now c.in-Some.others.now c.loop-subtag.subtag-index c.subtag-item.result c.loop-subtag.room c.loop-subtag.invariant c.loop-subtag-test.true c.subtag-item.is (sym c.in-None.ensures) p)),
+)
+
+pub loop-subtag-preserved : goal.loop-subtag-preserved
+loop-subtag-preserved c =
+    room_more c.args.subtags.now c.in-Some.others.now c.loop-subtag.subtag-index c.subtag-item.result c.loop-subtag.room c.in-Some-after.next c.loop-subtag.invariant c.loop-subtag-test.true c.subtag-item.is (sym c.in-Some-after.ensures)
+
+pub returns : goal.returns
+returns c =
+    ends_plain c.args.subtags.now c.in-Some.others.now c.loop-subtag.subtag-index c.loop-subtag.room c.loop-subtag.invariant c.loop-subtag-test.false c.number_of.result c.number_of.ensures.found c.number_of.ensures.none c.is_none.result c.is_none.ensures

@@ -1,0 +1,5 @@
+use Rattle.lt_tag.proofs.PlainLangTagLemmas.{HasRoom}
+use Rattle.lt_tag.proofs.plain_langtags.is_plain_langtag.Given as goal
+
+abbrev pub invariant-loop-subtag : goal.invariant-loop-subtag
+invariant-loop-subtag l = HasRoom l.fn.subtags l.others l.subtag-index l.room

@@ -1,0 +1,81 @@
+//! Langtags without extensions and private use, as lists of subtags.
+ghost use Rattle.std.specs.Prelude.{◌≡◌, ◌↔◌, IsTrue};
+ghost use Rattle.lt_tag.specs.PlainLangTags.{IsPlainLangTag, room_after};
+
+use crate::grandfathered::number_of;
+use lt_subtag::Subtag;
+
+/// What may follow the subtags of a core (RFC 5646, 2.1).
+#[derive(Clone, Copy, Drop)]
+enum Room {
+    /// So many extlangs, or a script, a region or a variant.
+    Extlangs(u8),
+    /// A region or a variant.
+    Region,
+    /// A variant.
+    Variants,
+}
+
+impl Room {
+    /// What may follow once this subtag stands there, if it may.
+    fn after(self, subtag: &Subtag) -> Option<Room>
+        ensures { result ≡ room_after self subtag.now }
+    {
+        match self {
+            Room::Extlangs(left) if subtag.is_extlang() && left > 0 => {
+                Some(Room::Extlangs(left - 1))
+            }
+            Room::Extlangs(_) if subtag.is_script() => Some(Room::Region),
+            Room::Extlangs(_) | Room::Region if subtag.is_region() => Some(Room::Variants),
+            _ if subtag.is_variant() => Some(Room::Variants),
+            _ => None,
+        }
+    }
+}
+
+/// Whether these are the subtags of a langtag without extensions and private use. A list of one of the
+/// 26 grandfathered tags is none. Takes no memory, and a list of any length.
+pub fn is_plain_langtag(subtags: &[Subtag]) -> bool
+    ensures { IsTrue result ↔ IsPlainLangTag subtags.now }
+{
+    let Some((language, others)) = subtags.split_first() else {
+        return false;
+    };
+    if !language.is_language() {
+        return false;
+    }
+    let extlangs = if language.bytes().len() <= 3 { 3 } else { 0 };
+    let mut room = Room::Extlangs(extlangs);
+    for subtag in others {
+        match room.after(subtag) {
+            Some(next) => room = next,
+            None => return false,
+        }
+    }
+    number_of(subtags).is_none()
+}
+
+#[cfg(test)]
+mod tests {
+    use super::*;
+    use std::alloc::Global;
+    use std::test::Fail;
+
+    fn is_langtag(alloc: Global, texts: &[&[u8]]) -> Result<bool, Fail> {
+        let mut subtags = Vec::new(alloc);
+        for text in texts {
+            subtags.push(Subtag::read(text).map_err(|fault| fault.name())?)?;
+        }
+        Ok(is_plain_langtag(&subtags))
+    }
+
+    #[test]
+    fn lists_of_langtags(rt: HostRuntime) -> Result<(), Fail> {
+        let alloc = rt.alloc();
+        assert!(rt; is_langtag(alloc, &[b"ja", b"latn", b"hepburn"])?);
+        assert!(rt; is_langtag(alloc, &[b"zh", b"min", b"hans"])?);
+        assert!(rt; !is_langtag(alloc, &[b"zh", b"min"])?);
+        assert!(rt; !is_langtag(alloc, &[b"de", b"x", b"a"])?);
+        Ok(())
+    }
+}
