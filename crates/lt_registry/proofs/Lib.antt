@@ -2,6 +2,7 @@ pub mod CheckLemmas
 pub mod CoreFaultLemmas
 pub mod ExtensionFaultLemmas
 pub mod FirstLemmas
+pub mod IndexLemmas
 pub mod ListFaultLemmas
 pub mod ListLemmas
 pub mod NameReadLemmas
@@ -10,7 +11,10 @@ pub mod RecordLaws
 pub mod RegistryLemmas
 pub mod SameLemmas
 pub mod ScanLemmas
+pub mod SortedLemmas
 pub mod SplitListLemmas
+pub mod SubtagNumbers
 pub mod TagFaultLemmas
+pub mod TagOrderLemmas
 pub mod ValidityLaws
 pub mod VariantFaultLemmas

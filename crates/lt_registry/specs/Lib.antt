@@ -8,3 +8,5 @@ pub mod Checking
 pub mod Records
 pub mod RecordRefusals
 pub mod RecordSteps
+pub mod TagOrder
+pub mod Sorted

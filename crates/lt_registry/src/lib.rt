@@ -5,20 +5,28 @@
 mod entries;
 mod faults;
 mod fields;
+mod indexes;
+mod kind_index;
 pub mod laws;
 mod list_table;
 mod lookup;
 mod names;
 mod records;
 mod registry;
+mod rows;
 mod same;
+mod sorted_table;
+mod subtag_numbers;
+mod tag_order;
 mod validity;
+mod whole_index;
 
 pub use entries::{Entry, EntryName, EntryValue, Kind, Prefix};
 pub use faults::{RecordFault, RecordFaultKind, ValidFault, ValidFaultKind, ValidRefusal};
 pub use list_table::ListTable;
 pub use lookup::Lookup;
 pub use registry::Registry;
+pub use sorted_table::SortedTable;
 pub use validity::{proper, validate};
 
 #[cfg(test)]

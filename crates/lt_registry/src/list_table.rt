@@ -7,7 +7,7 @@ ghost use Rattle.lt_registry.specs.Entries as forms;
 
 use crate::entries::{Entry, EntryName, Kind};
 use crate::lookup::Lookup;
-use crate::names::{is_alphabetic, is_up_to};
+use crate::names::holds;
 use crate::registry::Registry;
 use crate::same::{same_kind, same_tag};
 use lt_subtag::Subtag;
@@ -77,20 +77,6 @@ fn is_named(name: &EntryName, subtag: &Subtag) -> bool
 {
     match name {
         EntryName::Single(single) => single == subtag,
-        _ => false,
-    }
-}
-
-fn holds(name: &EntryName, subtag: &Subtag) -> bool
-    ensures { result ≡ forms.holds subtag.now name.now }
-{
-    match name {
-        EntryName::Range(first, last) => {
-            subtag.bytes().len() == first.bytes().len()
-                && is_alphabetic(subtag)
-                && is_up_to(first, subtag)
-                && is_up_to(subtag, last)
-        }
         _ => false,
     }
 }

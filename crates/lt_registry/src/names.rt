@@ -1,8 +1,9 @@
-//! Letters and their order, for ranges.
+//! Letters and their order, and the ranges that hold a subtag.
 ghost use Rattle.std.specs.Prelude.{◌≡◌};
 ghost use Rattle.lt_subtag.specs.Shapes as shapes;
 ghost use Rattle.lt_registry.specs.Entries as forms;
 
+use crate::entries::EntryName;
 use lt_subtag::Subtag;
 use std::cmp::Ordering;
 
@@ -20,5 +21,20 @@ pub(crate) fn is_up_to(first: &Subtag, other: &Subtag) -> bool
     match first.cmp(other) {
         Ordering::Less | Ordering::Equal => true,
         Ordering::Greater => false,
+    }
+}
+
+/// Whether a name is a range that holds a subtag.
+pub(crate) fn holds(name: &EntryName, subtag: &Subtag) -> bool
+    ensures { result ≡ forms.holds subtag.now name.now }
+{
+    match name {
+        EntryName::Range(first, last) => {
+            subtag.bytes().len() == first.bytes().len()
+                && is_alphabetic(subtag)
+                && is_up_to(first, subtag)
+                && is_up_to(subtag, last)
+        }
+        _ => false,
     }
 }

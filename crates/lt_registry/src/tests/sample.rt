@@ -80,7 +80,7 @@ fn push_record(text: &mut String, row: (&str, &str, &str, &str)) -> Result<(), A
 }
 
 /// The text of the registry.
-fn sample_text(alloc: Global) -> Result<String, AllocError> {
+pub fn sample_text(alloc: Global) -> Result<String, AllocError> {
     let mut text = String::from_str(alloc, "File-Date: 2024-01-01\n")?;
     for row in ROWS {
         push_record(&mut text, row)?;
@@ -104,8 +104,13 @@ pub fn registry_of(
 /// The table of the sample.
 pub fn sample(alloc: Global) -> Result<ListTable, Fail> {
     let text = sample_text(alloc)?;
-    match registry_of(alloc, text.as_bytes())? {
-        Ok(registry) => Ok(ListTable::new(registry)),
-        Err(_) => Err(Fail::from("the sample is refused")),
+    Ok(ListTable::new(accepted(alloc, text.as_bytes())?))
+}
+
+/// The entries of a registry's text, which has no fault.
+pub fn accepted(alloc: Global, text: &[u8]) -> Result<Registry, Fail> {
+    match registry_of(alloc, text)? {
+        Ok(registry) => Ok(registry),
+        Err(_) => Err(Fail::from("the registry is refused")),
     }
 }

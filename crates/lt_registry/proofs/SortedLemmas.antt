@@ -1,0 +1,249 @@
+-- What the indexes of a sorted table find.
+use Rattle.std.proofs.Common.{◌≡◌, ℕ, ◌+◌, ◌<◌, ◌≤◌, Bool, true, false, ◌&&◌, cond, List, [], ◌∷◌, ◌++◌, length, take, drop, get_or, Option, Some, None, refl, sym, ap, ◌∙◌, subst, arith, add-one, eqb, inl, inr}
+use Rattle.std.specs.List.{All, HoldsAt, find, filter, filter_map, cons_option, slice_get}
+use Rattle.std.specs.List.Sorted.{IsNonDecreasingBy, IsPartitionPoint}
+use Rattle.std.specs.Option.{option_map, option_cmp, option_and_then, option_or}
+use Rattle.std.specs.Ordering.{nat_cmp, ordering_index, is_eq}
+use Rattle.std.specs.declared.cmp.Ordering.TheVariants.{Less, Equal, Greater}
+use Rattle.std.proofs.Math.Seq.{drop-cons}
+use Rattle.std.specs.Cmp.{IsTotalOrder}
+use Rattle.std.specs.Cmp.Lexicographic.{same_text}
+use Rattle.std.specs.Prelude.{bytes_eq}
+use Rattle.std.proofs.lemmas.Bool.{and_parts, cases_Bool}
+use Rattle.std.proofs.lemmas.Bool.Decides.{nat_tests}
+use Rattle.std.proofs.lemmas.Cmp.{nat_cmp_total, then_total, on_total}
+use Rattle.std.proofs.lemmas.List.Elements.{filter_map-append, filter-append}
+use Rattle.std.proofs.lemmas.List.{append-nil, drop_all}
+use Rattle.std.proofs.lemmas.Option.{slice_get_within, get_or_from_slice_get, slice_get_read}
+use Rattle.lt_tag.specs.Parts.{TagForm, LangTag, PrivateUse, Grandfathered}
+use Rattle.lt_registry.specs.Parts.{EntryParts}
+use Rattle.lt_registry.specs.Same.{same_kind, same_core, same_tag}
+use Rattle.lt_registry.specs.Entries.{has_form, is_whole_kind, FitsName, IsEntry, is_named, holds, is_whole, entry, whole}
+use Rattle.lt_registry.specs.Sorted.{number, single_number, single_row, is_range, is_range_of, range_at, tag_in, tag_at, language_number, whole_row, whole_key, key_cmp, IsSingles, IsRanges, IsWholes, index_of}
+use Rattle.lt_registry.specs.TagOrder.{tag_cmp}
+use Rattle.lt_registry.specs.declared.entries.Kind.{Kind}
+use Rattle.lt_registry.specs.declared.entries.Kind.TheVariants as kinds
+use Rattle.lt_registry.specs.declared.entries.EntryName.{EntryName}
+use Rattle.lt_registry.specs.declared.entries.EntryName.TheVariants as names
+use Rattle.lt_registry.specs.declared.rows.Row.{Row}
+use Rattle.lt_registry.specs.declared.indexes.Indexes.{Indexes}
+use Rattle.lt_registry.proofs.IndexLemmas.{matches, found, absent, rises, find_none}
+use Rattle.lt_registry.proofs.ListLemmas.{take_turn}
+use Rattle.lt_registry.proofs.SubtagNumbers.{IsFew, form_few, numbers_equal}
+use Rattle.lt_registry.proofs.TagOrderLemmas.{nats_equal, then_equal, optional_tag_total, tags_equal}
+
+pub entry_at : (R : List EntryParts) → All IsEntry R → (p : ℕ) (e : EntryParts) → slice_get R p ≡ Some e → IsEntry e
+entry_at R forms p e there = subst IsEntry (get_or_from_slice_get R p e e there) (forms p e (slice_get_within R p e there))
+
+and_false : (b : Bool) → (b && false) ≡ false
+and_false true = refl
+and_false false = refl
+
+-- single records
+
+pub single_placed : (kind : Kind) (p : ℕ) (e : EntryParts) (w : Row) → single_row kind p e ≡ Some w → w.place ≡ p
+single_placed kind p e w h = by (same_kind e.kind kind) (single_number e.name) h
+  where
+    by : (b : Bool) (o : Option ℕ) → cond b (option_map (λ (n : ℕ). record { number = n; place = p }) o) None ≡ Some w → w.place ≡ p
+    by true (Some n) k = let same : record { number = n; place = p } ≡ w = cc in sym (ap (λ (r : Row). r.place) same)
+    by true None k = cc
+    by false o k = cc
+
+module _ (R : List EntryParts) (kind : Kind) (rows : List Row) (s : List ℕ) (ix : IsSingles R kind rows) (forms : All IsEntry R) (few : IsFew s) where
+  abbrev is_it : EntryParts → Bool
+  is_it e = same_kind e.kind kind && is_named s e.name
+
+  name_agrees : (p : ℕ) (k : Kind) (b : Bool) (name : EntryName) → FitsName k name
+      → (b && is_named s name) ≡ matches nat_cmp (λ (w : Row). w.number) (number s) (cond b (option_map (λ (n : ℕ). record { number = n; place = p }) (single_number name)) None)
+  name_agrees p k false name fits = refl
+  name_agrees p k true (names.Single n) fits = sym (nats_equal (number n) (number s) ∙ numbers_equal n s (form_few k n fits) few)
+  name_agrees p k true (names.Range a b) fits = refl
+  name_agrees p k true (names.Whole t) fits = refl
+
+  agrees : (p : ℕ) (e : EntryParts) → slice_get R p ≡ Some e → is_it e ≡ matches nat_cmp (λ (w : Row). w.number) (number s) (single_row kind p e)
+  agrees p e there = name_agrees p e.kind (same_kind e.kind kind) e.name (entry_at R forms p e there).name
+
+  pub single_found : (i : ℕ) (w : Row) → i < length rows → w ≡ get_or rows i w → HoldsAt (λ (y : Row). nat_cmp y.number (number s) ≡ Equal) rows i → find is_it R ≡ slice_get R w.place
+  single_found i w l is tied =
+      found nat_cmp_total (λ (r : Row). r.number) (λ (r : Row). r.place) (single_row kind) (single_placed kind) R rows ix (number s) is_it agrees i w l is
+      (ap (λ (y : Row). nat_cmp y.number (number s)) is ∙ tied w)
+
+  pub single_absent : (i : ℕ)
+      → (IsNonDecreasingBy (λ (y : Row). ordering_index (nat_cmp y.number (number s))) rows → IsPartitionPoint (λ (y : Row). nat_cmp y.number (number s) ≡ Less) (λ (y : Row). nat_cmp y.number (number s) ≡ Greater) rows i)
+      → find is_it R ≡ None
+  single_absent i point =
+      absent nat_cmp_total (λ (r : Row). r.number) (λ (r : Row). r.place) (single_row kind) (single_placed kind) R rows ix (number s) is_it agrees i
+      (point (rises nat_cmp_total (λ (r : Row). r.number) (λ (r : Row). r.place) (single_row kind) (single_placed kind) R rows ix (number s)))
+
+-- whole records
+
+pub whole_placed : (p : ℕ) (e : EntryParts) (w : Row) → whole_row p e ≡ Some w → w.place ≡ p
+whole_placed p e w h = by (tag_in e.name) h
+  where
+    by : (o : Option TagForm) → option_map (λ (t : TagForm). record { number = language_number t; place = p }) o ≡ Some w → w.place ≡ p
+    by (Some t) k = let same : record { number = language_number t; place = p } ≡ w = cc in sym (ap (λ (r : Row). r.place) same)
+    by None k = cc
+
+pub key_total : IsTotalOrder key_cmp
+key_total = then_total (on_total (λ (k : ℕ × Option TagForm). k.0) nat_cmp_total) (on_total (λ (k : ℕ × Option TagForm). k.1) optional_tag_total)
+
+-- equal tags have one language
+one_language : (u t : TagForm) → same_tag u t ≡ true → language_number u ≡ language_number t
+one_language (LangTag c es ps) (LangTag d fs qs) h =
+    let cores = (and_parts (same_core c d) _ h).0 in
+    let languages = (and_parts (bytes_eq c.language d.language) _ cores).0 in
+    ap number (same_text c.language d.language (sym languages))
+one_language (LangTag c es ps) (PrivateUse qs) h = cc
+one_language (LangTag c es ps) (Grandfathered n) h = cc
+one_language (PrivateUse ps) (LangTag d fs qs) h = cc
+one_language (PrivateUse ps) (PrivateUse qs) h = refl
+one_language (PrivateUse ps) (Grandfathered n) h = refl
+one_language (Grandfathered m) (LangTag d fs qs) h = cc
+one_language (Grandfathered m) (PrivateUse qs) h = refl
+one_language (Grandfathered m) (Grandfathered n) h = refl
+
+keys_equal : (u t : TagForm) → is_eq (key_cmp (language_number u, Some u) (language_number t, Some t)) ≡ same_tag u t
+keys_equal u t =
+    then_equal (nat_cmp (language_number u) (language_number t)) (tag_cmp u t)
+    ∙ rw (nats_equal (language_number u) (language_number t), tags_equal u t)
+    (elim (cases_Bool (same_tag u t)) [
+      | inl same ↦ rw (same, one_language u t same) (grind (arith, nat_tests))
+      | inr other ↦ rw other (and_false (eqb (language_number u) (language_number t)))
+    ])
+
+module _ (R : List EntryParts) (rows : List Row) (t : TagForm) (ix : IsWholes R rows) where
+  abbrev is_that : EntryParts → Bool
+  is_that e = is_whole t e.name
+
+  abbrev sought : ℕ × Option TagForm
+  sought = (language_number t, Some t)
+
+  tag_agrees : (p : ℕ) (e : EntryParts) (name : EntryName) → name ≡ e.name → slice_get R p ≡ Some e → is_whole t name ≡ matches key_cmp (whole_key R) sought (option_map (λ (u : TagForm). record { number = language_number u; place = p }) (tag_in name))
+  tag_agrees p e (names.Single n) is there = refl
+  tag_agrees p e (names.Range a b) is there = refl
+  tag_agrees p e (names.Whole u) is there =
+      let here : tag_at R p ≡ Some u = ap (option_and_then (λ (f : EntryParts). tag_in f.name)) there ∙ sym (ap tag_in is) in
+      sym (ap (λ o. is_eq (key_cmp (language_number u, o) sought)) here ∙ keys_equal u t)
+
+  whole_agrees : (p : ℕ) (e : EntryParts) → slice_get R p ≡ Some e → is_that e ≡ matches key_cmp (whole_key R) sought (whole_row p e)
+  whole_agrees p e there = tag_agrees p e e.name refl there
+
+  pub whole_found : (i : ℕ) (w : Row) → i < length rows → w ≡ get_or rows i w → HoldsAt (λ (v : Row). key_cmp (whole_key R v) sought ≡ Equal) rows i → whole R t ≡ slice_get R w.place
+  whole_found i w l is tied =
+      found key_total (whole_key R) (λ (v : Row). v.place) whole_row whole_placed R rows ix sought is_that whole_agrees i w l is
+      (ap (λ (v : Row). key_cmp (whole_key R v) sought) is ∙ tied w)
+
+  pub whole_absent : (i : ℕ)
+      → (IsNonDecreasingBy (λ (v : Row). ordering_index (key_cmp (whole_key R v) sought)) rows → IsPartitionPoint (λ (v : Row). key_cmp (whole_key R v) sought ≡ Less) (λ (v : Row). key_cmp (whole_key R v) sought ≡ Greater) rows i)
+      → whole R t ≡ None
+  whole_absent i point =
+      absent key_total (whole_key R) (λ (v : Row). v.place) whole_row whole_placed R rows ix sought is_that whole_agrees i
+      (point (rises key_total (whole_key R) (λ (v : Row). v.place) whole_row whole_placed R rows ix sought))
+
+-- ranges
+
+filtered_step : {X : Type 0} (P q H : X → Bool) (x : X) (xs : List X) (b h : Bool) → H x ≡ h → find P xs ≡ find H (filter q xs) → cond (b && h) (Some x) (find P xs) ≡ find H (cond b (x ∷ filter q xs) (filter q xs))
+filtered_step P q H x xs true true e rest = rw e refl
+filtered_step P q H x xs true false e rest = rw e rest
+filtered_step P q H x xs false h e rest = rest
+
+find_filtered : {X : Type 0} (P q H : X → Bool) → ((x : X) → P x ≡ (q x && H x)) → (xs : List X) → find P xs ≡ find H (filter q xs)
+find_filtered P q H same [] = refl
+find_filtered P q H same (x ∷ xs) = rw (same x) (filtered_step P q H x xs (q x) (H x) refl (find_filtered P q H same xs))
+
+module _ (R : List EntryParts) (kind : Kind) (s : List ℕ) where
+  range_agrees : (b : Bool) (name : EntryName) → (b && holds s name) ≡ ((b && is_range name) && holds s name)
+  range_agrees false name = refl
+  range_agrees true (names.Single n) = refl
+  range_agrees true (names.Range a b) = refl
+  range_agrees true (names.Whole t) = refl
+
+  -- what the ranges from a place on give
+  abbrev pub left_to_find : List ℕ → Option EntryParts
+  left_to_find places = find (λ (e : EntryParts). holds s e.name) (filter_map (slice_get R) places)
+
+  pub ranges_first : (places : List ℕ) → IsRanges R kind places → find (λ (e : EntryParts). same_kind e.kind kind && holds s e.name) R ≡ left_to_find places
+  ranges_first places is =
+      find_filtered (λ (e : EntryParts). same_kind e.kind kind && holds s e.name) (is_range_of kind) (λ (e : EntryParts). holds s e.name) (λ e. range_agrees (same_kind e.kind kind) e.name) R
+      ∙ ap (find (λ (e : EntryParts). holds s e.name)) (sym is)
+
+  or_later : (e : EntryParts) (places : List ℕ) (b : Bool) → cond b (Some e) (left_to_find places) ≡ option_or (cond b (Some e) None) (left_to_find places)
+  or_later e places true = refl
+  or_later e places false = refl
+
+  range_first : (o : Option EntryParts) (places : List ℕ) → find (λ (e : EntryParts). holds s e.name) (cons_option o (filter_map (slice_get R) places)) ≡ option_or (option_and_then (λ (e : EntryParts). cond (holds s e.name) (Some e) None) o) (left_to_find places)
+  range_first None places = refl
+  range_first (Some e) places = or_later e places (holds s e.name)
+
+  range_turn : (places : List ℕ) (i : ℕ) → i < length places → left_to_find (drop i places) ≡ option_or (range_at R s (get_or places i 0)) (left_to_find (drop (i + 1) places))
+  range_turn places i l =
+      let turn : drop i places ≡ get_or places i 0 ∷ drop (i + 1) places = drop-cons places i 0 l ∙ rw (add-one i) refl in
+      ap left_to_find turn ∙ range_first (slice_get R (get_or places i 0)) (drop (i + 1) places)
+
+  pub range_found : (places : List ℕ) (i : ℕ) (e : EntryParts) → i < length places → range_at R s (get_or places i 0) ≡ Some e → left_to_find (drop i places) ≡ Some e
+  range_found places i e l is = range_turn places i l ∙ ap (λ o. option_or o (left_to_find (drop (i + 1) places))) is
+
+  pub range_other : (places : List ℕ) (i : ℕ) → i < length places → range_at R s (get_or places i 0) ≡ None → left_to_find (drop i places) ≡ left_to_find (drop (i + 1) places)
+  range_other places i l is = range_turn places i l ∙ ap (λ o. option_or o (left_to_find (drop (i + 1) places))) is
+
+  pub ranges_end : (places : List ℕ) (i : ℕ) → length places ≤ i → left_to_find (drop i places) ≡ None
+  ranges_end places i l = ap left_to_find (drop_all i places l)
+
+-- the places of the ranges so far
+module _ (R : List EntryParts) (kind : Kind) (places : List ℕ) (i : ℕ) (e : EntryParts) (l : i < length R) (is : e ≡ get_or R i e) (so_far : filter_map (slice_get R) places ≡ filter (is_range_of kind) (take i R)) where
+  taken : filter (is_range_of kind) (take (i + 1) R) ≡ filter (is_range_of kind) (take i R) ++ filter (is_range_of kind) (e ∷ [])
+  taken = ap (filter (is_range_of kind)) (take_turn R i e l is) ∙ filter-append (is_range_of kind) (take i R) (e ∷ [])
+
+  pub range_added : is_range_of kind e ≡ true → filter_map (slice_get R) (places ++ i ∷ []) ≡ filter (is_range_of kind) (take (i + 1) R)
+  range_added h =
+      filter_map-append (slice_get R) places (i ∷ [])
+      ∙ rw (so_far, slice_get_read R (length R) i e refl l is) (sym (taken ∙ rw h refl))
+
+  pub range_passed : is_range_of kind e ≡ false → filter_map (slice_get R) places ≡ filter (is_range_of kind) (take (i + 1) R)
+  range_passed h = so_far ∙ sym (taken ∙ rw h (append-nil (filter (is_range_of kind) (take i R))))
+
+-- no subtag has an entry as a whole record
+
+apart : (s : List ℕ) (k kind : Kind) → is_whole_kind kind ≡ true → has_form k s ≡ true → same_kind k kind ≡ false
+apart s kinds.Grandfathered kind w f = cc
+apart s kinds.Redundant kind w f = cc
+apart s kinds.Language kinds.Grandfathered w f = refl
+apart s kinds.Language kinds.Redundant w f = refl
+apart s kinds.Language kind w f = cc
+apart s kinds.Extlang kinds.Grandfathered w f = refl
+apart s kinds.Extlang kinds.Redundant w f = refl
+apart s kinds.Extlang kind w f = cc
+apart s kinds.Script kinds.Grandfathered w f = refl
+apart s kinds.Script kinds.Redundant w f = refl
+apart s kinds.Script kind w f = cc
+apart s kinds.Region kinds.Grandfathered w f = refl
+apart s kinds.Region kinds.Redundant w f = refl
+apart s kinds.Region kind w f = cc
+apart s kinds.Variant kinds.Grandfathered w f = refl
+apart s kinds.Variant kinds.Redundant w f = refl
+apart s kinds.Variant kind w f = cc
+
+pub no_entry : (R : List EntryParts) (kind : Kind) (s : List ℕ) → All IsEntry R → is_whole_kind kind ≡ true → entry R kind s ≡ None
+no_entry R kind s forms w =
+    rw (find_none (λ (e : EntryParts). same_kind e.kind kind && is_named s e.name) R (λ p e there. unnamed e.kind e.name (entry_at R forms p e there).name))
+    (find_none (λ (e : EntryParts). same_kind e.kind kind && holds s e.name) R (λ p e there. unheld e.kind e.name (entry_at R forms p e there).name))
+  where
+    unnamed : (k : Kind) (name : EntryName) → FitsName k name → (same_kind k kind && is_named s name) ≡ false
+    unnamed k (names.Single n) fits = rw (apart n k kind w fits) refl
+    unnamed k (names.Range a b) fits = and_false (same_kind k kind)
+    unnamed k (names.Whole t) fits = and_false (same_kind k kind)
+
+    unheld : (k : Kind) (name : EntryName) → FitsName k name → (same_kind k kind && holds s name) ≡ false
+    unheld k (names.Single n) fits = and_false (same_kind k kind)
+    unheld k (names.Range a b) fits = rw (apart a k kind w fits.first_form) refl
+    unheld k (names.Whole t) fits = and_false (same_kind k kind)
+
+-- a kind without an index
+pub no_index : (indexes : Indexes) (kind : Kind) → index_of indexes kind ≡ None → is_whole_kind kind ≡ true
+no_index indexes kinds.Language h = cc
+no_index indexes kinds.Extlang h = cc
+no_index indexes kinds.Script h = cc
+no_index indexes kinds.Region h = cc
+no_index indexes kinds.Variant h = cc
+no_index indexes kinds.Grandfathered h = refl
+no_index indexes kinds.Redundant h = refl

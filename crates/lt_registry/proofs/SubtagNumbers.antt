@@ -1,0 +1,109 @@
+-- Subtags of one number are the same.
+use Rattle.std.proofs.Common.{◌≡◌, ℕ, zero, suc, ◌-◌, ◌<◌, ◌≤◌, true, false, ◌||◌, eqb, List, [], ◌∷◌, ◌++◌, length, length-append, replicate, get_or, refl, sym, ap, ◌∙◌, arith, inl, inr}
+use Rattle.std.specs.Prelude.{bytes_eq}
+use Rattle.std.specs.Int.{to_be_bytes, w64}
+use Rattle.std.specs.List.{list_all}
+use Rattle.std.specs.Char.{is_ascii_lowercase, is_ascii_digit}
+use Rattle.std.specs.Cmp.Lexicographic.{same_text}
+use Rattle.std.proofs.lemmas.Bool.{and_parts, cases_Bool, eqb-true}
+use Rattle.std.proofs.lemmas.Bool.Decides.{nat_tests}
+use Rattle.std.proofs.lemmas.Cmp.{nat_list_eq_equiv}
+use Rattle.std.proofs.lemmas.List.{length-replicate}
+use Rattle.std.proofs.lemmas.Nat.{be_bytes_8}
+use Rattle.lt_subtag.specs.Bytes.{is_subtag, is_subtag_byte}
+use Rattle.lt_subtag.specs.Shapes.{is_variant}
+use Rattle.lt_subtag.proofs.BytesLemmas.{subtag_length}
+use Rattle.lt_tag.proofs.Apart.{extlang_is, script_is, region_is}
+use Rattle.lt_tag.proofs.ShapeLemmas.{all_weaker, language_long}
+use Rattle.lt_registry.specs.Entries.{has_form}
+use Rattle.lt_registry.specs.Sorted.{filled, number}
+use Rattle.lt_registry.specs.declared.entries.Kind.{Kind}
+use Rattle.lt_registry.specs.declared.entries.Kind.TheVariants as kinds
+
+-- at most eight letters and digits
+pub record IsFew (s : List ℕ) : Type 0 where
+  pub bytes : list_all is_subtag_byte s ≡ true
+  pub few : length s ≤ 8
+
+pub subtag_few : (s : List ℕ) → is_subtag s ≡ true → IsFew s
+unfolding is_subtag
+subtag_few s h = record { bytes = (and_parts (list_all is_subtag_byte s) _ h).0; few = (subtag_length s h).1 }
+
+letter_is : (b : ℕ) → is_ascii_lowercase b ≡ true → is_subtag_byte b ≡ true
+letter_is b h = rw h refl
+
+digit_is : (b : ℕ) → is_ascii_digit b ≡ true → is_subtag_byte b ≡ true
+digit_is b h = elim (is_ascii_lowercase b) as (λ x. (x || is_ascii_digit b) ≡ true) [ true ↦ refl | false ↦ h ]
+
+letters_few : (s : List ℕ) → list_all is_ascii_lowercase s ≡ true → length s ≤ 8 → IsFew s
+letters_few s h l = record { bytes = all_weaker is_ascii_lowercase is_subtag_byte letter_is s h; few = l }
+
+-- what has the form of a kind is one
+pub form_few : (kind : Kind) (s : List ℕ) → has_form kind s ≡ true → IsFew s
+unfolding is_variant
+form_few kinds.Language s h = subtag_few s (language_long s h).subtag
+form_few kinds.Extlang s h = let x = extlang_is s h in letters_few s x.0 (omega (arith, x.1))
+form_few kinds.Script s h = let x = script_is s h in letters_few s x.0 (omega (arith, x.1))
+form_few kinds.Region s h =
+    elim (region_is s h) [
+      | inl x ↦ letters_few s x.0 (omega (arith, x.1))
+      | inr x ↦ record { bytes = all_weaker is_ascii_digit is_subtag_byte digit_is s x.0; few = omega (arith, x.1) }
+    ]
+form_few kinds.Variant s h = subtag_few s (and_parts (is_subtag s) _ h).0
+form_few kinds.Grandfathered s h = cc
+form_few kinds.Redundant s h = cc
+
+byte_bounds : (b : ℕ) → is_subtag_byte b ≡ true → (0 < b) × (b < 256)
+byte_bounds b h = (grind (arith, nat_tests), grind (arith, nat_tests))
+
+zeros_below : (n i : ℕ) → get_or (replicate n 0) i 0 < 256
+zeros_below zero i = omega arith
+zeros_below (suc n) zero = omega arith
+zeros_below (suc n) (suc i) = zeros_below n i
+
+bytes_below : (s : List ℕ) (n i : ℕ) → list_all is_subtag_byte s ≡ true → get_or (s ++ replicate n 0) i 0 < 256
+bytes_below [] n i h = zeros_below n i
+bytes_below (b ∷ s) n zero h = (byte_bounds b (and_parts (is_subtag_byte b) (list_all is_subtag_byte s) h).0).1
+bytes_below (b ∷ s) n (suc i) h = bytes_below s n i (and_parts (is_subtag_byte b) (list_all is_subtag_byte s) h).1
+
+-- no byte is zero, so the zeros begin where the bytes end
+none_more : (c : ℕ) (t : List ℕ) (m n : ℕ) → is_subtag_byte c ≡ true → replicate m 0 ≡ c ∷ (t ++ replicate n 0) → ⊥
+none_more c t zero n h e = cc
+none_more c t (suc m) n h e = let same : 0 ≡ c = cc in omega (arith, (byte_bounds c h).0)
+
+same_filled : (s t : List ℕ) (m n : ℕ) → list_all is_subtag_byte s ≡ true → list_all is_subtag_byte t ≡ true → s ++ replicate m 0 ≡ t ++ replicate n 0 → s ≡ t
+same_filled [] [] m n h k e = refl
+same_filled [] (c ∷ t) m n h k e = absurd (none_more c t m n (and_parts (is_subtag_byte c) (list_all is_subtag_byte t) k).0 e)
+same_filled (b ∷ s) [] m n h k e = absurd (none_more b s n m (and_parts (is_subtag_byte b) (list_all is_subtag_byte s) h).0 (sym e))
+same_filled (b ∷ s) (c ∷ t) m n h k e =
+    let first : b ≡ c = cc in
+    let rest : s ++ replicate m 0 ≡ t ++ replicate n 0 = cc in
+    let others : s ≡ t = same_filled s t m n (and_parts (is_subtag_byte b) (list_all is_subtag_byte s) h).1 (and_parts (is_subtag_byte c) (list_all is_subtag_byte t) k).1 rest in
+    cc
+
+filled_length : (s : List ℕ) → length s ≤ 8 → length (filled s) ≡ 8
+filled_length s l = length-append s (replicate (8 - length s) 0) ∙ omega (arith, length-replicate {A = ℕ} (8 - length s) 0)
+
+pub same_number : (s t : List ℕ) → IsFew s → IsFew t → number s ≡ number t → s ≡ t
+unfolding number
+same_number s t h k e =
+    same_filled s t (8 - length s) (8 - length t) h.bytes k.bytes
+    (sym (be_bytes_8 (filled s) (number s) (filled_length s h.few) (λ i. bytes_below s (8 - length s) i h.bytes) refl)
+    ∙ ap (to_be_bytes w64) e
+    ∙ be_bytes_8 (filled t) (number t) (filled_length t k.few) (λ i. bytes_below t (8 - length t) i k.bytes) refl)
+
+-- so their numbers are equal where they are
+pub numbers_equal : (s t : List ℕ) → IsFew s → IsFew t → eqb (number s) (number t) ≡ bytes_eq s t
+numbers_equal s t h k =
+    elim (cases_Bool (bytes_eq s t)) [
+      | inl same ↦ rw (same_text s t (sym same)) (eqb_itself (number t) ∙ sym (nat_list_eq_equiv.refl t))
+      | inr other ↦ elim (cases_Bool (eqb (number s) (number t))) [
+        | inl e ↦
+            let are : s ≡ t = same_number s t h k (eqb-true (number s) (number t) e) in
+            e ∙ sym (ap (bytes_eq s) (sym are) ∙ nat_list_eq_equiv.refl s)
+        | inr e ↦ e ∙ sym other
+      ]
+    ]
+  where
+    eqb_itself : (n : ℕ) → eqb n n ≡ true
+    eqb_itself n = grind (arith, nat_tests)

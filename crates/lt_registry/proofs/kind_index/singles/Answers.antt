@@ -1,0 +1,18 @@
+use Rattle.std.proofs.Common.{rules, Bool, ◌==◌, sym, ap, ◌∙◌}
+use Rattle.std.specs.List.{dedup}
+use Rattle.std.proofs.lemmas.Cmp.{nat_cmp_total}
+use Rattle.std.proofs.lemmas.Fn.{dedup_same}
+use Rattle.lt_registry.specs.Sorted.{single_row}
+use Rattle.lt_registry.specs.declared.rows.Row.{Row}
+use Rattle.lt_registry.proofs.IndexLemmas.{indexed}
+use Rattle.lt_registry.proofs.SortedLemmas.{single_placed}
+use Rattle.lt_registry.proofs.TagOrderLemmas.{nats_equal}
+use Rattle.lt_registry.proofs.kind_index.singles.Goals as goal
+
+pub returns : goal.returns
+returns c =
+    let kept = dedup_same _ (λ (p q : Row). p.number == q.number) _ (λ x y b f' x' y' k. search rules) _ _ c.dedup_by_key.ensures.filtered in
+    let sorted = c.sort_unstable.new.self.items in
+    indexed nat_cmp_total (λ (row : Row). row.number) (λ (row : Row). row.place) (single_row c.args.kind) (single_placed c.args.kind) c.args.entries.now
+    c.in_ok-rows.rows.items sorted c.dedup_by_key.new.self.items c.in_ok-rows.ensures c.sort_unstable.ensures.permutation c.sort_unstable.ensures.sorted
+    (kept ∙ ap (λ (E : Row → Row → Bool). dedup E sorted) (λ i p q. sym (nats_equal p.number q.number) i))

@@ -1,0 +1,134 @@
+-- The indexes beside a list of entries, by which a sorted table finds them.
+use Rattle.std.specs.Prelude.{ℕ, ◌≡◌, ◌≤◌, ◌<◌, ◌-◌, Bool, true, false, if◌then◌else◌, ◌&&◌, List, ◌++◌, length, Option, Some, None, All, filter, replicate}
+use Rattle.std.specs.List.{AllPairs, Any, Contains, slice_get, filter_map}
+use Rattle.std.specs.Option.{option_map, option_and_then, option_cmp}
+use Rattle.std.specs.Ordering.{nat_cmp, ordering_then}
+use Rattle.std.specs.Int.{from_be_bytes, w64}
+use Rattle.std.specs.declared.cmp.Ordering.{Ordering}
+use Rattle.std.specs.declared.cmp.Ordering.TheVariants.{Less, Equal}
+use Rattle.lt_tag.specs.Parts.{CoreParts, TagForm}
+use Rattle.lt_tag.specs.Values.{core_of}
+use Rattle.lt_registry.specs.Parts.{EntryParts}
+use Rattle.lt_registry.specs.Same.{same_kind}
+use Rattle.lt_registry.specs.Entries.{holds}
+use Rattle.lt_registry.specs.TagOrder.{tag_cmp}
+use Rattle.lt_registry.specs.declared.entries.Kind.{Kind}
+use Rattle.lt_registry.specs.declared.entries.Kind.TheVariants as kinds
+use Rattle.lt_registry.specs.declared.entries.EntryName.{EntryName}
+use Rattle.lt_registry.specs.declared.entries.EntryName.TheVariants as names
+use Rattle.lt_registry.specs.declared.rows.Row.{Row}
+use Rattle.lt_registry.specs.declared.kind_index.KindIndex.{KindIndex}
+use Rattle.lt_registry.specs.declared.indexes.Indexes.{Indexes}
+
+-- the bytes of a subtag, and zeros up to eight
+abbrev pub filled : List ℕ → List ℕ
+filled s = s ++ replicate (8 - length s) 0
+
+-- those as one number, so that numbers stand in the order of subtags
+unfoldable pub number : List ℕ → ℕ
+number s = from_be_bytes w64 (filled s)
+
+-- the number of the subtag that a name gives alone
+abbrev pub single_number : EntryName → Option ℕ
+single_number (names.Single s) = Some (number s)
+single_number _ = None
+
+-- the row of an entry at a place, if it is a single record of the kind
+abbrev pub single_row : Kind → ℕ → EntryParts → Option Row
+single_row kind place e = if same_kind e.kind kind then option_map (λ n. record { number = n; place = place }) (single_number e.name) else None
+
+abbrev pub is_range : EntryName → Bool
+is_range (names.Range a b) = true
+is_range _ = false
+
+-- a range of the kind
+abbrev pub is_range_of : Kind → EntryParts → Bool
+is_range_of kind e = same_kind e.kind kind && is_range e.name
+
+-- the record at a place, if it is a range that holds a subtag
+abbrev pub range_at : List EntryParts → List ℕ → ℕ → Option EntryParts
+range_at R s place = option_and_then (λ (e : EntryParts). if holds s e.name then Some e else None) (slice_get R place)
+
+-- the tag that a record names
+abbrev pub tag_in : EntryName → Option TagForm
+tag_in (names.Whole t) = Some t
+tag_in _ = None
+
+-- the number of a tag's language, and 0 for a tag without a core
+abbrev pub core_number : Option CoreParts → ℕ
+core_number (Some c) = number c.language
+core_number None = 0
+
+abbrev pub language_number : TagForm → ℕ
+language_number t = core_number (core_of t)
+
+-- the row of an entry at a place, if it is a whole record
+abbrev pub whole_row : ℕ → EntryParts → Option Row
+whole_row place e = option_map (λ (t : TagForm). record { number = language_number t; place = place }) (tag_in e.name)
+
+-- the tag that the record at a place names
+abbrev pub tag_at : List EntryParts → ℕ → Option TagForm
+tag_at R place = option_and_then (λ (e : EntryParts). tag_in e.name) (slice_get R place)
+
+-- the numbers of languages decide first, then the tags
+abbrev pub key_cmp : ℕ × Option TagForm → ℕ × Option TagForm → Ordering
+key_cmp a b = ordering_then (nat_cmp a.0 b.0) (option_cmp tag_cmp a.1 b.1)
+
+abbrev pub whole_key : List EntryParts → Row → ℕ × Option TagForm
+whole_key R w = (w.number, tag_at R w.place)
+
+-- the order of whole records, and of equal tags that of their places
+abbrev pub whole_cmp : List EntryParts → Row → Row → Ordering
+whole_cmp R v w = ordering_then (key_cmp (whole_key R v) (whole_key R w)) (nat_cmp v.place w.place)
+
+-- the row is that of the entry at its place
+abbrev pub IsRowAt : {W : Type 0} → (ℕ → EntryParts → Option W) → (W → ℕ) → List EntryParts → W → Type 0
+IsRowAt row place R w = (e : EntryParts) × (slice_get R (place w) ≡ Some e) × (row (place w) e ≡ Some w)
+
+-- the rows of the first so many entries, in any order
+pub record AreRows {W : Type 0} (row : ℕ → EntryParts → Option W) (place : W → ℕ) (R : List EntryParts) (i : ℕ) (rows : List W) : Type 0 where
+  pub sound : All (IsRowAt row place R) rows
+  pub complete : (p : ℕ) (e : EntryParts) (w : W) → p < i → slice_get R p ≡ Some e → row p e ≡ Some w → Contains rows w
+
+-- Rows in the order of their keys, each key once: each is the row of an entry, and the row of each entry
+-- is there, or one of the same key whose entry stands before it.
+pub record IsIndex {W K : Type 0} (row : ℕ → EntryParts → Option W) (place : W → ℕ) (key : W → K) (cmp : K → K → Ordering) (R : List EntryParts) (rows : List W) : Type 0 where
+  pub rising : AllPairs (λ v w. cmp (key v) (key w) ≡ Less) rows
+  pub sound : All (IsRowAt row place R) rows
+  pub complete : (p : ℕ) (e : EntryParts) (w : W) → slice_get R p ≡ Some e → row p e ≡ Some w → Any (λ v. (cmp (key v) (key w) ≡ Equal) × (place v ≤ p)) rows
+
+-- the single records of a kind, sorted by subtag; of equal names the first alone
+abbrev pub IsSingles : List EntryParts → Kind → List Row → Type 0
+IsSingles R kind rows = IsIndex (single_row kind) (λ (w : Row). w.place) (λ (w : Row). w.number) nat_cmp R rows
+
+-- the places of the ranges of a kind, in the order of the file
+abbrev pub IsRanges : List EntryParts → Kind → List ℕ → Type 0
+IsRanges R kind places = filter_map (slice_get R) places ≡ filter (is_range_of kind) R
+
+-- the whole records, sorted by their languages and tags; of equal tags the first alone
+abbrev pub IsWholes : List EntryParts → List Row → Type 0
+IsWholes R rows = IsIndex whole_row (λ (w : Row). w.place) (whole_key R) key_cmp R rows
+
+-- an index of the records of its kind
+pub record IsKindIndex (R : List EntryParts) (index : KindIndex) : Type 0 where
+  pub singles : IsSingles R index.kind index.singles.items
+  pub ranges : IsRanges R index.kind index.ranges.items
+
+-- the indexes of the kinds that are named by subtags, and of the whole records
+pub record AreIndexes (R : List EntryParts) (indexes : Indexes) : Type 0 where
+  pub languages : (indexes.languages.kind ≡ kinds.Language) × IsKindIndex R indexes.languages
+  pub extlangs : (indexes.extlangs.kind ≡ kinds.Extlang) × IsKindIndex R indexes.extlangs
+  pub scripts : (indexes.scripts.kind ≡ kinds.Script) × IsKindIndex R indexes.scripts
+  pub regions : (indexes.regions.kind ≡ kinds.Region) × IsKindIndex R indexes.regions
+  pub variants : (indexes.variants.kind ≡ kinds.Variant) × IsKindIndex R indexes.variants
+  pub wholes : IsWholes R indexes.wholes.rows.items
+
+-- the index of a kind; whole records have none by subtags
+abbrev pub index_of : Indexes → Kind → Option KindIndex
+index_of indexes kinds.Language = Some indexes.languages
+index_of indexes kinds.Extlang = Some indexes.extlangs
+index_of indexes kinds.Script = Some indexes.scripts
+index_of indexes kinds.Region = Some indexes.regions
+index_of indexes kinds.Variant = Some indexes.variants
+index_of indexes kinds.Grandfathered = None
+index_of indexes kinds.Redundant = None

@@ -1,0 +1,59 @@
+//! The indexes beside a list of entries.
+ghost use Rattle.std.specs.Prelude.{◌≡◌, IfOk};
+ghost use Rattle.std.specs.List.{slice_get};
+ghost use Rattle.std.specs.Option.{option_copied};
+ghost use Rattle.lt_registry.specs.Sorted as sorted;
+
+use crate::entries::{Entry, Kind};
+use crate::kind_index::KindIndex;
+use crate::whole_index::WholeIndex;
+use std::alloc::{AllocError, Global};
+
+/// An index of each kind that is named by subtags, and of the whole records.
+#[derive(Debug, Drop)]
+pub(crate) struct Indexes {
+    languages: KindIndex,
+    extlangs: KindIndex,
+    scripts: KindIndex,
+    regions: KindIndex,
+    variants: KindIndex,
+    pub(crate) wholes: WholeIndex,
+}
+
+impl Indexes {
+    /// The indexes of entries. They are refused for want of memory alone.
+    pub(crate) fn of_entries(alloc: Global, entries: &[Entry]) -> Result<Indexes, AllocError>
+        ensures { IfOk result (sorted.AreIndexes entries.now) }
+    {
+        Ok(Indexes {
+            languages: KindIndex::of_entries(alloc, entries, Kind::Language)?,
+            extlangs: KindIndex::of_entries(alloc, entries, Kind::Extlang)?,
+            scripts: KindIndex::of_entries(alloc, entries, Kind::Script)?,
+            regions: KindIndex::of_entries(alloc, entries, Kind::Region)?,
+            variants: KindIndex::of_entries(alloc, entries, Kind::Variant)?,
+            wholes: WholeIndex::of_entries(alloc, entries)?,
+        })
+    }
+
+    /// The index of a kind. Whole records have none by subtags.
+    pub(crate) fn of_kind(&self, kind: Kind) -> Option<&KindIndex>
+        ensures { option_copied result ≡ sorted.index_of self.now kind }
+    {
+        match kind {
+            Kind::Language => Some(&self.languages),
+            Kind::Extlang => Some(&self.extlangs),
+            Kind::Script => Some(&self.scripts),
+            Kind::Region => Some(&self.regions),
+            Kind::Variant => Some(&self.variants),
+            Kind::Grandfathered | Kind::Redundant => None,
+        }
+    }
+}
+
+/// The entry at a place.
+#[tactic(auto, using(std::proofs::lemmas::Option::gets))]
+pub(crate) fn entry_at(entries: &[Entry], place: usize) -> Option<&Entry>
+    ensures { option_copied result ≡ slice_get entries.now place }
+{
+    entries.get(place)
+}

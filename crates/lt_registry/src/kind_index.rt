@@ -1,0 +1,154 @@
+//! The records of one kind, sorted for a search.
+ghost use Rattle.std.specs.Prelude.{◌≡◌, ◌&&◌, true, length, find, All, IfOk};
+ghost use Rattle.std.specs.Option.{option_copied};
+ghost use Rattle.lt_registry.specs.Parts.{EntryParts};
+ghost use Rattle.lt_registry.specs.Same as same;
+ghost use Rattle.lt_registry.specs.Entries.{IsEntry};
+ghost use Rattle.lt_registry.specs.Entries as forms;
+ghost use Rattle.lt_registry.specs.Sorted as sorted;
+
+use crate::entries::{Entry, EntryName, Kind};
+use crate::indexes::entry_at;
+use crate::names::holds;
+use crate::rows::Row;
+use crate::same::same_kind;
+use crate::subtag_numbers::number_of;
+use lt_subtag::Subtag;
+use std::alloc::{AllocError, Global};
+
+/// The records of one kind: the single ones sorted by subtag, of equal names the first alone, and
+/// the places of the ranges in the order of the file.
+#[derive(Debug, Drop)]
+pub(crate) struct KindIndex {
+    kind: Kind,
+    singles: Vec<Row>,
+    ranges: Vec<usize>,
+}
+
+impl KindIndex {
+    /// The index of the records of a kind. It is refused for want of memory alone.
+    pub(crate) fn of_entries(
+        alloc: Global,
+        entries: &[Entry],
+        kind: Kind,
+    ) -> Result<KindIndex, AllocError>
+        ensures kind { IfOk result (λ index. index.kind ≡ kind) }
+        ensures index { IfOk result (sorted.IsKindIndex entries.now) }
+    {
+        let singles = singles(alloc, entries, kind)?;
+        let ranges = ranges(alloc, entries, kind)?;
+        Ok(KindIndex {
+            kind,
+            singles,
+            ranges,
+        })
+    }
+
+    /// The entry of a subtag under the kind.
+    pub(crate) fn find<'a>(&self, entries: &'a [Entry], subtag: &Subtag) -> Option<&'a Entry>
+        requires index { sorted.IsKindIndex entries.now self.now }
+        requires forms { All IsEntry entries.now }
+        ensures { option_copied result ≡ forms.entry entries.now self.now.kind subtag.now }
+    {
+        match self.single(entries, subtag) {
+            Some(entry) => Some(entry),
+            None => self.range(entries, subtag),
+        }
+    }
+
+    /// The first record of the kind that names a subtag alone.
+    fn single<'a>(&self, entries: &'a [Entry], subtag: &Subtag) -> Option<&'a Entry>
+        requires index { sorted.IsKindIndex entries.now self.now }
+        requires forms { All IsEntry entries.now }
+        ensures { option_copied result ≡ find (λ (e : EntryParts). same.same_kind e.kind self.now.kind && forms.is_named subtag.now e.name) entries.now }
+    {
+        let number = number_of(subtag);
+        match self.singles.binary_search_by_key(&number, |row| row.number) {
+            Ok(found) => entry_at(entries, self.singles[found].place),
+            Err(_) => None,
+        }
+    }
+
+    /// The first range of the kind that holds a subtag.
+    fn range<'a>(&self, entries: &'a [Entry], subtag: &Subtag) -> Option<&'a Entry>
+        requires { sorted.IsKindIndex entries.now self.now }
+        ensures { option_copied result ≡ find (λ (e : EntryParts). same.same_kind e.kind self.now.kind && forms.holds subtag.now e.name) entries.now }
+    {
+        for place in self.ranges.as_slice() {
+            if let Some(entry) = range_at(entries, *place, subtag) {
+                return Some(entry);
+            }
+        }
+        None
+    }
+}
+
+/// The record at a place, if it is a range that holds a subtag.
+fn range_at<'a>(entries: &'a [Entry], place: usize, subtag: &Subtag) -> Option<&'a Entry>
+    ensures { option_copied result ≡ sorted.range_at entries.now subtag.now place }
+{
+    let entry = entry_at(entries, place)?;
+    if holds(entry.name(), subtag) {
+        Some(entry)
+    } else {
+        None
+    }
+}
+
+/// The single records of a kind, sorted by subtag; of equal names the first alone.
+fn singles(alloc: Global, entries: &[Entry], kind: Kind) -> Result<Vec<Row>, AllocError>
+    ensures { IfOk result (λ rows. sorted.IsSingles entries.now kind rows.items) }
+{
+    let mut rows = single_rows(alloc, entries, kind)?;
+    rows.sort_unstable();
+    rows.dedup_by_key(|row| row.number);
+    Ok(rows)
+}
+
+/// The single records of a kind in the order of the file.
+fn single_rows(alloc: Global, entries: &[Entry], kind: Kind) -> Result<Vec<Row>, AllocError>
+    ensures { IfOk result (λ rows. sorted.AreRows (sorted.single_row kind) (λ (row : Row). row.place) entries.now (length entries.now) rows.items) }
+{
+    let mut rows = Vec::new(alloc);
+    for (place, entry) in entries.iter().enumerate() {
+        if let Some(row) = single_row(entry, kind, place) {
+            rows.push(row)?;
+        }
+    }
+    Ok(rows)
+}
+
+/// The row of an entry at a place, if it is a single record of the kind.
+fn single_row(entry: &Entry, kind: Kind, place: usize) -> Option<Row>
+    ensures { result ≡ sorted.single_row kind place entry.now }
+{
+    match entry.name() {
+        EntryName::Single(subtag) if same_kind(entry.kind(), kind) => Some(Row {
+            number: number_of(subtag),
+            place,
+        }),
+        _ => None,
+    }
+}
+
+/// The places of the ranges of a kind in the order of the file.
+fn ranges(alloc: Global, entries: &[Entry], kind: Kind) -> Result<Vec<usize>, AllocError>
+    ensures { IfOk result (λ places. sorted.IsRanges entries.now kind places.items) }
+{
+    let mut places = Vec::new(alloc);
+    for (place, entry) in entries.iter().enumerate() {
+        if is_range_of(entry, kind) {
+            places.push(place)?;
+        }
+    }
+    Ok(places)
+}
+
+fn is_range_of(entry: &Entry, kind: Kind) -> bool
+    ensures { result ≡ sorted.is_range_of kind entry.now }
+{
+    match entry.name() {
+        EntryName::Range(_, _) => same_kind(entry.kind(), kind),
+        _ => false,
+    }
+}

@@ -1,0 +1,62 @@
+//! A table that finds entries by binary search.
+ghost use Rattle.std.specs.Prelude.{◌≡◌, IfOk, IfErr};
+
+use crate::entries::{Entry, Kind};
+use crate::indexes::Indexes;
+use crate::lookup::Lookup;
+use crate::registry::Registry;
+use lt_subtag::Subtag;
+use lt_tag::Tag;
+use std::alloc::Global;
+use std::marker::Model;
+
+/// A table that finds entries by binary search: single records by their subtags, which are compared
+/// as numbers, and whole records by their tags. Ranges are looked at in the order of the file.
+#[derive(Debug, Drop)]
+pub struct SortedTable {
+    registry: Registry,
+    indexes: Indexes,
+}
+
+impl Model for SortedTable {
+    ghost use Rattle.std.specs.Prelude.{List};
+    ghost use Rattle.lt_registry.specs.Parts.{EntryParts};
+    ghost use Rattle.lt_registry.specs.Sorted.{AreIndexes};
+
+    ghost Value = { List EntryParts };
+
+    ghost view = { λ t. t.registry };
+
+    ghost invariant = { λ t. AreIndexes t.registry t.indexes };
+}
+
+impl SortedTable {
+    /// The table of a registry's entries. For want of memory alone it is refused, and the registry
+    /// handed back.
+    pub fn new(alloc: Global, registry: Registry) -> Result<SortedTable, Registry>
+        ensures ok { IfOk result (λ table. table ≡ registry) }
+        ensures err { IfErr result (λ back. back ≡ registry) }
+    {
+        match Indexes::of_entries(alloc, registry.entries()) {
+            Ok(indexes) => Ok(SortedTable { registry, indexes }),
+            Err(_) => Err(registry),
+        }
+    }
+}
+
+impl Lookup for SortedTable {
+    ghost listed = { λ t. t };
+
+    fn entries(&self) -> &[Entry] {
+        self.registry.entries()
+    }
+
+    fn entry(&self, kind: Kind, subtag: &Subtag) -> Option<&Entry> {
+        let entries = self.registry.entries();
+        self.indexes.of_kind(kind)?.find(entries, subtag)
+    }
+
+    fn whole(&self, tag: &Tag) -> Option<&Entry> {
+        self.indexes.wholes.find(self.registry.entries(), tag)
+    }
+}

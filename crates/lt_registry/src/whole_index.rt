@@ -1,0 +1,140 @@
+//! The whole records, sorted for a search.
+ghost use Rattle.std.specs.Prelude.{◌≡◌, length, IfOk, Some};
+ghost use Rattle.std.specs.Ordering.{is_eq};
+ghost use Rattle.std.specs.Option.{option_copied, option_cmp};
+ghost use Rattle.lt_registry.specs.TagOrder.{tag_cmp};
+ghost use Rattle.lt_registry.specs.Entries as forms;
+ghost use Rattle.lt_registry.specs.Sorted as sorted;
+
+use crate::entries::{Entry, EntryName};
+use crate::indexes::entry_at;
+use crate::rows::Row;
+use crate::subtag_numbers::number_of;
+use crate::tag_order::compare_tags;
+use lt_tag::Tag;
+use std::alloc::{AllocError, Global};
+use std::cmp::Ordering;
+
+/// The whole records, sorted by the numbers of their languages and then by their tags; of equal tags
+/// the first alone.
+#[derive(Debug, Drop)]
+pub(crate) struct WholeIndex {
+    rows: Vec<Row>,
+}
+
+impl WholeIndex {
+    /// The index of the whole records. It is refused for want of memory alone.
+    pub(crate) fn of_entries(alloc: Global, entries: &[Entry]) -> Result<WholeIndex, AllocError>
+        ensures { IfOk result (λ index. sorted.IsWholes entries.now index.rows.items) }
+    {
+        let mut rows = whole_rows(alloc, entries)?;
+        rows.sort_unstable_by(|one, other| compare_rows(entries, *one, *other));
+        rows.dedup_by(|later, kept| name_same_tag(entries, *later, *kept));
+        Ok(WholeIndex { rows })
+    }
+
+    /// The first whole record of a tag.
+    pub(crate) fn find<'a>(&self, entries: &'a [Entry], tag: &Tag) -> Option<&'a Entry>
+        requires { sorted.IsWholes entries.now self.now.rows.items }
+        ensures { option_copied result ≡ forms.whole entries.now tag.now }
+    {
+        let number = language_number(tag);
+        match self
+            .rows
+            .binary_search_by(|row| compare_with(entries, *row, number, tag))
+        {
+            Ok(found) => entry_at(entries, self.rows[found].place),
+            Err(_) => None,
+        }
+    }
+}
+
+/// The whole records in the order of the file.
+fn whole_rows(alloc: Global, entries: &[Entry]) -> Result<Vec<Row>, AllocError>
+    ensures { IfOk result (λ rows. sorted.AreRows sorted.whole_row (λ (row : Row). row.place) entries.now (length entries.now) rows.items) }
+{
+    let mut rows = Vec::new(alloc);
+    for (place, entry) in entries.iter().enumerate() {
+        if let Some(row) = whole_row(entry, place) {
+            rows.push(row)?;
+        }
+    }
+    Ok(rows)
+}
+
+/// The row of an entry at a place, if it is a whole record.
+fn whole_row(entry: &Entry, place: usize) -> Option<Row>
+    ensures { result ≡ sorted.whole_row place entry.now }
+{
+    match entry.name() {
+        EntryName::Whole(tag) => Some(Row {
+            number: language_number(tag),
+            place,
+        }),
+        _ => None,
+    }
+}
+
+/// The number of a tag's language, and 0 for a tag without a core.
+fn language_number(tag: &Tag) -> u64
+    ensures { result ≡ sorted.language_number tag.now }
+{
+    match tag.core() {
+        Some(core) => number_of(core.language()),
+        None => 0,
+    }
+}
+
+/// The tag that the record at a place names.
+fn tag_at(entries: &[Entry], place: usize) -> Option<&Tag>
+    ensures { option_copied result ≡ sorted.tag_at entries.now place }
+{
+    match entry_at(entries, place)?.name() {
+        EntryName::Whole(tag) => Some(tag),
+        _ => None,
+    }
+}
+
+/// The order of two records by their languages and tags.
+fn compare_keys(entries: &[Entry], one: Row, other: Row) -> Ordering
+    ensures { result ≡ sorted.key_cmp (sorted.whole_key entries.now one) (sorted.whole_key entries.now other) }
+{
+    one.number.cmp(&other.number).then_with(|| {
+        compare_optional_tags(tag_at(entries, one.place), tag_at(entries, other.place))
+    })
+}
+
+/// The same order, and of equal tags that of their places.
+fn compare_rows(entries: &[Entry], one: Row, other: Row) -> Ordering
+    ensures { result ≡ sorted.whole_cmp entries.now one other }
+{
+    compare_keys(entries, one, other).then(one.place.cmp(&other.place))
+}
+
+fn name_same_tag(entries: &[Entry], one: Row, other: Row) -> bool
+    ensures { result ≡ is_eq (sorted.key_cmp (sorted.whole_key entries.now one) (sorted.whole_key entries.now other)) }
+{
+    compare_keys(entries, one, other).is_eq()
+}
+
+/// The order of a record and a tag, given the number of the tag's language.
+fn compare_with(entries: &[Entry], row: Row, number: u64, tag: &Tag) -> Ordering
+    ensures { result ≡ sorted.key_cmp (sorted.whole_key entries.now row) (number, Some tag.now) }
+{
+    row.number.cmp(&number).then_with(|| compare_optional_tags(
+        tag_at(entries, row.place),
+        Some(tag),
+    ))
+}
+
+/// No tag stands before any.
+fn compare_optional_tags(left: Option<&Tag>, right: Option<&Tag>) -> Ordering
+    ensures { result ≡ option_cmp tag_cmp (option_copied left.entry) (option_copied right.entry) }
+{
+    match (left, right) {
+        (None, None) => Ordering::Equal,
+        (None, Some(_)) => Ordering::Less,
+        (Some(_), None) => Ordering::Greater,
+        (Some(one), Some(other)) => compare_tags(one, other),
+    }
+}
