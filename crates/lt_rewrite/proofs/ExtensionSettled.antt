@@ -1,6 +1,7 @@
 -- What the parts of an extension come to, from what its attributes, keywords, source and fields come to.
-use Rattle.std.proofs.Common.{◌≡◌, ℕ, true, false, List, Option, Some, None, refl, subst, map}
+use Rattle.std.proofs.Common.{◌≡◌, ℕ, ◌≤◌, true, false, List, Option, Some, None, refl, subst, map, length, arith}
 use Rattle.lt_tag.specs.Parts.{CoreParts, KeywordParts, UForm, FieldParts, TForm}
+use Rattle.lt_tag.specs.Extensions.{spell_u, spell_t, IsU, IsT}
 use Rattle.lt_registry.specs.Parts.{EntryParts}
 use Rattle.lt_rewrite.specs.Rewriting.{Star, done, IsNormalForm}
 use Rattle.lt_rewrite.specs.Orderings.{ListStep}
@@ -8,9 +9,12 @@ use Rattle.lt_rewrite.specs.CoreSteps.{values_of, CoreStep, IsCoreNormalForm}
 use Rattle.lt_rewrite.specs.Extensions.{text_cmp, key_cmp, separator_cmp, UnicodeStep, TransformStep, on_source, on_fields}
 use Rattle.lt_rewrite.specs.ExtensionSettling.{untrue}
 use Rattle.lt_rewrite.proofs.Stars.{star_trans}
-use Rattle.lt_rewrite.proofs.NormalForms.{star_map, normal_is_form, form_is_normal}
+use Rattle.lt_rewrite.specs.Conditions.{IsRegistry}
+use Rattle.lt_rewrite.proofs.NormalForms.{star_map, star_keeps, normal_is_form, form_is_normal}
 use Rattle.lt_rewrite.proofs.Sorting.{sorting_is_form}
-use Rattle.lt_rewrite.proofs.UnicodeForms.{text_total, key_total, u_formed}
+use Rattle.lt_rewrite.proofs.Proper.{step_shaped}
+use Rattle.lt_rewrite.proofs.UnicodeForms.{text_total, key_total, u_formed, u_shaped, u_step_length}
+use Rattle.lt_rewrite.proofs.TransformForms.{t_shaped, t_step_length}
 
 abbrev of_parts : Option CoreParts → List FieldParts → TForm
 of_parts source fields = record { source = source; fields = fields }
@@ -57,3 +61,17 @@ unicode_settles p q a k =
     let attributes = normal_is_form (sorting_is_form true text_cmp text_total) p.attributes q.attributes a in
     let ks = normal_is_form (sorting_is_form true key_cmp key_total) (map untrue p.keywords) q.keywords k in
     subst (IsNormalForm UnicodeStep p) (λ i. of_lists (attributes i) (ks i)) (form_is_normal u_formed p)
+
+-- many steps keep the forms of the parts, and make the subtags no more
+
+pub unicode_kept : (p q : UForm) → IsNormalForm UnicodeStep p q → IsU p → IsU q
+unicode_kept p q n k = star_keeps IsU u_shaped n.reached k
+
+pub unicode_no_more : (p q : UForm) → IsNormalForm UnicodeStep p q → length (spell_u q) ≤ length (spell_u p)
+unicode_no_more p q n = star_keeps (λ x. length (spell_u x) ≤ length (spell_u p)) (λ a b t l. let m = u_step_length a b t in omega (arith, m, l)) n.reached (omega arith)
+
+pub transform_kept : (R : List EntryParts) → IsRegistry R → (p q : TForm) → IsNormalForm (TransformStep R) p q → IsT p → IsT q
+transform_kept R G p q n k = star_keeps IsT (t_shaped R (step_shaped R G)) n.reached k
+
+pub transform_no_more : (R : List EntryParts) (p q : TForm) → IsNormalForm (TransformStep R) p q → length (spell_t q) ≤ length (spell_t p)
+transform_no_more R p q n = star_keeps (λ x. length (spell_t x) ≤ length (spell_t p)) (λ a b t l. let m = t_step_length R a b t in omega (arith, m, l)) n.reached (omega arith)

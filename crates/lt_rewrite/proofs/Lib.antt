@@ -21,6 +21,7 @@ pub mod CoreShapes
 pub mod ExtensionShapes
 pub mod OrderingLaw
 pub mod Same
+pub mod SameCuts
 pub mod OneStep
 pub mod Repeats
 pub mod CoreEnds
@@ -32,3 +33,13 @@ pub mod PlacedParts
 pub mod ValueForms
 pub mod CoreSettled
 pub mod ExtensionSettled
+pub mod ExtensionsSettled
+pub mod CoreLeading
+pub mod CycleWalks
+pub mod Cuts
+pub mod PartLeading
+pub mod PartCounts
+pub mod UnicodeLeading
+pub mod TransformLeading
+pub mod ExtensionLeading
+pub mod TagLeading

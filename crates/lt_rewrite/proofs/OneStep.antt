@@ -1,7 +1,6 @@
 -- The kind and the place of a step determine its result.
 use Rattle.std.proofs.Common.{◌≡◌, ◌≢◌, ℕ, ◌+◌, ◌≤◌, ◌<◌, Bool, true, false, Ordering, List, [], ◌∷◌, ◌++◌, Option, Some, refl, sym, ap, ◌∙◌, subst, length, map, append_assoc, length-append, arith}
 use Rattle.std.specs.Prelude.{option_to_list, flat_map}
-use Rattle.std.specs.List.{AllByRecursion}
 use Rattle.lt_tag.specs.Parts.{CoreParts, ExtensionParts, UForm, TForm, TagForm, LangTag}
 use Rattle.lt_tag.specs.Spelling.{spell_core, spell_extension, spell_extensions}
 use Rattle.lt_tag.specs.Extensions.{spell_keyword, spell_u, spell_field, spell_source, spell_t, transform, unicode}
@@ -20,28 +19,17 @@ use Rattle.lt_rewrite.specs.declared.steps.Step.{Step}
 use Rattle.lt_rewrite.specs.declared.steps.StepKind.{StepKind}
 use Rattle.lt_rewrite.specs.declared.steps.StepKind.TheVariants as steps
 use Rattle.lt_rewrite.proofs.CoreForm.{core}
+use Rattle.lt_rewrite.proofs.SameCuts.{SameCut, same_cut, same_flat, flat_length, distinct_cut}
 
--- one list cut twice at one place
-pub record SameCut {A : Type 0} (xs ys : List A) (v w : A) (us vs : List A) : Type 0 where
-  pub front : xs ≡ ys
-  pub at : v ≡ w
-  pub rest : us ≡ vs
-
-pub same_cut : {A : Type 0} (xs ys : List A) (v w : A) (us vs : List A) → xs ++ v ∷ us ≡ ys ++ w ∷ vs → length xs ≡ length ys → SameCut xs ys v w us vs
-same_cut [] [] v w us vs e l = record { front = refl; at = let k : v ≡ w = cc in k; rest = let k : us ≡ vs = cc in k }
-same_cut [] (y ∷ ys) v w us vs e l = cc
-same_cut (x ∷ xs) [] v w us vs e l = cc
-same_cut (x ∷ xs) (y ∷ ys) v w us vs e l =
-    let a : xs ++ v ∷ us ≡ ys ++ w ∷ vs = cc in
-    let b : length xs ≡ length ys = omega arith in
-    let k : SameCut xs ys v w us vs = same_cut xs ys v w us vs a b in
-    let h : x ≡ y = cc in
-    record { front = λ i. h i ∷ k.front i; at = k.at; rest = k.rest }
+-- two steps of one kind at one place
+record SameSpot (step other : Step) : Type 0 where
+  pub kind : step.kind ≡ other.kind
+  pub place : step.place ≡ other.place
 
 same_some : {A : Type 0} (o : Option A) (a b : A) → o ≡ Some a → o ≡ Some b → a ≡ b
 same_some o a b e f = cc
 
-pub one_core_result : (R : List EntryParts) (start : ℕ) (c d e : CoreParts) (s : CoreStep (values_of R) c d) (u : CoreStep (values_of R) c e) → core_label R start s ≡ core_label R start u → d ≡ e
+one_core_result : (R : List EntryParts) (start : ℕ) (c d e : CoreParts) (s : CoreStep (values_of R) c d) (u : CoreStep (values_of R) c e) → SameSpot (core_label R start s) (core_label R start u) → d ≡ e
 one_core_result R start c d e (by_extlang x s) (by_extlang y u) h =
     let k : x ≡ y = let a = s.one in let b = u.one in cc in
     s.result ∙ ap (λ z. core ((values_of R).replacement z) [] c.script c.region c.variants) k ∙ sym u.result
@@ -54,53 +42,27 @@ one_core_result R start c d e (by_region a v s) (by_region b w u) h =
     let k : a ≡ b = same_some c.region a b s.there u.there in
     s.result ∙ ap (λ z. core c.language c.extlangs c.script (Some z) c.variants) (same_some ((values_of R).region a) v w s.has (ap (values_of R).region k ∙ u.has)) ∙ sym u.result
 one_core_result R start c d e (by_variant before v w after s) (by_variant before' v' w' after' u) h =
-    let p : start + before_variants c + length before + 1 ≡ start + before_variants c + length before' + 1 = ap (λ (x : Step). x.place) h in
+    let p : start + before_variants c + length before + 1 ≡ start + before_variants c + length before' + 1 = h.place in
     let l : length before ≡ length before' = omega (arith, p) in
     let k : SameCut before before' v v' after after' = same_cut before before' v v' after after' (sym s.there ∙ u.there) l in
     let q : w ≡ w' = same_some ((values_of R).variant v) w w' s.has (ap (values_of R).variant k.at ∙ u.has) in
     s.result ∙ (λ i. core c.language c.extlangs c.script c.region (k.front i ++ q i ∷ k.rest i)) ∙ sym u.result
 one_core_result R start c d e (by_turn before v m after s) (by_turn before' v' m' after' u) h =
-    let p : start + before_variants c + length before + 1 ≡ start + before_variants c + length before' + 1 = ap (λ (x : Step). x.place) h in
+    let p : start + before_variants c + length before + 1 ≡ start + before_variants c + length before' + 1 = h.place in
     let l : length before ≡ length before' = omega (arith, p) in
     let k : SameCut before before' v v' after after' = same_cut before before' v v' after after' (sym s.there ∙ u.there) l in
     let q : m ≡ m' = same_some ((values_of R).turn c.language v) m m' s.has (ap ((values_of R).turn c.language) k.at ∙ u.has) in
     s.result ∙ (λ i. core (q i) c.extlangs c.script c.region (k.front i ++ k.rest i)) ∙ sym u.result
-one_core_result R start c d e s u h = let k = ap (λ (x : Step). x.kind) h in cc
+one_core_result R start c d e s u h = let k = h.kind in cc
 
-one_core_any : (R : List EntryParts) (start : ℕ) (c c' d d' : CoreParts) → c ≡ c' → (s : CoreStep (values_of R) c d) (u : CoreStep (values_of R) c' d') → core_label R start s ≡ core_label R start u → d ≡ d'
+one_core_any : (R : List EntryParts) (start : ℕ) (c c' d d' : CoreParts) → c ≡ c' → (s : CoreStep (values_of R) c d) (u : CoreStep (values_of R) c' d') → SameSpot (core_label R start s) (core_label R start u) → d ≡ d'
 one_core_any R start c c' d d' e s u h =
-    let P : CoreParts → Type 0 = λ x. (u : CoreStep (values_of R) x d') → core_label R start s ≡ core_label R start u → d ≡ d' in
+    let P : CoreParts → Type 0 = λ x. (u : CoreStep (values_of R) x d') → SameSpot (core_label R start s) (core_label R start u) → d ≡ d' in
     subst P e (λ u h. one_core_result R start c d d' s u h) u h
 
--- lists of parts
-
-none_long : (s : List (List ℕ)) → s ≢ [] → length s ≡ 0 → ⊥
-none_long [] h k = h refl
-none_long (x ∷ r) h k = omega arith
-
-same_flat : {A : Type 0} (spell : A → List (List ℕ)) → ((a : A) → spell a ≢ []) → (xs ys : List A) (v w : A) (us vs : List A) → xs ++ v ∷ us ≡ ys ++ w ∷ vs → length (flat_map spell xs) ≡ length (flat_map spell ys) → SameCut xs ys v w us vs
-same_flat spell n [] [] v w us vs e l = record { front = refl; at = let k : v ≡ w = cc in k; rest = let k : us ≡ vs = cc in k }
-same_flat spell n [] (y ∷ ys) v w us vs e l = absurd (none_long (spell y) (n y) (omega (arith, l, length-append (spell y) (flat_map spell ys))))
-same_flat spell n (x ∷ xs) [] v w us vs e l = absurd (none_long (spell x) (n x) (omega (arith, l, length-append (spell x) (flat_map spell xs))))
-same_flat spell n (x ∷ xs) (y ∷ ys) v w us vs e l =
-    let h : x ≡ y = cc in
-    let a : xs ++ v ∷ us ≡ ys ++ w ∷ vs = cc in
-    let s : length (spell x) ≡ length (spell y) = ap (λ z. length (spell z)) h in
-    let b : length (flat_map spell xs) ≡ length (flat_map spell ys) = omega (arith, l, s, length-append (spell x) (flat_map spell xs), length-append (spell y) (flat_map spell ys)) in
-    let k : SameCut xs ys v w us vs = same_flat spell n xs ys v w us vs a b in
-    record { front = λ i. h i ∷ k.front i; at = k.at; rest = k.rest }
-
-flat-append : {A : Type 0} (spell : A → List (List ℕ)) (xs ys : List A) → flat_map spell (xs ++ ys) ≡ flat_map spell xs ++ flat_map spell ys
-flat-append spell [] ys = refl
-flat-append spell (x ∷ xs) ys = ap (λ l. spell x ++ l) (flat-append spell xs ys) ∙ sym (append_assoc (spell x) (flat_map spell xs) (flat_map spell ys))
-
-flat_length : {A : Type 0} (spell : A → List (List ℕ)) (before : List A) (a : A) (between : List A) → length (flat_map spell (before ++ a ∷ between)) ≡ length (flat_map spell before) + length (spell a) + length (flat_map spell between)
-flat_length spell before a between =
-    ap length (flat-append spell before (a ∷ between)) ∙ (omega (arith, length-append (flat_map spell before) (flat_map spell (a ∷ between)), length-append (spell a) (flat_map spell between)))
-
-one_list_result : {A : Type 0} (once : Bool) (cmp : A → A → Ordering) (swap drop : StepKind) → (once ≡ true → swap ≢ drop) → (spell : A → List (List ℕ)) → ((a : A) → spell a ≢ []) → (start : ℕ) (xs ys zs : List A) (s : ListStep once cmp xs ys) (u : ListStep once cmp xs zs) → list_label swap drop spell start s ≡ list_label swap drop spell start u → ys ≡ zs
+one_list_result : {A : Type 0} (once : Bool) (cmp : A → A → Ordering) (swap drop : StepKind) → (once ≡ true → swap ≢ drop) → (spell : A → List (List ℕ)) → ((a : A) → spell a ≢ []) → (start : ℕ) (xs ys zs : List A) (s : ListStep once cmp xs ys) (u : ListStep once cmp xs zs) → SameSpot (list_label swap drop spell start s) (list_label swap drop spell start u) → ys ≡ zs
 one_list_result once cmp swap drop differ spell n start xs ys zs (by_swap before a b after s) (by_swap before' a' b' after' u) h =
-    let p : start + length (flat_map spell before) + 1 ≡ start + length (flat_map spell before') + 1 = ap (λ (x : Step). x.place) h in
+    let p : start + length (flat_map spell before) + 1 ≡ start + length (flat_map spell before') + 1 = h.place in
     let l : length (flat_map spell before) ≡ length (flat_map spell before') = omega (arith, p) in
     let k : SameCut before before' a a' (b ∷ after) (b' ∷ after') = same_flat spell n before before' a a' (b ∷ after) (b' ∷ after') (sym s.there ∙ u.there) l in
     let r : b ∷ after ≡ b' ∷ after' = k.rest in
@@ -108,7 +70,7 @@ one_list_result once cmp swap drop differ spell n start xs ys zs (by_swap before
     let ea : after ≡ after' = cc in
     s.result ∙ (λ i. k.front i ++ eb i ∷ k.at i ∷ ea i) ∙ sym u.result
 one_list_result once cmp swap drop differ spell n start xs ys zs (by_drop before a between b after o s) (by_drop before' a' between' b' after' o' u) h =
-    let p : start + length (flat_map spell before) + length (spell a) + length (flat_map spell between) + 1 ≡ start + length (flat_map spell before') + length (spell a') + length (flat_map spell between') + 1 = ap (λ (x : Step). x.place) h in
+    let p : start + length (flat_map spell before) + length (spell a) + length (flat_map spell between) + 1 ≡ start + length (flat_map spell before') + length (spell a') + length (flat_map spell between') + 1 = h.place in
     let f = flat_length spell before a between in
     let g = flat_length spell before' a' between' in
     let l : length (flat_map spell (before ++ a ∷ between)) ≡ length (flat_map spell (before' ++ a' ∷ between')) = omega (arith, p, f, g) in
@@ -116,8 +78,8 @@ one_list_result once cmp swap drop differ spell n start xs ys zs (by_drop before
     append_assoc before (a ∷ between) (b ∷ after) ∙ sym s.there ∙ u.there ∙ sym (append_assoc before' (a' ∷ between') (b' ∷ after')) in
     let k : SameCut (before ++ a ∷ between) (before' ++ a' ∷ between') b b' after after' = same_flat spell n (before ++ a ∷ between) (before' ++ a' ∷ between') b b' after after' there l in
     s.result ∙ sym (append_assoc before (a ∷ between) after) ∙ (λ i. k.front i ++ k.rest i) ∙ append_assoc before' (a' ∷ between') after' ∙ sym u.result
-one_list_result once cmp swap drop differ spell n start xs ys zs (by_swap before a b after s) (by_drop before' a' between' b' after' o u) h = absurd (differ o (ap (λ (x : Step). x.kind) h))
-one_list_result once cmp swap drop differ spell n start xs ys zs (by_drop before a between b after o s) (by_swap before' a' b' after' u) h = absurd (differ o (sym (ap (λ (x : Step). x.kind) h)))
+one_list_result once cmp swap drop differ spell n start xs ys zs (by_swap before a b after s) (by_drop before' a' between' b' after' o u) h = absurd (differ o h.kind)
+one_list_result once cmp swap drop differ spell n start xs ys zs (by_drop before a between b after o s) (by_swap before' a' b' after' u) h = absurd (differ o (sym h.kind))
 
 -- a class of each kind: 0 on a core, 1 to 3 in u, 4 in t, 5 on extensions, 6 on whole tags
 class : StepKind → ℕ
@@ -181,13 +143,13 @@ unicode_range p q (on_attributes s k) = (omega arith, omega arith)
 unicode_range p q (on_keywords a s) = (omega arith, omega arith)
 unicode_range p q (on_types a before k after s) = (omega arith, omega arith)
 
-parts_differ : (start : ℕ) (p q r : UForm) (s : UnicodeStep p q) (u : UnicodeStep p r) → unicode_label start s ≡ unicode_label start u → unicode_part s ≡ unicode_part u
-parts_differ start p q r s u h = sym (unicode_class start p q s) ∙ ap (λ (x : Step). class x.kind) h ∙ unicode_class start p r u
+parts_differ : (start : ℕ) (p q r : UForm) (s : UnicodeStep p q) (u : UnicodeStep p r) → SameSpot (unicode_label start s) (unicode_label start u) → unicode_part s ≡ unicode_part u
+parts_differ start p q r s u h = sym (unicode_class start p q s) ∙ ap class h.kind ∙ unicode_class start p r u
 
 same_parts : (p q : UForm) → p.attributes ≡ q.attributes → p.keywords ≡ q.keywords → p ≡ q
 same_parts p q a b = λ i. record { attributes = a i; keywords = b i }
 
-one_unicode_at : (start : ℕ) (p q r : UForm) (s : UnicodeStep p q) (u : UnicodeStep p r) → unicode_part s ≡ unicode_part u → unicode_label start s ≡ unicode_label start u → q ≡ r
+one_unicode_at : (start : ℕ) (p q r : UForm) (s : UnicodeStep p q) (u : UnicodeStep p r) → unicode_part s ≡ unicode_part u → SameSpot (unicode_label start s) (unicode_label start u) → q ≡ r
 unfolding unicode_part
 one_unicode_at start p q r (on_attributes s k) (on_attributes u l) e h =
     same_parts q r
@@ -197,20 +159,20 @@ one_unicode_at start p q r (on_keywords a s) (on_keywords b u) e h =
     same_parts q r (a ∙ sym b)
     (one_list_result true key_cmp steps.SwapKeywords steps.DropKeyword (λ _ e. cc) spell_keyword (λ k e. cc) (start + length p.attributes) p.keywords q.keywords r.keywords s u h)
 one_unicode_at start p q r (on_types a before k after s) (on_types b before' k' after' u) e h =
-    let x : start + length p.attributes + length (flat_map spell_keyword before) + 2 ≡ start + length p.attributes + length (flat_map spell_keyword before') + 2 = ap (λ (x : Step). x.place) h in
+    let x : start + length p.attributes + length (flat_map spell_keyword before) + 2 ≡ start + length p.attributes + length (flat_map spell_keyword before') + 2 = h.place in
     let l : length (flat_map spell_keyword before) ≡ length (flat_map spell_keyword before') = omega (arith, x) in
     let cut : SameCut before before' k k' after after' = same_flat spell_keyword (λ k e. cc) before before' k k' after after' (sym s.there ∙ u.there) l in
     same_parts q r (a ∙ sym b) (s.result ∙ (λ i. cut.front i ++ record (cut.at i) { types = [] } ∷ cut.rest i) ∙ sym u.result)
 one_unicode_at start p q r s u e h = absurd (omega (arith, e))
 
-one_unicode : (start : ℕ) (p q r : UForm) (s : UnicodeStep p q) (u : UnicodeStep p r) → unicode_label start s ≡ unicode_label start u → q ≡ r
+one_unicode : (start : ℕ) (p q r : UForm) (s : UnicodeStep p q) (u : UnicodeStep p r) → SameSpot (unicode_label start s) (unicode_label start u) → q ≡ r
 one_unicode start p q r s u h = one_unicode_at start p q r s u (parts_differ start p q r s u h) h
 
 fields_class : (start : ℕ) (p q : TForm) (h : ListStep false separator_cmp p.fields q.fields) → class (list_label steps.SwapFields steps.SwapFields spell_field start h).kind ≡ 4
 unfolding class
 fields_class start p q h = list_class steps.SwapFields steps.SwapFields 4 refl refl spell_field start h
 
-one_transform : (R : List EntryParts) (start : ℕ) (p q r : TForm) (s : TransformStep R p q) (u : TransformStep R p r) → transform_label R start s ≡ transform_label R start u → q ≡ r
+one_transform : (R : List EntryParts) (start : ℕ) (p q r : TForm) (s : TransformStep R p q) (u : TransformStep R p r) → SameSpot (transform_label R start s) (transform_label R start u) → q ≡ r
 one_transform R start p q r (on_source c d s) (on_source c' d' u) h =
     let e : c ≡ c' = same_some p.source c c' s.from u.from in
     let k : d ≡ d' = one_core_any R start c c' d d' e s.step u.step h in
@@ -224,36 +186,36 @@ one_transform R start p q r (on_fields x s) (on_fields y u) h =
 one_transform R start p q r (on_source c d s) (on_fields y u) h =
     let a = core_class R start c d s.step in
     let b = fields_class (start + length (spell_source p.source)) p r u in
-    let c = ap (λ (x : Step). class x.kind) h in
+    let c = ap class h.kind in
     absurd (omega (arith, a, b, c))
 one_transform R start p q r (on_fields x s) (on_source c d u) h =
     let a = fields_class (start + length (spell_source p.source)) p q s in
     let b = core_class R start c d u.step in
-    let c = ap (λ (x : Step). class x.kind) h in
+    let c = ap class h.kind in
     absurd (omega (arith, a, b, c))
 
 same_extension : (f g : ExtensionParts) → f.singleton ≡ g.singleton → f.subtags ≡ g.subtags → f ≡ g
 same_extension f g a b = λ i. record { singleton = a i; subtags = b i }
 
 -- on one extension
-one_extension_result : (R : List EntryParts) (start : ℕ) (e f g : ExtensionParts) (s : ExtensionStep R e f) (u : ExtensionStep R e g) → extension_label R start s ≡ extension_label R start u → f ≡ g
+one_extension_result : (R : List EntryParts) (start : ℕ) (e f g : ExtensionParts) (s : ExtensionStep R e f) (u : ExtensionStep R e g) → SameSpot (extension_label R start s) (extension_label R start u) → f ≡ g
 one_extension_result R start e f g (in_unicode p q s) (in_unicode p' q' u) h =
     let same : p ≡ p' = u_unique e.subtags p p' s.from u.from in
-    let P : UForm → Type 0 = λ x. (k : UnicodeStep x q') → unicode_label start s.step ≡ unicode_label start k → q ≡ q' in
+    let P : UForm → Type 0 = λ x. (k : UnicodeStep x q') → SameSpot (unicode_label start s.step) (unicode_label start k) → q ≡ q' in
     let k : q ≡ q' = subst P same (λ k h. one_unicode start p q q' s.step k h) u.step h in
     same_extension f g (s.singleton ∙ sym u.singleton) (sym s.to.spelled ∙ ap spell_u k ∙ u.to.spelled)
 one_extension_result R start e f g (in_transform p q s) (in_transform p' q' u) h =
     let same : p ≡ p' = t_unique e.subtags p p' s.from u.from in
-    let P : TForm → Type 0 = λ x. (k : TransformStep R x q') → transform_label R start s.step ≡ transform_label R start k → q ≡ q' in
+    let P : TForm → Type 0 = λ x. (k : TransformStep R x q') → SameSpot (transform_label R start s.step) (transform_label R start k) → q ≡ q' in
     let k : q ≡ q' = subst P same (λ k h. one_transform R start p q q' s.step k h) u.step h in
     same_extension f g (s.singleton ∙ sym u.singleton) (sym s.to.spelled ∙ ap spell_t k ∙ u.to.spelled)
 one_extension_result R start e f g (in_unicode p q s) (in_transform p' q' u) h = absurd (omega (arith, s.is_u, u.is_t))
 one_extension_result R start e f g (in_transform p q s) (in_unicode p' q' u) h = absurd (omega (arith, s.is_t, u.is_u))
 
-one_extension_any : (R : List EntryParts) (start start' : ℕ) (e e' f g : ExtensionParts) → start ≡ start' → e ≡ e' → (s : ExtensionStep R e f) (u : ExtensionStep R e' g) → extension_label R start s ≡ extension_label R start' u → f ≡ g
+one_extension_any : (R : List EntryParts) (start start' : ℕ) (e e' f g : ExtensionParts) → start ≡ start' → e ≡ e' → (s : ExtensionStep R e f) (u : ExtensionStep R e' g) → SameSpot (extension_label R start s) (extension_label R start' u) → f ≡ g
 one_extension_any R start start' e e' f g n k s u h =
-    let P : ExtensionParts → Type 0 = λ x. (u : ExtensionStep R x g) → extension_label R start s ≡ extension_label R start' u → f ≡ g in
-    let Q : ℕ → Type 0 = λ m. (u : ExtensionStep R e g) → extension_label R start s ≡ extension_label R m u → f ≡ g in
+    let P : ExtensionParts → Type 0 = λ x. (u : ExtensionStep R x g) → SameSpot (extension_label R start s) (extension_label R start' u) → f ≡ g in
+    let Q : ℕ → Type 0 = λ m. (u : ExtensionStep R e g) → SameSpot (extension_label R start s) (extension_label R m u) → f ≡ g in
     subst P k (subst Q n (λ u h. one_extension_result R start e f g s u h)) u h
 
 -- what the label of a step on an extension tells
@@ -289,28 +251,6 @@ tells_singleton start start' e e' kind kind' place place' h (of_fields s a) (of_
 tells_singleton start start' e e' kind kind' place place' h (of_source s a l) (of_fields s' a') = s ∙ sym s'
 tells_singleton start start' e e' kind kind' place place' h (of_source s a l) (of_source s' a' l') = s ∙ sym s'
 
-all_front : (P : ℕ → Type 0) (xs : List ExtensionParts) (v : ExtensionParts) (us : List ExtensionParts) → AllByRecursion P (map (λ (e : ExtensionParts). e.singleton) (xs ++ v ∷ us)) → P v.singleton
-all_front P [] v us h = h.0
-all_front P (x ∷ xs) v us h = all_front P xs v us h.1
-
--- singletons that differ cut the list at one place
-distinct_cut : (xs ys : List ExtensionParts) (v w : ExtensionParts) (us vs : List ExtensionParts) → xs ++ v ∷ us ≡ ys ++ w ∷ vs → Distinct (map (λ (e : ExtensionParts). e.singleton) (xs ++ v ∷ us)) → v.singleton ≡ w.singleton → SameCut xs ys v w us vs
-distinct_cut [] [] v w us vs e d k = record { front = refl; at = let h : v ≡ w = cc in h; rest = let h : us ≡ vs = cc in h }
-distinct_cut [] (y ∷ ys) v w us vs e d k =
-    let a : v ≡ y = cc in
-    let b : us ≡ ys ++ w ∷ vs = cc in
-    let ne : w.singleton ≢ v.singleton = all_front (λ n. n ≢ v.singleton) ys w vs (subst (λ l. AllByRecursion (λ n. n ≢ v.singleton) (map (λ (e : ExtensionParts). e.singleton) l)) b d.0) in
-    absurd (ne (sym k))
-distinct_cut (x ∷ xs) [] v w us vs e d k =
-    let a : x ≡ w = cc in
-    let ne : v.singleton ≢ x.singleton = all_front (λ n. n ≢ x.singleton) xs v us d.0 in
-    absurd (ne (k ∙ sym (ap (λ (e : ExtensionParts). e.singleton) a)))
-distinct_cut (x ∷ xs) (y ∷ ys) v w us vs e d k =
-    let h : x ≡ y = cc in
-    let r : xs ++ v ∷ us ≡ ys ++ w ∷ vs = cc in
-    let c : SameCut xs ys v w us vs = distinct_cut xs ys v w us vs r d.1 k in
-    record { front = λ i. h i ∷ c.front i; at = c.at; rest = c.rest }
-
 among_class : (start : ℕ) (es fs : List ExtensionParts) (s : ListStep false singleton_cmp es fs) → class (list_label steps.SwapExtensions steps.SwapExtensions spell_extension start s).kind ≡ 5
 unfolding class
 among_class start es fs s = list_class steps.SwapExtensions steps.SwapExtensions 5 refl refl spell_extension start s
@@ -320,11 +260,11 @@ unfolding class
 whole_class = refl
 
 -- on a list of extensions whose singletons differ
-one_extensions_result : (R : List EntryParts) (start : ℕ) (es fs gs : List ExtensionParts) → Distinct (map (λ (e : ExtensionParts). e.singleton) es) → (s : ExtensionsStep R es fs) (u : ExtensionsStep R es gs) → extensions_label R start s ≡ extensions_label R start u → fs ≡ gs
+one_extensions_result : (R : List EntryParts) (start : ℕ) (es fs gs : List ExtensionParts) → Distinct (map (λ (e : ExtensionParts). e.singleton) es) → (s : ExtensionsStep R es fs) (u : ExtensionsStep R es gs) → SameSpot (extensions_label R start s) (extensions_label R start u) → fs ≡ gs
 one_extensions_result R start es fs gs D (inside before e f after w s) (inside before' e' f' after' w' s') h =
     let k : ℕ = start + length (spell_extensions before) + 1 in
     let k' : ℕ = start + length (spell_extensions before') + 1 in
-    let one : e.singleton ≡ e'.singleton = tells_singleton k k' e e' (class (extension_label R k s).kind) (class (extension_label R k' s').kind) (extension_label R k s).place (extension_label R k' s').place (ap (λ (x : Step). class x.kind) h) (extension_tells R k e f s) (extension_tells R k' e' f' s') in
+    let one : e.singleton ≡ e'.singleton = tells_singleton k k' e e' (class (extension_label R k s).kind) (class (extension_label R k' s').kind) (extension_label R k s).place (extension_label R k' s').place (ap class h.kind) (extension_tells R k e f s) (extension_tells R k' e' f' s') in
     let D' = subst (λ l. Distinct (map (λ (e : ExtensionParts). e.singleton) l)) w.there D in
     let cut : SameCut before before' e e' after after' = distinct_cut before before' e e' after after' (sym w.there ∙ w'.there) D' one in
     let n : start + length (spell_extensions before) + 1 ≡ start + length (spell_extensions before') + 1 = ap (λ l. start + length (spell_extensions l) + 1) cut.front in
@@ -336,19 +276,19 @@ one_extensions_result R start es fs gs D (inside before e f after w s) (among u)
     let k : ℕ = start + length (spell_extensions before) + 1 in
     let t = tells_low k e (class (extension_label R k s).kind) (extension_label R k s).place (extension_tells R k e f s) in
     let a = among_class start es gs u in
-    let b = ap (λ (x : Step). class x.kind) h in
+    let b = ap class h.kind in
     absurd (omega (arith, t.0, a, b))
 one_extensions_result R start es fs gs D (among u) (inside before e f after w s) h =
     let k : ℕ = start + length (spell_extensions before) + 1 in
     let t = tells_low k e (class (extension_label R k s).kind) (extension_label R k s).place (extension_tells R k e f s) in
     let a = among_class start es fs u in
-    let b = ap (λ (x : Step). class x.kind) h in
+    let b = ap class h.kind in
     absurd (omega (arith, t.0, a, b))
 
-one_extensions_any : (R : List EntryParts) (start start' : ℕ) (es es' fs gs : List ExtensionParts) → start ≡ start' → es ≡ es' → Distinct (map (λ (e : ExtensionParts). e.singleton) es) → (s : ExtensionsStep R es fs) (u : ExtensionsStep R es' gs) → extensions_label R start s ≡ extensions_label R start' u → fs ≡ gs
+one_extensions_any : (R : List EntryParts) (start start' : ℕ) (es es' fs gs : List ExtensionParts) → start ≡ start' → es ≡ es' → Distinct (map (λ (e : ExtensionParts). e.singleton) es) → (s : ExtensionsStep R es fs) (u : ExtensionsStep R es' gs) → SameSpot (extensions_label R start s) (extensions_label R start' u) → fs ≡ gs
 one_extensions_any R start start' es es' fs gs n k D s u h =
-    let P : List ExtensionParts → Type 0 = λ x. (u : ExtensionsStep R x gs) → extensions_label R start s ≡ extensions_label R start' u → fs ≡ gs in
-    let Q : ℕ → Type 0 = λ m. (u : ExtensionsStep R es gs) → extensions_label R start s ≡ extensions_label R m u → fs ≡ gs in
+    let P : List ExtensionParts → Type 0 = λ x. (u : ExtensionsStep R x gs) → SameSpot (extensions_label R start s) (extensions_label R start' u) → fs ≡ gs in
+    let Q : ℕ → Type 0 = λ m. (u : ExtensionsStep R es gs) → SameSpot (extensions_label R start s) (extensions_label R m u) → fs ≡ gs in
     subst P k (subst Q n (λ u h. one_extensions_result R start es fs gs D s u h)) u h
 
 -- the class and the place of a step on extensions
@@ -362,7 +302,7 @@ extensions_low R start es fs (among s) =
     (omega (arith, a), λ z. absurd (omega (arith, a, z)))
 
 -- the kind and the place determine what a step on a tag leads to
-one_result : (R : List EntryParts) (t u v : TagForm) → HasProperParts R t → (s : TagChange R t u) (r : TagChange R t v) → tag_label R s ≡ tag_label R r → u ≡ v
+one_result : (R : List EntryParts) (t u v : TagForm) → HasProperParts R t → (s : TagChange R t u) (r : TagChange R t v) → SameSpot (tag_label R s) (tag_label R r) → u ≡ v
 one_result R t u v P (on_core c d es ps s) (on_core c' d' es' ps' r) h =
     let e : LangTag c es ps ≡ LangTag c' es' ps' = sym s.from ∙ r.from in
     let ec : c ≡ c' = cc in
@@ -380,24 +320,30 @@ one_result R t u v P (on_extensions c es fs ps s) (on_extensions c' es' fs' ps' 
     let ef : fs ≡ fs' = one_extensions_any R (length (spell_core c)) (length (spell_core c')) es es' fs fs' n ee L.singletons s.step r.step h in
     s.to ∙ (λ i. LangTag (ec i) (ef i) (ep i)) ∙ sym r.to
 one_result R t u v P (on_whole s) (on_whole r) h = same_some (whole_value R t) u v s.has r.has
-one_result R t u v P (on_core c d es ps s) (on_whole r) h = absurd (omega (arith, core_class R 0 c d s.step, whole_class, ap (λ (x : Step). class x.kind) h))
-one_result R t u v P (on_whole r) (on_core c d es ps s) h = absurd (omega (arith, core_class R 0 c d s.step, whole_class, ap (λ (x : Step). class x.kind) h))
-one_result R t u v P (on_extensions c es fs ps s) (on_whole r) h = absurd (omega (arith, (extensions_low R (length (spell_core c)) es fs s.step).0, whole_class, ap (λ (x : Step). class x.kind) h))
-one_result R t u v P (on_whole r) (on_extensions c es fs ps s) h = absurd (omega (arith, (extensions_low R (length (spell_core c)) es fs s.step).0, whole_class, ap (λ (x : Step). class x.kind) h))
+one_result R t u v P (on_core c d es ps s) (on_whole r) h = absurd (omega (arith, core_class R 0 c d s.step, whole_class, ap class h.kind))
+one_result R t u v P (on_whole r) (on_core c d es ps s) h = absurd (omega (arith, core_class R 0 c d s.step, whole_class, ap class h.kind))
+one_result R t u v P (on_extensions c es fs ps s) (on_whole r) h = absurd (omega (arith, (extensions_low R (length (spell_core c)) es fs s.step).0, whole_class, ap class h.kind))
+one_result R t u v P (on_whole r) (on_extensions c es fs ps s) h = absurd (omega (arith, (extensions_low R (length (spell_core c)) es fs s.step).0, whole_class, ap class h.kind))
 one_result R t u v P (on_core c d es ps s) (on_extensions c' es' fs ps' r) h =
     let same : LangTag c es ps ≡ LangTag c' es' ps' = sym s.from ∙ r.from in
     let ec : c ≡ c' = cc in
     let k = core_class R 0 c d s.step in
-    let m = ap (λ (x : Step). class x.kind) h in
+    let m = ap class h.kind in
     let l = (extensions_low R (length (spell_core c')) es' fs r.step).1 (sym m ∙ k) in
-    absurd (omega (arith, core_high R c d s.step, ap (λ x. length (spell_core x)) ec, l, ap (λ (x : Step). x.place) h))
+    absurd (omega (arith, core_high R c d s.step, ap (λ x. length (spell_core x)) ec, l, h.place))
 one_result R t u v P (on_extensions c' es' fs ps' r) (on_core c d es ps s) h =
     let same : LangTag c es ps ≡ LangTag c' es' ps' = sym s.from ∙ r.from in
     let ec : c ≡ c' = cc in
     let k = core_class R 0 c d s.step in
-    let m = ap (λ (x : Step). class x.kind) h in
+    let m = ap class h.kind in
     let l = (extensions_low R (length (spell_core c')) es' fs r.step).1 (m ∙ k) in
-    absurd (omega (arith, core_high R c d s.step, ap (λ x. length (spell_core x)) ec, l, ap (λ (x : Step). x.place) h))
+    absurd (omega (arith, core_high R c d s.step, ap (λ x. length (spell_core x)) ec, l, h.place))
 
 pub steps_determined : (R : List EntryParts) → StepsAreDetermined R
-steps_determined R t u v step a b = one_result R t u v a.0.from.parts a.0.change b.0.change (a.1 ∙ sym b.1)
+steps_determined R t u v step other a b k p =
+    let h : SameSpot (tag_label R a.0.change) (tag_label R b.0.change) = record { kind = ap (λ (x : Step). x.kind) a.1 ∙ k ∙ sym (ap (λ (x : Step). x.kind) b.1); place = ap (λ (x : Step). x.place) a.1 ∙ p ∙ sym (ap (λ (x : Step). x.place) b.1) } in
+    one_result R t u v a.0.from.parts a.0.change b.0.change h
+
+-- so does the label
+pub one_labelled : (R : List EntryParts) (t u v : TagForm) → HasProperParts R t → (s : TagChange R t u) (r : TagChange R t v) → tag_label R s ≡ tag_label R r → u ≡ v
+one_labelled R t u v P s r e = one_result R t u v P s r (record { kind = ap (λ (x : Step). x.kind) e; place = ap (λ (x : Step). x.place) e })

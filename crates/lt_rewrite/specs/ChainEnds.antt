@@ -1,7 +1,8 @@
 -- Where the chain of values from a subtag of a kind ends (RFC 5646, 3.1.7).
-use Rattle.std.specs.Prelude.{ℕ, List}
+use Rattle.std.specs.Prelude.{ℕ, List, Option, Some, None, if◌then◌else◌}
+use Rattle.std.specs.Option.{option_and_then}
 use Rattle.lt_registry.specs.Parts.{EntryParts}
-use Rattle.lt_registry.specs.Entries.{replacement}
+use Rattle.lt_registry.specs.Entries.{replacement, one_of, is_short}
 use Rattle.lt_registry.specs.declared.entries.Kind.{Kind}
 use Rattle.lt_registry.specs.declared.entries.Kind.TheVariants as kinds
 use Rattle.lt_rewrite.specs.CoreSteps.{Ends, EndsIn}
@@ -26,3 +27,13 @@ ChainEnds R kinds.Region s = Ends (next_value R kinds.Region) s
 ChainEnds R kinds.Variant s = Ends (next_value R kinds.Variant) s
 ChainEnds R kinds.Grandfathered s = Ends (next_value R kinds.Grandfathered) s
 ChainEnds R kinds.Redundant s = Ends (next_value R kinds.Redundant) s
+
+-- the value of an entry that follows in a chain of a kind
+abbrev pub following : Kind → EntryParts → Option (List ℕ)
+following kinds.Language e = one_of e.value
+following kinds.Extlang e = None
+following kinds.Script e = one_of e.value
+following kinds.Region e = one_of e.value
+following kinds.Variant e = option_and_then (λ w. if is_short w then None else Some w) (one_of e.value)
+following kinds.Grandfathered e = None
+following kinds.Redundant e = None

@@ -47,6 +47,7 @@ EndingChainsAreShort R =
 abbrev pub ChainsEnd : List EntryParts → Type 0
 ChainsEnd R = (k : Kind) (s : List ℕ) → Ends (next_value R k) s
 
--- the kind, the place and the number determine what a step leads to
+-- the kind and the place determine what a step leads to
 abbrev pub StepsAreDetermined : List EntryParts → Type 0
-StepsAreDetermined R = (t u v : TagForm) (step : Step) → LeadsBy R t step u → LeadsBy R t step v → u ≡ v
+StepsAreDetermined R =
+    (t u v : TagForm) (step other : Step) → LeadsBy R t step u → LeadsBy R t other v → step.kind ≡ other.kind → step.place ≡ other.place → u ≡ v

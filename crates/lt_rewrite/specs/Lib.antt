@@ -11,3 +11,7 @@ pub mod Laws
 pub mod ChainEnds
 pub mod CoreSettling
 pub mod ExtensionSettling
+pub mod ExtensionsSettling
+pub mod Applying
+pub mod Cycles
+pub mod ApplyFaults

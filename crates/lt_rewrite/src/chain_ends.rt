@@ -6,7 +6,7 @@ ghost use Rattle.lt_registry.specs.Entries.{one_of, has_form, has_value_form, is
 ghost use Rattle.lt_registry.specs.Entries as entries;
 ghost use Rattle.lt_rewrite.specs.CoreSteps.{Ends, EndsIn};
 ghost use Rattle.lt_rewrite.specs.Conditions as conditions;
-ghost use Rattle.lt_rewrite.specs.ChainEnds.{ChainEnds, ChainEndsIn};
+ghost use Rattle.lt_rewrite.specs.ChainEnds.{ChainEnds, ChainEndsIn, following};
 
 use lt_registry::{Entry, EntryValue, Kind, Lookup};
 use lt_subtag::Subtag;
@@ -53,7 +53,22 @@ fn value<'a, L: Lookup>(table: &'a L, kind: Kind, subtag: &Subtag) -> Option<&'a
     }
 }
 
-/// The value that follows in a chain: that of a variant only where it is a variant.
+/// The value of an entry that follows in a chain of a kind: that of a variant only where it is a
+/// variant.
+pub(crate) fn following(kind: Kind, entry: &Entry) -> Option<&Subtag>
+    ensures { option_copied result ≡ following kind entry.now }
+{
+    match kind {
+        Kind::Language | Kind::Script | Kind::Region => one_value(entry),
+        Kind::Variant => match one_value(entry) {
+            Some(next) if !is_short(next) => Some(next),
+            _ => None,
+        },
+        Kind::Extlang | Kind::Grandfathered | Kind::Redundant => None,
+    }
+}
+
+/// The value that follows a subtag in a chain.
 pub(crate) fn next_value<'a, L: Lookup>(
     table: &'a L,
     kind: Kind,
@@ -61,13 +76,9 @@ pub(crate) fn next_value<'a, L: Lookup>(
 ) -> Option<&'a Subtag>
     ensures { option_copied result ≡ conditions.next_value (L.listed table.now) kind subtag.now }
 {
-    match kind {
-        Kind::Language | Kind::Script | Kind::Region => value(table, kind, subtag),
-        Kind::Variant => match value(table, kind, subtag) {
-            Some(next) if !is_short(next) => Some(next),
-            _ => None,
-        },
-        Kind::Extlang | Kind::Grandfathered | Kind::Redundant => None,
+    match table.entry(kind, subtag) {
+        Some(entry) => following(kind, entry),
+        None => None,
     }
 }
 

@@ -125,7 +125,7 @@ fn turn<'a, L: Lookup>(table: &'a L, language: &Subtag, variant: &Subtag) -> Opt
 }
 
 /// The leftmost variant that turns beside the language: its index, and what it turns into.
-fn first_turn<L: Lookup>(table: &L, core: &Core) -> Option<(usize, Subtag)>
+pub(crate) fn first_turn<L: Lookup>(table: &L, core: &Core) -> Option<(usize, Subtag)>
     ensures turn { MatchOption result
         (HasNoTurn (values_of (L.listed table.now)) core.now)
         (λ turn. IsFirstTurn (values_of (L.listed table.now)) core.now turn.0 turn.1) }
@@ -162,7 +162,11 @@ fn settle_turns<L: Lookup>(table: &L, core: &mut Core)
 /// Puts a core into its core normal form: each subtag is replaced by the end of its chain of values,
 /// a sole extlang by its replacement as the language, and a variant beside the language that its
 /// value replaces becomes that value. A core with more extlangs keeps them and its language. The
-/// chains of the registry end, as they do where `first_cycle` is None. Takes no memory.
+/// chains of the registry end, as they do where `first_cycle` is None.
+///
+/// Takes no memory. Each subtag is looked up once, and once more for each value that replaces it;
+/// beside a language without extlangs each variant is looked up once more for each language that
+/// stands there, to see whether it turns into one.
 pub fn settle_core<L: Lookup>(table: &L, core: &mut Core)
     requires { All (HasEndingChain (L.listed table.now)) (L.listed table.now) }
     ensures { IsCoreNormalForm (values_of (L.listed table.now)) core.old core.new }

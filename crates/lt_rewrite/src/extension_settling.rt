@@ -1,8 +1,9 @@
 //! The normal forms of `u` and `t` extensions (RFC 5646, 4.5; RFC 6067; RFC 6497).
-ghost use Rattle.std.specs.Prelude.{◌≡◌, List, All, IsOk, map};
+ghost use Rattle.std.specs.Prelude.{◌≡◌, ◌≤◌, List, All, IsOk, map, length};
+ghost use Rattle.lt_tag.specs.Extensions.{spell_u, IsU, spell_t, IsT};
 ghost use Rattle.lt_rewrite.specs.Rewriting.{IsNormalForm};
 ghost use Rattle.lt_rewrite.specs.Extensions.{UnicodeStep, TransformStep};
-ghost use Rattle.lt_rewrite.specs.Conditions.{HasEndingChain};
+ghost use Rattle.lt_rewrite.specs.Conditions.{HasEndingChain, IsRegistry};
 ghost use Rattle.lt_rewrite.specs.ExtensionSettling.{untrue};
 
 use crate::core_settling::settle_core;
@@ -22,11 +23,21 @@ fn drop_true(keyword: &mut Keyword)
     }
 }
 
+/// What every table says of its entries: their numbers rise, and each has its forms.
+pub(crate) fn recall_forms<L: Lookup>(table: &L)
+    ensures { IsRegistry (L.listed table.now) }
+{
+    let _entries = table.entries();
+}
+
 /// Puts the parts of a `u` extension into their normal form: sole types `true` go, of equal
 /// attributes and of keywords of one key the first stays, and both stand in their order. The types
-/// of a keyword keep theirs. It takes no memory, and so is never refused.
+/// of a keyword keep theirs. What could be joined before can be joined again. It takes no memory,
+/// and so is never refused.
 pub fn settle_u(_alloc: Global, parts: &mut UParts) -> Result<(), OutOfMemory>
     ensures settled { IsNormalForm UnicodeStep parts.old parts.new }
+    ensures shaped { IsU parts.old → IsU parts.new }
+    ensures few { length (spell_u parts.new) ≤ length (spell_u parts.old) }
     ensures ok { IsOk result }
 {
     put_in_order(&mut parts.attributes, true);
@@ -39,13 +50,17 @@ pub fn settle_u(_alloc: Global, parts: &mut UParts) -> Result<(), OutOfMemory>
 
 /// Puts the parts of a `t` extension into their normal form: the source is put into its core normal
 /// form, and the fields into the order of their separators, where those of one separator keep their
-/// order. The values of a field keep theirs. The chains of the registry end, as they do where
-/// `first_cycle` is None. It takes no memory, and so is never refused.
+/// order. The values of a field keep theirs. What could be joined before can be joined again. The
+/// chains of the registry end, as they do where `first_cycle` is None. It takes no memory, and so is
+/// never refused.
 pub fn settle_t<L: Lookup>(_alloc: Global, table: &L, parts: &mut TParts) -> Result<(), OutOfMemory>
     requires { All (HasEndingChain (L.listed table.now)) (L.listed table.now) }
     ensures settled { IsNormalForm (TransformStep (L.listed table.now)) parts.old parts.new }
+    ensures shaped { IsT parts.old → IsT parts.new }
+    ensures few { length (spell_t parts.new) ≤ length (spell_t parts.old) }
     ensures ok { IsOk result }
 {
+    recall_forms(table);
     put_in_order(&mut parts.fields, false);
     if let Some(source) = &mut parts.source {
         settle_core(table, source);

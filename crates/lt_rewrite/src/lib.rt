@@ -1,15 +1,33 @@
 //! The steps that lead from a tag to its canonical form (RFC 5646, 4.5; RFC 6067; RFC 6497).
 #![tactic(auto)]
 
+mod apply_faults;
+mod applying;
 mod chain_ends;
+mod copies;
+mod core_applying;
 mod core_settling;
+mod cycles;
+mod extension_applying;
+mod extension_parts;
 mod extension_settling;
+mod extensions_settling;
+mod field_applying;
+mod keyword_applying;
 pub mod laws;
 pub mod ordering_laws;
+mod part_applying;
 mod part_ordering;
 mod steps;
 
+pub use apply_faults::ApplyFault;
+pub use applying::apply;
 pub use chain_ends::{Cycle, chain_end};
 pub use core_settling::settle_core;
+pub use cycles::first_cycle;
 pub use extension_settling::{settle_t, settle_u};
+pub use extensions_settling::settle_extensions;
 pub use steps::{Step, StepKind};
+
+#[cfg(test)]
+mod tests;

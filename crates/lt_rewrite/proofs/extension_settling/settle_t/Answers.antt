@@ -4,7 +4,7 @@ use Rattle.lt_tag.specs.contracts.parts.TParts.{the_view}
 use Rattle.lt_rewrite.specs.Rewriting.{IsNormalForm}
 use Rattle.lt_rewrite.specs.Orderings.{ListStep}
 use Rattle.lt_rewrite.specs.Extensions.{separator_cmp, TransformStep}
-use Rattle.lt_rewrite.proofs.ExtensionSettled.{SourceSettles, transform_settles}
+use Rattle.lt_rewrite.proofs.ExtensionSettled.{SourceSettles, transform_settles, transform_kept, transform_no_more}
 use Rattle.lt_rewrite.proofs.extension_settling.settle_t.Goals as goal
 use Rattle.lt_rewrite.proofs.extension_settling.settle_t.Goals.{in-Some, in_default}
 
@@ -25,3 +25,9 @@ returns-clause-settled g c =
           (transform_settles R p (record { source = c.parts.inside.source; fields = c.put_in_order.new.parts.items })
           (subst (λ (o : Option CoreParts). SourceSettles R o c.parts.inside.source) source (subst (λ (o : Option CoreParts). SourceSettles R o o) (sym w.in_default.is) tt)) fields)
     ]
+
+pub returns-clause-shaped : goal.returns-clause-shaped
+returns-clause-shaped g c = transform_kept (g.L.Lookup.listed c.args.table.now) c.recall_forms.ensures c.args.parts.now (the_view c.match-parts.parts-inside) (returns-clause-settled g c)
+
+pub returns-clause-few : goal.returns-clause-few
+returns-clause-few g c = transform_no_more (g.L.Lookup.listed c.args.table.now) c.args.parts.now (the_view c.match-parts.parts-inside) (returns-clause-settled g c)

@@ -6,7 +6,7 @@ use Rattle.lt_rewrite.specs.Rewriting.{IsNormalForm}
 use Rattle.lt_rewrite.specs.Orderings.{ListStep}
 use Rattle.lt_rewrite.specs.Extensions.{text_cmp, key_cmp}
 use Rattle.lt_rewrite.specs.ExtensionSettling.{untrue}
-use Rattle.lt_rewrite.proofs.ExtensionSettled.{unicode_settles}
+use Rattle.lt_rewrite.proofs.ExtensionSettled.{unicode_settles, unicode_kept, unicode_no_more}
 use Rattle.lt_rewrite.proofs.extension_settling.settle_u.Goals as goal
 
 pub loop-keyword-preserved : goal.loop-keyword-preserved
@@ -33,3 +33,11 @@ returns-clause-settled c =
     subst (λ zs. IsNormalForm (ListStep true key_cmp) zs q.keywords)
     (take_at ys (drop (length ys) c.parts.inside.keywords.items) c.parts.inside.keywords.len (omega (arith, c.loop-keyword.auto.keyword-items, c.deref_mut-keyword-items.ensures.len))) c.put_in_order-2.ensures in
     unicode_settles p q attributes (subst (λ zs. IsNormalForm (ListStep true key_cmp) zs q.keywords) bare last)
+
+pub returns-clause-shaped : goal.returns-clause-shaped
+returns-clause-shaped c =
+    unicode_kept c.args.parts.now (record { attributes = c.put_in_order.new.parts.items; keywords = c.put_in_order-2.new.parts.items }) (returns-clause-settled c)
+
+pub returns-clause-few : goal.returns-clause-few
+returns-clause-few c =
+    unicode_no_more c.args.parts.now (record { attributes = c.put_in_order.new.parts.items; keywords = c.put_in_order-2.new.parts.items }) (returns-clause-settled c)

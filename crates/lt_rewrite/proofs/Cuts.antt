@@ -1,0 +1,13 @@
+-- Lists cut at an element.
+use Rattle.std.proofs.Common.{◌≡◌, ℕ, ◌<◌, List, [], ◌∷◌, ◌++◌, refl, ap, ◌∙◌, length, get_or, length-append, arith}
+
+-- a list cut at an element has it there
+pub cut_at : {A : Type 0} (before : List A) (v : A) (after vs : List A) (d : A) → vs ≡ before ++ v ∷ after → get_or vs (length before) d ≡ v
+cut_at before v after vs d e = ap (λ us. get_or us (length before) d) e ∙ at_middle before v after d
+  where
+    at_middle : {A : Type 0} (before : List A) (v : A) (after : List A) (d : A) → get_or (before ++ v ∷ after) (length before) d ≡ v
+    at_middle [] v after d = refl
+    at_middle (u ∷ us) v after d = at_middle us v after d
+
+pub cut_within : {A : Type 0} (before : List A) (v : A) (after vs : List A) → vs ≡ before ++ v ∷ after → length before < length vs
+cut_within before v after vs e = omega (arith, ap length e, length-append before (v ∷ after))

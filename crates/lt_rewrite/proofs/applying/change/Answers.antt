@@ -1,0 +1,23 @@
+use Rattle.std.proofs.Common.{◌≡◌, ℕ, List, sym, ◌∙◌, subst}
+use Rattle.lt_tag.specs.Parts.{TagForm, LangTag}
+use Rattle.lt_tag.specs.Values.{IsTagValue, private_of}
+use Rattle.lt_rewrite.specs.Applying.{TagLeads}
+use Rattle.lt_rewrite.proofs.TagLeading.{made, values_alone}
+use Rattle.lt_rewrite.proofs.applying.change.Goals as goal
+
+pub returns-in-Whole : goal.returns-in-Whole
+returns-in-Whole g c = values_alone (TagLeads (g.L.Lookup.listed c.args.table.now) c.args.tag.now c.args.step) IsTagValue c.change_whole.result c.change_whole.ensures
+
+pub returns-in_ok-private-in-Some-2 : goal.returns-in_ok-private-in-Some-2
+returns-in_ok-private-in-Some-2 g c =
+    let R = g.L.Lookup.listed c.args.table.now in
+    let t = c.args.tag.now in
+    let found = rw c.in-Some-2.is at c.in_ok-core.ensures in
+    let same : c.in_ok-private-in-Some-2.private.items ≡ private_of t = c.in_ok-private-in-Some-2.ensures ∙ c.private.ensures.value in
+    let leads = subst (λ (ps : List (List ℕ)). TagLeads R t c.args.step (LangTag c.in-Some-2.core c.in-Some-2.extensions.items ps)) (sym same) found.0 in
+    made R t c.args.step c.requires (LangTag c.in-Some-2.core c.in-Some-2.extensions.items c.in_ok-private-in-Some-2.private.items) c.langtag.result leads c.langtag.ensures
+
+pub returns-in-None : goal.returns-in-None
+returns-in-None g c =
+    let none = rw c.in-None.is at c.in_ok-core.ensures in
+    λ u v l. none u l

@@ -1,0 +1,25 @@
+use Rattle.std.proofs.Common.{sym, ap, ◌∙◌, subst}
+use Rattle.lt_tag.specs.Parts.{ExtensionParts}
+use Rattle.lt_rewrite.specs.Conditions.{IsRegistry}
+use Rattle.lt_rewrite.specs.Applying.{ExtensionLeads}
+use Rattle.lt_rewrite.proofs.Proper.{step_shaped}
+use Rattle.lt_rewrite.proofs.TransformForms.{t_shaped}
+use Rattle.lt_rewrite.proofs.ExtensionLeading.{transform_changed, transform_kept}
+use Rattle.lt_rewrite.proofs.extension_applying.apply_in_transform.Goals as goal
+
+pub returns-then-not-apply_to_transform : goal.returns-then-not-apply_to_transform
+returns-then-not-apply_to_transform g c =
+    transform_kept (g.L.Lookup.listed c.args.table.now) c.args.start c.args.extension.now c.args.step c.in-Ok.parts c.requires.transform c.in-Ok.ensures.parts c.if-not-apply_to_transform.ensures
+
+pub join_t-requires-clause-shaped : goal.join_t-requires-clause-shaped
+join_t-requires-clause-shaped g c =
+    let R = g.L.Lookup.listed c.args.table.now in
+    let G : IsRegistry R = record { rising = c.entries.ensures.rising; forms = c.entries.ensures.forms } in
+    t_shaped R (step_shaped R G) c.in-Ok.parts c.apply_to_transform.new.parts c.if-not-apply_to_transform.ensures.0 c.in-Ok.ensures.parts.shaped
+
+pub returns : goal.returns
+returns g c =
+    let R = g.L.Lookup.listed c.args.table.now in
+    let G : IsRegistry R = record { rising = c.entries.ensures.rising; forms = c.entries.ensures.forms } in
+    subst (λ (f : ExtensionParts). ExtensionLeads R c.args.start c.args.extension.now c.args.step f) (sym c.in_ok-join_t.ensures)
+    (transform_changed R c.args.start c.args.extension.now c.args.step G c.in-Ok.parts c.apply_to_transform.new.parts c.requires.transform c.in-Ok.ensures.parts c.if-not-apply_to_transform.ensures)

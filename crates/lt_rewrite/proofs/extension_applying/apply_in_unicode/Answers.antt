@@ -1,0 +1,19 @@
+use Rattle.std.proofs.Common.{sym, ap, ◌∙◌, subst}
+use Rattle.lt_tag.specs.Parts.{ExtensionParts}
+use Rattle.lt_rewrite.specs.Applying.{ExtensionLeads}
+use Rattle.lt_rewrite.proofs.UnicodeForms.{u_shaped, u_step_length}
+use Rattle.lt_rewrite.proofs.ExtensionLeading.{unicode_changed, unicode_kept}
+use Rattle.lt_rewrite.proofs.extension_applying.apply_in_unicode.Goals as goal
+
+pub returns-then-not-apply_to_unicode : goal.returns-then-not-apply_to_unicode
+returns-then-not-apply_to_unicode c =
+    λ R. unicode_kept R c.args.start c.args.extension.now c.args.step c.in_ok-parts.parts c.requires.unicode c.in_ok-parts.ensures.parts c.if-not-apply_to_unicode.ensures
+
+pub join_u-requires-clause-shaped : goal.join_u-requires-clause-shaped
+join_u-requires-clause-shaped c =
+    u_shaped c.in_ok-parts.parts c.apply_to_unicode.new.parts c.if-not-apply_to_unicode.ensures.0 c.in_ok-parts.ensures.parts.shaped
+
+pub returns : goal.returns
+returns c =
+    λ R. subst (λ (f : ExtensionParts). ExtensionLeads R c.args.start c.args.extension.now c.args.step f) (sym c.in_ok-join_u.ensures)
+    (unicode_changed R c.args.start c.args.extension.now c.args.step c.in_ok-parts.parts c.apply_to_unicode.new.parts c.requires.unicode c.in_ok-parts.ensures.parts c.if-not-apply_to_unicode.ensures)

@@ -1,0 +1,29 @@
+use Rattle.std.proofs.Common.{◌≡◌, ◌<◌, ◌+◌, ℕ, [], length, get_or, set, sym, ap, ◌∙◌, subst}
+use Rattle.std.proofs.lemmas.List.{get_or_read}
+use Rattle.lt_tag.specs.Parts.{KeywordParts}
+use Rattle.lt_tag.specs.Extensions.{spell_keyword}
+use Rattle.lt_rewrite.specs.Applying.{IsPlaceOf, TrueLeads}
+use Rattle.lt_rewrite.proofs.UnicodeLeading.{true_nowhere, true_other, true_led}
+use Rattle.lt_rewrite.proofs.keyword_applying.drop_true_at.Goals as goal
+
+pub returns-in_default : goal.returns-in_default
+returns-in_default c =
+    true_nowhere c.args.start c.args.place c.args.keywords.now.items
+    (subst (λ xs. (index : ℕ) → index < length xs → IsPlaceOf spell_keyword (c.args.start + 1) xs index c.args.place → ⊥) c.deref.ensures.value c.in_default.ensures)
+
+pub returns-then-not-has_sole_true : goal.returns-then-not-has_sole_true
+returns-then-not-has_sole_true c =
+    let at = subst (λ xs. (c.in-Some.index < length xs) × IsPlaceOf spell_keyword (c.args.start + 1) xs c.in-Some.index c.args.place) c.deref.ensures.value c.in-Some.ensures in
+    true_other c.args.start c.args.place c.args.keywords.now.items c.in-Some.index c.index.result.now at.0 at.1 c.index.ensures c.if-not-has_sole_true.ensures
+
+pub returns : goal.returns
+returns c =
+    let ks = c.args.keywords.now.items in
+    let i = c.in-Some.index in
+    let k : KeywordParts = c.index.result.now in
+    let m : KeywordParts = c.index_mut.result.now in
+    let at = subst (λ xs. (i < length xs) × IsPlaceOf spell_keyword (c.args.start + 1) xs i c.args.place) c.deref.ensures.value c.in-Some.ensures in
+    let same : m ≡ k = get_or_read ks i m at.0 c.index_mut.ensures.value k ∙ sym c.index.ensures in
+    subst (λ (l : KeywordParts). TrueLeads c.args.start c.args.place ks (set ks i l))
+    (sym (c.drop_types.ensures ∙ ap (λ (l : KeywordParts). record l { types = [] }) same))
+    (true_led c.args.start c.args.place ks i k at.0 at.1 c.index.ensures c.if-not-has_sole_true.ensures)

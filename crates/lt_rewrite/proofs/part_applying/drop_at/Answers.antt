@@ -1,0 +1,24 @@
+use Rattle.std.proofs.Common.{◌≡◌, ◌<◌, ◌+◌, ℕ, length, sym, ◌∙◌, subst, arith}
+use Rattle.lt_rewrite.specs.Applying.{IsPlaceOf, HasLike}
+use Rattle.lt_rewrite.proofs.PartLeading.{drop_nowhere, drop_alone, drop_led}
+use Rattle.lt_rewrite.proofs.part_applying.drop_at.Goals as goal
+
+pub returns-in_default : goal.returns-in_default
+returns-in_default g c =
+    let P = g.P.Spelled.spell in
+    drop_nowhere P g.P.Part.order c.args.start c.args.place c.args.parts.now.items
+    (subst (λ xs. (index : ℕ) → index < length xs → IsPlaceOf P c.args.start xs index c.args.place → ⊥) c.deref.ensures.value c.in_default.ensures)
+
+pub returns-then-not-has_like : goal.returns-then-not-has_like
+returns-then-not-has_like g c =
+    let P = g.P.Spelled.spell in
+    let at = subst (λ xs. (c.in-Some.index < length xs) × IsPlaceOf P c.args.start xs c.in-Some.index c.args.place) c.deref.ensures.value c.in-Some.ensures in
+    drop_alone P g.P.Part.order c.args.start c.args.place g.met.P.Spelled.some c.args.parts.now.items c.in-Some.index at.0 at.1
+    (subst (λ xs. HasLike g.P.Part.order xs c.in-Some.index → ⊥) c.deref-2.ensures.value c.if-not-has_like.ensures)
+
+pub returns : goal.returns
+returns g c =
+    let P = g.P.Spelled.spell in
+    let at = subst (λ xs. (c.in-Some.index < length xs) × IsPlaceOf P c.args.start xs c.in-Some.index c.args.place) c.deref.ensures.value c.in-Some.ensures in
+    drop_led P g.P.Part.order c.args.start c.args.place c.args.parts.now.items c.in-Some.index c.remove.result at.0 at.1
+    (subst (λ xs. HasLike g.P.Part.order xs c.in-Some.index) c.deref-2.ensures.value c.if-not-has_like.ensures) c.remove.ensures.value c.remove.new.self.items c.remove.ensures.items

@@ -1,0 +1,20 @@
+-- Why a step is not applied to a tag.
+use Rattle.std.specs.Prelude.{ℕ, List, codes}
+use Rattle.lt_tag.specs.Parts.{TagForm}
+use Rattle.lt_registry.specs.Parts.{EntryParts}
+use Rattle.lt_rewrite.specs.Labels.{LeadsBy}
+use Rattle.lt_rewrite.specs.declared.steps.Step.{Step}
+use Rattle.lt_rewrite.specs.declared.apply_faults.ApplyFault.{ApplyFault}
+use Rattle.lt_rewrite.specs.declared.apply_faults.ApplyFault.TheVariants as faults
+
+abbrev pub fault_name_of : ApplyFault → List ℕ
+fault_name_of faults.NoSuchStep = codes "NoSuchStep"
+fault_name_of faults.OutOfMemory = codes "OutOfMemory"
+
+abbrev pub no_memory : ApplyFault
+no_memory = faults.OutOfMemory
+
+-- the step leads nowhere from the tag; want of memory aside
+abbrev pub IsApplyFault : List EntryParts → TagForm → Step → ApplyFault → Type 0
+IsApplyFault R t step faults.NoSuchStep = (u : TagForm) → LeadsBy R t step u → ⊥
+IsApplyFault R t step faults.OutOfMemory = Unit {0}

@@ -1,0 +1,25 @@
+-- An extension among others that comes to its normal form (RFC 5646, 4.5).
+use Rattle.std.specs.Prelude.{ℕ, ◌≡◌, ◌≢◌, ◌<◌, List, Option, Some, None, length, slice_index_or, slice_set}
+use Rattle.std.specs.List.{AllByRecursion}
+use Rattle.lt_tag.specs.Parts.{ExtensionParts}
+use Rattle.lt_registry.specs.Parts.{EntryParts}
+use Rattle.lt_rewrite.specs.Rewriting.{IsNormalForm}
+use Rattle.lt_rewrite.specs.Extensions.{ExtensionStep}
+
+-- the extension at a place has the singleton, and f is its normal form
+pub record SettlesAt (R : List EntryParts) (singleton : ℕ) (es : List ExtensionParts) (place : ℕ) (f : ExtensionParts) : Type 0 where
+  pub within : place < length es
+  pub from : ExtensionParts
+  pub there : from ≡ slice_index_or es place from
+  pub of_singleton : from.singleton ≡ singleton
+  pub normal : IsNormalForm (ExtensionStep R) from f
+
+-- the extension of a singleton, if there is one, by its place and its normal form
+abbrev pub Settles : List EntryParts → ℕ → List ExtensionParts → Option (ℕ × ExtensionParts) → Type 0
+Settles R singleton es None = AllByRecursion (λ e. e.singleton ≢ singleton) es
+Settles R singleton es (Some settled) = SettlesAt R singleton es settled.0 settled.1
+
+-- the extensions with it in its place
+abbrev pub placed : Option (ℕ × ExtensionParts) → List ExtensionParts → List ExtensionParts
+placed None es = es
+placed (Some settled) es = slice_set es settled.0 settled.1

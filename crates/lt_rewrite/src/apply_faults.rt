@@ -1,0 +1,44 @@
+//! Why a step is not applied.
+ghost use Rattle.std.specs.Prelude.{◌≡◌};
+ghost use Rattle.lt_rewrite.specs.ApplyFaults.{fault_name_of, no_memory};
+
+use lt_tag::OutOfMemory;
+use std::fmt;
+
+/// Why a step is not applied to a tag.
+#[derive(Clone, Copy, Debug, Drop, PartialEq, Eq)]
+pub enum ApplyFault {
+    /// The step does not lead from the tag to a proper tag.
+    NoSuchStep,
+    /// A growth of memory was refused.
+    OutOfMemory,
+}
+
+impl ApplyFault {
+    /// The fault's name, as it is written here.
+    pub fn name(self) -> &'static str
+        ensures { result.now ≡ fault_name_of self }
+    {
+        match self {
+            ApplyFault::NoSuchStep => "NoSuchStep",
+            ApplyFault::OutOfMemory => "OutOfMemory",
+        }
+    }
+}
+
+impl fmt::Display for ApplyFault {
+    fn fmt<W: fmt::Write>(&self, f: &mut fmt::Formatter<W>) -> fmt::Result {
+        write!(f, "{self:?}")
+    }
+}
+
+impl std::error::Error for ApplyFault {}
+
+/// Want of memory as a fault.
+impl From<OutOfMemory> for ApplyFault {
+    ghost from_gives = { λ _ fault. fault ≡ no_memory };
+
+    fn from(_error: OutOfMemory) -> ApplyFault {
+        ApplyFault::OutOfMemory
+    }
+}

@@ -1,0 +1,194 @@
+//! One step on a tag (RFC 5646, 4.5; RFC 6067; RFC 6497).
+ghost use Rattle.std.specs.Prelude.{◌≡◌, ◌≢◌, ◌≤◌, ◌+◌, List, Some, IfOk, IfErr, MatchBool, MatchOption, length};
+ghost use Rattle.lt_tag.specs.Parts.{CoreParts, ExtensionParts, TagForm, LangTag};
+ghost use Rattle.lt_tag.specs.Spelling.{spell_extensions};
+ghost use Rattle.lt_tag.specs.Values.{IsTagValue, core_of, private_of, most_parts};
+ghost use Rattle.lt_registry.specs.Validity.{IsProper};
+ghost use Rattle.lt_rewrite.specs.TagSteps.{IsPlain};
+ghost use Rattle.lt_rewrite.specs.Labels.{LeadsBy};
+ghost use Rattle.lt_rewrite.specs.Applying.{Changes, CoreLeads, ExtensionsLeads, IsWholeValueBy, TagLeads};
+ghost use Rattle.lt_rewrite.specs.ApplyFaults.{IsApplyFault};
+ghost use Rattle.lt_rewrite.specs.declared.steps.StepKind.TheVariants as kinds;
+
+use crate::apply_faults::ApplyFault;
+use crate::copies::{copy_extensions, copy_subtags};
+use crate::core_applying::apply_to_core;
+use crate::extension_applying::apply_to_extensions;
+use crate::field_applying::core_length;
+use crate::steps::{Step, StepKind};
+use lt_registry::{EntryValue, Lookup, proper};
+use lt_subtag::Subtag;
+use lt_tag::{Class, Core, Extension, OutOfMemory, Tag};
+use std::alloc::Global;
+
+/// A grandfathered tag, or a langtag without extensions and private use.
+fn is_plain(tag: &Tag) -> bool
+    ensures { MatchBool result (IsPlain tag.now) (IsPlain tag.now → ⊥) }
+{
+    match tag.class() {
+        Class::LangTag => tag.extensions().is_empty() && tag.private().is_empty(),
+        Class::PrivateUse => false,
+        Class::Grandfathered => true,
+    }
+}
+
+/// The value of a whole tag, if it comes from the record of a number.
+fn whole_value_by<'a, L: Lookup>(table: &'a L, tag: &Tag, number: u32) -> Option<&'a Tag>
+    ensures { MatchOption result
+        ((other : TagForm) → IsWholeValueBy (L.listed table.now) tag.now number other → ⊥)
+        (λ value. IsWholeValueBy (L.listed table.now) tag.now number value.now) }
+{
+    let entry = table.whole(tag)?;
+    if entry.number() != number {
+        return None;
+    }
+    match entry.value() {
+        Some(EntryValue::Whole(value)) => Some(value),
+        _ => None,
+    }
+}
+
+/// What a step makes of a whole tag, as its record says.
+fn change_whole<L: Lookup>(
+    alloc: Global,
+    table: &L,
+    tag: &Tag,
+    step: Step,
+) -> Result<Option<Tag>, OutOfMemory>
+    requires { step.kind ≡ kinds.Whole }
+    ensures { IfOk result (λ changed. Changes (TagLeads (L.listed table.now) tag.now step) changed) }
+{
+    if step.place != 1 {
+        return Ok(None);
+    }
+    if !is_plain(tag) {
+        return Ok(None);
+    }
+    match whole_value_by(table, tag, step.number) {
+        Some(value) => Ok(Some(value.copy(alloc)?)),
+        None => Ok(None),
+    }
+}
+
+/// What a step makes of the core of a tag.
+fn change_core<L: Lookup>(
+    alloc: Global,
+    table: &L,
+    core: &Core,
+    step: Step,
+) -> Result<Option<Core>, OutOfMemory>
+    ensures { IfOk result (λ changed. Changes (CoreLeads (L.listed table.now) 0 core.now step) changed) }
+{
+    let mut changed = core.copy(alloc)?;
+    if apply_to_core(table, &mut changed, 0, step) {
+        Ok(Some(changed))
+    } else {
+        Ok(None)
+    }
+}
+
+/// What a step makes of the extensions of a tag, which begin after so many subtags.
+fn change_extensions<L: Lookup>(
+    alloc: Global,
+    table: &L,
+    extensions: &[Extension],
+    start: usize,
+    step: Step,
+) -> Result<Option<Vec<Extension>>, OutOfMemory>
+    requires { start + length (spell_extensions extensions.now) ≤ 1100000 }
+    ensures { IfOk result (λ changed. MatchOption changed
+        ((other : List ExtensionParts) → ExtensionsLeads (L.listed table.now) start extensions.now step other → ⊥)
+        (λ changed. ExtensionsLeads (L.listed table.now) start extensions.now step changed.items)) }
+{
+    let mut changed = copy_extensions(alloc, extensions)?;
+    if apply_to_extensions(alloc, table, &mut changed, start, step)? {
+        Ok(Some(changed))
+    } else {
+        Ok(None)
+    }
+}
+
+/// The core and the extensions that a step makes of those of a langtag.
+fn change_parts<L: Lookup>(
+    alloc: Global,
+    table: &L,
+    tag: &Tag,
+    core: &Core,
+    step: Step,
+) -> Result<Option<(Core, Vec<Extension>)>, OutOfMemory>
+    requires core { core_of tag.now ≡ Some core.now }
+    requires kind { step.kind ≢ kinds.Whole }
+    ensures { IfOk result (λ changed. MatchOption changed
+        ((other : TagForm) → TagLeads (L.listed table.now) tag.now step other → ⊥)
+        (λ parts. TagLeads (L.listed table.now) tag.now step (LangTag parts.0 parts.1.items (private_of tag.now))
+        × (length parts.1.items ≤ most_parts))) }
+{
+    if let Some(changed) = change_core(alloc, table, core, step)? {
+        return Ok(Some((changed, copy_extensions(alloc, tag.extensions())?)));
+    }
+    match change_extensions(alloc, table, tag.extensions(), core_length(core), step)? {
+        Some(changed) => Ok(Some((core.copy(alloc)?, changed))),
+        None => Ok(None),
+    }
+}
+
+/// The langtag of these parts, unless it spells a grandfathered tag.
+fn langtag(core: Core, extensions: Vec<Extension>, private: Vec<Subtag>) -> Option<Tag>
+    requires few_extensions { length extensions.items ≤ most_parts }
+    requires few_private { length private.items ≤ most_parts }
+    ensures { MatchOption result
+        (IsTagValue (LangTag core extensions.items private.items) → ⊥)
+        (λ tag. tag ≡ LangTag core extensions.items private.items) }
+{
+    if extensions.is_empty() && private.is_empty() && core.literal().is_some() {
+        return None;
+    }
+    Some(Tag::from_parts(core, extensions, private))
+}
+
+/// The tag that a step makes of a tag, whether or not it is proper.
+fn change<L: Lookup>(
+    alloc: Global,
+    table: &L,
+    tag: &Tag,
+    step: Step,
+) -> Result<Option<Tag>, OutOfMemory>
+    requires { IsProper (L.listed table.now) tag.now }
+    ensures { IfOk result (λ changed. MatchOption changed
+        ((other : TagForm) → IsTagValue other → TagLeads (L.listed table.now) tag.now step other → ⊥)
+        (TagLeads (L.listed table.now) tag.now step)) }
+{
+    if let StepKind::Whole = step.kind {
+        return change_whole(alloc, table, tag, step);
+    }
+    let Some(core) = tag.core() else {
+        return Ok(None);
+    };
+    match change_parts(alloc, table, tag, core, step)? {
+        Some((core, extensions)) => {
+            let private = copy_subtags(alloc, tag.private())?;
+            Ok(langtag(core, extensions, private))
+        }
+        None => Ok(None),
+    }
+}
+
+/// The tag to which a step leads from a proper tag (RFC 5646, 4.5): Ok exactly where it leads to a
+/// proper tag, which is then the only one. NoSuchStep comes exactly where the step, by its kind, its
+/// place and the number of its record, leads to none; OutOfMemory where memory was wanting. The tag
+/// stays as it is.
+pub fn apply<L: Lookup>(alloc: Global, table: &L, tag: &Tag, step: &Step) -> Result<Tag, ApplyFault>
+    requires { IsProper (L.listed table.now) tag.now }
+    ensures ok { IfOk result (λ changed. LeadsBy (L.listed table.now) tag.now step.now changed) }
+    ensures err { IfErr result (λ fault. IsApplyFault (L.listed table.now) tag.now step.now fault) }
+{
+    let Some(changed) = change(alloc, table, tag, *step)? else {
+        return Err(ApplyFault::NoSuchStep);
+    };
+    let _ = changed.extensions();
+    if proper(alloc, table, &changed)? {
+        Ok(changed)
+    } else {
+        Err(ApplyFault::NoSuchStep)
+    }
+}

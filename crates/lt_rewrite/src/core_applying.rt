@@ -1,0 +1,230 @@
+//! One replacement on a core: that of a kind, at a place, by a record (RFC 5646, 4.5).
+ghost use Rattle.std.specs.Prelude.{◌≡◌, ◌≤◌, ◌<◌, ◌+◌, ℕ, List, true, IfSome, MatchOption, length};
+ghost use Rattle.lt_registry.specs.Entries.{entry, number_of, has_value_form};
+ghost use Rattle.lt_registry.specs.Faults as faults;
+ghost use Rattle.lt_rewrite.specs.Applying.{Answers, IsValueBy, CoreLeads};
+ghost use Rattle.lt_rewrite.specs.declared.steps.StepKind.TheVariants as kinds;
+
+use crate::chain_ends::{is_short, one_value, replacement};
+use crate::core_settling::first_turn;
+use crate::steps::{Step, StepKind};
+use lt_registry::{Kind, Lookup};
+use lt_subtag::Subtag;
+use lt_tag::Core;
+
+/// The number of the record of a subtag, and 0 where it has none.
+fn record_number<L: Lookup>(table: &L, kind: Kind, subtag: &Subtag) -> u32
+    ensures { result ≡ number_of (entry (L.listed table.now) kind subtag.now) }
+{
+    match table.entry(kind, subtag) {
+        Some(entry) => entry.number(),
+        None => 0,
+    }
+}
+
+/// The value of a subtag, if it comes from the record of a number.
+fn value_by<'a, L: Lookup>(
+    table: &'a L,
+    kind: Kind,
+    subtag: &Subtag,
+    number: u32,
+) -> Option<&'a Subtag>
+    ensures value { MatchOption result
+        ((other : List ℕ) → IsValueBy (L.listed table.now) kind subtag.now number other → ⊥)
+        (λ value. IsValueBy (L.listed table.now) kind subtag.now number value.now) }
+    ensures form { IfSome result (λ value. has_value_form kind value.now ≡ true) }
+{
+    match table.entry(kind, subtag) {
+        Some(entry) if entry.number() == number => one_value(entry),
+        _ => None,
+    }
+}
+
+/// How many subtags stand before the script.
+fn before_script(core: &Core) -> usize
+    ensures value { result ≡ faults.before_script core.now }
+    ensures few { result ≤ 4 }
+{
+    1 + core.extlangs().len()
+}
+
+/// How many subtags stand before the region.
+fn before_region(core: &Core) -> usize
+    ensures value { result ≡ faults.before_region core.now }
+    ensures few { result ≤ 5 }
+{
+    match core.script() {
+        Some(_) => before_script(core) + 1,
+        None => before_script(core),
+    }
+}
+
+/// How many subtags stand before the variants.
+pub(crate) fn before_variants(core: &Core) -> usize
+    ensures value { result ≡ faults.before_variants core.now }
+    ensures few { result ≤ 6 }
+{
+    match core.region() {
+        Some(_) => before_region(core) + 1,
+        None => before_region(core),
+    }
+}
+
+/// The index of the variant at a place.
+fn variant_at(core: &Core, start: usize, place: u32) -> Option<usize>
+    requires { start ≤ 1200000 }
+    ensures { MatchOption result
+        ((index : ℕ) → index < length core.now.variants → place ≡ start + faults.before_variants core.now + index + 1 → ⊥)
+        (λ index. (index < length core.now.variants) × (place ≡ start + faults.before_variants core.now + index + 1)) }
+{
+    let before = start + before_variants(core) + 1;
+    let place = place as usize;
+    if place < before || core.variants().len() <= place - before {
+        return None;
+    }
+    Some(place - before)
+}
+
+/// The one extlang's replacement becomes the language.
+fn replace_extlang<L: Lookup>(table: &L, core: &mut Core, start: usize, step: Step) -> bool
+    requires kind { step.kind ≡ kinds.Extlang }
+    requires few { start ≤ 1200000 }
+    ensures { Answers (CoreLeads (L.listed table.now) start core.old step) core.new result }
+{
+    let [extlang] = core.extlangs() else {
+        return false;
+    };
+    if step.place as usize != start + 2 {
+        return false;
+    }
+    if step.number != record_number(table, Kind::Extlang, extlang) {
+        return false;
+    }
+    let language = replacement(table, extlang);
+    core.drop_extlangs();
+    core.set_language(language);
+    true
+}
+
+/// The language is replaced by its value.
+fn replace_language<L: Lookup>(table: &L, core: &mut Core, start: usize, step: Step) -> bool
+    requires kind { step.kind ≡ kinds.Language }
+    requires few { start ≤ 1200000 }
+    ensures { Answers (CoreLeads (L.listed table.now) start core.old step) core.new result }
+{
+    if step.place as usize != start + 1 {
+        return false;
+    }
+    if !core.extlangs().is_empty() {
+        return false;
+    }
+    match value_by(table, Kind::Language, core.language(), step.number) {
+        Some(value) => {
+            core.set_language(value.copy());
+            true
+        }
+        None => false,
+    }
+}
+
+/// The script is replaced by its value.
+fn replace_script<L: Lookup>(table: &L, core: &mut Core, start: usize, step: Step) -> bool
+    requires kind { step.kind ≡ kinds.Script }
+    requires few { start ≤ 1200000 }
+    ensures { Answers (CoreLeads (L.listed table.now) start core.old step) core.new result }
+{
+    let Some(script) = core.script() else {
+        return false;
+    };
+    if step.place as usize != start + before_script(core) + 1 {
+        return false;
+    }
+    match value_by(table, Kind::Script, script, step.number) {
+        Some(value) => {
+            core.set_script(value.copy());
+            true
+        }
+        None => false,
+    }
+}
+
+/// The region is replaced by its value.
+fn replace_region<L: Lookup>(table: &L, core: &mut Core, start: usize, step: Step) -> bool
+    requires kind { step.kind ≡ kinds.Region }
+    requires few { start ≤ 1200000 }
+    ensures { Answers (CoreLeads (L.listed table.now) start core.old step) core.new result }
+{
+    let Some(region) = core.region() else {
+        return false;
+    };
+    if step.place as usize != start + before_region(core) + 1 {
+        return false;
+    }
+    match value_by(table, Kind::Region, region, step.number) {
+        Some(value) => {
+            core.set_region(value.copy());
+            true
+        }
+        None => false,
+    }
+}
+
+/// A variant is replaced by its value in its place.
+fn replace_variant<L: Lookup>(table: &L, core: &mut Core, start: usize, step: Step) -> bool
+    requires kind { step.kind ≡ kinds.Variant }
+    requires few { start ≤ 1200000 }
+    ensures { Answers (CoreLeads (L.listed table.now) start core.old step) core.new result }
+{
+    let Some(index) = variant_at(core, start, step.place) else {
+        return false;
+    };
+    let variant = &core.variants()[index];
+    let Some(value) = value_by(table, Kind::Variant, variant, step.number) else {
+        return false;
+    };
+    if is_short(value) {
+        return false;
+    }
+    core.set_variant(index, value.copy());
+    true
+}
+
+/// The leftmost variant that turns beside the language goes, and its value becomes the language.
+fn turn_variant<L: Lookup>(table: &L, core: &mut Core, start: usize, step: Step) -> bool
+    requires kind { step.kind ≡ kinds.VariantLanguage }
+    requires few { start ≤ 1200000 }
+    ensures { Answers (CoreLeads (L.listed table.now) start core.old step) core.new result }
+{
+    if !core.extlangs().is_empty() {
+        return false;
+    }
+    let Some((index, language)) = first_turn(table, core) else {
+        return false;
+    };
+    if step.place as usize != start + before_variants(core) + index + 1 {
+        return false;
+    }
+    if step.number != record_number(table, Kind::Variant, &core.variants()[index]) {
+        return false;
+    }
+    core.remove_variant(index);
+    core.set_language(language);
+    true
+}
+
+/// The replacement that a step is, on a core that begins after so many subtags. False where there is
+/// no such replacement.
+pub(crate) fn apply_to_core<L: Lookup>(table: &L, core: &mut Core, start: usize, step: Step) -> bool
+    requires { start ≤ 1200000 }
+    ensures { Answers (CoreLeads (L.listed table.now) start core.old step) core.new result }
+{
+    match step.kind {
+        StepKind::Extlang => replace_extlang(table, core, start, step),
+        StepKind::Language => replace_language(table, core, start, step),
+        StepKind::Script => replace_script(table, core, start, step),
+        StepKind::Region => replace_region(table, core, start, step),
+        StepKind::Variant => replace_variant(table, core, start, step),
+        StepKind::VariantLanguage => turn_variant(table, core, start, step),
+        _ => false,
+    }
+}

@@ -1,0 +1,98 @@
+//! The normal form of a list of extensions (RFC 5646, 4.5; RFC 6067; RFC 6497).
+ghost use Rattle.std.specs.Prelude.{◌≡◌, ◌<◌, ◌==◌, List, All, IfOk, OnErr, IfSome, length, map, position};
+ghost use Rattle.std.specs.List.{AllByRecursion};
+ghost use Rattle.lt_tag.specs.Parts.{ExtensionParts, TForm};
+ghost use Rattle.lt_tag.specs.Extensions.{unicode, transform, IsTransform};
+ghost use Rattle.lt_registry.specs.Parts.{EntryParts};
+ghost use Rattle.lt_registry.specs.Validity.{Distinct};
+ghost use Rattle.lt_rewrite.specs.Rewriting.{IsNormalForm};
+ghost use Rattle.lt_rewrite.specs.Extensions.{ExtensionsStep};
+ghost use Rattle.lt_rewrite.specs.Conditions.{HasEndingChain};
+ghost use Rattle.lt_rewrite.specs.ExtensionsSettling.{Settles, placed};
+
+use crate::extension_settling::{recall_forms, settle_t, settle_u};
+use crate::part_ordering::put_in_order;
+use lt_registry::Lookup;
+use lt_tag::{Extension, OutOfMemory, TransformFault, join_t, join_u, split_t, split_u};
+use std::alloc::Global;
+
+/// Where the first extension of a singleton stands.
+fn place_of(extensions: &[Extension], singleton: u8) -> Option<usize>
+    ensures { result ≡ position (λ (e : ExtensionParts). e.singleton == singleton) extensions.now }
+{
+    extensions
+        .iter()
+        .position(|extension| extension.singleton() == singleton)
+}
+
+/// The normal form of the `u` extension, and where that stands.
+fn settled_unicode(
+    alloc: Global,
+    extensions: &[Extension],
+) -> Result<Option<(usize, Extension)>, OutOfMemory>
+    ensures { IfOk result (λ settled. (R : List EntryParts) → Settles R unicode extensions.now settled) }
+{
+    let Some(place) = place_of(extensions, b'u') else {
+        return Ok(None);
+    };
+    let mut parts = split_u(alloc, &extensions[place])?;
+    settle_u(alloc, &mut parts)?;
+    Ok(Some((place, join_u(alloc, &parts)?)))
+}
+
+/// The normal form of the `t` extension, and where that stands.
+fn settled_transform<L: Lookup>(
+    alloc: Global,
+    table: &L,
+    extensions: &[Extension],
+) -> Result<Option<(usize, Extension)>, OutOfMemory>
+    requires chains { All (HasEndingChain (L.listed table.now)) (L.listed table.now) }
+    requires transforms { AllByRecursion (λ (e : ExtensionParts). e.singleton ≡ transform → (p : TForm) × IsTransform e.subtags p) extensions.now }
+    ensures { IfOk result (Settles (L.listed table.now) transform extensions.now) }
+{
+    let Some(place) = place_of(extensions, b't') else {
+        return Ok(None);
+    };
+    let mut parts = match split_t(alloc, &extensions[place]) {
+        Ok(parts) => parts,
+        Err(TransformFault::OutOfMemory) => return Err(OutOfMemory),
+        Err(TransformFault::BadTransform) => unreachable!(),
+    };
+    recall_forms(table);
+    settle_t(alloc, table, &mut parts)?;
+    Ok(Some((place, join_t(alloc, &parts)?)))
+}
+
+/// Puts a settled extension in its place.
+fn put_back(extensions: &mut Vec<Extension>, settled: Option<(usize, Extension)>)
+    requires { IfSome settled (λ settled. settled.0 < length extensions.old.items) }
+    ensures { extensions.new.items ≡ placed settled extensions.old.items }
+{
+    if let Some((place, extension)) = settled {
+        extensions[place] = extension;
+    }
+}
+
+/// Puts a list of extensions into its normal form: the `u` and the `t` extension come to theirs, and
+/// the extensions stand in the order of their singletons. Each singleton stands once, a `t` extension
+/// has the form of one, and the chains of the registry end, as they do where `first_cycle` is None.
+/// Memory is taken only for a `u` or a `t` extension, and nothing else is refused; the list is then
+/// what it was.
+pub fn settle_extensions<L: Lookup>(
+    alloc: Global,
+    table: &L,
+    extensions: &mut Vec<Extension>,
+) -> Result<(), OutOfMemory>
+    requires chains { All (HasEndingChain (L.listed table.now)) (L.listed table.now) }
+    requires singletons { Distinct (map (λ (e : ExtensionParts). e.singleton) extensions.old.items) }
+    requires transforms { AllByRecursion (λ (e : ExtensionParts). e.singleton ≡ transform → (p : TForm) × IsTransform e.subtags p) extensions.old.items }
+    ensures ok { IfOk result (λ _. IsNormalForm (ExtensionsStep (L.listed table.now)) extensions.old.items extensions.new.items) }
+    ensures err { OnErr result (extensions.new ≡ extensions.old) }
+{
+    let unicode = settled_unicode(alloc, extensions)?;
+    let transform = settled_transform(alloc, table, extensions)?;
+    put_back(extensions, unicode);
+    put_back(extensions, transform);
+    put_in_order(extensions, false);
+    Ok(())
+}

@@ -1,0 +1,65 @@
+//! One step on the parts of a `t` extension (RFC 5646, 4.5; RFC 6497).
+ghost use Rattle.std.specs.Prelude.{◌≡◌, ◌≤◌, ◌+◌, List, length};
+ghost use Rattle.lt_tag.specs.Spelling.{spell_core};
+ghost use Rattle.lt_tag.specs.Extensions.{spell_source, spell_t};
+ghost use Rattle.lt_registry.specs.Parts.{EntryParts};
+ghost use Rattle.lt_rewrite.specs.Applying.{Answers, TransformLeads};
+ghost use Rattle.lt_rewrite.specs.declared.steps.StepKind.TheVariants as kinds;
+
+use crate::core_applying::{apply_to_core, before_variants};
+use crate::part_applying::swap_at;
+use crate::steps::{Step, StepKind};
+use lt_registry::Lookup;
+use lt_tag::{Core, TParts};
+
+/// How many subtags a core has.
+pub(crate) fn core_length(core: &Core) -> usize
+    ensures value { result ≡ length (spell_core core.now) }
+    ensures few { result ≤ 1030 }
+{
+    before_variants(core) + core.variants().len()
+}
+
+/// How many subtags a source has.
+fn source_length(source: &Option<Core>) -> usize
+    ensures value { result ≡ length (spell_source source.now) }
+    ensures few { result ≤ 1030 }
+{
+    match source {
+        Some(core) => core_length(core),
+        None => 0,
+    }
+}
+
+/// Two neighbouring fields change places.
+fn swap_fields(parts: &mut TParts, start: usize, step: Step) -> bool
+    requires kind { step.kind ≡ kinds.SwapFields }
+    requires few { start + length (spell_t parts.old) ≤ 1200000 }
+    ensures { (R : List EntryParts) → Answers (TransformLeads R start parts.old step) parts.new result }
+{
+    if step.number != 0 {
+        return false;
+    }
+    let first_field = start + source_length(&parts.source);
+    swap_at(&mut parts.fields, first_field, step.place)
+}
+
+/// The step that a step is, on the parts of a `t` extension whose singleton stands at a place. False
+/// where there is no such step.
+pub(crate) fn apply_to_transform<L: Lookup>(
+    table: &L,
+    parts: &mut TParts,
+    start: usize,
+    step: Step,
+) -> bool
+    requires { start + length (spell_t parts.old) ≤ 1200000 }
+    ensures { Answers (TransformLeads (L.listed table.now) start parts.old step) parts.new result }
+{
+    if let StepKind::SwapFields = step.kind {
+        return swap_fields(parts, start, step);
+    }
+    match &mut parts.source {
+        Some(source) => apply_to_core(table, source, start, step),
+        None => false,
+    }
+}

@@ -1,0 +1,61 @@
+//! One step on the parts of a `u` extension (RFC 5646, 4.5; RFC 6067).
+ghost use Rattle.std.specs.Prelude.{◌≡◌, ◌<◌, ◌+◌, ◌^◌, [], ◌∷◌, MatchBool, length, flat_map, codes};
+ghost use Rattle.lt_tag.specs.Extensions.{spell_keyword, spell_u};
+ghost use Rattle.lt_rewrite.specs.Applying.{Answers, TrueLeads, UnicodeLeads};
+
+use crate::part_applying::{drop_at, index_at, swap_at};
+use crate::steps::{Step, StepKind};
+use lt_tag::{Keyword, UParts};
+
+/// Whether the types of a keyword are exactly `true`.
+fn has_sole_true(keyword: &Keyword) -> bool
+    ensures { MatchBool result (keyword.now.types ≡ codes "true" ∷ []) (keyword.now.types ≡ codes "true" ∷ [] → ⊥) }
+{
+    match keyword.types.as_slice() {
+        [only] => only.bytes() == b"true".as_slice(),
+        _ => false,
+    }
+}
+
+/// Takes out the types of a keyword.
+fn drop_types(keyword: &mut Keyword)
+    ensures { keyword.new ≡ record keyword.old { types = [] } }
+{
+    keyword.types.clear();
+}
+
+/// The keyword whose first type stands at a place loses its types, if they are exactly `true`. The
+/// list begins after so many subtags.
+fn drop_true_at(keywords: &mut Vec<Keyword>, start: usize, place: u32) -> bool
+    requires { start + 1 + length (flat_map spell_keyword keywords.old.items) < 2 ^ 32 }
+    ensures { Answers (TrueLeads start place keywords.old.items) keywords.new.items result }
+{
+    let Some(index) = index_at(keywords, start + 1, place) else {
+        return false;
+    };
+    if !has_sole_true(&keywords[index]) {
+        return false;
+    }
+    drop_types(&mut keywords[index]);
+    true
+}
+
+/// The ordering step that a step is, on the parts of a `u` extension whose singleton stands at a
+/// place. False where there is no such step.
+pub(crate) fn apply_to_unicode(parts: &mut UParts, start: usize, step: Step) -> bool
+    requires { start + 1 + length (spell_u parts.old) < 2 ^ 32 }
+    ensures { Answers (UnicodeLeads start parts.old step) parts.new result }
+{
+    if step.number != 0 {
+        return false;
+    }
+    let first_key = start + parts.attributes.len();
+    match step.kind {
+        StepKind::SwapAttributes => swap_at(&mut parts.attributes, start, step.place),
+        StepKind::DropAttribute => drop_at(&mut parts.attributes, start, step.place),
+        StepKind::SwapKeywords => swap_at(&mut parts.keywords, first_key, step.place),
+        StepKind::DropKeyword => drop_at(&mut parts.keywords, first_key, step.place),
+        StepKind::DropTrue => drop_true_at(&mut parts.keywords, first_key, step.place),
+        _ => false,
+    }
+}

@@ -1,0 +1,117 @@
+//! A small registry for tests, modelled on IANA's.
+use lt_jar::read_jar;
+use lt_registry::{ListTable, Registry};
+use std::alloc::{AllocError, Global};
+use std::test::Fail;
+
+/// A record: type, name, preferred value and prefix. An empty text stands for no field.
+type Row = (&'static str, &'static str, &'static str, &'static str);
+
+/// The records behind the header, 2 to 47.
+const ROWS: [Row; 46] = [
+    ("language", "de", "", ""),
+    ("language", "en", "", ""),
+    ("language", "gan", "", ""),
+    ("language", "gsg", "", ""),
+    ("language", "he", "", ""),
+    ("language", "hy", "", ""),
+    ("language", "hyw", "", ""),
+    ("language", "iw", "he", ""),
+    ("language", "ja", "", ""),
+    ("language", "min", "", ""),
+    ("language", "ms", "", ""),
+    ("language", "cmn", "", ""),
+    ("language", "sgn", "", ""),
+    ("language", "tlh", "", ""),
+    ("language", "yue", "", ""),
+    ("language", "zh", "", ""),
+    ("language", "sfb", "", ""),
+    ("language", "qaa..qtz", "", ""),
+    ("extlang", "cmn", "cmn", "zh"),
+    ("extlang", "gan", "gan", "zh"),
+    ("extlang", "min", "min", "ms"),
+    ("extlang", "yue", "yue", "zh"),
+    ("script", "Hans", "", ""),
+    ("script", "Latn", "", ""),
+    ("script", "Qaaa..Qabx", "", ""),
+    ("region", "DD", "DE", ""),
+    ("region", "DE", "", ""),
+    ("region", "GB", "", ""),
+    ("region", "XA..XZ", "", ""),
+    ("variant", "1901", "", "de"),
+    ("variant", "1996", "", "de"),
+    ("variant", "alalc97", "", ""),
+    ("variant", "arevela", "hy", "hy"),
+    ("variant", "arevmda", "hyw", "hy"),
+    ("variant", "hepburn", "", "ja-Latn"),
+    ("variant", "heploc", "alalc97", "ja-Latn-hepburn"),
+    ("variant", "oxendict", "", "en"),
+    ("grandfathered", "en-GB-oed", "en-GB-oxendict", ""),
+    ("grandfathered", "i-klingon", "tlh", ""),
+    ("grandfathered", "sgn-BE-FR", "sfb", ""),
+    ("grandfathered", "zh-guoyu", "cmn", ""),
+    ("grandfathered", "zh-min", "", ""),
+    ("redundant", "sgn-DE", "gsg", ""),
+    ("redundant", "zh-cmn", "cmn", ""),
+    ("redundant", "zh-cmn-Hans", "cmn-Hans", ""),
+    ("redundant", "zh-Hans", "", ""),
+];
+
+/// Puts a line behind the text, if it has a body.
+fn push_line(text: &mut String, label: &str, body: &str) -> Result<(), AllocError> {
+    if !body.is_empty() {
+        text.push_str(label)?;
+        text.push_str(body)?;
+        text.push_str("\n")?;
+    }
+    Ok(())
+}
+
+/// Puts the lines of a record behind the text, the separator first.
+fn push_record(text: &mut String, row: Row) -> Result<(), AllocError> {
+    let (kind, name, value, prefix) = row;
+    let label = match kind {
+        "grandfathered" | "redundant" => "Tag: ",
+        _ => "Subtag: ",
+    };
+    text.push_str("%%\n")?;
+    push_line(text, "Type: ", kind)?;
+    push_line(text, label, name)?;
+    push_line(text, "Preferred-Value: ", value)?;
+    push_line(text, "Prefix: ", prefix)
+}
+
+/// The text of a registry of these records behind the header.
+fn text_of(alloc: Global, rows: [Row; 46]) -> Result<String, AllocError> {
+    let mut text = String::from_str(alloc, "File-Date: 2024-01-01\n")?;
+    for row in rows {
+        push_record(&mut text, row)?;
+    }
+    Ok(text)
+}
+
+/// The table of these records behind the header.
+fn table_of(alloc: Global, rows: [Row; 46]) -> Result<ListTable, Fail> {
+    let text = text_of(alloc, rows)?;
+    let jar = read_jar(alloc, text.as_bytes())?;
+    let records = jar.records();
+    if records.len() > 100_000 {
+        return Err(Fail::from("too many records"));
+    }
+    match Registry::from_records(alloc, records) {
+        Ok(registry) => Ok(ListTable::new(registry)),
+        Err(_) => Err(Fail::from("the sample is refused")),
+    }
+}
+
+/// The table of the sample.
+pub fn sample(alloc: Global) -> Result<ListTable, Fail> {
+    table_of(alloc, ROWS)
+}
+
+/// The table of the sample in which the value of `he` is `iw`, whose value is `he`.
+pub fn sample_with_cycle(alloc: Global) -> Result<ListTable, Fail> {
+    let mut rows = ROWS;
+    rows[4].2 = "iw";
+    table_of(alloc, rows)
+}
