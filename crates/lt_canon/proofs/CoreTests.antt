@@ -199,10 +199,10 @@ abbrev pub one_final_test : List EntryParts → List (List ℕ) → Bool
 one_final_test R (l ∷ []) = final_test R l
 one_final_test R _ = false
 
-abbrev OneFinal : List EntryParts → List (List ℕ) → Type 0
+abbrev pub OneFinal : List EntryParts → List (List ℕ) → Type 0
 OneFinal R p = (l : List ℕ) × (p ≡ l ∷ []) × IsFinalLanguage R l
 
-Decides-one_final : (R : List EntryParts) (p : List (List ℕ)) → Decides (one_final_test R p) (OneFinal R p)
+pub Decides-one_final : (R : List EntryParts) (p : List (List ℕ)) → Decides (one_final_test R p) (OneFinal R p)
 Decides-one_final R (l ∷ []) =
     Decides-like (final_test R l) (λ h. (l, refl, h)) (λ k. let a = k.1 in let e : k.0 ≡ l = cc in subst (IsFinalLanguage R) e k.2) (Decides-final R l)
 Decides-one_final R [] = ((λ h. cc), (λ k. let a = k.1 in cc))
@@ -227,7 +227,7 @@ Decides-turn R e =
 abbrev pub langtag_prefix_test : List (List ℕ) → Bool
 langtag_prefix_test p = is_some (core_of_list p) && not (grandfathered_test p)
 
-abbrev LangtagPrefix : List (List ℕ) → Type 0
+abbrev pub LangtagPrefix : List (List ℕ) → Type 0
 LangtagPrefix p = (c : CoreParts) × IsCore c × (spell_core c ≡ p) × IsNotGrandfathered p
 
 some_core : (p : List (List ℕ)) (o : Option CoreParts) → core_of_list p ≡ o → is_some o ≡ true → (c : CoreParts) × IsCore c × (spell_core c ≡ p)

@@ -62,7 +62,7 @@ all_more : (P : List ℕ → Type 0) (xs : List (List ℕ)) (v : List ℕ) → A
 all_more P [] v h p = (p, tt)
 all_more P (x ∷ xs) v h p = (h.0, all_more P xs v h.1 p)
 
-distinct_more : (xs : List (List ℕ)) (v : List ℕ) → Distinct xs → AllByRecursion (λ y. y ≢ v) xs → Distinct (xs ++ v ∷ [])
+pub distinct_more : (xs : List (List ℕ)) (v : List ℕ) → Distinct xs → AllByRecursion (λ y. y ≢ v) xs → Distinct (xs ++ v ∷ [])
 distinct_more [] v h k = (tt, tt)
 distinct_more (x ∷ xs) v h k = (all_more (λ y. y ≢ x) xs v h.0 (λ e. k.0 (sym e)), distinct_more xs v h.1 k.1)
 

@@ -57,7 +57,7 @@ module _ (R : List EntryParts) (C : IsChecked R) where
       fronted_short d x (is_short x.fits.prefix) refl
 
   -- a canonical langtag has no extlang
-  no_extlang : (d : CoreParts) (es : List ExtensionParts) (ps : List (List ℕ)) → IsProper R (LangTag d es ps) → Rests (TagStep R) (LangTag d es ps) → (xs : List (List ℕ)) → d.extlangs ≡ xs → xs ≡ []
+  pub no_extlang : (d : CoreParts) (es : List ExtensionParts) (ps : List (List ℕ)) → IsProper R (LangTag d es ps) → Rests (TagStep R) (LangTag d es ps) → (xs : List (List ℕ)) → d.extlangs ≡ xs → xs ≡ []
   no_extlang d es ps P h [] e = refl
   no_extlang d es ps P h (x ∷ []) e =
       let d' : CoreParts = core (replacement R x) [] d.script d.region d.variants in

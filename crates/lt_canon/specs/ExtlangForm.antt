@@ -1,9 +1,11 @@
 -- The extlang form of a canonical tag (RFC 5646, 4.5).
-use Rattle.std.specs.Prelude.{ℕ, if◌then◌else◌, List, [], ◌∷◌, Option, Some, None}
+use Rattle.std.specs.Prelude.{ℕ, ◌≡◌, if◌then◌else◌, List, [], ◌∷◌, Option, Some, None}
 use Rattle.lt_tag.specs.Parts.{CoreParts, TagForm, LangTag, PrivateUse, Grandfathered}
 use Rattle.lt_registry.specs.Parts.{EntryParts}
 use Rattle.lt_registry.specs.Entries.{prefixes, is_short}
+use Rattle.lt_registry.specs.Validity.{IsValid}
 use Rattle.lt_registry.specs.declared.entries.Kind.TheVariants as kinds
+use Rattle.lt_canon.specs.Answers.{IsCanonicalFormOf}
 
 -- the one Prefix of a language as an extlang, if an extlang may stand after it
 abbrev pub prefix_of : List (List (List ℕ)) → Option (List ℕ)
@@ -22,3 +24,11 @@ abbrev pub extlang_form : List EntryParts → TagForm → TagForm
 extlang_form R (LangTag c es ps) = LangTag (extlang_core R c) es ps
 extlang_form R (PrivateUse ps) = PrivateUse ps
 extlang_form R (Grandfathered n) = Grandfathered n
+
+-- The extlang form of the tag's canonical form: it is valid, and its canonical form is the same.
+pub record IsExtlangFormOf (R : List EntryParts) (t form : TagForm) : Type 0 where
+  pub canonical : TagForm
+  pub canonical_form : IsCanonicalFormOf R t canonical
+  pub is : form ≡ extlang_form R canonical
+  pub valid : IsValid R form
+  pub back : IsCanonicalFormOf R form canonical

@@ -1,6 +1,9 @@
 -- The laws of canonical tags, over a list of entries.
-use Rattle.std.specs.Prelude.{ℕ, ◌≡◌, ◌⊎◌, List}
+use Rattle.std.specs.Prelude.{ℕ, ◌≡◌, ◌≤◌, ◌⊎◌, ◌↔◌, List, length}
 use Rattle.lt_tag.specs.Parts.{TagForm}
+use Rattle.lt_tag.specs.WellFormed.{spell}
+use Rattle.lt_tag.specs.Conventional.{conventional}
+use Rattle.lt_tag.specs.Faults.{longest_text}
 use Rattle.lt_registry.specs.Parts.{EntryParts}
 use Rattle.lt_registry.specs.Validity.{IsProper, IsValid}
 use Rattle.lt_rewrite.specs.Rewriting.{Rests, IsConfluent}
@@ -8,6 +11,7 @@ use Rattle.lt_rewrite.specs.TagSteps.{TagStep, IsReached, AreEquivalent, IsCanon
 use Rattle.lt_rewrite.specs.Labels.{IsTrace}
 use Rattle.lt_rewrite.specs.declared.steps.Step.{Step}
 use Rattle.lt_canon.specs.Answers.{IsCanonicalFormOf, IsNamedRepeat}
+use Rattle.lt_canon.specs.Texts.{IsCanonicalTextOf}
 use Rattle.lt_canon.specs.ExtlangForm.{extlang_form}
 
 -- where two tags are reached from one proper tag, some tag is reached from both
@@ -29,6 +33,10 @@ OneCanonicalTag R = (a b : TagForm) → IsCanonical R a → IsCanonical R b → 
 abbrev pub TracesReachTheirEnd : List EntryParts → Type 0
 TracesReachTheirEnd R = (t end : TagForm) (steps : List Step) → IsTrace R t steps end → IsReached R t end × AreEquivalent R t end
 
+-- steps lead from a tag to one end
+abbrev pub TracesHaveOneEnd : List EntryParts → Type 0
+TracesHaveOneEnd R = (t a b : TagForm) (steps : List Step) → IsTrace R t steps a → IsTrace R t steps b → a ≡ b
+
 -- steps can repeat a variant, and no canonical tag is equivalent
 pub record RepeatsWithoutForm (R : List EntryParts) (t : TagForm) : Type 0 where
   pub repeats : CanRepeat R t
@@ -47,6 +55,28 @@ RepeatTogether R = (t u : TagForm) → IsValid R t → IsValid R u → AreEquiva
 pub record EquivalenceIsEquality (R : List EntryParts) : Type 0 where
   pub equal : (t u c d : TagForm) → IsCanonicalFormOf R t c → IsCanonicalFormOf R u d → AreEquivalent R t u → c ≡ d
   pub equivalent : (t u c : TagForm) → IsCanonicalFormOf R t c → IsCanonicalFormOf R u c → AreEquivalent R t u
+
+-- and exactly if the texts of these are
+abbrev pub EquivalenceIsEqualText : List EntryParts → Type 0
+EquivalenceIsEqualText R =
+    (t u c d : TagForm) → IsCanonicalFormOf R t c → IsCanonicalFormOf R u d → AreEquivalent R t u ↔ (conventional (spell c) ≡ conventional (spell d))
+
+-- a canonical tag is its own canonical form, and has no other
+pub record IsItsOwnForm (R : List EntryParts) (c : TagForm) : Type 0 where
+  pub own : IsCanonicalFormOf R c c
+  pub only : (d : TagForm) → IsCanonicalFormOf R c d → d ≡ c
+
+abbrev pub CanonicalTwiceIsOnce : List EntryParts → Type 0
+CanonicalTwiceIsOnce R = (t c : TagForm) → IsCanonicalFormOf R t c → IsItsOwnForm R c
+
+-- a canonical text that is not too long to be read is its own canonical text, and has no other
+pub record IsItsOwnText (R : List EntryParts) (text : List ℕ) : Type 0 where
+  pub own : IsCanonicalTextOf R text text
+  pub only : (other : List ℕ) → IsCanonicalTextOf R text other → other ≡ text
+
+abbrev pub CanonicalTextTwiceIsOnce : List EntryParts → Type 0
+CanonicalTextTwiceIsOnce R =
+    (text canonical : List ℕ) → IsCanonicalTextOf R text canonical → length canonical ≤ longest_text → IsItsOwnText R canonical
 
 -- where a valid tag can repeat a variant, there is one that the refusal names, and only one
 pub record RepeatsAreNamed (R : List EntryParts) : Type 0 where

@@ -1,6 +1,16 @@
 pub mod Codes
 pub mod Conditions
+pub mod WholeChecks
+pub mod RegularTags
 pub mod Answers
+pub mod Refusals
+pub mod Settled
+pub mod Texts
+pub mod Equivalence
 pub mod ExtlangForm
 pub mod Upgrade
 pub mod Laws
+pub mod RecordChecks
+pub mod NameChecks
+pub mod Checking
+pub mod Traces

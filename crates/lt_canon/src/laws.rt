@@ -3,7 +3,37 @@
 ghost use Rattle.std.specs.Prelude.{List};
 ghost use Rattle.lt_registry.specs.Parts.{EntryParts};
 ghost use Rattle.lt_canon.specs.Conditions.{IsChecked};
-ghost use Rattle.lt_canon.specs.Laws.{HasEndForms, StepsAreConfluent, OneCanonicalTag, CanonicalOrRepeats, RepeatTogether, EquivalenceIsEquality, RepeatsAreNamed, ExtlangFormsLeadBack, TracesReachTheirEnd};
+ghost use Rattle.lt_canon.specs.Laws.{HasEndForms, StepsAreConfluent, OneCanonicalTag, CanonicalOrRepeats, RepeatTogether, EquivalenceIsEquality, EquivalenceIsEqualText, CanonicalTwiceIsOnce, CanonicalTextTwiceIsOnce, RepeatsAreNamed, ExtlangFormsLeadBack, TracesReachTheirEnd, TracesHaveOneEnd};
+
+use crate::checked::Checked;
+use lt_registry::Lookup;
+
+/// What holds of the steps of a registry that passes the check.
+///
+/// - Each proper tag has an end that steps reach, that each step keeps, and from which none leads.
+/// - Where two tags are reached from one proper tag, some tag is reached from both.
+/// - A class of equivalent tags has at most one canonical tag.
+/// - A valid tag reaches a canonical tag and can repeat no variant, or it can repeat one and is
+///   equivalent to no canonical tag; of two valid tags that are equivalent both can or neither.
+/// - Valid tags that can repeat none are equivalent exactly if their canonical forms are equal, and
+///   exactly if the texts of these are.
+/// - A canonical form is its own canonical form; a canonical text of at most 1,024 bytes is its own
+///   canonical text.
+/// - Where a valid tag can repeat a variant, there is one variant that the refusal names.
+pub fn confluence<L: Lookup>(checked: &Checked<L>)
+    ensures ends { HasEndForms (L.listed checked.now) }
+    ensures confluent { StepsAreConfluent (L.listed checked.now) }
+    ensures one { OneCanonicalTag (L.listed checked.now) }
+    ensures canonical { CanonicalOrRepeats (L.listed checked.now) }
+    ensures together { RepeatTogether (L.listed checked.now) }
+    ensures equality { EquivalenceIsEquality (L.listed checked.now) }
+    ensures equal_texts { EquivalenceIsEqualText (L.listed checked.now) }
+    ensures twice { CanonicalTwiceIsOnce (L.listed checked.now) }
+    ensures text_twice { CanonicalTextTwiceIsOnce (L.listed checked.now) }
+    ensures named { RepeatsAreNamed (L.listed checked.now) }
+{
+    let _ = checked.table();
+}
 
 /// Each proper tag has an end that steps reach, that each step keeps, and from which none leads; so where two tags
 /// are reached from one proper tag, some tag is reached from both, and a class of equivalent tags has at most one
@@ -36,4 +66,9 @@ pub fn extlang_forms_lead_back()
 /// The end of a trace is reached from the tag, and so equivalent to it, in every registry.
 pub fn traces_reach_their_end()
     ensures { (R : List EntryParts) → TracesReachTheirEnd R }
+{}
+
+/// The steps of a trace lead from a tag to one end, in every registry.
+pub fn traces_have_one_end()
+    ensures { (R : List EntryParts) → TracesHaveOneEnd R }
 {}

@@ -1,12 +1,37 @@
 //! The check of a registry, canonical tags and their laws (RFC 5646, 4.5).
 #![tactic(auto)]
 
+mod canonical_tags;
+mod canonical_texts;
 mod checked;
+mod checking;
 mod conditions;
+mod copies;
+mod cores;
+mod equivalence;
+mod extlang_forms;
+mod grandfathered_checks;
 pub mod laws;
+mod name_checks;
+mod range_names;
+mod record_checks;
 mod refusals;
+mod rejections;
+mod repeats;
+mod traces;
 pub mod upgrade_laws;
+mod whole_checks;
+mod whole_values;
 
+pub use canonical_tags::canonical;
+pub use canonical_texts::canonical_text;
 pub use checked::Checked;
 pub use conditions::{Condition, UpgradeCondition};
-pub use refusals::Refusal;
+pub use equivalence::equivalent;
+pub use extlang_forms::extlang_form;
+pub use refusals::{Refusal, TextRefusal};
+pub use rejections::{Finding, Rejected, RejectedCause};
+pub use traces::{Trace, TraceFault, verify};
+
+#[cfg(test)]
+mod tests;

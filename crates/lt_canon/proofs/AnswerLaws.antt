@@ -1,0 +1,161 @@
+-- Canonical forms are their own, equal texts tell equivalent tags, and the extlang form goes back to the canonical one.
+use Rattle.std.proofs.Common.{◌≡◌, ℕ, ◌≤◌, Bool, true, false, ◌↔◌, IsTrue, List, [], ◌∷◌, Option, Some, None, refl, sym, ap, ◌∙◌, subst, length, bytes_eq, cond}
+use Rattle.std.specs.Prelude.{is_some}
+use Rattle.std.proofs.lemmas.Slice.Eq.{bytes_eq-Decides}
+use Rattle.std.proofs.lemmas.Bool.{leb-true}
+use Rattle.lt_subtag.specs.Shapes.{is_language, is_extlang}
+use Rattle.lt_tag.specs.Parts.{CoreParts, ExtensionParts, TagForm, LangTag, PrivateUse, Grandfathered}
+use Rattle.lt_tag.specs.Spelling.{spell_core}
+use Rattle.lt_tag.specs.Values.{core_of, extensions_of, private_of}
+use Rattle.lt_tag.specs.WellFormed.{spell, IsTag, IsNotGrandfathered}
+use Rattle.lt_tag.specs.Conventional.{conventional}
+use Rattle.lt_tag.specs.Faults.{longest_text, HasTag}
+use Rattle.lt_tag.proofs.OneTagLemmas.{one_tag_of_text, read_again, same_text}
+use Rattle.lt_registry.specs.Parts.{EntryParts}
+use Rattle.lt_registry.specs.Entries.{entry, prefixes, prefixes_of, is_short}
+use Rattle.lt_registry.specs.Validity.{IsProper}
+use Rattle.lt_registry.specs.declared.entries.Kind.TheVariants as kinds
+use Rattle.lt_rewrite.specs.Rewriting.{Rests, done}
+use Rattle.lt_rewrite.specs.TagSteps.{TagStep, IsCanonical}
+use Rattle.lt_rewrite.proofs.Entries.{prefixes_at}
+use Rattle.lt_rewrite.proofs.Forms.{ExtlangEntry, extlang_entry}
+use Rattle.lt_rewrite.proofs.NameForms as names
+use Rattle.lt_canon.specs.Conditions.{IsChecked}
+use Rattle.lt_canon.specs.Answers.{IsCanonicalFormOf}
+use Rattle.lt_canon.specs.Equivalence.{IsEquivalenceAnswer}
+use Rattle.lt_canon.specs.ExtlangForm.{prefix_of, behind, extlang_form, IsExtlangFormOf}
+use Rattle.lt_canon.specs.Laws.{EquivalenceIsEquality, EquivalenceIsEqualText, CanonicalTwiceIsOnce, CanonicalTextTwiceIsOnce}
+use Rattle.lt_canon.proofs.Checks.{core_conditions}
+use Rattle.lt_canon.proofs.TagRepeats.{form_is_end}
+use Rattle.lt_canon.proofs.ExtlangForms.{no_extlang, forms_lead_back}
+use Rattle.lt_canon.proofs.TagProper.{proper_parts, core_spells_none}
+use Rattle.lt_canon.proofs.CanonicalForms.{langtag_of}
+use Rattle.lt_canon.proofs.Answering.{canonical_form}
+
+-- the text of a tag
+abbrev text_of : TagForm → List ℕ
+text_of t = conventional (spell t)
+
+-- the Prefix of a language as an extlang, and the language, have their forms
+pub record IsFittingPrefix (l p : List ℕ) : Type 0 where
+  pub prefix : is_language p ≡ true
+  pub short : length p ≤ 3
+  pub extlang : is_extlang l ≡ true
+
+is_tag : (R : List EntryParts) (t c : TagForm) → IsCanonicalFormOf R t c → IsTag c
+is_tag R t c h = h.canonical.valid.proper.tag.tag
+
+same_form_text : (R : List EntryParts) (t u c d : TagForm) → IsCanonicalFormOf R t c → IsCanonicalFormOf R u d → (text_of c ≡ text_of d) ↔ (c ≡ d)
+same_form_text R t u c d h k = same_text c d (is_tag R t c h) (is_tag R u d k)
+
+-- equal texts of canonical forms tell equivalent tags
+pub text_equality : (R : List EntryParts) → EquivalenceIsEquality R → EquivalenceIsEqualText R
+text_equality R E t u c d h k = (
+  (λ e. ap text_of (E.equal t u c d h k e)),
+  (λ e. E.equivalent t u c h (subst (IsCanonicalFormOf R u) (sym ((same_form_text R t u c d h k).0 e)) k)),
+)
+
+-- what comparing the texts of canonical forms tells
+pub equivalence_answer : (R : List EntryParts) → EquivalenceIsEquality R → (t u c d : TagForm) (a b : List ℕ) (answer : Bool) → IsCanonicalFormOf R t c → IsCanonicalFormOf R u d → a ≡ text_of c → b ≡ text_of d → answer ≡ bytes_eq a b → IsEquivalenceAnswer R t u answer
+equivalence_answer R E t u c d a b answer h k e f g =
+    let D = bytes_eq-Decides a b in
+    let to : IsTrue answer → text_of c ≡ text_of d = λ x. sym e ∙ D.0 (sym g ∙ x) ∙ f in
+    let from : text_of c ≡ text_of d → IsTrue answer = λ x. g ∙ D.1 (e ∙ x ∙ sym f) in
+    let S = same_form_text R t u c d h k in
+    let T = text_equality R E t u c d h k in
+    record {
+      first = c;
+      second = d;
+      first_form = h;
+      second_form = k;
+      equivalent = ((λ x. T.1 (to x)), (λ x. from (T.0 x)));
+      equal = ((λ x. S.0 (to x)), (λ x. from (S.1 x)));
+      equal_texts = (to, from);
+    }
+
+module _ (R : List EntryParts) (C : IsChecked R) where
+  own_form : (c : TagForm) → IsCanonical R c → IsCanonicalFormOf R c c
+  own_form c K = canonical_form R C c c K.valid (record { reached = done; at_rest = K.at_rest }) K.valid.distinct
+
+  one_form : (t c d : TagForm) → IsCanonicalFormOf R t c → IsCanonicalFormOf R t d → c ≡ d
+  one_form t c d h k = sym (form_is_end R C t c h) ∙ form_is_end R C t d k
+
+  pub twice_is_once : CanonicalTwiceIsOnce R
+  twice_is_once t c h = record { own = own_form c h.canonical; only = λ d k. one_form c d c k (own_form c h.canonical) }
+
+  pub text_twice_is_once : CanonicalTextTwiceIsOnce R
+  text_twice_is_once text canonical x short =
+      let form : TagForm = x.form in
+      let T : IsTag form = is_tag R x.tag form x.is_form in
+      let n : length (text_of form) ≤ longest_text = subst (λ b. length b ≤ longest_text) x.written short in
+      let read : HasTag canonical form = subst (λ b. HasTag b form) (sym x.written) (read_again form T n) in
+      let own : IsCanonicalFormOf R form form = own_form form x.is_form.canonical in
+      record {
+        own = record { tag = form; read = read; form = form; is_form = own; written = x.written };
+        only = λ other y.
+            let same : y.tag ≡ form = one_tag_of_text canonical y.tag form y.read read in
+            let k : IsCanonicalFormOf R form y.form = subst (λ t. IsCanonicalFormOf R t y.form) same y.is_form in
+            y.written ∙ ap text_of (one_form form y.form form k own) ∙ sym x.written;
+      }
+
+  -- the extlang form of a canonical form
+  pub extlang_answer : (t c form : TagForm) → IsCanonicalFormOf R t c → form ≡ extlang_form R c → IsExtlangFormOf R t form
+  extlang_answer t c form h e =
+      let L = forms_lead_back R C c h.canonical in
+      let back : IsCanonicalFormOf R (extlang_form R c) c = canonical_form R C (extlang_form R c) c L.valid (record { reached = L.reached; at_rest = h.canonical.at_rest }) h.canonical.valid.distinct in
+      subst (IsExtlangFormOf R t) (sym e) (record { canonical = c; canonical_form = h; is = refl; valid = L.valid; back = back })
+
+  prefix_short : (l p : List ℕ) (x : ExtlangEntry R l) (b : Bool) → is_short x.fits.prefix ≡ b → cond b (Some x.fits.prefix) None ≡ Some p → IsFittingPrefix l p
+  prefix_short l p x true s e =
+      let same : x.fits.prefix ≡ p = cc in
+      record {
+        prefix = subst (λ q. is_language q ≡ true) same (names.language_form R C.registry x.fits.prefix x.fits.final_prefix.registered);
+        short = subst (λ q. length q ≤ 3) same (leb-true (length x.fits.prefix) 3 s);
+        extlang = names.extlang_form R C.registry l x;
+      }
+  prefix_short l p x false s e = cc
+
+  prefix_at : (l p : List ℕ) (o : Option EntryParts) → entry R kinds.Extlang l ≡ o → prefix_of (prefixes R kinds.Extlang l) ≡ Some p → IsFittingPrefix l p
+  prefix_at l p None h e = let none : prefix_of (prefixes R kinds.Extlang l) ≡ None = ap (λ o. prefix_of (prefixes_of o)) h in cc
+  prefix_at l p (Some at) h e =
+      let x : ExtlangEntry R l = extlang_entry R (core_conditions R C.passes) l (ap is_some h) in
+      let found : prefixes R kinds.Extlang l ≡ (x.fits.prefix ∷ []) ∷ [] = prefixes_at R kinds.Extlang l x.at x.found ∙ x.fits.one_prefix in
+      prefix_short l p x (is_short x.fits.prefix) refl (sym (ap prefix_of found) ∙ e)
+
+  pub fitting_prefix : (l p : List ℕ) → prefix_of (prefixes R kinds.Extlang l) ≡ Some p → IsFittingPrefix l p
+  fitting_prefix l p e = prefix_at l p (entry R kinds.Extlang l) refl e
+
+-- a tag without a core is its own extlang form
+pub coreless_extlang : (R : List EntryParts) (c : TagForm) → core_of c ≡ None → c ≡ extlang_form R c
+coreless_extlang R (LangTag d es ps) h = cc
+coreless_extlang R (PrivateUse ps) h = refl
+coreless_extlang R (Grandfathered n) h = refl
+
+-- so is one whose language has no Prefix
+pub bare_extlang : (R : List EntryParts) (c : TagForm) (d : CoreParts) (es : List ExtensionParts) (ps : List (List ℕ)) → c ≡ LangTag d es ps → prefix_of (prefixes R kinds.Extlang d.language) ≡ None → c ≡ extlang_form R c
+bare_extlang R c d es ps e h = e ∙ sym (ap (λ o. LangTag (behind o d) es ps) h) ∙ sym (ap (extlang_form R) e)
+
+pub fronted_extlang : (R : List EntryParts) (c : TagForm) (d : CoreParts) (p : List ℕ) (es : List ExtensionParts) (ps : List (List ℕ)) → c ≡ LangTag d es ps → prefix_of (prefixes R kinds.Extlang d.language) ≡ Some p → LangTag (record d { language = p; extlangs = d.language ∷ [] }) es ps ≡ extlang_form R c
+fronted_extlang R c d p es ps e h = sym (ap (λ o. LangTag (behind o d) es ps) h) ∙ sym (ap (extlang_form R) e)
+
+-- the language and the extlang of a core set one after the other
+pub fronted_core : (d a b y : CoreParts) (p q m : List ℕ) → a ≡ d → b ≡ record a { language = q } → q ≡ p → y ≡ record b { extlangs = m ∷ [] } → m ≡ d.language → y ≡ record d { language = p; extlangs = d.language ∷ [] }
+fronted_core d a b y p q m ha hb hq hy hm =
+    hy
+    ∙ (λ i. let x : CoreParts = hb i in record x { extlangs = hm i ∷ [] })
+    ∙ (λ i. let x : CoreParts = ha i in record x { language = hq i; extlangs = d.language ∷ [] })
+
+module _ (R : List EntryParts) (C : IsChecked R) where
+  pub no_extlang_there : (c : TagForm) (d : CoreParts) → IsCanonical R c → core_of c ≡ Some d → d.extlangs ≡ []
+  no_extlang_there c d K h =
+      let e = langtag_of c d h in
+      no_extlang R C d (extensions_of c) (private_of c) (subst (IsProper R) e K.valid.proper) (subst (Rests (TagStep R)) e K.at_rest) d.extlangs refl
+
+  -- the Prefix in front spells no grandfathered tag
+  pub front_spells_none : (c : TagForm) (d y : CoreParts) (p : List ℕ) → IsCanonical R c → core_of c ≡ Some d → prefix_of (prefixes R kinds.Extlang d.language) ≡ Some p → y ≡ record d { language = p; extlangs = d.language ∷ [] } → IsNotGrandfathered (spell_core y)
+  front_spells_none c d y p K h k e =
+      let es = extensions_of c in
+      let ps = private_of c in
+      let x : CoreParts = record d { language = p; extlangs = d.language ∷ [] } in
+      let P : IsProper R (LangTag x es ps) = subst (IsProper R) (sym (fronted_extlang R c d p es ps (langtag_of c d h) k)) (forms_lead_back R C c K).valid.proper in
+      subst (λ z. IsNotGrandfathered (spell_core z)) (sym e) (core_spells_none R C x (proper_parts R x es ps P).core)

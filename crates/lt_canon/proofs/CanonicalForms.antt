@@ -1,0 +1,148 @@
+-- From cores, extensions and values in their normal forms to the answer that is owed.
+use Rattle.std.proofs.Common.{◌≡◌, ℕ, ◌==◌, ◌+◌, ◌<◌, ◌≤◌, ◌⊎◌, inl, inr, true, false, is_some, List, [], ◌∷◌, Option, Some, None, Err, refl, sym, ap, ◌∙◌, subst, length, arith}
+use Rattle.std.specs.List.{AllByRecursion}
+use Rattle.std.proofs.lemmas.Bool.{eqb-true}
+use Rattle.lt_tag.specs.Parts.{CoreParts, ExtensionParts, TForm, TagForm, LangTag, PrivateUse, Grandfathered}
+use Rattle.lt_tag.specs.Spelling.{spell_core}
+use Rattle.lt_tag.specs.Extensions.{transform, IsTransform}
+use Rattle.lt_tag.specs.Values.{IsTagValue, core_of, extensions_of, private_of, number_of, most_parts}
+use Rattle.lt_tag.specs.WellFormed.{IsNotGrandfathered}
+use Rattle.lt_tag.proofs.TagLemmas.{AllByRecursion-weaker}
+use Rattle.lt_registry.specs.Parts.{EntryParts}
+use Rattle.lt_registry.specs.Entries.{whole_value}
+use Rattle.lt_registry.specs.Validity.{Distinct, IsProperExtension, HasDistinctSource, RepeatsNoVariant, IsProper, IsValid}
+use Rattle.lt_registry.specs.Faults.{HasNoFault, IsRefusal}
+use Rattle.lt_registry.proofs.ValidityLaws.{valid_law}
+use Rattle.lt_registry.specs.declared.faults.ValidRefusal.{ValidRefusal}
+use Rattle.lt_registry.specs.declared.faults.ValidRefusal.TheVariants as checks
+use Rattle.lt_rewrite.specs.Rewriting.{IsNormalForm}
+use Rattle.lt_rewrite.specs.CoreSteps.{values_of, IsCoreNormalForm}
+use Rattle.lt_rewrite.specs.Extensions.{ExtensionsStep}
+use Rattle.lt_rewrite.specs.TagSteps.{IsPlain, IsReached}
+use Rattle.lt_rewrite.proofs.Stars.{star_trans}
+use Rattle.lt_rewrite.proofs.NormalForms.{star_keeps, normal_is_form}
+use Rattle.lt_canon.specs.Conditions.{plain, IsValidPlain, IsChecked}
+use Rattle.lt_canon.specs.Answers.{IsCanonicalFormOf, IsRepeatOf, IsCanonicalAnswer}
+use Rattle.lt_canon.specs.Settled.{IsDistinctForm, IsCoreRefusal, IsSecondInSources, IsSettledValue}
+use Rattle.lt_canon.specs.Refusals.{of_valid}
+use Rattle.lt_canon.specs.declared.refusals.Refusal.{Refusal}
+use Rattle.lt_canon.specs.declared.refusals.Refusal.TheVariants as refusals
+use Rattle.lt_canon.proofs.Distinctness.{second_repeats}
+use Rattle.lt_canon.proofs.EndForms.{star_proper}
+use Rattle.lt_canon.proofs.TagProper.{proper_parts, core_spells_none}
+use Rattle.lt_canon.proofs.TagForm.{core_end, cores_formed, cores_reached, cores_proper, extensions_reached, resting, end_form, extensions_step_to}
+use Rattle.lt_canon.proofs.SourceRepeats.{source_repeats, named_source}
+use Rattle.lt_canon.proofs.Answering.{canonical_form, named_repeat, langtag_ends, core_ends, value_ends, core_value_ends, grandfathered_ends, private_use_ends}
+
+-- a tag by what its readers show
+pub langtag_of : (t : TagForm) (c : CoreParts) → core_of t ≡ Some c → t ≡ LangTag c (extensions_of t) (private_of t)
+langtag_of (LangTag d es ps) c h = let same : d ≡ c = cc in ap (λ x. LangTag x es ps) same
+langtag_of (PrivateUse ps) c h = cc
+langtag_of (Grandfathered n) c h = cc
+
+pub plain_of_number : (t : TagForm) (n : ℕ) → number_of t ≡ Some n → IsPlain t
+plain_of_number (LangTag c es ps) n h = cc
+plain_of_number (PrivateUse ps) n h = cc
+plain_of_number (Grandfathered m) n h = tt
+
+pub plain_of_test : (t : TagForm) (o : Option ℕ) → o ≡ number_of t → is_some o ≡ true → IsPlain t
+plain_of_test t None e h = cc
+plain_of_test t (Some n) e h = plain_of_number t n (sym e)
+
+pub none_of_test : {A : Type 0} (o r : Option A) → o ≡ r → is_some o ≡ false → r ≡ None
+none_of_test None r e h = sym e
+none_of_test (Some a) r e h = cc
+
+pub plain_of_core : (R : List EntryParts) (t : TagForm) (c : CoreParts) → IsValidPlain R t → core_of t ≡ Some c → t ≡ plain c
+plain_of_core R t c v h =
+    let both : Some v.core ≡ Some c = sym (ap core_of v.is) ∙ h in
+    let same : v.core ≡ c = cc in
+    v.is ∙ ap plain same
+
+pub plain_has_core : (R : List EntryParts) (t : TagForm) → IsValidPlain R t → core_of t ≡ None → ⊥
+plain_has_core R t v h = let both : Some v.core ≡ None = sym (ap core_of v.is) ∙ h in cc
+
+-- a tag that is not found valid
+pub invalid_refused : (R : List EntryParts) (t : TagForm) (refused : ValidRefusal) → IsRefusal R t refused → IsCanonicalAnswer R t (Err (of_valid refused))
+invalid_refused R t (checks.Fault fault) h = h
+invalid_refused R t checks.OutOfMemory h = tt
+
+pub nothing_of_test : {A : Type 0} (xs : List A) → true ≡ (length xs == 0) → [] ≡ xs
+nothing_of_test [] h = refl
+nothing_of_test (x ∷ xs) h = let none : length (x ∷ xs) ≡ 0 = eqb-true (length (x ∷ xs)) 0 (sym h) in absurd (omega arith)
+
+-- a tag that is found valid, by its parts
+pub valid_parts : (R : List EntryParts) (t : TagForm) (c : CoreParts) (es : List ExtensionParts) (ps : List (List ℕ)) → IsTagValue t → HasNoFault R t → Some c ≡ core_of t → es ≡ extensions_of t → ps ≡ private_of t → IsValid R (LangTag c es ps)
+valid_parts R t c es ps k n h e p =
+    let same : t ≡ LangTag c es ps = langtag_of t c (sym h) ∙ (λ i. LangTag c (sym e i) (sym p i)) in
+    subst (IsValid R) same ((valid_law R t k).1 n)
+
+-- what settling the extensions of a proper tag needs
+pub transforms_have_parts : (R : List EntryParts) (es : List ExtensionParts) → AllByRecursion (IsProperExtension R) es → AllByRecursion (λ (e : ExtensionParts). e.singleton ≡ transform → (p : TForm) × IsTransform e.subtags p) es
+transforms_have_parts R es P =
+    AllByRecursion-weaker (IsProperExtension R) (λ (e : ExtensionParts). e.singleton ≡ transform → (p : TForm) × IsTransform e.subtags p) (λ e h s. let m = h s in (m.0, m.1)) es P
+
+module _ (R : List EntryParts) (C : IsChecked R) where
+  -- the core normal form of a proper tag's core spells no grandfathered tag
+  pub form_spells_none : (c d : CoreParts) (es : List ExtensionParts) (ps : List (List ℕ)) → IsProper R (LangTag c es ps) → IsCoreNormalForm (values_of R) c d → IsNotGrandfathered (spell_core d)
+  form_spells_none c d es ps P n = core_spells_none R C d (proper_parts R d es ps (cores_proper R C n.reached es ps P)).core
+
+  -- a core that repeats a variant in its core normal form
+  pub core_refused : (c : CoreParts) (es : List ExtensionParts) (ps : List (List ℕ)) (refusal : Refusal) → IsValid R (LangTag c es ps) → IsCoreRefusal R c refusal → IsCanonicalAnswer R (LangTag c es ps) (Err refusal)
+  core_refused c es ps (refusals.Invalid fault) V h = absurd h
+  core_refused c es ps (refusals.ReplacementRepeats v) V h =
+      named_repeat R C (LangTag c es ps) (LangTag h.form es ps) v V (cores_reached R C h.normal.reached es ps V.proper) (λ d. second_repeats h.form.variants v h.second d.0) (inl h)
+  core_refused c es ps refusals.OutOfMemory V h = tt
+
+  value_distinct : (t : TagForm) (q e : CoreParts) → whole_value R t ≡ Some (plain q) → IsCoreNormalForm (values_of R) q e → RepeatsNoVariant (plain e)
+  value_distinct t q e k n =
+      let same : core_end R C q ≡ e = normal_is_form (cores_formed R C) q e n in
+      (subst (λ (x : CoreParts). Distinct x.variants) same (resting R C t q k).0, tt)
+
+  -- the value of a whole tag
+  pub value_canonical : (t u r : TagForm) → IsPlain t → IsValid R t → whole_value R t ≡ Some u → IsSettledValue R u r → IsCanonicalFormOf R t r
+  value_canonical t u r h V e s =
+      let k : whole_value R t ≡ Some (plain s.core) = e ∙ ap Some s.from in
+      subst (IsCanonicalFormOf R t) (sym s.to) (canonical_form R C t (plain s.form) V (value_ends R C t s.core s.form h V.proper k s.normal) (value_distinct t s.core s.form k s.normal))
+
+  -- the value of a core in core normal form
+  pub core_value_canonical : (c d : CoreParts) (u r : TagForm) → IsValid R (plain c) → IsDistinctForm R c d → whole_value R (plain d) ≡ Some u → IsSettledValue R u r → IsCanonicalFormOf R (plain c) r
+  core_value_canonical c d u r V n e s =
+      let k : whole_value R (plain d) ≡ Some (plain s.core) = e ∙ ap Some s.from in
+      subst (IsCanonicalFormOf R (plain c)) (sym s.to)
+      (canonical_form R C (plain c) (plain s.form) V (core_value_ends R C c d s.core s.form V.proper n.normal k s.normal) (value_distinct (plain d) s.core s.form k s.normal))
+
+  -- a core in core normal form without a value
+  pub core_canonical : (c d : CoreParts) → IsValid R (plain c) → IsDistinctForm R c d → whole_value R (plain d) ≡ None → IsCanonicalFormOf R (plain c) (plain d)
+  core_canonical c d V n e = canonical_form R C (plain c) (plain d) V (core_ends R C c d V.proper n.normal e) (n.distinct, tt)
+
+  -- a tag without a core that no step changes
+  pub coreless_canonical : (t : TagForm) → IsValid R t → core_of t ≡ None → (number_of t ≡ None) ⊎ (whole_value R t ≡ None) → IsCanonicalFormOf R t t
+  coreless_canonical (LangTag c es ps) V h k = cc
+  coreless_canonical (PrivateUse ps) V h k = canonical_form R C (PrivateUse ps) (PrivateUse ps) V (private_use_ends R C ps) tt
+  coreless_canonical (Grandfathered n) V h (inl k) = cc
+  coreless_canonical (Grandfathered n) V h (inr k) = canonical_form R C (Grandfathered n) (Grandfathered n) V (grandfathered_ends R C n k) tt
+
+  -- a langtag whose core and extensions are in their normal forms
+
+  parts_reached : (c d : CoreParts) (es fs : List ExtensionParts) (ps : List (List ℕ)) → IsProper R (LangTag c es ps) → IsCoreNormalForm (values_of R) c d → IsNormalForm (ExtensionsStep R) es fs → IsReached R (LangTag c es ps) (LangTag d fs ps)
+  parts_reached c d es fs ps P n m = star_trans (cores_reached R C n.reached es ps P) (extensions_reached R C d m.reached ps (cores_proper R C n.reached es ps P))
+
+  pub form_count : (c d : CoreParts) (es fs : List ExtensionParts) (ps : List (List ℕ)) → IsProper R (LangTag c es ps) → IsCoreNormalForm (values_of R) c d → IsNormalForm (ExtensionsStep R) es fs → length fs ≤ most_parts
+  form_count c d es fs ps P n m = (star_proper (end_form R C) (parts_reached c d es fs ps P n m) P).tag.counts.1
+
+  pub form_some : (es fs : List ExtensionParts) (ps : List (List ℕ)) → IsNormalForm (ExtensionsStep R) es fs → 0 < length es + length ps → 0 < length fs + length ps
+  form_some es fs (p ∷ ps) m h = omega arith
+  form_some [] fs [] m h = absurd (omega arith)
+  form_some (e ∷ es) [] [] m h = absurd (star_keeps (λ l. l ≡ [] → ⊥) (λ a b s _. extensions_step_to R a b s) m.reached (λ k. cc) refl)
+  form_some (e ∷ es) (f ∷ fs) [] m h = omega arith
+
+  pub langtag_canonical : (c d : CoreParts) (es fs : List ExtensionParts) (ps : List (List ℕ)) → IsValid R (LangTag c es ps) → IsDistinctForm R c d → IsNormalForm (ExtensionsStep R) es fs → AllByRecursion HasDistinctSource fs → 0 < length es + length ps → IsCanonicalFormOf R (LangTag c es ps) (LangTag d fs ps)
+  langtag_canonical c d es fs ps V n m k h =
+      let some = form_some es fs ps m h in
+      canonical_form R C (LangTag c es ps) (LangTag d fs ps) V (langtag_ends R C c d es fs ps V.proper n.normal m (λ a b. omega (arith, some, ap length a, ap length b))) (n.distinct, k)
+
+  pub source_refused : (c d : CoreParts) (es fs : List ExtensionParts) (ps : List (List ℕ)) (v : List ℕ) → IsValid R (LangTag c es ps) → IsDistinctForm R c d → IsNormalForm (ExtensionsStep R) es fs → IsSecondInSources fs v → IsRepeatOf R (LangTag c es ps) v
+  source_refused c d es fs ps v V n m k =
+      named_repeat R C (LangTag c es ps) (LangTag d fs ps) v V (parts_reached c d es fs ps V.proper n.normal m) (λ x. source_repeats fs v k x.1)
+      (inr (record { form = d; normal = n.normal; distinct = n.distinct }, named_source R C es fs v V.proper.parts.extensions m k))

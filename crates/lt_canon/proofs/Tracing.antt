@@ -1,0 +1,93 @@
+-- Traces one step after another.
+use Rattle.std.proofs.Common.{◌≡◌, ◌≢◌, ℕ, ◌+◌, ◌<◌, Bool, true, false, List, [], ◌∷◌, ◌++◌, refl, sym, ap, ◌∙◌, subst, length, take, drop, get_or, bytes_eq, arith}
+use Rattle.std.specs.Prelude.{MatchBool}
+use Rattle.std.proofs.lemmas.List.{take_more, drop_more, take-append-drop, length-take-le}
+use Rattle.std.proofs.lemmas.Slice.Eq.{bytes_eq-Decides}
+use Rattle.lt_tag.specs.Parts.{TagForm}
+use Rattle.lt_tag.specs.WellFormed.{spell, IsTag}
+use Rattle.lt_tag.specs.Conventional.{conventional}
+use Rattle.lt_tag.proofs.OneTagLemmas.{same_text}
+use Rattle.lt_registry.specs.Parts.{EntryParts}
+use Rattle.lt_registry.specs.Validity.{IsValid}
+use Rattle.lt_registry.specs.Faults.{IsRefusal}
+use Rattle.lt_registry.proofs.ValidityLaws.{valid_law}
+use Rattle.lt_registry.specs.declared.faults.ValidRefusal.{ValidRefusal}
+use Rattle.lt_registry.specs.declared.faults.ValidRefusal.TheVariants as checks
+use Rattle.lt_rewrite.specs.Labels.{LeadsBy, IsTrace}
+use Rattle.lt_rewrite.specs.ApplyFaults.{IsApplyFault}
+use Rattle.lt_rewrite.specs.declared.steps.Step.{Step}
+use Rattle.lt_rewrite.specs.declared.apply_faults.ApplyFault.{ApplyFault}
+use Rattle.lt_rewrite.specs.declared.apply_faults.ApplyFault.TheVariants as apply_faults
+use Rattle.lt_rewrite.proofs.OneStep.{steps_determined}
+use Rattle.lt_canon.specs.Laws.{TracesHaveOneEnd}
+use Rattle.lt_canon.specs.Traces.{IsValidTrace, IsMisstep, IsTraceFault, IsFollowFault, of_invalid, no_trace_memory}
+use Rattle.lt_canon.specs.declared.traces.TraceFault.{TraceFault}
+use Rattle.lt_canon.specs.declared.traces.TraceFault.TheVariants as faults
+
+pub trace_determined : (R : List EntryParts) → TracesHaveOneEnd R
+trace_determined R t a b [] h k = sym h ∙ k
+trace_determined R t a b (step ∷ steps) h k =
+    let same : k.0 ≡ h.0 = steps_determined R t k.0 h.0 step step k.1 h.1 refl refl in
+    trace_determined R h.0 a b steps h.2 (subst (λ u. IsTrace R u steps b) same k.2)
+
+-- a trace, and one after it
+pub trace_append : (R : List EntryParts) (xs ys : List Step) (t u v : TagForm) → IsTrace R t xs u → IsTrace R u ys v → IsTrace R t (xs ++ ys) v
+trace_append R [] ys t u v h k = subst (λ s. IsTrace R s ys v) (sym h) k
+trace_append R (x ∷ xs) ys t u v h k = (h.0, h.1, trace_append R xs ys h.0 u v h.2 k)
+
+-- a trace cut in two
+pub trace_cut : (R : List EntryParts) (xs ys : List Step) (t v : TagForm) → IsTrace R t (xs ++ ys) v → (u : TagForm) × IsTrace R t xs u × IsTrace R u ys v
+trace_cut R [] ys t v h = (t, refl, h)
+trace_cut R (x ∷ xs) ys t v h = let rest = trace_cut R xs ys h.0 v h.2 in (rest.0, (h.0, h.1, rest.1), rest.2)
+
+pub trace_more : (R : List EntryParts) (xs : List Step) (x : Step) (t u v : TagForm) → IsTrace R t xs u → LeadsBy R u x v → IsTrace R t (xs ++ x ∷ []) v
+trace_more R xs x t u v h k = trace_append R xs (x ∷ []) t u v h (v, k, refl)
+
+-- a step that does not lead on leaves no trace
+pub misstep_ends : (R : List EntryParts) (t end : TagForm) (steps : List Step) (n : ℕ) → IsMisstep R t steps n → IsTrace R t steps end → ⊥
+misstep_ends R t end steps n m h =
+    let cut = trace_cut R m.before (m.step ∷ m.after) t end (subst (λ s. IsTrace R t s end) m.there h) in
+    let same : cut.0 ≡ m.tag = trace_determined R t cut.0 m.tag m.before cut.1 m.led in
+    m.stuck cut.2.0 (subst (λ u. LeadsBy R u m.step cut.2.0) same cut.2.1)
+
+-- a tag that is not found valid
+pub invalid_trace : (R : List EntryParts) (t end : TagForm) (steps : List Step) (refused : ValidRefusal) → IsRefusal R t refused → IsTraceFault R t steps end (of_invalid refused)
+invalid_trace R t end steps (checks.Fault fault) h = h
+invalid_trace R t end steps checks.OutOfMemory h = tt
+
+-- what comparing the texts of two tags tells
+pub same_answer : (t u : TagForm) (a b : List ℕ) (answer : Bool) → IsTag t → IsTag u → a ≡ conventional (spell t) → b ≡ conventional (spell u) → answer ≡ bytes_eq a b → MatchBool answer (t ≡ u) (t ≢ u)
+same_answer t u a b true p q e f g = (same_text t u p q).0 (sym e ∙ (bytes_eq-Decides a b).0 (sym g) ∙ f)
+same_answer t u a b false p q e f g = λ same. let k : bytes_eq a b ≡ true = (bytes_eq-Decides a b).1 (e ∙ ap (λ x. conventional (spell x)) same ∙ sym f) in cc
+
+-- the step at an index does not lead on
+pub misstep_here : (R : List EntryParts) (t : TagForm) (steps : List Step) (i : ℕ) (default : Step) (here : TagForm) (fault : ApplyFault) → i < length steps → IsTrace R t (take i steps) here → IsApplyFault R here (get_or steps i default) fault → fault ≡ apply_faults.NoSuchStep → IsMisstep R t steps (i + 1)
+misstep_here R t steps i default here fault h led stuck e = record {
+  before = take i steps;
+  step = get_or steps i default;
+  after = drop (i + 1) steps;
+  there = sym (take-append-drop i steps) ∙ ap (λ xs. take i steps ++ xs) (drop_more steps i default h);
+  nth = ap (λ n. n + 1) (sym (length-take-le i steps (omega (arith, h))));
+  tag = here;
+  led = led;
+  stuck = subst (IsApplyFault R here (get_or steps i default)) e stuck;
+}
+
+-- the step at an index leads on
+pub trace_here : (R : List EntryParts) (t : TagForm) (steps : List Step) (i : ℕ) (default : Step) (here next : TagForm) → i < length steps → IsTrace R t (take i steps) here → LeadsBy R here (get_or steps i default) next → IsTrace R t (take (i + 1) steps) next
+trace_here R t steps i default here next h led on =
+    subst (λ xs. IsTrace R t xs next) (sym (take_more steps i default h)) (trace_more R (take i steps) (get_or steps i default) t here next led on)
+
+-- steps from a valid tag that lead to no end
+pub follow_fault : (R : List EntryParts) (t end : TagForm) (steps : List Step) (fault : TraceFault) → IsValid R t → IsFollowFault R t steps fault → IsTraceFault R t steps end fault
+follow_fault R t end steps (faults.Invalid fault) V h = absurd h
+follow_fault R t end steps (faults.NoSuchStep n) V h = (V, h)
+follow_fault R t end steps faults.WrongEnd V h = absurd h
+follow_fault R t end steps faults.OutOfMemory V h = tt
+
+-- where a fault is told, there is no trace
+pub fault_excludes : (R : List EntryParts) (t end : TagForm) (steps : List Step) (fault : TraceFault) → IsTraceFault R t steps end fault → fault ≢ no_trace_memory → IsValidTrace R t steps end → ⊥
+fault_excludes R t end steps (faults.Invalid fault) h n v = (valid_law R t v.valid.proper.tag).0 v.valid fault.kind fault.place h.there
+fault_excludes R t end steps (faults.NoSuchStep k) h n v = misstep_ends R t end steps k h.1 v.trace
+fault_excludes R t end steps faults.WrongEnd h n v = h.1.other (trace_determined R t h.1.tag end steps h.1.led v.trace)
+fault_excludes R t end steps faults.OutOfMemory h n v = n refl

@@ -1,0 +1,11 @@
+use Rattle.std.proofs.Common.{take}
+use Rattle.lt_registry.specs.Validity.{IsProper}
+use Rattle.lt_rewrite.specs.Labels.{IsTrace}
+use Rattle.lt_canon.proofs.traces.follow.Given as goal
+
+-- the steps so far lead here
+abbrev pub invariant-loop-index : goal.invariant-loop-index
+invariant-loop-index g l = record {
+  led : IsTrace (g.L.Lookup.listed l.table) l.tag (take l.index l.steps) l.here;
+  proper : IsProper (g.L.Lookup.listed l.table) l.here;
+}

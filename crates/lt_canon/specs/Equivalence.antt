@@ -1,0 +1,33 @@
+-- Whether two tags are equivalent, or the refusal that is owed.
+use Rattle.std.specs.Prelude.{◌≡◌, ◌⊎◌, ◌↔◌, Bool, IsTrue, List, Err}
+use Rattle.lt_tag.specs.Parts.{TagForm}
+use Rattle.lt_tag.specs.WellFormed.{spell}
+use Rattle.lt_tag.specs.Conventional.{conventional}
+use Rattle.lt_registry.specs.Parts.{EntryParts}
+use Rattle.lt_rewrite.specs.TagSteps.{AreEquivalent}
+use Rattle.lt_canon.specs.Answers.{IsCanonicalFormOf, IsCanonicalAnswer}
+use Rattle.lt_canon.specs.declared.refusals.Refusal.{Refusal}
+
+-- Both tags have canonical forms; and whether the tags are equivalent is whether the forms are equal, and whether
+-- their texts are.
+pub record IsEquivalenceAnswer (R : List EntryParts) (t u : TagForm) (answer : Bool) : Type 0 where
+  pub first : TagForm
+  pub second : TagForm
+  pub first_form : IsCanonicalFormOf R t first
+  pub second_form : IsCanonicalFormOf R u second
+  pub equivalent : IsTrue answer ↔ AreEquivalent R t u
+  pub equal : IsTrue answer ↔ (first ≡ second)
+  pub equal_texts : IsTrue answer ↔ (conventional (spell first) ≡ conventional (spell second))
+
+abbrev pub IsRefusedWith : List EntryParts → TagForm → Refusal → Type 0
+IsRefusedWith R t refusal = IsCanonicalAnswer R t (Err refusal)
+
+-- the second tag's refusal, where the first is not refused
+pub record IsSecondRefusal (R : List EntryParts) (t u : TagForm) (refusal : Refusal) : Type 0 where
+  pub first : TagForm
+  pub first_form : IsCanonicalFormOf R t first
+  pub refused : IsRefusedWith R u refusal
+
+-- the first tag's refusal, else the second's
+abbrev pub IsFirstRefusal : List EntryParts → TagForm → TagForm → Refusal → Type 0
+IsFirstRefusal R t u refusal = IsRefusedWith R t refusal ⊎ IsSecondRefusal R t u refusal

@@ -1,0 +1,35 @@
+-- How a refusal is told by the calls above.
+use Rattle.lt_tag.specs.declared.faults.TagFault.{TagFault}
+use Rattle.lt_tag.specs.declared.faults.TagFaultKind.{TagFaultKind}
+use Rattle.lt_tag.specs.declared.faults.TagFaultKind.TheVariants as kinds
+use Rattle.lt_registry.specs.declared.faults.ValidRefusal.{ValidRefusal}
+use Rattle.lt_registry.specs.declared.faults.ValidRefusal.TheVariants as checks
+use Rattle.lt_canon.specs.declared.refusals.Refusal.{Refusal}
+use Rattle.lt_canon.specs.declared.refusals.Refusal.TheVariants as refusals
+use Rattle.lt_canon.specs.declared.refusals.TextRefusal.{TextRefusal}
+use Rattle.lt_canon.specs.declared.refusals.TextRefusal.TheVariants as texts
+
+-- why a tag that is not found valid has no canonical form
+abbrev pub of_valid : ValidRefusal → Refusal
+of_valid (checks.Fault fault) = refusals.Invalid fault
+of_valid checks.OutOfMemory = refusals.OutOfMemory
+
+abbrev pub no_memory : Refusal
+no_memory = refusals.OutOfMemory
+
+-- why a text that is not read has no canonical text
+abbrev pub of_fault_kind : TagFaultKind → TagFault → TextRefusal
+of_fault_kind kinds.OutOfMemory fault = texts.OutOfMemory
+of_fault_kind _ fault = texts.NotATag fault
+
+abbrev pub of_fault : TagFault → TextRefusal
+of_fault fault = of_fault_kind fault.kind fault
+
+-- why the text of a tag that is refused has none
+abbrev pub of_refusal : Refusal → TextRefusal
+of_refusal (refusals.Invalid fault) = texts.Invalid fault
+of_refusal (refusals.ReplacementRepeats v) = texts.ReplacementRepeats v
+of_refusal refusals.OutOfMemory = texts.OutOfMemory
+
+abbrev pub no_text_memory : TextRefusal
+no_text_memory = texts.OutOfMemory

@@ -1,0 +1,37 @@
+-- What is owed for a text that is to be made canonical.
+use Rattle.std.specs.Prelude.{ℕ, ◌≡◌, List, Result, Ok, Err}
+use Rattle.lt_tag.specs.Parts.{TagForm}
+use Rattle.lt_tag.specs.WellFormed.{spell}
+use Rattle.lt_tag.specs.Conventional.{conventional}
+use Rattle.lt_tag.specs.Faults.{HasTag, HasFault}
+use Rattle.lt_registry.specs.Parts.{EntryParts}
+use Rattle.lt_registry.specs.Faults.{IsFirstFault}
+use Rattle.lt_canon.specs.Answers.{IsCanonicalFormOf, IsRepeatOf}
+use Rattle.lt_canon.specs.declared.refusals.TextRefusal.{TextRefusal}
+use Rattle.lt_canon.specs.declared.refusals.TextRefusal.TheVariants as refusals
+
+-- the text is read as a tag, and this is the text of its canonical form
+pub record IsCanonicalTextOf (R : List EntryParts) (text canonical : List ℕ) : Type 0 where
+  pub tag : TagForm
+  pub read : HasTag text tag
+  pub form : TagForm
+  pub is_form : IsCanonicalFormOf R tag form
+  pub written : canonical ≡ conventional (spell form)
+
+-- the text is read as a tag of which this holds
+pub record ReadsAs (text : List ℕ) (P : TagForm → Type 0) : Type 0 where
+  pub tag : TagForm
+  pub read : HasTag text tag
+  pub holds : P tag
+
+-- the refusal that is owed; want of memory aside
+abbrev pub IsTextRefusal : List EntryParts → List ℕ → TextRefusal → Type 0
+IsTextRefusal R text (refusals.NotATag fault) = HasFault text fault.kind fault.place
+IsTextRefusal R text (refusals.Invalid fault) = ReadsAs text (λ tag. IsFirstFault R tag fault.kind fault.place)
+IsTextRefusal R text (refusals.ReplacementRepeats variant) = ReadsAs text (λ tag. IsRepeatOf R tag variant)
+IsTextRefusal R text refusals.OutOfMemory = Unit {0}
+
+-- the canonical text, or the refusal that is owed
+abbrev pub IsTextAnswer : List EntryParts → List ℕ → Result (List ℕ) TextRefusal → Type 0
+IsTextAnswer R text (Ok canonical) = IsCanonicalTextOf R text canonical
+IsTextAnswer R text (Err refusal) = IsTextRefusal R text refusal

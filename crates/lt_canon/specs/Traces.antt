@@ -1,0 +1,62 @@
+-- What is owed for a trace that is to be verified.
+use Rattle.std.specs.Prelude.{ℕ, ◌≡◌, ◌≢◌, ◌+◌, List, ◌∷◌, ◌++◌, length, codes}
+use Rattle.lt_tag.specs.Parts.{TagForm}
+use Rattle.lt_registry.specs.Parts.{EntryParts}
+use Rattle.lt_registry.specs.Validity.{IsValid}
+use Rattle.lt_registry.specs.Faults.{IsFirstFault}
+use Rattle.lt_registry.specs.declared.faults.ValidRefusal.{ValidRefusal}
+use Rattle.lt_registry.specs.declared.faults.ValidRefusal.TheVariants as checks
+use Rattle.lt_rewrite.specs.Labels.{LeadsBy, IsTrace}
+use Rattle.lt_rewrite.specs.declared.steps.Step.{Step}
+use Rattle.lt_canon.specs.declared.traces.TraceFault.{TraceFault}
+use Rattle.lt_canon.specs.declared.traces.TraceFault.TheVariants as faults
+
+-- the steps lead from a valid tag to the end
+pub record IsValidTrace (R : List EntryParts) (t : TagForm) (steps : List Step) (end : TagForm) : Type 0 where
+  pub valid : IsValid R t
+  pub trace : IsTrace R t steps end
+
+-- the nth step, counted from 1, is the first that does not lead on
+pub record IsMisstep (R : List EntryParts) (t : TagForm) (steps : List Step) (n : ℕ) : Type 0 where
+  pub before : List Step
+  pub step : Step
+  pub after : List Step
+  pub there : steps ≡ before ++ step ∷ after
+  pub nth : n ≡ length before + 1
+  pub tag : TagForm
+  pub led : IsTrace R t before tag
+  pub stuck : (u : TagForm) → LeadsBy R tag step u → ⊥
+
+-- the steps lead to another tag
+pub record EndsElsewhere (R : List EntryParts) (t : TagForm) (steps : List Step) (end : TagForm) : Type 0 where
+  pub tag : TagForm
+  pub led : IsTrace R t steps tag
+  pub other : tag ≢ end
+
+-- the fault that is told; want of memory aside
+abbrev pub IsTraceFault : List EntryParts → TagForm → List Step → TagForm → TraceFault → Type 0
+IsTraceFault R t steps end (faults.Invalid fault) = IsFirstFault R t fault.kind fault.place
+IsTraceFault R t steps end (faults.NoSuchStep n) = IsValid R t × IsMisstep R t steps n
+IsTraceFault R t steps end faults.WrongEnd = IsValid R t × EndsElsewhere R t steps end
+IsTraceFault R t steps end faults.OutOfMemory = Unit {0}
+
+abbrev pub trace_fault_name_of : TraceFault → List ℕ
+trace_fault_name_of (faults.Invalid fault) = codes "Invalid"
+trace_fault_name_of (faults.NoSuchStep n) = codes "NoSuchStep"
+trace_fault_name_of faults.WrongEnd = codes "WrongEnd"
+trace_fault_name_of faults.OutOfMemory = codes "OutOfMemory"
+
+-- a tag that is not found valid has no trace
+abbrev pub of_invalid : ValidRefusal → TraceFault
+of_invalid (checks.Fault fault) = faults.Invalid fault
+of_invalid checks.OutOfMemory = faults.OutOfMemory
+
+abbrev pub no_trace_memory : TraceFault
+no_trace_memory = faults.OutOfMemory
+
+-- why the steps of a trace lead to no end; want of memory aside
+abbrev pub IsFollowFault : List EntryParts → TagForm → List Step → TraceFault → Type 0
+IsFollowFault R t steps (faults.Invalid fault) = ⊥
+IsFollowFault R t steps (faults.NoSuchStep n) = IsMisstep R t steps n
+IsFollowFault R t steps faults.WrongEnd = ⊥
+IsFollowFault R t steps faults.OutOfMemory = Unit {0}

@@ -1,0 +1,127 @@
+//! Canonical tags (RFC 5646, 4.5).
+ghost use Rattle.std.specs.Prelude.{◌≡◌, ◌<◌, ◌+◌, None, List, All, length, IfOk, IfErr};
+ghost use Rattle.lt_tag.specs.Parts.{LangTag};
+ghost use Rattle.lt_tag.specs.Values.{core_of};
+ghost use Rattle.lt_registry.specs.Validity.{IsValid};
+ghost use Rattle.lt_rewrite.specs.Conditions.{HasEndingChain};
+ghost use Rattle.lt_canon.specs.Conditions.{plain, IsValidPlain, IsChecked};
+ghost use Rattle.lt_canon.specs.Answers.{IsCanonicalAnswer};
+ghost use Rattle.lt_canon.specs.Settled.{IsDistinctForm, IsCoreRefusal, IsSettledValue};
+
+use crate::checked::Checked;
+use crate::copies::{copy_extensions, copy_subtags};
+use crate::refusals::Refusal;
+use crate::repeats::{second_in_sources, second_occurrence};
+use crate::whole_values::whole_value;
+use lt_registry::{Lookup, validate};
+use lt_rewrite::{settle_core, settle_extensions};
+use lt_subtag::Subtag;
+use lt_tag::{Core, Extension, OutOfMemory, Tag};
+use std::alloc::Global;
+
+/// The canonical form of a tag (RFC 5646, 4.5): the one canonical tag that steps reach from it.
+///
+/// - `Invalid`, with the fault that `validate` tells, exactly where the tag is not valid.
+/// - `ReplacementRepeats` exactly where the tag is valid and steps can repeat a variant. It names the
+///   leftmost variant that stands a second time in the core normal form of the core or, where that
+///   repeats none, of the source of the `t` extension.
+///
+/// Beside what `validate` looks up, the chain of values of each subtag is followed, and a tag without
+/// extensions and private use is looked up as a whole once. Where neither such a tag nor its value has
+/// variants it takes no memory.
+pub fn canonical<L: Lookup>(alloc: Global, checked: &Checked<L>, tag: &Tag) -> Result<Tag, Refusal>
+    ensures { IsCanonicalAnswer (L.listed checked.now) tag.now result }
+{
+    let table = checked.table();
+    validate(alloc, table, tag)?;
+    let Some(core) = tag.core() else {
+        return form_of_coreless(alloc, table, tag);
+    };
+    let (extensions, private) = (tag.extensions(), tag.private());
+    if extensions.is_empty() && private.is_empty() {
+        form_of_core(alloc, table, core)
+    } else {
+        form_of_langtag(alloc, table, core, extensions, private)
+    }
+}
+
+/// The canonical form of a valid grandfathered or private use tag.
+fn form_of_coreless<L: Lookup>(alloc: Global, table: &L, tag: &Tag) -> Result<Tag, Refusal>
+    requires checked { IsChecked (L.listed table.now) }
+    requires valid { IsValid (L.listed table.now) tag.now }
+    requires coreless { core_of tag.now ≡ None }
+    ensures { IsCanonicalAnswer (L.listed table.now) tag.now result }
+{
+    if tag.grandfathered().is_none() {
+        return Ok(tag.copy(alloc)?);
+    }
+    match whole_value(table, tag) {
+        Some(value) => Ok(settled_value(alloc, table, value)?),
+        None => Ok(tag.copy(alloc)?),
+    }
+}
+
+/// The canonical form of the valid langtag of a core alone.
+fn form_of_core<L: Lookup>(alloc: Global, table: &L, core: &Core) -> Result<Tag, Refusal>
+    requires checked { IsChecked (L.listed table.now) }
+    requires valid { IsValid (L.listed table.now) (plain core.now) }
+    ensures { IsCanonicalAnswer (L.listed table.now) (plain core.now) result }
+{
+    let settled = settled_core(alloc, table, core)?;
+    let tag = Tag::from_parts(settled, Vec::new(alloc), Vec::new(alloc));
+    match whole_value(table, &tag) {
+        Some(value) => Ok(settled_value(alloc, table, value)?),
+        None => Ok(tag),
+    }
+}
+
+/// The canonical form of the valid langtag of these parts, of which some are extensions or private
+/// use.
+fn form_of_langtag<L: Lookup>(
+    alloc: Global,
+    table: &L,
+    core: &Core,
+    extensions: &[Extension],
+    private: &[Subtag],
+) -> Result<Tag, Refusal>
+    requires checked { IsChecked (L.listed table.now) }
+    requires valid { IsValid (L.listed table.now) (LangTag core.now extensions.now private.now) }
+    requires some { 0 < length extensions.now + length private.now }
+    ensures { IsCanonicalAnswer (L.listed table.now) (LangTag core.now extensions.now private.now) result }
+{
+    let settled = settled_core(alloc, table, core)?;
+    let mut others = copy_extensions(alloc, extensions)?;
+    settle_extensions(alloc, table, &mut others)?;
+    if let Some(variant) = second_in_sources(alloc, &others)? {
+        return Err(Refusal::ReplacementRepeats(variant));
+    }
+    Ok(Tag::from_parts(settled, others, copy_subtags(alloc, private)?))
+}
+
+/// A core in its core normal form, unless a variant stands twice there.
+fn settled_core<L: Lookup>(alloc: Global, table: &L, core: &Core) -> Result<Core, Refusal>
+    requires { All (HasEndingChain (L.listed table.now)) (L.listed table.now) }
+    ensures form { IfOk result (λ form. IsDistinctForm (L.listed table.now) core.now form) }
+    ensures refusal { IfErr result (λ refusal. IsCoreRefusal (L.listed table.now) core.now refusal) }
+{
+    let mut settled = core.copy(alloc)?;
+    settle_core(table, &mut settled);
+    match second_occurrence(settled.variants()) {
+        Some(variant) => Err(Refusal::ReplacementRepeats(variant)),
+        None => Ok(settled),
+    }
+}
+
+/// The value of a whole record with its core in core normal form.
+fn settled_value<L: Lookup>(alloc: Global, table: &L, value: &Tag) -> Result<Tag, OutOfMemory>
+    requires checked { IsChecked (L.listed table.now) }
+    requires plain { IsValidPlain (L.listed table.now) value.now }
+    ensures { IfOk result (λ settled. IsSettledValue (L.listed table.now) value.now settled) }
+{
+    let Some(core) = value.core() else {
+        return value.copy(alloc);
+    };
+    let mut settled = core.copy(alloc)?;
+    settle_core(table, &mut settled);
+    Ok(Tag::from_parts(settled, Vec::new(alloc), Vec::new(alloc)))
+}

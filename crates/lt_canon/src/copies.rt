@@ -1,0 +1,31 @@
+//! Copies of the parts of a tag.
+ghost use Rattle.std.specs.Prelude.{◌≡◌, IfOk};
+
+use lt_subtag::Subtag;
+use lt_tag::{Extension, OutOfMemory};
+use std::alloc::Global;
+
+/// Equal subtags. Without one it takes no memory.
+pub(crate) fn copy_subtags(alloc: Global, subtags: &[Subtag]) -> Result<Vec<Subtag>, OutOfMemory>
+    ensures { IfOk result (λ copy. copy.items ≡ subtags.now) }
+{
+    let mut copy = Vec::with_capacity(alloc, subtags.len())?;
+    for subtag in subtags {
+        copy.push(subtag.copy())?;
+    }
+    Ok(copy)
+}
+
+/// Equal extensions. Without one it takes no memory.
+pub(crate) fn copy_extensions(
+    alloc: Global,
+    extensions: &[Extension],
+) -> Result<Vec<Extension>, OutOfMemory>
+    ensures { IfOk result (λ copy. copy.items ≡ extensions.now) }
+{
+    let mut copy = Vec::with_capacity(alloc, extensions.len())?;
+    for extension in extensions {
+        copy.push(extension.copy(alloc)?)?;
+    }
+    Ok(copy)
+}

@@ -1,0 +1,60 @@
+//! Extlang forms (RFC 5646, 4.5).
+ghost use Rattle.std.specs.Prelude.{◌≡◌, IfOk, IfErr, Err};
+ghost use Rattle.std.specs.Option.{option_copied};
+ghost use Rattle.lt_registry.specs.Entries.{prefixes};
+ghost use Rattle.lt_registry.specs.declared.entries.Kind.TheVariants as kinds;
+ghost use Rattle.lt_canon.specs.Answers.{IsCanonicalAnswer};
+ghost use Rattle.lt_canon.specs.ExtlangForm.{prefix_of, IsExtlangFormOf};
+
+use crate::canonical_tags::canonical;
+use crate::checked::Checked;
+use crate::copies::{copy_extensions, copy_subtags};
+use crate::refusals::Refusal;
+use lt_registry::{Kind, Lookup};
+use lt_subtag::Subtag;
+use lt_tag::Tag;
+use std::alloc::Global;
+
+/// The extlang form of a tag (RFC 5646, 4.5): the canonical form and, where its language is an extlang
+/// too, the Prefix of that in front of it. A Prefix of 4 to 8 letters can't stand before an extlang, so
+/// such a tag is left in its canonical form; and so are the sources of `t` extensions. It is valid, and
+/// its canonical form is that of the tag. A refusal is that of `canonical`.
+pub fn extlang_form<L: Lookup>(
+    alloc: Global,
+    checked: &Checked<L>,
+    tag: &Tag,
+) -> Result<Tag, Refusal>
+    ensures form { IfOk result (λ form. IsExtlangFormOf (L.listed checked.now) tag.now form) }
+    ensures refusal { IfErr result (λ refusal. IsCanonicalAnswer (L.listed checked.now) tag.now (Err refusal)) }
+{
+    let table = checked.table();
+    let form = canonical(alloc, checked, tag)?;
+    let Some(canonical_core) = form.core() else {
+        return Ok(form);
+    };
+    let Some(prefix) = extlang_prefix(table, canonical_core.language()) else {
+        return Ok(form);
+    };
+    let mut core = canonical_core.copy(alloc)?;
+    core.set_language(prefix.copy());
+    core.set_extlang(canonical_core.language().copy());
+    let extensions = copy_extensions(alloc, form.extensions())?;
+    let private = copy_subtags(alloc, form.private())?;
+    Ok(Tag::from_parts(core, extensions, private))
+}
+
+/// The Prefix of a language as an extlang, if it is one and the Prefix can stand before an extlang.
+fn extlang_prefix<'a, L: Lookup>(table: &'a L, language: &Subtag) -> Option<&'a Subtag>
+    ensures { option_copied result ≡ prefix_of (prefixes (L.listed table.now) kinds.Extlang language.now) }
+{
+    match table.entry(Kind::Extlang, language) {
+        Some(entry) => match entry.prefixes().first() {
+            Some(prefix) => match prefix.subtags() {
+                [only] if only.bytes().len() <= 3 => Some(only),
+                _ => None,
+            },
+            None => None,
+        },
+        None => None,
+    }
+}

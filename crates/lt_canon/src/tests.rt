@@ -1,0 +1,147 @@
+mod answers;
+mod sample;
+
+use super::*;
+use lt_registry::{ListTable, ValidFault, ValidFaultKind};
+use lt_rewrite::{Step, StepKind};
+use lt_tag::read_tag;
+use sample::{sample, sample_with};
+use std::alloc::Global;
+use std::test::Fail;
+
+/// What the check finds in a table: nothing, or the code of the condition and the record.
+fn finding(alloc: Global, table: ListTable) -> Result<Option<(&'static str, u32)>, Fail> {
+    match Checked::new(alloc, table) {
+        Ok(_) => Ok(None),
+        Err(rejected) => match rejected.cause {
+            RejectedCause::Finding(finding) => {
+                Ok(Some((finding.condition.code(), finding.number)))
+            }
+            RejectedCause::OutOfMemory => Err(Fail::from("no memory")),
+        },
+    }
+}
+
+/// Records put in the place of one of the sample, and the condition that then fails at that number.
+const CHANGES: [(u32, &str, &str); 12] = [
+    (48, "Type: language\nSubtag: de\n", "C1"),
+    (27, "Type: region\nSubtag: DD\nPreferred-Value: ZZ\n", "C2"),
+    (6, "Type: language\nSubtag: he\nPreferred-Value: iw\n", "C3"),
+    (
+        23,
+        "Type: extlang\nSubtag: yue\nPreferred-Value: yue\nPrefix: zh\nPrefix: ms\n",
+        "C4",
+    ),
+    (
+        37,
+        "Type: variant\nSubtag: heploc\nPreferred-Value: arevela\nPrefix: ja-Latn-hepburn\n",
+        "C5",
+    ),
+    (
+        34,
+        "Type: variant\nSubtag: arevela\nPreferred-Value: hy\n",
+        "C6",
+    ),
+    (31, "Type: variant\nSubtag: 1901\nPrefix: de-x-a\n", "C7"),
+    (
+        22,
+        "Type: extlang\nSubtag: min\nPreferred-Value: min\nPrefix: zh\n",
+        "C8",
+    ),
+    (
+        44,
+        "Type: redundant\nTag: sgn-DE\nPreferred-Value: gsg-x-a\n",
+        "C9",
+    ),
+    (
+        48,
+        "Type: redundant\nTag: sgn-DD\nPreferred-Value: sgn-DE\n",
+        "C10",
+    ),
+    (
+        45,
+        "Type: redundant\nTag: zh-cmn\nPreferred-Value: yue\n",
+        "C11",
+    ),
+    (
+        19,
+        "Type: language\nSubtag: qaa..qtz\nPreferred-Value: en\n",
+        "C12",
+    ),
+];
+
+#[test]
+fn sample_passes(rt: HostRuntime) -> Result<(), Fail> {
+    let table = sample(rt.alloc())?;
+    assert_eq!(rt; finding(rt.alloc(), table)?, None);
+    Ok(())
+}
+
+#[test]
+fn changed_samples_are_rejected(rt: HostRuntime) -> Result<(), Fail> {
+    for row in &CHANGES {
+        let (number, record, code) = *row;
+        let table = sample_with(rt.alloc(), number as usize, record)?;
+        assert_eq!(rt; finding(rt.alloc(), table)?, Some((code, number)), "{code}");
+    }
+    Ok(())
+}
+
+/// The sample, which passes the check.
+fn checked_sample(alloc: Global) -> Result<Checked<ListTable>, Fail> {
+    match Checked::new(alloc, sample(alloc)?) {
+        Ok(checked) => Ok(checked),
+        Err(_) => Err(Fail::from("rejected")),
+    }
+}
+
+/// The steps from `sgn-DD`, of which the first uses this record, and an end.
+fn two_steps(alloc: Global, number: u32, last: &[u8]) -> Result<Trace, Fail> {
+    let mut steps = Vec::new(alloc);
+    steps.push(Step {
+        kind: StepKind::Region,
+        place: 2,
+        number,
+    })?;
+    steps.push(Step {
+        kind: StepKind::Whole,
+        place: 1,
+        number: 44,
+    })?;
+    Ok(Trace {
+        steps,
+        last: read_tag(alloc, last)?,
+    })
+}
+
+#[test]
+fn traces_are_verified(rt: HostRuntime) -> Result<(), Fail> {
+    let checked = checked_sample(rt.alloc())?;
+    let unknown = TraceFault::Invalid(ValidFault {
+        kind: ValidFaultKind::UnknownLanguage,
+        place: 1,
+    });
+    let rows = [
+        (b"sgn-DD".as_slice(), 27u32, b"gsg".as_slice(), Ok(())),
+        (
+            b"sgn-DD".as_slice(),
+            27,
+            b"sgn-DE".as_slice(),
+            Err(TraceFault::WrongEnd),
+        ),
+        (
+            b"sgn-DD".as_slice(),
+            28,
+            b"gsg".as_slice(),
+            Err(TraceFault::NoSuchStep(1)),
+        ),
+        (b"fr".as_slice(), 27, b"gsg".as_slice(), Err(unknown)),
+    ];
+    for (text, number, last, answer) in rows {
+        let tag = read_tag(rt.alloc(), text)?;
+        let trace = two_steps(rt.alloc(), number, last)?;
+        assert_eq!(rt; verify(rt.alloc(), &checked, &tag, &trace), answer);
+    }
+    assert_eq!(rt; TraceFault::WrongEnd.name(), "WrongEnd");
+    Ok(())
+}

@@ -1,0 +1,125 @@
+//! Traces: the steps that lead from a tag to another (RFC 5646, 4.5).
+ghost use Rattle.std.specs.Prelude.{◌≡◌, ◌≢◌, IfOk, IfErr, OnOk, MatchBool};
+ghost use Rattle.lt_registry.specs.Validity.{IsProper};
+ghost use Rattle.lt_rewrite.specs.TagSteps.{AreEquivalent};
+ghost use Rattle.lt_rewrite.specs.Labels.{IsTrace};
+ghost use Rattle.lt_canon.specs.Traces.{IsValidTrace, IsTraceFault, IsFollowFault, trace_fault_name_of, of_invalid, no_trace_memory};
+
+use crate::checked::Checked;
+use crate::laws::{traces_have_one_end, traces_reach_their_end};
+use lt_registry::{Lookup, ValidFault, ValidRefusal, validate};
+use lt_rewrite::{ApplyFault, Step, apply};
+use lt_tag::{OutOfMemory, Tag, write_tag};
+use std::alloc::Global;
+
+/// Steps one after another, and the tag to which they lead.
+#[derive(Debug, Drop)]
+pub struct Trace {
+    pub steps: Vec<Step>,
+    pub last: Tag,
+}
+
+/// Why a trace is not one of a tag.
+#[derive(Clone, Copy, Debug, Drop, PartialEq, Eq)]
+pub enum TraceFault {
+    /// The tag is not valid.
+    Invalid(ValidFault),
+    /// This step, counted from 1, is the first that does not lead on to a proper tag.
+    NoSuchStep(usize),
+    /// The steps lead to another tag.
+    WrongEnd,
+    /// No memory was left.
+    OutOfMemory,
+}
+
+impl TraceFault {
+    /// The fault's name, as it is written here.
+    pub fn name(self) -> &'static str
+        ensures { result.now ≡ trace_fault_name_of self }
+    {
+        match self {
+            TraceFault::Invalid(_) => "Invalid",
+            TraceFault::NoSuchStep(_) => "NoSuchStep",
+            TraceFault::WrongEnd => "WrongEnd",
+            TraceFault::OutOfMemory => "OutOfMemory",
+        }
+    }
+}
+
+impl From<ValidRefusal> for TraceFault {
+    ghost from_gives = { λ refused fault. fault ≡ of_invalid refused };
+
+    fn from(refused: ValidRefusal) -> TraceFault {
+        match refused {
+            ValidRefusal::Fault(fault) => TraceFault::Invalid(fault),
+            ValidRefusal::OutOfMemory => TraceFault::OutOfMemory,
+        }
+    }
+}
+
+impl From<OutOfMemory> for TraceFault {
+    ghost from_gives = { λ _ fault. fault ≡ no_trace_memory };
+
+    fn from(_error: OutOfMemory) -> TraceFault {
+        TraceFault::OutOfMemory
+    }
+}
+
+/// Whether two tags are the same: whether they have one text.
+fn is_same(alloc: Global, tag: &Tag, other: &Tag) -> Result<bool, OutOfMemory>
+    ensures { IfOk result (λ same. MatchBool same (tag.now ≡ other.now) (tag.now ≢ other.now)) }
+{
+    let (_, _) = (tag.extensions(), other.extensions());
+    let text = write_tag(alloc, tag)?;
+    let other_text = write_tag(alloc, other)?;
+    Ok(text.as_slice() == other_text.as_slice())
+}
+
+/// The tag to which steps lead one after another.
+fn follow<L: Lookup>(alloc: Global, table: &L, tag: &Tag, steps: &[Step]) -> Result<Tag, TraceFault>
+    requires { IsProper (L.listed table.now) tag.now }
+    ensures ok { IfOk result (λ end. IsTrace (L.listed table.now) tag.now steps.now end) }
+    ensures err { IfErr result (λ fault. IsFollowFault (L.listed table.now) tag.now steps.now fault) }
+{
+    let mut here = tag.copy(alloc)?;
+    for (index, step) in steps.iter().enumerate() {
+        here = match apply(alloc, table, &here, step) {
+            Ok(next) => next,
+            Err(ApplyFault::NoSuchStep) => return Err(TraceFault::NoSuchStep(index + 1)),
+            Err(ApplyFault::OutOfMemory) => return Err(TraceFault::OutOfMemory),
+        };
+    }
+    Ok(here)
+}
+
+/// Whether steps lead from a valid tag, one after another, to the end that the trace tells; the end
+/// is then equivalent to the tag. Each step is judged by its kind, its place and the number of its
+/// record.
+///
+/// - `Invalid`, with the fault that `validate` tells, where the tag is not valid.
+/// - Else `NoSuchStep` with the first step, counted from 1, that does not lead on.
+/// - Else `WrongEnd` where the steps lead to another tag.
+pub fn verify<L: Lookup>(
+    alloc: Global,
+    checked: &Checked<L>,
+    tag: &Tag,
+    trace: &Trace,
+) -> Result<(), TraceFault>
+    ensures ok { OnOk result (IsValidTrace (L.listed checked.now) tag.now trace.now.steps.items trace.now.last) }
+    ensures equivalent { OnOk result (AreEquivalent (L.listed checked.now) tag.now trace.now.last) }
+    ensures err { IfErr result (λ fault. IsTraceFault (L.listed checked.now) tag.now trace.now.steps.items trace.now.last fault) }
+    ensures exact { IfErr result (λ fault. fault ≢ no_trace_memory
+        → IsValidTrace (L.listed checked.now) tag.now trace.now.steps.items trace.now.last → ⊥) }
+{
+    traces_reach_their_end();
+    traces_have_one_end();
+    let table = checked.table();
+    validate(alloc, table, tag)?;
+    let _ = tag.extensions();
+    let end = follow(alloc, table, tag, &trace.steps)?;
+    if is_same(alloc, &end, &trace.last)? {
+        Ok(())
+    } else {
+        Err(TraceFault::WrongEnd)
+    }
+}
