@@ -1,34 +1,52 @@
 //! The program `langtag`.
 #![tactic(auto)]
 
-use lt_tool::{WordsFault, perform, read_words, report};
-use std::io;
+use lt_jar::Device;
+use lt_tool::{Command, WordsFault, perform, read_words, report, report_file};
 use std::process::ExitCode;
-use std::rt::Env;
+use std::rt::{Env, Files};
+use std::{env, fs, io};
 
 /// The words of the command line, the program's name first.
 fn words(rt: &(impl Env + AllocGlobal)) -> Result<Vec<String>, WordsFault> {
-    match std::env::args(rt) {
+    match env::args(rt) {
         Ok(words) => Ok(words.collect(rt.alloc())?),
         Err(error) if error.kind() == io::ErrorKind::OutOfMemory => Err(WordsFault::OutOfMemory),
         Err(error) => Err(WordsFault::Usage(format!(in rt.alloc(); "error: {error}\n")?)),
     }
 }
 
+/// The bytes of the file that a command names, and none where it names none.
+fn file_of(rt: &(impl Files + AllocGlobal), command: &Command) -> io::Result<Vec<u8>> {
+    match command.first_file() {
+        Some(path) => fs::read(rt, path),
+        None => Ok(Vec::new(rt.alloc())),
+    }
+}
+
 fn main(rt: HostRuntime) -> ExitCode {
-    let (mut output, mut errors) = (rt.stdout(), rt.stderr());
-    let command = words(&rt).and_then(|words| read_words(rt.alloc(), &words));
-    let status = match command {
-        Ok(command) => perform(
-            rt.alloc(),
-            &command,
-            &[],
-            &[],
-            &mut rt.stdin(),
-            &mut output,
-            &mut errors,
-        ),
-        Err(fault) => report(&fault, &mut output, &mut errors),
+    let (mut output, mut errors) = (Device::new(rt.stdout()), rt.stderr());
+    let command = match words(&rt).and_then(|words| read_words(rt.alloc(), &words)) {
+        Ok(command) => command,
+        Err(fault) => return ExitCode::from(report(&fault, &mut output, &mut errors)),
+    };
+    let status = match file_of(&rt, &command) {
+        Ok(file) => {
+            let mut input = Device::new(rt.stdin());
+            perform(
+                rt.alloc(),
+                &command,
+                &file,
+                &[],
+                &mut input,
+                &mut output,
+                &mut errors,
+            )
+        }
+        Err(error) if error.kind() == io::ErrorKind::OutOfMemory => {
+            report(&WordsFault::OutOfMemory, &mut output, &mut errors)
+        }
+        Err(_) => report_file(&mut errors),
     };
     ExitCode::from(status)
 }

@@ -4,3 +4,9 @@ pub mod Reading
 pub mod Codes
 pub mod Written
 pub mod Printed
+pub mod DeviceOutput
+pub mod Owed
+pub mod Answering
+pub mod Running
+pub mod Registries
+pub mod TagCommands

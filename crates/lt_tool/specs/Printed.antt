@@ -1,5 +1,5 @@
 -- What the program prints, and how it ends.
-use Rattle.std.specs.Prelude.{◌≡◌, ◌⊎◌, ℕ, List, [], ◌∷◌, ◌++◌, Option, codes, string_bytes}
+use Rattle.std.specs.Prelude.{◌≡◌, ◌⊎◌, ℕ, List, [], ◌∷◌, ◌++◌, ◌==◌, if◌then◌else◌, Option, Result, Ok, Err, codes, string_bytes}
 use Rattle.std.specs.Fmt.{decimal}
 use Rattle.std.specs.Io.KnownBytes.{Keeps}
 use Rattle.lt_tag.specs.Classes.{class_of}
@@ -11,7 +11,17 @@ use Rattle.lt_tag.specs.WellFormed.{spell}
 use Rattle.lt_tag.specs.declared.faults.TagFault.{TagFault}
 use Rattle.lt_tag.specs.declared.tags.Class.{Class}
 use Rattle.lt_tag.specs.declared.tags.Class.TheVariants as classes
-use Rattle.lt_tool.specs.Codes.{code_of}
+use Rattle.lt_jar.specs.Devices.{inner_of}
+use Rattle.lt_jar.specs.declared.devices.Device.{Device}
+use Rattle.lt_registry.specs.Parts.{EntryParts}
+use Rattle.lt_tool.specs.Codes.{code_of, fault_said}
+use Rattle.lt_tool.specs.Registries.{Checks, HoldsRegistry, RefusesRegistry}
+use Rattle.lt_tool.specs.Running.{RunsLines}
+use Rattle.lt_tool.specs.declared.faults.ToolFault.{ToolFault}
+use Rattle.lt_tool.specs.declared.runs.Counts.{Counts}
+use Rattle.lt_tool.specs.declared.lines.Answer.{Answer}
+use Rattle.lt_tag.specs.declared.faults.OutOfMemory.{OutOfMemory}
+use Rattle.lt_tool.specs.TagCommands.{ByRegistry, Compares, FormsExtlang}
 use Rattle.lt_tool.specs.Written.{LacksMemory, Prints, Says}
 use Rattle.lt_tool.specs.declared.status.Status.{Status}
 use Rattle.lt_tool.specs.declared.status.Status.TheVariants as status
@@ -38,17 +48,66 @@ fault_line f = codes "! " ++ name_of f.kind ++ 32 ∷ [] ++ decimal f.place ++ 1
 abbrev pub Classifies : List ℕ → List ℕ → Status → Type 0
 Classifies text line status.Done = (form : TagForm) × HasTag text form × (line ≡ class_line form)
 Classifies text line status.Refused = (f : TagFault) × HasFault text f.kind f.place × (line ≡ fault_line f)
+Classifies text line status.RegistryRefused = ⊥
 Classifies text line status.Usage = ⊥
 Classifies text line status.Failed = ⊥
 
--- what a command prints, and how it ends
-abbrev pub Answers : Command → List ℕ → Status → Type 0
-Answers (command.Classify tag) = Classifies (string_bytes tag)
+-- a run that prints a line of which this holds
+pub record PrintsAnswer (IsAnswer : List ℕ → Status → Type 0) (output output' errors errors' : Option (List ℕ)) (result : ℕ) : Type 0 where
+  pub line : List ℕ
+  pub end : Status
+  pub answers : IsAnswer line end
+  pub prints : Prints output output' errors errors' line end result
+
+-- such a run, or one that had no memory for its answer
+abbrev pub PrintsOrLacks : (List ℕ → Status → Type 0) → (output output' errors errors' : Option (List ℕ)) → ℕ → Type 0
+PrintsOrLacks IsAnswer output output' errors errors' result =
+    LacksMemory output output' errors errors' result ⊎ PrintsAnswer IsAnswer output output' errors errors' result
+
+-- the answer was printed, or there was no memory for it
+abbrev pub PrintsResult : (output output' errors errors' : Option (List ℕ)) → Result Answer OutOfMemory → ℕ → Type 0
+PrintsResult output output' errors errors' (Ok answer) result = Prints output output' errors errors' answer.line.items answer.status result
+PrintsResult output output' errors errors' (Err none) result = LacksMemory output output' errors errors' result
+
+-- how a run over lines ends: what ended it early is said on the errors
+abbrev pub EndsRun : Option (List ℕ) → Option (List ℕ) → Result Counts ToolFault → ℕ → Type 0
+EndsRun errors errors' (Ok counts) result =
+    Keeps errors errors' × (result ≡ code_of (if counts.refused == 0 then status.Done else status.Refused))
+EndsRun errors errors' (Err fault) result = Says errors errors' (fault_said fault) × (result ≡ code_of status.Failed)
+
+-- the line for a file that holds no registry that passes
+abbrev pub Refuses : List ℕ → List ℕ → Status → Type 0
+Refuses file line end = RefusesRegistry file line × (end ≡ status.RegistryRefused)
+
+-- the lines of the input were answered by the registry of the file
+pub record RunsCanon {I O : Type 0} (remaining : I → Option (List ℕ)) (contents : O → Option (List ℕ)) (file : List ℕ)
+    (input input' : Device I) (output output' : Device O) (errors errors' : Option (List ℕ)) (result : ℕ) : Type 0 where
+  pub entries : List EntryParts
+  pub registry : HoldsRegistry file entries
+  pub end : Result Counts ToolFault
+  pub runs : RunsLines entries remaining contents input input' output output' end
+  pub ends : EndsRun errors errors' end result
+
+-- what a run of `canon` wrote
+abbrev pub Canonicalises : {I O : Type 0} → (I → Option (List ℕ)) → (O → Option (List ℕ)) → List ℕ → (input input' : Device I) → (output output' : Device O)
+    → (errors errors' : Option (List ℕ)) → ℕ → Type 0
+Canonicalises remaining contents file input input' output output' errors errors' result =
+    PrintsOrLacks (Refuses file) (contents (inner_of output)) (contents (inner_of output')) errors errors' result
+    ⊎ RunsCanon remaining contents file input input' output output' errors errors' result
 
 -- what a run of a command wrote to its output and its errors, and its exit status
-abbrev pub Performs : Command → (output output' errors errors' : Option (List ℕ)) → ℕ → Type 0
-Performs command output output' errors errors' result = LacksMemory output output' errors errors' result
-    ⊎ ((line : List ℕ) × (end : Status) × Answers command line end × Prints output output' errors errors' line end result)
+abbrev pub Performs : {I O : Type 0} → (I → Option (List ℕ)) → (O → Option (List ℕ)) → Command → List ℕ → (input input' : Device I) → (output output' : Device O)
+    → (errors errors' : Option (List ℕ)) → ℕ → Type 0
+Performs remaining contents (command.Classify tag) file input input' output output' errors errors' result =
+    PrintsOrLacks (Classifies (string_bytes tag)) (contents (inner_of output)) (contents (inner_of output')) errors errors' result
+Performs remaining contents (command.Check name) file input input' output output' errors errors' result =
+    PrintsOrLacks (Checks file) (contents (inner_of output)) (contents (inner_of output')) errors errors' result
+Performs remaining contents (command.Canon name) file input input' output output' errors errors' result =
+    Canonicalises remaining contents file input input' output output' errors errors' result
+Performs remaining contents (command.Extlang name tag) file input input' output output' errors errors' result =
+    PrintsOrLacks (ByRegistry file (λ R. FormsExtlang R (string_bytes tag))) (contents (inner_of output)) (contents (inner_of output')) errors errors' result
+Performs remaining contents (command.Equal name tag other) file input input' output output' errors errors' result =
+    PrintsOrLacks (ByRegistry file (λ R. Compares R (string_bytes tag) (string_bytes other))) (contents (inner_of output)) (contents (inner_of output')) errors errors' result
 
 -- a run whose words are not those of a command says why on its errors
 pub record SaysUsage (output output' errors errors' : Option (List ℕ)) (text : List ℕ) (result : ℕ) : Type 0 where

@@ -1,5 +1,5 @@
 -- The command that the words of a command line name.
-use Rattle.std.specs.Prelude.{◌≡◌, ⊤, List, [], ◌∷◌, Option, Some, None, map, codes, string_bytes}
+use Rattle.std.specs.Prelude.{◌≡◌, ⊤, ℕ, List, [], ◌∷◌, Option, Some, None, map, codes, string_bytes}
 use Rattle.clap.specs.Words.{Row, Text, first_of, subcommand_of, fault_of, IsAmong}
 use Rattle.clap.specs.declared.error.kind.ErrorKind.{ErrorKind}
 use Rattle.clap.specs.declared.error.kind.ErrorKind.TheVariants as kind
@@ -19,6 +19,22 @@ pub record Gives (found : Option (Text × List Row)) (name : Text) (positionals 
 abbrev pub IsNamed : Option (Text × List Row) → Command → Type 0
 IsNamed found (command.Classify tag) =
     Gives found (codes "classify") (codes "TAG" ∷ []) (string_bytes tag ∷ [])
+IsNamed found (command.Check file) =
+    Gives found (codes "check") (codes "REGISTRY" ∷ []) (string_bytes file ∷ [])
+IsNamed found (command.Canon file) =
+    Gives found (codes "canon") (codes "REGISTRY" ∷ []) (string_bytes file ∷ [])
+IsNamed found (command.Extlang file tag) =
+    Gives found (codes "extlang") (codes "REGISTRY" ∷ codes "TAG" ∷ []) (string_bytes file ∷ string_bytes tag ∷ [])
+IsNamed found (command.Equal file tag other) =
+    Gives found (codes "equal") (codes "REGISTRY" ∷ codes "TAG" ∷ codes "OTHER" ∷ []) (string_bytes file ∷ string_bytes tag ∷ string_bytes other ∷ [])
+
+-- the file that the command names first
+abbrev pub first_file_of : Command → Option (List ℕ)
+first_file_of (command.Classify tag) = None
+first_file_of (command.Check file) = Some (string_bytes file)
+first_file_of (command.Canon file) = Some (string_bytes file)
+first_file_of (command.Extlang file tag) = Some (string_bytes file)
+first_file_of (command.Equal file tag other) = Some (string_bytes file)
 
 -- the words name this command, by `clap`'s definition of the matches of a simple command
 abbrev pub Names : List Text → Command → Type 0

@@ -26,6 +26,9 @@ pub record Says (before after : Option (List ℕ)) (text : List ℕ) : Type 0 wh
 abbrev pub write_line : List ℕ
 write_line = codes "! Write" ++ 10 ∷ []
 
+abbrev pub file_line : List ℕ
+file_line = codes "! File" ++ 10 ∷ []
+
 abbrev pub memory_line : List ℕ
 memory_line = codes "! OutOfMemory" ++ 10 ∷ []
 

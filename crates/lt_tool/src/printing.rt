@@ -1,13 +1,19 @@
 //! What a run of the program writes.
 ghost use Rattle.std.specs.Prelude.{◌≡◌};
 ghost use Rattle.lt_tool.specs.Codes.{code_of};
-ghost use Rattle.lt_tool.specs.Written.{Prints, Says, WritesOut, memory_line};
-ghost use Rattle.lt_tool.specs.Printed.{Performs, Reports};
+ghost use Rattle.lt_tool.specs.Written.{Prints, Says, WritesOut, file_line, memory_line};
+ghost use Rattle.lt_tool.specs.Printed.{Canonicalises, EndsRun, Performs, PrintsResult, Reports};
 ghost use Rattle.lt_tool.specs.declared.status.Status.TheVariants.{Failed};
 
-use crate::lines::classify;
+use crate::faults::ToolFault;
+use crate::lines::{Answer, classify};
+use crate::registries::{check, read_registry, refuse};
+use crate::runs::{Counts, run_lines};
 use crate::status::Status;
+use crate::tag_commands::{equal, extlang};
 use crate::words::{Command, WordsFault};
+use lt_jar::Device;
+use lt_tag::OutOfMemory;
 use std::alloc::Global;
 use std::io::{Read, Write};
 
@@ -54,31 +60,106 @@ fn report_memory<E: Write>(errors: &mut E) -> Status
     Status::Failed
 }
 
+/// Says how a run over lines ended.
+fn end_run<E: Write>(end: Result<Counts, ToolFault>, errors: &mut E) -> Status
+    ensures { EndsRun (E.contents errors.old) (E.contents errors.new) end (code_of result) }
+{
+    match end {
+        Ok(counts) if counts.refused == 0 => Status::Done,
+        Ok(_) => Status::Refused,
+        Err(fault) => {
+            say(fault.line().as_bytes(), errors);
+            Status::Failed
+        }
+    }
+}
+
+/// Prints an answer, or says that no memory was left.
+fn print_answer<O: Write, E: Write>(
+    answer: Result<Answer, OutOfMemory>,
+    output: &mut O,
+    errors: &mut E,
+) -> Status
+    ensures { PrintsResult (O.contents output.old) (O.contents output.new) (E.contents errors.old) (E.contents errors.new)
+        answer (code_of result) }
+{
+    match answer {
+        Ok(answer) => print(&answer.line, answer.status, output, errors),
+        Err(_) => report_memory(errors),
+    }
+}
+
+/// Answers the lines of the input by the registry of a file.
+fn canon<I: Read, O: Write, E: Write>(
+    alloc: Global,
+    file: &[u8],
+    input: &mut Device<I>,
+    output: &mut Device<O>,
+    errors: &mut E,
+) -> Status
+    ensures { Canonicalises I.remaining O.contents file.now input.old input.new output.old output.new
+        (E.contents errors.old) (E.contents errors.new) (code_of result) }
+{
+    match read_registry(alloc, file) {
+        Ok(checked) => end_run(run_lines(alloc, &checked, input, output), errors),
+        Err(refusal) => print_answer(refuse(alloc, &refusal), output, errors),
+    }
+}
+
+/// Does what a command asks for, and tells how the run ended.
+fn run<I: Read, O: Write, E: Write>(
+    alloc: Global,
+    command: &Command,
+    first: &[u8],
+    input: &mut Device<I>,
+    output: &mut Device<O>,
+    errors: &mut E,
+) -> Status
+    ensures { Performs I.remaining O.contents command.now first.now input.old input.new output.old output.new
+        (E.contents errors.old) (E.contents errors.new) (code_of result) }
+{
+    match command {
+        Command::Classify(tag) => print_answer(classify(alloc, tag.as_bytes()), output, errors),
+        Command::Check(_) => print_answer(check(alloc, first), output, errors),
+        Command::Canon(_) => canon(alloc, first, input, output, errors),
+        Command::Extlang(_, tag) => {
+            print_answer(extlang(alloc, first, tag.as_bytes()), output, errors)
+        }
+        Command::Equal(_, tag, other) => {
+            let answer = equal(alloc, first, tag.as_bytes(), other.as_bytes());
+            print_answer(answer, output, errors)
+        }
+    }
+}
+
 /// Does what a command asks for, and answers the exit status.
 ///
 /// `first` and `second` are the bytes of the files that the command names, in order, and empty where it names
-/// none. The answer is written to `output` at once. A write to `output` that fails, and want of memory, are named
-/// on `errors`; a write there that fails is ignored.
+/// none. The answer is written to `output` at once; `canon` answers the lines of `input` as they come. A write to
+/// `output` that fails, a read of `input` that fails, and want of memory are named on `errors`; a write there that
+/// fails is ignored.
 pub fn perform<I: Read, O: Write, E: Write>(
     alloc: Global,
     command: &Command,
-    _first: &[u8],
+    first: &[u8],
     _second: &[u8],
-    _input: &mut I,
-    output: &mut O,
+    input: &mut Device<I>,
+    output: &mut Device<O>,
     errors: &mut E,
 ) -> u8
-    ensures { Performs command.now (O.contents output.old) (O.contents output.new) (E.contents errors.old)
-        (E.contents errors.new) result }
+    ensures { Performs I.remaining O.contents command.now first.now input.old input.new output.old output.new
+        (E.contents errors.old) (E.contents errors.new) result }
 {
-    let answer = match command {
-        Command::Classify(tag) => classify(alloc, tag.as_bytes()),
-    };
-    let status = match answer {
-        Ok(answer) => print(&answer.line, answer.status, output, errors),
-        Err(_) => report_memory(errors),
-    };
-    status.code()
+    run(alloc, command, first, input, output, errors).code()
+}
+
+/// Says that a file can't be read, and answers the exit status.
+pub fn report_file<E: Write>(errors: &mut E) -> u8
+    ensures status { result ≡ code_of Failed }
+    ensures said { Says (E.contents errors.old) (E.contents errors.new) file_line }
+{
+    say(b"! File\n", errors);
+    Status::Failed.code()
 }
 
 /// Says why the words are no command, and answers the exit status.

@@ -9,6 +9,8 @@ pub enum Status {
     Done = 0,
     /// A tag was refused.
     Refused = 1,
+    /// A registry was refused.
+    RegistryRefused = 2,
     /// The words name no command.
     Usage = 3,
     /// A write failed, or no memory was left.

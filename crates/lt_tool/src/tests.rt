@@ -1,11 +1,19 @@
 //! The words of the command line, and what a run prints.
+mod registries;
+mod sample;
+mod tags;
+
 use crate::{Command, Status, WordsFault, perform, read_words, report};
+use lt_jar::Device;
 use std::alloc::{AllocError, Global};
 use std::io::{self, ErrorKind, Write};
 use std::test::Fail;
 
 /// What `read_words` answers to the words after the program's name.
-fn read(alloc: Global, words: &[&str]) -> Result<Result<Command, WordsFault>, AllocError> {
+pub(crate) fn read(
+    alloc: Global,
+    words: &[&str],
+) -> Result<Result<Command, WordsFault>, AllocError> {
     let mut all = Vec::new(alloc);
     all.push(String::from_str(alloc, "langtag")?)?;
     for word in words {
@@ -25,7 +33,7 @@ fn words_that_name_a_command(rt: HostRuntime) -> Result<(), Fail> {
     for (words, text) in rows {
         match read(rt.alloc(), words)? {
             Ok(Command::Classify(tag)) => assert_eq!(rt; tag.as_str(), text),
-            Err(fault) => panic!(rt; "{fault:?} at {words:?}"),
+            other => panic!(rt; "{other:?} at {words:?}"),
         }
     }
     Ok(())
@@ -83,8 +91,8 @@ fn printed(alloc: Global, command: &Command) -> Result<(String, u8), Fail> {
         command,
         &[],
         &[],
-        &mut io::empty(),
-        &mut output,
+        &mut Device::new(io::empty()),
+        &mut Device::new(&mut output),
         &mut errors,
     );
     output.extend_from_slice(&errors)?;
@@ -194,14 +202,14 @@ fn writes_that_fail(rt: HostRuntime) -> Result<(), Fail> {
     for fails in [true, false] {
         for text in ["en", "en-a"] {
             let command = classify(alloc, text)?;
-            let mut output = Broken { fails };
+            let mut output = Device::new(Broken { fails });
             let mut errors = Vec::new(alloc);
             let status = perform(
                 alloc,
                 &command,
                 &[],
                 &[],
-                &mut io::empty(),
+                &mut Device::new(io::empty()),
                 &mut output,
                 &mut errors,
             );
@@ -213,7 +221,7 @@ fn writes_that_fail(rt: HostRuntime) -> Result<(), Fail> {
                 &command,
                 &[],
                 &[],
-                &mut io::empty(),
+                &mut Device::new(io::empty()),
                 &mut output,
                 &mut errors,
             );

@@ -1,7 +1,8 @@
 //! The words of the command line.
 ghost use Rattle.std.specs.Prelude.{◌≡◌, false, IfOk, IfErr, map, Some, string_bytes};
 ghost use Rattle.lt_tool.specs.CommandLine.{langtag, subcommand};
-ghost use Rattle.lt_tool.specs.Reading.{Reads, IsRefused, IsNamed, NamesNone, IsAbsent, IsFaultOf};
+ghost use Rattle.std.specs.Option.{option_map};
+ghost use Rattle.lt_tool.specs.Reading.{first_file_of, Reads, IsRefused, IsNamed, NamesNone, IsAbsent, IsFaultOf};
 ghost use Rattle.lt_tool.specs.declared.words.WordsFault.TheVariants.{OutOfMemory};
 ghost use Rattle.clap.specs.declared.builder.command.Command.TheViews.{out-Command as fields_of};
 ghost use Rattle.clap.specs.Words.{app_of, first_of, found_of, rows_of, subcommand_rows_of};
@@ -16,6 +17,27 @@ use std::alloc::{AllocError, Global};
 pub enum Command {
     /// The class of this tag, and the tag in conventional case.
     Classify(String),
+    /// Whether the registry of this file passes the check.
+    Check(String),
+    /// The canonical form of each line of the input, by the registry of this file.
+    Canon(String),
+    /// The extlang form of this tag, by the registry of this file, which comes first.
+    Extlang(String, String),
+    /// Whether these two tags are equivalent, by the registry of this file, which comes first.
+    Equal(String, String, String),
+}
+
+impl Command {
+    /// The file that the command names first, if it names one.
+    pub fn first_file(&self) -> Option<&str>
+        ensures { option_map (λ file. file.now) result ≡ first_file_of self.now }
+    {
+        match self {
+            Command::Classify(_) => None,
+            Command::Check(file) | Command::Canon(file) => Some(file.as_str()),
+            Command::Extlang(file, _) | Command::Equal(file, _, _) => Some(file.as_str()),
+        }
+    }
 }
 
 /// Why the words ask for nothing.
@@ -48,6 +70,16 @@ static TAG: Positional = Positional {
     help: "A BCP 47 language tag",
 };
 
+static OTHER: Positional = Positional {
+    name: "OTHER",
+    help: "Another BCP 47 language tag",
+};
+
+static REGISTRY: Positional = Positional {
+    name: "REGISTRY",
+    help: "A file in the format of the IANA Language Subtag Registry",
+};
+
 /// A subcommand with these required positionals.
 fn new_subcommand<'a>(
     alloc: Global,
@@ -75,10 +107,22 @@ fn new_langtag<'a>(alloc: Global) -> Result<clap::Command<'a>, AllocError>
 {
     let about = "Prints the class of a tag and the tag in conventional case";
     let classify = new_subcommand(alloc, "classify", about, &[&TAG])?;
+    let about = "Checks a registry, and prints the number of its entries";
+    let check = new_subcommand(alloc, "check", about, &[&REGISTRY])?;
+    let about = "Prints the canonical form of each line of the standard input";
+    let canon = new_subcommand(alloc, "canon", about, &[&REGISTRY])?;
+    let about = "Prints the extlang form of a tag";
+    let extlang = new_subcommand(alloc, "extlang", about, &[&REGISTRY, &TAG])?;
+    let about = "Tells whether two tags are equivalent";
+    let equal = new_subcommand(alloc, "equal", about, &[&REGISTRY, &TAG, &OTHER])?;
     clap::Command::new(alloc, "langtag")
         .about("BCP 47 language tags (RFC 5646)")
         .subcommand_required(true)
-        .subcommand(classify)
+        .subcommand(classify)?
+        .subcommand(check)?
+        .subcommand(canon)?
+        .subcommand(extlang)?
+        .subcommand(equal)
 }
 
 /// The value of a positional.
@@ -107,6 +151,17 @@ fn command_of(alloc: Global, matches: &ArgMatches<'_>) -> Result<Command, WordsF
     };
     match name {
         "classify" => Ok(Command::Classify(value_of(alloc, values, &TAG)?)),
+        "check" => Ok(Command::Check(value_of(alloc, values, &REGISTRY)?)),
+        "canon" => Ok(Command::Canon(value_of(alloc, values, &REGISTRY)?)),
+        "extlang" => Ok(Command::Extlang(
+            value_of(alloc, values, &REGISTRY)?,
+            value_of(alloc, values, &TAG)?,
+        )),
+        "equal" => Ok(Command::Equal(
+            value_of(alloc, values, &REGISTRY)?,
+            value_of(alloc, values, &TAG)?,
+            value_of(alloc, values, &OTHER)?,
+        )),
         _ => Err(WordsFault::Usage(format!(in alloc; "error: no subcommand {name}\n")?)),
     }
 }

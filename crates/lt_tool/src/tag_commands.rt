@@ -1,0 +1,121 @@
+//! What is answered to one or two tags by the registry of a file.
+ghost use Rattle.std.specs.Prelude.{◌≡◌, IfOk, IfErr};
+ghost use Rattle.lt_canon.specs.Texts.{IsTextRefusal};
+ghost use Rattle.lt_tool.specs.Owed.{IsRefusalLine};
+ghost use Rattle.lt_tool.specs.TagCommands.{ByRegistry, Compares, FormsExtlang, IsEqualityOf, IsExtlangTextOf, IsPairRefusal};
+ghost use Rattle.lt_tool.specs.declared.status.Status.TheVariants.{Refused};
+
+use crate::answer_lines::append_refusal;
+use crate::lines::Answer;
+use crate::registries::{read_registry, refuse};
+use crate::status::Status;
+use lt_canon::{Checked, TextRefusal, equivalent, extlang_form};
+use lt_registry::Lookup;
+use lt_tag::{OutOfMemory, read_tag, write_tag};
+use std::alloc::Global;
+
+/// What is answered where a text is refused.
+fn answer_refusal(alloc: Global, refusal: &TextRefusal) -> Result<Answer, OutOfMemory>
+    ensures line { IfOk result (λ answer. IsRefusalLine refusal.now answer.line.items) }
+    ensures status { IfOk result (λ answer. answer.status ≡ Refused) }
+{
+    let mut line = Vec::new(alloc);
+    append_refusal(&mut line, alloc, refusal)?;
+    Ok(Answer {
+        line,
+        status: Status::Refused,
+    })
+}
+
+/// The text of the extlang form of the tag that a text is read as.
+fn extlang_text<L: Lookup>(
+    alloc: Global,
+    checked: &Checked<L>,
+    text: &[u8],
+) -> Result<Vec<u8>, TextRefusal>
+    ensures written { IfOk result (λ extlang. IsExtlangTextOf (L.listed checked.now) text.now extlang.items) }
+    ensures refusal { IfErr result (λ refusal. IsTextRefusal (L.listed checked.now) text.now refusal) }
+{
+    let tag = read_tag(alloc, text)?;
+    let form = extlang_form(alloc, checked, &tag)?;
+    Ok(write_tag(alloc, &form)?)
+}
+
+/// Whether the tags that two texts are read as are equivalent.
+fn equality<L: Lookup>(
+    alloc: Global,
+    checked: &Checked<L>,
+    first: &[u8],
+    second: &[u8],
+) -> Result<bool, TextRefusal>
+    ensures answer { IfOk result (IsEqualityOf (L.listed checked.now) first.now second.now) }
+    ensures refusal { IfErr result (λ refusal. IsPairRefusal (L.listed checked.now) first.now second.now refusal) }
+{
+    let tag = read_tag(alloc, first)?;
+    let other = read_tag(alloc, second)?;
+    Ok(equivalent(alloc, checked, &tag, &other)?)
+}
+
+/// What `extlang` answers to a text by a registry.
+fn answer_extlang<L: Lookup>(
+    alloc: Global,
+    checked: &Checked<L>,
+    text: &[u8],
+) -> Result<Answer, OutOfMemory>
+    ensures { IfOk result (λ answer. FormsExtlang (L.listed checked.now) text.now answer.line.items answer.status) }
+{
+    match extlang_text(alloc, checked, text) {
+        Ok(mut line) => {
+            line.push(b'\n')?;
+            Ok(Answer {
+                line,
+                status: Status::Done,
+            })
+        }
+        Err(refusal) => answer_refusal(alloc, &refusal),
+    }
+}
+
+/// What `equal` answers to two texts by a registry.
+fn answer_equal<L: Lookup>(
+    alloc: Global,
+    checked: &Checked<L>,
+    first: &[u8],
+    second: &[u8],
+) -> Result<Answer, OutOfMemory>
+    ensures { IfOk result (λ answer. Compares (L.listed checked.now) first.now second.now answer.line.items answer.status) }
+{
+    let (word, status) = match equality(alloc, checked, first, second) {
+        Ok(true) => (b"equal\n".as_slice(), Status::Done),
+        Ok(false) => (b"different\n".as_slice(), Status::Refused),
+        Err(refusal) => return answer_refusal(alloc, &refusal),
+    };
+    let mut line = Vec::new(alloc);
+    line.extend_from_slice(word)?;
+    Ok(Answer { line, status })
+}
+
+/// What `extlang` answers to a file and a text.
+pub(crate) fn extlang(alloc: Global, file: &[u8], text: &[u8]) -> Result<Answer, OutOfMemory>
+    ensures { IfOk result (λ answer. ByRegistry file.now (λ R. FormsExtlang R text.now) answer.line.items answer.status) }
+{
+    match read_registry(alloc, file) {
+        Ok(checked) => answer_extlang(alloc, &checked, text),
+        Err(refusal) => refuse(alloc, &refusal),
+    }
+}
+
+/// What `equal` answers to a file and two texts.
+pub(crate) fn equal(
+    alloc: Global,
+    file: &[u8],
+    first: &[u8],
+    second: &[u8],
+) -> Result<Answer, OutOfMemory>
+    ensures { IfOk result (λ answer. ByRegistry file.now (λ R. Compares R first.now second.now) answer.line.items answer.status) }
+{
+    match read_registry(alloc, file) {
+        Ok(checked) => answer_equal(alloc, &checked, first, second),
+        Err(refusal) => refuse(alloc, &refusal),
+    }
+}
