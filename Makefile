@@ -2,7 +2,7 @@
 
 PREFIX ?= /usr/local
 
-.PHONY: all test install clean
+.PHONY: all test bench install clean
 
 # Proves each crate that changed, and builds the program: `rt run` proves, builds and runs it.
 all:
@@ -14,9 +14,15 @@ all:
 test:
 	rt ci
 
+# Measures the program that `make` built, over a registry of IANA's size; it takes some seconds.
+bench:
+	bench/run.sh
+
 install: all
 	install -d $(DESTDIR)$(PREFIX)/bin
 	install -m 755 build/langtag $(DESTDIR)$(PREFIX)/bin/langtag
+	install -d $(DESTDIR)$(PREFIX)/share/man/man1
+	install -m 644 docs/langtag.1 $(DESTDIR)$(PREFIX)/share/man/man1/langtag.1
 
 clean:
 	rm -rf build crates/*/out
