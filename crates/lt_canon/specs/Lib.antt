@@ -14,3 +14,4 @@ pub mod RecordChecks
 pub mod NameChecks
 pub mod Checking
 pub mod Traces
+pub mod Explaining

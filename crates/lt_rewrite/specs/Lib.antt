@@ -15,3 +15,4 @@ pub mod ExtensionsSettling
 pub mod Applying
 pub mod Cycles
 pub mod ApplyFaults
+pub mod Runs

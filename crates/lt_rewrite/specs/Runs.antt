@@ -1,0 +1,127 @@
+-- Runs of steps, of which each is the first that leads on, by the order of their kinds and by their places.
+use Rattle.std.specs.Prelude.{ℕ, ◌≡◌, ◌+◌, ◌<◌, ◌≤◌, ◌⊎◌, nat_le, if◌then◌else◌, List, [], ◌∷◌, ◌++◌, length, slice_index_or}
+use Rattle.std.proofs.Common.{Ordering, Less}
+use Rattle.lt_tag.specs.Parts.{CoreParts, ExtensionParts, KeywordParts, UForm, TForm}
+use Rattle.lt_registry.specs.Parts.{EntryParts}
+use Rattle.lt_rewrite.specs.Applying.{CoreLeads, HasLike, SwapLeads, DropLeads, TrueLeads, UnicodeLeads, TransformLeads, ExtensionsLeads}
+use Rattle.lt_rewrite.specs.declared.steps.Step.{Step}
+use Rattle.lt_rewrite.specs.declared.steps.StepKind.{StepKind}
+use Rattle.lt_rewrite.specs.declared.steps.StepKind.TheVariants as steps
+
+-- the kinds in their order; six numbers are left for the steps on a core, where it is a source
+abbrev pub rank_of : StepKind → ℕ
+rank_of steps.Extlang = 1
+rank_of steps.Language = 2
+rank_of steps.Script = 3
+rank_of steps.Region = 4
+rank_of steps.Variant = 5
+rank_of steps.VariantLanguage = 6
+rank_of steps.Whole = 7
+rank_of steps.SwapExtensions = 8
+rank_of steps.DropAttribute = 9
+rank_of steps.SwapAttributes = 10
+rank_of steps.DropKeyword = 11
+rank_of steps.SwapKeywords = 12
+rank_of steps.DropTrue = 13
+rank_of steps.SwapFields = 20
+
+abbrev pub kind_rank : Step → ℕ
+kind_rank step = rank_of step.kind
+
+-- among extensions, where each step on a core is one on a source, behind DropTrue and before SwapFields
+abbrev pub extension_rank : Step → ℕ
+extension_rank step = if nat_le (kind_rank step) 6 then kind_rank step + 13 else kind_rank step
+
+-- a step comes no later than another: its rank is lower, or they are of one rank and it stands no further right
+abbrev pub IsNoLater : (Step → ℕ) → Step → Step → Type 0
+IsNoLater rank a b = (rank a < rank b) ⊎ ((rank a ≡ rank b) × (a.place ≤ b.place))
+
+-- of the steps that lead on, the first
+pub record IsFirst {A : Type 0} (Leads : Step → A → Type 0) (rank : Step → ℕ) (step : Step) (to : A) : Type 0 where
+  pub leads : Leads step to
+  pub first : (other : Step) (b : A) → Leads other b → IsNoLater rank step other
+
+-- steps one after another, each the first that leads on
+abbrev pub IsRun : {A : Type 0} → (A → Step → A → Type 0) → (A → Step → ℕ) → A → List Step → A → Type 0
+IsRun Leads rank a [] b = a ≡ b
+IsRun {A} Leads rank a (step ∷ steps) b = (c : A) × IsFirst (Leads a) (rank a) step c × IsRun Leads rank c steps b
+
+-- no step leads on
+abbrev pub NoneLeads : {A : Type 0} → (Step → A → Type 0) → Type 0
+NoneLeads {A} Leads = (step : Step) (a : A) → Leads step a → ⊥
+
+-- no step of a rank leads on
+abbrev pub NoneOfRank : {A : Type 0} → (Step → A → Type 0) → (Step → ℕ) → ℕ → Type 0
+NoneOfRank {A} Leads rank n = (step : Step) (a : A) → Leads step a → rank step ≡ n → ⊥
+
+-- of the steps of a rank that lead on, the leftmost
+pub record IsLeftmost {A : Type 0} (Leads : Step → A → Type 0) (rank : Step → ℕ) (n : ℕ) (step : Step) : Type 0 where
+  pub of_rank : rank step ≡ n
+  pub to : A
+  pub leads : Leads step to
+  pub leftmost : (other : Step) (b : A) → Leads other b → rank other ≡ n → step.place ≤ other.place
+
+-- a run is added to steps
+pub record Adds {A : Type 0} (Leads : A → Step → A → Type 0) (rank : A → Step → ℕ) (a b : A) (old new : List Step) : Type 0 where
+  pub run : List Step
+  pub added : new ≡ old ++ run
+  pub is_run : IsRun Leads rank a run b
+
+-- on a core that begins after so many subtags
+abbrev pub IsLeftmostOnCore : List EntryParts → ℕ → CoreParts → ℕ → Step → Type 0
+IsLeftmostOnCore R start c n step = IsLeftmost (CoreLeads R start c) kind_rank n step
+
+abbrev pub NoneOnCore : List EntryParts → ℕ → CoreParts → ℕ → Type 0
+NoneOnCore R start c n = NoneOfRank (CoreLeads R start c) kind_rank n
+
+pub record IsFirstOnCore (R : List EntryParts) (start : ℕ) (c : CoreParts) (step : Step) : Type 0 where
+  pub to : CoreParts
+  pub is_first : IsFirst (CoreLeads R start c) kind_rank step to
+
+abbrev pub AddsOnCore : List EntryParts → ℕ → CoreParts → CoreParts → List Step → List Step → Type 0
+AddsOnCore R start c d old new = Adds (CoreLeads R start) (λ _ step. kind_rank step) c d old new
+
+-- two neighbours of a list that begins after so many subtags change places, by a step of a kind
+pub record SwapsBy {A : Type 0} (cmp : A → A → Ordering) (spell : A → List (List ℕ)) (kind : StepKind) (start : ℕ) (xs : List A) (step : Step) (ys : List A) : Type 0 where
+  pub of_kind : step.kind ≡ kind
+  pub unnumbered : step.number ≡ 0
+  pub leads : SwapLeads cmp spell start step.place xs ys
+
+-- a part of the list goes, by a step of a kind
+pub record DropsBy {A : Type 0} (cmp : A → A → Ordering) (spell : A → List (List ℕ)) (kind : StepKind) (start : ℕ) (xs : List A) (step : Step) (ys : List A) : Type 0 where
+  pub of_kind : step.kind ≡ kind
+  pub unnumbered : step.number ≡ 0
+  pub leads : DropLeads cmp spell start step.place xs ys
+
+-- the part at an index and the next are in falling order
+abbrev pub FallsAt : {A : Type 0} → (A → A → Ordering) → List A → ℕ → Type 0
+FallsAt {A} cmp xs index = (default : A) → cmp (slice_index_or xs (index + 1) default) (slice_index_or xs index default) ≡ Less
+
+-- the leftmost such index
+pub record IsFirstFall {A : Type 0} (cmp : A → A → Ordering) (xs : List A) (index : ℕ) : Type 0 where
+  pub within : index + 1 < length xs
+  pub falls : FallsAt cmp xs index
+  pub leftmost : (other : ℕ) → other < index → FallsAt cmp xs other → ⊥
+
+-- the leftmost index of a part whose like stands before it
+pub record IsFirstRepeat {A : Type 0} (cmp : A → A → Ordering) (xs : List A) (index : ℕ) : Type 0 where
+  pub within : index < length xs
+  pub repeats : HasLike cmp xs index
+  pub leftmost : (other : ℕ) → other < index → HasLike cmp xs other → ⊥
+
+-- a keyword loses its sole type, by a step
+pub record DropsTrueBy (start : ℕ) (ks : List KeywordParts) (step : Step) (ls : List KeywordParts) : Type 0 where
+  pub of_kind : step.kind ≡ steps.DropTrue
+  pub unnumbered : step.number ≡ 0
+  pub leads : TrueLeads start step.place ks ls
+
+-- on the parts of a u extension and of a t extension whose singleton stands at a place
+abbrev pub AddsOnUnicode : ℕ → UForm → UForm → List Step → List Step → Type 0
+AddsOnUnicode start p q old new = Adds (UnicodeLeads start) (λ _ step. kind_rank step) p q old new
+
+abbrev pub AddsOnTransform : List EntryParts → ℕ → TForm → TForm → List Step → List Step → Type 0
+AddsOnTransform R start p q old new = Adds (TransformLeads R start) (λ _ step. kind_rank step) p q old new
+
+-- on extensions that begin after so many subtags
+abbrev pub AddsOnExtensions : List EntryParts → ℕ → List ExtensionParts → List ExtensionParts → List Step → List Step → Type 0
+AddsOnExtensions R start es fs old new = Adds (ExtensionsLeads R start) (λ _ step. extension_rank step) es fs old new
