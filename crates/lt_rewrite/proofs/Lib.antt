@@ -43,3 +43,4 @@ pub mod UnicodeLeading
 pub mod TransformLeading
 pub mod ExtensionLeading
 pub mod TagLeading
+pub mod FirstSteps
