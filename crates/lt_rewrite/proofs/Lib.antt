@@ -44,3 +44,5 @@ pub mod TransformLeading
 pub mod ExtensionLeading
 pub mod TagLeading
 pub mod FirstSteps
+pub mod Inversions
+pub mod FirstParts
