@@ -46,3 +46,5 @@ pub mod TagLeading
 pub mod FirstSteps
 pub mod ExtensionRuns
 pub mod ExtensionsExplained
+pub mod Inversions
+pub mod FirstParts
