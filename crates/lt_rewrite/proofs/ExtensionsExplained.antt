@@ -1,5 +1,5 @@
 -- The steps on extensions, phase by phase: exchanges, those in u, those in t.
-use Rattle.std.proofs.Common.{◌≡◌, ◌≢◌, ℕ, zero, suc, ◌+◌, ◌<◌, ◌≤◌, ◌⊎◌, inl, inr, Bool, true, false, List, [], ◌∷◌, ◌++◌, Option, Some, None, refl, sym, ap, ◌∙◌, subst, length, get_or, set, take, drop, map, flat_map, length-append, arith}
+use Rattle.std.proofs.Common.{◌≡◌, ◌≢◌, ℕ, zero, suc, ◌+◌, ◌<◌, ◌≤◌, inl, inr, false, List, [], ◌∷◌, ◌++◌, Option, Some, None, refl, sym, ap, ◌∙◌, subst, length, get_or, set, take, drop, map, length-append, arith}
 use Rattle.std.specs.List.{AllByRecursion}
 use Rattle.std.proofs.lemmas.List.{set_split}
 use Rattle.std.proofs.Math.Seq.{map-set_same}
@@ -10,13 +10,13 @@ use Rattle.lt_tag.specs.Values.{most_parts}
 use Rattle.lt_registry.specs.Parts.{EntryParts}
 use Rattle.lt_registry.specs.Validity.{Distinct}
 use Rattle.lt_rewrite.specs.Rewriting.{Star, Rests, IsNormalForm}
-use Rattle.lt_rewrite.specs.Orderings.{ListStep, SwapsAt, by_swap, by_drop}
+use Rattle.lt_rewrite.specs.Orderings.{ListStep, by_swap, by_drop}
 use Rattle.lt_rewrite.specs.Extensions.{singleton_cmp, UnicodeStep, TransformStep, ExtensionStep, ExtensionsStep, inside, among}
 use Rattle.lt_rewrite.specs.Conditions.{IsRegistry}
 use Rattle.lt_rewrite.specs.Labels.{list_label, unicode_label, transform_label, extension_label, extensions_label}
-use Rattle.lt_rewrite.specs.Applying.{SwapLeads, UnicodeLeads, TransformLeads, ExtensionLeads, ExtensionsLeads}
-use Rattle.lt_rewrite.specs.Runs.{kind_rank, extension_rank, rank_of, IsNoLater, IsFirst, IsRun, NoneLeads, Adds, SwapsBy, AddsOnUnicode, AddsOnTransform, AddsOnExtensions}
-use Rattle.lt_rewrite.specs.ExtensionsSettling.{SettlesAt, Settles, placed}
+use Rattle.lt_rewrite.specs.Applying.{UnicodeLeads, TransformLeads, ExtensionLeads, ExtensionsLeads}
+use Rattle.lt_rewrite.specs.Runs.{kind_rank, extension_rank, IsNoLater, IsFirst, IsRun, NoneLeads, Adds, SwapsBy, AddsOnUnicode, AddsOnTransform, AddsOnExtensions}
+use Rattle.lt_rewrite.specs.ExtensionsSettling.{Settles, placed}
 use Rattle.lt_rewrite.specs.ExtensionsExplaining.{ExplainsAt, Explains}
 use Rattle.lt_rewrite.specs.declared.steps.Step.{Step}
 use Rattle.lt_rewrite.specs.declared.steps.StepKind.TheVariants as steps
@@ -26,9 +26,8 @@ use Rattle.lt_rewrite.proofs.PartLists.{all_swapped, all_step, all_mapped, all_u
 use Rattle.lt_rewrite.proofs.CoreSettled.{round}
 use Rattle.lt_rewrite.proofs.CoreLeading.{kind_of, place_of, number_at}
 use Rattle.lt_rewrite.proofs.UnicodeLeading.{from_swap}
-use Rattle.lt_rewrite.proofs.UnicodeForms.{u_shaped, u_step_length}
-use Rattle.lt_rewrite.proofs.TransformForms.{t_shaped, t_step_length}
-use Rattle.lt_rewrite.proofs.Proper.{step_shaped}
+use Rattle.lt_rewrite.proofs.UnicodeForms.{u_step_length}
+use Rattle.lt_rewrite.proofs.TransformForms.{t_step_length}
 use Rattle.lt_rewrite.proofs.ExtensionShapes.{extension_step_length}
 use Rattle.lt_rewrite.proofs.ExtensionsSettled.{unicode_settled, transform_settled, FoundAt, keeps_singleton, placed_reached, placed_distinct, placed_rests, placed_keeps, each_rests}
 use Rattle.lt_rewrite.proofs.ExtensionRuns.{run_star, of_u, of_t, first_in_u, first_in_t, inside_rank, singleton_of, ordered_same, IsBehind, Leading, adds_among, u_most, t_most, behind_u, behind_t}
@@ -251,7 +250,18 @@ t_placed R start es o old new k r u h = record {
     none gs (among t) = ordered_same es (placed o es) (placed_singletons R transform es o s) r gs t
 
 -- one phase after another
-pub phases : (R : List EntryParts) (start : ℕ) (a b c d : List ExtensionParts) (k l m n : List Step) → AddsOnExtensions R start a b k l → AddsOnExtensions R start b c l m → AddsOnExtensions R start c d m n → AddsOnExtensions R start a d k n
-phases R start a b c d k l m n x y z =
-    let rank : List ExtensionParts → Step → ℕ = λ _ step. extension_rank step in
-    adds_all (ExtensionsLeads R start) rank a c d k m n (adds_all (ExtensionsLeads R start) rank a b c k l m x y) z
+
+joined : (R : List EntryParts) (start : ℕ) (a b c : List ExtensionParts) (k l m : List Step) → AddsOnExtensions R start a b k l → AddsOnExtensions R start b c l m → AddsOnExtensions R start a c k m
+joined R start a b c k l m x y = adds_all (ExtensionsLeads R start) (λ _ step. extension_rank step) a b c k l m x y
+
+pub after_u : (R : List EntryParts) (start : ℕ) (es fs gs hs : List ExtensionParts) (o : Option (ℕ × ExtensionParts)) (old new newer : List Step) → Swapped R start es fs old new → gs ≡ fs → Explains R unicode start gs o new newer → hs ≡ placed o fs → UPlaced R start es hs old newer
+after_u R start es fs gs hs o old new newer s same h is =
+    let p : UPlaced R start fs (placed o fs) new newer = u_placed R start fs o new newer s.kept s.ordered (subst (λ l. Explains R unicode start l o new newer) same h) in
+    subst (λ l. UPlaced R start es l old newer) (sym is)
+    (record { kept = p.kept; ordered = p.ordered; u_rests = p.u_rests; adds = joined R start es fs (placed o fs) old new newer s.adds p.adds })
+
+pub after_t : (R : List EntryParts) (start : ℕ) (es fs gs hs : List ExtensionParts) (o : Option (ℕ × ExtensionParts)) (old new newer : List Step) → UPlaced R start es fs old new → gs ≡ fs → Explains R transform start gs o new newer → hs ≡ placed o fs → TPlaced R start es hs old newer
+after_t R start es fs gs hs o old new newer s same h is =
+    let p : TPlaced R start fs (placed o fs) new newer = t_placed R start fs o new newer s.kept s.ordered s.u_rests (subst (λ l. Explains R transform start l o new newer) same h) in
+    subst (λ l. TPlaced R start es l old newer) (sym is)
+    (record { adds = joined R start es fs (placed o fs) old new newer s.adds p.adds; at_rest = p.at_rest })

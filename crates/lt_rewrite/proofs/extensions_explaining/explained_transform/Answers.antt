@@ -1,6 +1,5 @@
-use Rattle.std.proofs.Common.{ℕ, ◌+◌, List, length, take, refl, sym, ◌∙◌, subst, arith}
+use Rattle.std.proofs.Common.{ℕ, ◌+◌, List, refl, sym, ◌∙◌, subst, arith}
 use Rattle.lt_tag.specs.Parts.{ExtensionParts, TForm}
-use Rattle.lt_tag.specs.Spelling.{spell_extensions}
 use Rattle.lt_tag.specs.Extensions.{transform}
 use Rattle.lt_rewrite.specs.Applying.{TransformLeads}
 use Rattle.lt_rewrite.specs.Runs.{NoneLeads, AddsOnTransform}

@@ -1,5 +1,4 @@
 use Rattle.std.proofs.Common.{◌+◌, take, arith}
-use Rattle.std.proofs.lemmas.List.Folds.{length-flat_map-take}
 use Rattle.lt_tag.specs.Spelling.{spell_extension}
 use Rattle.lt_rewrite.proofs.PartLeading.{flat_more}
 use Rattle.lt_rewrite.proofs.ExtensionsExplained.{few_before}
