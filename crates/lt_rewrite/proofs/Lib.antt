@@ -43,3 +43,5 @@ pub mod UnicodeLeading
 pub mod TransformLeading
 pub mod ExtensionLeading
 pub mod TagLeading
+pub mod CoreWeights
+pub mod CoreFirst
