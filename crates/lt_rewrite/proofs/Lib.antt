@@ -45,3 +45,4 @@ pub mod ExtensionLeading
 pub mod TagLeading
 pub mod CoreWeights
 pub mod CoreFirst
+pub mod FirstSteps
