@@ -3,7 +3,8 @@
 ghost use Rattle.std.specs.Prelude.{◌≡◌, ◌≤◌, All, IfOk, MatchOption};
 ghost use Rattle.lt_rewrite.specs.Conditions.{HasEndingChain};
 ghost use Rattle.lt_rewrite.specs.Applying.{CoreLeads};
-ghost use Rattle.lt_rewrite.specs.Runs.{NoneLeads, NoneOnCore, IsLeftmostOnCore, IsFirstOnCore, AddsOnCore};
+ghost use Rattle.lt_rewrite.specs.Runs.{rank_of, NoneLeads, NoneOnCore, IsLeftmostOnCore, IsFirstOnCore, AddsOnCore};
+ghost use Rattle.lt_rewrite.specs.declared.steps.StepKind.TheVariants as kinds;
 
 use crate::chain_ends::{next_value, value};
 use crate::core_applying::{
@@ -17,7 +18,9 @@ use lt_tag::{Core, OutOfMemory};
 /// The step by which a sole extlang's replacement becomes the language.
 fn extlang_step<L: Lookup>(table: &L, core: &Core, start: usize) -> Option<Step>
     requires { start ≤ 1200000 }
-    ensures { MatchOption result (NoneOnCore (L.listed table.now) start core.now 1) (IsLeftmostOnCore (L.listed table.now) start core.now 1) }
+    ensures { MatchOption result
+        (NoneOnCore (L.listed table.now) start core.now (rank_of kinds.Extlang))
+        (IsLeftmostOnCore (L.listed table.now) start core.now (rank_of kinds.Extlang)) }
 {
     let [extlang] = core.extlangs() else {
         return None;
@@ -32,7 +35,9 @@ fn extlang_step<L: Lookup>(table: &L, core: &Core, start: usize) -> Option<Step>
 /// The step by which the language is replaced.
 fn language_step<L: Lookup>(table: &L, core: &Core, start: usize) -> Option<Step>
     requires { start ≤ 1200000 }
-    ensures { MatchOption result (NoneOnCore (L.listed table.now) start core.now 2) (IsLeftmostOnCore (L.listed table.now) start core.now 2) }
+    ensures { MatchOption result
+        (NoneOnCore (L.listed table.now) start core.now (rank_of kinds.Language))
+        (IsLeftmostOnCore (L.listed table.now) start core.now (rank_of kinds.Language)) }
 {
     if !core.extlangs().is_empty() {
         return None;
@@ -49,7 +54,9 @@ fn language_step<L: Lookup>(table: &L, core: &Core, start: usize) -> Option<Step
 /// The step by which the script is replaced.
 fn script_step<L: Lookup>(table: &L, core: &Core, start: usize) -> Option<Step>
     requires { start ≤ 1200000 }
-    ensures { MatchOption result (NoneOnCore (L.listed table.now) start core.now 3) (IsLeftmostOnCore (L.listed table.now) start core.now 3) }
+    ensures { MatchOption result
+        (NoneOnCore (L.listed table.now) start core.now (rank_of kinds.Script))
+        (IsLeftmostOnCore (L.listed table.now) start core.now (rank_of kinds.Script)) }
 {
     let script = core.script()?;
     value(table, Kind::Script, script)?;
@@ -63,7 +70,9 @@ fn script_step<L: Lookup>(table: &L, core: &Core, start: usize) -> Option<Step>
 /// The step by which the region is replaced.
 fn region_step<L: Lookup>(table: &L, core: &Core, start: usize) -> Option<Step>
     requires { start ≤ 1200000 }
-    ensures { MatchOption result (NoneOnCore (L.listed table.now) start core.now 4) (IsLeftmostOnCore (L.listed table.now) start core.now 4) }
+    ensures { MatchOption result
+        (NoneOnCore (L.listed table.now) start core.now (rank_of kinds.Region))
+        (IsLeftmostOnCore (L.listed table.now) start core.now (rank_of kinds.Region)) }
 {
     let region = core.region()?;
     value(table, Kind::Region, region)?;
@@ -77,7 +86,9 @@ fn region_step<L: Lookup>(table: &L, core: &Core, start: usize) -> Option<Step>
 /// The step by which the leftmost variant that a variant replaces is replaced.
 fn variant_step<L: Lookup>(table: &L, core: &Core, start: usize) -> Option<Step>
     requires { start ≤ 1200000 }
-    ensures { MatchOption result (NoneOnCore (L.listed table.now) start core.now 5) (IsLeftmostOnCore (L.listed table.now) start core.now 5) }
+    ensures { MatchOption result
+        (NoneOnCore (L.listed table.now) start core.now (rank_of kinds.Variant))
+        (IsLeftmostOnCore (L.listed table.now) start core.now (rank_of kinds.Variant)) }
 {
     for (index, variant) in core.variants().iter().enumerate() {
         if let Some(_next) = next_value(table, Kind::Variant, variant) {
@@ -94,7 +105,9 @@ fn variant_step<L: Lookup>(table: &L, core: &Core, start: usize) -> Option<Step>
 /// The step by which the leftmost variant that turns beside the language becomes the language.
 fn turn_step<L: Lookup>(table: &L, core: &Core, start: usize) -> Option<Step>
     requires { start ≤ 1200000 }
-    ensures { MatchOption result (NoneOnCore (L.listed table.now) start core.now 6) (IsLeftmostOnCore (L.listed table.now) start core.now 6) }
+    ensures { MatchOption result
+        (NoneOnCore (L.listed table.now) start core.now (rank_of kinds.VariantLanguage))
+        (IsLeftmostOnCore (L.listed table.now) start core.now (rank_of kinds.VariantLanguage)) }
 {
     if !core.extlangs().is_empty() {
         return None;
@@ -112,7 +125,9 @@ fn turn_step<L: Lookup>(table: &L, core: &Core, start: usize) -> Option<Step>
 /// The first step on a core that begins after so many subtags.
 fn first_core_step<L: Lookup>(table: &L, core: &Core, start: usize) -> Option<Step>
     requires { start ≤ 1200000 }
-    ensures { MatchOption result (NoneLeads (CoreLeads (L.listed table.now) start core.now)) (IsFirstOnCore (L.listed table.now) start core.now) }
+    ensures { MatchOption result
+        (NoneLeads (CoreLeads (L.listed table.now) start core.now))
+        (IsFirstOnCore (L.listed table.now) start core.now) }
 {
     if let Some(step) = extlang_step(table, core, start) {
         return Some(step);
