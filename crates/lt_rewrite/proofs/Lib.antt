@@ -50,3 +50,4 @@ pub mod ExtensionRuns
 pub mod ExtensionsExplained
 pub mod Inversions
 pub mod FirstParts
+pub mod ValidExtensions

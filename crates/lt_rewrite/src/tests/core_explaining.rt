@@ -46,7 +46,7 @@ fn explained(alloc: Global, table: &ListTable, text: &[u8]) -> Result<Vec<Step>,
 }
 
 /// Whether steps have these kinds, places and records.
-fn are_steps(steps: &[Step], wanted: &[(StepKind, u32, u32)]) -> bool {
+pub(super) fn are_steps(steps: &[Step], wanted: &[(StepKind, u32, u32)]) -> bool {
     steps.len() == wanted.len()
         && steps.iter().zip(wanted).all(|(step, other)| (step.kind, step.place, step.number)
             == *other)
