@@ -46,3 +46,5 @@ pub mod TagLeading
 pub mod CoreWeights
 pub mod CoreFirst
 pub mod FirstSteps
+pub mod Inversions
+pub mod FirstParts
