@@ -44,3 +44,7 @@ pub mod TransformLeading
 pub mod ExtensionLeading
 pub mod TagLeading
 pub mod FirstSteps
+pub mod RunLifts
+pub mod ListRests
+pub mod UnicodeFirst
+pub mod UnicodeRuns
