@@ -48,3 +48,4 @@ pub mod RunLifts
 pub mod ListRests
 pub mod UnicodeFirst
 pub mod UnicodeRuns
+pub mod TrueRuns
