@@ -49,3 +49,5 @@ pub mod ListRests
 pub mod UnicodeFirst
 pub mod UnicodeRuns
 pub mod TrueRuns
+pub mod Inversions
+pub mod FirstParts
