@@ -46,5 +46,10 @@ pub mod TagLeading
 pub mod CoreWeights
 pub mod CoreFirst
 pub mod FirstSteps
+pub mod RunLifts
+pub mod ListRests
+pub mod UnicodeFirst
+pub mod UnicodeRuns
+pub mod TrueRuns
 pub mod Inversions
 pub mod FirstParts

@@ -74,7 +74,7 @@ module _ {A : Type 0} (spell : A → List (List ℕ)) where
     swap_nowhere xs none ys s = none (length s.before) (omega (arith, swap_within xs ys s)) (swap_front xs ys s)
 
     module _ (some : (a : A) → 0 < length (spell a)) where
-      swap_index : (xs ys : List A) (i : ℕ) → i < length xs → IsPlaceOf spell start xs i place → (s : SwapLeads cmp spell start place xs ys) → length s.before ≡ i
+      pub swap_index : (xs ys : List A) (i : ℕ) → i < length xs → IsPlaceOf spell start xs i place → (s : SwapLeads cmp spell start place xs ys) → length s.before ≡ i
       swap_index xs ys i h p s =
           let q : place ≡ start + length (flat_map spell (take (length s.before) xs)) + 1 = swap_front xs ys s in
           let r : place ≡ start + length (flat_map spell (take i xs)) + 1 = p in
