@@ -51,5 +51,7 @@ pub mod ListRests
 pub mod UnicodeFirst
 pub mod UnicodeRuns
 pub mod TrueRuns
+pub mod ExtensionRuns
+pub mod ExtensionsExplained
 pub mod Inversions
 pub mod FirstParts
