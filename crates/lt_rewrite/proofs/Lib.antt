@@ -43,4 +43,6 @@ pub mod UnicodeLeading
 pub mod TransformLeading
 pub mod ExtensionLeading
 pub mod TagLeading
+pub mod CoreWeights
+pub mod CoreFirst
 pub mod FirstSteps
