@@ -1,8 +1,12 @@
 -- Runs on the parts of a tag, one after another, to where no step leads on: these explain its canonical form.
-use Rattle.std.proofs.Common.{◌≡◌, ◌≢◌, ℕ, ◌+◌, ◌<◌, inr, List, [], ◌∷◌, ◌++◌, Some, None, refl, sym, ap, ◌∙◌, subst, length, arith}
-use Rattle.lt_tag.specs.Parts.{CoreParts, ExtensionParts, TagForm, LangTag, PrivateUse, Grandfathered}
+use Rattle.std.proofs.Common.{◌≡◌, ℕ, ◌==◌, ◌+◌, ◌<◌, false, inr, List, [], ◌∷◌, ◌++◌, Some, None, refl, sym, ap, ◌∙◌, subst, length, arith}
+use Rattle.std.specs.Prelude.{Result, Ok, Err, IfOk}
+use Rattle.std.specs.List.{AllByRecursion}
+use Rattle.lt_tag.specs.Parts.{CoreParts, ExtensionParts, TForm, TagForm, LangTag, PrivateUse, Grandfathered}
 use Rattle.lt_tag.specs.Spelling.{spell_core}
-use Rattle.lt_tag.specs.Values.{core_of}
+use Rattle.lt_tag.specs.Extensions.{transform, IsTransform}
+use Rattle.lt_tag.specs.Values.{core_of, extensions_of, private_of}
+use Rattle.lt_tag.specs.Values.{number_of as tag_number}
 use Rattle.lt_registry.specs.Parts.{EntryParts}
 use Rattle.lt_registry.specs.Entries.{whole, whole_value, number_of}
 use Rattle.lt_registry.specs.Validity.{IsProper}
@@ -12,7 +16,7 @@ use Rattle.lt_rewrite.specs.Extensions.{ExtensionsStep}
 use Rattle.lt_rewrite.specs.TagSteps.{IsPlain, TagChange, on_core, on_extensions, on_whole, TagStep}
 use Rattle.lt_rewrite.specs.Labels.{step_at, core_label, extensions_label, tag_label, LeadsBy, IsTrace}
 use Rattle.lt_rewrite.specs.Applying.{CoreLeads, ExtensionsLeads}
-use Rattle.lt_rewrite.specs.Runs.{kind_rank, extension_rank, IsNoLater, IsFirst, IsRun, NoneLeads, Adds, AddsOnCore, AddsOnExtensions}
+use Rattle.lt_rewrite.specs.Runs.{kind_rank, extension_rank, IsFirst, IsRun, NoneLeads, Adds, AddsOnCore, AddsOnExtensions}
 use Rattle.lt_rewrite.specs.declared.steps.Step.{Step}
 use Rattle.lt_rewrite.specs.declared.steps.StepKind.TheVariants as steps
 use Rattle.lt_rewrite.proofs.Stars.{star_path}
@@ -22,13 +26,28 @@ use Rattle.lt_canon.specs.Conditions.{plain, IsChecked}
 use Rattle.lt_canon.specs.Answers.{IsCanonicalFormOf}
 use Rattle.lt_canon.specs.Explaining.{rank_in, IsExplanation, RestsOnCore, LeadsToRest}
 use Rattle.lt_canon.proofs.CheckedRegistry.{value_plain}
-use Rattle.lt_canon.proofs.TagProper.{step_of_change}
 use Rattle.lt_canon.proofs.TagForm.{core_end, cores_formed, value_rests, extensions_step_from}
 use Rattle.lt_canon.proofs.TagRest.{lang_at_end, grandfathered_rests, private_rests, none_rests}
 use Rattle.lt_canon.proofs.TagLaws.{traces_reach_their_end}
 use Rattle.lt_canon.proofs.Answering.{EndsAt, end_is}
-use Rattle.lt_canon.proofs.CanonicalForms.{form_some}
-use Rattle.lt_canon.proofs.FirstTagSteps.{core_is_first, extensions_is_first, whole_rank}
+use Rattle.lt_canon.proofs.CanonicalForms.{langtag_of, transforms_have_parts, form_some}
+use Rattle.lt_canon.proofs.FirstTagSteps.{core_is_first, extensions_is_first}
+
+-- what holds of an answer, from one or two facts of it
+pub if_ok : {A E : Type 0} (P Q : A → Type 0) (r : Result A E) → ((a : A) → P a → Q a) → IfOk r P → IfOk r Q
+if_ok P Q (Ok a) f h = f a h
+if_ok P Q (Err e) f h = h
+
+pub if_ok_both : {A E : Type 0} (P Q S : A → Type 0) (r : Result A E) → ((a : A) → P a → Q a → S a) → IfOk r P → IfOk r Q → IfOk r S
+if_ok_both P Q S (Ok a) f h k = f a h k
+if_ok_both P Q S (Err e) f h k = h
+
+pub some_of_test : {A : Type 0} (xs : List A) → false ≡ (length xs == 0) → 0 < length xs
+some_of_test [] h = cc
+some_of_test (x ∷ xs) h = omega arith
+
+pub plain_made : (t : TagForm) (c : CoreParts) (es : List ExtensionParts) (ps : List (List ℕ)) → t ≡ LangTag c es ps → es ≡ [] → ps ≡ [] → t ≡ plain c
+plain_made t c es ps h e p = h ∙ (λ i. LangTag c (e i) (p i))
 
 -- a run goes by steps
 run_star : {A : Type 0} (Leads : A → Step → A → Type 0) (rank : A → Step → ℕ) (Move : A → A → Type 0) → ((a : A) (step : Step) (b : A) → Leads a step b → Move a b) → (run : List Step) (a b : A) → IsRun Leads rank a run b → Star Move a b
@@ -85,7 +104,7 @@ module _ (R : List EntryParts) where
     -- the step to the value is the first, where the core is at rest
     whole_is_first : (t u : TagForm) (step : Step) → IsProper R t → IsPlain t → RestsOnCore R t → whole_value R t ≡ Some u → step ≡ step_at steps.Whole 1 (number_of (whole R t)) → IsFirst (LeadsBy R t) (rank_in t) step u
     whole_is_first t u step P h k v e = record {
-      leads = (step_of_change R C t u (on_whole (record { plain = h; has = v })) P, sym e);
+      leads = (record { from = P; to = (value_plain R C t u v).valid.proper; change = on_whole (record { plain = h; has = v }) }, sym e);
       first = λ other b l. let same : step ≡ other = e ∙ sym (only_whole t h k other b l.0.change l.1) in inr (ap (rank_in t) same, omega (arith, ap (λ (x : Step). x.place) same));
     }
 
@@ -122,6 +141,32 @@ module _ (R : List EntryParts) where
           adds = adds_on_extensions c es fs ps old new P none a;
           at_rest = λ u s. lang_at_end R c fs ps (record { core = core_rests c none; extensions = normal.at_rest; whole = λ x y. absurd (omega (arith, left, ap length x, ap length y)) }) u s.change;
         }
+
+    -- a tag of a core alone, once its core is at rest
+    pub plain_explained : (t : TagForm) (core d : CoreParts) (es : List ExtensionParts) (ps : List (List ℕ)) (old mid : List Step) → IsProper R t → Some core ≡ core_of t → es ≡ extensions_of t → ps ≡ private_of t → [] ≡ es → [] ≡ ps → AddsOnCore R 0 core d old mid → IsProper R (plain d) × Adds (LeadsBy R) rank_in t (plain d) old mid
+    plain_explained t core d es ps old mid P k e p n m a =
+        let same : t ≡ plain core = langtag_of t core (sym k) ∙ (λ i. LangTag core (sym e i) (sym p i)) ∙ (λ i. LangTag core (sym n i) (sym m i)) in
+        let on = adds_on_core core d [] [] old mid (subst (IsProper R) same P) a in
+        (on.0, subst (λ x. Adds (LeadsBy R) rank_in x (plain d) old mid) (sym same) on.1)
+
+    -- a langtag with extensions or private use
+    pub langtag_explained : (t : TagForm) (core d : CoreParts) (es fs : List ExtensionParts) (ps : List (List ℕ)) (start : ℕ) (old mid new : List Step) → IsProper R t → Some core ≡ core_of t → es ≡ extensions_of t → ps ≡ private_of t → 0 < length es + length ps → AddsOnCore R 0 core d old mid → NoneLeads (CoreLeads R 0 d) → start ≡ length (spell_core d) → AddsOnExtensions R start es fs mid new → NoneLeads (ExtensionsLeads R start fs) → LeadsToRest R t old new
+    langtag_explained t core d es fs ps start old mid new P k e p some a none at b nowhere =
+        let same : t ≡ LangTag core es ps = langtag_of t core (sym k) ∙ (λ i. LangTag core (sym e i) (sym p i)) in
+        let on = adds_on_core core d es ps old mid (subst (IsProper R) same P) a in
+        let rest = extensions_rest_by d es fs ps mid new on.0 some none (subst (λ n. AddsOnExtensions R n es fs mid new) at b) (subst (λ n. NoneLeads (ExtensionsLeads R n fs)) at nowhere) in
+        subst (λ x. LeadsToRest R x old new) (sym same) (first_adds (LangTag core es ps) (LangTag d es ps) old mid new on.1 rest)
+
+    -- a tag that is neither a langtag nor grandfathered
+    pub coreless_explained : (t : TagForm) (old : List Step) → core_of t ≡ None → tag_number t ≡ None → LeadsToRest R t old old
+    coreless_explained (LangTag c es ps) old h k = cc
+    coreless_explained (PrivateUse ps) old h k = private_use_rests ps old
+    coreless_explained (Grandfathered n) old h k = cc
+
+    pub transforms_of : (t : TagForm) → IsProper R t → AllByRecursion (λ (e : ExtensionParts). e.singleton ≡ transform → (p : TForm) × IsTransform e.subtags p) (extensions_of t)
+    transforms_of (LangTag c es ps) P = transforms_have_parts R es P.parts.extensions
+    transforms_of (PrivateUse ps) P = tt
+    transforms_of (Grandfathered n) P = tt
 
     -- they lead to the canonical form
     pub explained : (t end : TagForm) (run : List Step) → IsCanonicalFormOf R t end → LeadsToRest R t [] run → IsExplanation R t run end

@@ -1,5 +1,5 @@
 -- The first step on a core, on a whole tag and on extensions is the first on the tag, where none comes before it.
-use Rattle.std.proofs.Common.{◌≡◌, ℕ, ◌+◌, ◌<◌, ◌≤◌, ◌⊎◌, inl, inr, ◌&&◌, Bool, true, false, Ordering, List, [], Some, refl, sym, ap, ◌∙◌, subst, length, arith}
+use Rattle.std.proofs.Common.{◌≡◌, ℕ, ◌+◌, ◌<◌, ◌≤◌, inl, inr, ◌&&◌, Bool, true, false, Ordering, List, [], ◌∷◌, refl, sym, ap, ◌∙◌, subst, length, arith}
 use Rattle.std.specs.Prelude.{nat_le, if◌then◌else◌}
 use Rattle.std.proofs.lemmas.Bool.{lt-leb, le-leb, leb-true}
 use Rattle.lt_tag.specs.Parts.{CoreParts, ExtensionParts, UForm, TForm, TagForm, LangTag, PrivateUse, Grandfathered}
@@ -7,7 +7,7 @@ use Rattle.lt_tag.specs.Spelling.{spell_core, spell_extension, spell_extensions}
 use Rattle.lt_tag.specs.Extensions.{spell_keyword, spell_field, spell_source}
 use Rattle.lt_tag.specs.Values.{core_of}
 use Rattle.lt_registry.specs.Parts.{EntryParts}
-use Rattle.lt_registry.specs.Entries.{whole, whole_value, number_of}
+use Rattle.lt_registry.specs.Entries.{whole, number_of}
 use Rattle.lt_registry.specs.Validity.{IsProper}
 use Rattle.lt_rewrite.specs.CoreSteps.{values_of, CoreStep, by_extlang, by_language, by_script, by_region, by_variant, by_turn}
 use Rattle.lt_rewrite.specs.Orderings.{ListStep, by_swap, by_drop}
@@ -22,7 +22,7 @@ use Rattle.lt_rewrite.specs.declared.steps.StepKind.TheVariants as steps
 use Rattle.lt_rewrite.proofs.OneStep.{core_high}
 use Rattle.lt_canon.specs.Conditions.{IsChecked}
 use Rattle.lt_canon.specs.Explaining.{rank_in}
-use Rattle.lt_canon.proofs.TagProper.{core_step_tag, extensions_step_tag, step_of_change}
+use Rattle.lt_canon.proofs.TagProper.{core_step_tag, extensions_step_tag}
 use Rattle.lt_canon.proofs.TagForm.{extensions_step_from}
 
 -- the ranks of steps
@@ -40,7 +40,7 @@ record IsBehind (start : ℕ) (step : Step) : Type 0 where
   pub late : 8 ≤ extension_rank step
   pub behind : kind_rank step ≤ 6 → start < step.place
 
-late_rank : (b : Bool) (n : ℕ) → 8 ≤ n → 8 ≤ if b then n + 13 else n
+late_rank : (b : Bool) (n : ℕ) → 8 ≤ n → 8 ≤ (if b then n + 13 else n)
 late_rank true n h = omega arith
 late_rank false n h = h
 
@@ -155,7 +155,7 @@ module _ (R : List EntryParts) (c : CoreParts) (es : List ExtensionParts) (ps : 
     core_is_first step d P h = (
       core_step_tag R C c d es ps h.leads.0 P,
       record {
-        leads = (step_of_change R C here (LangTag d es ps) (on_core c d es ps (record { from = refl; to = refl; step = h.leads.0 })) P, h.leads.1);
+        leads = (record { from = P; to = core_step_tag R C c d es ps h.leads.0 P; change = on_core c d es ps (record { from = refl; to = refl; step = h.leads.0 }) }, h.leads.1);
         first = λ other u l. core_before step d other h (leads_by other u l.0.change l.1);
       },
     )
@@ -171,7 +171,7 @@ module _ (R : List EntryParts) (c : CoreParts) (es : List ExtensionParts) (ps : 
     extensions_is_first step fs P none h = (
       extensions_step_tag R C c es fs ps h.leads.0 P,
       record {
-        leads = (step_of_change R C here (LangTag c fs ps) (on_extensions c es fs ps (record { from = refl; to = refl; step = h.leads.0 })) P, h.leads.1);
+        leads = (record { from = P; to = extensions_step_tag R C c es fs ps h.leads.0 P; change = on_extensions c es fs ps (record { from = refl; to = refl; step = h.leads.0 }) }, h.leads.1);
         first = λ other u l. extensions_before step fs other none h (leads_by other u l.0.change l.1);
       },
     )

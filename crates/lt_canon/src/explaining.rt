@@ -22,11 +22,7 @@ use std::alloc::Global;
 /// VariantLanguage; Whole; the leftmost SwapExtensions; in a `u` extension the leftmost DropAttribute,
 /// SwapAttributes, DropKeyword, SwapKeywords and DropTrue; on the source of a `t` extension the steps
 /// on a core; the leftmost SwapFields. It is refused as `canonical` refuses.
-pub fn explain<L: Lookup>(
-    alloc: Global,
-    checked: &Checked<L>,
-    tag: &Tag,
-) -> Result<Trace, Refusal>
+pub fn explain<L: Lookup>(alloc: Global, checked: &Checked<L>, tag: &Tag) -> Result<Trace, Refusal>
     ensures ok { IfOk result (λ trace. IsExplanation (L.listed checked.now) tag.now trace.steps.items trace.last) }
     ensures err { IfErr result (λ refusal. IsCanonicalAnswer (L.listed checked.now) tag.now (Err refusal)) }
 {
@@ -55,8 +51,8 @@ fn explain_tag<L: Lookup>(
     };
     let mut settled = core.copy(alloc)?;
     explain_core(table, &mut settled, 0, steps)?;
-    let extensions = tag.extensions();
-    if extensions.is_empty() && tag.private().is_empty() {
+    let (extensions, private) = (tag.extensions(), tag.private());
+    if extensions.is_empty() && private.is_empty() {
         let settled = Tag::from_parts(settled, Vec::new(alloc), Vec::new(alloc));
         return explain_whole(alloc, table, &settled, steps);
     }

@@ -1,11 +1,13 @@
-use Rattle.std.proofs.Common.{rules, IfOk, IfErr, Err, ◌≡◌, ℕ, ◌+◌, ◌-◌, ◌*◌, ◌<◌, ◌≤◌, length, ◌/◌, ◌%◌, Bool, true, false, nat_eq, nat_lt, List, [], ◌∷◌, ◌++◌, slice_index_or, slice_set, bit_and, bit_or, Fits, w8, w32, w64, Bor, MutBor}
-use Rattle.lt_registry.specs.Validity.{IsProper}
-use Rattle.lt_rewrite.specs.TagSteps.{IsPlain}
-use Rattle.lt_canon.specs.Conditions.{IsChecked}
-use Rattle.lt_canon.specs.Answers.{IsCanonicalAnswer}
-use Rattle.lt_canon.specs.Explaining.{IsExplanation, RestsOnCore, LeadsToRest}
+use Rattle.std.proofs.Common.{List, subst}
+use Rattle.lt_rewrite.specs.declared.steps.Step.{Step}
+use Rattle.lt_canon.specs.Explaining.{LeadsToRest}
+use Rattle.lt_canon.proofs.Explained.{explained}
 use Rattle.lt_canon.proofs.explaining.explain.Goals as goal
 
--- src/explaining.rt:25:1
 pub returns-clause-ok : goal.returns-clause-ok
-returns-clause-ok g c = ?
+returns-clause-ok g c =
+    let R = g.L.Lookup.listed c.args.checked.now in
+    let t = c.args.tag.now in
+    let run : List Step = c.explain_tag.new.steps.items in
+    let rest : LeadsToRest R t c.new-steps.result.items run = subst (λ l. LeadsToRest (g.L.Lookup.listed l) t c.new-steps.result.items run) c.table.ensures.value (c.in_ok-explain_tag.ensures {u = tt}) in
+    explained R c.table.ensures.checked t c.in_ok-last.last run (c.in_ok-last.ensures {u = tt}) (subst (λ xs. LeadsToRest R t xs run) c.new-steps.ensures.items rest)
