@@ -1,7 +1,6 @@
-use Rattle.std.proofs.Common.{◌≡◌, ℕ, ◌+◌, length, sym, ap, ◌∙◌, subst}
-use Rattle.lt_tag.specs.Parts.{FieldParts, TForm}
+use Rattle.std.proofs.Common.{◌≡◌, ◌+◌, length, sym, ap, subst}
+use Rattle.lt_tag.specs.Parts.{TForm}
 use Rattle.lt_tag.specs.Extensions.{spell_field, spell_source}
-use Rattle.lt_rewrite.specs.Conditions.{IsRegistry}
 use Rattle.lt_rewrite.specs.Extensions.{separator_cmp}
 use Rattle.lt_rewrite.specs.Runs.{NoneLeads, SwapsBy, Adds, AddsOnTransform}
 use Rattle.lt_rewrite.specs.declared.steps.StepKind.TheVariants as steps
