@@ -51,6 +51,8 @@ pub mod ListRests
 pub mod UnicodeFirst
 pub mod UnicodeRuns
 pub mod TrueRuns
+pub mod ExtensionRuns
+pub mod ExtensionsExplained
 pub mod Inversions
 pub mod FirstParts
 pub mod TransformFirst
