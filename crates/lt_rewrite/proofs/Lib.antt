@@ -55,3 +55,4 @@ pub mod ExtensionRuns
 pub mod ExtensionsExplained
 pub mod Inversions
 pub mod FirstParts
+pub mod TransformFirst
