@@ -8,11 +8,11 @@ use std::alloc::Global;
 use std::test::Fail;
 
 /// A tag of one subtag before its extensions, and the kinds, places and records of the steps on these.
-type Row = (&'static [u8], &'static [(StepKind, u32, u32)]);
+type Row = (&'static str, &'static [(StepKind, u32, u32)]);
 
 const ROWS: [Row; 4] = [
     (
-        b"de-u-foo-bar-co-true-ca-gregory-t-iw-x0-abc-m0-def",
+        "de-u-foo-bar-co-true-ca-gregory-t-iw-x0-abc-m0-def",
         &[
             (StepKind::SwapExtensions, 2, 0),
             (StepKind::SwapAttributes, 9, 0),
@@ -23,19 +23,19 @@ const ROWS: [Row; 4] = [
         ],
     ),
     (
-        b"de-b-bcd-a-abc-u-co-phonebk-co-true",
+        "de-b-bcd-a-abc-u-co-phonebk-co-true",
         &[
             (StepKind::SwapExtensions, 2, 0),
             (StepKind::DropKeyword, 9, 0),
         ],
     ),
-    (b"de-a-abc-t-hy-heploc-u-co", &[(StepKind::Variant, 6, 37)]),
-    (b"de-a-abc", &[]),
+    ("de-a-abc-t-hy-heploc-u-co", &[(StepKind::Variant, 6, 37)]),
+    ("de-a-abc", &[]),
 ];
 
 /// The steps on the extensions of a valid tag whose core has one subtag.
-fn explained(alloc: Global, table: &ListTable, text: &[u8]) -> Result<Vec<Step>, Fail> {
-    let tag = read_tag(alloc, text)?;
+fn explained(alloc: Global, table: &ListTable, text: &str) -> Result<Vec<Step>, Fail> {
+    let tag = read_tag(alloc, text.as_bytes())?;
     validate(alloc, table, &tag)?;
     if first_cycle(table).is_some() {
         return Err(Fail::from("a cycle"));
