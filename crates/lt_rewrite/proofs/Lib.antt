@@ -43,6 +43,8 @@ pub mod UnicodeLeading
 pub mod TransformLeading
 pub mod ExtensionLeading
 pub mod TagLeading
+pub mod CoreWeights
+pub mod CoreFirst
 pub mod FirstSteps
 pub mod Inversions
 pub mod FirstParts

@@ -1,4 +1,5 @@
 mod applying;
+mod core_explaining;
 mod part_explaining;
 mod sample;
 
