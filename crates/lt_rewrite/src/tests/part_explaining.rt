@@ -26,7 +26,7 @@ const DROPS: [Row; 3] = [
 
 /// The parts of a tag's `u` extension.
 fn parts_of(alloc: Global, text: &[u8]) -> Result<UParts, Fail>
-    ensures { IfOk result (λ parts. length parts.attributes.items ≤ most_parts) }
+    ensures { IfOk result (λ parts. length parts.attributes ≤ most_parts) }
 {
     let extension = extension_of(alloc, text)?;
     if extension.singleton() != b'u' {
