@@ -55,4 +55,5 @@ pub mod ExtensionRuns
 pub mod ExtensionsExplained
 pub mod Inversions
 pub mod FirstParts
+pub mod ValidExtensions
 pub mod TransformFirst
