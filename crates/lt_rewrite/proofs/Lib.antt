@@ -48,5 +48,10 @@ pub mod CoreFirst
 pub mod FirstSteps
 pub mod ExtensionRuns
 pub mod ExtensionsExplained
+pub mod RunLifts
+pub mod ListRests
+pub mod UnicodeFirst
+pub mod UnicodeRuns
+pub mod TrueRuns
 pub mod Inversions
 pub mod FirstParts
