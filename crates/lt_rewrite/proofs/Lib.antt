@@ -55,3 +55,4 @@ pub mod UnicodeRuns
 pub mod TrueRuns
 pub mod Inversions
 pub mod FirstParts
+pub mod TransformFirst

@@ -1,11 +1,11 @@
 -- Sole types true go from keywords, one after another.
-use Rattle.std.proofs.Common.{◌≡◌, ◌≢◌, ℕ, zero, suc, ◌+◌, ◌<◌, ◌≤◌, ◌⊎◌, inl, inr, List, [], ◌∷◌, ◌++◌, refl, sym, ap, ◌∙◌, subst, length, get_or, set, take, drop, below_more, length-append, arith}
+use Rattle.std.proofs.Common.{◌≡◌, ◌≢◌, ℕ, zero, suc, ◌+◌, ◌<◌, ◌≤◌, inr, List, [], ◌∷◌, ◌++◌, refl, sym, ap, ◌∙◌, subst, length, get_or, set, take, drop, below_more, length-append, arith}
 use Rattle.std.specs.Prelude.{flat_map, codes}
 use Rattle.std.proofs.lemmas.List.{take_at, take-set, set_split, get_or-set_same, get_or-set_other, get_or_read, length-set}
 use Rattle.lt_tag.specs.Parts.{KeywordParts}
 use Rattle.lt_tag.specs.Extensions.{spell_keyword}
 use Rattle.lt_rewrite.specs.Applying.{TrueLeads}
-use Rattle.lt_rewrite.specs.Runs.{IsFirst, NoneLeads, DropsTrueBy, Adds}
+use Rattle.lt_rewrite.specs.Runs.{NoneLeads, DropsTrueBy, Adds}
 use Rattle.lt_rewrite.specs.declared.steps.Step.{Step}
 use Rattle.lt_rewrite.specs.declared.steps.StepKind.TheVariants as steps
 use Rattle.lt_rewrite.proofs.CoreSettled.{round}

@@ -1,25 +1,21 @@
 -- A step that is the first on a list of a u extension is the first on its parts, where the lists that come before it
 -- are at rest.
-use Rattle.std.proofs.Common.{◌≡◌, ℕ, ◌+◌, ◌<◌, ◌≤◌, true, List, [], ◌∷◌, ◌++◌, refl, sym, ap, ◌∙◌, subst, Equal, length, arith}
-use Rattle.std.specs.Prelude.{flat_map}
-use Rattle.std.specs.Cmp.{IsTotalOrder}
+use Rattle.std.proofs.Common.{◌≡◌, ℕ, ◌+◌, ◌<◌, true, List, [], ◌∷◌, ◌++◌, refl, sym, ap, ◌∙◌, subst, Equal, length, arith}
 use Rattle.lt_tag.specs.Parts.{KeywordParts, UForm}
-use Rattle.lt_tag.specs.Extensions.{spell_keyword, IsU}
+use Rattle.lt_tag.specs.Extensions.{spell_keyword}
 use Rattle.lt_rewrite.specs.Orderings.{by_swap, by_drop}
 use Rattle.lt_rewrite.specs.Extensions.{text_cmp, key_cmp, UnicodeStep, on_attributes, on_keywords, on_types}
 use Rattle.lt_rewrite.specs.Labels.{unicode_label}
-use Rattle.lt_rewrite.specs.Applying.{TrueLeads, UnicodeLeads}
+use Rattle.lt_rewrite.specs.Applying.{UnicodeLeads}
 use Rattle.lt_rewrite.specs.Runs.{rank_of, kind_rank, IsFirst, NoneLeads, NoneOfRank, SwapsBy, DropsBy, DropsTrueBy}
 use Rattle.lt_rewrite.specs.declared.steps.Step.{Step}
-use Rattle.lt_rewrite.specs.declared.steps.StepKind.{StepKind}
 use Rattle.lt_rewrite.specs.declared.steps.StepKind.TheVariants as steps
 use Rattle.lt_rewrite.proofs.CoreLeading.{same_step, kind_of, place_of, number_at}
 use Rattle.lt_rewrite.proofs.UnicodeLeading.{from_swap, from_drop}
-use Rattle.lt_rewrite.proofs.UnicodeForms.{text_total, key_total}
 use Rattle.lt_rewrite.proofs.PartLists.{all_middle, all_replaced}
 use Rattle.lt_rewrite.proofs.FirstSteps.{is_first}
 use Rattle.lt_rewrite.proofs.RunLifts.{leftmost_first}
-use Rattle.lt_rewrite.proofs.ListRests.{IsUnlike, FallsNot, IsRising, unlike_drops, rising_swaps, swaps_keep_unlike}
+use Rattle.lt_rewrite.proofs.ListRests.{IsUnlike, IsRising, unlike_drops, rising_swaps}
 
 abbrev pub one_subtag : List ℕ → List (List ℕ)
 one_subtag a = a ∷ []

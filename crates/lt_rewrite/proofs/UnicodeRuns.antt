@@ -1,18 +1,17 @@
 -- The runs on the lists of a u extension, one after another, are one run on its parts.
-use Rattle.std.proofs.Common.{◌≡◌, ℕ, ◌+◌, ◌<◌, List, refl, sym, ap, subst, length, arith}
+use Rattle.std.proofs.Common.{◌≡◌, ℕ, ◌+◌, List, subst, length, arith}
 use Rattle.lt_tag.specs.Parts.{KeywordParts, UForm}
 use Rattle.lt_tag.specs.Extensions.{spell_keyword, IsU}
 use Rattle.lt_rewrite.specs.Extensions.{text_cmp, key_cmp}
 use Rattle.lt_rewrite.specs.Applying.{UnicodeLeads}
-use Rattle.lt_rewrite.specs.Runs.{kind_rank, IsFirst, NoneLeads, SwapsBy, DropsBy, DropsTrueBy, Adds, AddsOnUnicode}
+use Rattle.lt_rewrite.specs.Runs.{kind_rank, NoneLeads, SwapsBy, DropsBy, DropsTrueBy, Adds, AddsOnUnicode}
 use Rattle.lt_rewrite.specs.declared.steps.Step.{Step}
-use Rattle.lt_rewrite.specs.declared.steps.StepKind.{StepKind}
 use Rattle.lt_rewrite.specs.declared.steps.StepKind.TheVariants as steps
 use Rattle.lt_rewrite.proofs.UnicodeForms.{text_total, key_total, u_shaped}
 use Rattle.lt_rewrite.proofs.FirstSteps.{adds_all}
 use Rattle.lt_rewrite.proofs.RunLifts.{run_keeps, adds_lift}
 use Rattle.lt_rewrite.proofs.ListRests.{IsUnlike, IsRising, unlike_at_rest, rising_at_rest, swaps_keep_unlike}
-use Rattle.lt_rewrite.proofs.UnicodeFirst.{one_subtag, u_parts, IsSettledBelow, unicode_rests, drop_attribute_first, swap_attributes_first, drop_keyword_first, swap_keywords_first, drop_true_first, drops_true_unlike, drops_true_rising}
+use Rattle.lt_rewrite.proofs.UnicodeFirst.{one_subtag, u_parts, unicode_rests, drop_attribute_first, swap_attributes_first, drop_keyword_first, swap_keywords_first, drop_true_first, drops_true_unlike, drops_true_rising}
 
 -- steps of one kind are added, until none leads on
 pub record Settles {A : Type 0} (Leads : A → Step → A → Type 0) (a b : A) (old new : List Step) : Type 0 where

@@ -21,7 +21,7 @@ pub fn core_length(core: &Core) -> usize
 }
 
 /// How many subtags a source has.
-fn source_length(source: &Option<Core>) -> usize
+pub(crate) fn source_length(source: &Option<Core>) -> usize
     ensures value { result ≡ length (spell_source source.now) }
     ensures few { result ≤ 1030 }
 {

@@ -1,10 +1,10 @@
-use Rattle.std.proofs.Common.{◌≡◌, ◌<◌, ◌≤◌, ◌+◌, ℕ, List, [], ◌∷◌, length, get_or, set, refl, sym, ap, ◌∙◌, subst, arith}
+use Rattle.std.proofs.Common.{◌≡◌, ◌<◌, ◌+◌, ℕ, List, length, get_or, set, refl, sym, ap, ◌∙◌, arith}
 use Rattle.std.proofs.lemmas.List.{get_or_read, get_or-set_same}
 use Rattle.lt_tag.specs.Parts.{KeywordParts}
 use Rattle.lt_tag.specs.Extensions.{spell_keyword}
 use Rattle.lt_rewrite.specs.declared.steps.Step.{Step}
 use Rattle.lt_rewrite.specs.declared.steps.StepKind.TheVariants as steps
-use Rattle.lt_rewrite.proofs.TrueRuns.{IsBareSoFar, bare, bare_none, bare_kept, bare_more, bare_all, bare_few, bare_same}
+use Rattle.lt_rewrite.proofs.TrueRuns.{bare, bare_kept, bare_more, bare_all, bare_few, bare_same}
 use Rattle.lt_rewrite.proofs.unicode_explaining.drop_trues.Goals as goal
 use Rattle.lt_rewrite.proofs.unicode_explaining.drop_trues.Goals.{then-has_sole_true+in_ok-push, else-has_sole_true}
 

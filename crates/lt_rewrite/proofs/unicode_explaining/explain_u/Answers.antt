@@ -1,9 +1,9 @@
-use Rattle.std.proofs.Common.{◌≡◌, ◌<◌, ◌≤◌, ◌+◌, ◌^◌, ℕ, List, vec_len, length, sym, ap, ◌∙◌, subst, length-append, arith}
+use Rattle.std.proofs.Common.{◌≡◌, ◌≤◌, ◌+◌, ℕ, List, length, ap, subst, length-append, arith}
 use Rattle.std.specs.Prelude.{flat_map}
 use Rattle.lt_tag.specs.Parts.{KeywordParts, UForm}
-use Rattle.lt_tag.specs.Extensions.{spell_keyword, spell_u, IsU}
+use Rattle.lt_tag.specs.Extensions.{spell_keyword, spell_u}
 use Rattle.lt_rewrite.specs.Extensions.{text_cmp, key_cmp}
-use Rattle.lt_rewrite.specs.Runs.{SwapsBy, DropsBy, Adds, AddsOnUnicode}
+use Rattle.lt_rewrite.specs.Runs.{SwapsBy, DropsBy, Adds}
 use Rattle.lt_rewrite.specs.declared.steps.Step.{Step}
 use Rattle.lt_rewrite.specs.declared.steps.StepKind.TheVariants as steps
 use Rattle.lt_rewrite.proofs.PartCounts.{attributes_count}
