@@ -6,36 +6,36 @@ use std::alloc::Global;
 use std::test::Fail;
 
 /// A tag, and the kinds, places and records of the steps on its core.
-type Row = (&'static [u8], &'static [(StepKind, u32, u32)]);
+type Row = (&'static str, &'static [(StepKind, u32, u32)]);
 
 const ROWS: [Row; 5] = [
     (
-        b"zh-yue-DD",
+        "zh-yue-DD",
         &[(StepKind::Extlang, 2, 23), (StepKind::Region, 2, 27)],
     ),
     (
-        b"iw-arevela-heploc",
+        "iw-arevela-heploc",
         &[(StepKind::Language, 1, 9), (StepKind::Variant, 3, 37)],
     ),
     (
-        b"hy-arevela-arevmda",
+        "hy-arevela-arevmda",
         &[
             (StepKind::VariantLanguage, 2, 34),
             (StepKind::VariantLanguage, 2, 35),
         ],
     ),
     (
-        b"hy-heploc-arevmda",
+        "hy-heploc-arevmda",
         &[
             (StepKind::Variant, 2, 37),
             (StepKind::VariantLanguage, 3, 35),
         ],
     ),
-    (b"sgn-DE", &[]),
+    ("sgn-DE", &[]),
 ];
 
 /// The steps on a tag's core.
-fn explained(alloc: Global, table: &ListTable, text: &[u8]) -> Result<Vec<Step>, Fail> {
+fn explained(alloc: Global, table: &ListTable, text: &str) -> Result<Vec<Step>, Fail> {
     if first_cycle(table).is_some() {
         return Err(Fail::from("a cycle"));
     }
@@ -46,7 +46,7 @@ fn explained(alloc: Global, table: &ListTable, text: &[u8]) -> Result<Vec<Step>,
 }
 
 /// Whether steps have these kinds, places and records.
-fn are_steps(steps: &[Step], wanted: &[(StepKind, u32, u32)]) -> bool {
+pub(super) fn are_steps(steps: &[Step], wanted: &[(StepKind, u32, u32)]) -> bool {
     steps.len() == wanted.len()
         && steps.iter().zip(wanted).all(|(step, other)| (step.kind, step.place, step.number)
             == *other)

@@ -1,28 +1,12 @@
-use Rattle.std.proofs.Common.{◌≡◌, ℕ, List, map, sym, ◌∙◌, subst}
+use Rattle.std.proofs.Common.{◌≡◌, List, map, sym, ◌∙◌, subst}
 use Rattle.std.specs.List.{AllByRecursion}
-use Rattle.lt_tag.specs.Parts.{ExtensionParts, TForm, TagForm, LangTag, PrivateUse, Grandfathered}
+use Rattle.lt_tag.specs.Parts.{ExtensionParts, TForm, TagForm}
 use Rattle.lt_tag.specs.Extensions.{transform, IsTransform}
-use Rattle.lt_tag.specs.Values.{extensions_of}
 use Rattle.lt_registry.specs.Parts.{EntryParts}
-use Rattle.lt_registry.specs.Validity.{Distinct, IsProperExtension, HasProperParts, IsValid}
+use Rattle.lt_registry.specs.Validity.{Distinct, IsValid}
 use Rattle.lt_registry.proofs.ValidityLaws.{valid_law}
-use Rattle.lt_rewrite.proofs.PartLists.{all_both}
+use Rattle.lt_rewrite.proofs.ValidExtensions.{can_settle}
 use Rattle.lt_rewrite.proofs.tests.settled_extensions.Goals as goal
-
--- what settling asks of the extensions of a valid tag
-record CanSettle (es : List ExtensionParts) : Type 0 where
-  singletons : Distinct (map (λ (e : ExtensionParts). e.singleton) es)
-  transforms : AllByRecursion (λ (e : ExtensionParts). e.singleton ≡ transform → (p : TForm) × IsTransform e.subtags p) es
-
-can_settle : (R : List EntryParts) (t : TagForm) → HasProperParts R t → CanSettle (extensions_of t)
-can_settle R (LangTag c es ps) h = record {
-  singletons = h.singletons;
-  transforms =
-      all_both (IsProperExtension R) (IsProperExtension R) (λ (e : ExtensionParts). e.singleton ≡ transform → (p : TForm) × IsTransform e.subtags p)
-      (λ e a b q. let p = a q in (p.0, p.1)) es h.extensions h.extensions;
-}
-can_settle R (PrivateUse ps) h = record { singletons = tt; transforms = tt }
-can_settle R (Grandfathered n) h = record { singletons = tt; transforms = tt }
 
 pub settle_extensions-requires-clause-singletons : goal.settle_extensions-requires-clause-singletons
 settle_extensions-requires-clause-singletons c =
