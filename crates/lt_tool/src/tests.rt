@@ -9,145 +9,170 @@ use std::alloc::{AllocError, Global};
 use std::io::{self, ErrorKind, Write};
 use std::test::Fail;
 
-/// What `read_words` answers to the words after the program's name.
-pub(crate) fn read(
-    alloc: Global,
-    words: &[&str],
-) -> Result<Result<Command, WordsFault>, AllocError> {
+/// The program's name, and the words behind it.
+fn command_line(alloc: Global, words: &[&str]) -> Result<Vec<String>, AllocError> {
     let mut all = Vec::new(alloc);
     all.push(String::from_str(alloc, "langtag")?)?;
     for word in words {
         all.push(String::from_str(alloc, word)?)?;
     }
-    Ok(read_words(alloc, &all))
+    Ok(all)
+}
+
+/// What `read_words` answers to the words after the program's name.
+fn read(alloc: Global, words: &[&str]) -> Result<Command, WordsFault> {
+    let all = command_line(alloc, words)?;
+    read_words(alloc, &all)
+}
+
+/// Words of `classify`, and the tag that they name.
+const CLASSIFY: [(&[&str], &str); 4] = [
+    (&["classify", "ZH-yue-hant-hk"], "ZH-yue-hant-hk"),
+    (&["classify", ""], ""),
+    (&["classify", "help"], "help"),
+    (&["classify", "--", "-x"], "-x"),
+];
+
+/// Whether the words are read as `classify` on this tag.
+fn is_classify(read: &Result<Command, WordsFault>, text: &str) -> bool {
+    matches!(read, Ok(Command::Classify(tag)) if tag.as_str() == text)
 }
 
 #[test]
-fn words_that_name_a_command(rt: HostRuntime) -> Result<(), Fail> {
-    let rows: [(&[&str], &str); 4] = [
-        (&["classify", "ZH-yue-hant-hk"], "ZH-yue-hant-hk"),
-        (&["classify", ""], ""),
-        (&["classify", "help"], "help"),
-        (&["classify", "--", "-x"], "-x"),
-    ];
-    for (words, text) in rows {
-        match read(rt.alloc(), words)? {
-            Ok(Command::Classify(tag)) => assert_eq!(rt; tag.as_str(), text),
-            other => panic!(rt; "{other:?} at {words:?}"),
-        }
+fn words_that_name_a_command(rt: HostRuntime) {
+    for (words, text) in &CLASSIFY {
+        assert!(rt; is_classify(&read(rt.alloc(), words), text));
     }
-    Ok(())
+}
+
+/// Words that name no command.
+const USAGES: [&[&str]; 8] = [
+    &[],
+    &["unknown"],
+    &["unknown", "en"],
+    &["classify"],
+    &["classify", "en", "fr"],
+    &["classify", "-x"],
+    &["help", "unknown"],
+    &["--version"],
+];
+
+/// Whether the words name no command, and a text says why.
+fn is_usage(read: &Result<Command, WordsFault>) -> bool {
+    matches!(read, Err(WordsFault::Usage(text)) if text.as_str().starts_with("error: "))
 }
 
 #[test]
-fn words_that_name_none(rt: HostRuntime) -> Result<(), Fail> {
-    let rows: [&[&str]; 8] = [
-        &[],
-        &["unknown"],
-        &["unknown", "en"],
-        &["classify"],
-        &["classify", "en", "fr"],
-        &["classify", "-x"],
-        &["help", "unknown"],
-        &["--version"],
-    ];
-    for words in rows {
-        match read(rt.alloc(), words)? {
-            Err(WordsFault::Usage(text)) => {
-                assert!(rt; text.as_str().starts_with("error: "), "{words:?}");
-            }
-            other => panic!(rt; "{other:?} at {words:?}"),
-        }
+fn words_that_name_none(rt: HostRuntime) {
+    for words in &USAGES {
+        assert!(rt; is_usage(&read(rt.alloc(), words)));
     }
     assert!(rt; matches!(&read_words(rt.alloc(), &[]), Err(WordsFault::Usage(_))));
-    Ok(())
+}
+
+/// Words that ask for help, and a line of it.
+const HELPS: [(&[&str], &str); 5] = [
+    (&["--help"], "Usage: langtag <COMMAND>"),
+    (&["-h"], "Usage: langtag <COMMAND>"),
+    (&["help"], "Usage: langtag <COMMAND>"),
+    (&["help", "classify"], "Usage: langtag classify <TAG>"),
+    (&["classify", "--help"], "Usage: langtag classify <TAG>"),
+];
+
+/// Whether the words ask for help that has this line.
+fn is_help(read: &Result<Command, WordsFault>, line: &str) -> bool {
+    matches!(read, Err(WordsFault::Help(text)) if text.as_str().contains(line))
 }
 
 #[test]
-fn words_that_ask_for_help(rt: HostRuntime) -> Result<(), Fail> {
-    let rows: [(&[&str], &str); 5] = [
-        (&["--help"], "Usage: langtag <COMMAND>"),
-        (&["-h"], "Usage: langtag <COMMAND>"),
-        (&["help"], "Usage: langtag <COMMAND>"),
-        (&["help", "classify"], "Usage: langtag classify <TAG>"),
-        (&["classify", "--help"], "Usage: langtag classify <TAG>"),
-    ];
-    for (words, usage) in rows {
-        match read(rt.alloc(), words)? {
-            Err(WordsFault::Help(text)) => {
-                assert!(rt; text.as_str().contains(usage), "{words:?}");
-            }
-            other => panic!(rt; "{other:?} at {words:?}"),
-        }
+fn words_that_ask_for_help(rt: HostRuntime) {
+    for (words, line) in &HELPS {
+        assert!(rt; is_help(&read(rt.alloc(), words), line));
     }
-    Ok(())
 }
 
-/// What a command writes to the output, where it writes nothing to the errors, and its status.
-fn printed(alloc: Global, command: &Command) -> Result<(String, u8), Fail> {
+/// Words, and the file that their command names first.
+const FILES: [(&[&str], Option<&str>); 5] = [
+    (&["classify", "en"], None),
+    (&["check", "registry"], Some("registry")),
+    (&["canon", "registry"], Some("registry")),
+    (&["extlang", "registry", "en"], Some("registry")),
+    (&["equal", "registry", "en", "fr"], Some("registry")),
+];
+
+/// Whether the words name a command whose first file is this one.
+fn names_file(read: &Result<Command, WordsFault>, file: Option<&str>) -> bool {
+    matches!(read, Ok(command) if command.first_file() == file)
+}
+
+#[test]
+fn first_files(rt: HostRuntime) {
+    for (words, file) in &FILES {
+        assert!(rt; names_file(&read(rt.alloc(), words), *file));
+    }
+}
+
+/// Whether the words name a command that prints this of a file and of the lines of the input, writes nothing to
+/// the errors, and ends so.
+fn prints(
+    alloc: Global,
+    words: &[&str],
+    file: &[u8],
+    lines: &[u8],
+    shown: &str,
+    status: u8,
+) -> bool {
+    let Ok(command) = read(alloc, words) else {
+        return false;
+    };
     let (mut output, mut errors) = (Vec::new(alloc), Vec::new(alloc));
-    let status = perform(
+    let end = perform(
         alloc,
-        command,
+        &command,
+        file,
         &[],
-        &[],
-        &mut Device::new(io::empty()),
+        &mut Device::new(lines),
         &mut Device::new(&mut output),
         &mut errors,
     );
-    output.extend_from_slice(&errors)?;
-    Ok((String::from_utf8(output)?, status))
+    end == status && errors.is_empty() && output.as_slice() == shown.as_bytes()
 }
 
-fn classify(alloc: Global, text: &str) -> Result<Command, AllocError> {
-    Ok(Command::Classify(String::from_str(alloc, text)?))
-}
+/// A text, what `classify` prints of it, and its status.
+const CLASSES: [(&str, &str, u8); 23] = [
+    ("ZH-yue-hant-hk", "langtag zh-yue-Hant-HK\n", 0),
+    ("sl-ROZAJ-1994", "langtag sl-rozaj-1994\n", 0),
+    ("en-1ABC", "langtag en-1abc\n", 0),
+    ("zh-MIN", "grandfathered zh-min\n", 0),
+    ("en-gb-OED", "grandfathered en-GB-oed\n", 0),
+    ("SGN-be-fr", "grandfathered sgn-BE-FR\n", 0),
+    ("ZH-min-nan", "grandfathered zh-min-nan\n", 0),
+    ("X-a", "privateuse x-a\n", 0),
+    ("art-lojban-x-A", "langtag art-lojban-x-a\n", 0),
+    ("en-1-AA-x-C-DD", "langtag en-1-aa-x-c-dd\n", 0),
+    ("abcd-efg", "! Misplaced 2\n", 1),
+    ("en-419-GB", "! Misplaced 3\n", 1),
+    ("en-aaa-bbb-ccc-ddd", "! Misplaced 5\n", 1),
+    ("e1", "! BadLanguage 1\n", 1),
+    ("en--us", "! EmptySubtag 2\n", 1),
+    ("en-abcdefgh_", "! BadByte 2\n", 1),
+    ("en-abcdefghi", "! LongSubtag 2\n", 1),
+    ("", "! EmptySubtag 1\n", 1),
+    ("a-bb", "! BadLanguage 1\n", 1),
+    ("en-a-b-cc", "! Misplaced 3\n", 1),
+    ("en-GB-oed-x-a", "! Misplaced 3\n", 1),
+    ("qaa-x", "! Unfinished 3\n", 1),
+    ("en-a", "! Unfinished 3\n", 1),
+];
 
 #[test]
-fn classes(rt: HostRuntime) -> Result<(), Fail> {
-    let rows = [
-        ("ZH-yue-hant-hk", "langtag zh-yue-Hant-HK\n"),
-        ("sl-ROZAJ-1994", "langtag sl-rozaj-1994\n"),
-        ("en-1ABC", "langtag en-1abc\n"),
-        ("zh-MIN", "grandfathered zh-min\n"),
-        ("en-gb-OED", "grandfathered en-GB-oed\n"),
-        ("SGN-be-fr", "grandfathered sgn-BE-FR\n"),
-        ("ZH-min-nan", "grandfathered zh-min-nan\n"),
-        ("X-a", "privateuse x-a\n"),
-        ("art-lojban-x-A", "langtag art-lojban-x-a\n"),
-        ("en-1-AA-x-C-DD", "langtag en-1-aa-x-c-dd\n"),
-    ];
-    for (text, line) in rows {
-        let (shown, status) = printed(rt.alloc(), &classify(rt.alloc(), text)?)?;
-        assert_eq!(rt; shown.as_str(), line, "{text}");
-        assert_eq!(rt; status, 0, "{text}");
+fn classes(rt: HostRuntime) {
+    for (text, line, status) in &CLASSES {
+        assert!(rt;
+            prints(rt.alloc(), &["classify", *text], b"", b"", line, *status),
+            "{text}"
+        );
     }
-    Ok(())
-}
-
-#[test]
-fn refusals(rt: HostRuntime) -> Result<(), Fail> {
-    let rows = [
-        ("abcd-efg", "! Misplaced 2\n"),
-        ("en-419-GB", "! Misplaced 3\n"),
-        ("en-aaa-bbb-ccc-ddd", "! Misplaced 5\n"),
-        ("e1", "! BadLanguage 1\n"),
-        ("en--us", "! EmptySubtag 2\n"),
-        ("en-abcdefgh_", "! BadByte 2\n"),
-        ("en-abcdefghi", "! LongSubtag 2\n"),
-        ("", "! EmptySubtag 1\n"),
-        ("a-bb", "! BadLanguage 1\n"),
-        ("en-a-b-cc", "! Misplaced 3\n"),
-        ("en-GB-oed-x-a", "! Misplaced 3\n"),
-        ("qaa-x", "! Unfinished 3\n"),
-        ("en-a", "! Unfinished 3\n"),
-    ];
-    for (text, line) in rows {
-        let (shown, status) = printed(rt.alloc(), &classify(rt.alloc(), text)?)?;
-        assert_eq!(rt; shown.as_str(), line, "{text}");
-        assert_eq!(rt; status, 1, "{text}");
-    }
-    Ok(())
 }
 
 /// `en`, then 113 times `-aaaaaaaa`, then this end.
@@ -160,20 +185,23 @@ fn long_text(alloc: Global, end: &str) -> Result<String, AllocError> {
     Ok(text)
 }
 
+/// Whether this text of 1,024 bytes is a langtag in conventional case.
+fn is_longest(alloc: Global, text: &str) -> Result<bool, AllocError> {
+    let line = format!(in alloc; "langtag {text}\n")?;
+    Ok(text.len() == 1024 && prints(alloc, &["classify", text], b"", b"", &line, 0))
+}
+
+/// Whether this text of 1,025 bytes is refused.
+fn is_too_long(alloc: Global, text: &str) -> bool {
+    text.len() == 1025 && prints(alloc, &["classify", text], b"", b"", "! TooLong 0\n", 1)
+}
+
 #[test]
 fn longest_texts(rt: HostRuntime) -> Result<(), Fail> {
-    let alloc = rt.alloc();
-    let longest = long_text(alloc, "-1aaa")?;
-    assert_eq!(rt; longest.len(), 1024);
-    let line = format!(in alloc; "langtag {longest}\n")?;
-    let (shown, status) = printed(alloc, &Command::Classify(longest))?;
-    assert_eq!(rt; shown.as_str(), line.as_str());
-    assert_eq!(rt; status, 0);
-    let longer = long_text(alloc, "-aaaaa")?;
-    assert_eq!(rt; longer.len(), 1025);
-    let (shown, status) = printed(alloc, &Command::Classify(longer))?;
-    assert_eq!(rt; shown.as_str(), "! TooLong 0\n");
-    assert_eq!(rt; status, 1);
+    let longest = long_text(rt.alloc(), "-1aaa")?;
+    assert!(rt; is_longest(rt.alloc(), &longest)?);
+    let longer = long_text(rt.alloc(), "-aaaaa")?;
+    assert!(rt; is_too_long(rt.alloc(), &longer));
     Ok(())
 }
 
@@ -196,66 +224,56 @@ impl Write for Broken {
     }
 }
 
+/// The status of a command whose output is broken.
+fn perform_broken<E: Write>(alloc: Global, command: &Command, fails: bool, errors: &mut E) -> u8 {
+    let mut input = Device::new(io::empty());
+    let mut output = Device::new(Broken { fails });
+    perform(alloc, command, &[], &[], &mut input, &mut output, errors)
+}
+
+/// Whether a text's class meets a write that fails, which the errors name where they can.
+fn names_write(alloc: Global, text: &str, fails: bool) -> bool {
+    let Ok(command) = read(alloc, &["classify", text]) else {
+        return false;
+    };
+    let mut errors = Vec::new(alloc);
+    perform_broken(alloc, &command, fails, &mut errors) == 4
+        && errors.as_slice() == b"! Write\n".as_slice()
+        && perform_broken(alloc, &command, fails, &mut Broken { fails }) == 4
+}
+
 #[test]
-fn writes_that_fail(rt: HostRuntime) -> Result<(), Fail> {
-    let alloc = rt.alloc();
-    for fails in [true, false] {
-        for text in ["en", "en-a"] {
-            let command = classify(alloc, text)?;
-            let mut output = Device::new(Broken { fails });
-            let mut errors = Vec::new(alloc);
-            let status = perform(
-                alloc,
-                &command,
-                &[],
-                &[],
-                &mut Device::new(io::empty()),
-                &mut output,
-                &mut errors,
-            );
-            assert_eq!(rt; errors.as_slice(), b"! Write\n".as_slice(), "{text}");
-            assert_eq!(rt; status, 4, "{text}");
-            let mut errors = Broken { fails };
-            let status = perform(
-                alloc,
-                &command,
-                &[],
-                &[],
-                &mut Device::new(io::empty()),
-                &mut output,
-                &mut errors,
-            );
-            assert_eq!(rt; status, 4, "{text}");
-        }
+fn writes_that_fail(rt: HostRuntime) {
+    for text in &["en", "en-a"] {
+        assert!(rt; names_write(rt.alloc(), text, true));
+        assert!(rt; names_write(rt.alloc(), text, false));
     }
-    Ok(())
+}
+
+/// Whether a fault of the words prints this, says this to the errors, and ends so.
+fn reports(alloc: Global, fault: &WordsFault, printed: &str, said: &str, end: Status) -> bool {
+    let (mut output, mut errors) = (Vec::new(alloc), Vec::new(alloc));
+    let status = report(fault, &mut output, &mut errors);
+    status == end.code()
+        && output.as_slice() == printed.as_bytes()
+        && errors.as_slice() == said.as_bytes()
+}
+
+/// Whether a fault of the words that can't be printed is named on the errors.
+fn reports_write(alloc: Global, fault: &WordsFault) -> bool {
+    let mut errors = Vec::new(alloc);
+    let status = report(fault, &mut Broken { fails: true }, &mut errors);
+    status == 4 && errors.as_slice() == b"! Write\n".as_slice()
 }
 
 #[test]
 fn faults_of_the_words(rt: HostRuntime) -> Result<(), Fail> {
-    let alloc = rt.alloc();
-    let help = WordsFault::Help(String::from_str(alloc, "how")?);
-    let usage = WordsFault::Usage(String::from_str(alloc, "what")?);
-    let rows = [
-        (&help, "how", "", Status::Done),
-        (&usage, "", "what", Status::Usage),
-        (
-            &WordsFault::OutOfMemory,
-            "",
-            "! OutOfMemory\n",
-            Status::Failed,
-        ),
-    ];
-    for (fault, printed, said, end) in rows {
-        let (mut output, mut errors) = (Vec::new(alloc), Vec::new(alloc));
-        let status = report(fault, &mut output, &mut errors);
-        assert_eq!(rt; output.as_slice(), printed.as_bytes());
-        assert_eq!(rt; errors.as_slice(), said.as_bytes());
-        assert_eq!(rt; status, end.code());
-    }
-    let mut errors = Vec::new(alloc);
-    let status = report(&help, &mut Broken { fails: true }, &mut errors);
-    assert_eq!(rt; errors.as_slice(), b"! Write\n".as_slice());
-    assert_eq!(rt; status, 4);
+    let help = WordsFault::Help(String::from_str(rt.alloc(), "how")?);
+    assert!(rt; reports(rt.alloc(), &help, "how", "", Status::Done));
+    assert!(rt; reports_write(rt.alloc(), &help));
+    let usage = WordsFault::Usage(String::from_str(rt.alloc(), "what")?);
+    assert!(rt; reports(rt.alloc(), &usage, "", "what", Status::Usage));
+    let memory = WordsFault::OutOfMemory;
+    assert!(rt; reports(rt.alloc(), &memory, "", "! OutOfMemory\n", Status::Failed));
     Ok(())
 }

@@ -1,6 +1,7 @@
 //! The commands that read a registry: `check` and `canon`.
-use super::sample::{push_record, sample_text, sample_with_returns};
-use crate::{Command, ToolFault, perform, run_lines};
+use super::prints;
+use super::sample::{FOLDED, push_record, sample_text};
+use crate::{ToolFault, run_lines};
 use lt_canon::Checked;
 use lt_jar::{Device, read_jar};
 use lt_registry::{Registry, SortedTable};
@@ -14,91 +15,73 @@ const LINES: &[u8] = b"zh-yue\r\nfr\n\nsgn-dd";
 /// What is owed for them.
 const OWED: &str = "yue\n! UnknownLanguage 1\n! EmptySubtag 1\ngsg\n";
 
-/// What a command writes to the output, then to the errors, and its status.
-pub(super) fn printed(
+/// Whether a command on the registry of a file prints this to the lines of the input, and ends so.
+fn prints_of(
     alloc: Global,
-    command: &Command,
+    name: &str,
     file: &[u8],
     lines: &[u8],
-) -> Result<(String, u8), Fail> {
-    let (mut output, mut errors) = (Vec::new(alloc), Vec::new(alloc));
-    let status = perform(
-        alloc,
-        command,
-        file,
-        &[],
-        &mut Device::new(lines),
-        &mut Device::new(&mut output),
-        &mut errors,
-    );
-    output.extend_from_slice(&errors)?;
-    Ok((String::from_utf8(output)?, status))
-}
-
-fn check(alloc: Global) -> Result<Command, AllocError> {
-    Ok(Command::Check(String::from_str(alloc, "registry")?))
-}
-
-fn canon(alloc: Global) -> Result<Command, AllocError> {
-    Ok(Command::Canon(String::from_str(alloc, "registry")?))
+    shown: &str,
+    status: u8,
+) -> bool {
+    prints(alloc, &[name, "registry"], file, lines, shown, status)
 }
 
 #[test]
 fn registries_that_pass(rt: HostRuntime) -> Result<(), Fail> {
-    let alloc = rt.alloc();
-    let sample = sample_text(alloc)?;
-    for (file, line) in [(sample.as_str(), "ok 46\n"), ("", "ok 0\n")] {
-        let (shown, status) = printed(alloc, &check(alloc)?, file.as_bytes(), b"")?;
-        assert_eq!(rt; shown.as_str(), line);
-        assert_eq!(rt; status, 0);
-    }
+    let sample = sample_text(rt.alloc(), "\n", "")?;
+    assert!(rt; prints_of(rt.alloc(), "check", sample.as_bytes(), b"", "ok 46\n", 0));
+    assert!(rt; prints_of(rt.alloc(), "check", b"", b"", "ok 0\n", 0));
     Ok(())
+}
+
+/// Whether `check` passes this file of 46 entries without its last line end.
+fn passes_without_end(alloc: Global, file: &str) -> bool {
+    match file.as_bytes().strip_suffix(b"\r\n") {
+        Some(front) => {
+            front.ends_with(b"zh-Hans") && prints_of(alloc, "check", front, b"", "ok 46\n", 0)
+        }
+        None => false,
+    }
 }
 
 #[test]
 fn carriage_returns_and_no_last_line_end(rt: HostRuntime) -> Result<(), Fail> {
-    let alloc = rt.alloc();
-    let text = sample_with_returns(alloc)?;
-    let Some(file) = text.as_bytes().strip_suffix(b"\r\n") else {
-        panic!(rt; "the last line has no end");
-    };
-    assert!(rt; file.ends_with(b"zh-Hans"));
-    let (shown, status) = printed(alloc, &check(alloc)?, file, b"")?;
-    assert_eq!(rt; shown.as_str(), "ok 46\n");
-    assert_eq!(rt; status, 0);
+    let text = sample_text(rt.alloc(), "\r\n", FOLDED)?;
+    assert!(rt; passes_without_end(rt.alloc(), &text));
     Ok(())
+}
+
+/// Whether the commands refuse a file by this line.
+fn is_refused(alloc: Global, file: &str, line: &str) -> bool {
+    prints_of(alloc, "check", file.as_bytes(), b"", line, 2)
+        && prints_of(alloc, "canon", file.as_bytes(), b"", line, 2)
 }
 
 #[test]
 fn registries_that_are_refused(rt: HostRuntime) -> Result<(), Fail> {
-    let alloc = rt.alloc();
-    let mut repeated = sample_text(alloc)?;
-    push_record(&mut repeated, ("language", "de", "", ""), "\n")?;
-    let rows = [
-        ("abc", "jar BadLine line 1\n"),
-        ("Subtag: en", "record 1 MissingType\n"),
-        (repeated.as_str(), "check C1 record 48\n"),
-    ];
-    for (file, line) in rows {
-        for command in [&check(alloc)?, &canon(alloc)?] {
-            let (shown, status) = printed(alloc, command, file.as_bytes(), b"")?;
-            assert_eq!(rt; shown.as_str(), line);
-            assert_eq!(rt; status, 2);
-        }
-    }
+    assert!(rt; is_refused(rt.alloc(), "abc", "jar BadLine line 1\n"));
+    assert!(rt; is_refused(rt.alloc(), "Subtag: en", "record 1 MissingType\n"));
+    let mut repeated = sample_text(rt.alloc(), "\n", "")?;
+    push_record(&mut repeated, &("language", "de", "", ""), "\n")?;
+    assert!(rt; is_refused(rt.alloc(), &repeated, "check C1 record 48\n"));
     Ok(())
 }
 
 #[test]
 fn lines_are_answered(rt: HostRuntime) -> Result<(), Fail> {
-    let alloc = rt.alloc();
-    let sample = sample_text(alloc)?;
-    let (shown, status) = printed(alloc, &canon(alloc)?, sample.as_bytes(), LINES)?;
-    assert_eq!(rt; shown.as_str(), OWED);
-    assert_eq!(rt; status, 1);
-    let (shown, status) = printed(alloc, &canon(alloc)?, sample.as_bytes(), b"iw-x-A\n")?;
-    assert_eq!(rt; shown.as_str(), "he-x-a\n");
-    assert_eq!(rt; status, 0);
+    let sample = sample_text(rt.alloc(), "\n", "")?;
+    assert!(rt; prints_of(rt.alloc(), "canon", sample.as_bytes(), LINES, OWED, 1));
+    assert!(rt;
+        prints_of(
+            rt.alloc(),
+            "canon",
+            sample.as_bytes(),
+            b"iw-x-A\n",
+            "he-x-a\n",
+            0
+        )
+    );
     Ok(())
 }
 
@@ -124,7 +107,7 @@ impl Read for Pieces<'_> {
 }
 
 fn checked(alloc: Global) -> Result<Option<Checked<SortedTable>>, AllocError> {
-    let sample = sample_text(alloc)?;
+    let sample = sample_text(alloc, "\n", "")?;
     let Ok(jar) = read_jar(alloc, sample.as_bytes()) else {
         return Ok(None);
     };
@@ -137,48 +120,49 @@ fn checked(alloc: Global) -> Result<Option<Checked<SortedTable>>, AllocError> {
     Ok(Checked::new(alloc, table).ok())
 }
 
-#[test]
-fn lines_in_pieces(rt: HostRuntime) -> Result<(), Fail> {
-    let alloc = rt.alloc();
-    let Some(checked) = checked(alloc)? else {
-        panic!(rt; "the sample does not pass");
+/// The length of the pieces that a reader gives, the calls before it fails, what is written of a run over its
+/// lines, and whether the run reaches their end.
+const READS: [(usize, usize, &str, bool); 9] = [
+    (1, 64, OWED, true),
+    (2, 64, OWED, true),
+    (3, 64, OWED, true),
+    (7, 64, OWED, true),
+    (64, 64, OWED, true),
+    (4, 0, "", false),
+    (4, 2, "yue\n", false),
+    (4, 3, "yue\n! UnknownLanguage 1\n! EmptySubtag 1\n", false),
+    (4, 4, "yue\n! UnknownLanguage 1\n! EmptySubtag 1\n", false),
+];
+
+/// Whether a run over a reader's lines writes this, and reaches their end or names the read that failed.
+fn answers(
+    alloc: Global,
+    checked: &Checked<SortedTable>,
+    reader: Pieces,
+    owed: &str,
+    at_end: bool,
+) -> bool {
+    let mut output = Vec::new(alloc);
+    let mut input = Device::new(reader);
+    let ends = match run_lines(alloc, checked, &mut input, &mut Device::new(&mut output)) {
+        Ok(counts) => at_end && counts.lines == 4 && counts.refused == 2,
+        Err(fault) => !at_end && fault == ToolFault::Read,
     };
-    for piece in [1, 2, 3, 7, 64] {
-        let mut output = Vec::new(alloc);
-        let mut input = Device::new(Pieces {
-            bytes: LINES,
-            piece,
-            calls_left: 64,
-        });
-        let end = run_lines(alloc, &checked, &mut input, &mut Device::new(&mut output));
-        assert!(rt; matches!(end, Ok(counts) if counts.lines == 4 && counts.refused == 2));
-        assert_eq!(rt; output.as_slice(), OWED.as_bytes());
-    }
-    Ok(())
+    ends && output.as_slice() == owed.as_bytes()
 }
 
 #[test]
-fn reads_that_fail(rt: HostRuntime) -> Result<(), Fail> {
-    let alloc = rt.alloc();
-    let Some(checked) = checked(alloc)? else {
+fn lines_in_pieces(rt: HostRuntime) -> Result<(), Fail> {
+    let Some(checked) = checked(rt.alloc())? else {
         panic!(rt; "the sample does not pass");
     };
-    let rows: [(usize, &str); 4] = [
-        (0, ""),
-        (2, "yue\n"),
-        (3, "yue\n! UnknownLanguage 1\n! EmptySubtag 1\n"),
-        (4, "yue\n! UnknownLanguage 1\n! EmptySubtag 1\n"),
-    ];
-    for (calls_left, owed) in rows {
-        let mut output = Vec::new(alloc);
-        let mut input = Device::new(Pieces {
+    for (piece, calls_left, owed, at_end) in &READS {
+        let reader = Pieces {
             bytes: LINES,
-            piece: 4,
-            calls_left,
-        });
-        let end = run_lines(alloc, &checked, &mut input, &mut Device::new(&mut output));
-        assert!(rt; matches!(end, Err(ToolFault::Read)));
-        assert_eq!(rt; output.as_slice(), owed.as_bytes());
+            piece: *piece,
+            calls_left: *calls_left,
+        };
+        assert!(rt; answers(rt.alloc(), &checked, reader, owed, *at_end));
     }
     Ok(())
 }
@@ -208,27 +192,32 @@ impl Write for Narrow<'_> {
     }
 }
 
+/// The writes before one fails, and what was written of a run then.
+const WRITES: [(usize, &str); 4] = [
+    (0, ""),
+    (1, "yue\n! UnknownLan"),
+    (2, "yue\n! UnknownLanguage 1\n! EmptyS"),
+    (3, "yue\n! UnknownLanguage 1\n! EmptySubtag 1\n"),
+];
+
+/// Whether a run over the lines writes this before the write that fails, and names that write.
+fn stops(alloc: Global, checked: &Checked<SortedTable>, calls_left: usize, owed: &str) -> bool {
+    let mut taken = Vec::new(alloc);
+    let mut output = Device::new(Narrow {
+        taken: &mut taken,
+        calls_left,
+    });
+    let end = run_lines(alloc, checked, &mut Device::new(LINES), &mut output);
+    matches!(end, Err(ToolFault::Write)) && taken.as_slice() == owed.as_bytes()
+}
+
 #[test]
 fn writes_of_a_run_that_fail(rt: HostRuntime) -> Result<(), Fail> {
-    let alloc = rt.alloc();
-    let Some(checked) = checked(alloc)? else {
+    let Some(checked) = checked(rt.alloc())? else {
         panic!(rt; "the sample does not pass");
     };
-    let rows: [(usize, &str); 4] = [
-        (0, ""),
-        (1, "yue\n! UnknownLan"),
-        (2, "yue\n! UnknownLanguage 1\n! EmptyS"),
-        (3, "yue\n! UnknownLanguage 1\n! EmptySubtag 1\n"),
-    ];
-    for (calls_left, owed) in rows {
-        let mut taken = Vec::new(alloc);
-        let mut output = Device::new(Narrow {
-            taken: &mut taken,
-            calls_left,
-        });
-        let end = run_lines(alloc, &checked, &mut Device::new(LINES), &mut output);
-        assert!(rt; matches!(end, Err(ToolFault::Write)));
-        assert_eq!(rt; taken.as_slice(), owed.as_bytes());
+    for (calls_left, owed) in &WRITES {
+        assert!(rt; stops(rt.alloc(), &checked, *calls_left, owed));
     }
     Ok(())
 }

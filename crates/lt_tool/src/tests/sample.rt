@@ -1,9 +1,11 @@
 //! A small registry for tests, modelled on IANA's: `examples/sample-registry.txt` has its text.
 use std::alloc::{AllocError, Global};
 
-/// The records behind the header, 2 to 47: type, name, preferred value and prefix. An empty text
-/// stands for no field.
-pub const ROWS: [(&str, &str, &str, &str); 46] = [
+/// A record: type, name, preferred value and prefix. An empty text stands for no field.
+pub type Row = (&'static str, &'static str, &'static str, &'static str);
+
+/// The records behind the header, 2 to 47.
+const ROWS: [Row; 46] = [
     ("language", "de", "", ""),
     ("language", "en", "", ""),
     ("language", "gan", "", ""),
@@ -53,63 +55,52 @@ pub const ROWS: [(&str, &str, &str, &str); 46] = [
 ];
 
 /// The line that the header has.
-pub const HEADER: &str = "File-Date: 2024-01-01";
+const HEADER: &str = "File-Date: 2024-01-01";
 
-/// Puts the lines of a record behind the text, the separator first, with this end behind each line.
-pub fn push_record(
-    text: &mut String,
-    row: (&str, &str, &str, &str),
-    line_end: &str,
-) -> Result<(), AllocError> {
-    let (kind, name, value, prefix) = row;
-    push_line(text, "%%", "", line_end)?;
-    push_line(text, "Type: ", kind, line_end)?;
-    let label = if kind == "grandfathered" || kind == "redundant" {
-        "Tag: "
-    } else {
-        "Subtag: "
-    };
-    push_line(text, label, name, line_end)?;
-    if !value.is_empty() {
-        push_line(text, "Preferred-Value: ", value, line_end)?;
-    }
-    if !prefix.is_empty() {
-        push_line(text, "Prefix: ", prefix, line_end)?;
-    }
-    Ok(())
-}
+/// A field of two lines, with carriage returns.
+pub const FOLDED: &str = "Description: Modern\r\n Hebrew\r\n";
 
-/// Puts one line behind the text.
-pub fn push_line(
-    text: &mut String,
-    label: &str,
-    body: &str,
-    line_end: &str,
-) -> Result<(), AllocError> {
+/// Puts a line behind the text.
+fn push_line(text: &mut String, label: &str, body: &str, end: &str) -> Result<(), AllocError> {
     text.push_str(label)?;
     text.push_str(body)?;
-    text.push_str(line_end)
+    text.push_str(end)
 }
 
-/// The text of the registry.
-pub fn sample_text(alloc: Global) -> Result<String, AllocError> {
-    let mut text = String::new(alloc);
-    push_line(&mut text, HEADER, "", "\n")?;
-    for row in ROWS {
-        push_record(&mut text, row, "\n")?;
+/// Puts the line of a field behind the text, unless the body is empty.
+fn push_field(text: &mut String, label: &str, body: &str, end: &str) -> Result<(), AllocError> {
+    if body.is_empty() {
+        return Ok(());
     }
-    Ok(text)
+    push_line(text, label, body, end)
 }
 
-/// The text with carriage returns and a field of two lines in the sixth record, the last line's end included.
-pub fn sample_with_returns(alloc: Global) -> Result<String, AllocError> {
+/// The label of the field that holds the name of a record of this type.
+fn name_label(kind: &str) -> &'static str {
+    match kind {
+        "grandfathered" | "redundant" => "Tag: ",
+        _ => "Subtag: ",
+    }
+}
+
+/// Puts the lines of a record behind the text, the separator first, with this end behind each line.
+pub fn push_record(text: &mut String, row: &Row, end: &str) -> Result<(), AllocError> {
+    let (kind, name, value, prefix) = row;
+    push_line(text, "%%", "", end)?;
+    push_line(text, "Type: ", kind, end)?;
+    push_line(text, name_label(kind), name, end)?;
+    push_field(text, "Preferred-Value: ", value, end)?;
+    push_field(text, "Prefix: ", prefix, end)
+}
+
+/// The text of the registry, with this end behind each line and this field last in the record of `he`.
+pub fn sample_text(alloc: Global, end: &str, field: &str) -> Result<String, AllocError> {
     let mut text = String::new(alloc);
-    push_line(&mut text, HEADER, "", "\r\n")?;
-    for row in ROWS {
-        push_record(&mut text, row, "\r\n")?;
+    push_line(&mut text, HEADER, "", end)?;
+    for row in &ROWS {
+        push_record(&mut text, row, end)?;
         if row.1 == "he" {
-            push_line(&mut text, "Description: Modern", "", "\r\n")?;
-            push_line(&mut text, " Hebrew", "", "\r\n")?;
+            text.push_str(field)?;
         }
     }
     Ok(text)

@@ -1,9 +1,7 @@
 //! The commands on one or two tags: `extlang` and `equal`.
-use super::read;
-use super::registries::printed;
 use super::sample::sample_text;
-use crate::Command;
-use std::alloc::Global;
+use super::{prints, read};
+use crate::{Command, WordsFault};
 use std::test::Fail;
 
 /// Two tags, what `equal` prints of them, and its status.
@@ -33,56 +31,38 @@ const FORMS: [(&str, &str, u8); 5] = [
     ("en-a", "! Unfinished 3\n", 1),
 ];
 
-/// Whether the words are read as a command on a registry, and it prints this line of the sample and ends so.
-fn prints(
-    alloc: Global,
-    sample: &[u8],
-    words: &[&str],
-    line: &str,
-    status: u8,
-) -> Result<bool, Fail> {
-    let Ok(command) = read(alloc, words)? else {
-        return Ok(false);
-    };
-    if command.first_file() != Some("registry") {
-        return Ok(false);
-    }
-    let (shown, end) = printed(alloc, &command, sample, b"")?;
-    Ok(shown.as_str() == line && end == status)
-}
-
 #[test]
 fn pairs_of_tags(rt: HostRuntime) -> Result<(), Fail> {
-    let alloc = rt.alloc();
-    let sample = sample_text(alloc)?;
+    let sample = sample_text(rt.alloc(), "\n", "")?;
     for (tag, other, line, status) in &PAIRS {
         let words = ["equal", "registry", *tag, *other];
-        assert!(rt; prints(alloc, sample.as_bytes(), &words, line, *status)?);
+        assert!(rt; prints(rt.alloc(), &words, sample.as_bytes(), b"", line, *status));
     }
     Ok(())
 }
 
 #[test]
 fn extlang_forms(rt: HostRuntime) -> Result<(), Fail> {
-    let alloc = rt.alloc();
-    let sample = sample_text(alloc)?;
+    let sample = sample_text(rt.alloc(), "\n", "")?;
     for (tag, line, status) in &FORMS {
         let words = ["extlang", "registry", *tag];
-        assert!(rt; prints(alloc, sample.as_bytes(), &words, line, *status)?);
+        assert!(rt; prints(rt.alloc(), &words, sample.as_bytes(), b"", line, *status));
     }
     Ok(())
 }
 
-#[test]
-fn words_of_a_pair(rt: HostRuntime) -> Result<(), Fail> {
-    let words = ["equal", "registry", "YUE", "zh-yue"];
-    match read(rt.alloc(), &words)? {
-        Ok(Command::Equal(file, tag, other)) => {
-            assert_eq!(rt; file.as_str(), "registry");
-            assert_eq!(rt; tag.as_str(), "YUE");
-            assert_eq!(rt; other.as_str(), "zh-yue");
+/// Whether the words are read as `equal` on this file and these tags.
+fn is_equal(read: &Result<Command, WordsFault>, file: &str, tag: &str, other: &str) -> bool {
+    match read {
+        Ok(Command::Equal(first, second, third)) => {
+            first.as_str() == file && second.as_str() == tag && third.as_str() == other
         }
-        other => panic!(rt; "{other:?}"),
+        _ => false,
     }
-    Ok(())
+}
+
+#[test]
+fn words_of_a_pair(rt: HostRuntime) {
+    let command = read(rt.alloc(), &["equal", "registry", "YUE", "zh-yue"]);
+    assert!(rt; is_equal(&command, "registry", "YUE", "zh-yue"));
 }
