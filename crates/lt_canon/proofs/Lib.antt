@@ -40,3 +40,5 @@ pub mod FirstFaults
 pub mod OwnNames
 pub mod Judging
 pub mod Tracing
+pub mod FirstTagSteps
+pub mod Explained

@@ -2,12 +2,16 @@
 -- leftmost Variant and VariantLanguage on the core; Whole; the leftmost SwapExtensions; in a u extension the leftmost
 -- DropAttribute, SwapAttributes, DropKeyword, SwapKeywords and DropTrue; the steps on a core on the source of a t
 -- extension; the leftmost SwapFields.
-use Rattle.std.specs.Prelude.{ℕ, ◌≡◌, ◌+◌, nat_le, ◌&&◌, Bool, false, if◌then◌else◌, List, length}
-use Rattle.lt_tag.specs.Parts.{TagForm, LangTag, PrivateUse, Grandfathered}
+use Rattle.std.specs.Prelude.{ℕ, ◌≡◌, ◌+◌, nat_le, ◌&&◌, Bool, false, if◌then◌else◌, List, Some, length}
+use Rattle.lt_tag.specs.Parts.{CoreParts, TagForm, LangTag, PrivateUse, Grandfathered}
 use Rattle.lt_tag.specs.Spelling.{spell_core}
+use Rattle.lt_tag.specs.Values.{core_of}
 use Rattle.lt_registry.specs.Parts.{EntryParts}
+use Rattle.lt_rewrite.specs.Rewriting.{Rests}
+use Rattle.lt_rewrite.specs.TagSteps.{TagStep}
 use Rattle.lt_rewrite.specs.Labels.{LeadsBy, IsTrace}
-use Rattle.lt_rewrite.specs.Runs.{kind_rank, extension_rank, IsRun}
+use Rattle.lt_rewrite.specs.Applying.{CoreLeads}
+use Rattle.lt_rewrite.specs.Runs.{kind_rank, extension_rank, IsRun, NoneLeads, Adds}
 use Rattle.lt_rewrite.specs.declared.steps.Step.{Step}
 use Rattle.lt_canon.specs.Answers.{IsCanonicalFormOf}
 
@@ -26,3 +30,13 @@ pub record IsExplanation (R : List EntryParts) (t : TagForm) (steps : List Step)
   pub form : IsCanonicalFormOf R t end
   pub trace : IsTrace R t steps end
   pub is_run : IsRun (LeadsBy R) rank_in t steps end
+
+-- no step leads on from the core of a tag, if it has one
+abbrev pub RestsOnCore : List EntryParts → TagForm → Type 0
+RestsOnCore R t = (c : CoreParts) → core_of t ≡ Some c → NoneLeads (CoreLeads R 0 c)
+
+-- steps are added, each the first that leads on, to a tag from which none does
+pub record LeadsToRest (R : List EntryParts) (t : TagForm) (old new : List Step) : Type 0 where
+  pub end : TagForm
+  pub adds : Adds (LeadsBy R) rank_in t end old new
+  pub at_rest : Rests (TagStep R) end

@@ -1,13 +1,20 @@
 //! Explanations: the steps to a canonical tag, one after another (RFC 5646, 4.5).
 ghost use Rattle.std.specs.Prelude.{IfOk, IfErr, Err};
+ghost use Rattle.lt_registry.specs.Validity.{IsProper};
+ghost use Rattle.lt_rewrite.specs.TagSteps.{IsPlain};
+ghost use Rattle.lt_canon.specs.Conditions.{IsChecked};
 ghost use Rattle.lt_canon.specs.Answers.{IsCanonicalAnswer};
-ghost use Rattle.lt_canon.specs.Explaining.{IsExplanation};
+ghost use Rattle.lt_canon.specs.Explaining.{IsExplanation, RestsOnCore, LeadsToRest};
 
+use crate::canonical_tags::canonical;
 use crate::checked::Checked;
+use crate::copies::copy_extensions;
 use crate::refusals::Refusal;
 use crate::traces::Trace;
+use crate::whole_values::tag_value;
 use lt_registry::Lookup;
-use lt_tag::Tag;
+use lt_rewrite::{Step, StepKind, core_length, explain_core, explain_extensions};
+use lt_tag::{OutOfMemory, Tag};
 use std::alloc::Global;
 
 /// The steps that lead from a tag to its canonical form (RFC 5646, 4.5), and that form. Each step is the
@@ -15,13 +22,72 @@ use std::alloc::Global;
 /// VariantLanguage; Whole; the leftmost SwapExtensions; in a `u` extension the leftmost DropAttribute,
 /// SwapAttributes, DropKeyword, SwapKeywords and DropTrue; on the source of a `t` extension the steps
 /// on a core; the leftmost SwapFields. It is refused as `canonical` refuses.
-pub fn explain<L: Lookup>(
-    _alloc: Global,
-    _checked: &Checked<L>,
-    _tag: &Tag,
-) -> Result<Trace, Refusal>
-    ensures ok { IfOk result (λ trace. IsExplanation (L.listed _checked.now) _tag.now trace.steps.items trace.last) }
-    ensures err { IfErr result (λ refusal. IsCanonicalAnswer (L.listed _checked.now) _tag.now (Err refusal)) }
+pub fn explain<L: Lookup>(alloc: Global, checked: &Checked<L>, tag: &Tag) -> Result<Trace, Refusal>
+    ensures ok { IfOk result (λ trace. IsExplanation (L.listed checked.now) tag.now trace.steps.items trace.last) }
+    ensures err { IfErr result (λ refusal. IsCanonicalAnswer (L.listed checked.now) tag.now (Err refusal)) }
 {
-    Err(Refusal::OutOfMemory)
+    let last = canonical(alloc, checked, tag)?;
+    let mut steps = Vec::new(alloc);
+    explain_tag(alloc, checked.table(), tag, &mut steps)?;
+    Ok(Trace { steps, last })
+}
+
+/// Takes the steps on a tag, each the first that leads on, until none does, and adds them to others.
+fn explain_tag<L: Lookup>(
+    alloc: Global,
+    table: &L,
+    tag: &Tag,
+    steps: &mut Vec<Step>,
+) -> Result<(), OutOfMemory>
+    requires checked { IsChecked (L.listed table.now) }
+    requires proper { IsProper (L.listed table.now) tag.now }
+    ensures { IfOk result (λ _. LeadsToRest (L.listed table.now) tag.now steps.old.items steps.new.items) }
+{
+    let Some(core) = tag.core() else {
+        if tag.grandfathered().is_none() {
+            return Ok(());
+        }
+        return explain_whole(alloc, table, tag, steps);
+    };
+    let mut settled = core.copy(alloc)?;
+    explain_core(table, &mut settled, 0, steps)?;
+    let (extensions, private) = (tag.extensions(), tag.private());
+    if extensions.is_empty() && private.is_empty() {
+        let settled = Tag::from_parts(settled, Vec::new(alloc), Vec::new(alloc));
+        return explain_whole(alloc, table, &settled, steps);
+    }
+    let mut others = copy_extensions(alloc, extensions)?;
+    explain_extensions(alloc, table, &mut others, core_length(&settled), steps)
+}
+
+/// Takes the Whole step of a tag whose core is at rest, if its record has a value, and the steps on the
+/// core of the value, and adds them to others.
+fn explain_whole<L: Lookup>(
+    alloc: Global,
+    table: &L,
+    tag: &Tag,
+    steps: &mut Vec<Step>,
+) -> Result<(), OutOfMemory>
+    requires checked { IsChecked (L.listed table.now) }
+    requires proper { IsProper (L.listed table.now) tag.now }
+    requires plain { IsPlain tag.now }
+    requires at_rest { RestsOnCore (L.listed table.now) tag.now }
+    ensures { IfOk result (λ _. LeadsToRest (L.listed table.now) tag.now steps.old.items steps.new.items) }
+{
+    let Some(entry) = table.whole(tag) else {
+        return Ok(());
+    };
+    let Some(value) = tag_value(entry) else {
+        return Ok(());
+    };
+    steps.push(Step {
+        kind: StepKind::Whole,
+        place: 1,
+        number: entry.number(),
+    })?;
+    let Some(core) = value.core() else {
+        return Ok(());
+    };
+    let mut settled = core.copy(alloc)?;
+    explain_core(table, &mut settled, 0, steps)
 }

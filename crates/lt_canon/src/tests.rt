@@ -1,4 +1,5 @@
 mod answers;
+mod explanations;
 mod sample;
 
 use super::*;

@@ -8,7 +8,7 @@ use lt_registry::{Entry, EntryValue, Lookup};
 use lt_tag::Tag;
 
 /// The whole tag that an entry gives as its value.
-fn tag_value(entry: &Entry) -> Option<&Tag>
+pub(crate) fn tag_value(entry: &Entry) -> Option<&Tag>
     ensures { option_copied result ≡ tag_of entry.now.value }
 {
     match entry.value() {

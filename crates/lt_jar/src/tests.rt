@@ -5,162 +5,194 @@ mod sample;
 use super::*;
 use sample::{HEADER, ROWS, push_line, push_record, sample_text};
 use std::alloc::{AllocError, Global};
-use std::process::Abort;
 use std::test::Fail;
 
-/// The records, with `|` between two of them, `;` between two fields, and `=` behind a name.
+/// Puts fields behind the text, with `;` between two of them, and `=` behind a name.
+fn push_fields(text: &mut String, fields: &[JarField]) -> Result<(), AllocError> {
+    for (i, field) in fields.iter().enumerate() {
+        if i > 0 {
+            text.push(';')?;
+        }
+        text.push_str(field.name())?;
+        text.push('=')?;
+        text.push_str(field.body())?;
+    }
+    Ok(())
+}
+
+/// The records, with `|` between two of them.
 fn shown(alloc: Global, jar: &Jar) -> Result<String, AllocError> {
     let mut text = String::new(alloc);
     for (i, record) in jar.records().iter().enumerate() {
         if i > 0 {
             text.push('|')?;
         }
-        for (j, field) in record.fields().iter().enumerate() {
-            if j > 0 {
-                text.push(';')?;
-            }
-            text.push_str(field.name())?;
-            text.push('=')?;
-            text.push_str(field.body())?;
-        }
+        push_fields(&mut text, record.fields())?;
     }
     Ok(text)
 }
 
-/// The text has these records, as `shown` gives them.
-fn has_records(
-    rt: &impl Abort,
-    alloc: Global,
-    text: &[u8],
-    records: &str,
-) -> Result<(), AllocError> {
-    match read_jar(alloc, text) {
-        Ok(jar) => {
-            let found = shown(alloc, &jar)?;
-            assert_eq!(rt; found.as_str(), records);
-        }
-        Err(_) => assert!(rt; false),
+/// Whether a text has these records, as `shown` gives them.
+fn has_records(alloc: Global, text: &[u8], records: &str) -> Result<bool, Fail> {
+    let jar = read_jar(alloc, text)?;
+    Ok(shown(alloc, &jar)?.as_str() == records)
+}
+
+/// Texts with their records.
+const TEXTS: [(&str, &str); 6] = [
+    ("", ""),
+    ("%%\n\n%%\n", ""),
+    ("A:\n  b \n\tc", "A=b c"),
+    (" \nA: b\n \n c", "A=b c"),
+    ("A : b:c\n%%\t", "A=b:c"),
+    ("A:b\r\n%%\r\nC-9:\r\n d\r", "A=b|C-9=d"),
+];
+
+#[test]
+fn texts_with_records(rt: HostRuntime) -> Result<(), Fail> {
+    for (text, records) in &TEXTS {
+        assert!(rt;
+            has_records(rt.alloc(), text.as_bytes(), records)?,
+            "{text}"
+        );
     }
     Ok(())
 }
 
-/// The text has this fault.
-fn has_fault(rt: &impl Abort, alloc: Global, text: &[u8], name: &str, line: u64) {
+/// Whether a text has the fault of this name at this line.
+fn has_fault(alloc: Global, text: &[u8], name: &str, line: u64) -> bool {
     match read_jar(alloc, text) {
-        Ok(_) => assert!(rt; false),
-        Err(fault) => {
-            assert_eq!(rt; fault.kind.name(), name);
-            assert_eq!(rt; fault.line, line);
-        }
+        Ok(_) => false,
+        Err(fault) => fault.kind.name() == name && fault.line == line,
     }
 }
 
-/// A field `Comments` whose body has so many letters.
-fn long_line(alloc: Global, letters: usize) -> Result<Vec<u8>, AllocError> {
+/// Texts with the names and the lines of their faults.
+const FAULTS: [(&[u8], &str, u64); 5] = [
+    (
+        b"Type: language\nSubtag: en\n%%\n  x",
+        "LeadingContinuation",
+        4,
+    ),
+    (b"abc", "BadLine", 1),
+    (b"Type: a\nB: \xff", "NotUtf8", 2),
+    (b"%%x", "BadLine", 1),
+    (b": b", "BadLine", 1),
+];
+
+#[test]
+fn texts_with_faults(rt: HostRuntime) {
+    for (text, name, line) in &FAULTS {
+        assert!(rt; has_fault(rt.alloc(), text, name, *line), "{name}");
+    }
+}
+
+/// A field `Comments` whose body has so many letters, with this end behind its line.
+fn long_line(alloc: Global, letters: usize, end: &str) -> Result<Vec<u8>, AllocError> {
     let mut text = Vec::from_slice(alloc, b"Comments: ")?;
     for _ in 0..letters {
         text.push(b'a')?;
     }
+    text.extend_from_slice(end.as_bytes())?;
+    Ok(text)
+}
+
+/// Whether a jar has one record with one field, whose body has so many bytes.
+fn is_one_field(jar: &Jar, bytes: usize) -> bool {
+    let [record] = jar.records() else {
+        return false;
+    };
+    match record.fields() {
+        [field] => field.body().len() == bytes,
+        _ => false,
+    }
+}
+
+/// Whether the line of so many letters and this end is read.
+fn reads_long(alloc: Global, letters: usize, end: &str) -> Result<bool, Fail> {
+    let text = long_line(alloc, letters, end)?;
+    let jar = read_jar(alloc, &text)?;
+    Ok(is_one_field(&jar, letters))
+}
+
+/// Whether the line of so many letters and this end is too long.
+fn is_too_long(alloc: Global, letters: usize, end: &str) -> Result<bool, AllocError> {
+    let text = long_line(alloc, letters, end)?;
+    Ok(has_fault(alloc, &text, "LineTooLong", 1))
+}
+
+/// The carriage return counts, and the line feed does not.
+#[test]
+fn longest_line(rt: HostRuntime) -> Result<(), Fail> {
+    assert!(rt; reads_long(rt.alloc(), 65_526, "")?);
+    assert!(rt; is_too_long(rt.alloc(), 65_527, "")?);
+    assert!(rt; reads_long(rt.alloc(), 65_525, "\r\n")?);
+    assert!(rt; is_too_long(rt.alloc(), 65_526, "\r\n")?);
+    Ok(())
+}
+
+/// The text of so many records.
+fn many_records(alloc: Global, records: usize) -> Result<Vec<u8>, AllocError> {
+    let mut text = Vec::new(alloc);
+    for _ in 0..records {
+        text.extend_from_slice(b"Type: x\n%%\n")?;
+    }
     Ok(text)
 }
 
 #[test]
-fn texts_with_records(rt: HostRuntime) -> Result<(), Fail> {
-    let alloc = rt.alloc();
-    has_records(&rt, alloc, b"", "")?;
-    has_records(&rt, alloc, b"%%\n\n%%\n", "")?;
-    has_records(&rt, alloc, b"A:\n  b \n\tc", "A=b c")?;
-    has_records(&rt, alloc, b" \nA: b\n \n c", "A=b c")?;
-    has_records(&rt, alloc, b"A : b:c\n%%\t", "A=b:c")?;
-    has_records(&rt, alloc, b"A:b\r\n%%\r\nC-9:\r\n d\r", "A=b|C-9=d")?;
-    Ok(())
-}
-
-#[test]
-fn texts_with_faults(rt: HostRuntime) {
-    let alloc = rt.alloc();
-    has_fault(
-        &rt,
-        alloc,
-        b"Type: language\nSubtag: en\n%%\n  x",
-        "LeadingContinuation",
-        4,
-    );
-    has_fault(&rt, alloc, b"abc", "BadLine", 1);
-    has_fault(&rt, alloc, b"Type: a\nB: \xff", "NotUtf8", 2);
-    has_fault(&rt, alloc, b"%%x", "BadLine", 1);
-    has_fault(&rt, alloc, b": b", "BadLine", 1);
-}
-
-#[test]
-fn longest_line(rt: HostRuntime) -> Result<(), Fail> {
-    let alloc = rt.alloc();
-    let longest = long_line(alloc, 65_526)?;
-    let jar = read_jar(alloc, &longest)?;
-    assert_eq!(rt; jar.records().len(), 1);
-    assert_eq!(rt; jar.records()[0].fields().len(), 1);
-    assert_eq!(rt; jar.records()[0].fields()[0].body().len(), 65_526);
-    let longer = long_line(alloc, 65_527)?;
-    has_fault(&rt, alloc, &longer, "LineTooLong", 1);
-    // The carriage return counts, and the line feed does not.
-    let mut returned = long_line(alloc, 65_525)?;
-    returned.extend_from_slice(b"\r\n")?;
-    assert_eq!(rt; read_jar(alloc, &returned)?.records().len(), 1);
-    let mut returned_longer = long_line(alloc, 65_526)?;
-    returned_longer.extend_from_slice(b"\r\n")?;
-    has_fault(&rt, alloc, &returned_longer, "LineTooLong", 1);
-    Ok(())
-}
-
-#[test]
 fn most_records(rt: HostRuntime) -> Result<(), Fail> {
-    let alloc = rt.alloc();
-    let mut text = Vec::new(alloc);
-    for _ in 0..100_000 {
-        text.extend_from_slice(b"Type: x\n%%\n")?;
-    }
-    assert_eq!(rt; read_jar(alloc, &text)?.records().len(), 100_000);
+    let mut text = many_records(rt.alloc(), 100_000)?;
+    assert!(rt; read_jar(rt.alloc(), &text)?.records().len() == 100_000);
     text.extend_from_slice(b"Type: x\n")?;
-    has_fault(&rt, alloc, &text, "TooManyRecords", 200_001);
+    assert!(rt; has_fault(rt.alloc(), &text, "TooManyRecords", 200_001));
     Ok(())
+}
+
+/// Whether the record of this number has these fields.
+fn has_fields(alloc: Global, jar: &Jar, number: usize, fields: &str) -> Result<bool, AllocError> {
+    let Some(record) = jar.records().get(number) else {
+        return Ok(false);
+    };
+    let mut text = String::new(alloc);
+    push_fields(&mut text, record.fields())?;
+    Ok(text.as_str() == fields)
 }
 
 #[test]
 fn sample_is_read(rt: HostRuntime) -> Result<(), Fail> {
-    let alloc = rt.alloc();
-    let text = sample_text(alloc)?;
-    assert_eq!(rt; text.len(), 1_946);
-    let jar = read_jar(alloc, text.as_bytes())?;
-    assert_eq!(rt; jar.records().len(), 47);
-    let header = jar.records()[0].fields();
-    assert_eq!(rt; header.len(), 1);
-    assert_eq!(rt; header[0].name(), "File-Date");
+    let text = sample_text(rt.alloc())?;
+    assert!(rt; text.len() == 1_946);
+    let jar = read_jar(rt.alloc(), text.as_bytes())?;
+    assert!(rt; jar.records().len() == 47);
+    assert!(rt; has_fields(rt.alloc(), &jar, 0, "File-Date=2024-01-01")?);
     Ok(())
 }
 
-/// The sample with carriage returns, a folded field in its sixth record, and no end of its last line.
-#[test]
-fn sample_with_returns_is_read(rt: HostRuntime) -> Result<(), Fail> {
-    let alloc = rt.alloc();
+/// The sample with carriage returns, and a folded field in its sixth record.
+fn returned_text(alloc: Global) -> Result<String, AllocError> {
     let mut text = String::new(alloc);
     push_line(&mut text, HEADER, "", "\r\n")?;
-    for row in ROWS {
-        push_record(&mut text, row, "\r\n")?;
-        if row.1 == "he" {
-            push_line(&mut text, "Description: Modern", "", "\r\n")?;
-            push_line(&mut text, " Hebrew", "", "\r\n")?;
+    for (kind, name, value, prefix) in &ROWS {
+        push_record(&mut text, kind, name, value, prefix, "\r\n")?;
+        if *name == "he" {
+            text.push_str("Description: Modern\r\n Hebrew\r\n")?;
         }
     }
-    let bytes = text.as_bytes();
-    assert!(rt; bytes.len() > 2);
-    let jar = read_jar(alloc, &bytes[..bytes.len() - 2])?;
-    assert_eq!(rt; jar.records().len(), 47);
-    let sixth = jar.records()[5].fields();
-    assert_eq!(rt; sixth.len(), 3);
-    assert_eq!(rt; sixth[2].name(), "Description");
-    assert_eq!(rt; sixth[2].body(), "Modern Hebrew");
-    let last = jar.records()[46].fields();
-    assert_eq!(rt; last.len(), 2);
-    assert_eq!(rt; last[1].body(), "zh-Hans");
+    Ok(text)
+}
+
+/// The sample with carriage returns has no end of its last line.
+#[test]
+fn sample_with_returns_is_read(rt: HostRuntime) -> Result<(), Fail> {
+    let text = returned_text(rt.alloc())?;
+    let Some(text) = text.as_bytes().strip_suffix(b"\r\n") else {
+        return Err(Fail::from("no end of the last line"));
+    };
+    let jar = read_jar(rt.alloc(), text)?;
+    assert!(rt; jar.records().len() == 47);
+    let sixth = "Type=language;Subtag=he;Description=Modern Hebrew";
+    assert!(rt; has_fields(rt.alloc(), &jar, 5, sixth)?);
+    assert!(rt; has_fields(rt.alloc(), &jar, 46, "Type=redundant;Tag=zh-Hans")?);
     Ok(())
 }

@@ -119,10 +119,10 @@ placed_alone P n (x ∷ xs) (suc i) e f d h is s p =
     let other : e.singleton ≢ x.singleton = all_index (λ (y : ExtensionParts). y.singleton ≢ x.singleton) xs i e (omega arith) is others in
     (λ q. absurd (other (s ∙ sym q)), placed_alone P n xs i e f d.1 (omega arith) is s p)
 
-keeps_singleton : (R : List EntryParts) (n : ℕ) (e f : ExtensionParts) → e.singleton ≡ n → Star (ExtensionStep R) e f → f.singleton ≡ n
+pub keeps_singleton : (R : List EntryParts) (n : ℕ) (e f : ExtensionParts) → e.singleton ≡ n → Star (ExtensionStep R) e f → f.singleton ≡ n
 keeps_singleton R n e f h s = star_keeps (λ (x : ExtensionParts). x.singleton ≡ n) (λ a b t q. extension_step_singleton R a b t ∙ q) s h
 
-placed_reached : (R : List EntryParts) (n : ℕ) (es : List ExtensionParts) (o : Option (ℕ × ExtensionParts)) → Settles R n es o → Star (ExtensionsStep R) es (placed o es)
+pub placed_reached : (R : List EntryParts) (n : ℕ) (es : List ExtensionParts) (o : Option (ℕ × ExtensionParts)) → Settles R n es o → Star (ExtensionsStep R) es (placed o es)
 placed_reached R n es None s = done
 placed_reached R n es (Some p) s =
     let i : ℕ = p.0 in
@@ -131,19 +131,19 @@ placed_reached R n es (Some p) s =
     subst (λ l. Star (ExtensionsStep R) es l) (sym (set_split es i p.1 s.within))
     (subst (λ l. Star (ExtensionsStep R) l (at p.1)) (sym (round es i s.from s.within s.there)) walk)
 
-placed_distinct : (R : List EntryParts) (n : ℕ) (es : List ExtensionParts) (o : Option (ℕ × ExtensionParts)) → Settles R n es o → Distinct (map singleton_of es) → Distinct (map singleton_of (placed o es))
+pub placed_distinct : (R : List EntryParts) (n : ℕ) (es : List ExtensionParts) (o : Option (ℕ × ExtensionParts)) → Settles R n es o → Distinct (map singleton_of es) → Distinct (map singleton_of (placed o es))
 placed_distinct R n es None s d = d
 placed_distinct R n es (Some p) s d =
     let same : (p.1).singleton ≡ (get_or es p.0 s.from).singleton = keeps_singleton R n s.from p.1 s.of_singleton s.normal.reached ∙ sym s.of_singleton ∙ ap singleton_of s.there in
     subst Distinct (sym (map-set_same singleton_of es p.0 p.1 s.from same)) d
 
 -- that of the singleton rests
-placed_rests : (R : List EntryParts) (n : ℕ) (es : List ExtensionParts) (o : Option (ℕ × ExtensionParts)) → Settles R n es o → Distinct (map singleton_of es) → AllByRecursion (λ (x : ExtensionParts). x.singleton ≡ n → Rests (ExtensionStep R) x) (placed o es)
+pub placed_rests : (R : List EntryParts) (n : ℕ) (es : List ExtensionParts) (o : Option (ℕ × ExtensionParts)) → Settles R n es o → Distinct (map singleton_of es) → AllByRecursion (λ (x : ExtensionParts). x.singleton ≡ n → Rests (ExtensionStep R) x) (placed o es)
 placed_rests R n es None s d = all_both (λ (x : ExtensionParts). x.singleton ≢ n) (λ x. x.singleton ≢ n) (λ x. x.singleton ≡ n → Rests (ExtensionStep R) x) (λ x a b q. absurd (a q)) es s s
 placed_rests R n es (Some p) s d = placed_alone (Rests (ExtensionStep R)) n es p.0 s.from p.1 d s.within s.there s.of_singleton s.normal.at_rest
 
 -- and what all have, and each of the singleton, all have then
-placed_keeps : (R : List EntryParts) (P : ExtensionParts → Type 0) (n : ℕ) (es : List ExtensionParts) (o : Option (ℕ × ExtensionParts)) → Settles R n es o → ((x : ExtensionParts) → x.singleton ≡ n → P x) → AllByRecursion P es → AllByRecursion P (placed o es)
+pub placed_keeps : (R : List EntryParts) (P : ExtensionParts → Type 0) (n : ℕ) (es : List ExtensionParts) (o : Option (ℕ × ExtensionParts)) → Settles R n es o → ((x : ExtensionParts) → x.singleton ≡ n → P x) → AllByRecursion P es → AllByRecursion P (placed o es)
 placed_keeps R P n es None s f a = a
 placed_keeps R P n es (Some p) s f a = all_set P es p.0 p.1 a (f p.1 (keeps_singleton R n s.from p.1 s.of_singleton s.normal.reached))
 
@@ -165,7 +165,7 @@ settles_still R n m ne es (Some o) (Some p) s t =
     }
 
 -- a step needs a u or a t extension
-each_rests : (R : List EntryParts) (e : ExtensionParts) → (e.singleton ≡ unicode → Rests (ExtensionStep R) e) → (e.singleton ≡ transform → Rests (ExtensionStep R) e) → Rests (ExtensionStep R) e
+pub each_rests : (R : List EntryParts) (e : ExtensionParts) → (e.singleton ≡ unicode → Rests (ExtensionStep R) e) → (e.singleton ≡ transform → Rests (ExtensionStep R) e) → Rests (ExtensionStep R) e
 each_rests R e u t f (in_unicode p q s) = u s.is_u f (in_unicode p q s)
 each_rests R e u t f (in_transform p q s) = t s.is_t f (in_transform p q s)
 

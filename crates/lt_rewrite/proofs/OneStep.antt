@@ -113,7 +113,7 @@ core_low R start c d (by_turn before v m after k) = omega arith
 core_length : (c : CoreParts) → length (spell_core c) ≡ before_variants c + length c.variants
 core_length c = omega (arith, length-append c.extlangs (option_to_list c.script ++ (option_to_list c.region ++ c.variants)), length-append (option_to_list c.script) (option_to_list c.region ++ c.variants), length-append (option_to_list c.region) c.variants)
 
-core_high : (R : List EntryParts) (c d : CoreParts) (k : CoreStep (values_of R) c d) → (core_label R 0 k).place ≤ length (spell_core c)
+pub core_high : (R : List EntryParts) (c d : CoreParts) (k : CoreStep (values_of R) c d) → (core_label R 0 k).place ≤ length (spell_core c)
 core_high R c d (by_extlang x k) = omega (arith, core_length c, ap length k.one)
 core_high R c d (by_language v k) = omega (arith, core_length c)
 core_high R c d (by_script a v k) = omega (arith, core_length c, ap (λ o. length (option_to_list o)) k.there)

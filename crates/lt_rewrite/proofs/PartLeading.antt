@@ -63,10 +63,10 @@ module _ {A : Type 0} (spell : A → List (List ℕ)) where
       ap suc (same_front n i j xs (omega arith) (omega arith) (omega (arith, e, length-append (spell x) (flat_map spell (take i xs)), length-append (spell x) (flat_map spell (take j xs)))))
 
   module _ (cmp : A → A → Ordering) (start place : ℕ) where
-    swap_front : (xs ys : List A) (s : SwapLeads cmp spell start place xs ys) → IsPlaceOf spell start xs (length s.before) place
+    pub swap_front : (xs ys : List A) (s : SwapLeads cmp spell start place xs ys) → IsPlaceOf spell start xs (length s.before) place
     swap_front xs ys s = s.at ∙ ap (λ l. start + length (flat_map spell l) + 1) (sym (ap (take (length s.before)) s.swaps.there ∙ take_at s.before (s.first ∷ s.second ∷ s.after) (length s.before) refl))
 
-    swap_within : (xs ys : List A) (s : SwapLeads cmp spell start place xs ys) → length s.before + 1 < length xs
+    pub swap_within : (xs ys : List A) (s : SwapLeads cmp spell start place xs ys) → length s.before + 1 < length xs
     swap_within xs ys s = omega (arith, ap length s.swaps.there, length-append s.before (s.first ∷ s.second ∷ s.after))
 
     -- no part begins at the place
@@ -74,7 +74,7 @@ module _ {A : Type 0} (spell : A → List (List ℕ)) where
     swap_nowhere xs none ys s = none (length s.before) (omega (arith, swap_within xs ys s)) (swap_front xs ys s)
 
     module _ (some : (a : A) → 0 < length (spell a)) where
-      swap_index : (xs ys : List A) (i : ℕ) → i < length xs → IsPlaceOf spell start xs i place → (s : SwapLeads cmp spell start place xs ys) → length s.before ≡ i
+      pub swap_index : (xs ys : List A) (i : ℕ) → i < length xs → IsPlaceOf spell start xs i place → (s : SwapLeads cmp spell start place xs ys) → length s.before ≡ i
       swap_index xs ys i h p s =
           let q : place ≡ start + length (flat_map spell (take (length s.before) xs)) + 1 = swap_front xs ys s in
           let r : place ≡ start + length (flat_map spell (take i xs)) + 1 = p in
@@ -113,10 +113,10 @@ module _ {A : Type 0} (spell : A → List (List ℕ)) where
           at = p ∙ ap (λ l. start + length (flat_map spell l) + 1) (sym n.front);
         }
 
-    drop_there : (xs ys : List A) (s : DropLeads cmp spell start place xs ys) → xs ≡ (s.before ++ s.first ∷ s.between) ++ s.second ∷ s.after
+    pub drop_there : (xs ys : List A) (s : DropLeads cmp spell start place xs ys) → xs ≡ (s.before ++ s.first ∷ s.between) ++ s.second ∷ s.after
     drop_there xs ys s = s.drops.there ∙ sym (append_assoc s.before (s.first ∷ s.between) (s.second ∷ s.after))
 
-    drop_front : (xs ys : List A) (s : DropLeads cmp spell start place xs ys) → IsPlaceOf spell start xs (length (s.before ++ s.first ∷ s.between)) place
+    pub drop_front : (xs ys : List A) (s : DropLeads cmp spell start place xs ys) → IsPlaceOf spell start xs (length (s.before ++ s.first ∷ s.between)) place
     drop_front xs ys s =
         let a = flat_front s.before s.first s.between in
         let front : List A = s.before ++ s.first ∷ s.between in

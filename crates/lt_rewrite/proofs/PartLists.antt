@@ -16,7 +16,7 @@ pub tests_of_facts : {A : Type 0} (test : A → Bool) (xs : List A) → AllByRec
 tests_of_facts test [] h = refl
 tests_of_facts test (x ∷ xs) h = and_from (test x) (list_all test xs) h.0 (tests_of_facts test xs h.1)
 
-all_swapped : {A : Type 0} (P : A → Type 0) (before : List A) (a b : A) (after : List A) → AllByRecursion P (before ++ a ∷ b ∷ after) → AllByRecursion P (before ++ b ∷ a ∷ after)
+pub all_swapped : {A : Type 0} (P : A → Type 0) (before : List A) (a b : A) (after : List A) → AllByRecursion P (before ++ a ∷ b ∷ after) → AllByRecursion P (before ++ b ∷ a ∷ after)
 all_swapped P [] a b after h = (h.1.0, (h.0, h.1.1))
 all_swapped P (u ∷ us) a b after h = (h.0, all_swapped P us a b after h.1)
 

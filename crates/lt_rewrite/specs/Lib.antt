@@ -16,3 +16,4 @@ pub mod Applying
 pub mod Cycles
 pub mod ApplyFaults
 pub mod Runs
+pub mod ExtensionsExplaining

@@ -43,7 +43,7 @@ pub(crate) fn is_short(subtag: &Subtag) -> bool
 }
 
 /// The value of a subtag under a kind.
-fn value<'a, L: Lookup>(table: &'a L, kind: Kind, subtag: &Subtag) -> Option<&'a Subtag>
+pub(crate) fn value<'a, L: Lookup>(table: &'a L, kind: Kind, subtag: &Subtag) -> Option<&'a Subtag>
     ensures value { option_copied result ≡ entries.value (L.listed table.now) kind subtag.now }
     ensures form { IfSome result (λ value. has_value_form kind value.now ≡ true) }
 {

@@ -13,7 +13,7 @@ use lt_subtag::Subtag;
 use lt_tag::Core;
 
 /// The number of the record of a subtag, and 0 where it has none.
-fn record_number<L: Lookup>(table: &L, kind: Kind, subtag: &Subtag) -> u32
+pub(crate) fn record_number<L: Lookup>(table: &L, kind: Kind, subtag: &Subtag) -> u32
     ensures { result ≡ number_of (entry (L.listed table.now) kind subtag.now) }
 {
     match table.entry(kind, subtag) {
@@ -41,7 +41,7 @@ fn value_by<'a, L: Lookup>(
 }
 
 /// How many subtags stand before the script.
-fn before_script(core: &Core) -> usize
+pub(crate) fn before_script(core: &Core) -> usize
     ensures value { result ≡ faults.before_script core.now }
     ensures few { result ≤ 4 }
 {
@@ -49,7 +49,7 @@ fn before_script(core: &Core) -> usize
 }
 
 /// How many subtags stand before the region.
-fn before_region(core: &Core) -> usize
+pub(crate) fn before_region(core: &Core) -> usize
     ensures value { result ≡ faults.before_region core.now }
     ensures few { result ≤ 5 }
 {

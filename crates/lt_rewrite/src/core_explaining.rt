@@ -1,27 +1,169 @@
 //! The steps to the core normal form, one after another (RFC 5646, 4.5): Extlang before Language, Script, Region,
 //! the leftmost Variant and VariantLanguage.
-ghost use Rattle.std.specs.Prelude.{◌≤◌, All, IfOk};
+ghost use Rattle.std.specs.Prelude.{◌≡◌, ◌≤◌, All, IfOk, MatchOption};
 ghost use Rattle.lt_rewrite.specs.Conditions.{HasEndingChain};
 ghost use Rattle.lt_rewrite.specs.Applying.{CoreLeads};
-ghost use Rattle.lt_rewrite.specs.Runs.{NoneLeads, AddsOnCore};
+ghost use Rattle.lt_rewrite.specs.Runs.{rank_of, NoneLeads, NoneOnCore, IsLeftmostOnCore, IsFirstOnCore, AddsOnCore};
+ghost use Rattle.lt_rewrite.specs.declared.steps.StepKind.TheVariants as kinds;
 
-use crate::steps::Step;
-use lt_registry::Lookup;
+use crate::chain_ends::{next_value, value};
+use crate::core_applying::{
+    apply_to_core, before_region, before_script, before_variants, record_number,
+};
+use crate::core_settling::first_turn;
+use crate::steps::{Step, StepKind};
+use lt_registry::{Kind, Lookup};
 use lt_tag::{Core, OutOfMemory};
+
+/// The step by which a sole extlang's replacement becomes the language.
+fn extlang_step<L: Lookup>(table: &L, core: &Core, start: usize) -> Option<Step>
+    requires { start ≤ 1200000 }
+    ensures { MatchOption result
+        (NoneOnCore (L.listed table.now) start core.now (rank_of kinds.Extlang))
+        (IsLeftmostOnCore (L.listed table.now) start core.now (rank_of kinds.Extlang)) }
+{
+    let [extlang] = core.extlangs() else {
+        return None;
+    };
+    Some(Step {
+        kind: StepKind::Extlang,
+        place: (start + 2) as u32,
+        number: record_number(table, Kind::Extlang, extlang),
+    })
+}
+
+/// The step by which the language is replaced.
+fn language_step<L: Lookup>(table: &L, core: &Core, start: usize) -> Option<Step>
+    requires { start ≤ 1200000 }
+    ensures { MatchOption result
+        (NoneOnCore (L.listed table.now) start core.now (rank_of kinds.Language))
+        (IsLeftmostOnCore (L.listed table.now) start core.now (rank_of kinds.Language)) }
+{
+    if !core.extlangs().is_empty() {
+        return None;
+    }
+    let language = core.language();
+    value(table, Kind::Language, language)?;
+    Some(Step {
+        kind: StepKind::Language,
+        place: (start + 1) as u32,
+        number: record_number(table, Kind::Language, language),
+    })
+}
+
+/// The step by which the script is replaced.
+fn script_step<L: Lookup>(table: &L, core: &Core, start: usize) -> Option<Step>
+    requires { start ≤ 1200000 }
+    ensures { MatchOption result
+        (NoneOnCore (L.listed table.now) start core.now (rank_of kinds.Script))
+        (IsLeftmostOnCore (L.listed table.now) start core.now (rank_of kinds.Script)) }
+{
+    let script = core.script()?;
+    value(table, Kind::Script, script)?;
+    Some(Step {
+        kind: StepKind::Script,
+        place: (start + before_script(core) + 1) as u32,
+        number: record_number(table, Kind::Script, script),
+    })
+}
+
+/// The step by which the region is replaced.
+fn region_step<L: Lookup>(table: &L, core: &Core, start: usize) -> Option<Step>
+    requires { start ≤ 1200000 }
+    ensures { MatchOption result
+        (NoneOnCore (L.listed table.now) start core.now (rank_of kinds.Region))
+        (IsLeftmostOnCore (L.listed table.now) start core.now (rank_of kinds.Region)) }
+{
+    let region = core.region()?;
+    value(table, Kind::Region, region)?;
+    Some(Step {
+        kind: StepKind::Region,
+        place: (start + before_region(core) + 1) as u32,
+        number: record_number(table, Kind::Region, region),
+    })
+}
+
+/// The step by which the leftmost variant that a variant replaces is replaced.
+fn variant_step<L: Lookup>(table: &L, core: &Core, start: usize) -> Option<Step>
+    requires { start ≤ 1200000 }
+    ensures { MatchOption result
+        (NoneOnCore (L.listed table.now) start core.now (rank_of kinds.Variant))
+        (IsLeftmostOnCore (L.listed table.now) start core.now (rank_of kinds.Variant)) }
+{
+    for (index, variant) in core.variants().iter().enumerate() {
+        if let Some(_next) = next_value(table, Kind::Variant, variant) {
+            return Some(Step {
+                kind: StepKind::Variant,
+                place: (start + before_variants(core) + index + 1) as u32,
+                number: record_number(table, Kind::Variant, variant),
+            });
+        }
+    }
+    None
+}
+
+/// The step by which the leftmost variant that turns beside the language becomes the language.
+fn turn_step<L: Lookup>(table: &L, core: &Core, start: usize) -> Option<Step>
+    requires { start ≤ 1200000 }
+    ensures { MatchOption result
+        (NoneOnCore (L.listed table.now) start core.now (rank_of kinds.VariantLanguage))
+        (IsLeftmostOnCore (L.listed table.now) start core.now (rank_of kinds.VariantLanguage)) }
+{
+    if !core.extlangs().is_empty() {
+        return None;
+    }
+    let Some((index, _language)) = first_turn(table, core) else {
+        return None;
+    };
+    Some(Step {
+        kind: StepKind::VariantLanguage,
+        place: (start + before_variants(core) + index + 1) as u32,
+        number: record_number(table, Kind::Variant, &core.variants()[index]),
+    })
+}
+
+/// The first step on a core that begins after so many subtags.
+fn first_core_step<L: Lookup>(table: &L, core: &Core, start: usize) -> Option<Step>
+    requires { start ≤ 1200000 }
+    ensures { MatchOption result
+        (NoneLeads (CoreLeads (L.listed table.now) start core.now))
+        (IsFirstOnCore (L.listed table.now) start core.now) }
+{
+    if let Some(step) = extlang_step(table, core, start) {
+        return Some(step);
+    }
+    if let Some(step) = language_step(table, core, start) {
+        return Some(step);
+    }
+    if let Some(step) = script_step(table, core, start) {
+        return Some(step);
+    }
+    if let Some(step) = region_step(table, core, start) {
+        return Some(step);
+    }
+    if let Some(step) = variant_step(table, core, start) {
+        return Some(step);
+    }
+    turn_step(table, core, start)
+}
 
 /// Takes the steps on a core that begins after so many subtags, each the first that leads on, until
 /// none does, and adds them to others. The chains of the registry end, as they do where
 /// `first_cycle` is None. It is refused for want of memory alone.
 pub fn explain_core<L: Lookup>(
-    _table: &L,
-    _core: &mut Core,
-    _start: usize,
-    _steps: &mut Vec<Step>,
+    table: &L,
+    core: &mut Core,
+    start: usize,
+    steps: &mut Vec<Step>,
 ) -> Result<(), OutOfMemory>
-    requires chains { All (HasEndingChain (L.listed _table.now)) (L.listed _table.now) }
-    requires few { _start ≤ 1200000 }
-    ensures adds { IfOk result (λ _. AddsOnCore (L.listed _table.now) _start _core.old _core.new _steps.old.items _steps.new.items) }
-    ensures at_rest { IfOk result (λ _. NoneLeads (CoreLeads (L.listed _table.now) _start _core.new)) }
+    requires chains { All (HasEndingChain (L.listed table.now)) (L.listed table.now) }
+    requires few { start ≤ 1200000 }
+    ensures adds { IfOk result (λ _. AddsOnCore (L.listed table.now) start core.old core.new steps.old.items steps.new.items) }
+    ensures at_rest { IfOk result (λ _. NoneLeads (CoreLeads (L.listed table.now) start core.new)) }
 {
-    Err(OutOfMemory)
+    while let Some(step) = first_core_step(table, core, start) {
+        apply_to_core(table, core, start, step);
+        steps.push(step)?;
+    }
+    Ok(())
 }

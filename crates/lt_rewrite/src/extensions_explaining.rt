@@ -1,37 +1,111 @@
 //! The steps on the extensions of a tag, one after another (RFC 5646, 4.5; RFC 6067; RFC 6497): the leftmost
 //! SwapExtensions before the steps in a `u` extension, on the source of a `t` extension, and on its fields.
-ghost use Rattle.std.specs.Prelude.{◌≡◌, ◌≤◌, ◌+◌, All, IfOk, length, map};
+ghost use Rattle.std.specs.Prelude.{◌≡◌, ◌≤◌, ◌+◌, List, All, IfOk, length, map, take};
 ghost use Rattle.std.specs.List.{AllByRecursion};
 ghost use Rattle.lt_tag.specs.Parts.{ExtensionParts, TForm};
 ghost use Rattle.lt_tag.specs.Spelling.{spell_extensions};
-ghost use Rattle.lt_tag.specs.Extensions.{transform, IsTransform};
+ghost use Rattle.lt_tag.specs.Extensions.{unicode, transform, IsTransform};
+ghost use Rattle.lt_registry.specs.Parts.{EntryParts};
 ghost use Rattle.lt_registry.specs.Validity.{Distinct};
 ghost use Rattle.lt_rewrite.specs.Conditions.{HasEndingChain};
 ghost use Rattle.lt_rewrite.specs.Applying.{ExtensionsLeads};
 ghost use Rattle.lt_rewrite.specs.Runs.{NoneLeads, AddsOnExtensions};
+ghost use Rattle.lt_rewrite.specs.ExtensionsExplaining.{Explains};
 
-use crate::steps::Step;
+use crate::extension_settling::recall_forms;
+use crate::extensions_settling::{place_of, put_back};
+use crate::part_applying::Spelled;
+use crate::part_explaining::explain_swaps;
+use crate::steps::{Step, StepKind};
+use crate::transform_explaining::explain_t;
+use crate::unicode_explaining::explain_u;
 use lt_registry::Lookup;
-use lt_tag::{Extension, OutOfMemory};
+use lt_tag::{Extension, OutOfMemory, TransformFault, join_t, join_u, split_t, split_u};
 use std::alloc::Global;
+
+/// How many subtags the extensions before an index have.
+fn subtags_before(extensions: &[Extension], index: usize) -> usize
+    requires within { index ≤ length extensions.now }
+    requires few { length (spell_extensions extensions.now) ≤ 1100000 }
+    ensures { result ≡ length (spell_extensions (take index extensions.now)) }
+{
+    let mut count = 0;
+    for extension in &extensions[..index] {
+        count += extension.subtag_count();
+    }
+    count
+}
+
+/// What the `u` extension comes to by its steps, and where it stands. The extensions begin after so
+/// many subtags.
+fn explained_unicode(
+    alloc: Global,
+    extensions: &[Extension],
+    start: usize,
+    steps: &mut Vec<Step>,
+) -> Result<Option<(usize, Extension)>, OutOfMemory>
+    requires few { start + length (spell_extensions extensions.now) ≤ 1100000 }
+    ensures { IfOk result (λ explained. (R : List EntryParts) → Explains R unicode start extensions.now explained steps.old.items steps.new.items) }
+{
+    let Some(index) = place_of(extensions, b'u') else {
+        return Ok(None);
+    };
+    let place = start + subtags_before(extensions, index) + 1;
+    let mut parts = split_u(alloc, &extensions[index])?;
+    explain_u(&mut parts, place, steps)?;
+    Ok(Some((index, join_u(alloc, &parts)?)))
+}
+
+/// What the `t` extension comes to by its steps, and where it stands. The extensions begin after so
+/// many subtags.
+fn explained_transform<L: Lookup>(
+    alloc: Global,
+    table: &L,
+    extensions: &[Extension],
+    start: usize,
+    steps: &mut Vec<Step>,
+) -> Result<Option<(usize, Extension)>, OutOfMemory>
+    requires chains { All (HasEndingChain (L.listed table.now)) (L.listed table.now) }
+    requires transforms { AllByRecursion (λ (e : ExtensionParts). e.singleton ≡ transform → (p : TForm) × IsTransform e.subtags p) extensions.now }
+    requires few { start + length (spell_extensions extensions.now) ≤ 1100000 }
+    ensures { IfOk result (λ explained. Explains (L.listed table.now) transform start extensions.now explained steps.old.items steps.new.items) }
+{
+    let Some(index) = place_of(extensions, b't') else {
+        return Ok(None);
+    };
+    let place = start + subtags_before(extensions, index) + 1;
+    let mut parts = match split_t(alloc, &extensions[index]) {
+        Ok(parts) => parts,
+        Err(TransformFault::OutOfMemory) => return Err(OutOfMemory),
+        Err(TransformFault::BadTransform) => unreachable!(),
+    };
+    recall_forms(table);
+    explain_t(table, &mut parts, place, steps)?;
+    Ok(Some((index, join_t(alloc, &parts)?)))
+}
 
 /// Takes the steps on extensions that begin after so many subtags, each the first that leads on,
 /// until none does, and adds them to others. Each singleton stands once, a `t` extension has the form
 /// of one, and the chains of the registry end, as they do where `first_cycle` is None. It is refused
 /// for want of memory alone.
 pub fn explain_extensions<L: Lookup>(
-    _alloc: Global,
-    _table: &L,
-    _extensions: &mut Vec<Extension>,
-    _start: usize,
-    _steps: &mut Vec<Step>,
+    alloc: Global,
+    table: &L,
+    extensions: &mut Vec<Extension>,
+    start: usize,
+    steps: &mut Vec<Step>,
 ) -> Result<(), OutOfMemory>
-    requires chains { All (HasEndingChain (L.listed _table.now)) (L.listed _table.now) }
-    requires singletons { Distinct (map (λ (e : ExtensionParts). e.singleton) _extensions.old.items) }
-    requires transforms { AllByRecursion (λ (e : ExtensionParts). e.singleton ≡ transform → (p : TForm) × IsTransform e.subtags p) _extensions.old.items }
-    requires few { _start + length (spell_extensions _extensions.old.items) ≤ 1100000 }
-    ensures adds { IfOk result (λ _. AddsOnExtensions (L.listed _table.now) _start _extensions.old.items _extensions.new.items _steps.old.items _steps.new.items) }
-    ensures at_rest { IfOk result (λ _. NoneLeads (ExtensionsLeads (L.listed _table.now) _start _extensions.new.items)) }
+    requires chains { All (HasEndingChain (L.listed table.now)) (L.listed table.now) }
+    requires singletons { Distinct (map (λ (e : ExtensionParts). e.singleton) extensions.old.items) }
+    requires transforms { AllByRecursion (λ (e : ExtensionParts). e.singleton ≡ transform → (p : TForm) × IsTransform e.subtags p) extensions.old.items }
+    requires few { start + length (spell_extensions extensions.old.items) ≤ 1100000 }
+    ensures adds { IfOk result (λ _. AddsOnExtensions (L.listed table.now) start extensions.old.items extensions.new.items steps.old.items steps.new.items) }
+    ensures at_rest { IfOk result (λ _. NoneLeads (ExtensionsLeads (L.listed table.now) start extensions.new.items)) }
 {
-    Err(OutOfMemory)
+    explain_swaps(extensions, start, StepKind::SwapExtensions, steps)?;
+    let unicode = explained_unicode(alloc, extensions, start, steps)?;
+    put_back(extensions, unicode);
+    let transform = explained_transform(alloc, table, extensions, start, steps)?;
+    put_back(extensions, transform);
+    Ok(())
 }

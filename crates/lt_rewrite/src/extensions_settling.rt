@@ -17,7 +17,7 @@ use lt_tag::{Extension, OutOfMemory, TransformFault, join_t, join_u, split_t, sp
 use std::alloc::Global;
 
 /// Where the first extension of a singleton stands.
-fn place_of(extensions: &[Extension], singleton: u8) -> Option<usize>
+pub(crate) fn place_of(extensions: &[Extension], singleton: u8) -> Option<usize>
     ensures { result ≡ position (λ (e : ExtensionParts). e.singleton == singleton) extensions.now }
 {
     extensions
@@ -64,7 +64,7 @@ fn settled_transform<L: Lookup>(
 }
 
 /// Puts a settled extension in its place.
-fn put_back(extensions: &mut Vec<Extension>, settled: Option<(usize, Extension)>)
+pub(crate) fn put_back(extensions: &mut Vec<Extension>, settled: Option<(usize, Extension)>)
     requires { IfSome settled (λ settled. settled.0 < length extensions.old.items) }
     ensures { extensions.new.items ≡ placed settled extensions.old.items }
 {

@@ -12,8 +12,8 @@ use crate::steps::{Step, StepKind};
 use lt_registry::Lookup;
 use lt_tag::{Core, TParts};
 
-/// How many subtags a core has.
-pub(crate) fn core_length(core: &Core) -> usize
+/// How many subtags a core has (RFC 5646, 2.1): at least one, for its language, and at most 1,030.
+pub fn core_length(core: &Core) -> usize
     ensures value { result ≡ length (spell_core core.now) }
     ensures few { result ≤ 1030 }
 {
@@ -21,7 +21,7 @@ pub(crate) fn core_length(core: &Core) -> usize
 }
 
 /// How many subtags a source has.
-fn source_length(source: &Option<Core>) -> usize
+pub(crate) fn source_length(source: &Option<Core>) -> usize
     ensures value { result ≡ length (spell_source source.now) }
     ensures few { result ≤ 1030 }
 {

@@ -8,7 +8,7 @@ use crate::steps::{Step, StepKind};
 use lt_tag::{Keyword, UParts};
 
 /// Whether the types of a keyword are exactly `true`.
-fn has_sole_true(keyword: &Keyword) -> bool
+pub(crate) fn has_sole_true(keyword: &Keyword) -> bool
     ensures { MatchBool result (keyword.now.types ≡ codes "true" ∷ []) (keyword.now.types ≡ codes "true" ∷ [] → ⊥) }
 {
     match keyword.types.as_slice() {
@@ -18,7 +18,7 @@ fn has_sole_true(keyword: &Keyword) -> bool
 }
 
 /// Takes out the types of a keyword.
-fn drop_types(keyword: &mut Keyword)
+pub(crate) fn drop_types(keyword: &mut Keyword)
     ensures { keyword.new ≡ record keyword.old { types = [] } }
 {
     keyword.types.clear();

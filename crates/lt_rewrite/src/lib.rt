@@ -34,6 +34,7 @@ pub use cycles::first_cycle;
 pub use extension_settling::{settle_t, settle_u};
 pub use extensions_explaining::explain_extensions;
 pub use extensions_settling::settle_extensions;
+pub use field_applying::core_length;
 pub use steps::{Step, StepKind};
 
 #[cfg(test)]

@@ -74,7 +74,7 @@ pub(crate) fn index_at<P: Spelled>(parts: &[P], start: usize, place: u32) -> Opt
 }
 
 /// Whether the like of the part at an index stands before it.
-fn has_like<P: Part>(parts: &[P], index: usize) -> bool
+pub(crate) fn has_like<P: Part>(parts: &[P], index: usize) -> bool
     requires { index < length parts.now }
     ensures { MatchBool result (HasLike P.order parts.now index) (HasLike P.order parts.now index → ⊥) }
 {

@@ -1,4 +1,5 @@
 mod applying;
+mod core_explaining;
 mod sample;
 
 ghost use Rattle.std.specs.Prelude.{◌≡◌, IfOk};
@@ -6,23 +7,164 @@ ghost use Rattle.std.specs.Prelude.{◌≡◌, IfOk};
 use super::*;
 use lt_registry::{Kind, ListTable, validate};
 use lt_subtag::Subtag;
-use lt_tag::{Core, Extension, OutOfMemory, join_t, join_u, read_tag, split_t, split_u};
+use lt_tag::{Core, Extension, OutOfMemory, TagFault, join_t, join_u, read_tag, split_t, split_u};
 use sample::{sample, sample_with_cycle};
 use std::alloc::Global;
 use std::test::Fail;
 
-/// The core of a tag.
-fn core_of(alloc: Global, text: &[u8]) -> Result<Core, Fail> {
-    let tag = read_tag(alloc, text)?;
-    let core = tag.core().ok_or("no langtag")?;
-    Ok(core.copy(alloc)?)
+/// A copy of the core of a text's tag.
+fn core_of(alloc: Global, text: &str) -> Result<Core, Fail> {
+    let tag = read_tag(alloc, text.as_bytes())?;
+    match tag.core() {
+        Some(core) => Ok(core.copy(alloc)?),
+        None => Err(Fail::from("no langtag")),
+    }
 }
 
-/// The first extension of a tag.
-fn extension_of(alloc: Global, text: &[u8]) -> Result<Extension, Fail> {
-    let tag = read_tag(alloc, text)?;
-    let first = tag.extensions().first().ok_or("no extension")?;
-    Ok(first.copy(alloc)?)
+/// The core normal form of a text's core.
+fn settled_core(alloc: Global, table: &ListTable, text: &str) -> Result<Core, Fail> {
+    let mut core = core_of(alloc, text)?;
+    if first_cycle(table).is_some() {
+        return Err(Fail::from("a cycle"));
+    }
+    settle_core(table, &mut core);
+    Ok(core)
+}
+
+/// Whether two cores have the same subtags.
+fn same_core(core: &Core, other: &Core) -> bool {
+    core.language() == other.language()
+        && core.extlangs() == other.extlangs()
+        && core.script() == other.script()
+        && core.region() == other.region()
+        && core.variants() == other.variants()
+}
+
+/// Whether the core normal form of a text's core is the core of another.
+fn settles_to(alloc: Global, table: &ListTable, text: &str, other: &str) -> Result<bool, Fail> {
+    let settled = settled_core(alloc, table, text)?;
+    Ok(same_core(&settled, &core_of(alloc, other)?))
+}
+
+/// Texts of cores and of their core normal forms.
+const CORES: [(&str, &str); 4] = [
+    ("zh-yue-DD", "yue-DE"),
+    ("iw-arevela", "he-arevela"),
+    ("ja-heploc-alalc97", "ja-alalc97-alalc97"),
+    ("hy-arevela-arevmda", "hyw"),
+];
+
+#[test]
+fn cores(rt: HostRuntime) -> Result<(), Fail> {
+    let table = sample(rt.alloc())?;
+    for (text, other) in &CORES {
+        assert!(rt; settles_to(rt.alloc(), &table, text, other)?, "{text}");
+    }
+    Ok(())
+}
+
+/// The normal form of a `u` extension.
+fn settled_u(alloc: Global, extension: &Extension) -> Result<Extension, Fail> {
+    if extension.singleton() != b'u' {
+        return Err(Fail::from("no u"));
+    }
+    let mut parts = split_u(alloc, extension)?;
+    settle_u(alloc, &mut parts)?;
+    Ok(join_u(alloc, &parts)?)
+}
+
+/// The normal form of a `t` extension.
+fn settled_t(alloc: Global, table: &ListTable, extension: &Extension) -> Result<Extension, Fail> {
+    if extension.singleton() != b't' || first_cycle(table).is_some() {
+        return Err(Fail::from("no t"));
+    }
+    let mut parts = split_t(alloc, extension)?;
+    settle_t(alloc, table, &mut parts)?;
+    Ok(join_t(alloc, &parts)?)
+}
+
+/// The normal form of a `u` or a `t` extension.
+fn settled(alloc: Global, table: &ListTable, extension: &Extension) -> Result<Extension, Fail> {
+    match extension.singleton() {
+        b'u' => settled_u(alloc, extension),
+        _ => settled_t(alloc, table, extension),
+    }
+}
+
+/// The normal form of the one extension of a text's tag.
+fn settled_extension(alloc: Global, table: &ListTable, text: &str) -> Result<Extension, Fail> {
+    let tag = read_tag(alloc, text.as_bytes())?;
+    match tag.extensions() {
+        [extension] => settled(alloc, table, extension),
+        _ => Err(Fail::from("not one extension")),
+    }
+}
+
+/// Whether these are the extensions of a text's tag.
+fn are_extensions_of(
+    alloc: Global,
+    extensions: &[Extension],
+    text: &str,
+) -> Result<bool, TagFault> {
+    let tag = read_tag(alloc, text.as_bytes())?;
+    Ok(same_extensions(extensions, tag.extensions()))
+}
+
+/// Whether extensions have the same subtags.
+fn same_extensions(extensions: &[Extension], others: &[Extension]) -> bool {
+    for (extension, other) in extensions.iter().zip(others) {
+        if extension.singleton() != other.singleton() || extension.subtags() != other.subtags() {
+            return false;
+        }
+    }
+    extensions.len() == others.len()
+}
+
+/// Whether the normal form of the extension of a text's tag is that of another.
+fn extension_settles_to(
+    alloc: Global,
+    table: &ListTable,
+    text: &str,
+    other: &str,
+) -> Result<bool, Fail> {
+    let settled = settled_extension(alloc, table, text)?;
+    Ok(are_extensions_of(alloc, &[settled], other)?)
+}
+
+/// Texts with one extension, and with its normal form.
+const EXTENSIONS: [(&str, &str); 11] = [
+    (
+        "en-u-foo-bar-nu-latn-ca-buddhist",
+        "en-u-bar-foo-ca-buddhist-nu-latn",
+    ),
+    (
+        "en-u-foo-bar-foo-nu-latn-ca-buddhist-NU-arab",
+        "en-u-bar-foo-ca-buddhist-nu-latn",
+    ),
+    ("en-u-kn-true", "en-u-kn"),
+    ("en-u-kn-true-kn-false", "en-u-kn"),
+    ("en-u-kn-kn-true", "en-u-kn"),
+    ("en-u-kn-true-yes", "en-u-kn-true-yes"),
+    ("en-u-kn-true-true", "en-u-kn-true-true"),
+    ("en-u-true", "en-u-true"),
+    ("en-t-zh-yue-m0-names-a0-xyz", "en-t-yue-a0-xyz-m0-names"),
+    (
+        "en-t-ZH-yue-m0-names-bgn-a0-xyz",
+        "en-t-yue-a0-xyz-m0-names-bgn",
+    ),
+    ("en-t-iw-t0-aaa", "en-t-he-t0-aaa"),
+];
+
+#[test]
+fn extensions(rt: HostRuntime) -> Result<(), Fail> {
+    let table = sample(rt.alloc())?;
+    for (text, other) in &EXTENSIONS {
+        assert!(rt;
+            extension_settles_to(rt.alloc(), &table, text, other)?,
+            "{text}"
+        );
+    }
+    Ok(())
 }
 
 /// Copies of extensions.
@@ -36,45 +178,13 @@ fn copies(alloc: Global, extensions: &[Extension]) -> Result<Vec<Extension>, Out
     Ok(copies)
 }
 
-/// The core normal form of a tag's core.
-fn settled_core(alloc: Global, table: &ListTable, text: &[u8]) -> Result<Core, Fail> {
-    if first_cycle(table).is_some() {
-        return Err(Fail::from("a cycle"));
-    }
-    let mut core = core_of(alloc, text)?;
-    settle_core(table, &mut core);
-    Ok(core)
-}
-
-/// The normal form of a tag's `u` extension.
-fn settled_u(alloc: Global, text: &[u8]) -> Result<Extension, Fail> {
-    let extension = extension_of(alloc, text)?;
-    if extension.singleton() != b'u' {
-        return Err(Fail::from("no u"));
-    }
-    let mut parts = split_u(alloc, &extension)?;
-    settle_u(alloc, &mut parts)?;
-    Ok(join_u(alloc, &parts)?)
-}
-
-/// The normal form of a tag's `t` extension.
-fn settled_t(alloc: Global, table: &ListTable, text: &[u8]) -> Result<Extension, Fail> {
-    let extension = extension_of(alloc, text)?;
-    if extension.singleton() != b't' || first_cycle(table).is_some() {
-        return Err(Fail::from("no t"));
-    }
-    let mut parts = split_t(alloc, &extension).map_err(|_| "no parts")?;
-    settle_t(alloc, table, &mut parts)?;
-    Ok(join_t(alloc, &parts)?)
-}
-
 /// The normal form of a valid tag's extensions.
 fn settled_extensions(
     alloc: Global,
     table: &ListTable,
-    text: &[u8],
+    text: &str,
 ) -> Result<Vec<Extension>, Fail> {
-    let tag = read_tag(alloc, text)?;
+    let tag = read_tag(alloc, text.as_bytes())?;
     validate(alloc, table, &tag)?;
     if first_cycle(table).is_some() {
         return Err(Fail::from("a cycle"));
@@ -84,148 +194,87 @@ fn settled_extensions(
     Ok(extensions)
 }
 
-/// Whether two cores have the same subtags.
-fn same_core(core: &Core, other: &Core) -> bool {
-    core.language() == other.language()
-        && core.extlangs() == other.extlangs()
-        && core.script() == other.script()
-        && core.region() == other.region()
-        && core.variants() == other.variants()
+/// Whether the normal form of the extensions of a text's tag are those of another.
+fn list_settles_to(
+    alloc: Global,
+    table: &ListTable,
+    text: &str,
+    other: &str,
+) -> Result<bool, Fail> {
+    let settled = settled_extensions(alloc, table, text)?;
+    Ok(are_extensions_of(alloc, &settled, other)?)
 }
 
-/// Whether two extensions have the same subtags.
-fn same_extension(extension: &Extension, other: &Extension) -> bool {
-    extension.singleton() == other.singleton() && extension.subtags() == other.subtags()
-}
-
-#[test]
-fn cores(rt: HostRuntime) -> Result<(), Fail> {
-    let table = sample(rt.alloc())?;
-    let rows = [
-        (b"zh-yue-DD".as_slice(), b"yue-DE".as_slice()),
-        (b"iw-arevela".as_slice(), b"he-arevela".as_slice()),
-        (
-            b"ja-heploc-alalc97".as_slice(),
-            b"ja-alalc97-alalc97".as_slice(),
-        ),
-        (b"hy-arevela-arevmda".as_slice(), b"hyw".as_slice()),
-    ];
-    for (text, answer) in rows {
-        let settled = settled_core(rt.alloc(), &table, text)?;
-        assert!(rt; same_core(&settled, &core_of(rt.alloc(), answer)?));
-    }
-    Ok(())
-}
-
-#[test]
-fn unicode_extensions(rt: HostRuntime) -> Result<(), Fail> {
-    let rows = [
-        (
-            b"en-u-foo-bar-nu-latn-ca-buddhist".as_slice(),
-            b"en-u-bar-foo-ca-buddhist-nu-latn".as_slice(),
-        ),
-        (
-            b"en-u-foo-bar-foo-nu-latn-ca-buddhist-NU-arab".as_slice(),
-            b"en-u-bar-foo-ca-buddhist-nu-latn".as_slice(),
-        ),
-        (b"en-u-kn-true".as_slice(), b"en-u-kn".as_slice()),
-        (b"en-u-kn-true-kn-false".as_slice(), b"en-u-kn".as_slice()),
-        (b"en-u-kn-kn-true".as_slice(), b"en-u-kn".as_slice()),
-        (
-            b"en-u-kn-true-yes".as_slice(),
-            b"en-u-kn-true-yes".as_slice(),
-        ),
-        (
-            b"en-u-kn-true-true".as_slice(),
-            b"en-u-kn-true-true".as_slice(),
-        ),
-        (b"en-u-true".as_slice(), b"en-u-true".as_slice()),
-    ];
-    for (text, answer) in rows {
-        let settled = settled_u(rt.alloc(), text)?;
-        assert!(rt; same_extension(&settled, &extension_of(rt.alloc(), answer)?));
-    }
-    Ok(())
-}
-
-#[test]
-fn transform_extensions(rt: HostRuntime) -> Result<(), Fail> {
-    let table = sample(rt.alloc())?;
-    let rows = [
-        (
-            b"en-t-zh-yue-m0-names-a0-xyz".as_slice(),
-            b"en-t-yue-a0-xyz-m0-names".as_slice(),
-        ),
-        (
-            b"en-t-ZH-yue-m0-names-bgn-a0-xyz".as_slice(),
-            b"en-t-yue-a0-xyz-m0-names-bgn".as_slice(),
-        ),
-        (b"en-t-iw-t0-aaa".as_slice(), b"en-t-he-t0-aaa".as_slice()),
-    ];
-    for (text, answer) in rows {
-        let settled = settled_t(rt.alloc(), &table, text)?;
-        assert!(rt; same_extension(&settled, &extension_of(rt.alloc(), answer)?));
-    }
-    Ok(())
-}
+/// Texts with extensions, and with their normal form.
+const LISTS: [(&str, &str); 2] = [
+    ("en-b-ccc-bbb-a-aaa", "en-a-aaa-b-ccc-bbb"),
+    (
+        "en-u-nu-latn-ca-buddhist-t-iw-t0-aaa-a-bbb",
+        "en-a-bbb-t-he-t0-aaa-u-ca-buddhist-nu-latn",
+    ),
+];
 
 #[test]
 fn lists_of_extensions(rt: HostRuntime) -> Result<(), Fail> {
     let table = sample(rt.alloc())?;
-    let rows = [
-        (
-            b"en-b-ccc-bbb-a-aaa".as_slice(),
-            b"en-a-aaa-b-ccc-bbb".as_slice(),
-        ),
-        (
-            b"en-u-nu-latn-ca-buddhist-t-iw-t0-aaa-a-bbb".as_slice(),
-            b"en-a-bbb-t-he-t0-aaa-u-ca-buddhist-nu-latn".as_slice(),
-        ),
-    ];
-    for (text, answer) in rows {
-        let settled = settled_extensions(rt.alloc(), &table, text)?;
-        let tag = read_tag(rt.alloc(), answer)?;
-        let wanted = tag.extensions();
-        assert_eq!(rt; settled.len(), wanted.len());
-        for (extension, other) in settled.iter().zip(wanted) {
-            assert!(rt; same_extension(extension, other));
-        }
+    for (text, other) in &LISTS {
+        assert!(rt; list_settles_to(rt.alloc(), &table, text, other)?, "{text}");
     }
     Ok(())
 }
 
+/// Whether the chain of a subtag ends in another.
+fn chain_ends_in(table: &ListTable, kind: Kind, subtag: &Subtag, end: &str) -> bool {
+    match chain_end(table, kind, subtag) {
+        Ok(found) => found.bytes() == end.as_bytes(),
+        Err(Cycle) => false,
+    }
+}
+
+/// Whether the chain of a text's subtag ends in another.
+fn ends_in(table: &ListTable, kind: Kind, text: &str, end: &str) -> bool {
+    match Subtag::read(text.as_bytes()) {
+        Ok(subtag) => chain_ends_in(table, kind, &subtag, end),
+        Err(_) => false,
+    }
+}
+
+/// Subtags and the ends of their chains.
+const CHAINS: [(Kind, &str, &str); 4] = [
+    (Kind::Language, "iw", "he"),
+    (Kind::Extlang, "yue", "yue"),
+    (Kind::Variant, "arevela", "arevela"),
+    (Kind::Variant, "heploc", "alalc97"),
+];
+
 #[test]
 fn ends_of_chains(rt: HostRuntime) -> Result<(), Fail> {
     let table = sample(rt.alloc())?;
-    let rows = [
-        (Kind::Language, b"iw".as_slice(), b"he".as_slice()),
-        (Kind::Extlang, b"yue".as_slice(), b"yue".as_slice()),
-        (Kind::Variant, b"arevela".as_slice(), b"arevela".as_slice()),
-        (Kind::Variant, b"heploc".as_slice(), b"alalc97".as_slice()),
-    ];
-    for (kind, text, answer) in rows {
-        let subtag = Subtag::read(text).map_err(|fault| fault.name())?;
-        let end = chain_end(&table, kind, &subtag)?;
-        assert_eq!(rt; end.bytes(), answer);
+    assert!(rt; first_cycle(&table).is_none());
+    for (kind, text, end) in &CHAINS {
+        assert!(rt; ends_in(&table, *kind, text, end), "{text}");
     }
-    assert_eq!(rt; first_cycle(&table), None);
     Ok(())
+}
+
+/// Whether the chain of a language has no end.
+fn is_endless(table: &ListTable, text: &str) -> bool {
+    match Subtag::read(text.as_bytes()) {
+        Ok(subtag) => chain_end(table, Kind::Language, &subtag).is_err(),
+        Err(_) => false,
+    }
 }
 
 #[test]
 fn chains_without_end(rt: HostRuntime) -> Result<(), Fail> {
     let table = sample_with_cycle(rt.alloc())?;
-    let subtag = Subtag::read(b"he").map_err(|fault| fault.name())?;
-    assert_eq!(rt;
-        chain_end(&table, Kind::Language, &subtag).err(),
-        Some(Cycle)
-    );
-    assert_eq!(rt; first_cycle(&table), Some(6));
+    assert!(rt; is_endless(&table, "he"));
+    assert!(rt; first_cycle(&table) == Some(6));
     Ok(())
 }
 
 #[test]
 fn names_of_kinds(rt: HostRuntime) {
-    assert_eq!(rt; StepKind::VariantLanguage.name(), "VariantLanguage");
-    assert_eq!(rt; StepKind::DropTrue.name(), "DropTrue");
+    assert!(rt; StepKind::VariantLanguage.name() == "VariantLanguage");
+    assert!(rt; StepKind::DropTrue.name() == "DropTrue");
 }

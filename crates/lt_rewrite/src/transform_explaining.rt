@@ -1,28 +1,57 @@
 //! The steps on the parts of a `t` extension, one after another (RFC 5646, 4.5; RFC 6497): those on the source, as on
 //! a core, before the leftmost SwapFields.
-ghost use Rattle.std.specs.Prelude.{◌≤◌, ◌+◌, All, IfOk, length};
+ghost use Rattle.std.specs.Prelude.{◌≡◌, ◌≤◌, ◌+◌, All, IfOk, length};
+ghost use Rattle.lt_tag.specs.Parts.{CoreParts};
 ghost use Rattle.lt_tag.specs.Extensions.{IsT, spell_t};
 ghost use Rattle.lt_rewrite.specs.Conditions.{HasEndingChain};
-ghost use Rattle.lt_rewrite.specs.Applying.{TransformLeads};
+ghost use Rattle.lt_rewrite.specs.Applying.{CoreLeads, TransformLeads};
 ghost use Rattle.lt_rewrite.specs.Runs.{NoneLeads, AddsOnTransform};
 
-use crate::steps::Step;
+use crate::core_explaining::explain_core;
+use crate::extension_settling::recall_forms;
+use crate::field_applying::source_length;
+use crate::part_explaining::explain_swaps;
+use crate::steps::{Step, StepKind};
 use lt_registry::Lookup;
 use lt_tag::{OutOfMemory, TParts};
+
+/// Takes the steps on the source of a `t` extension whose singleton stands at a place, each the first
+/// that leads on, until none does, and adds them to others. Where there is no source, there are none.
+fn explain_source<L: Lookup>(
+    table: &L,
+    parts: &mut TParts,
+    start: usize,
+    steps: &mut Vec<Step>,
+) -> Result<(), OutOfMemory>
+    requires chains { All (HasEndingChain (L.listed table.now)) (L.listed table.now) }
+    requires few { start ≤ 1200000 }
+    ensures adds { IfOk result (λ _. AddsOnTransform (L.listed table.now) start parts.old parts.new steps.old.items steps.new.items) }
+    ensures at_rest { IfOk result (λ _. (c : CoreParts) → parts.new.source ≡ Some c → NoneLeads (CoreLeads (L.listed table.now) start c)) }
+    ensures fields { IfOk result (λ _. parts.new.fields ≡ parts.old.fields) }
+{
+    let Some(source) = &mut parts.source else {
+        return Ok(());
+    };
+    explain_core(table, source, start, steps)
+}
 
 /// Takes the steps on the parts of a `t` extension whose singleton stands at a place, each the first
 /// that leads on, until none does, and adds them to others. The chains of the registry end.
 pub(crate) fn explain_t<L: Lookup>(
-    _table: &L,
-    _parts: &mut TParts,
-    _start: usize,
-    _steps: &mut Vec<Step>,
+    table: &L,
+    parts: &mut TParts,
+    start: usize,
+    steps: &mut Vec<Step>,
 ) -> Result<(), OutOfMemory>
-    requires chains { All (HasEndingChain (L.listed _table.now)) (L.listed _table.now) }
-    requires few { _start + length (spell_t _parts.old) ≤ 1200000 }
-    ensures adds { IfOk result (λ _. AddsOnTransform (L.listed _table.now) _start _parts.old _parts.new _steps.old.items _steps.new.items) }
-    ensures at_rest { IfOk result (λ _. NoneLeads (TransformLeads (L.listed _table.now) _start _parts.new)) }
-    ensures shaped { IfOk result (λ _. IsT _parts.old → IsT _parts.new) }
+    requires chains { All (HasEndingChain (L.listed table.now)) (L.listed table.now) }
+    requires few { start + length (spell_t parts.old) ≤ 1200000 }
+    ensures adds { IfOk result (λ _. AddsOnTransform (L.listed table.now) start parts.old parts.new steps.old.items steps.new.items) }
+    ensures at_rest { IfOk result (λ _. NoneLeads (TransformLeads (L.listed table.now) start parts.new)) }
+    ensures shaped { IfOk result (λ _. IsT parts.old → IsT parts.new) }
 {
-    Err(OutOfMemory)
+    recall_forms(table);
+    explain_source(table, parts, start, steps)?;
+    let first_field = start + source_length(&parts.source);
+    explain_swaps(&mut parts.fields, first_field, StepKind::SwapFields, steps)?;
+    Ok(())
 }

@@ -1,24 +1,69 @@
 //! The ordering steps on the parts of a `u` extension, one after another (RFC 5646, 4.5; RFC 6067): the leftmost
 //! DropAttribute before SwapAttributes, DropKeyword, SwapKeywords and DropTrue.
-ghost use Rattle.std.specs.Prelude.{◌≤◌, ◌+◌, IfOk, length};
-ghost use Rattle.lt_tag.specs.Extensions.{IsU, spell_u};
+ghost use Rattle.std.specs.Prelude.{◌≤◌, ◌+◌, IfOk, length, flat_map};
+ghost use Rattle.lt_tag.specs.Extensions.{IsU, spell_keyword, spell_u};
 ghost use Rattle.lt_rewrite.specs.Applying.{UnicodeLeads};
-ghost use Rattle.lt_rewrite.specs.Runs.{NoneLeads, AddsOnUnicode};
+ghost use Rattle.lt_rewrite.specs.Runs.{NoneLeads, DropsTrueBy, Adds, AddsOnUnicode};
 
-use crate::steps::Step;
-use lt_tag::{OutOfMemory, UParts};
+use crate::keyword_applying::{drop_types, has_sole_true};
+use crate::part_applying::Spelled;
+use crate::part_explaining::{explain_drops, explain_swaps};
+use crate::steps::{Step, StepKind};
+use lt_tag::{Keyword, OutOfMemory, UParts};
+
+/// Takes the types of the leftmost keyword whose types are exactly `true`, as long as there is one.
+/// The list begins after so many subtags.
+fn drop_trues(
+    keywords: &mut Vec<Keyword>,
+    start: usize,
+    steps: &mut Vec<Step>,
+) -> Result<(), OutOfMemory>
+    requires { start + length (flat_map spell_keyword keywords.old.items) ≤ 1200000 }
+    ensures adds { IfOk result (λ _. Adds (DropsTrueBy start) (λ _ _. 0) keywords.old.items keywords.new.items steps.old.items steps.new.items) }
+    ensures at_rest { IfOk result (λ _. NoneLeads (DropsTrueBy start keywords.new.items)) }
+{
+    let mut here = start + 1;
+    for index in 0..keywords.len() {
+        if has_sole_true(&keywords[index]) {
+            drop_types(&mut keywords[index]);
+            steps.push(Step {
+                kind: StepKind::DropTrue,
+                place: (here + 1) as u32,
+                number: 0,
+            })?;
+        }
+        here += keywords[index].subtag_count();
+    }
+    Ok(())
+}
 
 /// Takes the steps on the parts of a `u` extension whose singleton stands at a place, each the first
 /// that leads on, until none does, and adds them to others.
 pub(crate) fn explain_u(
-    _parts: &mut UParts,
-    _start: usize,
-    _steps: &mut Vec<Step>,
+    parts: &mut UParts,
+    start: usize,
+    steps: &mut Vec<Step>,
 ) -> Result<(), OutOfMemory>
-    requires few { _start + length (spell_u _parts.old) ≤ 1200000 }
-    ensures adds { IfOk result (λ _. AddsOnUnicode _start _parts.old _parts.new _steps.old.items _steps.new.items) }
-    ensures at_rest { IfOk result (λ _. NoneLeads (UnicodeLeads _start _parts.new)) }
-    ensures shaped { IfOk result (λ _. IsU _parts.old → IsU _parts.new) }
+    requires few { start + length (spell_u parts.old) ≤ 1200000 }
+    ensures adds { IfOk result (λ _. AddsOnUnicode start parts.old parts.new steps.old.items steps.new.items) }
+    ensures at_rest { IfOk result (λ _. NoneLeads (UnicodeLeads start parts.new)) }
+    ensures shaped { IfOk result (λ _. IsU parts.old → IsU parts.new) }
 {
-    Err(OutOfMemory)
+    explain_drops(&mut parts.attributes, start, StepKind::DropAttribute, steps)?;
+    explain_swaps(
+        &mut parts.attributes,
+        start,
+        StepKind::SwapAttributes,
+        steps,
+    )?;
+    let first_key = start + parts.attributes.len();
+    explain_drops(&mut parts.keywords, first_key, StepKind::DropKeyword, steps)?;
+    explain_swaps(
+        &mut parts.keywords,
+        first_key,
+        StepKind::SwapKeywords,
+        steps,
+    )?;
+    drop_trues(&mut parts.keywords, first_key, steps)?;
+    Ok(())
 }

@@ -58,10 +58,12 @@ pub const HEADER: &str = "File-Date: 2024-01-01";
 /// Puts the lines of a record behind the text, the separator first, with this end behind each line.
 pub fn push_record(
     text: &mut String,
-    row: (&str, &str, &str, &str),
+    kind: &str,
+    name: &str,
+    value: &str,
+    prefix: &str,
     line_end: &str,
 ) -> Result<(), AllocError> {
-    let (kind, name, value, prefix) = row;
     push_line(text, "%%", "", line_end)?;
     push_line(text, "Type: ", kind, line_end)?;
     let label = if kind == "grandfathered" || kind == "redundant" {
@@ -95,8 +97,8 @@ pub fn push_line(
 pub fn sample_text(alloc: Global) -> Result<String, AllocError> {
     let mut text = String::new(alloc);
     push_line(&mut text, HEADER, "", "\n")?;
-    for row in ROWS {
-        push_record(&mut text, row, "\n")?;
+    for (kind, name, value, prefix) in &ROWS {
+        push_record(&mut text, kind, name, value, prefix, "\n")?;
     }
     Ok(text)
 }

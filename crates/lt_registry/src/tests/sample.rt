@@ -1,5 +1,5 @@
 //! A small registry for tests, modelled on IANA's.
-use crate::{ListTable, Registry};
+use crate::{ListTable, RecordFault, Registry, SortedTable};
 use lt_jar::read_jar;
 use std::alloc::{AllocError, Global};
 use std::test::Fail;
@@ -66,8 +66,13 @@ fn push_line(text: &mut String, label: &str, body: &str) -> Result<(), AllocErro
 }
 
 /// Puts the lines of a record behind the text, the separator first.
-fn push_record(text: &mut String, row: (&str, &str, &str, &str)) -> Result<(), AllocError> {
-    let (kind, name, value, prefix) = row;
+fn push_record(
+    text: &mut String,
+    kind: &str,
+    name: &str,
+    value: &str,
+    prefix: &str,
+) -> Result<(), AllocError> {
     let label = match kind {
         "grandfathered" | "redundant" => "Tag: ",
         _ => "Subtag: ",
@@ -82,35 +87,39 @@ fn push_record(text: &mut String, row: (&str, &str, &str, &str)) -> Result<(), A
 /// The text of the registry.
 pub fn sample_text(alloc: Global) -> Result<String, AllocError> {
     let mut text = String::from_str(alloc, "File-Date: 2024-01-01\n")?;
-    for row in ROWS {
-        push_record(&mut text, row)?;
+    for (kind, name, value, prefix) in &ROWS {
+        push_record(&mut text, kind, name, value, prefix)?;
     }
     Ok(text)
 }
 
-/// The entries of a registry's text, or the name and the record of its fault.
-pub fn registry_of(
-    alloc: Global,
-    text: &[u8],
-) -> Result<Result<Registry, (&'static str, u32)>, Fail> {
+/// The entries of a registry's text, or its fault.
+pub fn registry_of(alloc: Global, text: &[u8]) -> Result<Result<Registry, RecordFault>, Fail> {
     let jar = read_jar(alloc, text)?;
     let records = jar.records();
     if records.len() > 100_000 {
         return Err(Fail::from("too many records"));
     }
-    Ok(Registry::from_records(alloc, records).map_err(|fault| (fault.kind.name(), fault.number)))
-}
-
-/// The table of the sample.
-pub fn sample(alloc: Global) -> Result<ListTable, Fail> {
-    let text = sample_text(alloc)?;
-    Ok(ListTable::new(accepted(alloc, text.as_bytes())?))
+    Ok(Registry::from_records(alloc, records))
 }
 
 /// The entries of a registry's text, which has no fault.
-pub fn accepted(alloc: Global, text: &[u8]) -> Result<Registry, Fail> {
+fn accepted(alloc: Global, text: &[u8]) -> Result<Registry, Fail> {
     match registry_of(alloc, text)? {
         Ok(registry) => Ok(registry),
         Err(_) => Err(Fail::from("the registry is refused")),
+    }
+}
+
+/// The list table of a registry's text.
+pub fn list_table(alloc: Global, text: &[u8]) -> Result<ListTable, Fail> {
+    Ok(ListTable::new(accepted(alloc, text)?))
+}
+
+/// The sorted table of a registry's text.
+pub fn sorted_table(alloc: Global, text: &[u8]) -> Result<SortedTable, Fail> {
+    match SortedTable::new(alloc, accepted(alloc, text)?) {
+        Ok(table) => Ok(table),
+        Err(_) => Err(Fail::from("no memory for the table")),
     }
 }

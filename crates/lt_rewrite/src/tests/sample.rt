@@ -4,11 +4,9 @@ use lt_registry::{ListTable, Registry};
 use std::alloc::{AllocError, Global};
 use std::test::Fail;
 
-/// A record: type, name, preferred value and prefix. An empty text stands for no field.
-type Row = (&'static str, &'static str, &'static str, &'static str);
-
-/// The records behind the header, 2 to 47.
-const ROWS: [Row; 46] = [
+/// The records behind the header, 2 to 47: type, name, preferred value and prefix. An empty text
+/// stands for no field.
+const ROWS: [(&str, &str, &str, &str); 46] = [
     ("language", "de", "", ""),
     ("language", "en", "", ""),
     ("language", "gan", "", ""),
@@ -68,8 +66,13 @@ fn push_line(text: &mut String, label: &str, body: &str) -> Result<(), AllocErro
 }
 
 /// Puts the lines of a record behind the text, the separator first.
-fn push_record(text: &mut String, row: Row) -> Result<(), AllocError> {
-    let (kind, name, value, prefix) = row;
+fn push_record(
+    text: &mut String,
+    kind: &str,
+    name: &str,
+    value: &str,
+    prefix: &str,
+) -> Result<(), AllocError> {
     let label = match kind {
         "grandfathered" | "redundant" => "Tag: ",
         _ => "Subtag: ",
@@ -81,37 +84,37 @@ fn push_record(text: &mut String, row: Row) -> Result<(), AllocError> {
     push_line(text, "Prefix: ", prefix)
 }
 
-/// The text of a registry of these records behind the header.
-fn text_of(alloc: Global, rows: [Row; 46]) -> Result<String, AllocError> {
+/// The text of the registry, in which the language `he` has this value.
+fn text_with(alloc: Global, value_of_hebrew: &str) -> Result<String, AllocError> {
     let mut text = String::from_str(alloc, "File-Date: 2024-01-01\n")?;
-    for row in rows {
-        push_record(&mut text, row)?;
+    for (kind, name, value, prefix) in &ROWS {
+        let value = if *name == "he" {
+            value_of_hebrew
+        } else {
+            value
+        };
+        push_record(&mut text, kind, name, value, prefix)?;
     }
     Ok(text)
 }
 
-/// The table of these records behind the header.
-fn table_of(alloc: Global, rows: [Row; 46]) -> Result<ListTable, Fail> {
-    let text = text_of(alloc, rows)?;
+/// The table of the registry, in which the language `he` has this value.
+fn table_with(alloc: Global, value_of_hebrew: &str) -> Result<ListTable, Fail> {
+    let text = text_with(alloc, value_of_hebrew)?;
     let jar = read_jar(alloc, text.as_bytes())?;
     let records = jar.records();
     if records.len() > 100_000 {
         return Err(Fail::from("too many records"));
     }
-    match Registry::from_records(alloc, records) {
-        Ok(registry) => Ok(ListTable::new(registry)),
-        Err(_) => Err(Fail::from("the sample is refused")),
-    }
+    Ok(ListTable::new(Registry::from_records(alloc, records)?))
 }
 
 /// The table of the sample.
 pub fn sample(alloc: Global) -> Result<ListTable, Fail> {
-    table_of(alloc, ROWS)
+    table_with(alloc, "")
 }
 
 /// The table of the sample in which the value of `he` is `iw`, whose value is `he`.
 pub fn sample_with_cycle(alloc: Global) -> Result<ListTable, Fail> {
-    let mut rows = ROWS;
-    rows[4].2 = "iw";
-    table_of(alloc, rows)
+    table_with(alloc, "iw")
 }

@@ -1,0 +1,183 @@
+-- Runs on the parts of a tag, one after another, to where no step leads on: these explain its canonical form.
+use Rattle.std.proofs.Common.{◌≡◌, ℕ, ◌==◌, ◌+◌, ◌<◌, false, inr, List, [], ◌∷◌, ◌++◌, Some, None, refl, sym, ap, ◌∙◌, subst, length, arith}
+use Rattle.std.specs.Prelude.{Result, Ok, Err, IfOk}
+use Rattle.std.specs.List.{AllByRecursion}
+use Rattle.lt_tag.specs.Parts.{CoreParts, ExtensionParts, TForm, TagForm, LangTag, PrivateUse, Grandfathered}
+use Rattle.lt_tag.specs.Spelling.{spell_core}
+use Rattle.lt_tag.specs.Extensions.{transform, IsTransform}
+use Rattle.lt_tag.specs.Values.{core_of, extensions_of, private_of}
+use Rattle.lt_tag.specs.Values.{number_of as tag_number}
+use Rattle.lt_registry.specs.Parts.{EntryParts}
+use Rattle.lt_registry.specs.Entries.{whole, whole_value, number_of}
+use Rattle.lt_registry.specs.Validity.{IsProper}
+use Rattle.lt_rewrite.specs.Rewriting.{Star, then, Rests, IsNormalForm}
+use Rattle.lt_rewrite.specs.CoreSteps.{values_of, CoreStep, IsCoreNormalForm}
+use Rattle.lt_rewrite.specs.Extensions.{ExtensionsStep}
+use Rattle.lt_rewrite.specs.TagSteps.{IsPlain, TagChange, on_core, on_extensions, on_whole, TagStep}
+use Rattle.lt_rewrite.specs.Labels.{step_at, core_label, extensions_label, tag_label, LeadsBy, IsTrace}
+use Rattle.lt_rewrite.specs.Applying.{CoreLeads, ExtensionsLeads}
+use Rattle.lt_rewrite.specs.Runs.{kind_rank, extension_rank, IsFirst, IsRun, NoneLeads, Adds, AddsOnCore, AddsOnExtensions}
+use Rattle.lt_rewrite.specs.declared.steps.Step.{Step}
+use Rattle.lt_rewrite.specs.declared.steps.StepKind.TheVariants as steps
+use Rattle.lt_rewrite.proofs.Stars.{star_path}
+use Rattle.lt_rewrite.proofs.NormalForms.{normal_is_form}
+use Rattle.lt_rewrite.proofs.FirstSteps.{adds_none, adds_more, adds_all, run_lift}
+use Rattle.lt_canon.specs.Conditions.{plain, IsChecked}
+use Rattle.lt_canon.specs.Answers.{IsCanonicalFormOf}
+use Rattle.lt_canon.specs.Explaining.{rank_in, IsExplanation, RestsOnCore, LeadsToRest}
+use Rattle.lt_canon.proofs.CheckedRegistry.{value_plain}
+use Rattle.lt_canon.proofs.TagForm.{core_end, cores_formed, value_rests, extensions_step_from}
+use Rattle.lt_canon.proofs.TagRest.{lang_at_end, grandfathered_rests, private_rests, none_rests}
+use Rattle.lt_canon.proofs.TagLaws.{traces_reach_their_end}
+use Rattle.lt_canon.proofs.Answering.{EndsAt, end_is}
+use Rattle.lt_canon.proofs.CanonicalForms.{langtag_of, transforms_have_parts, form_some}
+use Rattle.lt_canon.proofs.FirstTagSteps.{core_is_first, extensions_is_first}
+
+-- what holds of an answer, from one or two facts of it
+pub if_ok : {A E : Type 0} (P Q : A → Type 0) (r : Result A E) → ((a : A) → P a → Q a) → IfOk r P → IfOk r Q
+if_ok P Q (Ok a) f h = f a h
+if_ok P Q (Err e) f h = h
+
+pub if_ok_both : {A E : Type 0} (P Q S : A → Type 0) (r : Result A E) → ((a : A) → P a → Q a → S a) → IfOk r P → IfOk r Q → IfOk r S
+if_ok_both P Q S (Ok a) f h k = f a h k
+if_ok_both P Q S (Err e) f h k = h
+
+pub some_of_test : {A : Type 0} (xs : List A) → false ≡ (length xs == 0) → 0 < length xs
+some_of_test [] h = cc
+some_of_test (x ∷ xs) h = omega arith
+
+pub plain_made : (t : TagForm) (c : CoreParts) (es : List ExtensionParts) (ps : List (List ℕ)) → t ≡ LangTag c es ps → es ≡ [] → ps ≡ [] → t ≡ plain c
+plain_made t c es ps h e p = h ∙ (λ i. LangTag c (e i) (p i))
+
+-- a run goes by steps
+run_star : {A : Type 0} (Leads : A → Step → A → Type 0) (rank : A → Step → ℕ) (Move : A → A → Type 0) → ((a : A) (step : Step) (b : A) → Leads a step b → Move a b) → (run : List Step) (a b : A) → IsRun Leads rank a run b → Star Move a b
+run_star Leads rank Move move [] a b h = star_path a b h
+run_star Leads rank Move move (step ∷ run) a b h = then (move a step h.0 h.1.leads) (run_star Leads rank Move move run h.0 b h.2)
+
+module _ (R : List EntryParts) where
+  run_trace : (run : List Step) (t end : TagForm) → IsRun (LeadsBy R) rank_in t run end → IsTrace R t run end
+  run_trace [] t end h = h
+  run_trace (step ∷ run) t end h = (h.0, h.1.leads, run_trace run h.0 end h.2)
+
+  core_reached : (c d : CoreParts) (old new : List Step) → AddsOnCore R 0 c d old new → Star (CoreStep (values_of R)) c d
+  core_reached c d old new h = run_star (CoreLeads R 0) (λ _ step. kind_rank step) (CoreStep (values_of R)) (λ a step b l. l.0) h.run c d h.is_run
+
+  core_rests : (d : CoreParts) → NoneLeads (CoreLeads R 0 d) → Rests (CoreStep (values_of R)) d
+  core_rests d none e s = none (core_label R 0 s) e (s, refl)
+
+  extensions_rest : (start : ℕ) (fs : List ExtensionParts) → NoneLeads (ExtensionsLeads R start fs) → Rests (ExtensionsStep R) fs
+  extensions_rest start fs none gs s = none (extensions_label R start s) gs (s, refl)
+
+  extensions_normal : (start : ℕ) (es fs : List ExtensionParts) (old new : List Step) → AddsOnExtensions R start es fs old new → NoneLeads (ExtensionsLeads R start fs) → IsNormalForm (ExtensionsStep R) es fs
+  extensions_normal start es fs old new h none = record {
+    reached = run_star (ExtensionsLeads R start) (λ _ step. extension_rank step) (ExtensionsStep R) (λ a step b l. l.0) h.run es fs h.is_run;
+    at_rest = extensions_rest start fs none;
+  }
+
+  -- no step leads from a tag whose core is at rest and that has no value
+  pub whole_at_rest : (t : TagForm) → IsPlain t → RestsOnCore R t → whole_value R t ≡ None → Rests (TagStep R) t
+  whole_at_rest (LangTag c es ps) h k e u s =
+      lang_at_end R c es ps (record {
+        core = core_rests c (k c refl);
+        extensions = subst (Rests (ExtensionsStep R)) (sym h.0) (none_rests R);
+        whole = λ a b. ap (whole_value R) (λ i. LangTag c (sym a i) (sym b i)) ∙ e;
+      }) u s.change
+  whole_at_rest (PrivateUse ps) h k e u s = absurd h
+  whole_at_rest (Grandfathered n) h k e u s = grandfathered_rests R n e u s.change
+
+  only_whole : (t : TagForm) → IsPlain t → RestsOnCore R t → (step : Step) (u : TagForm) (s : TagChange R t u) → tag_label R s ≡ step → step ≡ step_at steps.Whole 1 (number_of (whole R t))
+  only_whole t h k step u (on_core c d es ps s) e = absurd (k c (ap core_of s.from) (core_label R 0 s.step) d (s.step, refl))
+  only_whole t h k step u (on_extensions c es fs ps s) e = let p : IsPlain (LangTag c es ps) = subst IsPlain s.from h in absurd (extensions_step_from R es fs s.step p.0)
+  only_whole t h k step u (on_whole s) e = sym e
+
+  module _ (C : IsChecked R) where
+    pub adds_on_core : (c d : CoreParts) (es : List ExtensionParts) (ps : List (List ℕ)) (old new : List Step) → IsProper R (LangTag c es ps) → AddsOnCore R 0 c d old new → IsProper R (LangTag d es ps) × Adds (LeadsBy R) rank_in (LangTag c es ps) (LangTag d es ps) old new
+    adds_on_core c d es ps old new P h =
+        let lifted = run_lift (CoreLeads R 0) (λ _ step. kind_rank step) (LeadsBy R) rank_in (λ x. IsProper R (LangTag x es ps)) (λ x. LangTag x es ps) (λ a b step p k. core_is_first R a es ps C step b p k) h.run c d P h.is_run in
+        (lifted.0, record { run = h.run; added = h.added; is_run = lifted.1 })
+
+    adds_on_extensions : (c : CoreParts) (es fs : List ExtensionParts) (ps : List (List ℕ)) (old new : List Step) → IsProper R (LangTag c es ps) → NoneLeads (CoreLeads R 0 c) → AddsOnExtensions R (length (spell_core c)) es fs old new → Adds (LeadsBy R) rank_in (LangTag c es ps) (LangTag c fs ps) old new
+    adds_on_extensions c es fs ps old new P none h =
+        let lifted = run_lift (ExtensionsLeads R (length (spell_core c))) (λ _ step. extension_rank step) (LeadsBy R) rank_in (λ x. IsProper R (LangTag c x ps)) (λ x. LangTag c x ps) (λ a b step p k. extensions_is_first R c a ps C step b p none k) h.run es fs P h.is_run in
+        record { run = h.run; added = h.added; is_run = lifted.1 }
+
+    -- the step to the value is the first, where the core is at rest
+    whole_is_first : (t u : TagForm) (step : Step) → IsProper R t → IsPlain t → RestsOnCore R t → whole_value R t ≡ Some u → step ≡ step_at steps.Whole 1 (number_of (whole R t)) → IsFirst (LeadsBy R t) (rank_in t) step u
+    whole_is_first t u step P h k v e = record {
+      leads = (record { from = P; to = (value_plain R C t u v).valid.proper; change = on_whole (record { plain = h; has = v }) }, sym e);
+      first = λ other b l. let same : step ≡ other = e ∙ sym (only_whole t h k other b l.0.change l.1) in inr (ap (rank_in t) same, omega (arith, ap (λ (x : Step). x.place) same));
+    }
+
+    -- steps before others
+    pub first_adds : (t u : TagForm) (old mid new : List Step) → Adds (LeadsBy R) rank_in t u old mid → LeadsToRest R u mid new → LeadsToRest R t old new
+    first_adds t u old mid new h k = record { end = k.end; adds = adds_all (LeadsBy R) rank_in t u k.end old mid new h k.adds; at_rest = k.at_rest }
+
+    -- none where none leads on
+    pub rests : (t : TagForm) (old : List Step) → Rests (TagStep R) t → LeadsToRest R t old old
+    rests t old h = record { end = t; adds = adds_none (LeadsBy R) rank_in t old; at_rest = h }
+
+    pub private_use_rests : (ps : List (List ℕ)) (old : List Step) → LeadsToRest R (PrivateUse ps) old old
+    private_use_rests ps old = rests (PrivateUse ps) old (λ u s. private_rests R ps u s.change)
+
+    -- the value of a whole tag, and the steps on its core
+    pub value_rests_by : (t : TagForm) (core form : CoreParts) (step : Step) (old mid new : List Step) → IsProper R t → IsPlain t → RestsOnCore R t → whole_value R t ≡ Some (plain core) → step ≡ step_at steps.Whole 1 (number_of (whole R t)) → mid ≡ old ++ step ∷ [] → AddsOnCore R 0 core form mid new → NoneLeads (CoreLeads R 0 form) → LeadsToRest R t old new
+    value_rests_by t core form step old mid new P h k v e m a none =
+        let Q : IsProper R (plain core) = (value_plain R C t (plain core) v).valid.proper in
+        let normal : IsCoreNormalForm (values_of R) core form = record { reached = core_reached core form mid new a; at_rest = core_rests form none } in
+        let same : core_end R C core ≡ form = normal_is_form (cores_formed R C) core form normal in
+        let valueless : whole_value R (plain form) ≡ None = ap (λ c. whole_value R (plain c)) (sym same) ∙ value_rests R C t core v in
+        let on : RestsOnCore R (plain form) = λ c i. let j : form ≡ c = cc in subst (λ x. NoneLeads (CoreLeads R 0 x)) j none in
+        let rest : LeadsToRest R (plain form) new new = rests (plain form) new (whole_at_rest (plain form) (refl, refl) on valueless) in
+        let one : Adds (LeadsBy R) rank_in t (plain core) old mid = adds_more (LeadsBy R) rank_in t t (plain core) old old mid step (adds_none (LeadsBy R) rank_in t old) (whole_is_first t (plain core) step P h k v e) m in
+        first_adds t (plain core) old mid new one (first_adds (plain core) (plain form) mid new new (adds_on_core core form [] [] mid new Q a).1 rest)
+
+    -- the steps on the extensions of a langtag whose core is at rest
+    pub extensions_rest_by : (c : CoreParts) (es fs : List ExtensionParts) (ps : List (List ℕ)) (old new : List Step) → IsProper R (LangTag c es ps) → 0 < length es + length ps → NoneLeads (CoreLeads R 0 c) → AddsOnExtensions R (length (spell_core c)) es fs old new → NoneLeads (ExtensionsLeads R (length (spell_core c)) fs) → LeadsToRest R (LangTag c es ps) old new
+    extensions_rest_by c es fs ps old new P some none a nowhere =
+        let normal = extensions_normal (length (spell_core c)) es fs old new a nowhere in
+        let left = form_some R C es fs ps normal some in
+        record {
+          end = LangTag c fs ps;
+          adds = adds_on_extensions c es fs ps old new P none a;
+          at_rest = λ u s. lang_at_end R c fs ps (record { core = core_rests c none; extensions = normal.at_rest; whole = λ x y. absurd (omega (arith, left, ap length x, ap length y)) }) u s.change;
+        }
+
+    -- a tag of a core alone, once its core is at rest
+    pub plain_explained : (t : TagForm) (core d : CoreParts) (es : List ExtensionParts) (ps : List (List ℕ)) (old mid : List Step) → IsProper R t → Some core ≡ core_of t → es ≡ extensions_of t → ps ≡ private_of t → [] ≡ es → [] ≡ ps → AddsOnCore R 0 core d old mid → IsProper R (plain d) × Adds (LeadsBy R) rank_in t (plain d) old mid
+    plain_explained t core d es ps old mid P k e p n m a =
+        let same : t ≡ plain core = langtag_of t core (sym k) ∙ (λ i. LangTag core (sym e i) (sym p i)) ∙ (λ i. LangTag core (sym n i) (sym m i)) in
+        let on = adds_on_core core d [] [] old mid (subst (IsProper R) same P) a in
+        (on.0, subst (λ x. Adds (LeadsBy R) rank_in x (plain d) old mid) (sym same) on.1)
+
+    -- a langtag with extensions or private use
+    pub langtag_explained : (t : TagForm) (core d : CoreParts) (es fs : List ExtensionParts) (ps : List (List ℕ)) (start : ℕ) (old mid new : List Step) → IsProper R t → Some core ≡ core_of t → es ≡ extensions_of t → ps ≡ private_of t → 0 < length es + length ps → AddsOnCore R 0 core d old mid → NoneLeads (CoreLeads R 0 d) → start ≡ length (spell_core d) → AddsOnExtensions R start es fs mid new → NoneLeads (ExtensionsLeads R start fs) → LeadsToRest R t old new
+    langtag_explained t core d es fs ps start old mid new P k e p some a none at b nowhere =
+        let same : t ≡ LangTag core es ps = langtag_of t core (sym k) ∙ (λ i. LangTag core (sym e i) (sym p i)) in
+        let on = adds_on_core core d es ps old mid (subst (IsProper R) same P) a in
+        let rest = extensions_rest_by d es fs ps mid new on.0 some none (subst (λ n. AddsOnExtensions R n es fs mid new) at b) (subst (λ n. NoneLeads (ExtensionsLeads R n fs)) at nowhere) in
+        subst (λ x. LeadsToRest R x old new) (sym same) (first_adds (LangTag core es ps) (LangTag d es ps) old mid new on.1 rest)
+
+    -- a tag that is neither a langtag nor grandfathered
+    pub coreless_explained : (t : TagForm) (old : List Step) → core_of t ≡ None → tag_number t ≡ None → LeadsToRest R t old old
+    coreless_explained (LangTag c es ps) old h k = cc
+    coreless_explained (PrivateUse ps) old h k = private_use_rests ps old
+    coreless_explained (Grandfathered n) old h k = cc
+
+    pub transforms_of : (t : TagForm) → IsProper R t → AllByRecursion (λ (e : ExtensionParts). e.singleton ≡ transform → (p : TForm) × IsTransform e.subtags p) (extensions_of t)
+    transforms_of (LangTag c es ps) P = transforms_have_parts R es P.parts.extensions
+    transforms_of (PrivateUse ps) P = tt
+    transforms_of (Grandfathered n) P = tt
+
+    -- they lead to the canonical form
+    pub explained : (t end : TagForm) (run : List Step) → IsCanonicalFormOf R t end → LeadsToRest R t [] run → IsExplanation R t run end
+    explained t end run F h =
+        let trace : IsTrace R t h.adds.run h.end = run_trace h.adds.run t h.end h.adds.is_run in
+        let here : EndsAt R C t h.end = record { reached = (traces_reach_their_end R t h.end h.adds.run trace).0; at_rest = h.at_rest } in
+        let there : EndsAt R C t end = record { reached = F.reached; at_rest = F.canonical.at_rest } in
+        let same : h.end ≡ end = sym (end_is R C t h.end F.valid.proper here) ∙ end_is R C t end F.valid.proper there in
+        let all : run ≡ h.adds.run = h.adds.added in
+        record {
+          form = F;
+          trace = subst (λ xs. IsTrace R t xs end) (sym all) (subst (IsTrace R t h.adds.run) same trace);
+          is_run = subst (λ xs. IsRun (LeadsBy R) rank_in t xs end) (sym all) (subst (IsRun (LeadsBy R) rank_in t h.adds.run) same h.adds.is_run);
+        }

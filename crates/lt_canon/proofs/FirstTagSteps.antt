@@ -1,0 +1,177 @@
+-- The first step on a core, on a whole tag and on extensions is the first on the tag, where none comes before it.
+use Rattle.std.proofs.Common.{◌≡◌, ℕ, ◌+◌, ◌<◌, ◌≤◌, inl, inr, ◌&&◌, Bool, true, false, Ordering, List, [], ◌∷◌, refl, sym, ap, ◌∙◌, subst, length, arith}
+use Rattle.std.specs.Prelude.{nat_le, if◌then◌else◌}
+use Rattle.std.proofs.lemmas.Bool.{lt-leb, le-leb, leb-true}
+use Rattle.lt_tag.specs.Parts.{CoreParts, ExtensionParts, UForm, TForm, TagForm, LangTag, PrivateUse, Grandfathered}
+use Rattle.lt_tag.specs.Spelling.{spell_core, spell_extension, spell_extensions}
+use Rattle.lt_tag.specs.Extensions.{spell_keyword, spell_field, spell_source}
+use Rattle.lt_tag.specs.Values.{core_of}
+use Rattle.lt_registry.specs.Parts.{EntryParts}
+use Rattle.lt_registry.specs.Entries.{whole, number_of}
+use Rattle.lt_registry.specs.Validity.{IsProper}
+use Rattle.lt_rewrite.specs.CoreSteps.{values_of, CoreStep, by_extlang, by_language, by_script, by_region, by_variant, by_turn}
+use Rattle.lt_rewrite.specs.Orderings.{ListStep, by_swap, by_drop}
+use Rattle.lt_rewrite.specs.Extensions.{UnicodeStep, on_attributes, on_keywords, on_types, TransformStep, on_source, on_fields, ExtensionStep, in_unicode, in_transform, ExtensionsStep, inside, among}
+use Rattle.lt_rewrite.specs.TagSteps.{IsPlain, TagChange, on_core, on_extensions, on_whole}
+use Rattle.lt_rewrite.specs.Labels.{step_at, core_label, list_label, unicode_label, transform_label, extension_label, extensions_label, tag_label, LeadsBy}
+use Rattle.lt_rewrite.specs.Applying.{CoreLeads, ExtensionsLeads}
+use Rattle.lt_rewrite.specs.Runs.{rank_of, kind_rank, extension_rank, IsNoLater, IsFirst, NoneLeads}
+use Rattle.lt_rewrite.specs.declared.steps.Step.{Step}
+use Rattle.lt_rewrite.specs.declared.steps.StepKind.{StepKind}
+use Rattle.lt_rewrite.specs.declared.steps.StepKind.TheVariants as steps
+use Rattle.lt_rewrite.proofs.OneStep.{core_high}
+use Rattle.lt_canon.specs.Conditions.{IsChecked}
+use Rattle.lt_canon.specs.Explaining.{rank_in}
+use Rattle.lt_canon.proofs.TagProper.{core_step_tag, extensions_step_tag}
+use Rattle.lt_canon.proofs.TagForm.{extensions_step_from}
+
+-- the ranks of steps
+
+core_rank : (R : List EntryParts) (start : ℕ) (c d : CoreParts) (s : CoreStep (values_of R) c d) → kind_rank (core_label R start s) ≤ 6
+core_rank R start c d (by_extlang x s) = omega arith
+core_rank R start c d (by_language v s) = omega arith
+core_rank R start c d (by_script a v s) = omega arith
+core_rank R start c d (by_region a v s) = omega arith
+core_rank R start c d (by_variant before v w after s) = omega arith
+core_rank R start c d (by_turn before v m after s) = omega arith
+
+-- a step on extensions that begin after so many subtags
+record IsBehind (start : ℕ) (step : Step) : Type 0 where
+  pub late : 8 ≤ extension_rank step
+  pub behind : kind_rank step ≤ 6 → start < step.place
+
+late_rank : (b : Bool) (n : ℕ) → 8 ≤ n → 8 ≤ (if b then n + 13 else n)
+late_rank true n h = omega arith
+late_rank false n h = h
+
+by_kind : (start : ℕ) (step : Step) → 8 ≤ kind_rank step → IsBehind start step
+by_kind start step h = record { late = late_rank (nat_le (kind_rank step) 6) (kind_rank step) h; behind = λ k. absurd (omega (arith, h, k)) }
+
+source_behind : (R : List EntryParts) (start place : ℕ) (c d : CoreParts) (s : CoreStep (values_of R) c d) → start ≤ place → IsBehind start (core_label R place s)
+source_behind R start place c d (by_extlang x s) h = record { late = omega arith; behind = λ _. omega arith }
+source_behind R start place c d (by_language v s) h = record { late = omega arith; behind = λ _. omega arith }
+source_behind R start place c d (by_script a v s) h = record { late = omega arith; behind = λ _. omega arith }
+source_behind R start place c d (by_region a v s) h = record { late = omega arith; behind = λ _. omega arith }
+source_behind R start place c d (by_variant before v w after s) h = record { late = omega arith; behind = λ _. omega arith }
+source_behind R start place c d (by_turn before v m after s) h = record { late = omega arith; behind = λ _. omega arith }
+
+list_behind : {A : Type 0} {once : Bool} {cmp : A → A → Ordering} {xs ys : List A} (swap drop : StepKind) → 8 ≤ rank_of swap → 8 ≤ rank_of drop → (spell : A → List (List ℕ)) (start place : ℕ) (s : ListStep once cmp xs ys) → IsBehind start (list_label swap drop spell place s)
+list_behind swap drop h k spell start place (by_swap before a b after s) = by_kind start _ h
+list_behind swap drop h k spell start place (by_drop before a between b after o s) = by_kind start _ k
+
+unicode_behind : (start place : ℕ) (p q : UForm) (s : UnicodeStep p q) → IsBehind start (unicode_label place s)
+unicode_behind start place p q (on_attributes s k) = list_behind steps.SwapAttributes steps.DropAttribute (omega arith) (omega arith) (λ a. a ∷ []) start place s
+unicode_behind start place p q (on_keywords a s) = list_behind steps.SwapKeywords steps.DropKeyword (omega arith) (omega arith) spell_keyword start (place + length p.attributes) s
+unicode_behind start place p q (on_types a before k after s) = by_kind start _ (omega arith)
+
+transform_behind : (R : List EntryParts) (start place : ℕ) (p q : TForm) (s : TransformStep R p q) → start ≤ place → IsBehind start (transform_label R place s)
+transform_behind R start place p q (on_source c d s) h = source_behind R start place c d s.step h
+transform_behind R start place p q (on_fields a s) h = list_behind steps.SwapFields steps.SwapFields (omega arith) (omega arith) spell_field start (place + length (spell_source p.source)) s
+
+extension_behind : (R : List EntryParts) (start place : ℕ) (e f : ExtensionParts) (s : ExtensionStep R e f) → start ≤ place → IsBehind start (extension_label R place s)
+extension_behind R start place e f (in_unicode p q s) h = unicode_behind start place p q s.step
+extension_behind R start place e f (in_transform p q s) h = transform_behind R start place p q s.step h
+
+extensions_behind : (R : List EntryParts) (start : ℕ) (es fs : List ExtensionParts) (s : ExtensionsStep R es fs) → IsBehind start (extensions_label R start s)
+extensions_behind R start es fs (inside before e f after w s) = extension_behind R start (start + length (spell_extensions before) + 1) e f s (omega arith)
+extensions_behind R start es fs (among s) = list_behind steps.SwapExtensions steps.SwapExtensions (omega arith) (omega arith) spell_extension start start s
+
+-- the ranks in a tag
+
+chosen_rank : (b a : Bool) (n : ℕ) → (b ≡ true → a ≡ true) → (if b && a then (if b then n + 13 else n) else n) ≡ (if b then n + 13 else n)
+chosen_rank true a n h = ap (λ x. if x then n + 13 else n) (h refl)
+chosen_rank false a n h = refl
+
+own_rank : (b a : Bool) (n m : ℕ) → a ≡ false → (if b && a then m else n) ≡ n
+own_rank true a n m h = ap (λ x. if x then m else n) h
+own_rank false a n m h = refl
+
+behind_rank : (c : CoreParts) (es : List ExtensionParts) (ps : List (List ℕ)) (step : Step) → IsBehind (length (spell_core c)) step → rank_in (LangTag c es ps) step ≡ extension_rank step
+behind_rank c es ps step h =
+    chosen_rank (nat_le (kind_rank step) 6) (nat_le (length (spell_core c) + 1) step.place) (kind_rank step)
+    (λ k. let low = h.behind (leb-true (kind_rank step) 6 k) in le-leb (length (spell_core c) + 1) step.place (omega (arith, low)))
+
+before_rank : (c : CoreParts) (es : List ExtensionParts) (ps : List (List ℕ)) (step : Step) → step.place ≤ length (spell_core c) → rank_in (LangTag c es ps) step ≡ kind_rank step
+before_rank c es ps step h =
+    own_rank (nat_le (kind_rank step) 6) (nat_le (length (spell_core c) + 1) step.place) (kind_rank step) (extension_rank step) (lt-leb (length (spell_core c) + 1) step.place (omega (arith, h)))
+
+whole_rank : (t : TagForm) (number : ℕ) → rank_in t (step_at steps.Whole 1 number) ≡ 7
+whole_rank (LangTag c es ps) number = refl
+whole_rank (PrivateUse ps) number = refl
+whole_rank (Grandfathered n) number = refl
+
+-- a step that comes no later by one rank, by another that is the same on both
+no_later_by : (rank order : Step → ℕ) (a b : Step) → order a ≡ rank a → order b ≡ rank b → IsNoLater rank a b → IsNoLater order a b
+no_later_by rank order a b e f (inl h) = inl (omega (arith, e, f, h))
+no_later_by rank order a b e f (inr h) = inr (e ∙ h.0 ∙ sym f, h.1)
+
+module _ (R : List EntryParts) (c : CoreParts) (es : List ExtensionParts) (ps : List (List ℕ)) where
+  abbrev here : TagForm
+  here = LangTag c es ps
+
+  -- a step on the core
+  core_leads_rank : (step : Step) (d : CoreParts) → CoreLeads R 0 c step d → (rank_in here step ≡ kind_rank step) × (kind_rank step ≤ 6)
+  core_leads_rank step d l =
+      (before_rank c es ps step (subst (λ (x : Step). x.place ≤ length (spell_core c)) l.1 (core_high R c d l.0)), subst (λ (x : Step). kind_rank x ≤ 6) l.1 (core_rank R 0 c d l.0))
+
+  -- a step on the extensions
+  extensions_lead_rank : (step : Step) (fs : List ExtensionParts) → ExtensionsLeads R (length (spell_core c)) es step fs → (rank_in here step ≡ extension_rank step) × (8 ≤ extension_rank step)
+  extensions_lead_rank step fs l =
+      let b = subst (IsBehind (length (spell_core c))) l.1 (extensions_behind R (length (spell_core c)) es fs l.0) in
+      (behind_rank c es ps step b, b.late)
+
+  -- what a step on the tag is
+  pub data Leads (step : Step) : Type 0 where
+    core_leads : (d : CoreParts) → CoreLeads R 0 c step d → Leads step
+    extensions_lead : (fs : List ExtensionParts) → ExtensionsLeads R (length (spell_core c)) es step fs → Leads step
+    whole_leads : IsPlain here → step ≡ step_at steps.Whole 1 (number_of (whole R here)) → Leads step
+
+  leads_by : (step : Step) (u : TagForm) (s : TagChange R here u) → tag_label R s ≡ step → Leads step
+  leads_by step u (on_core b d fs qs s) h =
+      let same : b ≡ c = let a = ap core_of s.from in cc in
+      core_leads d (subst (λ x. CoreLeads R 0 x step d) same (s.step, h))
+  leads_by step u (on_extensions b gs fs qs s) h =
+      let same : LangTag b gs qs ≡ here = sym s.from in
+      let one : b ≡ c = cc in
+      let all : gs ≡ es = cc in
+      extensions_lead fs (subst (λ x. ExtensionsLeads R (length (spell_core x)) es step fs) one (subst (λ x. ExtensionsLeads R (length (spell_core b)) x step fs) all (s.step, h)))
+  leads_by step u (on_whole s) h = whole_leads s.plain (sym h)
+
+  module _ (C : IsChecked R) where
+    core_before : (step : Step) (d : CoreParts) (other : Step) → IsFirst (CoreLeads R 0 c) kind_rank step d → Leads other → IsNoLater (rank_in here) step other
+    core_before step d other h (core_leads e l) =
+        no_later_by kind_rank (rank_in here) step other (core_leads_rank step d h.leads).0 (core_leads_rank other e l).0 (h.first other e l)
+    core_before step d other h (extensions_lead fs l) =
+        let a = core_leads_rank step d h.leads in
+        let b = extensions_lead_rank other fs l in
+        inl (omega (arith, a.0, a.1, b.0, b.1))
+    core_before step d other h (whole_leads p e) =
+        let a = core_leads_rank step d h.leads in
+        let b = ap (rank_in here) e ∙ whole_rank here (number_of (whole R here)) in
+        inl (omega (arith, a.0, a.1, b))
+
+    -- the first on the core is the first of all
+    pub core_is_first : (step : Step) (d : CoreParts) → IsProper R here → IsFirst (CoreLeads R 0 c) kind_rank step d → IsProper R (LangTag d es ps) × IsFirst (LeadsBy R here) (rank_in here) step (LangTag d es ps)
+    core_is_first step d P h = (
+      core_step_tag R C c d es ps h.leads.0 P,
+      record {
+        leads = (record { from = P; to = core_step_tag R C c d es ps h.leads.0 P; change = on_core c d es ps (record { from = refl; to = refl; step = h.leads.0 }) }, h.leads.1);
+        first = λ other u l. core_before step d other h (leads_by other u l.0.change l.1);
+      },
+    )
+
+    extensions_before : (step : Step) (fs : List ExtensionParts) (other : Step) → NoneLeads (CoreLeads R 0 c) → IsFirst (ExtensionsLeads R (length (spell_core c)) es) extension_rank step fs → Leads other → IsNoLater (rank_in here) step other
+    extensions_before step fs other none h (core_leads d l) = absurd (none other d l)
+    extensions_before step fs other none h (extensions_lead gs l) =
+        no_later_by extension_rank (rank_in here) step other (extensions_lead_rank step fs h.leads).0 (extensions_lead_rank other gs l).0 (h.first other gs l)
+    extensions_before step fs other none h (whole_leads p e) = absurd (extensions_step_from R es fs h.leads.0 p.0)
+
+    -- where no step on the core is left, the first on the extensions is
+    pub extensions_is_first : (step : Step) (fs : List ExtensionParts) → IsProper R here → NoneLeads (CoreLeads R 0 c) → IsFirst (ExtensionsLeads R (length (spell_core c)) es) extension_rank step fs → IsProper R (LangTag c fs ps) × IsFirst (LeadsBy R here) (rank_in here) step (LangTag c fs ps)
+    extensions_is_first step fs P none h = (
+      extensions_step_tag R C c es fs ps h.leads.0 P,
+      record {
+        leads = (record { from = P; to = extensions_step_tag R C c es fs ps h.leads.0 P; change = on_extensions c es fs ps (record { from = refl; to = refl; step = h.leads.0 }) }, h.leads.1);
+        first = λ other u l. extensions_before step fs other none h (leads_by other u l.0.change l.1);
+      },
+    )

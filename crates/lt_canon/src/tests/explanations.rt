@@ -1,0 +1,85 @@
+use super::checked_sample;
+use crate::{Checked, Refusal, explain};
+use lt_registry::ListTable;
+use lt_rewrite::{Step, StepKind};
+use lt_tag::{read_tag, write_tag};
+use std::alloc::Global;
+use std::test::Fail;
+
+/// Texts, the kinds, places and records of their steps, and the texts to which these lead.
+const EXPLAINED: [(&str, &[(StepKind, u32, u32)], &str); 5] = [
+    (
+        "sgn-dd",
+        &[(StepKind::Region, 2, 27), (StepKind::Whole, 1, 44)],
+        "gsg",
+    ),
+    ("gsg", &[], "gsg"),
+    ("zh-cmn", &[(StepKind::Extlang, 2, 20)], "cmn"),
+    (
+        "en-u-foo-bar-foo",
+        &[
+            (StepKind::DropAttribute, 5, 0),
+            (StepKind::SwapAttributes, 3, 0),
+        ],
+        "en-u-bar-foo",
+    ),
+    ("en-t-iw", &[(StepKind::Language, 3, 9)], "en-t-he"),
+];
+
+/// Whether a step is of the kind, at the place and by the record.
+fn is_step(step: &Step, row: &(StepKind, u32, u32)) -> bool {
+    let (kind, place, number) = *row;
+    step.kind == kind && step.place == place && step.number == number
+}
+
+/// Whether these are the steps from a text to the other.
+fn is_explained(
+    alloc: Global,
+    checked: &Checked<ListTable>,
+    text: &[u8],
+    steps: &[(StepKind, u32, u32)],
+    last: &[u8],
+) -> Result<bool, Fail> {
+    let tag = read_tag(alloc, text)?;
+    let trace = explain(alloc, checked, &tag).map_err(|_| "an explanation")?;
+    let led = write_tag(alloc, &trace.last)?;
+    let same = trace
+        .steps
+        .iter()
+        .zip(steps)
+        .all(|(step, row)| is_step(step, row));
+    Ok(same && trace.steps.len() == steps.len() && led.as_slice() == last)
+}
+
+/// Whether it was refused for an unknown language, the first subtag.
+fn is_unknown_language(refusal: Refusal) -> bool {
+    match refusal {
+        Refusal::Invalid(fault) => fault.kind.name() == "UnknownLanguage" && fault.place == 1,
+        _ => false,
+    }
+}
+
+#[test]
+fn explanations(rt: HostRuntime) -> Result<(), Fail> {
+    let alloc = rt.alloc();
+    let checked = checked_sample(alloc)?;
+    for row in &EXPLAINED {
+        let (text, steps, last) = *row;
+        let explained = is_explained(alloc, &checked, text.as_bytes(), steps, last.as_bytes())?;
+        assert!(rt; explained, "{text}");
+    }
+    Ok(())
+}
+
+#[test]
+fn no_explanation(rt: HostRuntime) -> Result<(), Fail> {
+    let checked = checked_sample(rt.alloc())?;
+    let unknown = read_tag(rt.alloc(), b"fr")?;
+    match explain(rt.alloc(), &checked, &unknown) {
+        Ok(_) => Err(Fail::from("an unknown language")),
+        Err(refusal) => {
+            assert!(rt; is_unknown_language(refusal));
+            Ok(())
+        }
+    }
+}

@@ -1,0 +1,10 @@
+use Rattle.lt_rewrite.specs.Runs.{AddsOnCore}
+use Rattle.lt_rewrite.proofs.CoreWeights.{weight}
+use Rattle.lt_rewrite.proofs.core_explaining.explain_core.Given as goal
+
+-- the steps so far lead here
+abbrev pub invariant-loop-step : goal.invariant-loop-step
+invariant-loop-step g l = AddsOnCore (g.L.Lookup.listed l.table) l.start l.fn.core l.core l.fn.steps.items l.steps.items
+
+abbrev pub decreases-loop-step : goal.decreases-loop-step
+decreases-loop-step g l = weight (g.L.Lookup.listed l.table) l.core

@@ -1,0 +1,12 @@
+use Rattle.std.proofs.Common.{◌≡◌, ℕ, List, [], ◌∷◌, refl, sym, ◌∙◌, arith}
+use Rattle.lt_rewrite.proofs.CoreSettled.{sole}
+use Rattle.lt_rewrite.proofs.CoreFirst.{first_extlang}
+use Rattle.lt_rewrite.proofs.core_explaining.extlang_step.Goals as goal
+
+pub returns : goal.returns
+returns g c =
+    let R = g.L.Lookup.listed c.args.table.now in
+    let core = c.args.core.now in
+    let x : List ℕ = c.extlang-item.result in
+    let one : core.extlangs ≡ x ∷ [] = sym c.extlangs.ensures.value ∙ sole c.extlangs.result.now x c.extlang-item.is (omega arith) in
+    first_extlang R c.args.start core _ x refl refl c.record_number.ensures one

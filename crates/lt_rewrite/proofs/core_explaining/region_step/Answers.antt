@@ -1,0 +1,12 @@
+use Rattle.std.proofs.Common.{refl, sym, ap, ◌∙◌, arith}
+use Rattle.std.specs.Option.{option_copied}
+use Rattle.lt_rewrite.proofs.CoreFirst.{first_region}
+use Rattle.lt_rewrite.proofs.core_explaining.region_step.Goals as goal
+
+pub returns : goal.returns
+returns g c =
+    first_region (g.L.Lookup.listed c.args.table.now) c.args.start c.args.core.now _ c.in_ok-region.region.now c.in_ok-value.field-0.now refl
+    (omega (arith, c.before_region.ensures.value))
+    c.record_number.ensures
+    (sym c.region.ensures.value ∙ ap option_copied c.in_ok-region.was)
+    (sym c.value.ensures.value ∙ ap option_copied c.in_ok-value.was)

@@ -1,0 +1,53 @@
+use Rattle.std.proofs.Common.{ℕ, ◌+◌, List, refl, sym, ◌∙◌, subst, arith}
+use Rattle.lt_tag.specs.Parts.{ExtensionParts, TForm}
+use Rattle.lt_tag.specs.Extensions.{transform}
+use Rattle.lt_rewrite.specs.Applying.{TransformLeads}
+use Rattle.lt_rewrite.specs.Runs.{NoneLeads, AddsOnTransform}
+use Rattle.lt_rewrite.specs.ExtensionsExplaining.{ExplainsAt}
+use Rattle.lt_rewrite.specs.declared.steps.Step.{Step}
+use Rattle.lt_rewrite.proofs.ExtensionsSettled.{none_there, FoundAt, found_there, transform_form}
+use Rattle.lt_rewrite.proofs.ExtensionsExplained.{few_before, t_few, t_explained}
+use Rattle.lt_rewrite.proofs.extensions_explaining.explained_transform.Goals as goal
+
+pub returns-in_default : goal.returns-in_default
+returns-in_default g c = (none_there c.args.extensions.now transform (sym c.place_of.ensures ∙ c.in_default.is), refl)
+
+pub overflow_add-place : goal.overflow_add-place
+overflow_add-place g c = omega (arith, few_before c.in-Some.index c.args.extensions.now, c.subtags_before.ensures, c.requires.few)
+
+pub overflow_add-place-2 : goal.overflow_add-place-2
+overflow_add-place-2 g c = omega (arith, few_before c.in-Some.index c.args.extensions.now, c.subtags_before.ensures, c.requires.few)
+
+pub split_t-requires : goal.split_t-requires
+split_t-requires g c = (found_there c.args.extensions.now transform c.in-Some.index c.index-extensions-index.result (sym c.place_of.ensures ∙ c.in-Some.is) c.index-extensions-index.is).of_singleton
+
+pub unreachable-requires : goal.unreachable-requires
+unreachable-requires g c =
+    let e : ExtensionParts = c.index-extensions-index.result in
+    let found : FoundAt transform c.args.extensions.now c.in-Some.index e = found_there c.args.extensions.now transform c.in-Some.index e (sym c.place_of.ensures ∙ c.in-Some.is) c.index-extensions-index.is in
+    let parts = transform_form c.args.extensions.now c.in-Some.index e found c.index-extensions-index.is c.requires.transforms in
+    let fault = rw c.in-Err-BadTransform.field-0-is at c.in-Err-BadTransform.ensures.fault in
+    fault parts.0 parts.1
+
+pub explain_t-requires-clause-few : goal.explain_t-requires-clause-few
+explain_t-requires-clause-few g c = omega (arith, few_before c.in-Some.index c.args.extensions.now, c.subtags_before.ensures, c.requires.few, c.in-Ok.ensures.few)
+
+pub join_t-requires-clause-few : goal.join_t-requires-clause-few
+join_t-requires-clause-few g c =
+    t_few (g.L.Lookup.listed c.args.table.now) (c.args.start + c.subtags_before.result + 1) c.in-Ok.parts c.explain_t.new.parts c.args.steps.now.items c.explain_t.new.steps.items c.in_ok-explain_t.ensures.adds c.in-Ok.ensures.few
+
+pub returns : goal.returns
+returns g c =
+    let R = g.L.Lookup.listed c.args.table.now in
+    let es : List ExtensionParts = c.args.extensions.now in
+    let i : ℕ = c.in-Some.index in
+    let e : ExtensionParts = c.index-extensions-index.result in
+    let p : TForm = c.in-Ok.parts in
+    let q : TForm = c.explain_t.new.parts in
+    let old : List Step = c.args.steps.now.items in
+    let new : List Step = c.explain_t.new.steps.items in
+    let found : FoundAt transform es i e = found_there es transform i e (sym c.place_of.ensures ∙ c.in-Some.is) c.index-extensions-index.is in
+    let adds = subst (λ n. AddsOnTransform R (c.args.start + n + 1) p q old new) c.subtags_before.ensures c.in_ok-explain_t.ensures.adds in
+    let none = subst (λ n. NoneLeads (TransformLeads R (c.args.start + n + 1) q)) c.subtags_before.ensures c.in_ok-explain_t.ensures.at_rest in
+    subst (λ f. ExplainsAt R transform c.args.start es i f old new) (sym c.in_ok-join_t.ensures)
+    (t_explained R c.recall_forms.ensures c.args.start es i e p q old new found c.index-extensions-index.is c.in-Ok.ensures.parts adds none)

@@ -1,0 +1,32 @@
+use Rattle.std.proofs.Common.{◌≡◌, ◌+◌, length, sym, ap, subst}
+use Rattle.lt_tag.specs.Parts.{TForm}
+use Rattle.lt_tag.specs.Extensions.{spell_field, spell_source}
+use Rattle.lt_rewrite.specs.Extensions.{separator_cmp}
+use Rattle.lt_rewrite.specs.Runs.{NoneLeads, SwapsBy, Adds, AddsOnTransform}
+use Rattle.lt_rewrite.specs.declared.steps.StepKind.TheVariants as steps
+use Rattle.lt_rewrite.proofs.TransformFirst.{IsSourceAtRest, t_parts, fields_explained, transform_explained, transform_rests, transform_run_shaped}
+use Rattle.lt_rewrite.proofs.transform_explaining.explain_t.Goals as goal
+
+pub returns : goal.returns
+returns g c =
+    let R = g.L.Lookup.listed c.args.table.now in
+    let start = c.args.start in
+    let source = c.parts.inside.source in
+    let fs = c.parts.inside.fields.items in
+    let gs = c.explain_swaps.new.parts.items in
+    let middle : TForm = t_parts source fs in
+    let q : TForm = t_parts source gs in
+    let old = c.args.steps.now.items in
+    let new = c.explain_source.new.steps.items in
+    let newer = c.explain_swaps.new.steps.items in
+    let rest : IsSourceAtRest R start source = subst (λ (p : TForm). IsSourceAtRest R start p.source) (sym c.parts.view_is) c.in_ok-explain_source.ensures.at_rest in
+    let first : AddsOnTransform R start c.args.parts.now middle old new = subst (λ (p : TForm). AddsOnTransform R start c.args.parts.now p old new) (sym c.parts.view_is) c.in_ok-explain_source.ensures.adds in
+    let count : start + c.source_length.result ≡ start + length (spell_source source) = ap (λ n. start + n) c.source_length.ensures.value in
+    let swaps = subst (λ n. Adds (SwapsBy separator_cmp spell_field steps.SwapFields n) (λ _ _. 0) fs gs new newer) count c.in_ok-explain_swaps.ensures.adds in
+    let settled = subst (λ n. NoneLeads (SwapsBy separator_cmp spell_field steps.SwapFields n gs)) count c.in_ok-explain_swaps.ensures.at_rest in
+    let adds : AddsOnTransform R start c.args.parts.now q old newer = transform_explained R start c.args.parts.now middle q old new newer first (fields_explained R start source fs gs new newer rest swaps) in
+    record {
+      adds = adds;
+      at_rest = transform_rests R start q rest settled;
+      shaped = transform_run_shaped R start c.recall_forms.ensures c.args.parts.now q old newer adds;
+    }
