@@ -11,6 +11,7 @@ pub mod RecordLaws
 pub mod RegistryLemmas
 pub mod SameLemmas
 pub mod ScanLemmas
+pub mod SearchLemmas
 pub mod SortedLemmas
 pub mod SplitListLemmas
 pub mod SubtagNumbers
