@@ -11,7 +11,6 @@ pub mod RecordLaws
 pub mod RegistryLemmas
 pub mod SameLemmas
 pub mod ScanLemmas
-pub mod SearchLemmas
 pub mod SortedLemmas
 pub mod SplitListLemmas
 pub mod SubtagNumbers

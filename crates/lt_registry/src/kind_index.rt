@@ -10,7 +10,7 @@ ghost use Rattle.lt_registry.specs.Sorted as sorted;
 use crate::entries::{Entry, EntryName, Kind};
 use crate::indexes::entry_at;
 use crate::names::holds;
-use crate::rows::{Row, search_rows};
+use crate::rows::Row;
 use crate::same::same_kind;
 use crate::subtag_numbers::number_of;
 use lt_subtag::Subtag;
@@ -63,7 +63,7 @@ impl KindIndex {
         ensures { option_copied result ≡ find (λ (e : EntryParts). same.same_kind e.kind self.now.kind && forms.is_named subtag.now e.name) entries.now }
     {
         let number = number_of(subtag);
-        match search_rows(&self.singles, number) {
+        match self.singles.binary_search_by_key(&number, |row| row.number) {
             Ok(found) => entry_at(entries, self.singles[found].place),
             Err(_) => None,
         }

@@ -1,13 +1,15 @@
-use Rattle.std.proofs.Common.{sym, ◌∙◌}
+use Rattle.std.proofs.Common.{rules, sym, ◌∙◌}
+use Rattle.std.proofs.lemmas.List.Sorted.{answers_always}
+use Rattle.lt_registry.specs.declared.rows.Row.{Row}
 use Rattle.lt_registry.proofs.SortedLemmas.{single_found, single_absent}
 use Rattle.lt_registry.proofs.SubtagNumbers.{subtag_few}
 use Rattle.lt_registry.proofs.kind_index.KindIndex.single.Goals as goal
 
 pub returns-in-Ok : goal.returns-in-Ok
 returns-in-Ok c =
+    let at = c.in-Ok.ensures.position (λ (row : Row). row.number) (answers_always _ _ _ (λ f a r g called. search rules)) in
     let s = c.args.subtag.now in
     let self = c.args.self.now in
-    let at = c.in-Ok.ensures.position in
     let tied = rw (c.deref.ensures.value, c.number_of-number.ensures.value) at at in
     let within = rw c.deref.ensures.value at c.in-Ok.ensures.bound in
     c.entry_at.ensures
@@ -15,8 +17,8 @@ returns-in-Ok c =
 
 pub returns-in-Err : goal.returns-in-Err
 returns-in-Err c =
+    let at = c.in-Err.ensures.position (λ (row : Row). row.number) (answers_always _ _ _ (λ f a r g called. search rules)) in
     let s = c.args.subtag.now in
     let self = c.args.self.now in
-    let at = c.in-Err.ensures.position in
     let point = rw (c.deref.ensures.value, c.number_of-number.ensures.value) at at in
     sym (single_absent c.args.entries.now self.kind self.singles.items s c.requires.index.singles c.requires.forms (subtag_few s c.number_of-number.ensures.subtag) c.in-Err.field-0 point)
