@@ -51,7 +51,10 @@ const TEXTS: [(&str, &str); 6] = [
 #[test]
 fn texts_with_records(rt: HostRuntime) -> Result<(), Fail> {
     for (text, records) in &TEXTS {
-        assert!(rt; has_records(rt.alloc(), text.as_bytes(), records)?, "{text}");
+        assert!(rt;
+            has_records(rt.alloc(), text.as_bytes(), records)?,
+            "{text}"
+        );
     }
     Ok(())
 }

@@ -2,7 +2,7 @@
 use Rattle.std.proofs.Common.{◌≡◌, ℕ, ◌+◌, ◌<◌, ◌≤◌, Bool, true, false, ◌&&◌, cond, List, [], ◌∷◌, ◌++◌, length, take, drop, get_or, Option, Some, None, refl, sym, ap, ◌∙◌, subst, arith, add-one, eqb, inl, inr}
 use Rattle.std.specs.List.{All, HoldsAt, find, filter, filter_map, cons_option, slice_get}
 use Rattle.std.specs.List.Sorted.{IsNonDecreasingBy, IsPartitionPoint}
-use Rattle.std.specs.Option.{option_map, option_cmp, option_and_then, option_or}
+use Rattle.std.specs.Option.{option_map, option_and_then, option_or}
 use Rattle.std.specs.Ordering.{nat_cmp, ordering_index, is_eq}
 use Rattle.std.specs.declared.cmp.Ordering.TheVariants.{Less, Equal, Greater}
 use Rattle.std.proofs.Math.Seq.{drop-cons}

@@ -107,3 +107,17 @@ numbers_equal s t h k =
   where
     eqb_itself : (n : ℕ) → eqb n n ≡ true
     eqb_itself n = grind (arith, nat_tests)
+
+-- each byte, and zeros behind the last
+pub filled_by_index : (s : List ℕ) → length s ≤ 8
+    → filled s ≡ get_or s 0 0 ∷ get_or s 1 0 ∷ get_or s 2 0 ∷ get_or s 3 0 ∷ get_or s 4 0 ∷ get_or s 5 0 ∷ get_or s 6 0 ∷ get_or s 7 0 ∷ []
+filled_by_index [] l = refl
+filled_by_index (a ∷ []) l = refl
+filled_by_index (a ∷ b ∷ []) l = refl
+filled_by_index (a ∷ b ∷ c ∷ []) l = refl
+filled_by_index (a ∷ b ∷ c ∷ d ∷ []) l = refl
+filled_by_index (a ∷ b ∷ c ∷ d ∷ e ∷ []) l = refl
+filled_by_index (a ∷ b ∷ c ∷ d ∷ e ∷ f ∷ []) l = refl
+filled_by_index (a ∷ b ∷ c ∷ d ∷ e ∷ f ∷ g ∷ []) l = refl
+filled_by_index (a ∷ b ∷ c ∷ d ∷ e ∷ f ∷ g ∷ h ∷ []) l = refl
+filled_by_index (a ∷ b ∷ c ∷ d ∷ e ∷ f ∷ g ∷ h ∷ i ∷ s) l = absurd (omega (arith, l))

@@ -1,5 +1,5 @@
 //! Subtags as numbers, which are compared at once.
-ghost use Rattle.std.specs.Prelude.{◌≡◌, ◌≤◌, true, length};
+ghost use Rattle.std.specs.Prelude.{◌≡◌, ◌≤◌, true, length, slice_index_or};
 ghost use Rattle.lt_subtag.specs.Bytes.{is_subtag};
 ghost use Rattle.lt_registry.specs.Sorted as sorted;
 
@@ -14,12 +14,27 @@ pub(crate) fn number_of(subtag: &Subtag) -> u64
     u64::from_be_bytes(filled(subtag.bytes()))
 }
 
+/// The byte at an index, and zero behind the last.
+fn byte_at(bytes: &[u8], index: usize) -> u8
+    ensures { result ≡ slice_index_or bytes.now index 0 }
+{
+    if index < bytes.len() { bytes[index] } else { 0 }
+}
+
 /// The bytes, and zeros up to eight.
+#[tactic(auto, using(crate::proofs::SubtagNumbers::filled_by_index))]
 fn filled(bytes: &[u8]) -> [u8; 8]
     requires { length bytes.now ≤ 8 }
     ensures { result ≡ sorted.filled bytes.now }
 {
-    let mut filled = [0; 8];
-    filled[..bytes.len()].copy_from_slice(bytes);
-    filled
+    [
+        byte_at(bytes, 0),
+        byte_at(bytes, 1),
+        byte_at(bytes, 2),
+        byte_at(bytes, 3),
+        byte_at(bytes, 4),
+        byte_at(bytes, 5),
+        byte_at(bytes, 6),
+        byte_at(bytes, 7),
+    ]
 }

@@ -1,5 +1,5 @@
 -- Lists cut at an element.
-use Rattle.std.proofs.Common.{◌≡◌, ℕ, ◌<◌, List, [], ◌∷◌, ◌++◌, refl, ap, ◌∙◌, length, get_or, length-append, arith}
+use Rattle.std.proofs.Common.{◌≡◌, ◌<◌, List, [], ◌∷◌, ◌++◌, refl, ap, ◌∙◌, length, get_or, length-append, arith}
 
 -- a list cut at an element has it there
 pub cut_at : {A : Type 0} (before : List A) (v : A) (after vs : List A) (d : A) → vs ≡ before ++ v ∷ after → get_or vs (length before) d ≡ v

@@ -1,12 +1,11 @@
 -- What a step of a kind is on extensions.
-use Rattle.std.proofs.Common.{◌≡◌, ◌≢◌, ℕ, suc, ◌+◌, ◌<◌, ◌≤◌, Bool, true, false, List, [], ◌∷◌, ◌++◌, refl, sym, ap, ◌∙◌, subst, length, get_or, set, take, drop, arith}
+use Rattle.std.proofs.Common.{◌≡◌, ◌≢◌, ℕ, suc, ◌+◌, ◌<◌, Bool, false, List, ◌∷◌, refl, sym, ap, ◌∙◌, subst, length, get_or, set, take, drop, arith}
 use Rattle.std.proofs.lemmas.List.{set_split, take_at, get_or_default}
-use Rattle.lt_tag.specs.Parts.{CoreParts, ExtensionParts, UForm, TForm}
-use Rattle.lt_tag.specs.Spelling.{spell_extension, spell_extensions, IsCore}
+use Rattle.lt_tag.specs.Parts.{ExtensionParts, UForm, TForm}
+use Rattle.lt_tag.specs.Spelling.{spell_extension, spell_extensions}
 use Rattle.lt_tag.specs.Extensions.{unicode, transform, IsUnicode, IsTransform, spell_u, spell_t}
 use Rattle.lt_registry.specs.Parts.{EntryParts}
 use Rattle.lt_rewrite.specs.Conditions.{IsRegistry}
-use Rattle.lt_rewrite.specs.CoreSteps.{values_of, CoreStep}
 use Rattle.lt_rewrite.specs.Orderings.{by_swap, by_drop}
 use Rattle.lt_rewrite.specs.Extensions.{singleton_cmp, TransformStep, on_source, on_fields, ExtensionStep, in_unicode, in_transform, ExtensionsStep, inside, among}
 use Rattle.lt_rewrite.specs.Labels.{transform_label, extension_label, extensions_label}
@@ -18,8 +17,8 @@ use Rattle.lt_rewrite.proofs.CoreLeading.{kind_of, place_of, number_at, other_ki
 use Rattle.lt_rewrite.proofs.Cuts.{cut_at, cut_within}
 use Rattle.lt_rewrite.proofs.FoundParts.{one_unicode, one_transform}
 use Rattle.lt_rewrite.proofs.Proper.{step_shaped}
-use Rattle.lt_rewrite.proofs.TransformForms.{t_shaped, t_step_length}
-use Rattle.lt_rewrite.proofs.UnicodeForms.{u_shaped, u_step_length}
+use Rattle.lt_rewrite.proofs.TransformForms.{t_shaped}
+use Rattle.lt_rewrite.proofs.UnicodeForms.{u_shaped}
 use Rattle.lt_rewrite.proofs.UnicodeLeading.{answers_by, from_swap, unicode_other}
 
 module _ (R : List EntryParts) (start : ℕ) (e : ExtensionParts) (step : Step) where

@@ -46,13 +46,13 @@ pub mod TagLeading
 pub mod CoreWeights
 pub mod CoreFirst
 pub mod FirstSteps
+pub mod ExtensionRuns
+pub mod ExtensionsExplained
 pub mod RunLifts
 pub mod ListRests
 pub mod UnicodeFirst
 pub mod UnicodeRuns
 pub mod TrueRuns
-pub mod ExtensionRuns
-pub mod ExtensionsExplained
 pub mod Inversions
 pub mod FirstParts
 pub mod ValidExtensions

@@ -1,11 +1,10 @@
 -- Steps on lists of parts, found by the place of a part.
-use Rattle.std.proofs.Common.{◌≡◌, ◌≢◌, ℕ, zero, suc, ◌+◌, ◌<◌, ◌≤◌, List, [], ◌∷◌, ◌++◌, refl, sym, ap, ◌∙◌, subst, Ordering, Less, Equal, length, get_or, set, take, drop, append_assoc, length-append, add-one, arith}
+use Rattle.std.proofs.Common.{◌≡◌, ℕ, zero, suc, ◌+◌, ◌<◌, ◌≤◌, List, [], ◌∷◌, ◌++◌, refl, sym, ap, ◌∙◌, Ordering, Less, length, get_or, set, take, drop, append_assoc, length-append, add-one, arith}
 use Rattle.std.specs.Prelude.{flat_map}
 use Rattle.std.specs.List.{remove, swap}
 use Rattle.std.proofs.lemmas.List.{take_at, take_more, get_or-take, get_or_read, get_or_default, length-take-le}
 use Rattle.std.proofs.lemmas.List.Edits.{swap_is}
 use Rattle.std.proofs.lemmas.Grind.{flat_map-append}
-use Rattle.lt_rewrite.specs.Orderings.{SwapsAt, DropsAt}
 use Rattle.lt_rewrite.specs.Applying.{IsPlaceOf, HasLike, SwapLeads, DropLeads}
 use Rattle.lt_rewrite.proofs.CoreSettled.{round}
 use Rattle.lt_rewrite.proofs.Cuts.{cut_at, cut_within}

@@ -1,5 +1,5 @@
 -- What a step of a kind is on the parts of a t extension.
-use Rattle.std.proofs.Common.{◌≡◌, ◌≢◌, ℕ, ◌+◌, Bool, true, false, List, Option, Some, None, refl, sym, ap, ◌∙◌, subst, length}
+use Rattle.std.proofs.Common.{◌≡◌, ◌≢◌, ℕ, ◌+◌, Bool, false, List, Some, None, refl, sym, subst, length}
 use Rattle.lt_tag.specs.Parts.{CoreParts, FieldParts, TForm}
 use Rattle.lt_tag.specs.Extensions.{spell_field, spell_source}
 use Rattle.lt_registry.specs.Parts.{EntryParts}

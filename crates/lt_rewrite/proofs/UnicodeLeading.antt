@@ -1,7 +1,7 @@
 -- What a step of a kind is on the parts of a u extension.
-use Rattle.std.proofs.Common.{◌≡◌, ◌≢◌, ℕ, suc, ◌+◌, ◌<◌, ◌≤◌, Bool, true, false, List, [], ◌∷◌, ◌++◌, refl, sym, ap, ◌∙◌, subst, Ordering, length, get_or, set, take, drop, add-one, arith}
+use Rattle.std.proofs.Common.{◌≡◌, ◌≢◌, ℕ, suc, ◌+◌, ◌<◌, Bool, true, false, List, [], ◌∷◌, ◌++◌, refl, sym, ap, ◌∙◌, Ordering, length, get_or, set, take, drop, arith}
 use Rattle.std.specs.Prelude.{flat_map, codes}
-use Rattle.std.proofs.lemmas.List.{set_split, length-take-le}
+use Rattle.std.proofs.lemmas.List.{set_split}
 use Rattle.lt_tag.specs.Parts.{KeywordParts, UForm}
 use Rattle.lt_tag.specs.Extensions.{spell_keyword}
 use Rattle.lt_rewrite.specs.Orderings.{ListStep, by_swap, by_drop}

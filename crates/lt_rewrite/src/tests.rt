@@ -1,7 +1,6 @@
 mod applying;
 mod core_explaining;
 mod extensions_explaining;
-mod part_explaining;
 mod sample;
 
 ghost use Rattle.std.specs.Prelude.{◌≡◌, IfOk};

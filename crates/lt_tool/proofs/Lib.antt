@@ -10,3 +10,4 @@ pub mod RunLemmas
 pub mod AnswerLemmas
 mod WorkedRows
 pub mod PairLemmas
+pub mod ExplanationLemmas

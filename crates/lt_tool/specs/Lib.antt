@@ -10,3 +10,4 @@ pub mod Answering
 pub mod Running
 pub mod Registries
 pub mod TagCommands
+pub mod Explanations

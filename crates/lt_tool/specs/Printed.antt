@@ -22,6 +22,7 @@ use Rattle.lt_tool.specs.declared.runs.Counts.{Counts}
 use Rattle.lt_tool.specs.declared.lines.Answer.{Answer}
 use Rattle.lt_tag.specs.declared.faults.OutOfMemory.{OutOfMemory}
 use Rattle.lt_tool.specs.TagCommands.{ByRegistry, Compares, FormsExtlang}
+use Rattle.lt_tool.specs.Explanations.{Explains}
 use Rattle.lt_tool.specs.Written.{LacksMemory, Prints, Says}
 use Rattle.lt_tool.specs.declared.status.Status.{Status}
 use Rattle.lt_tool.specs.declared.status.Status.TheVariants as status
@@ -108,6 +109,8 @@ Performs remaining contents (command.Extlang name tag) file input input' output 
     PrintsOrLacks (ByRegistry file (λ R. FormsExtlang R (string_bytes tag))) (contents (inner_of output)) (contents (inner_of output')) errors errors' result
 Performs remaining contents (command.Equal name tag other) file input input' output output' errors errors' result =
     PrintsOrLacks (ByRegistry file (λ R. Compares R (string_bytes tag) (string_bytes other))) (contents (inner_of output)) (contents (inner_of output')) errors errors' result
+Performs remaining contents (command.Explain name tag) file input input' output output' errors errors' result =
+    PrintsOrLacks (ByRegistry file (λ R. Explains R (string_bytes tag))) (contents (inner_of output)) (contents (inner_of output')) errors errors' result
 
 -- a run whose words are not those of a command says why on its errors
 pub record SaysUsage (output output' errors errors' : Option (List ℕ)) (text : List ℕ) (result : ℕ) : Type 0 where

@@ -27,6 +27,8 @@ IsNamed found (command.Extlang file tag) =
     Gives found (codes "extlang") (codes "REGISTRY" ∷ codes "TAG" ∷ []) (string_bytes file ∷ string_bytes tag ∷ [])
 IsNamed found (command.Equal file tag other) =
     Gives found (codes "equal") (codes "REGISTRY" ∷ codes "TAG" ∷ codes "OTHER" ∷ []) (string_bytes file ∷ string_bytes tag ∷ string_bytes other ∷ [])
+IsNamed found (command.Explain file tag) =
+    Gives found (codes "explain") (codes "REGISTRY" ∷ codes "TAG" ∷ []) (string_bytes file ∷ string_bytes tag ∷ [])
 
 -- the file that the command names first
 abbrev pub first_file_of : Command → Option (List ℕ)
@@ -35,6 +37,7 @@ first_file_of (command.Check file) = Some (string_bytes file)
 first_file_of (command.Canon file) = Some (string_bytes file)
 first_file_of (command.Extlang file tag) = Some (string_bytes file)
 first_file_of (command.Equal file tag other) = Some (string_bytes file)
+first_file_of (command.Explain file tag) = Some (string_bytes file)
 
 -- the words name this command, by `clap`'s definition of the matches of a simple command
 abbrev pub Names : List Text → Command → Type 0

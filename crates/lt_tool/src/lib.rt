@@ -4,6 +4,7 @@
 mod answer_lines;
 mod answering;
 mod device_output;
+mod explanations;
 mod faults;
 mod lines;
 mod printing;

@@ -10,7 +10,7 @@ use crate::lines::{Answer, classify};
 use crate::registries::{check, read_registry, refuse};
 use crate::runs::{Counts, run_lines};
 use crate::status::Status;
-use crate::tag_commands::{equal, extlang};
+use crate::tag_commands::{equal, explain, extlang};
 use crate::words::{Command, WordsFault};
 use lt_jar::Device;
 use lt_tag::OutOfMemory;
@@ -128,6 +128,9 @@ fn run<I: Read, O: Write, E: Write>(
         Command::Equal(_, tag, other) => {
             let answer = equal(alloc, first, tag.as_bytes(), other.as_bytes());
             print_answer(answer, output, errors)
+        }
+        Command::Explain(_, tag) => {
+            print_answer(explain(alloc, first, tag.as_bytes()), output, errors)
         }
     }
 }

@@ -1,11 +1,13 @@
 //! What is answered to one or two tags by the registry of a file.
 ghost use Rattle.std.specs.Prelude.{◌≡◌, IfOk, IfErr};
 ghost use Rattle.lt_canon.specs.Texts.{IsTextRefusal};
+ghost use Rattle.lt_tool.specs.Explanations.{Explains};
 ghost use Rattle.lt_tool.specs.Owed.{IsRefusalLine};
 ghost use Rattle.lt_tool.specs.TagCommands.{ByRegistry, Compares, FormsExtlang, IsEqualityOf, IsExtlangTextOf, IsPairRefusal};
 ghost use Rattle.lt_tool.specs.declared.status.Status.TheVariants.{Refused};
 
 use crate::answer_lines::append_refusal;
+use crate::explanations::explanation;
 use crate::lines::Answer;
 use crate::registries::{read_registry, refuse};
 use crate::status::Status;
@@ -95,6 +97,23 @@ fn answer_equal<L: Lookup>(
     Ok(Answer { line, status })
 }
 
+/// What `explain` answers to a text by a registry.
+fn answer_explain<L: Lookup>(
+    alloc: Global,
+    checked: &Checked<L>,
+    text: &[u8],
+) -> Result<Answer, OutOfMemory>
+    ensures { IfOk result (λ answer. Explains (L.listed checked.now) text.now answer.line.items answer.status) }
+{
+    match explanation(alloc, checked, text) {
+        Ok(line) => Ok(Answer {
+            line,
+            status: Status::Done,
+        }),
+        Err(refusal) => answer_refusal(alloc, &refusal),
+    }
+}
+
 /// What `extlang` answers to a file and a text.
 pub(crate) fn extlang(alloc: Global, file: &[u8], text: &[u8]) -> Result<Answer, OutOfMemory>
     ensures { IfOk result (λ answer. ByRegistry file.now (λ R. FormsExtlang R text.now) answer.line.items answer.status) }
@@ -116,6 +135,16 @@ pub(crate) fn equal(
 {
     match read_registry(alloc, file) {
         Ok(checked) => answer_equal(alloc, &checked, first, second),
+        Err(refusal) => refuse(alloc, &refusal),
+    }
+}
+
+/// What `explain` answers to a file and a text.
+pub(crate) fn explain(alloc: Global, file: &[u8], text: &[u8]) -> Result<Answer, OutOfMemory>
+    ensures { IfOk result (λ answer. ByRegistry file.now (λ R. Explains R text.now) answer.line.items answer.status) }
+{
+    match read_registry(alloc, file) {
+        Ok(checked) => answer_explain(alloc, &checked, text),
         Err(refusal) => refuse(alloc, &refusal),
     }
 }

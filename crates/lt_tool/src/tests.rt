@@ -92,12 +92,13 @@ fn words_that_ask_for_help(rt: HostRuntime) {
 }
 
 /// Words, and the file that their command names first.
-const FILES: [(&[&str], Option<&str>); 5] = [
+const FILES: [(&[&str], Option<&str>); 6] = [
     (&["classify", "en"], None),
     (&["check", "registry"], Some("registry")),
     (&["canon", "registry"], Some("registry")),
     (&["extlang", "registry", "en"], Some("registry")),
     (&["equal", "registry", "en", "fr"], Some("registry")),
+    (&["explain", "registry", "en"], Some("registry")),
 ];
 
 /// Whether the words name a command whose first file is this one.

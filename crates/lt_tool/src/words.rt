@@ -25,6 +25,8 @@ pub enum Command {
     Extlang(String, String),
     /// Whether these two tags are equivalent, by the registry of this file, which comes first.
     Equal(String, String, String),
+    /// The steps from this tag to its canonical form, by the registry of this file, which comes first.
+    Explain(String, String),
 }
 
 impl Command {
@@ -35,7 +37,8 @@ impl Command {
         match self {
             Command::Classify(_) => None,
             Command::Check(file) | Command::Canon(file) => Some(file.as_str()),
-            Command::Extlang(file, _) | Command::Equal(file, _, _) => Some(file.as_str()),
+            Command::Extlang(file, _) | Command::Explain(file, _) => Some(file.as_str()),
+            Command::Equal(file, _, _) => Some(file.as_str()),
         }
     }
 }
@@ -115,6 +118,8 @@ fn new_langtag<'a>(alloc: Global) -> Result<clap::Command<'a>, AllocError>
     let extlang = new_subcommand(alloc, "extlang", about, &[&REGISTRY, &TAG])?;
     let about = "Tells whether two tags are equivalent";
     let equal = new_subcommand(alloc, "equal", about, &[&REGISTRY, &TAG, &OTHER])?;
+    let about = "Prints the steps from a tag to its canonical form";
+    let explain = new_subcommand(alloc, "explain", about, &[&REGISTRY, &TAG])?;
     clap::Command::new(alloc, "langtag")
         .about("BCP 47 language tags (RFC 5646)")
         .subcommand_required(true)
@@ -122,7 +127,8 @@ fn new_langtag<'a>(alloc: Global) -> Result<clap::Command<'a>, AllocError>
         .subcommand(check)?
         .subcommand(canon)?
         .subcommand(extlang)?
-        .subcommand(equal)
+        .subcommand(equal)?
+        .subcommand(explain)
 }
 
 /// The value of a positional.
@@ -161,6 +167,10 @@ fn command_of(alloc: Global, matches: &ArgMatches<'_>) -> Result<Command, WordsF
             value_of(alloc, values, &REGISTRY)?,
             value_of(alloc, values, &TAG)?,
             value_of(alloc, values, &OTHER)?,
+        )),
+        "explain" => Ok(Command::Explain(
+            value_of(alloc, values, &REGISTRY)?,
+            value_of(alloc, values, &TAG)?,
         )),
         _ => Err(WordsFault::Usage(format!(in alloc; "error: no subcommand {name}\n")?)),
     }

@@ -1,5 +1,5 @@
 use Rattle.std.proofs.Common.{◌≡◌, ℕ, List, sym, ◌∙◌, subst}
-use Rattle.lt_tag.specs.Parts.{TagForm, LangTag}
+use Rattle.lt_tag.specs.Parts.{LangTag}
 use Rattle.lt_tag.specs.Values.{IsTagValue, private_of}
 use Rattle.lt_rewrite.specs.Applying.{TagLeads}
 use Rattle.lt_rewrite.proofs.TagLeading.{made, values_alone}

@@ -1,5 +1,5 @@
-use Rattle.std.proofs.Common.{◌≡◌, ◌≤◌, ◌+◌, ℕ, List, length, sym, ap, ◌∙◌, subst, arith}
-use Rattle.lt_tag.specs.Parts.{CoreParts, ExtensionParts, TagForm, LangTag}
+use Rattle.std.proofs.Common.{◌≡◌, ℕ, List, length, sym, ap, ◌∙◌, subst, arith}
+use Rattle.lt_tag.specs.Parts.{CoreParts, ExtensionParts, LangTag}
 use Rattle.lt_tag.specs.Spelling.{spell_core, spell_extensions}
 use Rattle.lt_tag.specs.Values.{extensions_of, private_of}
 use Rattle.lt_rewrite.specs.Applying.{Changes, CoreLeads, ExtensionsLeads, TagLeads}

@@ -1,5 +1,5 @@
-use Rattle.std.proofs.Common.{◌≡◌, ℕ, Bool, false, Option, Some, None, sym, ap, ◌∙◌, subst}
-use Rattle.lt_tag.specs.Parts.{CoreParts, TForm}
+use Rattle.std.proofs.Common.{Bool, Some, sym, ap, subst}
+use Rattle.lt_tag.specs.Parts.{TForm}
 use Rattle.lt_tag.specs.contracts.parts.TParts.{the_view}
 use Rattle.lt_rewrite.specs.Applying.{Answers, TransformLeads}
 use Rattle.lt_rewrite.proofs.TransformLeading.{source_answers, no_source}

@@ -1,4 +1,4 @@
-use Rattle.std.proofs.Common.{◌≡◌, ◌+◌, ℕ, length, sym, ap, ◌∙◌, subst}
+use Rattle.std.proofs.Common.{◌+◌, ℕ, ap, subst}
 use Rattle.lt_tag.specs.Parts.{TForm}
 use Rattle.lt_tag.specs.Extensions.{spell_field}
 use Rattle.lt_rewrite.specs.Extensions.{separator_cmp}

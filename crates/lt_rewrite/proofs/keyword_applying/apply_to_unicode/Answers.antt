@@ -1,11 +1,11 @@
-use Rattle.std.proofs.Common.{◌≡◌, ◌<◌, ◌+◌, ◌^◌, ℕ, vec_len, List, [], ◌∷◌, length, sym, ap, ◌∙◌, subst, length-append, arith}
+use Rattle.std.proofs.Common.{◌≡◌, ◌<◌, ◌+◌, ◌^◌, ℕ, vec_len, List, [], ◌∷◌, length, ap, ◌∙◌, subst, length-append, arith}
 use Rattle.std.specs.Prelude.{flat_map}
-use Rattle.lt_tag.specs.Parts.{KeywordParts, UForm}
+use Rattle.lt_tag.specs.Parts.{UForm}
 use Rattle.lt_tag.specs.Extensions.{spell_keyword, spell_u}
 use Rattle.lt_rewrite.specs.Extensions.{key_cmp}
 use Rattle.lt_rewrite.specs.Applying.{Answers, SwapLeads, DropLeads, TrueLeads, UnicodeLeads}
 use Rattle.lt_rewrite.proofs.PartCounts.{attributes_count}
-use Rattle.lt_rewrite.proofs.UnicodeLeading.{unicode_numbered, unicode_other, swaps_attributes_answers, drops_attribute_answers, swaps_keywords_answers, drops_keyword_answers, drops_true_answers}
+use Rattle.lt_rewrite.proofs.UnicodeLeading.{swaps_attributes_answers, drops_attribute_answers, swaps_keywords_answers, drops_keyword_answers, drops_true_answers}
 use Rattle.lt_rewrite.proofs.keyword_applying.apply_to_unicode.Goals as goal
 
 few : (start : ℕ) (p : UForm) (as' : List (List ℕ)) → as' ≡ p.attributes → start + 1 + length (spell_u p) < 2 ^ 32 → start + length (flat_map (λ a. a ∷ []) as') < 2 ^ 32

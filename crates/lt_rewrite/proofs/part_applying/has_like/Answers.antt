@@ -1,4 +1,4 @@
-use Rattle.std.proofs.Common.{◌≡◌, ◌<◌, length, get_or, sym, ap, ◌∙◌, below_more, arith}
+use Rattle.std.proofs.Common.{◌≡◌, ◌<◌, length, get_or, ap, ◌∙◌, below_more, arith}
 use Rattle.std.proofs.lemmas.List.{get_or_read}
 use Rattle.lt_rewrite.proofs.part_applying.has_like.Goals as goal
 

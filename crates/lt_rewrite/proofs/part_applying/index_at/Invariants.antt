@@ -1,4 +1,4 @@
-use Rattle.std.proofs.Common.{◌≡◌, ◌≤◌, ◌<◌, ◌+◌, ℕ, length, take}
+use Rattle.std.proofs.Common.{◌≡◌, ◌<◌, ◌+◌, ℕ, length, take}
 use Rattle.std.specs.Prelude.{flat_map}
 use Rattle.lt_rewrite.specs.Applying.{IsPlaceOf}
 use Rattle.lt_rewrite.proofs.part_applying.index_at.Given as goal

@@ -1,5 +1,4 @@
-use Rattle.std.proofs.Common.{◌≡◌, inl, inr, ℕ, List, IfOk}
-use Rattle.std.proofs.lemmas.Result.{IfOk-weaker}
+use Rattle.std.proofs.Common.{inl, inr}
 use Rattle.lt_tool.specs.Printed.{Refuses}
 use Rattle.lt_tool.proofs.AnswerLemmas.{printed_answer, refused_answer}
 use Rattle.lt_tool.proofs.printing.canon.Goals as goal

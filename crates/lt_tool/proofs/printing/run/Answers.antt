@@ -1,3 +1,4 @@
+use Rattle.lt_tool.specs.Explanations.{Explains}
 use Rattle.lt_tool.specs.Printed.{Classifies}
 use Rattle.lt_tool.specs.Registries.{Checks}
 use Rattle.lt_tool.specs.TagCommands.{ByRegistry, Compares, FormsExtlang}
@@ -23,3 +24,8 @@ returns-in-Equal g c =
     let second = c.as_bytes-in-Equal-2.result.now in
     let printed = printed_answer (ByRegistry c.args.first.now (λ R. Compares R first second)) _ _ _ _ c.equal-answer.result _ c.equal-answer.ensures c.print_answer-in-Equal.ensures in
     rw c.in-Equal.is (rw (c.as_bytes-in-Equal.ensures.value, c.as_bytes-in-Equal-2.ensures.value) at printed)
+
+pub returns-in-Explain : goal.returns-in-Explain
+returns-in-Explain g c =
+    let printed = printed_answer (ByRegistry c.args.first.now (λ R. Explains R c.as_bytes-in-Explain.result.now)) _ _ _ _ c.explain.result _ c.explain.ensures c.print_answer-in-Explain.ensures in
+    rw c.in-Explain.is (rw c.as_bytes-in-Explain.ensures.value at printed)

@@ -1,8 +1,7 @@
-use Rattle.std.proofs.Common.{◌≡◌, ◌∙◌, List, [], ◌∷◌, ap, codes, rules}
+use Rattle.std.proofs.Common.{◌≡◌, ◌∙◌, ap, rules}
 use Rattle.std.proofs.lemmas.Result.{IfOk-weaker}
-use Rattle.clap.specs.Words.{App, app_of, shape_of, with_subcommand}
-use Rattle.clap.specs.declared.builder.command.Command.{Command}
-use Rattle.lt_tool.specs.CommandLine.{program, subcommand}
+use Rattle.clap.specs.Words.{App, app_of, with_subcommand}
+use Rattle.lt_tool.specs.CommandLine.{program}
 use Rattle.lt_tool.proofs.words.new_langtag.Goals as goal
 
 -- one subcommand more
@@ -16,6 +15,7 @@ returns c =
     let two = adds _ _ (app_of c.in_ok-check.check) _ _ one c.in_ok-check.ensures.app (c.in_ok-subcommand-2.ensures.shape c.in_ok-check.ensures.globals) in
     let three = adds _ _ (app_of c.in_ok-canon.canon) _ _ two c.in_ok-canon.ensures.app (c.in_ok-subcommand-3.ensures.shape c.in_ok-canon.ensures.globals) in
     let four = adds _ _ (app_of c.in_ok-extlang.extlang) _ _ three c.in_ok-extlang.ensures.app (c.in_ok-subcommand-4.ensures.shape c.in_ok-extlang.ensures.globals) in
+    let five = adds _ _ (app_of c.in_ok-equal.equal) _ _ four c.in_ok-equal.ensures.app (c.in_ok-subcommand-5.ensures.shape c.in_ok-equal.ensures.globals) in
     record {
-      app = IfOk-weaker c.subcommand-5.result _ _ (λ r a. adds _ _ (app_of c.in_ok-equal.equal) _ _ four c.in_ok-equal.ensures.app (a.shape c.in_ok-equal.ensures.globals)) c.subcommand-5.ensures;
+      app = IfOk-weaker c.subcommand-6.result _ _ (λ r a. adds _ _ (app_of c.in_ok-explain.explain) _ _ five c.in_ok-explain.ensures.app (a.shape c.in_ok-explain.ensures.globals)) c.subcommand-6.ensures;
     }
