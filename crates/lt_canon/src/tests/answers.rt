@@ -1,18 +1,12 @@
-use super::sample::sample;
+//! The answers by both tables of the sample.
+use super::sample::{sample, sorted_sample};
 use crate::laws::confluence;
 use crate::{Checked, Refusal, TextRefusal, canonical, canonical_text, equivalent, extlang_form};
-use lt_registry::ListTable;
-use lt_tag::{read_tag, write_tag};
-use std::alloc::Global;
+use lt_registry::Lookup;
+use lt_tag::{OutOfMemory, Tag, read_tag, write_tag};
+use std::alloc::{AllocError, Global};
+use std::process::Abort;
 use std::test::Fail;
-
-/// The sample, which passes the check.
-fn checked(alloc: Global) -> Result<Checked<ListTable>, Fail> {
-    match Checked::new(alloc, sample(alloc)?) {
-        Ok(checked) => Ok(checked),
-        Err(_) => Err(Fail::from("the sample passes")),
-    }
-}
 
 /// Texts and their canonical texts.
 const CANONICAL: [(&str, &str); 27] = [
@@ -75,17 +69,27 @@ const FAULTS: [(&str, &str, u32); 19] = [
 ];
 
 /// Whether the canonical text of a text is another.
-fn comes_to(alloc: Global, checked: &Checked<ListTable>, text: &[u8], canonical: &[u8]) -> bool {
+fn comes_to<L: Lookup>(alloc: Global, checked: &Checked<L>, text: &[u8], canonical: &[u8]) -> bool {
     match canonical_text(alloc, checked, text) {
         Ok(answer) => answer.as_slice() == canonical,
         Err(_) => false,
     }
 }
 
+/// Each text has its canonical text.
+fn canonical_texts<L: Lookup>(rt: &impl Abort, alloc: Global, checked: &Checked<L>) {
+    for (text, canonical) in &CANONICAL {
+        assert!(rt;
+            comes_to(alloc, checked, text.as_bytes(), canonical.as_bytes()),
+            "{text}"
+        );
+    }
+}
+
 /// Whether a text has a fault of that name at that place.
-fn has_fault(
+fn has_fault<L: Lookup>(
     alloc: Global,
-    checked: &Checked<ListTable>,
+    checked: &Checked<L>,
     text: &[u8],
     name: &str,
     place: u32,
@@ -97,8 +101,18 @@ fn has_fault(
     }
 }
 
+/// Each text has the fault of its row.
+fn texts_with_faults<L: Lookup>(rt: &impl Abort, alloc: Global, checked: &Checked<L>) {
+    for (text, name, place) in &FAULTS {
+        assert!(rt;
+            has_fault(alloc, checked, text.as_bytes(), name, *place),
+            "{text}"
+        );
+    }
+}
+
 /// Whether a text was refused because the replacements repeat a variant.
-fn text_names_repeated(refusal: TextRefusal, variant: &[u8]) -> bool {
+fn names_repeated(refusal: TextRefusal, variant: &[u8]) -> bool {
     match refusal {
         TextRefusal::ReplacementRepeats(repeated) => repeated.bytes() == variant,
         _ => false,
@@ -106,169 +120,203 @@ fn text_names_repeated(refusal: TextRefusal, variant: &[u8]) -> bool {
 }
 
 /// Whether a text is refused because its replacements repeat a variant.
-fn repeats(alloc: Global, checked: &Checked<ListTable>, text: &[u8], variant: &[u8]) -> bool {
+fn repeats<L: Lookup>(alloc: Global, checked: &Checked<L>, text: &[u8], variant: &[u8]) -> bool {
     match canonical_text(alloc, checked, text) {
-        Err(refusal) => text_names_repeated(refusal, variant),
+        Err(refusal) => names_repeated(refusal, variant),
         Ok(_written) => false,
     }
 }
 
-/// Whether a form was refused for an unknown language, its first subtag.
-fn is_unknown_language(refusal: Refusal) -> bool {
-    match refusal {
-        Refusal::Invalid(fault) => fault.kind.name() == "UnknownLanguage" && fault.place == 1,
-        _ => false,
-    }
+/// A core and a source of a `t` extension are refused where their replacements repeat a variant.
+fn replacements_that_repeat<L: Lookup>(rt: &impl Abort, alloc: Global, checked: &Checked<L>) {
+    assert!(rt; repeats(alloc, checked, b"ja-Latn-heploc-alalc97", b"alalc97"));
+    assert!(rt; repeats(alloc, checked, b"en-t-ja-heploc-alalc97", b"alalc97"));
 }
 
-/// Whether a form was refused because the replacements repeat a variant.
-fn names_repeated(refusal: Refusal, variant: &[u8]) -> bool {
-    match refusal {
-        Refusal::ReplacementRepeats(repeated) => repeated.bytes() == variant,
-        _ => false,
-    }
-}
-
-/// The canonical form of a tag, written.
-fn written_form(alloc: Global, checked: &Checked<ListTable>, text: &[u8]) -> Result<Vec<u8>, Fail> {
-    let tag = read_tag(alloc, text)?;
-    let form = canonical(alloc, checked, &tag).map_err(|_| "a canonical form")?;
-    Ok(write_tag(alloc, &form)?)
-}
-
-/// The form with extlangs of a tag, written.
-fn written_extlang_form(
-    alloc: Global,
-    checked: &Checked<ListTable>,
-    text: &[u8],
-) -> Result<Vec<u8>, Fail> {
-    let tag = read_tag(alloc, text)?;
-    let form = extlang_form(alloc, checked, &tag).map_err(|_| "an extlang form")?;
-    Ok(write_tag(alloc, &form)?)
-}
-
-/// Whether two tags are equivalent.
-fn are_equivalent(
-    alloc: Global,
-    checked: &Checked<ListTable>,
-    first: &[u8],
-    second: &[u8],
-) -> Result<bool, Fail> {
-    let first = read_tag(alloc, first)?;
-    let second = read_tag(alloc, second)?;
-    Ok(equivalent(alloc, checked, &first, &second).map_err(|_| "an answer")?)
-}
-
-#[test]
-fn canonical_texts(rt: HostRuntime) -> Result<(), Fail> {
-    let alloc = rt.alloc();
-    let checked = checked(alloc)?;
-    for row in &CANONICAL {
-        let (text, canonical) = *row;
-        assert!(rt;
-            comes_to(alloc, &checked, text.as_bytes(), canonical.as_bytes()),
-            "{text}"
-        );
-    }
-    Ok(())
-}
-
-#[test]
-fn texts_with_faults(rt: HostRuntime) -> Result<(), Fail> {
-    let alloc = rt.alloc();
-    let checked = checked(alloc)?;
-    for row in &FAULTS {
-        let (text, name, place) = *row;
-        assert!(rt;
-            has_fault(alloc, &checked, text.as_bytes(), name, place),
-            "{text}"
-        );
-    }
-    Ok(())
-}
-
-#[test]
-fn replacements_that_repeat(rt: HostRuntime) -> Result<(), Fail> {
-    let alloc = rt.alloc();
-    let checked = checked(alloc)?;
-    assert!(rt; repeats(alloc, &checked, b"ja-Latn-heploc-alalc97", b"alalc97"));
-    assert!(rt; repeats(alloc, &checked, b"en-t-ja-heploc-alalc97", b"alalc97"));
-    Ok(())
-}
-
-#[test]
-fn the_longest_text(rt: HostRuntime) -> Result<(), Fail> {
-    let alloc = rt.alloc();
-    let checked = checked(alloc)?;
+/// A text of 1,024 bytes, which is its own canonical text, with this end behind it.
+fn long_text(alloc: Global, end: &str) -> Result<String, AllocError> {
     let mut text = String::from_str(alloc, "en-x")?;
     for _ in 0..113 {
         text.push_str("-aaaaaaaa")?;
     }
     text.push_str("-aa")?;
-    assert!(rt; comes_to(alloc, &checked, text.as_bytes(), text.as_bytes()));
-    text.push_str("a")?;
-    assert!(rt; has_fault(alloc, &checked, text.as_bytes(), "TooLong", 0));
+    text.push_str(end)?;
+    Ok(text)
+}
+
+/// The longest text has a canonical text, and one that is longer is refused.
+fn the_longest_text<L: Lookup>(
+    rt: &impl Abort,
+    alloc: Global,
+    checked: &Checked<L>,
+) -> Result<(), AllocError> {
+    let longest = long_text(alloc, "")?;
+    assert!(rt; comes_to(alloc, checked, longest.as_bytes(), longest.as_bytes()));
+    let longer = long_text(alloc, "a")?;
+    assert!(rt; has_fault(alloc, checked, longer.as_bytes(), "TooLong", 0));
     Ok(())
 }
 
-#[test]
-fn canonical_tags(rt: HostRuntime) -> Result<(), Fail> {
-    let alloc = rt.alloc();
-    let checked = checked(alloc)?;
-    confluence(&checked);
-    assert!(rt; written_form(alloc, &checked, b"sgn-DD")?.as_slice() == b"gsg".as_slice());
-    Ok(())
-}
-
-#[test]
-fn tags_without_form(rt: HostRuntime) -> Result<(), Fail> {
-    let alloc = rt.alloc();
-    let checked = checked(alloc)?;
-    let unknown = read_tag(alloc, b"fr")?;
-    match canonical(alloc, &checked, &unknown) {
-        Ok(_) => return Err(Fail::from("an unknown language")),
-        Err(refusal) => assert!(rt; is_unknown_language(refusal)),
+/// What a form is refused for: the name of a fault at the first subtag, or the repeated variant.
+fn refusal_name(refusal: Refusal) -> &'static str {
+    match refusal {
+        Refusal::Invalid(fault) if fault.place == 1 => fault.kind.name(),
+        Refusal::ReplacementRepeats(repeated) if repeated.bytes() == b"alalc97".as_slice() =>
+            "alalc97",
+        _ => "another refusal",
     }
-    let repeating = read_tag(alloc, b"ja-heploc-alalc97")?;
-    match canonical(alloc, &checked, &repeating) {
-        Ok(_) => return Err(Fail::from("a repeated variant")),
-        Err(refusal) => assert!(rt; names_repeated(refusal, b"alalc97")),
+}
+
+/// Whether an answer is a tag that is printed so, or a refusal of that name.
+fn is_answer(
+    alloc: Global,
+    answer: Result<Tag, Refusal>,
+    wanted: &str,
+) -> Result<bool, OutOfMemory> {
+    match answer {
+        Ok(form) => Ok(write_tag(alloc, &form)?.as_slice() == wanted.as_bytes()),
+        Err(refusal) => Ok(refusal_name(refusal) == wanted),
+    }
+}
+
+/// Whether a tag has this canonical form or refusal.
+fn has_form<L: Lookup>(
+    alloc: Global,
+    checked: &Checked<L>,
+    text: &str,
+    wanted: &str,
+) -> Result<bool, Fail> {
+    let tag = read_tag(alloc, text.as_bytes())?;
+    Ok(is_answer(alloc, canonical(alloc, checked, &tag), wanted)?)
+}
+
+/// Tags with their canonical forms, or with what they are refused for.
+const FORMS: [(&str, &str); 3] = [
+    ("sgn-DD", "gsg"),
+    ("fr", "UnknownLanguage"),
+    ("ja-heploc-alalc97", "alalc97"),
+];
+
+/// Each tag has its canonical form, or is refused.
+fn canonical_tags<L: Lookup>(
+    rt: &impl Abort,
+    alloc: Global,
+    checked: &Checked<L>,
+) -> Result<(), Fail> {
+    confluence(checked);
+    for (text, wanted) in &FORMS {
+        assert!(rt; has_form(alloc, checked, text, wanted)?, "{text}");
     }
     Ok(())
 }
 
-#[test]
-fn extlang_forms(rt: HostRuntime) -> Result<(), Fail> {
-    let alloc = rt.alloc();
-    let checked = checked(alloc)?;
-    for (text, expected) in [("cmn-hans", "zh-cmn-Hans"), ("min", "ms-min"), ("en", "en")] {
-        let written = written_extlang_form(alloc, &checked, text.as_bytes())?;
-        assert!(rt; written.as_slice() == expected.as_bytes(), "{text}");
+/// Whether a tag has this form with extlangs, or this refusal.
+fn has_extlang_form<L: Lookup>(
+    alloc: Global,
+    checked: &Checked<L>,
+    text: &str,
+    wanted: &str,
+) -> Result<bool, Fail> {
+    let tag = read_tag(alloc, text.as_bytes())?;
+    Ok(is_answer(alloc, extlang_form(alloc, checked, &tag), wanted)?)
+}
+
+/// Tags with their forms with extlangs.
+const EXTLANG_FORMS: [(&str, &str); 3] = [
+    ("cmn-hans", "zh-cmn-Hans"),
+    ("min", "ms-min"),
+    ("en", "en"),
+];
+
+/// Each tag has its form with extlangs.
+fn extlang_forms<L: Lookup>(
+    rt: &impl Abort,
+    alloc: Global,
+    checked: &Checked<L>,
+) -> Result<(), Fail> {
+    for (text, wanted) in &EXTLANG_FORMS {
+        assert!(rt; has_extlang_form(alloc, checked, text, wanted)?, "{text}");
     }
     Ok(())
 }
 
-#[test]
-fn equivalence(rt: HostRuntime) -> Result<(), Fail> {
-    let alloc = rt.alloc();
-    let checked = checked(alloc)?;
-    assert!(rt; are_equivalent(alloc, &checked, b"sgn-DD", b"GSG")?);
-    assert!(rt; !are_equivalent(alloc, &checked, b"sgn-DD-x-a", b"gsg-x-a")?);
-    assert!(rt; are_equivalent(alloc, &checked, b"en-u-kn", b"en-u-kn-TRUE")?);
+/// Whether two tags are equivalent, in words, or the name of the refusal.
+fn compared<L: Lookup>(
+    alloc: Global,
+    checked: &Checked<L>,
+    first: &Tag,
+    second: &Tag,
+) -> &'static str {
+    match equivalent(alloc, checked, first, second) {
+        Ok(true) => "equivalent",
+        Ok(false) => "different",
+        Err(refusal) => refusal_name(refusal),
+    }
+}
+
+/// Whether two tags compare so.
+fn compare_as<L: Lookup>(
+    alloc: Global,
+    checked: &Checked<L>,
+    first: &str,
+    second: &str,
+    wanted: &str,
+) -> Result<bool, Fail> {
+    let first = read_tag(alloc, first.as_bytes())?;
+    let second = read_tag(alloc, second.as_bytes())?;
+    Ok(compared(alloc, checked, &first, &second) == wanted)
+}
+
+/// Pairs of tags, and how they compare.
+const PAIRS: [(&str, &str, &str); 4] = [
+    ("sgn-DD", "GSG", "equivalent"),
+    ("sgn-DD-x-a", "gsg-x-a", "different"),
+    ("en-u-kn", "en-u-kn-TRUE", "equivalent"),
+    ("fr", "ja-heploc-alalc97", "UnknownLanguage"),
+];
+
+/// Each pair compares as its row says.
+fn equivalence<L: Lookup>(
+    rt: &impl Abort,
+    alloc: Global,
+    checked: &Checked<L>,
+) -> Result<(), Fail> {
+    for (first, second, wanted) in &PAIRS {
+        assert!(rt;
+            compare_as(alloc, checked, first, second, wanted)?,
+            "{first}"
+        );
+    }
     Ok(())
 }
 
+/// A table of the sample that passes the check gives these answers.
+fn gives_answers<L: Lookup>(
+    rt: &impl Abort,
+    alloc: Global,
+    checked: &Checked<L>,
+) -> Result<(), Fail> {
+    canonical_texts(rt, alloc, checked);
+    texts_with_faults(rt, alloc, checked);
+    replacements_that_repeat(rt, alloc, checked);
+    the_longest_text(rt, alloc, checked)?;
+    canonical_tags(rt, alloc, checked)?;
+    extlang_forms(rt, alloc, checked)?;
+    equivalence(rt, alloc, checked)
+}
+
 #[test]
-fn no_equivalence_of_invalid_tags(rt: HostRuntime) -> Result<(), Fail> {
-    let alloc = rt.alloc();
-    let checked = checked(alloc)?;
-    let unknown = read_tag(alloc, b"fr")?;
-    let repeating = read_tag(alloc, b"ja-heploc-alalc97")?;
-    match equivalent(alloc, &checked, &unknown, &repeating) {
-        Ok(_) => Err(Fail::from("an unknown language")),
-        Err(refusal) => {
-            assert!(rt; is_unknown_language(refusal));
-            Ok(())
-        }
+fn answers_by_the_list_table(rt: HostRuntime) -> Result<(), Fail> {
+    match Checked::new(rt.alloc(), sample(rt.alloc())?) {
+        Ok(checked) => gives_answers(&rt, rt.alloc(), &checked),
+        Err(_) => Err(Fail::from("the sample passes")),
+    }
+}
+
+#[test]
+fn answers_by_the_sorted_table(rt: HostRuntime) -> Result<(), Fail> {
+    match Checked::new(rt.alloc(), sorted_sample(rt.alloc())?) {
+        Ok(checked) => gives_answers(&rt, rt.alloc(), &checked),
+        Err(_) => Err(Fail::from("the sample passes")),
     }
 }

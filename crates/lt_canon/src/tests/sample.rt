@@ -1,6 +1,6 @@
 //! A small registry for tests, modelled on IANA's.
 use lt_jar::read_jar;
-use lt_registry::{ListTable, Registry};
+use lt_registry::{ListTable, Registry, SortedTable};
 use std::alloc::{AllocError, Global};
 use std::test::Fail;
 
@@ -97,18 +97,31 @@ fn text_with(alloc: Global, number: usize, record: &str) -> Result<String, Alloc
     Ok(text)
 }
 
-/// The table of the sample with another record in place of the one of a number, or behind the last.
-pub fn sample_with(alloc: Global, number: usize, record: &str) -> Result<ListTable, Fail> {
+/// The entries of the sample with another record in place of the one of a number, or behind the last.
+fn registry_with(alloc: Global, number: usize, record: &str) -> Result<Registry, Fail> {
     let text = text_with(alloc, number, record)?;
     let jar = read_jar(alloc, text.as_bytes())?;
     let records = jar.records();
     if records.len() > 100_000 {
         return Err(Fail::from("too many records"));
     }
-    Ok(ListTable::new(Registry::from_records(alloc, records)?))
+    Ok(Registry::from_records(alloc, records)?)
+}
+
+/// The table of the sample with another record in place of the one of a number, or behind the last.
+pub fn sample_with(alloc: Global, number: usize, record: &str) -> Result<ListTable, Fail> {
+    Ok(ListTable::new(registry_with(alloc, number, record)?))
 }
 
 /// The table of the sample.
 pub fn sample(alloc: Global) -> Result<ListTable, Fail> {
     sample_with(alloc, 0, "")
+}
+
+/// The sorted table of the sample.
+pub fn sorted_sample(alloc: Global) -> Result<SortedTable, Fail> {
+    match SortedTable::new(alloc, registry_with(alloc, 0, "")?) {
+        Ok(table) => Ok(table),
+        Err(_) => Err(Fail::from("no memory for the table")),
+    }
 }
