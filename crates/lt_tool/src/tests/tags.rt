@@ -66,3 +66,40 @@ fn words_of_a_pair(rt: HostRuntime) {
     let command = read(rt.alloc(), &["equal", "registry", "YUE", "zh-yue"]);
     assert!(rt; is_equal(&command, "registry", "YUE", "zh-yue"));
 }
+
+/// A tag, what `explain` prints of it, and its status.
+const EXPLANATIONS: [(&str, &str, u8); 6] = [
+    ("sgn-dd", "Region 2 27 sgn-DE\nWhole 1 44 gsg\n= gsg\n", 0),
+    (
+        "hy-arevela-arevmda",
+        "VariantLanguage 2 34 hy-arevmda\nVariantLanguage 2 35 hyw\n= hyw\n",
+        0,
+    ),
+    (
+        "en-u-foo-bar-foo-nu-latn-ca-buddhist-NU-arab",
+        "DropAttribute 5 0 en-u-foo-bar-nu-latn-ca-buddhist-nu-arab\n\
+         SwapAttributes 3 0 en-u-bar-foo-nu-latn-ca-buddhist-nu-arab\n\
+         DropKeyword 9 0 en-u-bar-foo-nu-latn-ca-buddhist\n\
+         SwapKeywords 5 0 en-u-bar-foo-ca-buddhist-nu-latn\n\
+         = en-u-bar-foo-ca-buddhist-nu-latn\n",
+        0,
+    ),
+    (
+        "en-u-kn-true-ca-true",
+        "SwapKeywords 3 0 en-u-ca-true-kn-true\nDropTrue 4 0 en-u-ca-kn-true\n\
+         DropTrue 5 0 en-u-ca-kn\n= en-u-ca-kn\n",
+        0,
+    ),
+    ("en", "= en\n", 0),
+    ("fr", "! UnknownLanguage 1\n", 1),
+];
+
+#[test]
+fn explanations(rt: HostRuntime) -> Result<(), Fail> {
+    let sample = sample_text(rt.alloc(), "\n", "")?;
+    for (tag, lines, status) in &EXPLANATIONS {
+        let words = ["explain", "registry", *tag];
+        assert!(rt; prints(rt.alloc(), &words, sample.as_bytes(), b"", lines, *status));
+    }
+    Ok(())
+}
