@@ -42,3 +42,4 @@ pub mod Judging
 pub mod Tracing
 pub mod FirstTagSteps
 pub mod Explained
+pub mod UsualTags

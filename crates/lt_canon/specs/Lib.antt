@@ -15,3 +15,4 @@ pub mod NameChecks
 pub mod Checking
 pub mod Traces
 pub mod Explaining
+pub mod UsualTags

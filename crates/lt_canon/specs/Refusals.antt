@@ -2,6 +2,7 @@
 use Rattle.lt_tag.specs.declared.faults.TagFault.{TagFault}
 use Rattle.lt_tag.specs.declared.faults.TagFaultKind.{TagFaultKind}
 use Rattle.lt_tag.specs.declared.faults.TagFaultKind.TheVariants as kinds
+use Rattle.lt_registry.specs.declared.faults.ValidFault.{ValidFault}
 use Rattle.lt_registry.specs.declared.faults.ValidRefusal.{ValidRefusal}
 use Rattle.lt_registry.specs.declared.faults.ValidRefusal.TheVariants as checks
 use Rattle.lt_canon.specs.declared.refusals.Refusal.{Refusal}
@@ -13,6 +14,9 @@ use Rattle.lt_canon.specs.declared.refusals.TextRefusal.TheVariants as texts
 abbrev pub of_valid : ValidRefusal → Refusal
 of_valid (checks.Fault fault) = refusals.Invalid fault
 of_valid checks.OutOfMemory = refusals.OutOfMemory
+
+abbrev pub of_valid_fault : ValidFault → Refusal
+of_valid_fault fault = refusals.Invalid fault
 
 abbrev pub no_memory : Refusal
 no_memory = refusals.OutOfMemory

@@ -1,17 +1,21 @@
 //! Canonical tags (RFC 5646, 4.5).
 ghost use Rattle.std.specs.Prelude.{◌≡◌, ◌<◌, ◌+◌, None, List, All, length, IfOk, IfErr};
 ghost use Rattle.lt_tag.specs.Parts.{LangTag};
-ghost use Rattle.lt_tag.specs.Values.{core_of};
+ghost use Rattle.lt_tag.specs.Values.{IsTagValue, core_of};
 ghost use Rattle.lt_registry.specs.Validity.{IsValid};
 ghost use Rattle.lt_rewrite.specs.Conditions.{HasEndingChain};
+ghost use Rattle.lt_rewrite.specs.TagSteps.{IsPlain};
 ghost use Rattle.lt_canon.specs.Conditions.{plain, IsValidPlain, IsChecked};
 ghost use Rattle.lt_canon.specs.Answers.{IsCanonicalAnswer};
 ghost use Rattle.lt_canon.specs.Settled.{IsDistinctForm, IsCoreRefusal, IsSettledValue};
+ghost use Rattle.lt_canon.specs.Explaining.{RestsOnCore};
+ghost use Rattle.lt_canon.specs.UsualTags.{IsUsual};
 
 use crate::checked::Checked;
 use crate::copies::{copy_extensions, copy_subtags};
 use crate::refusals::Refusal;
 use crate::repeats::{second_in_sources, second_occurrence};
+use crate::usual_tags::{is_core_valued, usual_core};
 use crate::whole_values::whole_value;
 use lt_registry::{Lookup, validate};
 use lt_rewrite::{settle_core, settle_extensions};
@@ -26,13 +30,18 @@ use std::alloc::Global;
 ///   leftmost variant that stands a second time in the core normal form of the core or, where that
 ///   repeats none, of the source of the `t` extension.
 ///
-/// Beside what `validate` looks up, the chain of values of each subtag is followed, and a tag without
-/// extensions and private use is looked up as a whole once. Where neither such a tag nor its value has
-/// variants it takes no memory.
+/// A tag without extensions and private use is looked up as a whole once. Of a langtag of a language, and
+/// a script and a region where there is one, each subtag is looked up once beside that; where one of them
+/// has a value, the chain of values of each is followed. Of any other langtag the chains are followed
+/// beside what `validate` looks up. Where neither a tag without extensions and private use nor its value
+/// has variants it takes no memory.
 pub fn canonical<L: Lookup>(alloc: Global, checked: &Checked<L>, tag: &Tag) -> Result<Tag, Refusal>
     ensures { IsCanonicalAnswer (L.listed checked.now) tag.now result }
 {
     let table = checked.table();
+    if let Some(core) = usual_core(tag) {
+        return form_of_usual(alloc, table, tag, core);
+    }
     validate(alloc, table, tag)?;
     let Some(core) = tag.core() else {
         return form_of_coreless(alloc, table, tag);
@@ -55,6 +64,37 @@ fn form_of_coreless<L: Lookup>(alloc: Global, table: &L, tag: &Tag) -> Result<Ta
     if tag.grandfathered().is_none() {
         return Ok(tag.copy(alloc)?);
     }
+    form_at_rest(alloc, table, tag)
+}
+
+/// The canonical form of a langtag of a language, and a script and a region where there is one.
+fn form_of_usual<L: Lookup>(
+    alloc: Global,
+    table: &L,
+    tag: &Tag,
+    core: &Core,
+) -> Result<Tag, Refusal>
+    requires checked { IsChecked (L.listed table.now) }
+    requires tag { IsTagValue tag.now }
+    requires usual { IsUsual core.now }
+    requires alone { tag.now ≡ plain core.now }
+    ensures { IsCanonicalAnswer (L.listed table.now) tag.now result }
+{
+    if is_core_valued(table, core)? {
+        form_of_core(alloc, table, core)
+    } else {
+        form_at_rest(alloc, table, tag)
+    }
+}
+
+/// The canonical form of a valid tag that can have a value, and from whose core no step leads on.
+fn form_at_rest<L: Lookup>(alloc: Global, table: &L, tag: &Tag) -> Result<Tag, Refusal>
+    requires checked { IsChecked (L.listed table.now) }
+    requires valid { IsValid (L.listed table.now) tag.now }
+    requires plain { IsPlain tag.now }
+    requires at_rest { RestsOnCore (L.listed table.now) tag.now }
+    ensures { IsCanonicalAnswer (L.listed table.now) tag.now result }
+{
     match whole_value(table, tag) {
         Some(value) => Ok(settled_value(alloc, table, value)?),
         None => Ok(tag.copy(alloc)?),

@@ -21,6 +21,7 @@ mod rejections;
 mod repeats;
 mod traces;
 pub mod upgrade_laws;
+mod usual_tags;
 mod whole_checks;
 mod whole_values;
 

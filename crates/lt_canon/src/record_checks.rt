@@ -16,7 +16,7 @@ use lt_subtag::Subtag;
 use lt_tag::is_plain_langtag;
 
 /// The one subtag that an entry gives as its value.
-fn one_value(entry: &Entry) -> Option<&Subtag>
+pub(crate) fn one_value(entry: &Entry) -> Option<&Subtag>
     ensures { option_copied result ≡ one_of entry.now.value }
 {
     match entry.value() {

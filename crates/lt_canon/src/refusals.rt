@@ -1,6 +1,6 @@
 //! Why a tag or a text has no canonical form.
 ghost use Rattle.std.specs.Prelude.{◌≡◌};
-ghost use Rattle.lt_canon.specs.Refusals.{of_valid, no_memory, of_fault, of_refusal, no_text_memory};
+ghost use Rattle.lt_canon.specs.Refusals.{of_valid, of_valid_fault, no_memory, of_fault, of_refusal, no_text_memory};
 
 use lt_registry::{ValidFault, ValidRefusal};
 use lt_subtag::Subtag;
@@ -25,6 +25,14 @@ impl From<ValidRefusal> for Refusal {
             ValidRefusal::Fault(fault) => Refusal::Invalid(fault),
             ValidRefusal::OutOfMemory => Refusal::OutOfMemory,
         }
+    }
+}
+
+impl From<ValidFault> for Refusal {
+    ghost from_gives = { λ fault refusal. refusal ≡ of_valid_fault fault };
+
+    fn from(fault: ValidFault) -> Refusal {
+        Refusal::Invalid(fault)
     }
 }
 

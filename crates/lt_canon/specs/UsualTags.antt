@@ -1,0 +1,44 @@
+-- Langtags of a language, and a script and a region where there is one, and whether these have values. No public
+-- contract cites this; it is shown to agree with what is valid and what rests.
+use Rattle.std.specs.Prelude.{ℕ, ◌≡◌, ◌+◌, Bool, false, ◌||◌, List, [], Option, Some, None, is_some, length, Result, Ok, Err}
+use Rattle.std.specs.Option.{option_to_list}
+use Rattle.lt_tag.specs.Parts.{CoreParts}
+use Rattle.lt_registry.specs.Parts.{EntryParts}
+use Rattle.lt_registry.specs.Entries.{entry, one_of}
+use Rattle.lt_registry.specs.declared.entries.Kind.{Kind}
+use Rattle.lt_registry.specs.declared.entries.Kind.TheVariants as kinds
+use Rattle.lt_registry.specs.declared.faults.ValidFault.{ValidFault}
+use Rattle.lt_registry.specs.declared.faults.ValidFaultKind.{ValidFaultKind}
+use Rattle.lt_registry.specs.declared.faults.ValidFaultKind.TheVariants as faults
+
+-- neither extlangs nor variants
+pub record IsUsual (c : CoreParts) : Type 0 where
+  pub extlangs : c.extlangs ≡ []
+  pub variants : c.variants ≡ []
+
+-- a test, or a fault
+abbrev pub Test : Type 0
+Test = Result Bool ValidFault
+
+-- the fault of the first test, else what follows from what it says
+abbrev pub on_test : Test → (Bool → Test) → Test
+on_test (Ok holds) next = next holds
+on_test (Err fault) next = Err fault
+
+-- the record of a subtag has a value; the fault where there is no record
+abbrev pub one_valued : ValidFaultKind → ℕ → Option EntryParts → Test
+one_valued kind place (Some e) = Ok (is_some (one_of e.value))
+one_valued kind place None = Err (record { kind = kind; place = place })
+
+-- a script or a region
+abbrev pub part_valued : List EntryParts → Kind → ValidFaultKind → ℕ → Option (List ℕ) → Test
+part_valued R kind fault place (Some s) = one_valued fault place (entry R kind s)
+part_valued R kind fault place None = Ok false
+
+-- the language, the script or the region
+unfoldable pub core_valued : List EntryParts → CoreParts → Test
+core_valued R c =
+    on_test (one_valued faults.UnknownLanguage 1 (entry R kinds.Language c.language)) (λ language.
+    on_test (part_valued R kinds.Script faults.UnknownScript 2 c.script) (λ script.
+    on_test (part_valued R kinds.Region faults.UnknownRegion (2 + length (option_to_list c.script)) c.region) (λ region.
+    Ok (language || script || region))))

@@ -1,0 +1,85 @@
+//! Langtags of the usual kind: a language, and a script and a region where there is one.
+ghost use Rattle.std.specs.Prelude.{◌≡◌, IfSome};
+ghost use Rattle.std.specs.Option.{option_copied};
+ghost use Rattle.lt_tag.specs.Values.{IsTagValue};
+ghost use Rattle.lt_registry.specs.Entries.{entry};
+ghost use Rattle.lt_canon.specs.Conditions.{plain};
+ghost use Rattle.lt_canon.specs.UsualTags.{IsUsual, one_valued, part_valued, core_valued};
+
+use crate::record_checks::one_value;
+use lt_registry::{Entry, Kind, Lookup, ValidFault, ValidFaultKind};
+use lt_subtag::Subtag;
+use lt_tag::{Core, Tag};
+
+/// The core of a langtag without extlangs, variants, extensions and private use.
+pub(crate) fn usual_core(tag: &Tag) -> Option<&Core>
+    ensures usual { IfSome result (λ core. IsUsual core.now) }
+    ensures alone { IfSome result (λ core. tag.now ≡ plain core.now) }
+    ensures tag { IsTagValue tag.now }
+{
+    let core = tag.core()?;
+    if core.extlangs().is_empty()
+        && core.variants().is_empty()
+        && tag.extensions().is_empty()
+        && tag.private().is_empty()
+    {
+        Some(core)
+    } else {
+        None
+    }
+}
+
+/// Whether the entry of a subtag has a value; the fault where there is no entry.
+fn is_valued(entry: Option<&Entry>, kind: ValidFaultKind, place: u32) -> Result<bool, ValidFault>
+    ensures { result ≡ one_valued kind place (option_copied entry.entry) }
+{
+    match entry {
+        Some(entry) => Ok(one_value(entry).is_some()),
+        None => Err(ValidFault { kind, place }),
+    }
+}
+
+/// The same of a script or a region, where there is one.
+fn is_part_valued<L: Lookup>(
+    table: &L,
+    kind: Kind,
+    fault: ValidFaultKind,
+    place: u32,
+    part: Option<&Subtag>,
+) -> Result<bool, ValidFault>
+    ensures { result ≡ part_valued (L.listed table.now) kind fault place (option_copied part.entry) }
+{
+    match part {
+        Some(subtag) => is_valued(table.entry(kind, subtag), fault, place),
+        None => Ok(false),
+    }
+}
+
+/// Whether the language, the script or the region of a core has a value; the first fault where one of
+/// them is not registered. Each is looked up once.
+#[tactic(auto, unfolding(crate::specs::UsualTags::core_valued))]
+pub(crate) fn is_core_valued<L: Lookup>(table: &L, core: &Core) -> Result<bool, ValidFault>
+    ensures { result ≡ core_valued (L.listed table.now) core.now }
+{
+    let language = is_valued(
+        table.entry(Kind::Language, core.language()),
+        ValidFaultKind::UnknownLanguage,
+        1,
+    )?;
+    let script = is_part_valued(
+        table,
+        Kind::Script,
+        ValidFaultKind::UnknownScript,
+        2,
+        core.script(),
+    )?;
+    let place = if core.script().is_some() { 3 } else { 2 };
+    let region = is_part_valued(
+        table,
+        Kind::Region,
+        ValidFaultKind::UnknownRegion,
+        place,
+        core.region(),
+    )?;
+    Ok(language || script || region)
+}
