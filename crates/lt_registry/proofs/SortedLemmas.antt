@@ -2,7 +2,7 @@
 use Rattle.std.proofs.Common.{◌≡◌, ℕ, ◌+◌, ◌<◌, ◌≤◌, Bool, true, false, ◌&&◌, cond, List, [], ◌∷◌, ◌++◌, length, take, drop, get_or, Option, Some, None, refl, sym, ap, ◌∙◌, subst, arith, add-one, eqb, inl, inr}
 use Rattle.std.specs.List.{All, HoldsAt, find, filter, filter_map, cons_option, slice_get}
 use Rattle.std.specs.List.Sorted.{IsNonDecreasingBy, IsPartitionPoint}
-use Rattle.std.specs.Option.{option_map, option_cmp, option_and_then, option_or}
+use Rattle.std.specs.Option.{option_map, option_and_then, option_or}
 use Rattle.std.specs.Ordering.{nat_cmp, ordering_index, is_eq}
 use Rattle.std.specs.declared.cmp.Ordering.TheVariants.{Less, Equal, Greater}
 use Rattle.std.proofs.Math.Seq.{drop-cons}
@@ -67,6 +67,10 @@ module _ (R : List EntryParts) (kind : Kind) (rows : List Row) (s : List ℕ) (i
   single_found i w l is tied =
       found nat_cmp_total (λ (r : Row). r.number) (λ (r : Row). r.place) (single_row kind) (single_placed kind) R rows ix (number s) is_it agrees i w l is
       (ap (λ (y : Row). nat_cmp y.number (number s)) is ∙ tied w)
+
+  pub single_seen : (i : ℕ) (w : Row) → i < length rows → w ≡ get_or rows i w → nat_cmp w.number (number s) ≡ Equal → find is_it R ≡ slice_get R w.place
+  single_seen i w l is tied =
+      found nat_cmp_total (λ (r : Row). r.number) (λ (r : Row). r.place) (single_row kind) (single_placed kind) R rows ix (number s) is_it agrees i w l is tied
 
   pub single_absent : (i : ℕ)
       → (IsNonDecreasingBy (λ (y : Row). ordering_index (nat_cmp y.number (number s))) rows → IsPartitionPoint (λ (y : Row). nat_cmp y.number (number s) ≡ Less) (λ (y : Row). nat_cmp y.number (number s) ≡ Greater) rows i)
