@@ -68,6 +68,10 @@ module _ (R : List EntryParts) (kind : Kind) (rows : List Row) (s : List ℕ) (i
       found nat_cmp_total (λ (r : Row). r.number) (λ (r : Row). r.place) (single_row kind) (single_placed kind) R rows ix (number s) is_it agrees i w l is
       (ap (λ (y : Row). nat_cmp y.number (number s)) is ∙ tied w)
 
+  pub single_seen : (i : ℕ) (w : Row) → i < length rows → w ≡ get_or rows i w → nat_cmp w.number (number s) ≡ Equal → find is_it R ≡ slice_get R w.place
+  single_seen i w l is tied =
+      found nat_cmp_total (λ (r : Row). r.number) (λ (r : Row). r.place) (single_row kind) (single_placed kind) R rows ix (number s) is_it agrees i w l is tied
+
   pub single_absent : (i : ℕ)
       → (IsNonDecreasingBy (λ (y : Row). ordering_index (nat_cmp y.number (number s))) rows → IsPartitionPoint (λ (y : Row). nat_cmp y.number (number s) ≡ Less) (λ (y : Row). nat_cmp y.number (number s) ≡ Greater) rows i)
       → find is_it R ≡ None

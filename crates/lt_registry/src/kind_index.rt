@@ -1,5 +1,7 @@
 //! The records of one kind, sorted for a search.
-ghost use Rattle.std.specs.Prelude.{◌≡◌, ◌&&◌, true, length, find, All, IfOk};
+ghost use Rattle.std.specs.Prelude.{◌≡◌, ◌<◌, ◌/◌, ◌^◌, ◌&&◌, ℕ, true, length, slice_index_or, find, All, IfOk, IfSome};
+ghost use Rattle.std.specs.Ordering.{nat_cmp};
+ghost use Rattle.std.specs.declared.cmp.Ordering.TheVariants.{Equal};
 ghost use Rattle.std.specs.Option.{option_copied};
 ghost use Rattle.lt_registry.specs.Parts.{EntryParts};
 ghost use Rattle.lt_registry.specs.Same as same;
@@ -22,7 +24,26 @@ use std::alloc::{AllocError, Global};
 pub(crate) struct KindIndex {
     kind: Kind,
     singles: Vec<Row>,
+    spans: Vec<Span>,
     ranges: Vec<usize>,
+}
+
+/// Where single records whose subtags begin alike were seen among the sorted ones: from a first
+/// place to before a last one. A search looks there first.
+#[derive(Clone, Copy, Debug)]
+struct Span {
+    start: usize,
+    end: usize,
+}
+
+/// How many beginnings of subtags are told apart.
+const SPANS: usize = 2048;
+
+/// The span of a number: by the first letter of its subtag and the upper half of the second.
+fn span_of(number: u64) -> usize
+    ensures { result ≡ number / 2 ^ 52 }
+{
+    (number >> 52) as usize
 }
 
 impl KindIndex {
@@ -36,10 +57,12 @@ impl KindIndex {
         ensures index { IfOk result (sorted.IsKindIndex entries.now) }
     {
         let singles = singles(alloc, entries, kind)?;
+        let spans = spans(alloc, &singles)?;
         let ranges = ranges(alloc, entries, kind)?;
         Ok(KindIndex {
             kind,
             singles,
+            spans,
             ranges,
         })
     }
@@ -63,10 +86,22 @@ impl KindIndex {
         ensures { option_copied result ≡ find (λ (e : EntryParts). same.same_kind e.kind self.now.kind && forms.is_named subtag.now e.name) entries.now }
     {
         let number = number_of(subtag);
+        if let Some(row) = self.seen(number) {
+            return entry_at(entries, row.place);
+        }
         match self.singles.binary_search_by_key(&number, |row| row.number) {
             Ok(found) => entry_at(entries, self.singles[found].place),
             Err(_) => None,
         }
+    }
+
+    /// The row of a number, if it stands in the span of numbers that begin alike.
+    fn seen(&self, number: u64) -> Option<Row>
+        ensures { IfSome result (λ row. (i : ℕ) × (i < length self.now.singles.items)
+            × (row ≡ slice_index_or self.now.singles.items i row) × (nat_cmp row.number number ≡ Equal)) }
+    {
+        let span = self.spans.get(span_of(number))?;
+        row_between(&self.singles, span.start, span.end, number)
     }
 
     /// The first range of the kind that holds a subtag.
@@ -103,6 +138,37 @@ fn singles(alloc: Global, entries: &[Entry], kind: Kind) -> Result<Vec<Row>, All
     rows.sort_unstable();
     rows.dedup_by_key(|row| row.number);
     Ok(rows)
+}
+
+/// The row of a number, if it stands among sorted rows from a first place to before a last one.
+fn row_between(rows: &[Row], start: usize, end: usize, number: u64) -> Option<Row>
+    ensures { IfSome result (λ row. (i : ℕ) × (i < length rows.now) × (row ≡ slice_index_or rows.now i row)
+        × (nat_cmp row.number number ≡ Equal)) }
+{
+    if start > end || end > rows.len() {
+        return None;
+    }
+    let part = &rows[start..end];
+    match part.binary_search_by_key(&number, |row| row.number) {
+        Ok(found) => Some(part[found]),
+        Err(_) => None,
+    }
+}
+
+/// The spans of sorted rows.
+fn spans(alloc: Global, rows: &[Row]) -> Result<Vec<Span>, AllocError>
+    ensures { IfOk result (λ spans. length spans.items ≡ 2048) }
+{
+    let mut spans = vec![in alloc; Span { start: 0, end: 0 }; SPANS]?;
+    for (place, row) in rows.iter().enumerate() {
+        if let Some(span) = spans.get_mut(span_of(row.number)) {
+            if span.end == 0 {
+                span.start = place;
+            }
+            span.end = place + 1;
+        }
+    }
+    Ok(spans)
 }
 
 /// The single records of a kind in the order of the file.
