@@ -62,7 +62,7 @@ module _ (R : List EntryParts) where
   core_reached : (c d : CoreParts) (old new : List Step) → AddsOnCore R 0 c d old new → Star (CoreStep (values_of R)) c d
   core_reached c d old new h = run_star (CoreLeads R 0) (λ _ step. kind_rank step) (CoreStep (values_of R)) (λ a step b l. l.0) h.run c d h.is_run
 
-  pub core_rests : (d : CoreParts) → NoneLeads (CoreLeads R 0 d) → Rests (CoreStep (values_of R)) d
+  core_rests : (d : CoreParts) → NoneLeads (CoreLeads R 0 d) → Rests (CoreStep (values_of R)) d
   core_rests d none e s = none (core_label R 0 s) e (s, refl)
 
   extensions_rest : (start : ℕ) (fs : List ExtensionParts) → NoneLeads (ExtensionsLeads R start fs) → Rests (ExtensionsStep R) fs

@@ -1,8 +1,10 @@
 -- Langtags of a language, and a script and a region where there is one: what is valid, and what rests.
 use Rattle.std.proofs.Common.{◌≡◌, ℕ, ◌+◌, Bool, true, false, ◌||◌, inl, inr, List, [], ◌∷◌, ◌++◌, Option, Some, None, Ok, Err, is_some, length, refl, sym, ap, ◌∙◌, subst, arith}
 use Rattle.std.specs.Option.{option_and_then, option_to_list}
-use Rattle.lt_tag.specs.Parts.{CoreParts, ExtensionParts, TagForm, LangTag, PrivateUse, Grandfathered}
+use Rattle.lt_tag.specs.Parts.{CoreParts, ExtensionParts, TagForm}
+use Rattle.lt_tag.specs.Spelling.{spell_core}
 use Rattle.lt_tag.specs.Values.{IsTagValue, core_of}
+use Rattle.lt_tag.specs.WellFormed.{IsNotGrandfathered}
 use Rattle.lt_registry.specs.Parts.{EntryParts}
 use Rattle.lt_registry.specs.Entries.{entry, value, one_of, whole_value}
 use Rattle.lt_registry.specs.Faults.{HasFault, HasNoFault, IsFirstOf, IsFirstFault, before_region}
@@ -22,10 +24,9 @@ use Rattle.lt_rewrite.specs.TagSteps.{IsPlain}
 use Rattle.lt_rewrite.proofs.CoreRest.{AtRest, rests}
 use Rattle.lt_canon.specs.Conditions.{plain, IsChecked}
 use Rattle.lt_canon.specs.Answers.{IsCanonicalFormOf}
-use Rattle.lt_canon.specs.Explaining.{RestsOnCore}
+use Rattle.lt_canon.specs.Settled.{IsDistinctForm}
 use Rattle.lt_canon.specs.UsualTags.{IsUsual, Test, on_test, one_valued, part_valued, core_valued}
-use Rattle.lt_canon.proofs.Explained.{core_rests}
-use Rattle.lt_canon.proofs.CanonicalForms.{core_canonical, coreless_canonical}
+use Rattle.lt_canon.proofs.CanonicalForms.{form_spells_none, core_canonical}
 
 -- a test tells what a check tells
 abbrev Agrees : Test → Check → Type 0
@@ -138,24 +139,17 @@ module _ (R : List EntryParts) (t : TagForm) (c : CoreParts) (u : IsUsual c) (k 
       (valid_law R t v).1 (subst (HasNoFault R) (sym k) (no_fault told))
 
   -- none has a value
-  pub usual_rests : core_valued R c ≡ Ok false → RestsOnCore R t
-  usual_rests h d e step b l =
-      let both : Some c ≡ Some d = sym (ap core_of k) ∙ e in
-      let same : c ≡ d = cc in
-      rests (values_of R) d b (subst (AtRest (values_of R)) same (core_without R c u h)) l.0
+  pub usual_form : IsValid R t → core_valued R c ≡ Ok false → IsDistinctForm R c c
+  usual_form V h =
+      let rest = core_without R c u h in
+      record { normal = record { reached = done; at_rest = λ d s. rests (values_of R) c d rest s }; distinct = (subst (IsValid R) k V).distinct.0 }
 
-pub plain_is : (c : CoreParts) (t : TagForm) → t ≡ plain c → IsPlain t
-plain_is c t k = subst IsPlain (sym k) (refl, refl)
+  pub usual_plain : IsPlain t
+  usual_plain = subst IsPlain (sym k) (refl, refl)
 
-pub coreless_rests : (R : List EntryParts) (t : TagForm) → core_of t ≡ None → RestsOnCore R t
-coreless_rests R t h c e = let bad : Some c ≡ None = sym e ∙ h in cc
+  module _ (C : IsChecked R) (V : IsValid R t) (h : core_valued R c ≡ Ok false) where
+    pub usual_spells_none : IsNotGrandfathered (spell_core c)
+    usual_spells_none = form_spells_none R C c c [] [] (subst (IsValid R) k V).proper (usual_form V h).normal
 
--- a valid tag without a value from whose core no step leads
-pub rest_canonical : (R : List EntryParts) → IsChecked R → (t : TagForm) → IsPlain t → IsValid R t → RestsOnCore R t → whole_value R t ≡ None → IsCanonicalFormOf R t t
-rest_canonical R C (LangTag c es ps) h V r e =
-    let same : LangTag c es ps ≡ plain c = λ i. LangTag c (h.0 i) (h.1 i) in
-    let valid : IsValid R (plain c) = subst (IsValid R) same V in
-    subst (λ t. IsCanonicalFormOf R t t) (sym same)
-    (core_canonical R C c c valid (record { normal = record { reached = done; at_rest = core_rests R c (r c refl) }; distinct = valid.distinct.0 }) (ap (whole_value R) (sym same) ∙ e))
-rest_canonical R C (PrivateUse ps) h V r e = absurd h
-rest_canonical R C (Grandfathered n) h V r e = coreless_canonical R C (Grandfathered n) V refl (inr e)
+    pub usual_canonical : whole_value R t ≡ None → IsCanonicalFormOf R t (plain c)
+    usual_canonical e = subst (λ a. IsCanonicalFormOf R a (plain c)) (sym k) (core_canonical R C c c (subst (IsValid R) k V) (usual_form V h) (ap (whole_value R) (sym k) ∙ e))

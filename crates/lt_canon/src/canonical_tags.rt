@@ -4,11 +4,9 @@ ghost use Rattle.lt_tag.specs.Parts.{LangTag};
 ghost use Rattle.lt_tag.specs.Values.{IsTagValue, core_of};
 ghost use Rattle.lt_registry.specs.Validity.{IsValid};
 ghost use Rattle.lt_rewrite.specs.Conditions.{HasEndingChain};
-ghost use Rattle.lt_rewrite.specs.TagSteps.{IsPlain};
 ghost use Rattle.lt_canon.specs.Conditions.{plain, IsValidPlain, IsChecked};
 ghost use Rattle.lt_canon.specs.Answers.{IsCanonicalAnswer};
 ghost use Rattle.lt_canon.specs.Settled.{IsDistinctForm, IsCoreRefusal, IsSettledValue};
-ghost use Rattle.lt_canon.specs.Explaining.{RestsOnCore};
 ghost use Rattle.lt_canon.specs.UsualTags.{IsUsual};
 
 use crate::checked::Checked;
@@ -64,7 +62,10 @@ fn form_of_coreless<L: Lookup>(alloc: Global, table: &L, tag: &Tag) -> Result<Ta
     if tag.grandfathered().is_none() {
         return Ok(tag.copy(alloc)?);
     }
-    form_at_rest(alloc, table, tag)
+    match whole_value(table, tag) {
+        Some(value) => Ok(settled_value(alloc, table, value)?),
+        None => Ok(tag.copy(alloc)?),
+    }
 }
 
 /// The canonical form of a langtag of a language, and a script and a region where there is one.
@@ -81,23 +82,14 @@ fn form_of_usual<L: Lookup>(
     ensures { IsCanonicalAnswer (L.listed table.now) tag.now result }
 {
     if is_core_valued(table, core)? {
-        form_of_core(alloc, table, core)
-    } else {
-        form_at_rest(alloc, table, tag)
+        return form_of_core(alloc, table, core);
     }
-}
-
-/// The canonical form of a valid tag that can have a value, and from whose core no step leads on.
-fn form_at_rest<L: Lookup>(alloc: Global, table: &L, tag: &Tag) -> Result<Tag, Refusal>
-    requires checked { IsChecked (L.listed table.now) }
-    requires valid { IsValid (L.listed table.now) tag.now }
-    requires plain { IsPlain tag.now }
-    requires at_rest { RestsOnCore (L.listed table.now) tag.now }
-    ensures { IsCanonicalAnswer (L.listed table.now) tag.now result }
-{
     match whole_value(table, tag) {
         Some(value) => Ok(settled_value(alloc, table, value)?),
-        None => Ok(tag.copy(alloc)?),
+        None => {
+            let form = core.copy(alloc)?;
+            Ok(Tag::from_parts(form, Vec::new(alloc), Vec::new(alloc)))
+        }
     }
 }
 

@@ -1,7 +1,14 @@
-use Rattle.std.proofs.Common.{sym, ◌∙◌, subst}
+use Rattle.std.proofs.Common.{◌≡◌, false, inl, sym, ◌∙◌, subst}
 use Rattle.std.proofs.lemmas.Result.{err_from_is_err_and}
+use Rattle.lt_tag.specs.Parts.{LangTag}
+use Rattle.lt_tag.specs.Spelling.{spell_core}
+use Rattle.lt_tag.specs.WellFormed.{IsNotGrandfathered}
 use Rattle.lt_registry.specs.Validity.{IsValid}
-use Rattle.lt_canon.proofs.UsualTags.{usual_refused, usual_valid, usual_rests}
+use Rattle.lt_canon.specs.Conditions.{plain}
+use Rattle.lt_canon.specs.Answers.{IsCanonicalFormOf}
+use Rattle.lt_canon.proofs.CheckedRegistry.{value_plain}
+use Rattle.lt_canon.proofs.CanonicalForms.{value_canonical}
+use Rattle.lt_canon.proofs.UsualTags.{usual_refused, usual_valid, usual_plain, usual_spells_none, usual_canonical}
 use Rattle.lt_canon.proofs.canonical_tags.form_of_usual.Goals as goal
 
 pub returns-in_err-is_core_valued : goal.returns-in_err-is_core_valued
@@ -17,12 +24,38 @@ form_of_core-requires-clause-valid g c =
     (usual_valid R c.args.tag.now c.args.core.now c.requires.usual c.requires.alone c.in_ok-is_core_valued.field-0 c.requires.tag
     (sym c.is_core_valued.ensures ∙ c.in_ok-is_core_valued.was))
 
-pub form_at_rest-requires-clause-valid : goal.form_at_rest-requires-clause-valid
-form_at_rest-requires-clause-valid g c =
-    usual_valid (g.L.Lookup.listed c.args.table.now) c.args.tag.now c.args.core.now c.requires.usual c.requires.alone c.in_ok-is_core_valued.field-0 c.requires.tag
-    (sym c.is_core_valued.ensures ∙ c.in_ok-is_core_valued.was)
+pub settled_value-requires-clause-plain : goal.settled_value-requires-clause-plain
+settled_value-requires-clause-plain g c =
+    value_plain (g.L.Lookup.listed c.args.table.now) c.requires.checked c.args.tag.now c.in-Some.value.now (sym (c.in-Some.ensures {u = tt}))
 
-pub form_at_rest-requires-clause-at_rest : goal.form_at_rest-requires-clause-at_rest
-form_at_rest-requires-clause-at_rest g c =
-    usual_rests (g.L.Lookup.listed c.args.table.now) c.args.tag.now c.args.core.now c.requires.usual c.requires.alone
-    (rw c.if-branch.false at (sym c.is_core_valued.ensures ∙ c.in_ok-is_core_valued.was))
+pub returns-in_ok-settled_value-in-Some : goal.returns-in_ok-settled_value-in-Some
+returns-in_ok-settled_value-in-Some g c =
+    let R = g.L.Lookup.listed c.args.table.now in
+    let t = c.args.tag.now in
+    let core = c.args.core.now in
+    let told = sym c.is_core_valued.ensures ∙ c.in_ok-is_core_valued.was in
+    value_canonical R c.requires.checked t c.in-Some.value.now c.in_ok-settled_value-in-Some.field-0
+    (usual_plain R t core c.requires.usual c.requires.alone)
+    (usual_valid R t core c.requires.usual c.requires.alone c.in_ok-is_core_valued.field-0 c.requires.tag told)
+    (sym (c.in-Some.ensures {u = tt})) (c.in_ok-settled_value-in-Some.ensures {u = tt})
+
+pub from_parts-requires-clause-not_grandfathered :
+    goal.from_parts-requires-clause-not_grandfathered
+from_parts-requires-clause-not_grandfathered g c =
+    let R = g.L.Lookup.listed c.args.table.now in
+    let t = c.args.tag.now in
+    let core = c.args.core.now in
+    let told = rw c.if-branch.false at (sym c.is_core_valued.ensures ∙ c.in_ok-is_core_valued.was) in
+    let valid = usual_valid R t core c.requires.usual c.requires.alone false c.requires.tag told in
+    inl (subst (λ d. IsNotGrandfathered (spell_core d)) (sym (c.in_ok-form-in-None.ensures {u = tt})) (usual_spells_none R t core c.requires.usual c.requires.alone c.requires.checked valid told))
+
+pub returns-in_ok-form-in-None : goal.returns-in_ok-form-in-None
+returns-in_ok-form-in-None g c =
+    let R = g.L.Lookup.listed c.args.table.now in
+    let t = c.args.tag.now in
+    let core = c.args.core.now in
+    let told = rw c.if-branch.false at (sym c.is_core_valued.ensures ∙ c.in_ok-is_core_valued.was) in
+    let valid = usual_valid R t core c.requires.usual c.requires.alone false c.requires.tag told in
+    let same : c.from_parts.result ≡ plain core = c.from_parts.ensures ∙ (λ i. LangTag (c.in_ok-form-in-None.ensures {u = tt} i) (c.new.ensures.items i) (c.new-in-None.ensures.items i)) in
+    subst (IsCanonicalFormOf R t) (sym same)
+    (usual_canonical R t core c.requires.usual c.requires.alone c.requires.checked valid told (sym (c.in-None.ensures {u = tt})))
