@@ -71,12 +71,13 @@ fn words_that_name_none(rt: HostRuntime) {
 }
 
 /// Words that ask for help, and a line of it.
-const HELPS: [(&[&str], &str); 5] = [
+const HELPS: [(&[&str], &str); 6] = [
     (&["--help"], "Usage: langtag <COMMAND>"),
     (&["-h"], "Usage: langtag <COMMAND>"),
     (&["help"], "Usage: langtag <COMMAND>"),
     (&["help", "classify"], "Usage: langtag classify <TAG>"),
     (&["classify", "--help"], "Usage: langtag classify <TAG>"),
+    (&["canon", "--help"], "Status: 0 done; 1 a tag was refused"),
 ];
 
 /// Whether the words ask for help that has this line.

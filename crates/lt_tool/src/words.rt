@@ -83,6 +83,10 @@ static REGISTRY: Positional = Positional {
     help: "A file in the format of the IANA Language Subtag Registry",
 };
 
+/// What the statuses mean, as each text of help says.
+const STATUSES: &str =
+    "Status: 0 done; 1 a tag was refused, or the tags are different; 2 the registry was refused; 3 the words name no command; 4 a file, the output or memory failed";
+
 /// A subcommand with these required positionals.
 fn new_subcommand<'a>(
     alloc: Global,
@@ -93,7 +97,9 @@ fn new_subcommand<'a>(
     ensures app { IfOk result (λ r. app_of r ≡ subcommand name.entry.now (map (λ p. p.now.name.now) positionals.now)) }
     ensures globals { IfOk result (λ r. (fields_of r).has_globals ≡ false) }
 {
-    let mut command = clap::Command::new(alloc, name).about(about);
+    let mut command = clap::Command::new(alloc, name)
+        .about(about)
+        .after_help(STATUSES);
     for positional in positionals {
         let argument = Arg::new(alloc, positional.name)
             .help(positional.help)
@@ -122,6 +128,7 @@ fn new_langtag<'a>(alloc: Global) -> Result<clap::Command<'a>, AllocError>
     let explain = new_subcommand(alloc, "explain", about, &[&REGISTRY, &TAG])?;
     clap::Command::new(alloc, "langtag")
         .about("BCP 47 language tags (RFC 5646)")
+        .after_help(STATUSES)
         .subcommand_required(true)
         .subcommand(classify)?
         .subcommand(check)?
