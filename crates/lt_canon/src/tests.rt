@@ -1,11 +1,10 @@
 mod answers;
 mod explanations;
 mod sample;
+mod traces;
 
 use super::*;
-use lt_registry::{ListTable, ValidFault, ValidFaultKind};
-use lt_rewrite::{Step, StepKind};
-use lt_tag::read_tag;
+use lt_registry::ListTable;
 use sample::{sample, sample_with};
 use std::alloc::Global;
 use std::test::Fail;
@@ -85,64 +84,5 @@ fn changed_samples_are_rejected(rt: HostRuntime) -> Result<(), Fail> {
         let table = sample_with(rt.alloc(), number as usize, record)?;
         assert_eq!(rt; finding(rt.alloc(), table)?, Some((code, number)), "{code}");
     }
-    Ok(())
-}
-
-/// The sample, which passes the check.
-fn checked_sample(alloc: Global) -> Result<Checked<ListTable>, Fail> {
-    match Checked::new(alloc, sample(alloc)?) {
-        Ok(checked) => Ok(checked),
-        Err(_) => Err(Fail::from("rejected")),
-    }
-}
-
-/// The steps from `sgn-DD`, of which the first uses this record, and an end.
-fn two_steps(alloc: Global, number: u32, last: &[u8]) -> Result<Trace, Fail> {
-    let mut steps = Vec::new(alloc);
-    steps.push(Step {
-        kind: StepKind::Region,
-        place: 2,
-        number,
-    })?;
-    steps.push(Step {
-        kind: StepKind::Whole,
-        place: 1,
-        number: 44,
-    })?;
-    Ok(Trace {
-        steps,
-        last: read_tag(alloc, last)?,
-    })
-}
-
-#[test]
-fn traces_are_verified(rt: HostRuntime) -> Result<(), Fail> {
-    let checked = checked_sample(rt.alloc())?;
-    let unknown = TraceFault::Invalid(ValidFault {
-        kind: ValidFaultKind::UnknownLanguage,
-        place: 1,
-    });
-    let rows = [
-        (b"sgn-DD".as_slice(), 27u32, b"gsg".as_slice(), Ok(())),
-        (
-            b"sgn-DD".as_slice(),
-            27,
-            b"sgn-DE".as_slice(),
-            Err(TraceFault::WrongEnd),
-        ),
-        (
-            b"sgn-DD".as_slice(),
-            28,
-            b"gsg".as_slice(),
-            Err(TraceFault::NoSuchStep(1)),
-        ),
-        (b"fr".as_slice(), 27, b"gsg".as_slice(), Err(unknown)),
-    ];
-    for (text, number, last, answer) in rows {
-        let tag = read_tag(rt.alloc(), text)?;
-        let trace = two_steps(rt.alloc(), number, last)?;
-        assert_eq!(rt; verify(rt.alloc(), &checked, &tag, &trace), answer);
-    }
-    assert_eq!(rt; TraceFault::WrongEnd.name(), "WrongEnd");
     Ok(())
 }

@@ -1,5 +1,7 @@
 //! The answers by both tables of the sample.
+use super::explanations::explanations;
 use super::sample::{sample, sorted_sample};
+use super::traces::traces;
 use crate::laws::confluence;
 use crate::{Checked, Refusal, TextRefusal, canonical, canonical_text, equivalent, extlang_form};
 use lt_registry::Lookup;
@@ -302,7 +304,9 @@ fn gives_answers<L: Lookup>(
     the_longest_text(rt, alloc, checked)?;
     canonical_tags(rt, alloc, checked)?;
     extlang_forms(rt, alloc, checked)?;
-    equivalence(rt, alloc, checked)
+    equivalence(rt, alloc, checked)?;
+    explanations(rt, alloc, checked)?;
+    traces(rt, alloc, checked)
 }
 
 #[test]

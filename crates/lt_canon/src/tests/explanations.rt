@@ -1,9 +1,9 @@
-use super::checked_sample;
 use crate::{Checked, Refusal, explain};
-use lt_registry::ListTable;
+use lt_registry::Lookup;
 use lt_rewrite::{Step, StepKind};
 use lt_tag::{read_tag, write_tag};
 use std::alloc::Global;
+use std::process::Abort;
 use std::test::Fail;
 
 /// Texts, the kinds, places and records of their steps, and the texts to which these lead.
@@ -33,9 +33,9 @@ fn is_step(step: &Step, row: &(StepKind, u32, u32)) -> bool {
 }
 
 /// Whether these are the steps from a text to the other.
-fn is_explained(
+fn is_explained<L: Lookup>(
     alloc: Global,
-    checked: &Checked<ListTable>,
+    checked: &Checked<L>,
     text: &[u8],
     steps: &[(StepKind, u32, u32)],
     last: &[u8],
@@ -59,27 +59,30 @@ fn is_unknown_language(refusal: Refusal) -> bool {
     }
 }
 
-#[test]
-fn explanations(rt: HostRuntime) -> Result<(), Fail> {
-    let alloc = rt.alloc();
-    let checked = checked_sample(alloc)?;
-    for row in &EXPLAINED {
-        let (text, steps, last) = *row;
-        let explained = is_explained(alloc, &checked, text.as_bytes(), steps, last.as_bytes())?;
-        assert!(rt; explained, "{text}");
+/// Whether the explanation of a text's tag is refused so.
+fn has_no_explanation<L: Lookup>(
+    alloc: Global,
+    checked: &Checked<L>,
+    text: &str,
+) -> Result<bool, Fail> {
+    let tag = read_tag(alloc, text.as_bytes())?;
+    match explain(alloc, checked, &tag) {
+        Ok(_trace) => Ok(false),
+        Err(refusal) => Ok(is_unknown_language(refusal)),
     }
-    Ok(())
 }
 
-#[test]
-fn no_explanation(rt: HostRuntime) -> Result<(), Fail> {
-    let checked = checked_sample(rt.alloc())?;
-    let unknown = read_tag(rt.alloc(), b"fr")?;
-    match explain(rt.alloc(), &checked, &unknown) {
-        Ok(_) => Err(Fail::from("an unknown language")),
-        Err(refusal) => {
-            assert!(rt; is_unknown_language(refusal));
-            Ok(())
-        }
+/// Each text has the steps of its row, and a tag of an unknown language none.
+pub(super) fn explanations<L: Lookup>(
+    rt: &impl Abort,
+    alloc: Global,
+    checked: &Checked<L>,
+) -> Result<(), Fail> {
+    for row in &EXPLAINED {
+        let (text, steps, last) = *row;
+        let explained = is_explained(alloc, checked, text.as_bytes(), steps, last.as_bytes())?;
+        assert!(rt; explained, "{text}");
     }
+    assert!(rt; has_no_explanation(alloc, checked, "fr")?);
+    Ok(())
 }

@@ -1,8 +1,9 @@
-use super::sample::sample;
+use super::sample::{sample, sorted_sample};
 use crate::{ApplyFault, Step, StepKind, apply};
-use lt_registry::{ListTable, proper};
+use lt_registry::{Lookup, proper};
 use lt_tag::{OutOfMemory, Tag, read_tag, write_tag};
 use std::alloc::Global;
+use std::process::Abort;
 use std::test::Fail;
 
 /// Whether an answer is a tag that is printed so, or a fault of that name.
@@ -18,9 +19,9 @@ fn is_answer(
 }
 
 /// Whether a step leads from a text's tag to another, or has a fault of that name.
-fn leads(
+fn leads<L: Lookup>(
     alloc: Global,
-    table: &ListTable,
+    table: &L,
     text: &str,
     step: Step,
     wanted: &str,
@@ -77,9 +78,8 @@ const STEPS: [(&str, StepKind, u32, u32, &str); 14] = [
     ("sgn-DE-x-a", StepKind::Whole, 1, 44, "NoSuchStep"),
 ];
 
-#[test]
-fn steps(rt: HostRuntime) -> Result<(), Fail> {
-    let table = sample(rt.alloc())?;
+/// Each step leads where its row says.
+fn steps_lead<L: Lookup>(rt: &impl Abort, alloc: Global, table: &L) -> Result<(), Fail> {
     for row in &STEPS {
         let (text, kind, place, number, wanted) = *row;
         let step = Step {
@@ -87,7 +87,19 @@ fn steps(rt: HostRuntime) -> Result<(), Fail> {
             place,
             number,
         };
-        assert!(rt; leads(rt.alloc(), &table, text, step, wanted)?, "{text}");
+        assert!(rt; leads(alloc, table, text, step, wanted)?, "{text}");
     }
     Ok(())
+}
+
+#[test]
+fn steps_by_the_list_table(rt: HostRuntime) -> Result<(), Fail> {
+    let table = sample(rt.alloc())?;
+    steps_lead(&rt, rt.alloc(), &table)
+}
+
+#[test]
+fn steps_by_the_sorted_table(rt: HostRuntime) -> Result<(), Fail> {
+    let table = sorted_sample(rt.alloc())?;
+    steps_lead(&rt, rt.alloc(), &table)
 }

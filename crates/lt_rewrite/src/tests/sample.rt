@@ -1,6 +1,6 @@
 //! A small registry for tests, modelled on IANA's.
 use lt_jar::read_jar;
-use lt_registry::{ListTable, Registry};
+use lt_registry::{ListTable, Registry, SortedTable};
 use std::alloc::{AllocError, Global};
 use std::test::Fail;
 
@@ -98,23 +98,31 @@ fn text_with(alloc: Global, value_of_hebrew: &str) -> Result<String, AllocError>
     Ok(text)
 }
 
-/// The table of the registry, in which the language `he` has this value.
-fn table_with(alloc: Global, value_of_hebrew: &str) -> Result<ListTable, Fail> {
+/// The registry, in which the language `he` has this value.
+fn registry_with(alloc: Global, value_of_hebrew: &str) -> Result<Registry, Fail> {
     let text = text_with(alloc, value_of_hebrew)?;
     let jar = read_jar(alloc, text.as_bytes())?;
     let records = jar.records();
     if records.len() > 100_000 {
         return Err(Fail::from("too many records"));
     }
-    Ok(ListTable::new(Registry::from_records(alloc, records)?))
+    Ok(Registry::from_records(alloc, records)?)
 }
 
 /// The table of the sample.
 pub fn sample(alloc: Global) -> Result<ListTable, Fail> {
-    table_with(alloc, "")
+    Ok(ListTable::new(registry_with(alloc, "")?))
+}
+
+/// The sorted table of the sample.
+pub fn sorted_sample(alloc: Global) -> Result<SortedTable, Fail> {
+    match SortedTable::new(alloc, registry_with(alloc, "")?) {
+        Ok(table) => Ok(table),
+        Err(_) => Err(Fail::from("no memory for the table")),
+    }
 }
 
 /// The table of the sample in which the value of `he` is `iw`, whose value is `he`.
 pub fn sample_with_cycle(alloc: Global) -> Result<ListTable, Fail> {
-    table_with(alloc, "iw")
+    Ok(ListTable::new(registry_with(alloc, "iw")?))
 }
