@@ -1,5 +1,5 @@
 -- The conditions in their order, and which of them a look at one record after another decides.
-use Rattle.std.proofs.Common.{◌≡◌, ℕ, ◌<◌, ◌≤◌, ◌+◌, ◌⊎◌, inl, inr, zero, suc, Bool, true, ◌==◌, ◌&&◌, List, [], ◌∷◌, length, Option, Some, None, MatchOption, All, Result, IfOk, IsTrue, ◌↔◌, refl, sym, ap, ◌∙◌, subst, arith}
+use Rattle.std.proofs.Common.{◌≡◌, ℕ, ◌<◌, ◌≤◌, ◌+◌, ◌⊎◌, inl, inr, zero, suc, Bool, true, ◌==◌, ◌&&◌, List, [], ◌∷◌, length, Option, Some, None, MatchOption, All, Result, Ok, Err, IfOk, IsTrue, ◌↔◌, refl, sym, ap, ◌∙◌, subst, arith}
 use Rattle.std.specs.Prelude.{slice_index_or}
 use Rattle.std.proofs.lemmas.Bool.{and_parts, eqb-true}
 use Rattle.std.proofs.lemmas.List.Elements.{All-contains}
@@ -30,7 +30,7 @@ by_record conditions.AgreeingWhole a b c = refl
 by_record conditions.NoRangeValue a b c = refl
 
 -- the lowest cycle is the lowest fault by the condition on chains
-pub cycle_fault : (R : List EntryParts) (o : Option ℕ) → MatchOption o (All (HasEndingChain R) R) (IsFirstCycle R) → IsLowestFault R conditions.EndingChain o
+cycle_fault : (R : List EntryParts) (o : Option ℕ) → MatchOption o (All (HasEndingChain R) R) (IsFirstCycle R) → IsLowestFault R conditions.EndingChain o
 cycle_fault R None h = h
 cycle_fault R (Some n) h = record {
   fault = record { entry = h.entry; there = h.there; numbered = h.numbered; fails = h.endless };
@@ -43,6 +43,10 @@ cycle_fault R (Some n) h = record {
         let s = f.numbered in
         let low : f.entry.number < n = omega (arith, s, l) in
         absurd (f.fails (All-contains (λ (e : EntryParts). e.number < n → HasEndingChain R e) R f.entry h.lower f.there low))
+
+pub cycle_answer : {E : Type 0} (R : List EntryParts) (k : Condition) → k ≡ conditions.EndingChain → (r : Result (Option ℕ) E) → IfOk r (λ o. MatchOption o (All (HasEndingChain R) R) (IsFirstCycle R)) → IfOk r (IsLowestFault R k)
+cycle_answer R k s (Ok o) h = subst (λ (c : Condition). IsLowestFault R c o) (sym s) (cycle_fault R o h)
+cycle_answer R k s (Err e) h = tt
 
 rank_bounds : (k : Condition) → (1 ≤ rank_of k) × (rank_of k ≤ 12)
 rank_bounds conditions.OwnName = (omega arith, omega arith)

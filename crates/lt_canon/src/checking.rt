@@ -14,7 +14,7 @@ use crate::record_checks::{
 use crate::rejections::Finding;
 use crate::whole_checks::{has_agreeing_whole, has_resting_whole, has_valid_whole};
 use lt_registry::{Entry, Lookup};
-use lt_rewrite::first_cycle;
+use lt_rewrite::first_cycle_in;
 use lt_tag::OutOfMemory;
 use std::alloc::Global;
 
@@ -104,7 +104,7 @@ fn lowest_fault<L: Lookup>(
 {
     match condition {
         Condition::OwnName => first_taken_name(alloc, table),
-        Condition::EndingChain => Ok(first_cycle(table)),
+        Condition::EndingChain => first_cycle_in(alloc, table),
         Condition::FittingGrandfathered => Ok(first_misfit(table)),
         _ => first_failing(alloc, table, condition),
     }

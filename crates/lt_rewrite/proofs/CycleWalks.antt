@@ -77,7 +77,7 @@ pub ends_there : (R : List EntryParts) (e : EntryParts) (k : Kind) (v s : List �
 ends_there R e k v s n W end = chain_from R e k v s n W (0, end)
 
 -- a walk that has come to a record whose chain ends
-ends_from : (R : List EntryParts) (e met : EntryParts) (k : Kind) (v s : List ℕ) (n : ℕ) → IsWalk R e k v s n → entry R k s ≡ Some met → HasEndingChain R met → HasEndingChain R e
+pub ends_from : (R : List EntryParts) (e met : EntryParts) (k : Kind) (v s : List ℕ) (n : ℕ) → IsWalk R e k v s n → entry R k s ≡ Some met → HasEndingChain R met → HasEndingChain R e
 ends_from R e met k v s n W found h =
     chain_from R e k v s n W
     (ends_from_at (next_value R k) s

@@ -36,6 +36,7 @@ pub mod ExtensionSettled
 pub mod ExtensionsSettled
 pub mod CoreLeading
 pub mod CycleWalks
+pub mod MarkedWalks
 pub mod Cuts
 pub mod PartLeading
 pub mod PartCounts

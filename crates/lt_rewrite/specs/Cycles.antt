@@ -1,5 +1,6 @@
 -- The lowest record whose chain of values has no end (RFC 5646, 3.1.7), and orders of the records.
 use Rattle.std.specs.Prelude.{ℕ, ◌≡◌, ◌<◌, ◌*◌, ◌%◌, ◌^◌, List, All, Contains}
+use Rattle.std.specs.BTreeSet.{BTreeSet}
 use Rattle.lt_registry.specs.Parts.{EntryParts}
 use Rattle.lt_rewrite.specs.Conditions.{HasEndingChain}
 use Rattle.lt_rewrite.specs.declared.cycles.Order.{Order}
@@ -25,3 +26,11 @@ EarlierEnd R order before = All (λ f. place order f.number < before → HasEndi
 -- a record's chain ends if those of all records before it in an order do
 abbrev pub EndsAfterEarlier : List EntryParts → Order → EntryParts → Type 0
 EndsAfterEarlier R order e = EarlierEnd R order (place order e.number) → HasEndingChain R e
+
+-- the chain of the record of a number ends
+abbrev pub NumberEnds : List EntryParts → ℕ → Type 0
+NumberEnds R number = All (λ f. f.number ≡ number → HasEndingChain R f) R
+
+-- the chains of all marked records end
+abbrev pub MarkedEnd : List EntryParts → BTreeSet ℕ → Type 0
+MarkedEnd R marked = All (NumberEnds R) marked.keys

@@ -252,6 +252,7 @@ const CHAINS: [(Kind, &str, &str); 4] = [
 fn ends_of_chains(rt: HostRuntime) -> Result<(), Fail> {
     let table = sample(rt.alloc())?;
     assert!(rt; first_cycle(&table).is_none());
+    assert!(rt; first_cycle_in(rt.alloc(), &table)?.is_none());
     for (kind, text, end) in &CHAINS {
         assert!(rt; ends_in(&table, *kind, text, end), "{text}");
     }
@@ -271,6 +272,7 @@ fn chains_without_end(rt: HostRuntime) -> Result<(), Fail> {
     let table = sample_with_cycle(rt.alloc())?;
     assert!(rt; is_endless(&table, "he"));
     assert!(rt; first_cycle(&table) == Some(6));
+    assert!(rt; first_cycle_in(rt.alloc(), &table)? == Some(6));
     Ok(())
 }
 
