@@ -7,6 +7,7 @@ pub mod ListFaultLemmas
 pub mod ListLemmas
 pub mod NameReadLemmas
 pub mod OrderLemmas
+pub mod RangeLemmas
 pub mod RecordLaws
 pub mod RegistryLemmas
 pub mod SameLemmas

@@ -7,3 +7,11 @@ pub(crate) struct Row {
     pub(crate) number: u64,
     pub(crate) place: usize,
 }
+
+/// A range of subtags, by the ranks of its first and its last, and the place of its record among the entries.
+#[derive(Clone, Copy, Debug)]
+pub(crate) struct RangeRow {
+    pub(crate) first: u128,
+    pub(crate) last: u128,
+    pub(crate) place: usize,
+}
