@@ -14,6 +14,7 @@ pub mod SameLemmas
 pub mod ScanLemmas
 pub mod SortedLemmas
 pub mod SplitListLemmas
+pub mod StretchLemmas
 pub mod SubtagNumbers
 pub mod TagFaultLemmas
 pub mod TagOrderLemmas

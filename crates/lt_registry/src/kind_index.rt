@@ -12,21 +12,21 @@ ghost use Rattle.lt_registry.specs.Sorted as sorted;
 use crate::entries::{Entry, EntryName, Kind};
 use crate::indexes::entry_at;
 use crate::names::is_alphabetic;
-use crate::ranges::{first_within, range_rows};
-use crate::rows::{RangeRow, Row};
+use crate::ranges::{place_in, range_rows, stretches};
+use crate::rows::{Row, Stretch};
 use crate::same::same_kind;
 use crate::subtag_numbers::{number_of, rank_of};
 use lt_subtag::Subtag;
 use std::alloc::{AllocError, Global};
 
 /// The records of one kind: the single ones sorted by subtag, of equal names the first alone, and
-/// the ranges in the order of the file.
+/// the stretches of the ranges.
 #[derive(Debug, Drop)]
 pub(crate) struct KindIndex {
     kind: Kind,
     singles: Vec<Row>,
     spans: Vec<Span>,
-    ranges: Vec<RangeRow>,
+    ranges: Vec<Stretch>,
 }
 
 /// Where single records whose subtags begin alike were seen among the sorted ones: from a first
@@ -59,7 +59,8 @@ impl KindIndex {
     {
         let singles = singles(alloc, entries, kind)?;
         let spans = spans(alloc, &singles)?;
-        let ranges = range_rows(alloc, entries, kind)?;
+        let rows = range_rows(alloc, entries, kind)?;
+        let ranges = stretches(alloc, &rows)?;
         Ok(KindIndex {
             kind,
             singles,
@@ -114,7 +115,7 @@ impl KindIndex {
         if !is_alphabetic(subtag) {
             return None;
         }
-        let place = first_within(&self.ranges, rank_of(subtag))?;
+        let place = place_in(&self.ranges, rank_of(subtag))?;
         entry_at(entries, place)
     }
 }

@@ -1,5 +1,5 @@
 //! Subtags as numbers, which are compared at once.
-ghost use Rattle.std.specs.Prelude.{◌≡◌, ◌≤◌, true, length, slice_index_or};
+ghost use Rattle.std.specs.Prelude.{◌≡◌, ◌≤◌, ◌<◌, ◌^◌, true, length, slice_index_or};
 ghost use Rattle.lt_subtag.specs.Bytes.{is_subtag};
 ghost use Rattle.lt_registry.specs.Sorted as sorted;
 
@@ -21,6 +21,7 @@ pub(crate) fn number_of(subtag: &Subtag) -> u64
 #[tactic(auto, using(crate::proofs::SubtagNumbers::subtag_short))]
 pub(crate) fn rank_of(subtag: &Subtag) -> u128
     ensures value { result ≡ sorted.rank subtag.now }
+    ensures small { result < 2 ^ 68 }
     ensures subtag { is_subtag subtag.now ≡ true }
 {
     let length = subtag.bytes().len() as u128;

@@ -1,7 +1,7 @@
-use Rattle.std.proofs.Common.{◌≡◌, sym, ap, ◌∙◌}
+use Rattle.std.proofs.Common.{◌≡◌, None, sym, ap, ◌∙◌}
 use Rattle.std.specs.List.{slice_get}
 use Rattle.std.specs.Option.{option_and_then, option_copied}
-use Rattle.lt_registry.specs.Sorted.{rank, range_rows, first_within}
+use Rattle.lt_registry.specs.Sorted.{rank, range_rows, first_within, place_in}
 use Rattle.lt_registry.proofs.RangeLemmas.{range_found, none_holds}
 use Rattle.lt_registry.proofs.SubtagNumbers.{subtag_few}
 use Rattle.lt_registry.proofs.kind_index.KindIndex.range.Goals as goal
@@ -14,8 +14,8 @@ returns-in_err-place c =
     let R = c.args.entries.now in
     let self = c.args.self.now in
     let s = c.args.subtag.now in
-    let said : c.first_within.result ≡ first_within (range_rows self.kind 0 R) (rank s) =
-    c.first_within.ensures ∙ ap (λ r. first_within r c.rank_of.result) (c.deref.ensures.value ∙ c.requires.index.ranges) ∙ ap (first_within (range_rows self.kind 0 R)) c.rank_of.ensures.value in
+    let said : c.place_in.result ≡ first_within (range_rows self.kind 0 R) (rank s) =
+    c.place_in.ensures ∙ ap (λ r. place_in None r c.rank_of.result) c.deref.ensures.value ∙ c.requires.index.ranges.places c.rank_of.result ∙ ap (first_within (range_rows self.kind 0 R)) c.rank_of.ensures.value in
     ap option_copied c.from_residual.ensures ∙ ap (option_and_then (slice_get R)) (sym c.in_err-place.was ∙ said)
     ∙ range_found R self.kind s (subtag_few s c.rank_of.ensures.subtag) (sym c.is_alphabetic.ensures ∙ c.if-not-is_alphabetic.false) c.requires.forms
 
@@ -24,7 +24,7 @@ returns c =
     let R = c.args.entries.now in
     let self = c.args.self.now in
     let s = c.args.subtag.now in
-    let said : c.first_within.result ≡ first_within (range_rows self.kind 0 R) (rank s) =
-    c.first_within.ensures ∙ ap (λ r. first_within r c.rank_of.result) (c.deref.ensures.value ∙ c.requires.index.ranges) ∙ ap (first_within (range_rows self.kind 0 R)) c.rank_of.ensures.value in
+    let said : c.place_in.result ≡ first_within (range_rows self.kind 0 R) (rank s) =
+    c.place_in.ensures ∙ ap (λ r. place_in None r c.rank_of.result) c.deref.ensures.value ∙ c.requires.index.ranges.places c.rank_of.result ∙ ap (first_within (range_rows self.kind 0 R)) c.rank_of.ensures.value in
     c.entry_at.ensures ∙ ap (option_and_then (slice_get R)) (sym c.in_ok-place.was ∙ said)
     ∙ range_found R self.kind s (subtag_few s c.rank_of.ensures.subtag) (sym c.is_alphabetic.ensures ∙ c.if-not-is_alphabetic.false) c.requires.forms
