@@ -7,12 +7,14 @@ pub mod ListFaultLemmas
 pub mod ListLemmas
 pub mod NameReadLemmas
 pub mod OrderLemmas
+pub mod RangeLemmas
 pub mod RecordLaws
 pub mod RegistryLemmas
 pub mod SameLemmas
 pub mod ScanLemmas
 pub mod SortedLemmas
 pub mod SplitListLemmas
+pub mod StretchLemmas
 pub mod SubtagNumbers
 pub mod TagFaultLemmas
 pub mod TagOrderLemmas

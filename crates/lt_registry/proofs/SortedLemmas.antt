@@ -1,25 +1,22 @@
 -- What the indexes of a sorted table find.
-use Rattle.std.proofs.Common.{◌≡◌, ℕ, ◌+◌, ◌<◌, ◌≤◌, Bool, true, false, ◌&&◌, cond, List, [], ◌∷◌, ◌++◌, length, take, drop, get_or, Option, Some, None, refl, sym, ap, ◌∙◌, subst, arith, add-one, eqb, inl, inr}
-use Rattle.std.specs.List.{All, HoldsAt, find, filter, filter_map, cons_option, slice_get}
+use Rattle.std.proofs.Common.{◌≡◌, ℕ, ◌<◌, Bool, true, false, ◌&&◌, cond, List, length, get_or, Option, Some, None, refl, sym, ap, ◌∙◌, subst, arith, eqb, inl, inr}
+use Rattle.std.specs.List.{All, HoldsAt, find, slice_get}
 use Rattle.std.specs.List.Sorted.{IsNonDecreasingBy, IsPartitionPoint}
-use Rattle.std.specs.Option.{option_map, option_and_then, option_or}
+use Rattle.std.specs.Option.{option_map, option_and_then}
 use Rattle.std.specs.Ordering.{nat_cmp, ordering_index, is_eq}
 use Rattle.std.specs.declared.cmp.Ordering.TheVariants.{Less, Equal, Greater}
-use Rattle.std.proofs.Math.Seq.{drop-cons}
 use Rattle.std.specs.Cmp.{IsTotalOrder}
 use Rattle.std.specs.Cmp.Lexicographic.{same_text}
 use Rattle.std.specs.Prelude.{bytes_eq}
 use Rattle.std.proofs.lemmas.Bool.{and_parts, cases_Bool}
 use Rattle.std.proofs.lemmas.Bool.Decides.{nat_tests}
 use Rattle.std.proofs.lemmas.Cmp.{nat_cmp_total, then_total, on_total}
-use Rattle.std.proofs.lemmas.List.Elements.{filter_map-append, filter-append}
-use Rattle.std.proofs.lemmas.List.{append-nil, drop_all}
-use Rattle.std.proofs.lemmas.Option.{slice_get_within, get_or_from_slice_get, slice_get_read}
+use Rattle.std.proofs.lemmas.Option.{slice_get_within, get_or_from_slice_get}
 use Rattle.lt_tag.specs.Parts.{TagForm, LangTag, PrivateUse, Grandfathered}
 use Rattle.lt_registry.specs.Parts.{EntryParts}
 use Rattle.lt_registry.specs.Same.{same_kind, same_core, same_tag}
 use Rattle.lt_registry.specs.Entries.{has_form, is_whole_kind, FitsName, IsEntry, is_named, holds, is_whole, entry, whole}
-use Rattle.lt_registry.specs.Sorted.{number, single_number, single_row, is_range, is_range_of, range_at, tag_in, tag_at, language_number, whole_row, whole_key, key_cmp, IsSingles, IsRanges, IsWholes, index_of}
+use Rattle.lt_registry.specs.Sorted.{number, single_number, single_row, tag_in, tag_at, language_number, whole_row, whole_key, key_cmp, IsSingles, IsWholes, index_of}
 use Rattle.lt_registry.specs.TagOrder.{tag_cmp}
 use Rattle.lt_registry.specs.declared.entries.Kind.{Kind}
 use Rattle.lt_registry.specs.declared.entries.Kind.TheVariants as kinds
@@ -28,14 +25,13 @@ use Rattle.lt_registry.specs.declared.entries.EntryName.TheVariants as names
 use Rattle.lt_registry.specs.declared.rows.Row.{Row}
 use Rattle.lt_registry.specs.declared.indexes.Indexes.{Indexes}
 use Rattle.lt_registry.proofs.IndexLemmas.{matches, found, absent, rises, find_none}
-use Rattle.lt_registry.proofs.ListLemmas.{take_turn}
 use Rattle.lt_registry.proofs.SubtagNumbers.{IsFew, form_few, numbers_equal}
 use Rattle.lt_registry.proofs.TagOrderLemmas.{nats_equal, then_equal, optional_tag_total, tags_equal}
 
 pub entry_at : (R : List EntryParts) → All IsEntry R → (p : ℕ) (e : EntryParts) → slice_get R p ≡ Some e → IsEntry e
 entry_at R forms p e there = subst IsEntry (get_or_from_slice_get R p e e there) (forms p e (slice_get_within R p e there))
 
-and_false : (b : Bool) → (b && false) ≡ false
+pub and_false : (b : Bool) → (b && false) ≡ false
 and_false true = refl
 and_false false = refl
 
@@ -143,68 +139,6 @@ module _ (R : List EntryParts) (rows : List Row) (t : TagForm) (ix : IsWholes R 
   whole_absent i point =
       absent key_total (whole_key R) (λ (v : Row). v.place) whole_row whole_placed R rows ix sought is_that whole_agrees i
       (point (rises key_total (whole_key R) (λ (v : Row). v.place) whole_row whole_placed R rows ix sought))
-
--- ranges
-
-filtered_step : {X : Type 0} (P q H : X → Bool) (x : X) (xs : List X) (b h : Bool) → H x ≡ h → find P xs ≡ find H (filter q xs) → cond (b && h) (Some x) (find P xs) ≡ find H (cond b (x ∷ filter q xs) (filter q xs))
-filtered_step P q H x xs true true e rest = rw e refl
-filtered_step P q H x xs true false e rest = rw e rest
-filtered_step P q H x xs false h e rest = rest
-
-find_filtered : {X : Type 0} (P q H : X → Bool) → ((x : X) → P x ≡ (q x && H x)) → (xs : List X) → find P xs ≡ find H (filter q xs)
-find_filtered P q H same [] = refl
-find_filtered P q H same (x ∷ xs) = rw (same x) (filtered_step P q H x xs (q x) (H x) refl (find_filtered P q H same xs))
-
-module _ (R : List EntryParts) (kind : Kind) (s : List ℕ) where
-  range_agrees : (b : Bool) (name : EntryName) → (b && holds s name) ≡ ((b && is_range name) && holds s name)
-  range_agrees false name = refl
-  range_agrees true (names.Single n) = refl
-  range_agrees true (names.Range a b) = refl
-  range_agrees true (names.Whole t) = refl
-
-  -- what the ranges from a place on give
-  abbrev pub left_to_find : List ℕ → Option EntryParts
-  left_to_find places = find (λ (e : EntryParts). holds s e.name) (filter_map (slice_get R) places)
-
-  pub ranges_first : (places : List ℕ) → IsRanges R kind places → find (λ (e : EntryParts). same_kind e.kind kind && holds s e.name) R ≡ left_to_find places
-  ranges_first places is =
-      find_filtered (λ (e : EntryParts). same_kind e.kind kind && holds s e.name) (is_range_of kind) (λ (e : EntryParts). holds s e.name) (λ e. range_agrees (same_kind e.kind kind) e.name) R
-      ∙ ap (find (λ (e : EntryParts). holds s e.name)) (sym is)
-
-  or_later : (e : EntryParts) (places : List ℕ) (b : Bool) → cond b (Some e) (left_to_find places) ≡ option_or (cond b (Some e) None) (left_to_find places)
-  or_later e places true = refl
-  or_later e places false = refl
-
-  range_first : (o : Option EntryParts) (places : List ℕ) → find (λ (e : EntryParts). holds s e.name) (cons_option o (filter_map (slice_get R) places)) ≡ option_or (option_and_then (λ (e : EntryParts). cond (holds s e.name) (Some e) None) o) (left_to_find places)
-  range_first None places = refl
-  range_first (Some e) places = or_later e places (holds s e.name)
-
-  range_turn : (places : List ℕ) (i : ℕ) → i < length places → left_to_find (drop i places) ≡ option_or (range_at R s (get_or places i 0)) (left_to_find (drop (i + 1) places))
-  range_turn places i l =
-      let turn : drop i places ≡ get_or places i 0 ∷ drop (i + 1) places = drop-cons places i 0 l ∙ rw (add-one i) refl in
-      ap left_to_find turn ∙ range_first (slice_get R (get_or places i 0)) (drop (i + 1) places)
-
-  pub range_found : (places : List ℕ) (i : ℕ) (e : EntryParts) → i < length places → range_at R s (get_or places i 0) ≡ Some e → left_to_find (drop i places) ≡ Some e
-  range_found places i e l is = range_turn places i l ∙ ap (λ o. option_or o (left_to_find (drop (i + 1) places))) is
-
-  pub range_other : (places : List ℕ) (i : ℕ) → i < length places → range_at R s (get_or places i 0) ≡ None → left_to_find (drop i places) ≡ left_to_find (drop (i + 1) places)
-  range_other places i l is = range_turn places i l ∙ ap (λ o. option_or o (left_to_find (drop (i + 1) places))) is
-
-  pub ranges_end : (places : List ℕ) (i : ℕ) → length places ≤ i → left_to_find (drop i places) ≡ None
-  ranges_end places i l = ap left_to_find (drop_all i places l)
-
--- the places of the ranges so far
-module _ (R : List EntryParts) (kind : Kind) (places : List ℕ) (i : ℕ) (e : EntryParts) (l : i < length R) (is : e ≡ get_or R i e) (so_far : filter_map (slice_get R) places ≡ filter (is_range_of kind) (take i R)) where
-  taken : filter (is_range_of kind) (take (i + 1) R) ≡ filter (is_range_of kind) (take i R) ++ filter (is_range_of kind) (e ∷ [])
-  taken = ap (filter (is_range_of kind)) (take_turn R i e l is) ∙ filter-append (is_range_of kind) (take i R) (e ∷ [])
-
-  pub range_added : is_range_of kind e ≡ true → filter_map (slice_get R) (places ++ i ∷ []) ≡ filter (is_range_of kind) (take (i + 1) R)
-  range_added h =
-      filter_map-append (slice_get R) places (i ∷ [])
-      ∙ rw (so_far, slice_get_read R (length R) i e refl l is) (sym (taken ∙ rw h refl))
-
-  pub range_passed : is_range_of kind e ≡ false → filter_map (slice_get R) places ≡ filter (is_range_of kind) (take (i + 1) R)
-  range_passed h = so_far ∙ sym (taken ∙ rw h (append-nil (filter (is_range_of kind) (take i R))))
 
 -- no subtag has an entry as a whole record
 

@@ -1,11 +1,11 @@
 -- Subtags of one number are the same.
-use Rattle.std.proofs.Common.{◌≡◌, ℕ, zero, suc, ◌-◌, ◌<◌, ◌≤◌, true, false, ◌||◌, eqb, List, [], ◌∷◌, ◌++◌, length, length-append, replicate, get_or, refl, sym, ap, ◌∙◌, arith, inl, inr}
+use Rattle.std.proofs.Common.{◌≡◌, ℕ, zero, suc, ◌+◌, ◌-◌, ◌*◌, ◌^◌, ◌<◌, ◌≤◌, true, false, ◌||◌, cond, eqb, ltb, leb, List, [], ◌∷◌, ◌++◌, length, length-append, replicate, get_or, refl, sym, ap, ◌∙◌, arith, inl, inr}
 use Rattle.std.specs.Prelude.{bytes_eq}
-use Rattle.std.specs.Int.{to_be_bytes, w64}
-use Rattle.std.specs.List.{list_all}
+use Rattle.std.specs.Int.{to_be_bytes, from_be_bytes, w64}
+use Rattle.std.specs.List.{list_all, AllByRecursion}
 use Rattle.std.specs.Char.{is_ascii_lowercase, is_ascii_digit}
 use Rattle.std.specs.Cmp.Lexicographic.{same_text}
-use Rattle.std.proofs.lemmas.Bool.{and_parts, cases_Bool, eqb-true}
+use Rattle.std.proofs.lemmas.Bool.{and_parts, cases_Bool, cases_eq, cases_lt, eqb-true, eq-eqb, ne_eqb, lt-ltb, le-ltb, le-leb, lt-leb}
 use Rattle.std.proofs.lemmas.Bool.Decides.{nat_tests}
 use Rattle.std.proofs.lemmas.Cmp.{nat_list_eq_equiv}
 use Rattle.std.proofs.lemmas.List.{length-replicate}
@@ -15,8 +15,8 @@ use Rattle.lt_subtag.specs.Shapes.{is_variant}
 use Rattle.lt_subtag.proofs.BytesLemmas.{subtag_length}
 use Rattle.lt_tag.proofs.Apart.{extlang_is, script_is, region_is}
 use Rattle.lt_tag.proofs.ShapeLemmas.{all_weaker, language_long}
-use Rattle.lt_registry.specs.Entries.{has_form}
-use Rattle.lt_registry.specs.Sorted.{filled, number}
+use Rattle.lt_registry.specs.Entries.{has_form, letters_le}
+use Rattle.lt_registry.specs.Sorted.{filled, number, rank}
 use Rattle.lt_registry.specs.declared.entries.Kind.{Kind}
 use Rattle.lt_registry.specs.declared.entries.Kind.TheVariants as kinds
 
@@ -121,3 +121,109 @@ filled_by_index (a ∷ b ∷ c ∷ d ∷ e ∷ f ∷ []) l = refl
 filled_by_index (a ∷ b ∷ c ∷ d ∷ e ∷ f ∷ g ∷ []) l = refl
 filled_by_index (a ∷ b ∷ c ∷ d ∷ e ∷ f ∷ g ∷ h ∷ []) l = refl
 filled_by_index (a ∷ b ∷ c ∷ d ∷ e ∷ f ∷ g ∷ h ∷ i ∷ s) l = absurd (omega (arith, l))
+
+-- numbers of subtags of one length stand in their order
+
+abbrev through : ℕ → List ℕ → ℕ
+through v [] = v
+through v (b ∷ bs) = through (v * 256 + b) bs
+
+abbrev AreBytes : List ℕ → Type 0
+AreBytes bs = AllByRecursion (λ (b : ℕ). b < 256) bs
+
+zero_bytes : (n : ℕ) → AreBytes (replicate n 0)
+zero_bytes zero = tt
+zero_bytes (suc n) = (omega arith, zero_bytes n)
+
+filled_bytes : (s : List ℕ) (n : ℕ) → list_all is_subtag_byte s ≡ true → AreBytes (s ++ replicate n 0)
+filled_bytes [] n h = zero_bytes n
+filled_bytes (b ∷ s) n h = let both = and_parts (is_subtag_byte b) (list_all is_subtag_byte s) h in ((byte_bounds b both.0).1, filled_bytes s n both.1)
+
+through_below : (u v : ℕ) (s t : List ℕ) → u < v → length s ≡ length t → AreBytes s → through u s < through v t
+through_below u v [] [] low one are = low
+through_below u v [] (y ∷ t) low one are = absurd (omega (arith, one))
+through_below u v (x ∷ s) [] low one are = absurd (omega (arith, one))
+through_below u v (x ∷ s) (y ∷ t) low one are = through_below (u * 256 + x) (v * 256 + y) s t (omega (arith, low, are.0)) (omega (arith, one)) are.1
+
+through_ordered : (u : ℕ) (s t : List ℕ) → length s ≡ length t → AreBytes s → AreBytes t → letters_le s t ≡ leb (through u s) (through u t)
+through_ordered u [] [] one are too = sym (le-leb u u (omega arith))
+through_ordered u [] (y ∷ t) one are too = absurd (omega (arith, one))
+through_ordered u (x ∷ s) [] one are too = absurd (omega (arith, one))
+through_ordered u (x ∷ s) (y ∷ t) one are too =
+    let rest : length s ≡ length t = omega (arith, one) in
+    elim (cases_eq x y) [
+      | inl same ↦
+          ap (λ b. cond b (letters_le s t) (ltb x y)) (eq-eqb x y same) ∙ through_ordered (u * 256 + x) s t rest are.1 too.1
+          ∙ ap (λ z. leb (through (u * 256 + x) s) (through (u * 256 + z) t)) same
+      | inr other ↦
+          ap (λ b. cond b (letters_le s t) (ltb x y)) (ne_eqb x y other)
+          ∙ elim (cases_lt x y) [
+            | inl low ↦
+                let below = through_below (u * 256 + x) (u * 256 + y) s t (omega (arith, low)) rest are.1 in
+                lt-ltb x y low ∙ sym (le-leb (through (u * 256 + x) s) (through (u * 256 + y) t) (omega (arith, below)))
+            | inr high ↦
+                let above : y < x = omega (arith, high, other) in
+                le-ltb x y high ∙ sym (lt-leb (through (u * 256 + x) s) (through (u * 256 + y) t) (through_below (u * 256 + y) (u * 256 + x) t s (omega (arith, above)) (sym rest) too.1))
+          ]
+    ]
+
+letters_filled : (s t : List ℕ) (n : ℕ) → length s ≡ length t → letters_le (s ++ replicate n 0) (t ++ replicate n 0) ≡ letters_le s t
+letters_filled [] [] n one = zeros n
+  where
+    zeros : (k : ℕ) → letters_le (replicate k 0) (replicate k 0) ≡ true
+    zeros zero = refl
+    zeros (suc k) = zeros k
+letters_filled [] (y ∷ t) n one = absurd (omega (arith, one))
+letters_filled (x ∷ s) [] n one = absurd (omega (arith, one))
+letters_filled (x ∷ s) (y ∷ t) n one = ap (λ b. cond (eqb x y) b (ltb x y)) (letters_filled s t n (omega (arith, one)))
+
+spread : (bs : List ℕ) → from_be_bytes w64 bs ≡ get_or bs 7 0 + get_or bs 6 0 * 256 + get_or bs 5 0 * 65536 + get_or bs 4 0 * 16777216
+    + get_or bs 3 0 * 4294967296 + get_or bs 2 0 * 1099511627776 + get_or bs 1 0 * 281474976710656 + get_or bs 0 0 * 72057594037927936
+spread bs = omega arith
+
+eight : (bs : List ℕ) → length bs ≡ 8 → from_be_bytes w64 bs ≡ through 0 bs
+eight [] l = absurd (omega arith)
+eight (a ∷ []) l = absurd (omega arith)
+eight (a ∷ b ∷ []) l = absurd (omega arith)
+eight (a ∷ b ∷ c ∷ []) l = absurd (omega arith)
+eight (a ∷ b ∷ c ∷ d ∷ []) l = absurd (omega arith)
+eight (a ∷ b ∷ c ∷ d ∷ e ∷ []) l = absurd (omega arith)
+eight (a ∷ b ∷ c ∷ d ∷ e ∷ f ∷ []) l = absurd (omega arith)
+eight (a ∷ b ∷ c ∷ d ∷ e ∷ f ∷ g ∷ []) l = absurd (omega arith)
+eight (a ∷ b ∷ c ∷ d ∷ e ∷ f ∷ g ∷ h ∷ []) l = spread (a ∷ b ∷ c ∷ d ∷ e ∷ f ∷ g ∷ h ∷ []) ∙ omega arith
+eight (a ∷ b ∷ c ∷ d ∷ e ∷ f ∷ g ∷ h ∷ x ∷ bs) l = absurd (omega arith)
+
+below_all : (bs : List ℕ) → ((i : ℕ) → get_or bs i 0 < 256) → from_be_bytes w64 bs < 2 ^ 64
+below_all bs small = omega (arith, small 0, small 1, small 2, small 3, small 4, small 5, small 6, small 7)
+
+pub number_below : (s : List ℕ) → IsFew s → number s < 2 ^ 64
+unfolding number
+number_below s h = below_all (filled s) (λ i. bytes_below s (8 - length s) i h.bytes)
+
+pub numbers_ordered : (s t : List ℕ) → IsFew s → IsFew t → length s ≡ length t → letters_le s t ≡ leb (number s) (number t)
+unfolding number
+numbers_ordered s t h k one =
+    let n = 8 - length s in
+    let filling : filled t ≡ t ++ replicate n 0 = ap (λ m. t ++ replicate (8 - m) 0) (sym one) in
+    let long : length (filled s) ≡ 8 = filled_length s h.few in
+    let too : length (t ++ replicate n 0) ≡ 8 = sym (ap length filling) ∙ filled_length t k.few in
+    sym (letters_filled s t n one)
+    ∙ through_ordered 0 (filled s) (t ++ replicate n 0) (long ∙ sym too) (filled_bytes s n h.bytes) (filled_bytes t n k.bytes)
+    ∙ ap (leb (through 0 (filled s))) (sym (eight (t ++ replicate n 0) too) ∙ ap (from_be_bytes w64) (sym filling))
+    ∙ ap (λ m. leb m (from_be_bytes w64 (filled t))) (sym (eight (filled s) long))
+
+-- and ranks by the lengths first
+
+pub rank_shorter : (s t : List ℕ) → IsFew s → length s < length t → rank s < rank t
+rank_shorter s t h low = omega (arith, number_below s h, low)
+
+shifted : (k m n : ℕ) → leb (k + m) (k + n) ≡ leb m n
+shifted k m n = grind (arith, nat_tests)
+
+pub ranks_ordered : (s t : List ℕ) → IsFew s → IsFew t → length s ≡ length t → letters_le s t ≡ leb (rank s) (rank t)
+ranks_ordered s t h k one =
+    numbers_ordered s t h k one
+    ∙ sym (ap (λ l. leb (rank s) (l * 2 ^ 64 + number t)) (sym one) ∙ shifted (length s * 2 ^ 64) (number s) (number t))
+
+pub subtag_short : (s : List ℕ) → is_subtag s ≡ true → length s ≤ 8
+subtag_short s h = (subtag_length s h).1

@@ -1,7 +1,7 @@
 -- The indexes beside a list of entries, by which a sorted table finds them.
-use Rattle.std.specs.Prelude.{ℕ, ◌≡◌, ◌≤◌, ◌<◌, ◌-◌, Bool, true, false, if◌then◌else◌, ◌&&◌, List, ◌++◌, length, Option, Some, None, All, filter, replicate}
-use Rattle.std.specs.List.{AllPairs, Any, Contains, slice_get, filter_map}
-use Rattle.std.specs.Option.{option_map, option_and_then, option_cmp}
+use Rattle.std.specs.Prelude.{ℕ, ◌≡◌, ◌≤◌, ◌<◌, ◌-◌, ◌+◌, ◌*◌, ◌^◌, nat_le, nat_lt, Bool, true, false, if◌then◌else◌, ◌&&◌, List, [], ◌∷◌, ◌++◌, length, Option, Some, None, All, find, replicate}
+use Rattle.std.specs.List.{AllByRecursion, AllPairs, Any, Contains, slice_get, cons_option}
+use Rattle.std.specs.Option.{option_map, option_and_then, option_or, option_cmp}
 use Rattle.std.specs.Ordering.{nat_cmp, ordering_then}
 use Rattle.std.specs.Int.{from_be_bytes, w64}
 use Rattle.std.specs.declared.cmp.Ordering.{Ordering}
@@ -10,13 +10,14 @@ use Rattle.lt_tag.specs.Parts.{CoreParts, TagForm}
 use Rattle.lt_tag.specs.Values.{core_of}
 use Rattle.lt_registry.specs.Parts.{EntryParts}
 use Rattle.lt_registry.specs.Same.{same_kind}
-use Rattle.lt_registry.specs.Entries.{holds}
 use Rattle.lt_registry.specs.TagOrder.{tag_cmp}
 use Rattle.lt_registry.specs.declared.entries.Kind.{Kind}
 use Rattle.lt_registry.specs.declared.entries.Kind.TheVariants as kinds
 use Rattle.lt_registry.specs.declared.entries.EntryName.{EntryName}
 use Rattle.lt_registry.specs.declared.entries.EntryName.TheVariants as names
 use Rattle.lt_registry.specs.declared.rows.Row.{Row}
+use Rattle.lt_registry.specs.declared.rows.RangeRow.{RangeRow}
+use Rattle.lt_registry.specs.declared.rows.Stretch.{Stretch}
 use Rattle.lt_registry.specs.declared.kind_index.KindIndex.{KindIndex}
 use Rattle.lt_registry.specs.declared.indexes.Indexes.{Indexes}
 
@@ -28,6 +29,10 @@ filled s = s ++ replicate (8 - length s) 0
 unfoldable pub number : List ℕ → ℕ
 number s = from_be_bytes w64 (filled s)
 
+-- the length, and behind it the number, so that subtags of one length stand together, in their order
+abbrev pub rank : List ℕ → ℕ
+rank s = length s * 2 ^ 64 + number s
+
 -- the number of the subtag that a name gives alone
 abbrev pub single_number : EntryName → Option ℕ
 single_number (names.Single s) = Some (number s)
@@ -37,17 +42,52 @@ single_number _ = None
 abbrev pub single_row : Kind → ℕ → EntryParts → Option Row
 single_row kind place e = if same_kind e.kind kind then option_map (λ n. record { number = n; place = place }) (single_number e.name) else None
 
-abbrev pub is_range : EntryName → Bool
-is_range (names.Range a b) = true
-is_range _ = false
+-- the rank of a range's first, and the one behind that of its last
+abbrev pub ends : EntryName → Option (ℕ × ℕ)
+ends (names.Range a b) = Some (rank a, rank b + 1)
+ends _ = None
 
--- a range of the kind
-abbrev pub is_range_of : Kind → EntryParts → Bool
-is_range_of kind e = same_kind e.kind kind && is_range e.name
+-- the row of an entry at a place, if it is a range of the kind
+abbrev pub range_row : Kind → ℕ → EntryParts → Option RangeRow
+range_row kind place e = if same_kind e.kind kind then option_map (λ (n : ℕ × ℕ). record { start = n.0; end = n.1; place = place }) (ends e.name) else None
 
--- the record at a place, if it is a range that holds a subtag
-abbrev pub range_at : List EntryParts → List ℕ → ℕ → Option EntryParts
-range_at R s place = option_and_then (λ (e : EntryParts). if holds s e.name then Some e else None) (slice_get R place)
+-- the rows of the ranges of a kind, in the order of the file, where the entries stand from a place on
+abbrev pub range_rows : Kind → ℕ → List EntryParts → List RangeRow
+range_rows kind place [] = []
+range_rows kind place (e ∷ es) = cons_option (range_row kind place e) (range_rows kind (place + 1) es)
+
+abbrev pub is_within : ℕ → RangeRow → Bool
+is_within rank row = nat_le row.start rank && nat_lt rank row.end
+
+-- the place of the first range that a rank is within
+abbrev pub first_within : List RangeRow → ℕ → Option ℕ
+first_within rows rank = option_map (λ (row : RangeRow). row.place) (find (is_within rank) rows)
+
+-- what the stretch of a rank says, and before the first stretch something else
+abbrev pub place_in : Option ℕ → List Stretch → ℕ → Option ℕ
+place_in before [] rank = before
+place_in before (s ∷ ss) rank = if nat_le s.start rank then place_in s.place ss rank else before
+
+-- no stretch starts before those in front of it
+abbrev pub StartsRise : List Stretch → Type 0
+StartsRise [] = Unit {0}
+StartsRise (s ∷ ss) = AllByRecursion (λ (t : Stretch). s.start ≤ t.start) ss × StartsRise ss
+
+-- the stretches of ranges
+pub record AreStretches (rows : List RangeRow) (stretches : List Stretch) : Type 0 where
+  pub rising : StartsRise stretches
+  pub places : (rank : ℕ) → place_in None stretches rank ≡ first_within rows rank
+
+-- the stretches of ranges that stand before others, from those of each
+pub record AreMerged (earlier later stretches : List Stretch) : Type 0 where
+  pub rising : StartsRise stretches
+  pub places : (rank : ℕ) → place_in None stretches rank ≡ option_or (place_in None earlier rank) (place_in None later rank)
+
+-- the first starts, and no later than the other
+abbrev pub starts_first : List Stretch → List Stretch → Bool
+starts_first [] ts = false
+starts_first (s ∷ ss) [] = true
+starts_first (s ∷ ss) (t ∷ ts) = nat_le s.start t.start
 
 -- the tag that a record names
 abbrev pub tag_in : EntryName → Option TagForm
@@ -101,10 +141,6 @@ pub record IsIndex {W K : Type 0} (row : ℕ → EntryParts → Option W) (place
 abbrev pub IsSingles : List EntryParts → Kind → List Row → Type 0
 IsSingles R kind rows = IsIndex (single_row kind) (λ (w : Row). w.place) (λ (w : Row). w.number) nat_cmp R rows
 
--- the places of the ranges of a kind, in the order of the file
-abbrev pub IsRanges : List EntryParts → Kind → List ℕ → Type 0
-IsRanges R kind places = filter_map (slice_get R) places ≡ filter (is_range_of kind) R
-
 -- the whole records, sorted by their languages and tags; of equal tags the first alone
 abbrev pub IsWholes : List EntryParts → List Row → Type 0
 IsWholes R rows = IsIndex whole_row (λ (w : Row). w.place) (whole_key R) key_cmp R rows
@@ -112,7 +148,7 @@ IsWholes R rows = IsIndex whole_row (λ (w : Row). w.place) (whole_key R) key_cm
 -- an index of the records of its kind
 pub record IsKindIndex (R : List EntryParts) (index : KindIndex) : Type 0 where
   pub singles : IsSingles R index.kind index.singles.items
-  pub ranges : IsRanges R index.kind index.ranges.items
+  pub ranges : AreStretches (range_rows index.kind 0 R) index.ranges.items
 
 -- the indexes of the kinds that are named by subtags, and of the whole records
 pub record AreIndexes (R : List EntryParts) (indexes : Indexes) : Type 0 where

@@ -11,21 +11,22 @@ ghost use Rattle.lt_registry.specs.Sorted as sorted;
 
 use crate::entries::{Entry, EntryName, Kind};
 use crate::indexes::entry_at;
-use crate::names::holds;
-use crate::rows::Row;
+use crate::names::is_alphabetic;
+use crate::ranges::{place_in, range_rows, stretches};
+use crate::rows::{Row, Stretch};
 use crate::same::same_kind;
-use crate::subtag_numbers::number_of;
+use crate::subtag_numbers::{number_of, rank_of};
 use lt_subtag::Subtag;
 use std::alloc::{AllocError, Global};
 
 /// The records of one kind: the single ones sorted by subtag, of equal names the first alone, and
-/// the places of the ranges in the order of the file.
+/// the stretches of the ranges.
 #[derive(Debug, Drop)]
 pub(crate) struct KindIndex {
     kind: Kind,
     singles: Vec<Row>,
     spans: Vec<Span>,
-    ranges: Vec<usize>,
+    ranges: Vec<Stretch>,
 }
 
 /// Where single records whose subtags begin alike were seen among the sorted ones: from a first
@@ -58,7 +59,8 @@ impl KindIndex {
     {
         let singles = singles(alloc, entries, kind)?;
         let spans = spans(alloc, &singles)?;
-        let ranges = ranges(alloc, entries, kind)?;
+        let rows = range_rows(alloc, entries, kind)?;
+        let ranges = stretches(alloc, &rows)?;
         Ok(KindIndex {
             kind,
             singles,
@@ -106,27 +108,15 @@ impl KindIndex {
 
     /// The first range of the kind that holds a subtag.
     fn range<'a>(&self, entries: &'a [Entry], subtag: &Subtag) -> Option<&'a Entry>
-        requires { sorted.IsKindIndex entries.now self.now }
+        requires index { sorted.IsKindIndex entries.now self.now }
+        requires forms { All IsEntry entries.now }
         ensures { option_copied result ≡ find (λ (e : EntryParts). same.same_kind e.kind self.now.kind && forms.holds subtag.now e.name) entries.now }
     {
-        for place in self.ranges.as_slice() {
-            if let Some(entry) = range_at(entries, *place, subtag) {
-                return Some(entry);
-            }
+        if !is_alphabetic(subtag) {
+            return None;
         }
-        None
-    }
-}
-
-/// The record at a place, if it is a range that holds a subtag.
-fn range_at<'a>(entries: &'a [Entry], place: usize, subtag: &Subtag) -> Option<&'a Entry>
-    ensures { option_copied result ≡ sorted.range_at entries.now subtag.now place }
-{
-    let entry = entry_at(entries, place)?;
-    if holds(entry.name(), subtag) {
-        Some(entry)
-    } else {
-        None
+        let place = place_in(&self.ranges, rank_of(subtag))?;
+        entry_at(entries, place)
     }
 }
 
@@ -194,27 +184,5 @@ fn single_row(entry: &Entry, kind: Kind, place: usize) -> Option<Row>
             place,
         }),
         _ => None,
-    }
-}
-
-/// The places of the ranges of a kind in the order of the file.
-fn ranges(alloc: Global, entries: &[Entry], kind: Kind) -> Result<Vec<usize>, AllocError>
-    ensures { IfOk result (λ places. sorted.IsRanges entries.now kind places.items) }
-{
-    let mut places = Vec::new(alloc);
-    for (place, entry) in entries.iter().enumerate() {
-        if is_range_of(entry, kind) {
-            places.push(place)?;
-        }
-    }
-    Ok(places)
-}
-
-fn is_range_of(entry: &Entry, kind: Kind) -> bool
-    ensures { result ≡ sorted.is_range_of kind entry.now }
-{
-    match entry.name() {
-        EntryName::Range(_, _) => same_kind(entry.kind(), kind),
-        _ => false,
     }
 }

@@ -11,6 +11,7 @@ pub mod laws;
 mod list_table;
 mod lookup;
 mod names;
+mod ranges;
 mod records;
 mod registry;
 mod rows;

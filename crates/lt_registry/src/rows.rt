@@ -7,3 +7,19 @@ pub(crate) struct Row {
     pub(crate) number: u64,
     pub(crate) place: usize,
 }
+
+/// A range of subtags, by the rank of its first and the one behind that of its last, and the place of its record among the
+/// entries.
+#[derive(Clone, Copy, Debug)]
+pub(crate) struct RangeRow {
+    pub(crate) start: u128,
+    pub(crate) end: u128,
+    pub(crate) place: usize,
+}
+
+/// The ranks from a start up to that of the next stretch, and the place of the first range that they are within.
+#[derive(Clone, Copy, Debug)]
+pub(crate) struct Stretch {
+    pub(crate) start: u128,
+    pub(crate) place: Option<usize>,
+}

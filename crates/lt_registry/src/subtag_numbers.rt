@@ -1,9 +1,12 @@
 //! Subtags as numbers, which are compared at once.
-ghost use Rattle.std.specs.Prelude.{◌≡◌, ◌≤◌, true, length, slice_index_or};
+ghost use Rattle.std.specs.Prelude.{◌≡◌, ◌≤◌, ◌<◌, ◌^◌, true, length, slice_index_or};
 ghost use Rattle.lt_subtag.specs.Bytes.{is_subtag};
 ghost use Rattle.lt_registry.specs.Sorted as sorted;
 
 use lt_subtag::Subtag;
+
+/// How many numbers there are.
+const NUMBERS: u128 = 1 << 64;
 
 /// The bytes of a subtag, filled up with zeros, as one number. Numbers stand in the order of subtags.
 #[tactic(auto, unfolding(crate::specs::Sorted::number))]
@@ -12,6 +15,17 @@ pub(crate) fn number_of(subtag: &Subtag) -> u64
     ensures subtag { is_subtag subtag.now ≡ true }
 {
     u64::from_be_bytes(filled(subtag.bytes()))
+}
+
+/// The rank of a subtag: its length, and behind it its number. So subtags of one length stand together, in their order.
+#[tactic(auto, using(crate::proofs::SubtagNumbers::subtag_short))]
+pub(crate) fn rank_of(subtag: &Subtag) -> u128
+    ensures value { result ≡ sorted.rank subtag.now }
+    ensures small { result < 2 ^ 68 }
+    ensures subtag { is_subtag subtag.now ≡ true }
+{
+    let length = subtag.bytes().len() as u128;
+    length * NUMBERS + number_of(subtag) as u128
 }
 
 /// The byte at an index, and zero behind the last.
