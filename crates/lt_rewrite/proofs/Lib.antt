@@ -57,3 +57,4 @@ pub mod Inversions
 pub mod FirstParts
 pub mod ValidExtensions
 pub mod TransformFirst
+pub mod ShortWalks

@@ -21,6 +21,7 @@ pub mod ordering_laws;
 mod part_applying;
 mod part_explaining;
 mod part_ordering;
+mod shortcuts;
 mod steps;
 mod transform_explaining;
 mod unicode_explaining;
@@ -35,6 +36,7 @@ pub use extension_settling::{settle_t, settle_u};
 pub use extensions_explaining::explain_extensions;
 pub use extensions_settling::settle_extensions;
 pub use field_applying::core_length;
+pub use shortcuts::Shortcuts;
 pub use steps::{Step, StepKind};
 
 #[cfg(test)]
