@@ -1,16 +1,19 @@
 //! Shortcuts along the chains of values of a table's records (RFC 5646, 3.1.7).
-ghost use Rattle.std.specs.Prelude.{◌≡◌, ◌≢◌, true, Some, ℕ, List, IfSome, IfOk, OnErr, Contains};
+ghost use Rattle.std.specs.Prelude.{◌≡◌, ◌≢◌, true, Some, ℕ, List, All, IfSome, IfOk, OnErr, Contains};
 ghost use Rattle.std.specs.List.{slice_get};
 ghost use Rattle.lt_registry.specs.Parts.{EntryParts};
 ghost use Rattle.lt_registry.specs.Entries.{NumbersRise, has_form};
-ghost use Rattle.lt_rewrite.specs.CoreSteps.{Ends, EndsIn};
+ghost use Rattle.lt_rewrite.specs.CoreSteps.{values_of, Ends, EndsIn, IsCoreNormalForm};
 ghost use Rattle.lt_rewrite.specs.Conditions as conditions;
+ghost use Rattle.lt_rewrite.specs.Conditions.{HasEndingChain};
 ghost use Rattle.lt_rewrite.specs.ChainEnds.{ChainEnds, ChainEndsIn, following};
 ghost use Rattle.lt_rewrite.specs.Shortcuts.{IsOnChain, LeadsTo, IsShortcut, AreShortcuts};
 
 use crate::chain_ends::{Cycle, end_of_chain, following, replacement};
+use crate::core_settling::settle_along;
 use lt_registry::{Entry, Kind, Lookup};
 use lt_subtag::Subtag;
+use lt_tag::Core;
 use std::alloc::{AllocError, Global};
 use std::marker::Model;
 
@@ -38,7 +41,7 @@ impl Shortcuts {
         ensures { IfOk result (AreShortcuts (L.listed table.now)) }
     {
         let mut places = first_places(alloc, table)?;
-        for _round in 0..64 {
+        for _round in 0..usize::BITS {
             if !lengthen(&mut places) {
                 break;
             }
@@ -99,6 +102,16 @@ impl Shortcuts {
             Kind::Extlang => self.end_of_chain(table, Kind::Language, &replacement(table, subtag)),
             _ => self.end_of_chain(table, kind, subtag),
         }
+    }
+
+    /// Puts a core into its core normal form as [`settle_core`](crate::settle_core) does, by the
+    /// shortcuts of the table. The chains of the registry end.
+    pub fn settle_core<L: Lookup>(&self, table: &L, core: &mut Core)
+        requires chains { All (HasEndingChain (L.listed table.now)) (L.listed table.now) }
+        requires shortcuts { AreShortcuts (L.listed table.now) self.now }
+        ensures { IsCoreNormalForm (values_of (L.listed table.now)) core.old core.new }
+    {
+        settle_along(table, Some(self), core);
     }
 }
 
