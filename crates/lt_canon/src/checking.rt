@@ -1,5 +1,6 @@
 //! The check of a registry, condition by condition.
 ghost use Rattle.std.specs.Prelude.{◌≡◌, ◌↔◌, true, Contains, IsTrue, IfOk};
+ghost use Rattle.lt_rewrite.specs.Shortcuts.{AreShortcuts};
 ghost use Rattle.lt_canon.specs.Conditions.{Meets, rank_of};
 ghost use Rattle.lt_canon.specs.WholeChecks.{MeetsBelow};
 ghost use Rattle.lt_canon.specs.Checking.{is_by_record, IsLowestFault, IsVerdict};
@@ -14,7 +15,7 @@ use crate::record_checks::{
 use crate::rejections::Finding;
 use crate::whole_checks::{has_agreeing_whole, has_resting_whole, has_valid_whole};
 use lt_registry::{Entry, Lookup};
-use lt_rewrite::first_cycle_in;
+use lt_rewrite::{Shortcuts, first_cycle_in};
 use lt_tag::OutOfMemory;
 use std::alloc::Global;
 
@@ -38,9 +39,11 @@ const IN_ORDER: [Condition; 12] = [
 fn meets<L: Lookup>(
     alloc: Global,
     table: &L,
+    shortcuts: &Shortcuts,
     condition: Condition,
     entry: &Entry,
 ) -> Result<bool, OutOfMemory>
+    requires shortcuts { AreShortcuts (L.listed table.now) shortcuts.now }
     requires by_record { is_by_record condition ≡ true }
     requires lower { MeetsBelow (rank_of condition) (L.listed table.now) }
     requires listed { Contains (L.listed table.now) entry.now }
@@ -48,13 +51,13 @@ fn meets<L: Lookup>(
 {
     match condition {
         Condition::RegisteredValue => Ok(has_registered_value(table, entry)),
-        Condition::FittingExtlang => Ok(fits_as_extlang(table, entry)),
+        Condition::FittingExtlang => Ok(fits_as_extlang(table, shortcuts, entry)),
         Condition::FittingVariantValue => Ok(has_fitting_variant_value(table, entry)),
         Condition::FinalPrefixes => Ok(stands_beside_final_languages(table, entry)),
         Condition::LangtagPrefixes => Ok(has_langtag_prefixes(entry)),
         Condition::ValidWhole => Ok(has_valid_whole(alloc, table, entry)),
-        Condition::RestingWhole => has_resting_whole(alloc, table, entry),
-        Condition::AgreeingWhole => has_agreeing_whole(alloc, table, entry),
+        Condition::RestingWhole => has_resting_whole(alloc, table, shortcuts, entry),
+        Condition::AgreeingWhole => has_agreeing_whole(alloc, table, shortcuts, entry),
         Condition::NoRangeValue => Ok(has_no_range_value(entry)),
         _ => unreachable!(),
     }
@@ -65,14 +68,16 @@ fn meets<L: Lookup>(
 fn first_failing<L: Lookup>(
     alloc: Global,
     table: &L,
+    shortcuts: &Shortcuts,
     condition: Condition,
 ) -> Result<Option<u32>, OutOfMemory>
+    requires shortcuts { AreShortcuts (L.listed table.now) shortcuts.now }
     requires by_record { is_by_record condition ≡ true }
     requires lower { MeetsBelow (rank_of condition) (L.listed table.now) }
     ensures { IfOk result (IsLowestFault (L.listed table.now) condition) }
 {
     for entry in table.entries() {
-        if !meets(alloc, table, condition, entry)? {
+        if !meets(alloc, table, shortcuts, condition, entry)? {
             return Ok(Some(entry.number()));
         }
     }
@@ -97,16 +102,18 @@ fn first_misfit<L: Lookup>(table: &L) -> Option<u32>
 fn lowest_fault<L: Lookup>(
     alloc: Global,
     table: &L,
+    shortcuts: &Shortcuts,
     condition: Condition,
 ) -> Result<Option<u32>, OutOfMemory>
-    requires { MeetsBelow (rank_of condition) (L.listed table.now) }
+    requires shortcuts { AreShortcuts (L.listed table.now) shortcuts.now }
+    requires lower { MeetsBelow (rank_of condition) (L.listed table.now) }
     ensures { IfOk result (IsLowestFault (L.listed table.now) condition) }
 {
     match condition {
         Condition::OwnName => first_taken_name(alloc, table),
         Condition::EndingChain => first_cycle_in(alloc, table),
         Condition::FittingGrandfathered => Ok(first_misfit(table)),
-        _ => first_failing(alloc, table, condition),
+        _ => first_failing(alloc, table, shortcuts, condition),
     }
 }
 
@@ -118,8 +125,9 @@ pub(crate) fn find_fault<L: Lookup>(
 ) -> Result<Option<Finding>, OutOfMemory>
     ensures { IfOk result (IsVerdict (L.listed table.now)) }
 {
+    let shortcuts = Shortcuts::of_table(alloc, table)?;
     for condition in IN_ORDER {
-        if let Some(number) = lowest_fault(alloc, table, condition)? {
+        if let Some(number) = lowest_fault(alloc, table, &shortcuts, condition)? {
             return Ok(Some(Finding { condition, number }));
         }
     }

@@ -7,11 +7,12 @@ ghost use Rattle.lt_registry.specs.Parts.{EntryParts};
 ghost use Rattle.lt_registry.specs.Entries.{one_of, language_value};
 ghost use Rattle.lt_registry.specs.Entries as entries;
 ghost use Rattle.lt_rewrite.specs.Conditions.{HasRegisteredValue, FitsAsExtlang, HasFittingVariantValue, StandsBesideFinalLanguages, HasLangtagPrefixes, HasNoRangeValue};
+ghost use Rattle.lt_rewrite.specs.Shortcuts.{AreShortcuts};
 ghost use Rattle.lt_canon.specs.RecordChecks.{EndAlike};
 ghost use Rattle.lt_canon.specs.RecordChecks as checks;
 
 use lt_registry::{Entry, EntryName, EntryValue, Kind, Lookup, Prefix};
-use lt_rewrite::chain_end;
+use lt_rewrite::Shortcuts;
 use lt_subtag::Subtag;
 use lt_tag::is_plain_langtag;
 
@@ -73,13 +74,14 @@ fn is_final_prefix<L: Lookup>(table: &L, prefix: &Prefix) -> bool
 }
 
 /// Whether the chains of two languages come to one end.
-fn end_alike<L: Lookup>(table: &L, left: &Subtag, right: &Subtag) -> bool
+fn end_alike<L: Lookup>(table: &L, shortcuts: &Shortcuts, left: &Subtag, right: &Subtag) -> bool
+    requires { AreShortcuts (L.listed table.now) shortcuts.now }
     ensures { IsTrue result ↔ EndAlike (L.listed table.now) left.now right.now }
 {
-    let Ok(end) = chain_end(table, Kind::Language, left) else {
+    let Ok(end) = shortcuts.chain_end(table, Kind::Language, left) else {
         return false;
     };
-    match chain_end(table, Kind::Language, right) {
+    match shortcuts.chain_end(table, Kind::Language, right) {
         Ok(other) => end == other,
         Err(_) => false,
     }
@@ -100,7 +102,8 @@ pub(crate) fn has_registered_value<L: Lookup>(table: &L, entry: &Entry) -> bool
 
 /// Whether an extlang is one subtag with one Prefix of one subtag, a language without a value; and
 /// itself and its replacement are languages whose chains end alike.
-pub(crate) fn fits_as_extlang<L: Lookup>(table: &L, entry: &Entry) -> bool
+pub(crate) fn fits_as_extlang<L: Lookup>(table: &L, shortcuts: &Shortcuts, entry: &Entry) -> bool
+    requires { AreShortcuts (L.listed table.now) shortcuts.now }
     ensures { IsTrue result ↔ FitsAsExtlang (L.listed table.now) entry.now }
 {
     if entry.kind() != Kind::Extlang {
@@ -116,7 +119,7 @@ pub(crate) fn fits_as_extlang<L: Lookup>(table: &L, entry: &Entry) -> bool
     is_final_prefix(table, prefix)
         && is_registered(table, Kind::Language, subtag)
         && is_registered(table, Kind::Language, replacement)
-        && end_alike(table, subtag, replacement)
+        && end_alike(table, shortcuts, subtag, replacement)
 }
 
 /// Whether the value of a variant is a registered language of 2 or 3 letters, or a registered variant

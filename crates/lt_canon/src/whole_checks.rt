@@ -10,13 +10,14 @@ ghost use Rattle.lt_registry.specs.Validity.{IsProperCore};
 ghost use Rattle.lt_registry.specs.declared.entries.EntryName.TheVariants as names;
 ghost use Rattle.lt_rewrite.specs.Conditions.{IsRegistry};
 ghost use Rattle.lt_rewrite.specs.CoreSteps.{values_of, IsCoreNormalForm};
+ghost use Rattle.lt_rewrite.specs.Shortcuts.{AreShortcuts};
 ghost use Rattle.lt_canon.specs.Conditions.{plain, OfWhole, IsValidPlain, Meets};
 ghost use Rattle.lt_canon.specs.WholeChecks.{MeetsBelow, ComesToRest, ComeTogether};
 ghost use Rattle.lt_canon.specs.declared.conditions.Condition.TheVariants as conditions;
 
 use crate::cores::{are_distinct, same_core};
 use lt_registry::{Entry, EntryName, EntryValue, Kind, Lookup, validate};
-use lt_rewrite::settle_core;
+use lt_rewrite::Shortcuts;
 use lt_tag::{Core, OutOfMemory, Tag};
 use std::alloc::Global;
 
@@ -78,14 +79,20 @@ pub(crate) fn know_entries<L: Lookup>(table: &L)
 }
 
 /// The core normal form of a proper core. It spells no grandfathered tag.
-fn settled<L: Lookup>(alloc: Global, table: &L, core: &Core) -> Result<Core, OutOfMemory>
+fn settled<L: Lookup>(
+    alloc: Global,
+    table: &L,
+    shortcuts: &Shortcuts,
+    core: &Core,
+) -> Result<Core, OutOfMemory>
+    requires shortcuts { AreShortcuts (L.listed table.now) shortcuts.now }
     requires lower { MeetsBelow 10 (L.listed table.now) }
     requires proper { IsProperCore (L.listed table.now) core.now }
     ensures normal { IfOk result (λ form. IsCoreNormalForm (values_of (L.listed table.now)) core.now form) }
     ensures spelled { IfOk result (λ form. IsNotGrandfathered (spell_core form)) }
 {
     let mut form = core.copy(alloc)?;
-    settle_core(table, &mut form);
+    shortcuts.settle_core(table, &mut form);
     // So that its shape is known.
     let _ = form.language();
     Ok(form)
@@ -120,13 +127,19 @@ fn plain_value_of<L: Lookup>(alloc: Global, table: &L, core: Core) -> Option<&Co
 }
 
 /// Whether the core normal form of a proper core repeats no variant and has no value.
-fn comes_to_rest<L: Lookup>(alloc: Global, table: &L, core: &Core) -> Result<bool, OutOfMemory>
+fn comes_to_rest<L: Lookup>(
+    alloc: Global,
+    table: &L,
+    shortcuts: &Shortcuts,
+    core: &Core,
+) -> Result<bool, OutOfMemory>
+    requires shortcuts { AreShortcuts (L.listed table.now) shortcuts.now }
     requires lower { MeetsBelow 10 (L.listed table.now) }
     requires proper { IsProperCore (L.listed table.now) core.now }
     ensures { IfOk result (λ rests. IsTrue rests ↔ ComesToRest (L.listed table.now) core.now) }
 {
     know_entries(table);
-    let form = settled(alloc, table, core)?;
+    let form = settled(alloc, table, shortcuts, core)?;
     if !are_distinct(form.variants()) {
         return Ok(false);
     }
@@ -138,8 +151,10 @@ fn comes_to_rest<L: Lookup>(alloc: Global, table: &L, core: &Core) -> Result<boo
 pub(crate) fn has_resting_whole<L: Lookup>(
     alloc: Global,
     table: &L,
+    shortcuts: &Shortcuts,
     entry: &Entry,
 ) -> Result<bool, OutOfMemory>
+    requires shortcuts { AreShortcuts (L.listed table.now) shortcuts.now }
     requires lower { MeetsBelow 10 (L.listed table.now) }
     requires listed { Contains (L.listed table.now) entry.now }
     ensures { IfOk result (λ meets. IsTrue meets ↔ Meets conditions.RestingWhole (L.listed table.now) entry.now) }
@@ -148,7 +163,7 @@ pub(crate) fn has_resting_whole<L: Lookup>(
         return Ok(true);
     };
     match plain_core(value) {
-        Some(core) => comes_to_rest(alloc, table, core),
+        Some(core) => comes_to_rest(alloc, table, shortcuts, core),
         None => Ok(true),
     }
 }
@@ -158,24 +173,26 @@ pub(crate) fn has_resting_whole<L: Lookup>(
 fn come_together<L: Lookup>(
     alloc: Global,
     table: &L,
+    shortcuts: &Shortcuts,
     first: &Core,
     second: &Core,
 ) -> Result<bool, OutOfMemory>
+    requires shortcuts { AreShortcuts (L.listed table.now) shortcuts.now }
     requires lower { MeetsBelow 10 (L.listed table.now) }
     requires first { IsProperCore (L.listed table.now) first.now }
     requires second { IsProperCore (L.listed table.now) second.now }
     ensures { IfOk result (λ together. IsTrue together ↔ ComeTogether (L.listed table.now) first.now second.now) }
 {
-    let form = settled(alloc, table, first)?;
+    let form = settled(alloc, table, shortcuts, first)?;
     if same_core(&form, first) {
         return Ok(true);
     }
-    let end = settled(alloc, table, second)?;
+    let end = settled(alloc, table, shortcuts, second)?;
     if same_core(&form, &end) {
         return Ok(true);
     }
     match plain_value_of(alloc, table, form) {
-        Some(next) => Ok(same_core(&settled(alloc, table, next)?, &end)),
+        Some(next) => Ok(same_core(&settled(alloc, table, shortcuts, next)?, &end)),
         None => Ok(false),
     }
 }
@@ -186,8 +203,10 @@ fn come_together<L: Lookup>(
 pub(crate) fn has_agreeing_whole<L: Lookup>(
     alloc: Global,
     table: &L,
+    shortcuts: &Shortcuts,
     entry: &Entry,
 ) -> Result<bool, OutOfMemory>
+    requires shortcuts { AreShortcuts (L.listed table.now) shortcuts.now }
     requires lower { MeetsBelow 10 (L.listed table.now) }
     requires listed { Contains (L.listed table.now) entry.now }
     ensures { IfOk result (λ meets. IsTrue meets ↔ Meets conditions.AgreeingWhole (L.listed table.now) entry.now) }
@@ -197,7 +216,7 @@ pub(crate) fn has_agreeing_whole<L: Lookup>(
         return Ok(true);
     };
     match (plain_core(tag), plain_core(value)) {
-        (Some(first), Some(second)) => come_together(alloc, table, first, second),
+        (Some(first), Some(second)) => come_together(alloc, table, shortcuts, first, second),
         _ => Ok(true),
     }
 }

@@ -37,7 +37,7 @@ pub walk_cycles : (R : List EntryParts) (k : Kind) (s d t : List ℕ) → d ≡ 
 walk_cycles R k s d t e h ends =
     let a : next_value R k d ≡ None = ap (next_value R k) e ∙ chain_ends_within R k s ends in cc
 
-next_form : (R : List EntryParts) → IsRegistry R → (k : Kind) (s t : List ℕ) → next_value R k s ≡ Some t → has_form k t ≡ true
+pub next_form : (R : List EntryParts) → IsRegistry R → (k : Kind) (s t : List ℕ) → next_value R k s ≡ Some t → has_form k t ≡ true
 next_form R G kinds.Language s t e = value_form R G kinds.Language s t e
 next_form R G kinds.Extlang s t e = cc
 next_form R G kinds.Script s t e = value_form R G kinds.Script s t e

@@ -58,3 +58,4 @@ pub mod Inversions
 pub mod FirstParts
 pub mod ValidExtensions
 pub mod TransformFirst
+pub mod ShortWalks

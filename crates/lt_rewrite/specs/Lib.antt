@@ -17,3 +17,4 @@ pub mod Cycles
 pub mod ApplyFaults
 pub mod Runs
 pub mod ExtensionsExplaining
+pub mod Shortcuts

@@ -1,67 +1,96 @@
 //! The core normal form (RFC 5646, 4.5).
-ghost use Rattle.std.specs.Prelude.{◌≡◌, ◌<◌, ℕ, true, Some, None, [], ◌∷◌, List, All, IfSome, length, MatchOption};
+ghost use Rattle.std.specs.Prelude.{◌≡◌, ◌<◌, ℕ, true, Some, None, [], ◌∷◌, List, All, IfSome, IfOk, OnErr, length, MatchOption};
 ghost use Rattle.std.specs.Option.{option_copied};
 ghost use Rattle.lt_subtag.specs.Shapes.{is_language};
 ghost use Rattle.lt_registry.specs.Same.{same_list};
 ghost use Rattle.lt_registry.specs.Entries.{has_form, lists};
 ghost use Rattle.lt_rewrite.specs.Rewriting.{Star};
-ghost use Rattle.lt_rewrite.specs.CoreSteps.{values_of, CoreStep, IsCoreNormalForm, EndsIn};
+ghost use Rattle.lt_rewrite.specs.CoreSteps.{values_of, CoreStep, IsCoreNormalForm, Ends, EndsIn};
 ghost use Rattle.lt_rewrite.specs.Conditions as conditions;
 ghost use Rattle.lt_rewrite.specs.Conditions.{HasEndingChain};
+ghost use Rattle.lt_rewrite.specs.Shortcuts.{AreShortcuts};
 ghost use Rattle.lt_rewrite.specs.CoreSettling.{IsFirstTurn, HasNoTurn, HasFinalLanguage, HasFinalScript, HasFinalRegion, HasFinalVariants};
 
-use crate::chain_ends::{end_of_chain, is_short, one_value, replacement};
+use crate::chain_ends::{Cycle, end_of_chain, is_short, one_value, replacement};
+use crate::shortcuts::Shortcuts;
 use lt_registry::{Kind, Lookup, Prefix};
 use lt_subtag::Subtag;
 use lt_tag::Core;
 
+/// Where the chain of a kind ends, by shortcuts if there are some.
+fn end_by<L: Lookup>(
+    table: &L,
+    shortcuts: Option<&Shortcuts>,
+    kind: Kind,
+    subtag: &Subtag,
+) -> Result<Subtag, Cycle>
+    requires { IfSome shortcuts (λ s. AreShortcuts (L.listed table.now) s.now) }
+    ensures end { IfOk result (λ end. EndsIn (conditions.next_value (L.listed table.now) kind) subtag.now end) }
+    ensures form { IfOk result (λ end. has_form kind subtag.now ≡ true → has_form kind end ≡ true) }
+    ensures cycle { OnErr result (Ends (conditions.next_value (L.listed table.now) kind) subtag.now → ⊥) }
+{
+    match shortcuts {
+        Some(shortcuts) => shortcuts.end_of_chain(table, kind, subtag),
+        None => end_of_chain(table, kind, subtag),
+    }
+}
+
 /// The end of a chain, in a registry whose chains end.
-fn certain_end<L: Lookup>(table: &L, kind: Kind, subtag: &Subtag) -> Subtag
-    requires { All (HasEndingChain (L.listed table.now)) (L.listed table.now) }
+fn certain_end<L: Lookup>(
+    table: &L,
+    shortcuts: Option<&Shortcuts>,
+    kind: Kind,
+    subtag: &Subtag,
+) -> Subtag
+    requires chains { All (HasEndingChain (L.listed table.now)) (L.listed table.now) }
+    requires shortcuts { IfSome shortcuts (λ s. AreShortcuts (L.listed table.now) s.now) }
     ensures end { EndsIn (conditions.next_value (L.listed table.now) kind) subtag.now result }
     ensures form { has_form kind subtag.now ≡ true → has_form kind result ≡ true }
 {
-    match end_of_chain(table, kind, subtag) {
+    match end_by(table, shortcuts, kind, subtag) {
         Ok(end) => end,
         Err(_) => unreachable!(),
     }
 }
 
 /// Replaces the script by the end of its chain.
-fn settle_script<L: Lookup>(table: &L, core: &mut Core)
-    requires { All (HasEndingChain (L.listed table.now)) (L.listed table.now) }
+fn settle_script<L: Lookup>(table: &L, shortcuts: Option<&Shortcuts>, core: &mut Core)
+    requires chains { All (HasEndingChain (L.listed table.now)) (L.listed table.now) }
+    requires shortcuts { IfSome shortcuts (λ s. AreShortcuts (L.listed table.now) s.now) }
     ensures reached { Star (CoreStep (values_of (L.listed table.now))) core.old core.new }
     ensures at_rest { HasFinalScript (values_of (L.listed table.now)) core.new }
     ensures others { core.new ≡ record core.old { script = core.new.script } }
 {
     if let Some(script) = core.script() {
-        let end = certain_end(table, Kind::Script, script);
+        let end = certain_end(table, shortcuts, Kind::Script, script);
         core.set_script(end);
     }
 }
 
 /// Replaces the region by the end of its chain.
-fn settle_region<L: Lookup>(table: &L, core: &mut Core)
-    requires { All (HasEndingChain (L.listed table.now)) (L.listed table.now) }
+fn settle_region<L: Lookup>(table: &L, shortcuts: Option<&Shortcuts>, core: &mut Core)
+    requires chains { All (HasEndingChain (L.listed table.now)) (L.listed table.now) }
+    requires shortcuts { IfSome shortcuts (λ s. AreShortcuts (L.listed table.now) s.now) }
     ensures reached { Star (CoreStep (values_of (L.listed table.now))) core.old core.new }
     ensures at_rest { HasFinalRegion (values_of (L.listed table.now)) core.new }
     ensures others { core.new ≡ record core.old { region = core.new.region } }
 {
     if let Some(region) = core.region() {
-        let end = certain_end(table, Kind::Region, region);
+        let end = certain_end(table, shortcuts, Kind::Region, region);
         core.set_region(end);
     }
 }
 
 /// Replaces each variant by the end of its chain of variants.
-fn settle_variants<L: Lookup>(table: &L, core: &mut Core)
-    requires { All (HasEndingChain (L.listed table.now)) (L.listed table.now) }
+fn settle_variants<L: Lookup>(table: &L, shortcuts: Option<&Shortcuts>, core: &mut Core)
+    requires chains { All (HasEndingChain (L.listed table.now)) (L.listed table.now) }
+    requires shortcuts { IfSome shortcuts (λ s. AreShortcuts (L.listed table.now) s.now) }
     ensures reached { Star (CoreStep (values_of (L.listed table.now))) core.old core.new }
     ensures at_rest { HasFinalVariants (values_of (L.listed table.now)) core.new }
     ensures others { core.new ≡ record core.old { variants = core.new.variants } }
 {
     for index in 0..core.variants().len() {
-        let end = certain_end(table, Kind::Variant, &core.variants()[index]);
+        let end = certain_end(table, shortcuts, Kind::Variant, &core.variants()[index]);
         core.set_variant(index, end);
     }
 }
@@ -80,14 +109,15 @@ fn settle_extlang<L: Lookup>(table: &L, core: &mut Core)
 }
 
 /// Replaces a language without extlangs by the end of its chain.
-fn settle_language<L: Lookup>(table: &L, core: &mut Core)
+fn settle_language<L: Lookup>(table: &L, shortcuts: Option<&Shortcuts>, core: &mut Core)
     requires chains { All (HasEndingChain (L.listed table.now)) (L.listed table.now) }
+    requires shortcuts { IfSome shortcuts (λ s. AreShortcuts (L.listed table.now) s.now) }
     requires alone { core.old.extlangs ≡ [] }
     ensures reached { Star (CoreStep (values_of (L.listed table.now))) core.old core.new }
     ensures at_rest { HasFinalLanguage (values_of (L.listed table.now)) core.new }
     ensures others { core.new ≡ record core.old { language = core.new.language } }
 {
-    let end = certain_end(table, Kind::Language, core.language());
+    let end = certain_end(table, shortcuts, Kind::Language, core.language());
     core.set_language(end);
 }
 
@@ -141,8 +171,9 @@ pub(crate) fn first_turn<L: Lookup>(table: &L, core: &Core) -> Option<(usize, Su
 
 /// Replaces a language without extlangs by the end of its chain; and as long as a variant turns
 /// beside it, the leftmost becomes the language, whose chain is followed again.
-fn settle_turns<L: Lookup>(table: &L, core: &mut Core)
+fn settle_turns<L: Lookup>(table: &L, shortcuts: Option<&Shortcuts>, core: &mut Core)
     requires chains { All (HasEndingChain (L.listed table.now)) (L.listed table.now) }
+    requires shortcuts { IfSome shortcuts (λ s. AreShortcuts (L.listed table.now) s.now) }
     requires alone { core.old.extlangs ≡ [] }
     requires variants { HasFinalVariants (values_of (L.listed table.now)) core.old }
     ensures reached { Star (CoreStep (values_of (L.listed table.now))) core.old core.new }
@@ -151,11 +182,26 @@ fn settle_turns<L: Lookup>(table: &L, core: &mut Core)
     ensures variants { HasFinalVariants (values_of (L.listed table.now)) core.new }
     ensures others { core.new ≡ record core.old { language = core.new.language; variants = core.new.variants } }
 {
-    settle_language(table, core);
+    settle_language(table, shortcuts, core);
     while let Some((index, language)) = first_turn(table, core) {
         core.remove_variant(index);
         core.set_language(language);
-        settle_language(table, core);
+        settle_language(table, shortcuts, core);
+    }
+}
+
+/// Puts a core into its core normal form, by shortcuts along the chains if there are some.
+pub(crate) fn settle_along<L: Lookup>(table: &L, shortcuts: Option<&Shortcuts>, core: &mut Core)
+    requires chains { All (HasEndingChain (L.listed table.now)) (L.listed table.now) }
+    requires shortcuts { IfSome shortcuts (λ s. AreShortcuts (L.listed table.now) s.now) }
+    ensures { IsCoreNormalForm (values_of (L.listed table.now)) core.old core.new }
+{
+    settle_script(table, shortcuts, core);
+    settle_region(table, shortcuts, core);
+    settle_variants(table, shortcuts, core);
+    settle_extlang(table, core);
+    if core.extlangs().is_empty() {
+        settle_turns(table, shortcuts, core);
     }
 }
 
@@ -171,11 +217,5 @@ pub fn settle_core<L: Lookup>(table: &L, core: &mut Core)
     requires { All (HasEndingChain (L.listed table.now)) (L.listed table.now) }
     ensures { IsCoreNormalForm (values_of (L.listed table.now)) core.old core.new }
 {
-    settle_script(table, core);
-    settle_region(table, core);
-    settle_variants(table, core);
-    settle_extlang(table, core);
-    if core.extlangs().is_empty() {
-        settle_turns(table, core);
-    }
+    settle_along(table, None, core);
 }

@@ -22,6 +22,7 @@ pub mod ordering_laws;
 mod part_applying;
 mod part_explaining;
 mod part_ordering;
+mod shortcuts;
 mod steps;
 mod transform_explaining;
 mod unicode_explaining;
@@ -37,6 +38,7 @@ pub use extensions_explaining::explain_extensions;
 pub use extensions_settling::settle_extensions;
 pub use field_applying::core_length;
 pub use marked_chains::first_cycle_in;
+pub use shortcuts::Shortcuts;
 pub use steps::{Step, StepKind};
 
 #[cfg(test)]

@@ -2,6 +2,7 @@ mod applying;
 mod core_explaining;
 mod extensions_explaining;
 mod sample;
+mod shortcuts;
 
 ghost use Rattle.std.specs.Prelude.{◌≡◌, IfOk};
 

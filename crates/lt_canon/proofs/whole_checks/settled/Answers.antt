@@ -3,8 +3,8 @@ use Rattle.lt_registry.specs.Validity.{IsProperCore}
 use Rattle.lt_canon.proofs.WholeRecords.{core_below, form_spells_none}
 use Rattle.lt_canon.proofs.whole_checks.settled.Goals as goal
 
-pub settle_core-requires : goal.settle_core-requires
-settle_core-requires g c = (core_below (g.L.Lookup.listed c.args.table.now) c.requires.lower).chains
+pub settle_core-requires-clause-chains : goal.settle_core-requires-clause-chains
+settle_core-requires-clause-chains g c = (core_below (g.L.Lookup.listed c.args.table.now) c.requires.lower).chains
 
 pub returns-clause-spelled : goal.returns-clause-spelled
 returns-clause-spelled g c =

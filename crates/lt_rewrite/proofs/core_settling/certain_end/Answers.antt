@@ -3,4 +3,4 @@ use Rattle.lt_rewrite.proofs.core_settling.certain_end.Goals as goal
 
 pub unreachable-requires : goal.unreachable-requires
 unreachable-requires g c =
-    c.in-Err.ensures.cycle (chains_end (g.L.Lookup.listed c.args.table.now) c.requires c.args.kind c.args.subtag.now)
+    c.in-Err.ensures.cycle (chains_end (g.L.Lookup.listed c.args.table.now) c.requires.chains c.args.kind c.args.subtag.now)

@@ -1,7 +1,7 @@
 use Rattle.std.proofs.Common.{◌≡◌, false, eqb, length, sym, ◌∙◌}
 use Rattle.lt_rewrite.specs.CoreSteps.{values_of}
 use Rattle.lt_rewrite.proofs.CoreSettled.{is_some, Settlings, rests_with_extlangs, rests_after_turns}
-use Rattle.lt_rewrite.proofs.core_settling.settle_core.Goals as goal
+use Rattle.lt_rewrite.proofs.core_settling.settle_along.Goals as goal
 
 pub returns-then-is_empty : goal.returns-then-is_empty
 returns-then-is_empty g c =
