@@ -119,6 +119,15 @@ def wholes_of_a_chain(count):
     return chain(range(count - 2 * third - 1)) + heads + tags
 
 
+def turns_of_a_chain(count):
+    """A chain of languages, and redundant tags whose values all have a variant that turns into its first."""
+    third = count // 3
+    heads = [record("language", name(n, 6)) for n in range(third)] + [record("region", "AA")]
+    heads += [record("language", "de"), record("language", "aa", name(0, 5)), record("variant", "rozaj", "aa", ["de"])]
+    tags = [record("redundant", name(n, 6) + "-AA", "de-rozaj") for n in range(third)]
+    return chain(range(count - 2 * third - 4)) + heads + tags
+
+
 def whole_chain(count):
     """Redundant tags, each the value of the one before it."""
     half = count // 2
@@ -187,6 +196,7 @@ REGISTRIES = {
     "one-language": one_language,
     "whole-chain": whole_chain,
     "wholes-of-a-chain": wholes_of_a_chain,
+    "turns-of-a-chain": turns_of_a_chain,
     "grandfathered": grandfathered,
     "extlangs": extlangs,
     "extlangs-of-a-chain": extlangs_of_a_chain,
