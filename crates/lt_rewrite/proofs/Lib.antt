@@ -1,5 +1,6 @@
 pub mod Stars
 pub mod NormalForms
+pub mod Numbers
 pub mod Sorting
 pub mod PartLists
 pub mod PartSteps

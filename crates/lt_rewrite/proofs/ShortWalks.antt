@@ -1,89 +1,67 @@
 -- Walks along a chain of values that pass over a part of it.
-use Rattle.std.proofs.Common.{◌≡◌, ℕ, zero, suc, ◌<◌, true, List, [], ◌∷◌, ◌++◌, Option, Some, None, refl, sym, ap, ◌∙◌, subst, length, set, slice_get, get_or, Contains, IfSome, Result, Ok, Err, IfOk, OnErr, Bor, arith}
-use Rattle.std.specs.List.{AllByRecursion}
+use Rattle.std.proofs.Common.{◌≡◌, ℕ, zero, suc, ◌+◌, ◌-◌, ◌<◌, ◌≤◌, true, false, List, [], ◌∷◌, ◌++◌, Option, Some, None, refl, sym, ap, ◌∙◌, subst, length, set, slice_get, get_or, Contains, Bor, is_some, arith}
 use Rattle.std.specs.Option.{option_copied}
-use Rattle.std.proofs.lemmas.Option.{slice_get-get_or}
+use Rattle.std.proofs.lemmas.List.{length-set}
+use Rattle.std.proofs.lemmas.Option.{slice_get_within, slice_get_read}
 use Rattle.lt_registry.specs.Parts.{EntryParts}
-use Rattle.lt_registry.specs.Entries.{NumbersRise, entry, has_form}
+use Rattle.lt_registry.specs.Entries.{entry, has_form}
 use Rattle.lt_registry.specs.declared.entries.Kind.{Kind}
 use Rattle.lt_rewrite.specs.CoreSteps.{chase, Ends, EndsIn}
 use Rattle.lt_rewrite.specs.Conditions.{next_value, IsRegistry}
 use Rattle.lt_rewrite.specs.ChainEnds.{following}
-use Rattle.lt_rewrite.specs.Shortcuts.{IsOnChain, LeadsTo, IsShortcut, AreShortcuts}
-use Rattle.lt_rewrite.specs.declared.chain_ends.Cycle.{Cycle}
+use Rattle.lt_rewrite.specs.Shortcuts.{IsOnward, LeadsTo, IsShortcut, LeadOn, AreShortcuts}
 use Rattle.lt_rewrite.proofs.Chains.{chase_rests, chase_next, chase_keeps}
+use Rattle.lt_rewrite.proofs.ChainLength.{chain_ends_within}
 use Rattle.lt_rewrite.proofs.ChainWalks.{next_form}
 use Rattle.lt_rewrite.proofs.CycleWalks.{next_by}
 use Rattle.lt_rewrite.proofs.Entries.{entry_has, entry_of}
 
 -- one part of a chain after another
 
-chase_on_at : (f : List ℕ → Option (List ℕ)) (n m : ℕ) (s : List ℕ) → ((t : List ℕ) → IsOnChain f t (chase f m (chase f n t))) → (o : Option (List ℕ)) → f s ≡ o → IsOnChain f s (chase f m (chase f (suc n) s))
-chase_on_at f n m s ih None e = (0, sym (ap (chase f m) (chase_rests f (suc n) s e) ∙ chase_rests f m s e))
-chase_on_at f n m s ih (Some t) e = let r = ih t in (suc r.0, chase_next f r.0 s t e ∙ r.1 ∙ ap (chase f m) (sym (chase_next f n s t e)))
+chase_plus_at : (f : List ℕ → Option (List ℕ)) (n m : ℕ) (s : List ℕ) → ((t : List ℕ) → chase f (n + m) t ≡ chase f m (chase f n t)) → (o : Option (List ℕ)) → f s ≡ o → chase f (suc (n + m)) s ≡ chase f m (chase f (suc n) s)
+chase_plus_at f n m s ih None e = chase_rests f (suc (n + m)) s e ∙ sym (ap (chase f m) (chase_rests f (suc n) s e) ∙ chase_rests f m s e)
+chase_plus_at f n m s ih (Some t) e = chase_next f (n + m) s t e ∙ ih t ∙ ap (chase f m) (sym (chase_next f n s t e))
 
-chase_on : (f : List ℕ → Option (List ℕ)) (n m : ℕ) (s : List ℕ) → IsOnChain f s (chase f m (chase f n s))
-chase_on f zero m s = (m, refl)
-chase_on f (suc n) m s = chase_on_at f n m s (chase_on f n m) (f s) refl
+chase_plus : (f : List ℕ → Option (List ℕ)) (n m : ℕ) (s : List ℕ) → chase f (n + m) s ≡ chase f m (chase f n s)
+chase_plus f zero m s = let none : 0 + m ≡ m = omega arith in ap (λ k. chase f k s) none
+chase_plus f (suc n) m s =
+    let one : suc n + m ≡ suc (n + m) = omega arith in
+    ap (λ k. chase f k s) one ∙ chase_plus_at f n m s (chase_plus f n m) (f s) refl
 
-pub on_chain_trans : (f : List ℕ → Option (List ℕ)) (s t u : List ℕ) → IsOnChain f s t → IsOnChain f t u → IsOnChain f s u
-on_chain_trans f s t u a b = let c = chase_on f a.0 b.0 s in (c.0, c.1 ∙ ap (chase f b.0) a.1 ∙ b.1)
+onward_trans : (f : List ℕ → Option (List ℕ)) (n m : ℕ) (s t u : List ℕ) → IsOnward f n s t → IsOnward f m t u → IsOnward f (n + m) s u
+onward_trans f n m s t u a b = (a.0 + b.0, omega (arith, a.1, b.1), chase_plus f a.0 b.0 s ∙ ap (chase f b.0) a.2 ∙ b.2)
 
-pub on_chain_next : (f : List ℕ → Option (List ℕ)) (s t : List ℕ) → f s ≡ Some t → IsOnChain f s t
-on_chain_next f s t e = (1, chase_next f 0 s t e)
+onward_less : (f : List ℕ → Option (List ℕ)) (n m : ℕ) (s t : List ℕ) → m ≤ n → IsOnward f n s t → IsOnward f m s t
+onward_less f n m s t le a = (a.0, omega (arith, le, a.1), a.2)
 
--- the chain from a subtag ends where that from one further on it does
-pub ends_further : (f : List ℕ → Option (List ℕ)) (s t d : List ℕ) → IsOnChain f s t → EndsIn f t d → EndsIn f s d
-ends_further f s t d a e = let b = on_chain_trans f s t d a (e.0, e.1) in (b.0, b.1, e.2)
+onward_next : (f : List ℕ → Option (List ℕ)) (s t : List ℕ) → f s ≡ Some t → IsOnward f 1 s t
+onward_next f s t e = (1, omega arith, chase_next f 0 s t e)
 
-rests_at : (f : List ℕ → Option (List ℕ)) (n : ℕ) (s : List ℕ) → ((t : List ℕ) → Ends f t → Ends f (chase f n t)) → (o : Option (List ℕ)) → f s ≡ o → (k : ℕ) → f (chase f k s) ≡ None → Ends f (chase f (suc n) s)
-rests_at f n s ih None e k h = (0, ap f (chase_rests f (suc n) s e) ∙ e)
-rests_at f n s ih (Some t) e zero h = cc
-rests_at f n s ih (Some t) e (suc k) h = subst (Ends f) (sym (chase_next f n s t e)) (ih t (k, ap f (sym (chase_next f k s t e)) ∙ h))
+-- where no value follows, a subtag is the end of its chain
+pub onward_rest : (f : List ℕ → Option (List ℕ)) (n : ℕ) (s : List ℕ) → f s ≡ None → IsOnward f n s s
+onward_rest f n s e = (n, omega arith, chase_rests f n s e)
 
-ends_on : (f : List ℕ → Option (List ℕ)) (n : ℕ) (s : List ℕ) → Ends f s → Ends f (chase f n s)
-ends_on f zero s h = h
-ends_on f (suc n) s h = rests_at f n s (ends_on f n) (f s) refl h.0 h.1
+-- the chain ends there if no value follows
+pub onward_end : (f : List ℕ → Option (List ℕ)) (n : ℕ) (s t : List ℕ) → IsOnward f n s t → f t ≡ None → EndsIn f s t
+onward_end f n s t a e = (a.0, a.2, e)
 
--- a chain that ends does so from each subtag on it
-pub ends_onward : (f : List ℕ → Option (List ℕ)) (s t : List ℕ) → IsOnChain f s t → Ends f s → Ends f t
-ends_onward f s t a h = subst (Ends f) a.1 (ends_on f a.0 s h)
+-- and never if one follows after as many values as there are records
+pub onward_endless : (R : List EntryParts) (k : Kind) (s t u : List ℕ) → IsOnward (next_value R k) (length R) s t → next_value R k t ≡ Some u → Ends (next_value R k) s → ⊥
+onward_endless R k s t u a e ends =
+    let f : List ℕ → Option (List ℕ) = next_value R k in
+    let rest : ℕ = a.0 - length R in
+    let all : a.0 ≡ length R + rest = omega (arith, a.1) in
+    let done : f (chase f (length R) s) ≡ None = chain_ends_within R k s ends in
+    let same : t ≡ chase f (length R) s = sym a.2 ∙ ap (λ n. chase f n s) all ∙ chase_plus f (length R) rest s ∙ chase_rests f rest (chase f (length R) s) done in
+    let none : f t ≡ None = ap f same ∙ done in
+    cc
 
--- and has the form of the first
-pub form_onward : (R : List EntryParts) → IsRegistry R → (k : Kind) (s t : List ℕ) → IsOnChain (next_value R k) s t → has_form k s ≡ true → has_form k t ≡ true
-form_onward R G k s t a h =
-    subst (λ x. has_form k x ≡ true) a.1 (chase_keeps (next_value R k) (λ x. has_form k x ≡ true) (λ b c f p. next_form R G k b c f) a.0 s h)
+-- it has the form of the first
+pub onward_form : (R : List EntryParts) → IsRegistry R → (k : Kind) (n : ℕ) (s t : List ℕ) → IsOnward (next_value R k) n s t → has_form k s ≡ true → has_form k t ≡ true
+onward_form R G k n s t a h =
+    subst (λ x. has_form k x ≡ true) a.2 (chase_keeps (next_value R k) (λ x. has_form k x ≡ true) (λ b c f p. next_form R G k b c f) a.0 s h)
 
--- the place of an entry
-
-above_at : (P : EntryParts → Type 0) (R : List EntryParts) (i : ℕ) (e : EntryParts) → AllByRecursion P R → slice_get R i ≡ Some e → P e
-above_at P [] i e h g = cc
-above_at P (x ∷ xs) zero e h g = let same : x ≡ e = cc in subst P same h.0
-above_at P (x ∷ xs) (suc i) e h g = above_at P xs i e h.1 g
-
-one_place : (R : List EntryParts) → NumbersRise R → (i k : ℕ) (e f : EntryParts) → slice_get R i ≡ Some e → slice_get R k ≡ Some f → e.number ≡ f.number → e ≡ f
-one_place [] rise i k e f g h n = cc
-one_place (x ∷ xs) rise zero zero e f g h n = cc
-one_place (x ∷ xs) rise zero (suc k) e f g h n =
-    let below : x.number < f.number = above_at (λ (y : EntryParts). x.number < y.number) xs k f rise.0 h in
-    let same : x ≡ e = cc in
-    let its : x.number ≡ e.number = ap (λ (y : EntryParts). y.number) same in
-    absurd (omega (arith, below, its, n))
-one_place (x ∷ xs) rise (suc i) zero e f g h n =
-    let below : x.number < e.number = above_at (λ (y : EntryParts). x.number < y.number) xs i e rise.0 g in
-    let same : x ≡ f = cc in
-    let its : x.number ≡ f.number = ap (λ (y : EntryParts). y.number) same in
-    absurd (omega (arith, below, its, n))
-one_place (x ∷ xs) rise (suc i) (suc k) e f g h n = one_place xs rise.1 i k e f g h n
-
--- an entry stands where one of its number does
-pub numbered_there : (R : List EntryParts) → NumbersRise R → (i : ℕ) (e f : EntryParts) → slice_get R i ≡ Some e → Contains R f → e.number ≡ f.number → slice_get R i ≡ Some f
-numbered_there R rise i e f g c n =
-    let at : slice_get R c.0 ≡ Some f = slice_get-get_or R c.0 f c.1 ∙ ap some c.2 in
-    g ∙ ap some (one_place R rise i c.0 e f g at n)
-  where
-    some : EntryParts → Option EntryParts
-    some x = Some x
+-- the entries of a registry
 
 all_contained : (R : List EntryParts) (k : ℕ) (d : EntryParts) → k < length R → Contains R (get_or R k d)
 all_contained [] k d h = absurd (omega (arith, h))
@@ -102,82 +80,149 @@ each_added P [] j h p (suc i) k e = cc
 each_added P (x ∷ xs) j h p zero k e = h zero k e
 each_added P (x ∷ xs) j h p (suc i) k e = each_added (λ n. P (suc n)) xs j (λ n. h (suc n)) p i k e
 
-pub each_set : (P : ℕ → ℕ → Type 0) (xs : List ℕ) (n j : ℕ) → ((i k : ℕ) → slice_get xs i ≡ Some k → P i k) → P n j → (i k : ℕ) → slice_get (set xs n j) i ≡ Some k → P i k
+pub each_set : (P : ℕ → ℕ → Type 0) (xs : List ℕ) (n j : ℕ) → ((i k : ℕ) → (i ≡ n → ⊥) → slice_get xs i ≡ Some k → P i k) → P n j → (i k : ℕ) → slice_get (set xs n j) i ≡ Some k → P i k
 each_set P [] n j h p i k e = cc
 each_set P (x ∷ xs) zero j h p zero k e = let same : j ≡ k = cc in subst (P 0) same p
-each_set P (x ∷ xs) zero j h p (suc i) k e = h (suc i) k e
-each_set P (x ∷ xs) (suc n) j h p zero k e = h zero k e
-each_set P (x ∷ xs) (suc n) j h p (suc i) k e = each_set (λ m. P (suc m)) xs n j (λ m. h (suc m)) p i k e
+each_set P (x ∷ xs) zero j h p (suc i) k e = h (suc i) k (λ z. omega (arith, z)) e
+each_set P (x ∷ xs) (suc n) j h p zero k e = h zero k (λ z. omega (arith, z)) e
+each_set P (x ∷ xs) (suc n) j h p (suc i) k e = each_set (λ m. P (suc m)) xs n j (λ m l other. h (suc m) l (λ z. other (omega (arith, z)))) p i k e
 
--- an entry leads to itself
-pub own_shortcut : (R : List EntryParts) (i : ℕ) → IsShortcut R i i
-own_shortcut R i e v there follows = record { entry = e; there = there; of_kind = refl; value = v; follows = follows; on_chain = (0, refl) }
-
--- one shortcut after another
-pub shortcut_trans : (R : List EntryParts) (i j k : ℕ) → IsShortcut R i j → IsShortcut R j k → IsShortcut R i k
-shortcut_trans R i j k a b e v there follows =
-    let m : LeadsTo R e.kind v j = a e v there follows in
-    let l : LeadsTo R m.entry.kind m.value k = b m.entry m.value m.there m.follows in
-    let on : IsOnChain (next_value R e.kind) m.value l.value = subst (λ (d : Kind). IsOnChain (next_value R d) m.value l.value) m.of_kind l.on_chain in
+shortcut_less : (R : List EntryParts) (n m i j : ℕ) → m ≤ n → IsShortcut R n i j → IsShortcut R m i j
+shortcut_less R n m i j le a e v there follows =
+    let l : LeadsTo R e.kind n v j = a e v there follows in
     record {
       entry = l.entry;
       there = l.there;
-      of_kind = l.of_kind ∙ m.of_kind;
+      of_kind = l.of_kind;
       value = l.value;
       follows = l.follows;
-      on_chain = on_chain_trans (next_value R e.kind) v m.value l.value m.on_chain on;
+      onward = onward_less (next_value R e.kind) n m v l.value le l.onward;
     }
 
--- a shortcut may lead on to where the next leads
-pub lengthened : (R : List EntryParts) (places : List ℕ) (i j k : ℕ) → AreShortcuts R places → slice_get places i ≡ Some j → slice_get places j ≡ Some k → AreShortcuts R (set places i k)
-lengthened R places i j k each a b = each_set (IsShortcut R) places i k each (shortcut_trans R i j k (each i j a) (each j k b))
+-- one shortcut after another
+shortcut_trans : (R : List EntryParts) (n m i j k : ℕ) → IsShortcut R n i j → IsShortcut R m j k → IsShortcut R (n + m) i k
+shortcut_trans R n m i j k a b e v there follows =
+    let w : LeadsTo R e.kind n v j = a e v there follows in
+    let l : LeadsTo R w.entry.kind m w.value k = b w.entry w.value w.there w.follows in
+    let on : IsOnward (next_value R e.kind) m w.value l.value = subst (λ (d : Kind). IsOnward (next_value R d) m w.value l.value) w.of_kind l.onward in
+    record {
+      entry = l.entry;
+      there = l.there;
+      of_kind = l.of_kind ∙ w.of_kind;
+      value = l.value;
+      follows = l.follows;
+      onward = onward_trans (next_value R e.kind) n m v w.value l.value w.onward on;
+    }
+
+-- shortcuts that lead further lead on as far as is asked
+pub lead_less : (R : List EntryParts) (n m : ℕ) (places : List ℕ) → m ≤ n → LeadOn R n places → LeadOn R m places
+lead_less R n m places le h = record {
+  one_each = h.one_each;
+  within = h.within;
+  shortcut = λ i j at. shortcut_less R n m i j le (h.shortcut i j at);
+}
+
+-- shortcuts of which those below an index are twice as long
+pub record PartDoubled (R : List EntryParts) (n index : ℕ) (places : List ℕ) : Type 0 where
+  pub all : LeadOn R n places
+  pub doubled : (i j : ℕ) → i < index → slice_get places i ≡ Some j → IsShortcut R (n + n) i j
+
+pub none_doubled : (R : List EntryParts) (n : ℕ) (places : List ℕ) → LeadOn R n places → PartDoubled R n 0 places
+none_doubled R n places h = record { all = h; doubled = λ i j below at. absurd (omega (arith, below)) }
+
+pub all_doubled : (R : List EntryParts) (n index : ℕ) (places : List ℕ) → index ≡ length places → PartDoubled R n index places → LeadOn R (n + n) places
+all_doubled R n index places is h = record {
+  one_each = h.all.one_each;
+  within = h.all.within;
+  shortcut = λ i j at. h.doubled i j (omega (arith, is, slice_get_within places i j at)) at;
+}
+
+-- one more leads on from where it led
+pub one_doubled : (R : List EntryParts) (n index j k : ℕ) (places : List ℕ) → slice_get places index ≡ Some j → slice_get places j ≡ Some k → PartDoubled R n index places → PartDoubled R n (index + 1) (set places index k)
+one_doubled R n index j k places at next h =
+    let twice : IsShortcut R (n + n) index k = shortcut_trans R n n index j k (h.all.shortcut index j at) (h.all.shortcut j k next) in
+    record {
+      all = record {
+        one_each = length-set places index k ∙ h.all.one_each;
+        within = each_set (λ i l. l < length R) places index k (λ i l other. h.all.within i l) (h.all.within j k next);
+        shortcut = each_set (IsShortcut R n) places index k (λ i l other. h.all.shortcut i l) (shortcut_less R (n + n) n index k (omega arith) twice);
+      };
+      doubled = λ i l below there.
+          each_set (λ i l. i < index + 1 → IsShortcut R (n + n) i l) places index k (λ i l other there less. h.doubled i l (omega (arith, less, other)) there) (λ less. twice) i l there below;
+    }
 
 -- the value that follows the entry of a subtag is the next on the chain
-pub follows_entry : (R : List EntryParts) (k : Kind) (s v : List ℕ) (e : EntryParts) → entry R k s ≡ Some e → following k e ≡ Some v → IsOnChain (next_value R k) s v
-follows_entry R k s v e found follows = on_chain_next (next_value R k) s v (next_by R k s (Some e) (sym found) ∙ follows)
+pub entry_next : (R : List EntryParts) (k : Kind) (s : List ℕ) (e : EntryParts) → entry R k s ≡ Some e → next_value R k s ≡ following k e
+entry_next R k s e found = next_by R k s (Some e) (sym found)
 
--- an entry leads to the entry of the value that follows it
-pub leads_next : (R : List EntryParts) (k : Kind) (v w : List ℕ) (e : EntryParts) (place : ℕ) → entry R k v ≡ Some e → following e.kind e ≡ Some w → slice_get R place ≡ Some e → LeadsTo R k v place
-leads_next R k v w e place found follows there =
-    let kind : e.kind ≡ k = (entry_of R k v e found).of_kind in
-    record {
-      entry = e;
+-- the shortcut of the entry at a place
+shortcut_of : (R : List EntryParts) (i j : ℕ) (e : EntryParts) (w : List ℕ) → slice_get R i ≡ Some e → following e.kind e ≡ Some w → LeadsTo R e.kind 1 w j → IsShortcut R 1 i j
+shortcut_of R i j e w at next leads f v there follows =
+    let same : e ≡ f = cc in
+    let own : following f.kind f ≡ Some w = subst (λ (x : EntryParts). following x.kind x ≡ Some w) same next in
+    let value : w ≡ v = cc in
+    subst (λ x. LeadsTo R f.kind 1 x j) value (subst (λ (x : EntryParts). LeadsTo R x.kind 1 w j) same leads)
+
+-- it leads to the entry of the value that follows
+pub to_next : (R : List EntryParts) (i j : ℕ) (e next : EntryParts) (w u : List ℕ) → slice_get R i ≡ Some e → following e.kind e ≡ Some w → entry R e.kind w ≡ Some next → following next.kind next ≡ Some u → slice_get R j ≡ Some next → IsShortcut R 1 i j
+to_next R i j e next w u at follows found then there =
+    let kind : next.kind ≡ e.kind = (entry_of R e.kind w next found).of_kind in
+    shortcut_of R i j e w at follows
+    (record {
+      entry = next;
       there = there;
       of_kind = kind;
-      value = w;
-      follows = follows;
-      on_chain = follows_entry R k v w e found (subst (λ (d : Kind). following d e ≡ Some w) kind follows);
-    }
+      value = u;
+      follows = then;
+      onward = onward_next (next_value R e.kind) w u (entry_next R e.kind w next found ∙ ap (λ (d : Kind). following d next) (sym kind) ∙ then);
+    })
 
--- by the shortcut of its entry a subtag comes further on its chain
-pub passed : (R : List EntryParts) (k : Kind) (s v w : List ℕ) (e last : EntryParts) (i j : ℕ) → entry R k s ≡ Some e → following k e ≡ Some v → slice_get R i ≡ Some e → IsShortcut R i j → slice_get R j ≡ Some last → following k last ≡ Some w → IsOnChain (next_value R k) s w
-passed R k s v w e last i j found follows at short there gives =
+-- or to the entry itself, where that value is the last
+pub to_itself : (R : List EntryParts) (i : ℕ) (e : EntryParts) (w : List ℕ) → slice_get R i ≡ Some e → following e.kind e ≡ Some w → next_value R e.kind w ≡ None → IsShortcut R 1 i i
+to_itself R i e w at follows last =
+    shortcut_of R i i e w at follows
+    (record { entry = e; there = at; of_kind = refl; value = w; follows = follows; onward = onward_rest (next_value R e.kind) 1 w last })
+
+-- no value follows that of an entry
+pub none_after : (R : List EntryParts) (k : Kind) (w : List ℕ) (next : EntryParts) → entry R k w ≡ Some next → following next.kind next ≡ None → next_value R k w ≡ None
+none_after R k w next found follows = entry_next R k w next found ∙ ap (λ (d : Kind). following d next) (sym (entry_of R k w next found).of_kind) ∙ follows
+
+-- by the shortcut of its entry a subtag comes as far on its chain
+pub passed : (R : List EntryParts) (k : Kind) (n : ℕ) (s v : List ℕ) (e last : EntryParts) (i j : ℕ) → entry R k s ≡ Some e → following k e ≡ Some v → slice_get R i ≡ Some e → IsShortcut R n i j → slice_get R j ≡ Some last → (w : List ℕ) × (following k last ≡ Some w) × IsOnward (next_value R k) n s w
+passed R k n s v e last i j found follows at short there =
     let kind : e.kind ≡ k = (entry_of R k s e found).of_kind in
-    let l : LeadsTo R e.kind v j = short e v at (subst (λ (d : Kind). following d e ≡ Some v) (sym kind) follows) in
+    let l : LeadsTo R e.kind n v j = short e v at (ap (λ (d : Kind). following d e) kind ∙ follows) in
     let same : l.entry ≡ last = let a = l.there in cc in
-    let its : following k last ≡ Some l.value = subst (λ (x : EntryParts). following k x ≡ Some l.value) same (subst (λ (d : Kind). following d l.entry ≡ Some l.value) (l.of_kind ∙ kind) l.follows) in
-    let value : l.value ≡ w = cc in
-    let on : IsOnChain (next_value R k) v w = subst (IsOnChain (next_value R k) v) value (subst (λ (d : Kind). IsOnChain (next_value R d) v l.value) kind l.on_chain) in
-    on_chain_trans (next_value R k) s v w (follows_entry R k s v e found follows) on
+    let own : following last.kind last ≡ Some l.value = subst (λ (x : EntryParts). following x.kind x ≡ Some l.value) same l.follows in
+    let its : last.kind ≡ k = ap (λ (x : EntryParts). x.kind) (sym same) ∙ l.of_kind ∙ kind in
+    let on : IsOnward (next_value R k) n v l.value = subst (λ (d : Kind). IsOnward (next_value R d) n v l.value) kind l.onward in
+    let next : IsOnward (next_value R k) 1 s v = onward_next (next_value R k) s v (entry_next R k s e found ∙ follows) in (
+      l.value,
+      ap (λ (d : Kind). following d last) (sym its) ∙ own,
+      onward_less (next_value R k) (1 + n) n s l.value (omega arith) (onward_trans (next_value R k) 1 n s v l.value next on),
+    )
 
--- answers
+-- a value that follows
+pub some_follows : (o : Option (Bor (List ℕ))) (r : Option (List ℕ)) → option_copied o ≡ r → is_some o ≡ true → (w : List ℕ) × (r ≡ Some w)
+some_follows None r e h = cc
+some_follows (Some v) r e h = (v.now, sym e)
 
-pub if_found : (P : List ℕ → Type 0) (o : Option (Bor (List ℕ))) (r : Option (List ℕ)) → option_copied o ≡ r → ((w : List ℕ) → r ≡ Some w → P w) → IfSome o (λ v. P v.now)
-if_found P None r e h = tt
-if_found P (Some v) r e h = h v.now (sym e)
+pub none_follows : (o : Option (Bor (List ℕ))) (r : Option (List ℕ)) → option_copied o ≡ r → is_some o ≡ false → r ≡ None
+none_follows None r e h = sym e
+none_follows (Some v) r e h = cc
 
-pub each_found : (P Q : List ℕ → Type 0) (o : Option (Bor (List ℕ))) → ((w : List ℕ) → P w → Q w) → IfSome o (λ v. P v.now) → IfSome o (λ v. Q v.now)
-each_found P Q None h p = tt
-each_found P Q (Some v) h p = h v.now p
+-- the place to which the shortcut at an entry's place leads
+pub led_to : (R es : List EntryParts) (items places : List ℕ) (i j : ℕ) (e : EntryParts) → AreShortcuts R places → es ≡ R → items ≡ places → slice_get es i ≡ Some e → j ≡ get_or items i j → (slice_get R i ≡ Some e) × (slice_get places i ≡ Some j) × (j < length es)
+led_to R es items places i j e h same own at read =
+    let here : i < length places = omega (arith, slice_get_within es i e at, ap (λ (xs : List EntryParts). length xs) same, h.one_each) in
+    let led : slice_get places i ≡ Some j = slice_get_read places (length places) i j refl here (read ∙ ap (λ (ps : List ℕ). get_or ps i j) own) in (
+      ap (λ xs. slice_get xs i) (sym same) ∙ at,
+      led,
+      omega (arith, h.within i j led, ap (λ (xs : List EntryParts). length xs) same),
+    )
 
-pub if_place : (P Q : ℕ → Type 0) (o : Option ℕ) → ((n : ℕ) → P n → Q n) → IfSome o P → IfSome o Q
-if_place P Q None h p = tt
-if_place P Q (Some n) h p = h n p
-
-pub if_ends : (P Q : List ℕ → Type 0) (r : Result (List ℕ) Cycle) → ((d : List ℕ) → P d → Q d) → IfOk r P → IfOk r Q
-if_ends P Q (Ok d) h p = h d p
-if_ends P Q (Err c) h p = tt
-
-pub if_endless : (P Q : Type 0) (r : Result (List ℕ) Cycle) → (P → Q) → OnErr r P → OnErr r Q
-if_endless P Q (Ok d) h p = tt
-if_endless P Q (Err c) h p = h p
+pub led_far : (R es : List EntryParts) (k : Kind) (s v : List ℕ) (items places : List ℕ) (i j : ℕ) (e last : EntryParts) → AreShortcuts R places → es ≡ R → items ≡ places → entry R k s ≡ Some e → following k e ≡ Some v → slice_get es i ≡ Some e → j ≡ get_or items i j → last ≡ get_or es j last → (w : List ℕ) × (following k last ≡ Some w) × IsOnward (next_value R k) (length R) s w
+led_far R es k s v items places i j e last h same own found follows at read there =
+    let led = led_to R es items places i j e h same own at read in
+    passed R k (length R) s v e last i j found follows led.0 (h.shortcut i j led.1)
+    (ap (λ xs. slice_get xs j) (sym same) ∙ slice_get_read es (length es) j last refl led.2 there)

@@ -1,10 +1,11 @@
-use Rattle.std.proofs.Common.{◌≡◌, length}
-use Rattle.lt_rewrite.specs.Shortcuts.{AreShortcuts}
+use Rattle.std.proofs.Common.{◌≡◌, ◌<◌, ℕ, Some, length, slice_get}
+use Rattle.lt_rewrite.specs.Shortcuts.{IsShortcut}
 use Rattle.lt_rewrite.proofs.shortcuts.first_places.Given as goal
 
 -- one for each entry so far
 abbrev pub invariant-loop-place : goal.invariant-loop-place
 invariant-loop-place g l = record {
-  each : AreShortcuts (g.L.Lookup.listed l.table) l.places.items;
   count : length l.places.items ≡ l.place;
+  within : (i j : ℕ) → slice_get l.places.items i ≡ Some j → j < length (g.L.Lookup.listed l.table);
+  shortcut : (i j : ℕ) → slice_get l.places.items i ≡ Some j → IsShortcut (g.L.Lookup.listed l.table) 1 i j;
 }

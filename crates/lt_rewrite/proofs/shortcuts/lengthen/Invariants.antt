@@ -1,10 +1,12 @@
-use Rattle.std.proofs.Common.{◌≡◌, List, length}
+use Rattle.std.proofs.Common.{◌≡◌, ◌<◌, ℕ, List, Some, length, slice_get}
 use Rattle.lt_registry.specs.Parts.{EntryParts}
-use Rattle.lt_rewrite.specs.Shortcuts.{AreShortcuts}
+use Rattle.lt_rewrite.specs.Shortcuts.{LeadOn}
+use Rattle.lt_rewrite.proofs.ShortWalks.{PartDoubled}
 use Rattle.lt_rewrite.proofs.shortcuts.lengthen.Given as goal
 
+-- those so far are twice as long
 abbrev pub invariant-loop-index : goal.invariant-loop-index
 invariant-loop-index l = record {
-  each : (R : List EntryParts) → AreShortcuts R l.fn.places.items → AreShortcuts R l.places.items;
-  count : length l.places.items ≡ l.index-end;
+  within : (i j : ℕ) → slice_get l.places i ≡ Some j → j < length l.places;
+  doubled : (R : List EntryParts) (n : ℕ) → LeadOn R n l.fn.places → PartDoubled R n l.index l.places;
 }

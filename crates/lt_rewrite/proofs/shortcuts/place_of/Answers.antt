@@ -1,9 +1,23 @@
-use Rattle.std.proofs.Common.{refl, length, arith}
+use Rattle.std.proofs.Common.{rules, length, ltb, refl, arith}
+use Rattle.std.proofs.lemmas.List.Sorted.{IsPartitionPoint-from_clause, IsPartitionedBy-ltb}
 use Rattle.std.proofs.lemmas.Option.{slice_get_read}
-use Rattle.lt_rewrite.proofs.ShortWalks.{numbered_there}
+use Rattle.lt_registry.specs.Parts.{EntryParts}
+use Rattle.lt_rewrite.proofs.Numbers.{not_falling, numbered_there, first_not_lower}
 use Rattle.lt_rewrite.proofs.shortcuts.place_of.Goals as goal
 
-pub returns-then-number : goal.returns-then-number
-returns-then-number c =
-    numbered_there c.args.entries.now c.requires.rising c.in_ok-place.field-0 c.in_ok-get.field-0.now c.args.entry.now (slice_get_read c.args.entries.now (length c.args.entries.now) c.in_ok-place.field-0 c.in_ok-get.field-0.now refl c.in_ok-get.ensures.lookup.3.0 c.in_ok-get.ensures.lookup.1) c.requires.there
-    (omega (arith, c.if-number.true, c.number-2.ensures.value, c.number-3.ensures.value))
+pub returns-in-Some : goal.returns-in-Some
+returns-in-Some c =
+    let R = c.args.entries.now in
+    let i = c.saturating_sub-place.result in
+    let other : EntryParts = c.in-Some.other.now in
+    numbered_there R c.requires.rising i other c.args.entry.now (slice_get_read R (length R) i other refl c.in-Some.ensures.lookup.3.0 c.in-Some.ensures.lookup.1) c.requires.there
+    (omega (arith, c.if-number.true, c.number.ensures.value, c.number-number.ensures.value))
+
+pub returns-in_default : goal.returns-in_default
+returns-in_default c =
+    let R = c.args.entries.now in
+    let number = c.args.entry.now.number in
+    let i = c.partition_point.result in
+    let parted = IsPartitionedBy-ltb (λ (e : EntryParts). e.number) R number (not_falling R c.requires.rising) in
+    let point = IsPartitionPoint-from_clause (λ (e : EntryParts). ltb e.number number) _ _ c.partition_point.ensures.partitioned parted (λ a r f k. search rules) in
+    first_not_lower R c.requires.rising i c.args.entry.now c.requires.there c.partition_point.ensures.bound point.0 point.1

@@ -1,40 +1,73 @@
-use Rattle.std.proofs.Common.{◌≡◌, List, Some, true, Contains, sym, ap, ◌∙◌, subst, slice_get, refl, length}
-use Rattle.std.proofs.lemmas.Option.{slice_get_read}
+use Rattle.std.proofs.Common.{◌≡◌, ◌<◌, List, ℕ, Some, None, Contains, length, sym, ap, ◌∙◌, subst, arith}
+use Rattle.std.specs.Option.{option_copied}
+use Rattle.std.proofs.lemmas.Option.{slice_get_within}
 use Rattle.lt_registry.specs.Parts.{EntryParts}
-use Rattle.lt_registry.specs.Entries.{has_form}
+use Rattle.lt_registry.specs.Entries.{entry}
 use Rattle.lt_rewrite.specs.Conditions.{next_value}
 use Rattle.lt_rewrite.specs.ChainEnds.{following}
-use Rattle.lt_rewrite.specs.Shortcuts.{IsOnChain, IsShortcut}
-use Rattle.lt_rewrite.proofs.ShortWalks.{entry_there, passed, form_onward, if_found, each_found}
+use Rattle.lt_rewrite.specs.Shortcuts.{IsOnward}
+use Rattle.lt_rewrite.proofs.CycleWalks.{next_by}
+use Rattle.lt_rewrite.proofs.ShortWalks.{entry_there, entry_next, onward_rest, onward_form, led_to, led_far, some_follows, none_follows}
 use Rattle.lt_rewrite.proofs.shortcuts.Shortcuts.further.Goals as goal
+
+pub returns-in_default-clause-onward : goal.returns-in_default-clause-onward
+returns-in_default-clause-onward g c =
+    let R = g.L.Lookup.listed c.args.table.now in
+    let s = c.args.subtag.now in
+    onward_rest (next_value R c.args.kind) (length R) s (next_by R c.args.kind s None (sym (ap option_copied c.in_default.is) ∙ c.entry.ensures))
+
+pub returns-then-is_none-clause-onward : goal.returns-then-is_none-clause-onward
+returns-then-is_none-clause-onward g c =
+    let R = g.L.Lookup.listed c.args.table.now in
+    let k = c.args.kind in
+    let s = c.args.subtag.now in
+    let e : EntryParts = c.in-Some.entry.now in
+    onward_rest (next_value R k) (length R) s (entry_next R k s e (sym c.in-Some.ensures) ∙ none_follows c.following.result (following k e) c.following.ensures c.if-is_none.ensures)
 
 pub place_of-requires-clause-there : goal.place_of-requires-clause-there
 place_of-requires-clause-there g c =
     let R = g.L.Lookup.listed c.args.table.now in
-    subst (λ (es : List EntryParts). Contains es c.in_ok-entry.entry.now) (sym c.entries-entries.ensures.value)
-    (entry_there R c.args.kind c.args.subtag.now c.in_ok-entry.entry.now (sym c.in_ok-entry.ensures))
+    subst (λ (es : List EntryParts). Contains es c.in-Some.entry.now) (sym c.entries-entries.ensures.value)
+    (entry_there R c.args.kind c.args.subtag.now c.in-Some.entry.now (sym c.in-Some.ensures))
 
-pub returns-clause-on_chain : goal.returns-clause-on_chain
-returns-clause-on_chain g c =
+pub index-requires : goal.index-requires
+index-requires g c =
+    let es = c.entries-entries.result.now in
+    let here : c.place_of.result < length es = slice_get_within es c.place_of.result c.in-Some.entry.now c.place_of.ensures in
+    let own = ap (λ (ps : List ℕ). length ps) c.self.view_is in
+    omega (arith, here, ap (λ (xs : List EntryParts). length xs) c.entries-entries.ensures.value, own, c.requires.one_each)
+
+pub bounds-entries-index : goal.bounds-entries-index
+bounds-entries-index g c =
+    (led_to (g.L.Lookup.listed c.args.table.now) c.entries-entries.result.now c.self.inside.places.items c.args.self.now c.place_of.result c.index.result.now c.in-Some.entry.now c.requires c.entries-entries.ensures.value c.self.view_is c.place_of.ensures c.index.ensures).2
+
+pub unreachable-requires : goal.unreachable-requires
+unreachable-requires g c =
     let R = g.L.Lookup.listed c.args.table.now in
     let k = c.args.kind in
-    let e : EntryParts = c.in_ok-entry.entry.now in
-    let last : EntryParts = c.in_ok-last.last.now in
-    let i = c.in_ok-place.place in
-    let j = c.in_ok-get.field-0.now in
-    let at : slice_get R i ≡ Some e = ap (λ es. slice_get es i) (sym c.entries-entries.ensures.value) ∙ c.in_ok-place.ensures in
-    let own : c.deref.result.now ≡ c.args.self.now = let a = c.deref.ensures.value in let b = c.self.view_is in cc in
-    let short : IsShortcut R i j = c.requires i j (ap (λ ps. slice_get ps i) (sym own) ∙ slice_get_read c.deref.result.now (length c.deref.result.now) i j refl c.in_ok-get.ensures.lookup.3.0 c.in_ok-get.ensures.lookup.1) in
-    let es = c.entries-entries.result.now in
-    let there : slice_get R j ≡ Some last = ap (λ es. slice_get es j) (sym c.entries-entries.ensures.value) ∙ slice_get_read es (length es) j last refl c.in_ok-last.ensures.lookup.3.0 c.in_ok-last.ensures.lookup.1 in
-    if_found (IsOnChain (next_value R k) c.args.subtag.now) c.following-2.result (following k last) c.following-2.ensures
-    (λ w gives. passed R k c.args.subtag.now c.in_ok-following.field-0.now w e last i j (sym c.in_ok-entry.ensures) (sym c.in_ok-following.ensures) at short there gives)
+    let e : EntryParts = c.in-Some.entry.now in
+    let last : EntryParts = c.index-entries-index.result in
+    let v = some_follows c.following.result (following k e) c.following.ensures c.if-is_none.ensures in
+    let far = led_far R c.entries-entries.result.now k c.args.subtag.now v.0 c.self.inside.places.items c.args.self.now c.place_of.result c.index.result.now e last c.requires c.entries-entries.ensures.value c.self.view_is (sym c.in-Some.ensures) v.1 c.place_of.ensures c.index.ensures c.index-entries-index.is in
+    let gives : following k last ≡ Some far.0 = far.1 in
+    let none : following k last ≡ None = sym c.in-None.ensures in
+    cc
+
+pub returns-clause-onward : goal.returns-clause-onward
+returns-clause-onward g c =
+    let R = g.L.Lookup.listed c.args.table.now in
+    let k = c.args.kind in
+    let s = c.args.subtag.now in
+    let e : EntryParts = c.in-Some.entry.now in
+    let last : EntryParts = c.index-entries-index.result in
+    let v = some_follows c.following.result (following k e) c.following.ensures c.if-is_none.ensures in
+    let far = led_far R c.entries-entries.result.now k s v.0 c.self.inside.places.items c.args.self.now c.place_of.result c.index.result.now e last c.requires c.entries-entries.ensures.value c.self.view_is (sym c.in-Some.ensures) v.1 c.place_of.ensures c.index.ensures c.index-entries-index.is in
+    let gives : following k last ≡ Some far.0 = far.1 in
+    let its : following k last ≡ Some c.in-Some-following.value.now = sym c.in-Some-following.ensures in
+    let same : far.0 ≡ c.in-Some-following.value.now = cc in
+    subst (IsOnward (next_value R k) (length R) s) same far.2
 
 pub returns-clause-form : goal.returns-clause-form
 returns-clause-form g c =
     let R = g.L.Lookup.listed c.args.table.now in
-    let k = c.args.kind in
-    let s = c.args.subtag.now in
-    each_found (IsOnChain (next_value R k) s) (λ w. has_form k s ≡ true → has_form k w ≡ true) c.following-2.result
-    (λ w on. form_onward R (record { rising = c.entries-entries.ensures.rising; forms = c.entries-entries.ensures.forms }) k s w on)
-    (returns-clause-on_chain g c)
+    onward_form R (record { rising = c.entries-entries.ensures.rising; forms = c.entries-entries.ensures.forms }) c.args.kind (length R) c.args.subtag.now c.in-Some-following.value.now (returns-clause-onward g c)

@@ -1,5 +1,12 @@
-use Rattle.lt_rewrite.specs.Shortcuts.{AreShortcuts}
+use Rattle.std.proofs.Common.{◌<◌, ◌-◌, length}
+use Rattle.lt_rewrite.specs.Shortcuts.{LeadOn}
 use Rattle.lt_rewrite.proofs.shortcuts.Shortcuts.of_table.Given as goal
 
-abbrev pub invariant-loop-round : goal.invariant-loop-round
-invariant-loop-round g l = AreShortcuts (g.L.Lookup.listed l.table) l.places.items
+abbrev pub invariant-loop-steps : goal.invariant-loop-steps
+invariant-loop-steps g l = record {
+  some : 0 < l.steps;
+  lead : LeadOn (g.L.Lookup.listed l.table) l.steps l.places.items;
+}
+
+abbrev pub decreases-loop-steps : goal.decreases-loop-steps
+decreases-loop-steps g l = length l.places.items - l.steps
