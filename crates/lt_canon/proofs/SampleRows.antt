@@ -1,6 +1,7 @@
 -- The sample passes the check, and what is changed is found.
 use Rattle.std.proofs.Common.{List, [], ◌∷◌, ◌++◌, Some, None, refl, codes, arith}
 use Rattle.lt_registry.specs.Parts.{EntryParts}
+use Rattle.lt_registry.specs.Entries.{IsRegistry}
 use Rattle.lt_registry.specs.declared.entries.Kind.TheVariants as kinds
 use Rattle.lt_registry.specs.declared.entries.EntryName.TheVariants as names
 use Rattle.lt_registry.specs.declared.entries.EntryValue.TheVariants as values
@@ -10,7 +11,7 @@ use Rattle.lt_tag.specs.Growth.{grown, grown_by}
 use Rattle.lt_tag.specs.Splitting.{core_of_list}
 use Rattle.lt_subtag.specs.Bytes.{is_subtag}
 use Rattle.lt_subtag.specs.Shapes.{is_language, is_extlang, is_script, is_region, is_variant}
-use Rattle.lt_rewrite.specs.Conditions.{IsRegistry, MeetsCoreConditions}
+use Rattle.lt_rewrite.specs.Conditions.{MeetsCoreConditions}
 use Rattle.lt_rewrite.proofs.CoreForm.{core}
 use Rattle.lt_rewrite.proofs.Proper.{distinct_test}
 use Rattle.lt_canon.specs.Conditions.{plain, IsChecked, IsFinding}

@@ -16,14 +16,13 @@ use Rattle.lt_tag.specs.WellFormed.{spell, IsLangTag, IsPrivateUse, IsTag, IsNot
 use Rattle.lt_tag.proofs.TagLemmas.{table_length}
 use Rattle.lt_registry.specs.Parts.{EntryParts}
 use Rattle.lt_registry.specs.Same.{same_list, same_kind}
-use Rattle.lt_registry.specs.Entries.{has_form, is_whole_kind, letters_le, IsRange, FitsName, has_value_form, FitsValue, IsPrefix, IsEntry, NumbersRise}
+use Rattle.lt_registry.specs.Entries.{has_form, is_whole_kind, letters_le, IsRange, FitsName, has_value_form, FitsValue, IsPrefix, IsEntry, NumbersRise, IsRegistry}
 use Rattle.lt_registry.specs.declared.entries.Kind.{Kind}
 use Rattle.lt_registry.specs.declared.entries.Kind.TheVariants as kinds
 use Rattle.lt_registry.specs.declared.entries.EntryName.{EntryName}
 use Rattle.lt_registry.specs.declared.entries.EntryName.TheVariants as names
 use Rattle.lt_registry.specs.declared.entries.EntryValue.{EntryValue}
 use Rattle.lt_registry.specs.declared.entries.EntryValue.TheVariants as values
-use Rattle.lt_rewrite.specs.Conditions.{IsRegistry}
 use Rattle.lt_canon.proofs.Deciding.{Decides-true, Decides-implies, some_test, Decides-if_some, Decides-all, Decides-each, Decides-kind, Decides-list}
 
 pub Decides-le : (a b : ℕ) → Decides (nat_le a b) (a ≤ b)

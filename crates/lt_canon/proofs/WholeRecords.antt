@@ -8,14 +8,14 @@ use Rattle.lt_tag.specs.Parts.{CoreParts, TagForm, Grandfathered}
 use Rattle.lt_tag.specs.Spelling.{spell_core, IsCore}
 use Rattle.lt_tag.specs.WellFormed.{IsNotGrandfathered}
 use Rattle.lt_registry.specs.Parts.{EntryParts}
-use Rattle.lt_registry.specs.Entries.{NumbersRise, IsEntry, FitsName, is_whole_kind, is_whole, whole, tag_of, whole_value}
+use Rattle.lt_registry.specs.Entries.{NumbersRise, IsEntry, FitsName, is_whole_kind, is_whole, whole, tag_of, whole_value, IsRegistry}
 use Rattle.lt_registry.specs.Validity.{IsProperCore, HasProperParts}
 use Rattle.lt_registry.specs.declared.entries.Kind.{Kind}
 use Rattle.lt_registry.specs.declared.entries.Kind.TheVariants as kinds
 use Rattle.lt_registry.specs.declared.entries.EntryName.TheVariants as names
 use Rattle.lt_rewrite.specs.Rewriting.{Star}
 use Rattle.lt_rewrite.specs.CoreSteps.{values_of, CoreStep, IsCoreNormalForm}
-use Rattle.lt_rewrite.specs.Conditions.{IsRegistry, HasOwnName, FitsGrandfathered, MeetsCoreConditions}
+use Rattle.lt_rewrite.specs.Conditions.{HasOwnName, FitsGrandfathered, MeetsCoreConditions}
 use Rattle.lt_rewrite.proofs.CoreLaw.{one_normal_form}
 use Rattle.lt_rewrite.proofs.Entries.{find_has}
 use Rattle.lt_rewrite.proofs.NormalForms.{star_keeps}

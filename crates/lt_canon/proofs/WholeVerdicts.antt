@@ -6,7 +6,7 @@ use Rattle.std.proofs.lemmas.Bool.Decides.{Decides-at}
 use Rattle.lt_tag.specs.Parts.{CoreParts, ExtensionParts, TagForm}
 use Rattle.lt_tag.specs.Values.{IsTagValue, extensions_of}
 use Rattle.lt_registry.specs.Parts.{EntryParts}
-use Rattle.lt_registry.specs.Entries.{tag_of, whole_value}
+use Rattle.lt_registry.specs.Entries.{tag_of, whole_value, IsRegistry}
 use Rattle.lt_registry.specs.Faults.{HasNoFault, HasTransform, IsRefusal}
 use Rattle.lt_registry.specs.Same.{same_core}
 use Rattle.lt_registry.specs.Validity.{Distinct}
@@ -15,7 +15,6 @@ use Rattle.lt_registry.specs.declared.faults.ValidRefusal.{ValidRefusal}
 use Rattle.lt_registry.specs.declared.faults.ValidRefusal.TheVariants as refusals
 use Rattle.lt_registry.proofs.ValidityLaws.{valid_law}
 use Rattle.lt_rewrite.specs.CoreSteps.{values_of, IsCoreNormalForm}
-use Rattle.lt_rewrite.specs.Conditions.{IsRegistry}
 use Rattle.lt_rewrite.proofs.Same.{same_core-Decides}
 use Rattle.lt_canon.specs.Conditions.{plain, IsValidPlain, HasValidWhole, HasAgreeingWhole}
 use Rattle.lt_canon.specs.WholeChecks.{MeetsBelow, HasNoValue, ComesToRest, ComesTo, ComeTogether}

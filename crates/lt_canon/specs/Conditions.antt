@@ -3,12 +3,12 @@
 use Rattle.std.specs.Prelude.{ℕ, ◌≡◌, ◌≢◌, ◌<◌, ◌≤◌, ◌⊎◌, List, [], Some, None, All, Contains}
 use Rattle.lt_tag.specs.Parts.{CoreParts, TagForm, LangTag}
 use Rattle.lt_registry.specs.Parts.{EntryParts}
-use Rattle.lt_registry.specs.Entries.{tag_of, whole_value}
+use Rattle.lt_registry.specs.Entries.{tag_of, whole_value, IsRegistry}
 use Rattle.lt_registry.specs.Validity.{IsValid, Distinct}
 use Rattle.lt_registry.specs.declared.entries.Kind.TheVariants as kinds
 use Rattle.lt_registry.specs.declared.entries.EntryName.TheVariants as names
 use Rattle.lt_rewrite.specs.CoreSteps.{values_of, IsCoreNormalForm}
-use Rattle.lt_rewrite.specs.Conditions.{IsRegistry, HasOwnName, HasRegisteredValue, HasEndingChain, FitsAsExtlang, HasFittingVariantValue, StandsBesideFinalLanguages, HasLangtagPrefixes, FitsGrandfathered, HasNoRangeValue}
+use Rattle.lt_rewrite.specs.Conditions.{HasOwnName, HasRegisteredValue, HasEndingChain, FitsAsExtlang, HasFittingVariantValue, StandsBesideFinalLanguages, HasLangtagPrefixes, FitsGrandfathered, HasNoRangeValue}
 use Rattle.lt_canon.specs.declared.conditions.Condition.{Condition}
 use Rattle.lt_canon.specs.declared.conditions.Condition.TheVariants as conditions
 

@@ -7,8 +7,8 @@ use Rattle.lt_rewrite.specs.declared.chain_ends.Cycle.{Cycle}
 use Rattle.lt_registry.specs.declared.entries.Kind.{Kind}
 use Rattle.lt_rewrite.specs.CoreSteps.{chase, Ends, EndsIn}
 use Rattle.lt_registry.specs.declared.entries.Kind.TheVariants as kinds
-use Rattle.lt_registry.specs.Entries.{has_form}
-use Rattle.lt_rewrite.specs.Conditions.{next_value, IsRegistry}
+use Rattle.lt_registry.specs.Entries.{has_form, IsRegistry}
+use Rattle.lt_rewrite.specs.Conditions.{next_value}
 use Rattle.lt_rewrite.proofs.Forms.{value_form, variant_value_form}
 use Rattle.lt_rewrite.proofs.Chains.{chase_rests, chase_next, chase_keeps}
 use Rattle.lt_rewrite.proofs.ChainLength.{chain_ends_within}

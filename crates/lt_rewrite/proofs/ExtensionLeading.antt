@@ -5,7 +5,7 @@ use Rattle.lt_tag.specs.Parts.{ExtensionParts, UForm, TForm}
 use Rattle.lt_tag.specs.Spelling.{spell_extension, spell_extensions}
 use Rattle.lt_tag.specs.Extensions.{unicode, transform, IsUnicode, IsTransform, spell_u, spell_t}
 use Rattle.lt_registry.specs.Parts.{EntryParts}
-use Rattle.lt_rewrite.specs.Conditions.{IsRegistry}
+use Rattle.lt_registry.specs.Entries.{IsRegistry}
 use Rattle.lt_rewrite.specs.Orderings.{by_swap, by_drop}
 use Rattle.lt_rewrite.specs.Extensions.{singleton_cmp, TransformStep, on_source, on_fields, ExtensionStep, in_unicode, in_transform, ExtensionsStep, inside, among}
 use Rattle.lt_rewrite.specs.Labels.{transform_label, extension_label, extensions_label}

@@ -6,12 +6,12 @@ use Rattle.lt_tag.specs.Parts.{CoreParts, ExtensionParts, UForm, TForm}
 use Rattle.lt_tag.specs.Spelling.{spell_extensions}
 use Rattle.lt_tag.specs.Extensions.{unicode, transform, spell_u, spell_t, IsU, IsT, IsUnicode, IsTransform}
 use Rattle.lt_registry.specs.Parts.{EntryParts}
+use Rattle.lt_registry.specs.Entries.{IsRegistry}
 use Rattle.lt_registry.specs.Validity.{Distinct}
 use Rattle.lt_rewrite.specs.Rewriting.{Star, then, Rests}
 use Rattle.lt_rewrite.specs.CoreSteps.{values_of, CoreStep, by_extlang, by_language, by_script, by_region, by_variant, by_turn}
 use Rattle.lt_rewrite.specs.Orderings.{ListStep, by_swap, by_drop}
 use Rattle.lt_rewrite.specs.Extensions.{singleton_cmp, UnicodeStep, on_attributes, on_keywords, on_types, TransformStep, on_source, on_fields, ExtensionStep, in_unicode, in_transform, ExtensionsStep, inside, among}
-use Rattle.lt_rewrite.specs.Conditions.{IsRegistry}
 use Rattle.lt_rewrite.specs.Labels.{core_label, unicode_label, transform_label, extension_label, extensions_label}
 use Rattle.lt_rewrite.specs.Applying.{UnicodeLeads, TransformLeads, ExtensionLeads, ExtensionsLeads}
 use Rattle.lt_rewrite.specs.Runs.{kind_rank, extension_rank, IsNoLater, IsFirst, IsRun, Adds, AddsOnExtensions}

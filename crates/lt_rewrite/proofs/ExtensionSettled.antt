@@ -3,13 +3,13 @@ use Rattle.std.proofs.Common.{◌≡◌, ℕ, ◌≤◌, true, false, List, Opti
 use Rattle.lt_tag.specs.Parts.{CoreParts, KeywordParts, UForm, FieldParts, TForm}
 use Rattle.lt_tag.specs.Extensions.{spell_u, spell_t, IsU, IsT}
 use Rattle.lt_registry.specs.Parts.{EntryParts}
+use Rattle.lt_registry.specs.Entries.{IsRegistry}
 use Rattle.lt_rewrite.specs.Rewriting.{Star, done, IsNormalForm}
 use Rattle.lt_rewrite.specs.Orderings.{ListStep}
 use Rattle.lt_rewrite.specs.CoreSteps.{values_of, CoreStep, IsCoreNormalForm}
 use Rattle.lt_rewrite.specs.Extensions.{text_cmp, key_cmp, separator_cmp, UnicodeStep, TransformStep, on_source, on_fields}
 use Rattle.lt_rewrite.specs.ExtensionSettling.{untrue}
 use Rattle.lt_rewrite.proofs.Stars.{star_trans}
-use Rattle.lt_rewrite.specs.Conditions.{IsRegistry}
 use Rattle.lt_rewrite.proofs.NormalForms.{star_map, star_keeps, normal_is_form, form_is_normal}
 use Rattle.lt_rewrite.proofs.Sorting.{sorting_is_form}
 use Rattle.lt_rewrite.proofs.Proper.{step_shaped}

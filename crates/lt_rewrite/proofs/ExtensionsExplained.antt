@@ -8,11 +8,11 @@ use Rattle.lt_tag.specs.Spelling.{spell_extension, spell_extensions}
 use Rattle.lt_tag.specs.Extensions.{unicode, transform, spell_u, spell_t, IsU, IsT, IsUnicode, IsTransform}
 use Rattle.lt_tag.specs.Values.{most_parts}
 use Rattle.lt_registry.specs.Parts.{EntryParts}
+use Rattle.lt_registry.specs.Entries.{IsRegistry}
 use Rattle.lt_registry.specs.Validity.{Distinct}
 use Rattle.lt_rewrite.specs.Rewriting.{Star, Rests, IsNormalForm}
 use Rattle.lt_rewrite.specs.Orderings.{ListStep, by_swap, by_drop}
 use Rattle.lt_rewrite.specs.Extensions.{singleton_cmp, UnicodeStep, TransformStep, ExtensionStep, ExtensionsStep, inside, among}
-use Rattle.lt_rewrite.specs.Conditions.{IsRegistry}
 use Rattle.lt_rewrite.specs.Labels.{list_label, unicode_label, transform_label, extension_label, extensions_label}
 use Rattle.lt_rewrite.specs.Applying.{UnicodeLeads, TransformLeads, ExtensionLeads, ExtensionsLeads}
 use Rattle.lt_rewrite.specs.Runs.{kind_rank, extension_rank, IsNoLater, IsFirst, IsRun, NoneLeads, Adds, SwapsBy, AddsOnUnicode, AddsOnTransform, AddsOnExtensions}

@@ -10,11 +10,11 @@ use Rattle.std.proofs.Math.Seq.{map-set_same}
 use Rattle.lt_tag.specs.Parts.{ExtensionParts, UForm, TForm}
 use Rattle.lt_tag.specs.Extensions.{unicode, transform, spell_u, spell_t, IsU, IsT, IsUnicode, IsTransform}
 use Rattle.lt_registry.specs.Parts.{EntryParts}
+use Rattle.lt_registry.specs.Entries.{IsRegistry}
 use Rattle.lt_registry.specs.Validity.{Distinct}
 use Rattle.lt_rewrite.specs.Rewriting.{Star, done, Rests, IsNormalForm}
 use Rattle.lt_rewrite.specs.Orderings.{ListStep}
 use Rattle.lt_rewrite.specs.Extensions.{singleton_cmp, UnicodeStep, TransformStep, ExtensionStep, in_unicode, in_transform, ExtensionsStep, inside, among}
-use Rattle.lt_rewrite.specs.Conditions.{IsRegistry}
 use Rattle.lt_rewrite.specs.ExtensionsSettling.{Settles, placed}
 use Rattle.lt_rewrite.proofs.Stars.{star_trans}
 use Rattle.lt_rewrite.proofs.NormalForms.{star_map, star_keeps, star_map_while}

@@ -6,14 +6,14 @@ use Rattle.std.proofs.lemmas.Bool.{and_parts, and_from, or_cases, lt-leb}
 use Rattle.lt_subtag.specs.Shapes.{is_alphabetic, is_language, is_extlang, is_variant}
 use Rattle.lt_tag.proofs.Apart.{extlang_is, variant_is}
 use Rattle.lt_registry.specs.Parts.{EntryParts}
-use Rattle.lt_registry.specs.Entries.{has_value_form, FitsValue, IsEntry, is_named, holds, one_of, entry, value, value_or, variant_value, language_value, is_registered, is_short, replacement}
+use Rattle.lt_registry.specs.Entries.{has_value_form, FitsValue, IsEntry, is_named, holds, one_of, entry, value, value_or, variant_value, language_value, is_registered, is_short, replacement, IsRegistry}
 use Rattle.lt_registry.specs.declared.entries.Kind.{Kind}
 use Rattle.lt_registry.specs.declared.entries.Kind.TheVariants as kinds
 use Rattle.lt_registry.specs.declared.entries.EntryName.{EntryName}
 use Rattle.lt_registry.specs.declared.entries.EntryName.TheVariants as names
 use Rattle.lt_registry.specs.declared.entries.EntryValue.{EntryValue}
 use Rattle.lt_registry.specs.declared.entries.EntryValue.TheVariants as values
-use Rattle.lt_rewrite.specs.Conditions.{IsRegistry, IsFittingExtlang, FitsAsExtlang, HasRegisteredValue, keeps_kind, MeetsCoreConditions}
+use Rattle.lt_rewrite.specs.Conditions.{IsFittingExtlang, FitsAsExtlang, HasRegisteredValue, keeps_kind, MeetsCoreConditions}
 use Rattle.lt_rewrite.proofs.Entries.{IsEntryOf, entry_has, ValuedEntry, valued, valued_has, variant_value_is, language_value_is}
 
 pub some_at : {A : Type 0} (o : Option A) → is_some o ≡ true → (a : A) × (o ≡ Some a)

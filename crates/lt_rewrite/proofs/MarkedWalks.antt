@@ -1,9 +1,9 @@
 -- Walks along chains of values that mark the records whose chains end.
-use Rattle.std.proofs.Common.{◌≡◌, ℕ, zero, suc, ◌<◌, List, [], ◌∷◌, Bool, true, false, not, Option, Some, None, refl, sym, ap, ◌∙◌, subst, length, get_or, All, MatchBool, Bor, is_some, arith}
+use Rattle.std.proofs.Common.{◌≡◌, ℕ, zero, suc, ◌<◌, List, Bool, true, false, not, Option, Some, None, refl, sym, ap, ◌∙◌, subst, length, All, MatchBool, Bor, is_some}
 use Rattle.std.specs.BTreeSet.{BTreeSet, contains_by, insert_key}
 use Rattle.std.specs.Ordering.{nat_cmp, eq_by_cmp}
 use Rattle.std.specs.Option.{option_and_then, option_copied}
-use Rattle.std.proofs.lemmas.List.Elements.{All-from_recursion, All-contains}
+use Rattle.std.proofs.lemmas.List.Elements.{All-contains}
 use Rattle.std.proofs.lemmas.Map.Views.{Contains-from_any, All-insert_key}
 use Rattle.std.proofs.lemmas.Cmp.{ranked, by_ranked}
 use Rattle.lt_registry.specs.Parts.{EntryParts}
@@ -12,6 +12,7 @@ use Rattle.lt_registry.specs.declared.entries.Kind.{Kind}
 use Rattle.lt_rewrite.specs.CoreSteps.{chase, Ends}
 use Rattle.lt_rewrite.specs.Conditions.{next_value, HasEndingChain}
 use Rattle.lt_rewrite.specs.Cycles.{NumberEnds, MarkedEnd}
+use Rattle.lt_rewrite.proofs.Numbers.{one_at}
 use Rattle.lt_rewrite.proofs.Chains.{chase_next}
 use Rattle.lt_rewrite.proofs.ChainWalks.{walk_cycles}
 use Rattle.lt_rewrite.proofs.CycleWalks.{IsWalk, ends_there, ends_from}
@@ -36,17 +37,8 @@ at_last R e k v s n W all (Some t) h false i =
     λ ends. walk_cycles R k v s t.now (W.walked ∙ ap (λ m. chase (next_value R k) m v) all) (sym h) (subst (λ (d : Kind). Ends (next_value R d) v) (sym W.of_kind) (ends v W.from))
 
 -- a number is that of one record
-at_one : (R : List EntryParts) → NumbersRise R → (j k : ℕ) (c d : EntryParts) → j < length R → k < length R → (get_or R j c).number ≡ (get_or R k d).number → get_or R j c ≡ get_or R k d
-at_one [] rise j k c d a b e = absurd (omega (arith, a))
-at_one (x ∷ xs) rise zero zero c d a b e = refl
-at_one (x ∷ xs) rise zero (suc k) c d a b e =
-    let above = All-from_recursion (λ (f : EntryParts). x.number < f.number) xs rise.0 k d (omega (arith, b)) in absurd (omega (arith, e, above))
-at_one (x ∷ xs) rise (suc j) zero c d a b e =
-    let above = All-from_recursion (λ (f : EntryParts). x.number < f.number) xs rise.0 j c (omega (arith, a)) in absurd (omega (arith, e, above))
-at_one (x ∷ xs) rise (suc j) (suc k) c d a b e = at_one xs rise.1 j k c d (omega (arith, a)) (omega (arith, b)) e
-
 one_numbered : (R : List EntryParts) → NumbersRise R → All (λ (e : EntryParts). All (λ (f : EntryParts). f.number ≡ e.number → f ≡ e) R) R
-one_numbered R rise = λ j c a k d b same. at_one R rise k j d c b a same
+one_numbered R rise = λ j c a k d b same. one_at R rise k j d c b a same
 
 -- the end of a chain, from one value further on
 further_at : (f : List ℕ → Option (List ℕ)) (s t : List ℕ) → f s ≡ Some t → (n : ℕ) → f (chase f n s) ≡ None → Ends f t

@@ -5,11 +5,10 @@ use Rattle.std.proofs.lemmas.Slice.Eq.{bytes_eq-Decides}
 use Rattle.std.proofs.lemmas.Bool.{and_parts, and_from, eqb-true}
 use Rattle.lt_subtag.specs.Shapes.{is_alphabetic, is_language, is_extlang}
 use Rattle.lt_registry.specs.Parts.{EntryParts}
-use Rattle.lt_registry.specs.Entries.{FitsName, IsEntry, is_named, holds, letters_le, is_registered}
+use Rattle.lt_registry.specs.Entries.{FitsName, IsEntry, is_named, holds, letters_le, is_registered, IsRegistry}
 use Rattle.lt_registry.specs.declared.entries.Kind.TheVariants as kinds
 use Rattle.lt_registry.specs.declared.entries.EntryName.{EntryName}
 use Rattle.lt_registry.specs.declared.entries.EntryName.TheVariants as names
-use Rattle.lt_rewrite.specs.Conditions.{IsRegistry}
 use Rattle.lt_rewrite.proofs.Entries.{IsEntryOf, entry_has}
 use Rattle.lt_rewrite.proofs.Forms.{ExtlangEntry, registered_entry}
 

@@ -1,7 +1,8 @@
 -- The laws of the steps on extensions.
 use Rattle.std.proofs.Common.{List, sym}
 use Rattle.lt_registry.specs.Parts.{EntryParts}
-use Rattle.lt_rewrite.specs.Conditions.{IsRegistry, MeetsCoreConditions}
+use Rattle.lt_registry.specs.Entries.{IsRegistry}
+use Rattle.lt_rewrite.specs.Conditions.{MeetsCoreConditions}
 use Rattle.lt_rewrite.specs.OrderingLaws.{HasOneForm, UnicodeHasOneForm, TransformHasOneForm, ExtensionsHaveOneForm}
 use Rattle.lt_rewrite.proofs.NormalForms.{IsFormOf, form_is_normal, normal_is_form}
 use Rattle.lt_rewrite.proofs.Proper.{step_shaped}

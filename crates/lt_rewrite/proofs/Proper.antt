@@ -11,12 +11,12 @@ use Rattle.lt_tag.specs.Spelling.{spell_core, has_shape, IsCore}
 use Rattle.lt_tag.specs.Grandfathered.{grandfathered_texts, grandfathered_list, IsGrandfathered}
 use Rattle.lt_tag.proofs.TagLemmas.{table_length, list_all-at}
 use Rattle.lt_registry.specs.Parts.{EntryParts}
-use Rattle.lt_registry.specs.Entries.{is_registered}
+use Rattle.lt_registry.specs.Entries.{is_registered, IsRegistry}
 use Rattle.lt_registry.specs.Validity.{ExtlangsFit, IsProperCore, Distinct}
 use Rattle.lt_registry.specs.declared.entries.Kind.TheVariants as kinds
 use Rattle.lt_tag.specs.WellFormed.{IsNotGrandfathered}
 use Rattle.lt_rewrite.specs.CoreSteps.{values_of, CoreStep, by_extlang, by_language, by_script, by_region, by_variant, by_turn}
-use Rattle.lt_rewrite.specs.Conditions.{IsRegistry, FitsGrandfathered, second_entry, MeetsCoreConditions}
+use Rattle.lt_rewrite.specs.Conditions.{FitsGrandfathered, second_entry, MeetsCoreConditions}
 use Rattle.lt_rewrite.specs.Laws.{StepsKeepProper, ProperCoresSpellNone}
 use Rattle.lt_rewrite.proofs.CoreLengths.{core_step_no_longer}
 use Rattle.lt_rewrite.proofs.PartLists.{all_replaced, all_without}

@@ -4,10 +4,10 @@ use Rattle.std.specs.Option.{option_copied}
 use Rattle.std.proofs.lemmas.List.{length-set}
 use Rattle.std.proofs.lemmas.Option.{slice_get_within, slice_get_read}
 use Rattle.lt_registry.specs.Parts.{EntryParts}
-use Rattle.lt_registry.specs.Entries.{entry, has_form}
+use Rattle.lt_registry.specs.Entries.{entry, has_form, IsRegistry}
 use Rattle.lt_registry.specs.declared.entries.Kind.{Kind}
-use Rattle.lt_rewrite.specs.CoreSteps.{chase, Ends, EndsIn}
-use Rattle.lt_rewrite.specs.Conditions.{next_value, IsRegistry}
+use Rattle.lt_rewrite.specs.CoreSteps.{chase, Ends}
+use Rattle.lt_rewrite.specs.Conditions.{next_value}
 use Rattle.lt_rewrite.specs.ChainEnds.{following}
 use Rattle.lt_rewrite.specs.Shortcuts.{IsOnward, LeadsTo, IsShortcut, LeadOn, AreShortcuts}
 use Rattle.lt_rewrite.proofs.Chains.{chase_rests, chase_next, chase_keeps}
@@ -41,11 +41,7 @@ onward_next f s t e = (1, omega arith, chase_next f 0 s t e)
 pub onward_rest : (f : List ℕ → Option (List ℕ)) (n : ℕ) (s : List ℕ) → f s ≡ None → IsOnward f n s s
 onward_rest f n s e = (n, omega arith, chase_rests f n s e)
 
--- the chain ends there if no value follows
-pub onward_end : (f : List ℕ → Option (List ℕ)) (n : ℕ) (s t : List ℕ) → IsOnward f n s t → f t ≡ None → EndsIn f s t
-onward_end f n s t a e = (a.0, a.2, e)
-
--- and never if one follows after as many values as there are records
+-- the chain has no end if a value follows after as many as there are records
 pub onward_endless : (R : List EntryParts) (k : Kind) (s t u : List ℕ) → IsOnward (next_value R k) (length R) s t → next_value R k t ≡ Some u → Ends (next_value R k) s → ⊥
 onward_endless R k s t u a e ends =
     let f : List ℕ → Option (List ℕ) = next_value R k in
@@ -126,9 +122,6 @@ lead_less R n m places le h = record {
 pub record PartDoubled (R : List EntryParts) (n index : ℕ) (places : List ℕ) : Type 0 where
   pub all : LeadOn R n places
   pub doubled : (i j : ℕ) → i < index → slice_get places i ≡ Some j → IsShortcut R (n + n) i j
-
-pub none_doubled : (R : List EntryParts) (n : ℕ) (places : List ℕ) → LeadOn R n places → PartDoubled R n 0 places
-none_doubled R n places h = record { all = h; doubled = λ i j below at. absurd (omega (arith, below)) }
 
 pub all_doubled : (R : List EntryParts) (n index : ℕ) (places : List ℕ) → index ≡ length places → PartDoubled R n index places → LeadOn R (n + n) places
 all_doubled R n index places is h = record {

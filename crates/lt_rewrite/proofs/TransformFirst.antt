@@ -4,9 +4,9 @@ use Rattle.std.proofs.Common.{◌≡◌, ℕ, ◌+◌, ◌<◌, inl, inr, false,
 use Rattle.lt_tag.specs.Parts.{CoreParts, FieldParts, TForm}
 use Rattle.lt_tag.specs.Extensions.{spell_field, spell_source, IsT}
 use Rattle.lt_registry.specs.Parts.{EntryParts}
+use Rattle.lt_registry.specs.Entries.{IsRegistry}
 use Rattle.lt_rewrite.specs.Orderings.{by_swap, by_drop}
 use Rattle.lt_rewrite.specs.CoreSteps.{values_of, CoreStep, by_extlang, by_language, by_script, by_region, by_variant, by_turn}
-use Rattle.lt_rewrite.specs.Conditions.{IsRegistry}
 use Rattle.lt_rewrite.specs.Extensions.{separator_cmp, TransformStep, on_source, on_fields}
 use Rattle.lt_rewrite.specs.Labels.{core_label, transform_label}
 use Rattle.lt_rewrite.specs.Applying.{CoreLeads, TransformLeads}

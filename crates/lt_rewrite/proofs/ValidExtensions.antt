@@ -1,5 +1,5 @@
 -- What the steps on extensions ask of those of a valid tag.
-use Rattle.std.proofs.Common.{◌≡◌, ℕ, ◌≤◌, List, length, map, arith}
+use Rattle.std.proofs.Common.{◌≡◌, ◌≤◌, List, length, map, arith}
 use Rattle.std.specs.List.{AllByRecursion}
 use Rattle.lt_tag.specs.Parts.{ExtensionParts, TForm, TagForm, LangTag, PrivateUse, Grandfathered}
 use Rattle.lt_tag.specs.Spelling.{spell_extensions}

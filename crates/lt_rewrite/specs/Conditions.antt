@@ -7,17 +7,12 @@ use Rattle.lt_tag.specs.Spelling.{spell_core, IsCore}
 use Rattle.lt_tag.specs.Grandfathered.{IsGrandfathered}
 use Rattle.lt_tag.specs.WellFormed.{IsNotGrandfathered}
 use Rattle.lt_registry.specs.Parts.{EntryParts}
-use Rattle.lt_registry.specs.Entries.{IsEntry, NumbersRise, entry, one_of, value_or, is_registered, is_short, value, variant_value, language_value}
+use Rattle.lt_registry.specs.Entries.{entry, one_of, value_or, is_registered, is_short, value, variant_value, language_value}
 use Rattle.lt_registry.specs.Validity.{IsValidCore}
 use Rattle.lt_registry.specs.declared.entries.Kind.{Kind}
 use Rattle.lt_registry.specs.declared.entries.Kind.TheVariants as kinds
 use Rattle.lt_registry.specs.declared.entries.EntryName.TheVariants as names
 use Rattle.lt_rewrite.specs.CoreSteps.{Ends, EndsIn}
-
--- a list of entries as every table has it: the numbers rise, and each entry has its forms
-pub record IsRegistry (R : List EntryParts) : Type 0 where
-  pub rising : NumbersRise R
-  pub forms : All IsEntry R
 
 -- one kind and one name, or one whole tag
 abbrev pub Clash : EntryParts → EntryParts → Type 0

@@ -2,8 +2,9 @@
 ghost use Rattle.std.specs.Prelude.{◌≡◌, ◌≤◌, List, All, IsOk, map, length};
 ghost use Rattle.lt_tag.specs.Extensions.{spell_u, IsU, spell_t, IsT};
 ghost use Rattle.lt_rewrite.specs.Rewriting.{IsNormalForm};
+ghost use Rattle.lt_registry.specs.Entries.{IsRegistry};
 ghost use Rattle.lt_rewrite.specs.Extensions.{UnicodeStep, TransformStep};
-ghost use Rattle.lt_rewrite.specs.Conditions.{HasEndingChain, IsRegistry};
+ghost use Rattle.lt_rewrite.specs.Conditions.{HasEndingChain};
 ghost use Rattle.lt_rewrite.specs.ExtensionSettling.{untrue};
 
 use crate::core_settling::settle_core;

@@ -1,7 +1,8 @@
 //! What follows from the definitions alone, for every list of entries.
 ghost use Rattle.std.specs.Prelude.{List, All};
 ghost use Rattle.lt_registry.specs.Parts.{EntryParts};
-ghost use Rattle.lt_rewrite.specs.Conditions.{IsRegistry, HasEndingChain, FitsGrandfathered, MeetsCoreConditions};
+ghost use Rattle.lt_registry.specs.Entries.{IsRegistry};
+ghost use Rattle.lt_rewrite.specs.Conditions.{HasEndingChain, FitsGrandfathered, MeetsCoreConditions};
 ghost use Rattle.lt_rewrite.specs.Laws.{HasOneNormalForm, StepsKeepNormalForm, StepsKeepProper, ProperCoresSpellNone, EndingChainsAreShort, ChainsEnd, StepsAreDetermined};
 
 /// A chain of values that comes to an end has done so after as many values as there are records;

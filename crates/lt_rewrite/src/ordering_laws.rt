@@ -1,7 +1,8 @@
 //! What follows from the definitions of the steps on extensions alone.
 ghost use Rattle.std.specs.Prelude.{List};
 ghost use Rattle.lt_registry.specs.Parts.{EntryParts};
-ghost use Rattle.lt_rewrite.specs.Conditions.{IsRegistry, MeetsCoreConditions};
+ghost use Rattle.lt_registry.specs.Entries.{IsRegistry};
+ghost use Rattle.lt_rewrite.specs.Conditions.{MeetsCoreConditions};
 ghost use Rattle.lt_rewrite.specs.OrderingLaws.{UnicodeHasOneForm, TransformHasOneForm, ExtensionsHaveOneForm, SortedFieldsAreNormal, SortedExtensionsAreNormal};
 
 /// The parts of a `u` extension have one normal form.

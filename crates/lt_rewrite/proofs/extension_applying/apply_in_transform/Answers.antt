@@ -1,7 +1,7 @@
 use Rattle.std.proofs.Common.{sym, subst}
 use Rattle.lt_tag.specs.Parts.{ExtensionParts}
-use Rattle.lt_rewrite.specs.Conditions.{IsRegistry}
 use Rattle.lt_rewrite.specs.Applying.{ExtensionLeads}
+use Rattle.lt_registry.specs.Entries.{IsRegistry}
 use Rattle.lt_rewrite.proofs.Proper.{step_shaped}
 use Rattle.lt_rewrite.proofs.TransformForms.{t_shaped}
 use Rattle.lt_rewrite.proofs.ExtensionLeading.{transform_changed, transform_kept}
