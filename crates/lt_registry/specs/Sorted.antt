@@ -1,5 +1,5 @@
 -- The indexes beside a list of entries, by which a sorted table finds them.
-use Rattle.std.specs.Prelude.{ℕ, ◌≡◌, ◌≤◌, ◌<◌, ◌-◌, ◌+◌, ◌*◌, ◌/◌, ◌^◌, ◌==◌, nat_le, nat_lt, Bool, true, false, if◌then◌else◌, ◌&&◌, List, [], ◌∷◌, ◌++◌, length, Option, Some, None, All, find, replicate, slice_index}
+use Rattle.std.specs.Prelude.{ℕ, ◌≡◌, ◌≤◌, ◌<◌, ◌-◌, ◌+◌, ◌*◌, ◌/◌, ◌%◌, ◌^◌, min, ◌==◌, nat_le, nat_lt, Bool, true, false, if◌then◌else◌, ◌&&◌, List, [], ◌∷◌, ◌++◌, length, Option, Some, None, All, find, replicate, slice_index}
 use Rattle.std.specs.List.{AllByRecursion, AllPairs, Any, Contains, slice_get, cons_option}
 use Rattle.std.specs.Option.{option_map, option_and_then, option_or, option_cmp}
 use Rattle.std.specs.Ordering.{nat_cmp, ordering_then}
@@ -153,9 +153,10 @@ RowsRise rows = AllPairs (λ (v w : Row). nat_cmp v.number w.number ≡ Less) ro
 abbrev pub place_of : ℕ → List Row → Option ℕ
 place_of n rows = option_map (λ (w : Row). w.place) (find (λ (w : Row). w.number == n) rows)
 
--- the beginning of a number: the first byte of its subtag, and the upper half of the second
+-- The beginning of a number: the first byte of its subtag, and the place of the second among the
+-- letters, which is 0 for a digit. A later number has no earlier beginning.
 abbrev pub beginning : ℕ → ℕ
-beginning n = n / 2 ^ 52
+beginning n = n / 2 ^ 56 * 32 + min (n / 2 ^ 48 % 256 - 96) 31
 
 -- a row's index is not before the start of a beginning, and before that of the next
 pub record IsInSpan (starts : List ℕ) (k i : ℕ) : Type 0 where

@@ -108,11 +108,14 @@ fn singles(alloc: Global, entries: &[Entry], kind: Kind) -> Result<Vec<Row>, All
     Ok(rows)
 }
 
-/// The beginning of a number: the first byte of its subtag, and the upper half of the second.
+/// The beginning of a number: the first byte of its subtag, and the place of the second among the
+/// letters, which is 0 for a digit.
 fn beginning(number: u64) -> usize
     ensures { result ≡ sorted.beginning number }
 {
-    (number >> 52) as usize
+    let first = (number >> 56) as usize;
+    let second = (number >> 48) as usize % 256;
+    first * 32 + second.saturating_sub(96).min(31)
 }
 
 /// The place of the record of a number, by sorted rows.
