@@ -47,6 +47,29 @@ pub find_none : {X : Type 0} (P : X → Bool) (xs : List X) → ((p : ℕ) (e : 
 find_none P [] h = refl
 find_none P (x ∷ xs) h = rw (h 0 x refl) (find_none P xs (λ p e k. h (suc p) e k))
 
+-- what is found, and what is not
+
+abbrev Found : {X : Type 0} → (X → Bool) → List X → X → Type 0
+Found P xs e = (i : ℕ) × (i < length xs) × (e ≡ get_or xs i e) × (P e ≡ true)
+
+pub found_passes : {X : Type 0} (P : X → Bool) (xs : List X) (e : X) → find P xs ≡ Some e → (i : ℕ) × (i < length xs) × (e ≡ get_or xs i e) × (P e ≡ true)
+found_passes P [] e h = cc
+found_passes P (x ∷ xs) e h = by (P x) refl h (found_passes P xs e)
+  where
+    by : (b : Bool) → P x ≡ b → cond b (Some x) (find P xs) ≡ Some e → (find P xs ≡ Some e → Found P xs e) → Found P (x ∷ xs) e
+    by true is k more = let same : x ≡ e = same_Some x e k in (0, omega arith, sym same, ap P (sym same) ∙ is)
+    by false is k more = let r : Found P xs e = more k in (suc r.0, omega (arith, r.1), r.2, r.3)
+
+pub unfound_fails : {X : Type 0} (P : X → Bool) (xs : List X) → find P xs ≡ None → (i : ℕ) (e : X) → i < length xs → get_or xs i e ≡ e → P e ≡ false
+unfound_fails P [] h i e l is = absurd (omega (arith, l))
+unfound_fails P (x ∷ xs) h i e l is = by (P x) refl h i l is (λ k j m at. unfound_fails P xs k j e m at)
+  where
+    by : (b : Bool) → P x ≡ b → cond b (Some x) (find P xs) ≡ None → (j : ℕ) → j < suc (length xs) → get_or (x ∷ xs) j e ≡ e
+        → (find P xs ≡ None → (k : ℕ) → k < length xs → get_or xs k e ≡ e → P e ≡ false) → P e ≡ false
+    by true now k j m at more = cc
+    by false now k zero m at more = ap P (sym at) ∙ now
+    by false now k (suc j) m at more = more k j (omega (arith, m)) at
+
 pub find_first : {X : Type 0} (P : X → Bool) (xs : List X) (p : ℕ) (e : X) → slice_get xs p ≡ Some e → P e ≡ true → ((j : ℕ) (f : X) → j < p → slice_get xs j ≡ Some f → P f ≡ false) → find P xs ≡ Some e
 find_first P [] p e h t n = cc
 find_first P (x ∷ xs) zero e h t n = let same : x ≡ e = cc in rw (ap P same ∙ t) (ap Some same)
@@ -59,7 +82,7 @@ not_below m n h =
       | inr e ↦ ltb-false m n e
     ]
 
-equal_if : (o : Ordering) → is_eq o ≡ true → o ≡ Equal
+pub equal_if : (o : Ordering) → is_eq o ≡ true → o ≡ Equal
 equal_if Less h = cc
 equal_if Equal h = refl
 equal_if Greater h = cc
@@ -216,8 +239,11 @@ module _ {W K : Type 0} {cmp : K → K → Ordering} (total : IsTotalOrder cmp) 
             let near : Any (λ u. (cmp (key u) (key v) ≡ Equal) × (place u ≤ j)) rows = ix.complete j f v there gives in
             absurd (none near.0 near.1 near.2 near.3 (total.congr (key near.1) (key v) q near.4.0 ∙ ev))
 
+        pub missing : ((i : ℕ) (w : W) → i < length rows → get_or rows i w ≡ w → cmp (key w) q ≡ Equal → ⊥) → find P R ≡ None
+        missing none = find_none P R (λ j f k. nowhere none j f k (row j f) refl (P f) (sym (agree j f k)))
+
         pub absent : (i : ℕ) → IsPartitionPoint (λ w. cmp (key w) q ≡ Less) (λ w. cmp (key w) q ≡ Greater) rows i → find P R ≡ None
-        absent i point = find_none P R (λ j f k. nowhere unequal j f k (row j f) refl (P f) (sym (agree j f k)))
+        absent i point = missing unequal
           where
             unequal : (m : ℕ) (w : W) → m < length rows → get_or rows m w ≡ w → cmp (key w) q ≡ Equal → ⊥
             unequal m w l e tied =

@@ -13,6 +13,7 @@ pub mod RegistryLemmas
 pub mod SameLemmas
 pub mod ScanLemmas
 pub mod SortedLemmas
+pub mod SpanLemmas
 pub mod SplitListLemmas
 pub mod StretchLemmas
 pub mod SubtagNumbers

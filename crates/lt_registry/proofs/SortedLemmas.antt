@@ -16,7 +16,7 @@ use Rattle.lt_tag.specs.Parts.{TagForm, LangTag, PrivateUse, Grandfathered}
 use Rattle.lt_registry.specs.Parts.{EntryParts}
 use Rattle.lt_registry.specs.Same.{same_kind, same_core, same_tag}
 use Rattle.lt_registry.specs.Entries.{has_form, is_whole_kind, FitsName, IsEntry, is_named, holds, is_whole, entry, whole}
-use Rattle.lt_registry.specs.Sorted.{number, single_number, single_row, tag_in, tag_at, language_number, whole_row, whole_key, key_cmp, IsSingles, IsWholes, index_of}
+use Rattle.lt_registry.specs.Sorted.{number, single_number, single_row, place_of, tag_in, tag_at, language_number, whole_row, whole_key, key_cmp, IsSingles, IsWholes, index_of}
 use Rattle.lt_registry.specs.TagOrder.{tag_cmp}
 use Rattle.lt_registry.specs.declared.entries.Kind.{Kind}
 use Rattle.lt_registry.specs.declared.entries.Kind.TheVariants as kinds
@@ -24,7 +24,7 @@ use Rattle.lt_registry.specs.declared.entries.EntryName.{EntryName}
 use Rattle.lt_registry.specs.declared.entries.EntryName.TheVariants as names
 use Rattle.lt_registry.specs.declared.rows.Row.{Row}
 use Rattle.lt_registry.specs.declared.indexes.Indexes.{Indexes}
-use Rattle.lt_registry.proofs.IndexLemmas.{matches, found, absent, rises, find_none}
+use Rattle.lt_registry.proofs.IndexLemmas.{matches, found, missing, absent, rises, find_none, found_passes, unfound_fails, equal_if}
 use Rattle.lt_registry.proofs.SubtagNumbers.{IsFew, form_few, numbers_equal}
 use Rattle.lt_registry.proofs.TagOrderLemmas.{nats_equal, then_equal, optional_tag_total, tags_equal}
 
@@ -59,21 +59,19 @@ module _ (R : List EntryParts) (kind : Kind) (rows : List Row) (s : List ℕ) (i
   agrees : (p : ℕ) (e : EntryParts) → slice_get R p ≡ Some e → is_it e ≡ matches nat_cmp (λ (w : Row). w.number) (number s) (single_row kind p e)
   agrees p e there = name_agrees p e.kind (same_kind e.kind kind) e.name (entry_at R forms p e there).name
 
-  pub single_found : (i : ℕ) (w : Row) → i < length rows → w ≡ get_or rows i w → HoldsAt (λ (y : Row). nat_cmp y.number (number s) ≡ Equal) rows i → find is_it R ≡ slice_get R w.place
-  single_found i w l is tied =
-      found nat_cmp_total (λ (r : Row). r.number) (λ (r : Row). r.place) (single_row kind) (single_placed kind) R rows ix (number s) is_it agrees i w l is
-      (ap (λ (y : Row). nat_cmp y.number (number s)) is ∙ tied w)
-
-  pub single_seen : (i : ℕ) (w : Row) → i < length rows → w ≡ get_or rows i w → nat_cmp w.number (number s) ≡ Equal → find is_it R ≡ slice_get R w.place
-  single_seen i w l is tied =
-      found nat_cmp_total (λ (r : Row). r.number) (λ (r : Row). r.place) (single_row kind) (single_placed kind) R rows ix (number s) is_it agrees i w l is tied
-
-  pub single_absent : (i : ℕ)
-      → (IsNonDecreasingBy (λ (y : Row). ordering_index (nat_cmp y.number (number s))) rows → IsPartitionPoint (λ (y : Row). nat_cmp y.number (number s) ≡ Less) (λ (y : Row). nat_cmp y.number (number s) ≡ Greater) rows i)
-      → find is_it R ≡ None
-  single_absent i point =
-      absent nat_cmp_total (λ (r : Row). r.number) (λ (r : Row). r.place) (single_row kind) (single_placed kind) R rows ix (number s) is_it agrees i
-      (point (rises nat_cmp_total (λ (r : Row). r.number) (λ (r : Row). r.place) (single_row kind) (single_placed kind) R rows ix (number s)))
+  pub single_at : find is_it R ≡ option_and_then (slice_get R) (place_of (number s) rows)
+  single_at = by (find (λ (w : Row). eqb w.number (number s)) rows) refl
+    where
+      by : (o : Option Row) → find (λ (w : Row). eqb w.number (number s)) rows ≡ o → find is_it R ≡ option_and_then (slice_get R) (option_map (λ (w : Row). w.place) o)
+      by (Some w) is =
+          let at = found_passes (λ (v : Row). eqb v.number (number s)) rows w is in
+          found nat_cmp_total (λ (r : Row). r.number) (λ (r : Row). r.place) (single_row kind) (single_placed kind) R rows ix (number s) is_it agrees at.0 w at.1 at.2
+          (equal_if (nat_cmp w.number (number s)) (nats_equal w.number (number s) ∙ at.3))
+      by None is =
+          missing nat_cmp_total (λ (r : Row). r.number) (λ (r : Row). r.place) (single_row kind) (single_placed kind) R rows ix (number s) is_it agrees
+          (λ i w l at tied.
+          let no = unfound_fails (λ (v : Row). eqb v.number (number s)) rows is i w l at in
+          let bad : true ≡ false = ap is_eq (sym tied) ∙ nats_equal w.number (number s) ∙ no in cc)
 
 -- whole records
 

@@ -1,5 +1,5 @@
 -- The indexes beside a list of entries, by which a sorted table finds them.
-use Rattle.std.specs.Prelude.{ℕ, ◌≡◌, ◌≤◌, ◌<◌, ◌-◌, ◌+◌, ◌*◌, ◌^◌, nat_le, nat_lt, Bool, true, false, if◌then◌else◌, ◌&&◌, List, [], ◌∷◌, ◌++◌, length, Option, Some, None, All, find, replicate}
+use Rattle.std.specs.Prelude.{ℕ, ◌≡◌, ◌≤◌, ◌<◌, ◌-◌, ◌+◌, ◌*◌, ◌/◌, ◌%◌, ◌^◌, min, ◌==◌, nat_le, nat_lt, Bool, true, false, if◌then◌else◌, ◌&&◌, List, [], ◌∷◌, ◌++◌, length, Option, Some, None, All, find, replicate, slice_index}
 use Rattle.std.specs.List.{AllByRecursion, AllPairs, Any, Contains, slice_get, cons_option}
 use Rattle.std.specs.Option.{option_map, option_and_then, option_or, option_cmp}
 use Rattle.std.specs.Ordering.{nat_cmp, ordering_then}
@@ -145,9 +145,35 @@ IsSingles R kind rows = IsIndex (single_row kind) (λ (w : Row). w.place) (λ (w
 abbrev pub IsWholes : List EntryParts → List Row → Type 0
 IsWholes R rows = IsIndex whole_row (λ (w : Row). w.place) (whole_key R) key_cmp R rows
 
+-- each row has a greater number than those before it
+abbrev pub RowsRise : List Row → Type 0
+RowsRise rows = AllPairs (λ (v w : Row). nat_cmp v.number w.number ≡ Less) rows
+
+-- the place of the record of a number
+abbrev pub place_of : ℕ → List Row → Option ℕ
+place_of n rows = option_map (λ (w : Row). w.place) (find (λ (w : Row). w.number == n) rows)
+
+-- The beginning of a number: the first byte of its subtag, and the place of the second among the
+-- letters, which is 0 for a digit. A later number has no earlier beginning.
+abbrev pub beginning : ℕ → ℕ
+beginning n = n / 2 ^ 56 * 32 + min (n / 2 ^ 48 % 256 - 96) 31
+
+-- a row's index is not before the start of a beginning, and before that of the next
+pub record IsInSpan (starts : List ℕ) (k i : ℕ) : Type 0 where
+  pub listed : k + 1 < length starts
+  pub started : slice_index starts k ≤ i
+  pub not_ended : i < slice_index starts (k + 1)
+
+-- Where rows of each beginning start: each row stands in the span of its beginning, and none starts
+-- behind the last row.
+pub record AreStarts (rows : List Row) (starts : List ℕ) : Type 0 where
+  pub spans : (i : ℕ) (w : Row) → slice_get rows i ≡ Some w → IsInSpan starts (beginning w.number) i
+  pub bounded : All (λ start. start ≤ length rows) starts
+
 -- an index of the records of its kind
 pub record IsKindIndex (R : List EntryParts) (index : KindIndex) : Type 0 where
   pub singles : IsSingles R index.kind index.singles.items
+  pub starts : AreStarts index.singles.items index.starts.items
   pub ranges : AreStretches (range_rows index.kind 0 R) index.ranges.items
 
 -- the indexes of the kinds that are named by subtags, and of the whole records

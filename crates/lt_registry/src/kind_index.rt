@@ -1,7 +1,5 @@
 //! The records of one kind, sorted for a search.
-ghost use Rattle.std.specs.Prelude.{◌≡◌, ◌<◌, ◌/◌, ◌^◌, ◌&&◌, ℕ, true, length, slice_index_or, find, All, IfOk, IfSome};
-ghost use Rattle.std.specs.Ordering.{nat_cmp};
-ghost use Rattle.std.specs.declared.cmp.Ordering.TheVariants.{Equal};
+ghost use Rattle.std.specs.Prelude.{◌≡◌, ◌&&◌, length, find, All, IfOk};
 ghost use Rattle.std.specs.Option.{option_copied};
 ghost use Rattle.lt_registry.specs.Parts.{EntryParts};
 ghost use Rattle.lt_registry.specs.Same as same;
@@ -19,32 +17,14 @@ use crate::subtag_numbers::{number_of, rank_of};
 use lt_subtag::Subtag;
 use std::alloc::{AllocError, Global};
 
-/// The records of one kind: the single ones sorted by subtag, of equal names the first alone, and
-/// the stretches of the ranges.
+/// The records of one kind: the single ones sorted by subtag, of equal names the first alone, where
+/// those whose subtags begin alike start, and the stretches of the ranges.
 #[derive(Debug, Drop)]
 pub(crate) struct KindIndex {
     kind: Kind,
     singles: Vec<Row>,
-    spans: Vec<Span>,
+    starts: Vec<usize>,
     ranges: Vec<Stretch>,
-}
-
-/// Where single records whose subtags begin alike were seen among the sorted ones: from a first
-/// place to before a last one. A search looks there first.
-#[derive(Clone, Copy, Debug)]
-struct Span {
-    start: usize,
-    end: usize,
-}
-
-/// How many beginnings of subtags are told apart.
-const SPANS: usize = 2048;
-
-/// The span of a number: by the first letter of its subtag and the upper half of the second.
-fn span_of(number: u64) -> usize
-    ensures { result ≡ number / 2 ^ 52 }
-{
-    (number >> 52) as usize
 }
 
 impl KindIndex {
@@ -58,13 +38,13 @@ impl KindIndex {
         ensures index { IfOk result (sorted.IsKindIndex entries.now) }
     {
         let singles = singles(alloc, entries, kind)?;
-        let spans = spans(alloc, &singles)?;
+        let starts = starts(alloc, &singles)?;
         let rows = range_rows(alloc, entries, kind)?;
         let ranges = stretches(alloc, &rows)?;
         Ok(KindIndex {
             kind,
             singles,
-            spans,
+            starts,
             ranges,
         })
     }
@@ -87,23 +67,21 @@ impl KindIndex {
         requires forms { All IsEntry entries.now }
         ensures { option_copied result ≡ find (λ (e : EntryParts). same.same_kind e.kind self.now.kind && forms.is_named subtag.now e.name) entries.now }
     {
-        let number = number_of(subtag);
-        if let Some(row) = self.seen(number) {
-            return entry_at(entries, row.place);
-        }
-        match self.singles.binary_search_by_key(&number, |row| row.number) {
-            Ok(found) => entry_at(entries, self.singles[found].place),
-            Err(_) => None,
-        }
+        let place = self.place(number_of(subtag))?;
+        entry_at(entries, place)
     }
 
-    /// The row of a number, if it stands in the span of numbers that begin alike.
-    fn seen(&self, number: u64) -> Option<Row>
-        ensures { IfSome result (λ row. (i : ℕ) × (i < length self.now.singles.items)
-            × (row ≡ slice_index_or self.now.singles.items i row) × (nat_cmp row.number number ≡ Equal)) }
+    /// The place of the record of a number, which is looked for among those that begin alike.
+    fn place(&self, number: u64) -> Option<usize>
+        requires rising { sorted.RowsRise self.now.singles.items }
+        requires starts { sorted.AreStarts self.now.singles.items self.now.starts.items }
+        ensures { result ≡ sorted.place_of number self.now.singles.items }
     {
-        let span = self.spans.get(span_of(number))?;
-        row_between(&self.singles, span.start, span.end, number)
+        let beginning = beginning(number);
+        let start = *self.starts.get(beginning)?;
+        let end = *self.starts.get(beginning + 1)?;
+        let alike = self.singles.get(start..end)?;
+        place_of(alike, number)
     }
 
     /// The first range of the kind that holds a subtag.
@@ -130,35 +108,38 @@ fn singles(alloc: Global, entries: &[Entry], kind: Kind) -> Result<Vec<Row>, All
     Ok(rows)
 }
 
-/// The row of a number, if it stands among sorted rows from a first place to before a last one.
-fn row_between(rows: &[Row], start: usize, end: usize, number: u64) -> Option<Row>
-    ensures { IfSome result (λ row. (i : ℕ) × (i < length rows.now) × (row ≡ slice_index_or rows.now i row)
-        × (nat_cmp row.number number ≡ Equal)) }
+/// The beginning of a number: the first byte of its subtag, and the place of the second among the
+/// letters, which is 0 for a digit.
+fn beginning(number: u64) -> usize
+    ensures { result ≡ sorted.beginning number }
 {
-    if start > end || end > rows.len() {
-        return None;
-    }
-    let part = &rows[start..end];
-    match part.binary_search_by_key(&number, |row| row.number) {
-        Ok(found) => Some(part[found]),
+    let first = (number >> 56) as usize;
+    let second = (number >> 48) as usize % 256;
+    first * 32 + second.saturating_sub(96).min(31)
+}
+
+/// The place of the record of a number, by sorted rows.
+fn place_of(rows: &[Row], number: u64) -> Option<usize>
+    requires { sorted.RowsRise rows.now }
+    ensures { result ≡ sorted.place_of number rows.now }
+{
+    match rows.binary_search_by_key(&number, |row| row.number) {
+        Ok(found) => Some(rows[found].place),
         Err(_) => None,
     }
 }
 
-/// The spans of sorted rows.
-fn spans(alloc: Global, rows: &[Row]) -> Result<Vec<Span>, AllocError>
-    ensures { IfOk result (λ spans. length spans.items ≡ 2048) }
+/// Where sorted rows of each beginning start.
+fn starts(alloc: Global, rows: &[Row]) -> Result<Vec<usize>, AllocError>
+    requires { sorted.RowsRise rows.now }
+    ensures { IfOk result (λ starts. sorted.AreStarts rows.now starts.items) }
 {
-    let mut spans = vec![in alloc; Span { start: 0, end: 0 }; SPANS]?;
+    let mut starts = Vec::new(alloc);
     for (place, row) in rows.iter().enumerate() {
-        if let Some(span) = spans.get_mut(span_of(row.number)) {
-            if span.end == 0 {
-                span.start = place;
-            }
-            span.end = place + 1;
-        }
+        starts.resize(beginning(row.number) + 1, place)?;
     }
-    Ok(spans)
+    starts.push(rows.len())?;
+    Ok(starts)
 }
 
 /// The single records of a kind in the order of the file.

@@ -8,13 +8,18 @@ use lt_subtag::Subtag;
 /// How many numbers there are.
 const NUMBERS: u128 = 1 << 64;
 
-/// The bytes of a subtag, filled up with zeros, as one number. Numbers stand in the order of subtags.
+/// The bytes of a subtag, filled up with zeros, as one number. Numbers stand in the order of
+/// subtags. Most subtags have two or three bytes.
 #[tactic(auto, unfolding(crate::specs::Sorted::number))]
 pub(crate) fn number_of(subtag: &Subtag) -> u64
     ensures value { result ≡ sorted.number subtag.now }
     ensures subtag { is_subtag subtag.now ≡ true }
 {
-    u64::from_be_bytes(filled(subtag.bytes()))
+    match subtag.bytes() {
+        [first, second] => u64::from_be_bytes([*first, *second, 0, 0, 0, 0, 0, 0]),
+        [first, second, third] => u64::from_be_bytes([*first, *second, *third, 0, 0, 0, 0, 0]),
+        bytes => u64::from_be_bytes(filled(bytes)),
+    }
 }
 
 /// The rank of a subtag: its length, and behind it its number. So subtags of one length stand together, in their order.
