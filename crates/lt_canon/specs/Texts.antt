@@ -1,5 +1,5 @@
 -- What is owed for a text that is to be made canonical.
-use Rattle.std.specs.Prelude.{ℕ, ◌≡◌, List, Result, Ok, Err}
+use Rattle.std.specs.Prelude.{ℕ, ◌≡◌, List, ◌++◌, Result, Ok, Err}
 use Rattle.lt_tag.specs.Parts.{TagForm}
 use Rattle.lt_tag.specs.WellFormed.{spell}
 use Rattle.lt_tag.specs.Conventional.{conventional}
@@ -17,6 +17,12 @@ pub record IsCanonicalTextOf (R : List EntryParts) (text canonical : List ℕ) :
   pub form : TagForm
   pub is_form : IsCanonicalFormOf R tag form
   pub written : canonical ≡ conventional (spell form)
+
+-- such a text was appended
+pub record AppendsCanonicalText (R : List EntryParts) (text old new : List ℕ) : Type 0 where
+  pub canonical : List ℕ
+  pub grown : new ≡ old ++ canonical
+  pub is_canonical : IsCanonicalTextOf R text canonical
 
 -- the text is read as a tag of which this holds
 pub record ReadsAs (text : List ℕ) (P : TagForm → Type 0) : Type 0 where

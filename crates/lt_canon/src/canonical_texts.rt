@@ -1,13 +1,34 @@
 //! Canonical texts.
-ghost use Rattle.std.specs.Prelude.{IfOk, IfErr};
-ghost use Rattle.lt_canon.specs.Texts.{IsCanonicalTextOf, IsTextRefusal};
+ghost use Rattle.std.specs.Prelude.{◌≡◌, IfOk, IfErr, OnOk, OnErr};
+ghost use Rattle.lt_canon.specs.Texts.{AppendsCanonicalText, IsCanonicalTextOf, IsTextRefusal};
 
 use crate::canonical_tags::canonical;
 use crate::checked::Checked;
 use crate::refusals::TextRefusal;
 use lt_registry::Lookup;
-use lt_tag::{read_tag, write_tag};
+use lt_tag::{append_tag, read_tag};
 use std::alloc::Global;
+
+/// Appends the text, in conventional case, of the canonical form of the tag that a text is read as.
+/// A refusal leaves what was there.
+///
+/// - `NotATag`, with the fault that `read_tag` tells, exactly where the text is read as none.
+/// - `Invalid` and `ReplacementRepeats` where `canonical` refuses the tag so.
+pub fn append_canonical_text<L: Lookup>(
+    alloc: Global,
+    checked: &Checked<L>,
+    text: &[u8],
+    texts: &mut Vec<u8>,
+) -> Result<(), TextRefusal>
+    ensures appended { OnOk result (AppendsCanonicalText (L.listed checked.now) text.now texts.old.items texts.new.items) }
+    ensures refusal { IfErr result (λ refusal. IsTextRefusal (L.listed checked.now) text.now refusal) }
+    ensures kept { OnErr result (texts.new.items ≡ texts.old.items) }
+{
+    let tag = read_tag(alloc, text)?;
+    let form = canonical(alloc, checked, &tag)?;
+    append_tag(texts, &form)?;
+    Ok(())
+}
 
 /// The text, in conventional case, of the canonical form of the tag that a text is read as.
 ///
@@ -21,7 +42,7 @@ pub fn canonical_text<L: Lookup>(
     ensures written { IfOk result (λ canonical. IsCanonicalTextOf (L.listed checked.now) text.now canonical.items) }
     ensures refusal { IfErr result (λ refusal. IsTextRefusal (L.listed checked.now) text.now refusal) }
 {
-    let tag = read_tag(alloc, text)?;
-    let form = canonical(alloc, checked, &tag)?;
-    Ok(write_tag(alloc, &form)?)
+    let mut canonical = Vec::new(alloc);
+    append_canonical_text(alloc, checked, text, &mut canonical)?;
+    Ok(canonical)
 }

@@ -26,7 +26,7 @@ mod whole_checks;
 mod whole_values;
 
 pub use canonical_tags::canonical;
-pub use canonical_texts::canonical_text;
+pub use canonical_texts::{append_canonical_text, canonical_text};
 pub use checked::Checked;
 pub use conditions::{Condition, UpgradeCondition};
 pub use equivalence::equivalent;

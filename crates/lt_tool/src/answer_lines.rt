@@ -4,23 +4,24 @@ ghost use Rattle.lt_jar.specs.Lines.{content_of};
 ghost use Rattle.lt_tool.specs.Answering.{AppendsOwed, AppendsRefusal};
 ghost use Rattle.lt_tool.specs.Owed.{refusal_line, repeat_line};
 
-use lt_canon::{Checked, TextRefusal, canonical_text};
+use itoa::Buffer;
+use lt_canon::{Checked, TextRefusal, append_canonical_text};
 use lt_registry::Lookup;
 use lt_subtag::Subtag;
 use lt_tag::OutOfMemory;
 use std::alloc::{AllocError, Global};
 
 /// Appends the line of a fault: its name and its place.
-fn append_fault(
-    lines: &mut Vec<u8>,
-    alloc: Global,
-    name: &str,
-    place: u32,
-) -> Result<(), AllocError>
+fn append_fault(lines: &mut Vec<u8>, name: &str, place: u32) -> Result<(), AllocError>
     ensures { OnOk result (lines.new.items ≡ lines.old.items ++ refusal_line name.now place) }
 {
-    let line = format!(in alloc; "! {name} {place}\n")?;
-    lines.extend_from_slice(line.as_bytes())
+    let mut digits = Buffer::new();
+    lines.extend_from_slice(b"! ")?;
+    lines.extend_from_slice(name.as_bytes())?;
+    lines.push(b' ')?;
+    lines.extend_from_slice(digits.format(place).as_bytes())?;
+    lines.push(b'\n')?;
+    Ok(())
 }
 
 /// Appends the line of a variant that steps can repeat.
@@ -34,16 +35,12 @@ fn append_repeat(lines: &mut Vec<u8>, variant: &Subtag) -> Result<(), AllocError
 }
 
 /// Appends the line of a refusal.
-pub(crate) fn append_refusal(
-    lines: &mut Vec<u8>,
-    alloc: Global,
-    refusal: &TextRefusal,
-) -> Result<(), OutOfMemory>
+pub(crate) fn append_refusal(lines: &mut Vec<u8>, refusal: &TextRefusal) -> Result<(), OutOfMemory>
     ensures { OnOk result (AppendsRefusal refusal.now lines.old.items lines.new.items) }
 {
     match refusal {
-        TextRefusal::NotATag(fault) => append_fault(lines, alloc, fault.kind.name(), fault.place)?,
-        TextRefusal::Invalid(fault) => append_fault(lines, alloc, fault.kind.name(), fault.place)?,
+        TextRefusal::NotATag(fault) => append_fault(lines, fault.kind.name(), fault.place)?,
+        TextRefusal::Invalid(fault) => append_fault(lines, fault.kind.name(), fault.place)?,
         TextRefusal::ReplacementRepeats(variant) => append_repeat(lines, variant)?,
         TextRefusal::OutOfMemory => return Err(OutOfMemory),
     }
@@ -69,14 +66,13 @@ pub(crate) fn append_answer<L: Lookup>(
 ) -> Result<bool, OutOfMemory>
     ensures { IfOk result (AppendsOwed (L.listed checked.now) (λ text. text ≡ content_of line.now) lines.old.items lines.new.items) }
 {
-    match canonical_text(alloc, checked, without_return(line)) {
-        Ok(text) => {
-            lines.extend_from_slice(&text)?;
+    match append_canonical_text(alloc, checked, without_return(line), lines) {
+        Ok(()) => {
             lines.push(b'\n')?;
             Ok(false)
         }
         Err(refusal) => {
-            append_refusal(lines, alloc, &refusal)?;
+            append_refusal(lines, &refusal)?;
             Ok(true)
         }
     }

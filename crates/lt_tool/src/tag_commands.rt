@@ -22,7 +22,7 @@ fn answer_refusal(alloc: Global, refusal: &TextRefusal) -> Result<Answer, OutOfM
     ensures status { IfOk result (λ answer. answer.status ≡ Refused) }
 {
     let mut line = Vec::new(alloc);
-    append_refusal(&mut line, alloc, refusal)?;
+    append_refusal(&mut line, refusal)?;
     Ok(Answer {
         line,
         status: Status::Refused,

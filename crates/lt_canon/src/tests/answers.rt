@@ -3,7 +3,10 @@ use super::explanations::explanations;
 use super::sample::{sample, sorted_sample};
 use super::traces::traces;
 use crate::laws::confluence;
-use crate::{Checked, Refusal, TextRefusal, canonical, canonical_text, equivalent, extlang_form};
+use crate::{
+    Checked, Refusal, TextRefusal, append_canonical_text, canonical, canonical_text, equivalent,
+    extlang_form,
+};
 use lt_registry::Lookup;
 use lt_tag::{OutOfMemory, Tag, read_tag, write_tag};
 use std::alloc::{AllocError, Global};
@@ -86,6 +89,18 @@ fn canonical_texts<L: Lookup>(rt: &impl Abort, alloc: Global, checked: &Checked<
             "{text}"
         );
     }
+}
+
+/// Whether two canonical texts are appended, and nothing between them where a text is refused.
+fn appends<L: Lookup>(alloc: Global, checked: &Checked<L>) -> bool {
+    let mut texts = Vec::new(alloc);
+    let first = append_canonical_text(alloc, checked, b"I-KLINGON", &mut texts);
+    let refused = append_canonical_text(alloc, checked, b"fr", &mut texts);
+    let second = append_canonical_text(alloc, checked, b"zh-cmn-hans", &mut texts);
+    first.is_ok()
+        && refused.is_err()
+        && second.is_ok()
+        && texts.as_slice() == b"tlhcmn-Hans".as_slice()
 }
 
 /// Whether a text has a fault of that name at that place.
@@ -299,6 +314,7 @@ fn gives_answers<L: Lookup>(
     checked: &Checked<L>,
 ) -> Result<(), Fail> {
     canonical_texts(rt, alloc, checked);
+    assert!(rt; appends(alloc, checked));
     texts_with_faults(rt, alloc, checked);
     replacements_that_repeat(rt, alloc, checked);
     the_longest_text(rt, alloc, checked)?;

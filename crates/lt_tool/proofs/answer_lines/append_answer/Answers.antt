@@ -6,17 +6,15 @@ use Rattle.lt_tool.proofs.answer_lines.append_answer.Goals as goal
 pub returns-in_ok-push-in-Ok : goal.returns-in_ok-push-in-Ok
 returns-in_ok-push-in-Ok g c =
     let R = g.L.Lookup.listed c.args.checked.now in
-    let text = c.in-Ok.text.items in
-    let old = c.args.lines.now.items in
-    let canonical = c.in-Ok.ensures.written in
+    let appended = c.in-Ok.ensures.appended in
+    let text = appended.canonical in
     record {
       line = text ++ 10 ∷ [];
-      grown = c.in_ok-push-in-Ok.ensures.items ∙ ap (λ (l : List ℕ). l ++ 10 ∷ []) (c.in_ok-extend_from_slice-in-Ok.ensures.items ∙ ap (λ (l : List ℕ). old ++ l) c.deref.ensures.value)
-          ∙ append_assoc old text (10 ∷ []);
-      refused_is = sym (canonical_answers R c.without_return.result.now text canonical);
+      grown = c.in_ok-push-in-Ok.ensures.items ∙ ap (λ (l : List ℕ). l ++ 10 ∷ []) appended.grown ∙ append_assoc c.args.lines.now.items text (10 ∷ []);
+      refused_is = sym (canonical_answers R c.without_return.result.now text appended.is_canonical);
       owed_for = λ t e. inl (record {
         canonical = text;
-        is_canonical = subst (λ (l : List ℕ). IsCanonicalTextOf R l text) (c.without_return.ensures ∙ sym e) canonical;
+        is_canonical = subst (λ (l : List ℕ). IsCanonicalTextOf R l text) (c.without_return.ensures ∙ sym e) appended.is_canonical;
         line_is = refl;
       });
     }
