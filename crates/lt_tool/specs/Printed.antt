@@ -11,7 +11,6 @@ use Rattle.lt_tag.specs.WellFormed.{spell}
 use Rattle.lt_tag.specs.declared.faults.TagFault.{TagFault}
 use Rattle.lt_tag.specs.declared.tags.Class.{Class}
 use Rattle.lt_tag.specs.declared.tags.Class.TheVariants as classes
-use Rattle.lt_jar.specs.Devices.{inner_of}
 use Rattle.lt_jar.specs.declared.devices.Device.{Device}
 use Rattle.lt_registry.specs.Parts.{EntryParts}
 use Rattle.lt_tool.specs.Codes.{code_of, fault_said}
@@ -54,21 +53,24 @@ Classifies text line status.Usage = ⊥
 Classifies text line status.Failed = ⊥
 
 -- a run that prints a line of which this holds
-pub record PrintsAnswer (IsAnswer : List ℕ → Status → Type 0) (output output' errors errors' : Option (List ℕ)) (result : ℕ) : Type 0 where
+pub record PrintsAnswer {O : Type 0} (contents : O → Option (List ℕ)) (IsAnswer : List ℕ → Status → Type 0) (output output' : Device O)
+    (errors errors' : Option (List ℕ)) (result : ℕ) : Type 0 where
   pub line : List ℕ
   pub end : Status
   pub answers : IsAnswer line end
-  pub prints : Prints output output' errors errors' line end result
+  pub prints : Prints contents output output' errors errors' line end result
 
 -- such a run, or one that had no memory for its answer
-abbrev pub PrintsOrLacks : (List ℕ → Status → Type 0) → (output output' errors errors' : Option (List ℕ)) → ℕ → Type 0
-PrintsOrLacks IsAnswer output output' errors errors' result =
-    LacksMemory output output' errors errors' result ⊎ PrintsAnswer IsAnswer output output' errors errors' result
+abbrev pub PrintsOrLacks : {O : Type 0} → (O → Option (List ℕ)) → (List ℕ → Status → Type 0) → (output output' : Device O)
+    → (errors errors' : Option (List ℕ)) → ℕ → Type 0
+PrintsOrLacks contents IsAnswer output output' errors errors' result =
+    LacksMemory output output' errors errors' result ⊎ PrintsAnswer contents IsAnswer output output' errors errors' result
 
 -- the answer was printed, or there was no memory for it
-abbrev pub PrintsResult : (output output' errors errors' : Option (List ℕ)) → Result Answer OutOfMemory → ℕ → Type 0
-PrintsResult output output' errors errors' (Ok answer) result = Prints output output' errors errors' answer.line.items answer.status result
-PrintsResult output output' errors errors' (Err none) result = LacksMemory output output' errors errors' result
+abbrev pub PrintsResult : {O : Type 0} → (O → Option (List ℕ)) → (output output' : Device O) → (errors errors' : Option (List ℕ))
+    → Result Answer OutOfMemory → ℕ → Type 0
+PrintsResult contents output output' errors errors' (Ok answer) result = Prints contents output output' errors errors' answer.line.items answer.status result
+PrintsResult contents output output' errors errors' (Err none) result = LacksMemory output output' errors errors' result
 
 -- how a run over lines ends: what ended it early is said on the errors
 abbrev pub EndsRun : Option (List ℕ) → Option (List ℕ) → Result Counts ToolFault → ℕ → Type 0
@@ -93,35 +95,35 @@ pub record RunsCanon {I O : Type 0} (remaining : I → Option (List ℕ)) (conte
 abbrev pub Canonicalises : {I O : Type 0} → (I → Option (List ℕ)) → (O → Option (List ℕ)) → List ℕ → (input input' : Device I) → (output output' : Device O)
     → (errors errors' : Option (List ℕ)) → ℕ → Type 0
 Canonicalises remaining contents file input input' output output' errors errors' result =
-    PrintsOrLacks (Refuses file) (contents (inner_of output)) (contents (inner_of output')) errors errors' result
+    ((input' ≡ input) × PrintsOrLacks contents (Refuses file) output output' errors errors' result)
     ⊎ RunsCanon remaining contents file input input' output output' errors errors' result
 
 -- what a run of a command wrote to its output and its errors, and its exit status
 abbrev pub Performs : {I O : Type 0} → (I → Option (List ℕ)) → (O → Option (List ℕ)) → Command → List ℕ → (input input' : Device I) → (output output' : Device O)
     → (errors errors' : Option (List ℕ)) → ℕ → Type 0
 Performs remaining contents (command.Classify tag) file input input' output output' errors errors' result =
-    PrintsOrLacks (Classifies (string_bytes tag)) (contents (inner_of output)) (contents (inner_of output')) errors errors' result
+    (input' ≡ input) × PrintsOrLacks contents (Classifies (string_bytes tag)) output output' errors errors' result
 Performs remaining contents (command.Check name) file input input' output output' errors errors' result =
-    PrintsOrLacks (Checks file) (contents (inner_of output)) (contents (inner_of output')) errors errors' result
+    (input' ≡ input) × PrintsOrLacks contents (Checks file) output output' errors errors' result
 Performs remaining contents (command.Canon name) file input input' output output' errors errors' result =
     Canonicalises remaining contents file input input' output output' errors errors' result
 Performs remaining contents (command.Extlang name tag) file input input' output output' errors errors' result =
-    PrintsOrLacks (ByRegistry file (λ R. FormsExtlang R (string_bytes tag))) (contents (inner_of output)) (contents (inner_of output')) errors errors' result
+    (input' ≡ input) × PrintsOrLacks contents (ByRegistry file (λ R. FormsExtlang R (string_bytes tag))) output output' errors errors' result
 Performs remaining contents (command.Equal name tag other) file input input' output output' errors errors' result =
-    PrintsOrLacks (ByRegistry file (λ R. Compares R (string_bytes tag) (string_bytes other))) (contents (inner_of output)) (contents (inner_of output')) errors errors' result
+    (input' ≡ input) × PrintsOrLacks contents (ByRegistry file (λ R. Compares R (string_bytes tag) (string_bytes other))) output output' errors errors' result
 Performs remaining contents (command.Explain name tag) file input input' output output' errors errors' result =
-    PrintsOrLacks (ByRegistry file (λ R. Explains R (string_bytes tag))) (contents (inner_of output)) (contents (inner_of output')) errors errors' result
+    (input' ≡ input) × PrintsOrLacks contents (ByRegistry file (λ R. Explains R (string_bytes tag))) output output' errors errors' result
 
 -- a run whose words are not those of a command says why on its errors
-pub record SaysUsage (output output' errors errors' : Option (List ℕ)) (text : List ℕ) (result : ℕ) : Type 0 where
+pub record SaysUsage {O : Type 0} (output output' : Device O) (errors errors' : Option (List ℕ)) (text : List ℕ) (result : ℕ) : Type 0 where
   pub usage : result ≡ code_of status.Usage
-  pub printed : Keeps output output'
+  pub printed : output' ≡ output
   pub said : Says errors errors' text
 
 -- what a run whose words ask for no command wrote, and its exit status
-abbrev pub Reports : WordsFault → (output output' errors errors' : Option (List ℕ)) → ℕ → Type 0
-Reports (fault.Help text) output output' errors errors' result =
-    Prints output output' errors errors' (string_bytes text) status.Done result
-Reports (fault.Usage text) output output' errors errors' result =
+abbrev pub Reports : {O : Type 0} → WordsFault → (O → Option (List ℕ)) → (output output' : Device O) → (errors errors' : Option (List ℕ)) → ℕ → Type 0
+Reports (fault.Help text) contents output output' errors errors' result =
+    Prints contents output output' errors errors' (string_bytes text) status.Done result
+Reports (fault.Usage text) contents output output' errors errors' result =
     SaysUsage output output' errors errors' (string_bytes text) result
-Reports fault.OutOfMemory output output' errors errors' result = LacksMemory output output' errors errors' result
+Reports fault.OutOfMemory contents output output' errors errors' result = LacksMemory output output' errors errors' result

@@ -1,10 +1,11 @@
 //! What a run of the program writes.
 ghost use Rattle.std.specs.Prelude.{◌≡◌};
 ghost use Rattle.lt_tool.specs.Codes.{code_of};
-ghost use Rattle.lt_tool.specs.Written.{Prints, Says, WritesOut, file_line, memory_line};
+ghost use Rattle.lt_tool.specs.Written.{Prints, Says, file_line, memory_line};
 ghost use Rattle.lt_tool.specs.Printed.{Canonicalises, EndsRun, Performs, PrintsResult, Reports};
 ghost use Rattle.lt_tool.specs.declared.status.Status.TheVariants.{Failed};
 
+use crate::device_output::write_text;
 use crate::faults::ToolFault;
 use crate::lines::{Answer, classify};
 use crate::registries::{check, read_registry, refuse};
@@ -17,38 +18,36 @@ use lt_tag::OutOfMemory;
 use std::alloc::Global;
 use std::io::{Read, Write};
 
-/// Writes a text, up to the first write that fails, and tells whether none did.
-fn write_out<O: Write>(text: &[u8], output: &mut O) -> bool
-    ensures { WritesOut (O.contents output.old) (O.contents output.new) text.now result }
-{
-    let mut at = 0;
-    while at < text.len() {
-        match output.write(&text[at..]) {
-            Ok(0) => return false,
-            Ok(count) => at += count,
-            Err(_) => return false,
-        }
-    }
-    output.flush().is_ok()
-}
-
-/// Writes a text to the errors, where a write that fails is ignored.
+/// Writes a text to the errors, up to the first write that fails, which is ignored.
 fn say<E: Write>(text: &[u8], errors: &mut E)
     ensures { Says (E.contents errors.old) (E.contents errors.new) text.now }
 {
-    let _ = write_out(text, errors);
+    let mut at = 0;
+    while at < text.len() {
+        match errors.write(&text[at..]) {
+            Ok(0) => return,
+            Ok(count) => at += count,
+            Err(_) => return,
+        }
+    }
 }
 
 /// Prints a text, for a run that ends so.
-fn print<O: Write, E: Write>(text: &[u8], end: Status, output: &mut O, errors: &mut E) -> Status
-    ensures { Prints (O.contents output.old) (O.contents output.new) (E.contents errors.old) (E.contents errors.new)
-        text.now end (code_of result) }
+fn print<O: Write, E: Write>(
+    text: &[u8],
+    end: Status,
+    output: &mut Device<O>,
+    errors: &mut E,
+) -> Status
+    ensures { Prints O.contents output.old output.new (E.contents errors.old) (E.contents errors.new) text.now end (code_of result) }
 {
-    if write_out(text, output) {
-        return end;
+    match write_text(text, output) {
+        Ok(()) => end,
+        Err(fault) => {
+            say(fault.line().as_bytes(), errors);
+            Status::Failed
+        }
     }
-    say(b"! Write\n", errors);
-    Status::Failed
 }
 
 /// Says that no memory was left.
@@ -77,11 +76,10 @@ fn end_run<E: Write>(end: Result<Counts, ToolFault>, errors: &mut E) -> Status
 /// Prints an answer, or says that no memory was left.
 fn print_answer<O: Write, E: Write>(
     answer: Result<Answer, OutOfMemory>,
-    output: &mut O,
+    output: &mut Device<O>,
     errors: &mut E,
 ) -> Status
-    ensures { PrintsResult (O.contents output.old) (O.contents output.new) (E.contents errors.old) (E.contents errors.new)
-        answer (code_of result) }
+    ensures { PrintsResult O.contents output.old output.new (E.contents errors.old) (E.contents errors.new) answer (code_of result) }
 {
     match answer {
         Ok(answer) => print(&answer.line, answer.status, output, errors),
@@ -168,9 +166,8 @@ pub fn report_file<E: Write>(errors: &mut E) -> u8
 /// Says why the words are no command, and answers the exit status.
 ///
 /// Help goes to `output`, and any other fault to `errors`.
-pub fn report<O: Write, E: Write>(fault: &WordsFault, output: &mut O, errors: &mut E) -> u8
-    ensures { Reports fault.now (O.contents output.old) (O.contents output.new) (E.contents errors.old)
-        (E.contents errors.new) result }
+pub fn report<O: Write, E: Write>(fault: &WordsFault, output: &mut Device<O>, errors: &mut E) -> u8
+    ensures { Reports fault.now O.contents output.old output.new (E.contents errors.old) (E.contents errors.new) result }
 {
     let status = match fault {
         WordsFault::Help(text) => print(text.as_bytes(), Status::Done, output, errors),

@@ -3,7 +3,7 @@ mod registries;
 mod sample;
 mod tags;
 
-use crate::{Command, Status, WordsFault, perform, read_words, report};
+use crate::{Command, Status, ToolFault, WordsFault, perform, read_words, report, report_file};
 use lt_jar::Device;
 use std::alloc::{AllocError, Global};
 use std::io::{self, ErrorKind, Write};
@@ -141,10 +141,11 @@ fn prints(
 }
 
 /// A text, what `classify` prints of it, and its status.
-const CLASSES: [(&str, &str, u8); 23] = [
+const CLASSES: [(&str, &str, u8); 24] = [
     ("ZH-yue-hant-hk", "langtag zh-yue-Hant-HK\n", 0),
     ("sl-ROZAJ-1994", "langtag sl-rozaj-1994\n", 0),
     ("en-1ABC", "langtag en-1abc\n", 0),
+    ("zh-min", "grandfathered zh-min\n", 0),
     ("zh-MIN", "grandfathered zh-min\n", 0),
     ("en-gb-OED", "grandfathered en-GB-oed\n", 0),
     ("SGN-be-fr", "grandfathered sgn-BE-FR\n", 0),
@@ -255,7 +256,7 @@ fn writes_that_fail(rt: HostRuntime) {
 /// Whether a fault of the words prints this, says this to the errors, and ends so.
 fn reports(alloc: Global, fault: &WordsFault, printed: &str, said: &str, end: Status) -> bool {
     let (mut output, mut errors) = (Vec::new(alloc), Vec::new(alloc));
-    let status = report(fault, &mut output, &mut errors);
+    let status = report(fault, &mut Device::new(&mut output), &mut errors);
     status == end.code()
         && output.as_slice() == printed.as_bytes()
         && errors.as_slice() == said.as_bytes()
@@ -264,7 +265,8 @@ fn reports(alloc: Global, fault: &WordsFault, printed: &str, said: &str, end: St
 /// Whether a fault of the words that can't be printed is named on the errors.
 fn reports_write(alloc: Global, fault: &WordsFault) -> bool {
     let mut errors = Vec::new(alloc);
-    let status = report(fault, &mut Broken { fails: true }, &mut errors);
+    let mut output = Device::new(Broken { fails: true });
+    let status = report(fault, &mut output, &mut errors);
     status == 4 && errors.as_slice() == b"! Write\n".as_slice()
 }
 
@@ -278,4 +280,12 @@ fn faults_of_the_words(rt: HostRuntime) -> Result<(), Fail> {
     let memory = WordsFault::OutOfMemory;
     assert!(rt; reports(rt.alloc(), &memory, "", "! OutOfMemory\n", Status::Failed));
     Ok(())
+}
+
+#[test]
+fn files_that_fail(rt: HostRuntime) {
+    let mut errors = Vec::new(rt.alloc());
+    assert!(rt; report_file(&mut errors) == Status::Failed.code());
+    assert!(rt; errors.as_slice() == b"! File\n".as_slice());
+    assert!(rt; ToolFault::TooManyTurns.name() == "TooManyTurns");
 }

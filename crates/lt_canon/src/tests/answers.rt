@@ -81,13 +81,12 @@ fn comes_to<L: Lookup>(alloc: Global, checked: &Checked<L>, text: &[u8], canonic
     }
 }
 
-/// Each text has its canonical text.
+/// Each text has its canonical text, and that is its own.
 fn canonical_texts<L: Lookup>(rt: &impl Abort, alloc: Global, checked: &Checked<L>) {
     for (text, canonical) in &CANONICAL {
-        assert!(rt;
-            comes_to(alloc, checked, text.as_bytes(), canonical.as_bytes()),
-            "{text}"
-        );
+        let wanted = canonical.as_bytes();
+        assert!(rt; comes_to(alloc, checked, text.as_bytes(), wanted), "{text}");
+        assert!(rt; comes_to(alloc, checked, wanted, wanted), "{canonical}");
     }
 }
 
@@ -238,21 +237,22 @@ fn has_extlang_form<L: Lookup>(
     Ok(is_answer(alloc, extlang_form(alloc, checked, &tag), wanted)?)
 }
 
-/// Tags with their forms with extlangs.
-const EXTLANG_FORMS: [(&str, &str); 3] = [
-    ("cmn-hans", "zh-cmn-Hans"),
-    ("min", "ms-min"),
-    ("en", "en"),
+/// Tags with their forms with extlangs, and the canonical forms of those.
+const EXTLANG_FORMS: [(&str, &str, &str); 3] = [
+    ("cmn-hans", "zh-cmn-Hans", "cmn-Hans"),
+    ("min", "ms-min", "min"),
+    ("en", "en", "en"),
 ];
 
-/// Each tag has its form with extlangs.
+/// Each tag has its form with extlangs, which is led back.
 fn extlang_forms<L: Lookup>(
     rt: &impl Abort,
     alloc: Global,
     checked: &Checked<L>,
 ) -> Result<(), Fail> {
-    for (text, wanted) in &EXTLANG_FORMS {
+    for (text, wanted, canonical) in &EXTLANG_FORMS {
         assert!(rt; has_extlang_form(alloc, checked, text, wanted)?, "{text}");
+        assert!(rt; has_form(alloc, checked, wanted, canonical)?, "{wanted}");
     }
     Ok(())
 }

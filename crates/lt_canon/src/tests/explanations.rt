@@ -1,54 +1,137 @@
 use crate::{Checked, Refusal, explain};
-use lt_registry::Lookup;
-use lt_rewrite::{Step, StepKind};
-use lt_tag::{read_tag, write_tag};
+use lt_registry::{Lookup, proper};
+use lt_rewrite::{Step, StepKind, apply};
+use lt_tag::{Tag, read_tag, write_tag};
 use std::alloc::Global;
 use std::process::Abort;
 use std::test::Fail;
 
-/// Texts, the kinds, places and records of their steps, and the texts to which these lead.
-const EXPLAINED: [(&str, &[(StepKind, u32, u32)], &str); 5] = [
+/// A step: its kind, its place and its record, and the text to which it leads.
+type Row = (StepKind, u32, u32, &'static str);
+
+/// Texts, their steps, and the canonical texts.
+const EXPLAINED: [(&str, &[Row], &str); 7] = [
     (
         "sgn-dd",
-        &[(StepKind::Region, 2, 27), (StepKind::Whole, 1, 44)],
+        &[
+            (StepKind::Region, 2, 27, "sgn-DE"),
+            (StepKind::Whole, 1, 44, "gsg"),
+        ],
         "gsg",
     ),
-    ("gsg", &[], "gsg"),
-    ("zh-cmn", &[(StepKind::Extlang, 2, 20)], "cmn"),
     (
-        "en-u-foo-bar-foo",
+        "hy-arevela-arevmda",
         &[
-            (StepKind::DropAttribute, 5, 0),
-            (StepKind::SwapAttributes, 3, 0),
+            (StepKind::VariantLanguage, 2, 34, "hy-arevmda"),
+            (StepKind::VariantLanguage, 2, 35, "hyw"),
         ],
-        "en-u-bar-foo",
+        "hyw",
     ),
-    ("en-t-iw", &[(StepKind::Language, 3, 9)], "en-t-he"),
+    (
+        "en-u-foo-bar-foo-nu-latn-ca-buddhist-NU-arab",
+        &[
+            (
+                StepKind::DropAttribute,
+                5,
+                0,
+                "en-u-foo-bar-nu-latn-ca-buddhist-nu-arab",
+            ),
+            (
+                StepKind::SwapAttributes,
+                3,
+                0,
+                "en-u-bar-foo-nu-latn-ca-buddhist-nu-arab",
+            ),
+            (
+                StepKind::DropKeyword,
+                9,
+                0,
+                "en-u-bar-foo-nu-latn-ca-buddhist",
+            ),
+            (
+                StepKind::SwapKeywords,
+                5,
+                0,
+                "en-u-bar-foo-ca-buddhist-nu-latn",
+            ),
+        ],
+        "en-u-bar-foo-ca-buddhist-nu-latn",
+    ),
+    (
+        "en-u-kn-true-ca-true",
+        &[
+            (StepKind::SwapKeywords, 3, 0, "en-u-ca-true-kn-true"),
+            (StepKind::DropTrue, 4, 0, "en-u-ca-kn-true"),
+            (StepKind::DropTrue, 5, 0, "en-u-ca-kn"),
+        ],
+        "en-u-ca-kn",
+    ),
+    ("gsg", &[], "gsg"),
+    ("zh-cmn", &[(StepKind::Extlang, 2, 20, "cmn")], "cmn"),
+    (
+        "en-t-iw",
+        &[(StepKind::Language, 3, 9, "en-t-he")],
+        "en-t-he",
+    ),
 ];
 
 /// Whether a step is of the kind, at the place and by the record.
-fn is_step(step: &Step, row: &(StepKind, u32, u32)) -> bool {
-    let (kind, place, number) = *row;
+fn is_step(step: &Step, row: &Row) -> bool {
+    let (kind, place, number, _) = *row;
     step.kind == kind && step.place == place && step.number == number
 }
 
-/// Whether these are the steps from a text to the other.
+/// The tag to which a step leads from another, which is proper, if it is printed so.
+fn led<L: Lookup>(
+    alloc: Global,
+    table: &L,
+    tag: &Tag,
+    step: &Step,
+    text: &str,
+) -> Result<Tag, Fail> {
+    let _ = tag.extensions();
+    let is_proper = proper(alloc, table, tag)?;
+    if !is_proper {
+        return Err(Fail::from("not proper"));
+    }
+    let next = apply(alloc, table, tag, step).map_err(|fault| fault.name())?;
+    if write_tag(alloc, &next)?.as_slice() == text.as_bytes() {
+        Ok(next)
+    } else {
+        Err(Fail::from("another text"))
+    }
+}
+
+/// Whether these steps lead one after another from a tag to the texts of their rows.
+fn lead_on<L: Lookup>(
+    alloc: Global,
+    table: &L,
+    tag: &Tag,
+    steps: &[Step],
+    rows: &[Row],
+) -> Result<bool, Fail> {
+    let mut here = tag.copy(alloc)?;
+    for (step, row) in steps.iter().zip(rows) {
+        here = led(alloc, table, &here, step, row.3)?;
+    }
+    Ok(steps.len() == rows.len() && steps.iter().zip(rows).all(|(step, row)| is_step(step, row)))
+}
+
+/// Whether these are the steps from a text to its canonical text.
 fn is_explained<L: Lookup>(
     alloc: Global,
     checked: &Checked<L>,
-    text: &[u8],
-    steps: &[(StepKind, u32, u32)],
-    last: &[u8],
+    text: &str,
+    rows: &[Row],
+    last: &str,
 ) -> Result<bool, Fail> {
-    let tag = read_tag(alloc, text)?;
+    let tag = read_tag(alloc, text.as_bytes())?;
     let trace = explain(alloc, checked, &tag).map_err(|_| "an explanation")?;
-    let led = write_tag(alloc, &trace.last)?;
-    let same = trace
-        .steps
-        .iter()
-        .zip(steps)
-        .all(|(step, row)| is_step(step, row));
-    Ok(same && trace.steps.len() == steps.len() && led.as_slice() == last)
+    let end = write_tag(alloc, &trace.last)?;
+    Ok(
+        end.as_slice() == last.as_bytes()
+            && lead_on(alloc, checked.table(), &tag, &trace.steps, rows)?,
+    )
 }
 
 /// Whether it was refused for an unknown language, the first subtag.
@@ -79,9 +162,8 @@ pub(super) fn explanations<L: Lookup>(
     checked: &Checked<L>,
 ) -> Result<(), Fail> {
     for row in &EXPLAINED {
-        let (text, steps, last) = *row;
-        let explained = is_explained(alloc, checked, text.as_bytes(), steps, last.as_bytes())?;
-        assert!(rt; explained, "{text}");
+        let (text, rows, last) = *row;
+        assert!(rt; is_explained(alloc, checked, text, rows, last)?, "{text}");
     }
     assert!(rt; has_no_explanation(alloc, checked, "fr")?);
     Ok(())

@@ -1,7 +1,7 @@
 //! The commands that read a registry: `check` and `canon`.
-use super::prints;
 use super::sample::{FOLDED, push_record, sample_text};
-use crate::{ToolFault, run_lines};
+use super::{prints, read};
+use crate::{ToolFault, perform, run_lines};
 use lt_canon::Checked;
 use lt_jar::{Device, read_jar};
 use lt_registry::{Registry, SortedTable};
@@ -219,5 +219,41 @@ fn writes_of_a_run_that_fail(rt: HostRuntime) -> Result<(), Fail> {
     for (calls_left, owed) in &WRITES {
         assert!(rt; stops(rt.alloc(), &checked, *calls_left, owed));
     }
+    Ok(())
+}
+
+/// Whether `canon` over a reader and a writer of which one fails writes this before, and names the failure.
+fn names(alloc: Global, file: &str, calls_left: (usize, usize), owed: &str, named: &[u8]) -> bool {
+    let Ok(command) = read(alloc, &["canon", "registry"]) else {
+        return false;
+    };
+    let (mut taken, mut errors) = (Vec::new(alloc), Vec::new(alloc));
+    let mut input = Device::new(Pieces {
+        bytes: LINES,
+        piece: 4,
+        calls_left: calls_left.0,
+    });
+    let mut output = Device::new(Narrow {
+        taken: &mut taken,
+        calls_left: calls_left.1,
+    });
+    let file = file.as_bytes();
+    let end = perform(
+        alloc,
+        &command,
+        file,
+        &[],
+        &mut input,
+        &mut output,
+        &mut errors,
+    );
+    end == 4 && taken.as_slice() == owed.as_bytes() && errors.as_slice() == named
+}
+
+#[test]
+fn failures_of_canon(rt: HostRuntime) -> Result<(), Fail> {
+    let sample = sample_text(rt.alloc(), "\n", "")?;
+    assert!(rt; names(rt.alloc(), &sample, (2, 64), "yue\n", b"! Read\n"));
+    assert!(rt; names(rt.alloc(), &sample, (64, 1), "yue\n", b"! Write\n"));
     Ok(())
 }

@@ -1,4 +1,4 @@
-use Rattle.std.proofs.Common.{inl, inr}
+use Rattle.std.proofs.Common.{inl, inr, refl}
 use Rattle.lt_tool.specs.Printed.{Refuses}
 use Rattle.lt_tool.proofs.AnswerLemmas.{printed_answer, refused_answer}
 use Rattle.lt_tool.proofs.printing.canon.Goals as goal
@@ -14,5 +14,8 @@ returns-in-Ok g c = inr (record {
 
 pub returns-in-Err : goal.returns-in-Err
 returns-in-Err g c =
-    inl (printed_answer (Refuses c.args.file.now) _ _ _ _ c.refuse.result _ (refused_answer c.args.file.now c.in-Err.refusal c.refuse.result c.in-Err.ensures.err c.refuse.ensures.line c.refuse.ensures.status)
-    c.print_answer.ensures)
+    inl (
+      refl,
+      printed_answer _ (Refuses c.args.file.now) _ _ _ _ c.refuse.result _ (refused_answer c.args.file.now c.in-Err.refusal c.refuse.result c.in-Err.ensures.err c.refuse.ensures.line c.refuse.ensures.status)
+          c.print_answer.ensures,
+    )

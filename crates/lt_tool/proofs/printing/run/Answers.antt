@@ -1,3 +1,4 @@
+use Rattle.std.proofs.Common.{refl}
 use Rattle.lt_tool.specs.Explanations.{Explains}
 use Rattle.lt_tool.specs.Printed.{Classifies}
 use Rattle.lt_tool.specs.Registries.{Checks}
@@ -7,25 +8,25 @@ use Rattle.lt_tool.proofs.printing.run.Goals as goal
 
 pub returns-in-Classify : goal.returns-in-Classify
 returns-in-Classify g c =
-    let printed = printed_answer (Classifies c.as_bytes.result.now) _ _ _ _ c.classify.result _ c.classify.ensures c.print_answer.ensures in
-    rw c.in-Classify.is (rw c.as_bytes.ensures.value at printed)
+    let printed = printed_answer _ (Classifies c.as_bytes.result.now) _ _ _ _ c.classify.result _ c.classify.ensures c.print_answer.ensures in
+    rw c.in-Classify.is (refl, rw c.as_bytes.ensures.value at printed)
 
 pub returns-in-Check : goal.returns-in-Check
-returns-in-Check g c = rw c.in-Check.is (printed_answer (Checks c.args.first.now) _ _ _ _ c.check.result _ c.check.ensures c.print_answer-in-Check.ensures)
+returns-in-Check g c = rw c.in-Check.is (refl, printed_answer _ (Checks c.args.first.now) _ _ _ _ c.check.result _ c.check.ensures c.print_answer-in-Check.ensures)
 
 pub returns-in-Extlang : goal.returns-in-Extlang
 returns-in-Extlang g c =
-    let printed = printed_answer (ByRegistry c.args.first.now (λ R. FormsExtlang R c.as_bytes-in-Extlang.result.now)) _ _ _ _ c.extlang.result _ c.extlang.ensures c.print_answer-in-Extlang.ensures in
-    rw c.in-Extlang.is (rw c.as_bytes-in-Extlang.ensures.value at printed)
+    let printed = printed_answer _ (ByRegistry c.args.first.now (λ R. FormsExtlang R c.as_bytes-in-Extlang.result.now)) _ _ _ _ c.extlang.result _ c.extlang.ensures c.print_answer-in-Extlang.ensures in
+    rw c.in-Extlang.is (refl, rw c.as_bytes-in-Extlang.ensures.value at printed)
 
 pub returns-in-Equal : goal.returns-in-Equal
 returns-in-Equal g c =
     let first = c.as_bytes-in-Equal.result.now in
     let second = c.as_bytes-in-Equal-2.result.now in
-    let printed = printed_answer (ByRegistry c.args.first.now (λ R. Compares R first second)) _ _ _ _ c.equal-answer.result _ c.equal-answer.ensures c.print_answer-in-Equal.ensures in
-    rw c.in-Equal.is (rw (c.as_bytes-in-Equal.ensures.value, c.as_bytes-in-Equal-2.ensures.value) at printed)
+    let printed = printed_answer _ (ByRegistry c.args.first.now (λ R. Compares R first second)) _ _ _ _ c.equal-answer.result _ c.equal-answer.ensures c.print_answer-in-Equal.ensures in
+    rw c.in-Equal.is (refl, rw (c.as_bytes-in-Equal.ensures.value, c.as_bytes-in-Equal-2.ensures.value) at printed)
 
 pub returns-in-Explain : goal.returns-in-Explain
 returns-in-Explain g c =
-    let printed = printed_answer (ByRegistry c.args.first.now (λ R. Explains R c.as_bytes-in-Explain.result.now)) _ _ _ _ c.explain.result _ c.explain.ensures c.print_answer-in-Explain.ensures in
-    rw c.in-Explain.is (rw c.as_bytes-in-Explain.ensures.value at printed)
+    let printed = printed_answer _ (ByRegistry c.args.first.now (λ R. Explains R c.as_bytes-in-Explain.result.now)) _ _ _ _ c.explain.result _ c.explain.ensures c.print_answer-in-Explain.ensures in
+    rw c.in-Explain.is (refl, rw c.as_bytes-in-Explain.ensures.value at printed)

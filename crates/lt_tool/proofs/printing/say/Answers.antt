@@ -1,8 +1,7 @@
 use Rattle.std.proofs.Common.{◌≤◌, ◌-◌, ◌+◌, ◌∙◌, ℕ, length, take, drop, sym, ap, subst, arith, length-drop, take-append-drop}
 use Rattle.std.proofs.KnownBytes.{Appends-kept}
-use Rattle.std.proofs.lemmas.List.{take_all}
 use Rattle.lt_tool.proofs.WrittenLemmas.{appends_more, range_from}
-use Rattle.lt_tool.proofs.printing.write_out.Goals as goal
+use Rattle.lt_tool.proofs.printing.say.Goals as goal
 
 pub returns-in-Ok-eq0 : goal.returns-in-Ok-eq0
 returns-in-Ok-eq0 g c =
@@ -14,7 +13,6 @@ returns-in-Ok-eq0 g c =
       written = take (at + n) text;
       appends = appends_more _ _ _ text at n turns.appends c.in-Ok-eq0.ensures.bytes;
       front = (drop (at + n) text, sym (take-append-drop (at + n) text));
-      whole = λ e. cc;
     }
 
 pub returns-in-Err : goal.returns-in-Err
@@ -26,7 +24,6 @@ returns-in-Err g c =
       written = take at text;
       appends = Appends-kept _ _ _ _ turns.appends c.in-Err.ensures.bytes;
       front = (drop at text, sym (take-append-drop at text));
-      whole = λ e. cc;
     }
 
 pub returns : goal.returns
@@ -36,9 +33,8 @@ returns g c =
     let at = c.loop-at.at in
     record {
       written = take at text;
-      appends = Appends-kept _ _ _ _ turns.appends c.flush.ensures.bytes;
+      appends = turns.appends;
       front = (drop at text, sym (take-append-drop at text));
-      whole = λ e. take_all at text (omega arith);
     }
 
 pub loop-at-preserved : goal.loop-at-preserved
