@@ -1,21 +1,20 @@
 -- A text has the list of a grandfathered tag exactly if it is that tag's text in some letter case.
-use Rattle.std.proofs.Common.{◌≡◌, true, ◌&&◌, ℕ, ◌≤◌, ◌<◌, ◌-◌, List, [], length, map, refl, sym, ap, ◌∙◌, arith, ◌+◌, ◌==◌, ◌∷◌, inl, inr}
-use Rattle.std.specs.Prelude.{slice_index_or, sum_by, nat_le}
+use Rattle.std.proofs.Common.{◌≡◌, true, false, ℕ, ◌≤◌, ◌<◌, ◌-◌, List, [], length, map, refl, sym, ap, ◌∙◌, arith, ◌+◌, ◌==◌, ◌∷◌, inl, inr}
+use Rattle.std.specs.Prelude.{Some, None, slice_get, slice_index_or, sum_by}
 use Rattle.std.specs.Char.{to_ascii_lowercase}
 use Rattle.std.specs.List.{list_all, join_with_byte}
 use Rattle.std.proofs.lemmas.List.{get_or-map, length-map}
 use Rattle.lt_subtag.specs.Bytes.{is_subtag, folded}
 use Rattle.lt_tag.specs.Parts.{Grandfathered}
 use Rattle.lt_tag.specs.Lists.{pieces, list_of, onto_first}
-use Rattle.lt_tag.specs.Grandfathered.{grandfathered_texts, grandfathered_list, IsGrandfathered}
+use Rattle.lt_tag.specs.Grandfathered.{begins_listed, grandfathered_texts, grandfathered_list, IsGrandfathered}
 use Rattle.lt_tag.specs.Faults.{HasList}
 use Rattle.lt_tag.proofs.TagLemmas.{table_length, list_all-at}
 use Rattle.lt_tag.proofs.TextLemmas.{some_pieces}
 use Rattle.lt_tag.proofs.ShapeLemmas.{tag_subtags}
 use Rattle.lt_tag.proofs.LetterLemmas.{join_pieces, list_of_is, to_HasList}
 use Rattle.std.proofs.lemmas.List.Sums.{sum_by-cons}
-use Rattle.std.proofs.lemmas.Bool.{cases_Bool, and_parts}
-use Rattle.std.proofs.lemmas.Bool.Decides.{nat_tests}
+use Rattle.std.proofs.lemmas.Bool.{cases_Bool}
 
 -- the text of a number
 abbrev known : ℕ → List ℕ
@@ -63,17 +62,31 @@ pub list_length : (list : List (List ℕ)) (number : ℕ) → IsGrandfathered li
 unfolding grandfathered_list
 list_length list number g = ap (λ (l : List (List ℕ)). sum_by length l + length l) g.same ∙ sum-pieces (known number)
 
--- the texts have 5 to 11 bytes
-lengths_in_table : list_all (λ (t : List ℕ). nat_le 5 (length t) && nat_le (length t) 11) grandfathered_texts ≡ true
+-- the length and the first letter of each text
+begin_listed : list_all (λ (t : List ℕ). begins_listed (length t) (slice_index_or t 0 0)) grandfathered_texts ≡ true
 unfolding grandfathered_texts
-lengths_in_table = refl
+begin_listed = refl
 
-both_le : (a b c d : ℕ) → (nat_le a b && nat_le c d) ≡ true → (a ≤ b) × (c ≤ d)
-both_le a b c d h = let parts = and_parts (nat_le a b) (nat_le c d) h in (grind (arith, nat_tests, parts.0), grind (arith, nat_tests, parts.1))
+-- and of each text that has the list of one
+text_begins : (text : List ℕ) (number : ℕ) → IsGrandfathered (list_of text) number → begins_listed (length text) (to_ascii_lowercase (slice_index_or text 0 0)) ≡ true
+text_begins text number g =
+    let same : folded text ≡ known number = match_needed text number g ∙ folded-known number g.first g.last in
+    let long : length text ≡ length (known number) = sym (length-map text to_ascii_lowercase) ∙ ap length same in
+    let first : to_ascii_lowercase (slice_index_or text 0 0) ≡ slice_index_or (known number) 0 0 = first_folded text ∙ ap (λ (t : List ℕ). slice_index_or t 0 0) same in
+    ap (λ (n : ℕ). begins_listed n (to_ascii_lowercase (slice_index_or text 0 0))) long ∙ ap (begins_listed (length (known number))) first
+    ∙ list_all-at (λ (t : List ℕ). begins_listed (length t) (slice_index_or t 0 0)) grandfathered_texts (number - 1) begin_listed (omega (arith, table_length, g.first, g.last))
+  where
+    first_folded : (text : List ℕ) → to_ascii_lowercase (slice_index_or text 0 0) ≡ slice_index_or (folded text) 0 0
+    first_folded [] = refl
+    first_folded (b ∷ bs) = refl
 
--- and so has each text that has the list of one
-pub text_length : (text : List ℕ) (number : ℕ) → IsGrandfathered (list_of text) number → (5 ≤ length text) × (length text ≤ 11)
-text_length text number g =
-    let same : length text ≡ length (known number) = sym (length-map text to_ascii_lowercase) ∙ ap length (match_needed text number g) ∙ length-map (known number) to_ascii_lowercase in
-    let bounds = both_le 5 (length (known number)) (length (known number)) 11 (list_all-at (λ (t : List ℕ). nat_le 5 (length t) && nat_le (length t) 11) grandfathered_texts (number - 1) lengths_in_table (omega (arith, table_length, g.first, g.last))) in
-    (omega (arith, same, bounds.0), omega (arith, same, bounds.1))
+pub first_begins : (text : List ℕ) (number first : ℕ) → Some first ≡ slice_get text 0 → IsGrandfathered (list_of text) number → begins_listed (length text) (to_ascii_lowercase first) ≡ true
+first_begins [] number first h g = let impossible : Some first ≡ None = h in cc
+first_begins (b ∷ bs) number first h g =
+    let here : Some first ≡ Some b = h in
+    let same : first ≡ b = cc in
+    ap (λ (n : ℕ). begins_listed (length (b ∷ bs)) (to_ascii_lowercase n)) same ∙ text_begins (b ∷ bs) number g
+
+pub none_begins : (text : List ℕ) (number : ℕ) → None ≡ slice_get text 0 → IsGrandfathered (list_of text) number → ⊥
+none_begins [] number h g = let impossible : false ≡ true = text_begins [] number g in cc
+none_begins (b ∷ bs) number h g = let impossible : None ≡ Some b = h in cc

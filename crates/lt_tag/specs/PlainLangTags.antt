@@ -1,6 +1,8 @@
 -- Langtags without extensions and private use, as lists.
 use Rattle.std.specs.Prelude.{ℕ, ◌≡◌, ◌-◌, ◌&&◌, if◌then◌else◌, List, length, Option, Some, None, nat_lt, nat_le}
 use Rattle.lt_subtag.specs.Shapes.{is_extlang, is_script, is_region, is_variant}
+use Rattle.lt_tag.specs.Faults.{HasList}
+use Rattle.lt_tag.specs.Lists.{list_of}
 use Rattle.lt_tag.specs.Parts.{CoreParts}
 use Rattle.lt_tag.specs.Spelling.{spell_core, IsCore}
 use Rattle.lt_tag.specs.Growth.{takes_region, takes_script}
@@ -14,6 +16,12 @@ pub record IsPlainLangTag (list : List (List ℕ)) : Type 0 where
   pub shaped : IsCore core
   pub spelled : spell_core core ≡ list
   pub other : IsNotGrandfathered list
+
+-- a text spells the core of such a langtag
+pub record SpellsCore (text : List ℕ) (core : CoreParts) : Type 0 where
+  pub listed : HasList text
+  pub shaped : IsCore core
+  pub spelled : spell_core core ≡ list_of text
 
 -- how many extlangs may still follow a core that takes a script
 abbrev pub extlangs_left : CoreParts → ℕ

@@ -1,10 +1,10 @@
-use Rattle.std.proofs.Common.{arith, below_more, ℕ, ap, sym, ◌∙◌}
+use Rattle.std.proofs.Common.{◌≡◌, false, arith, below_more, length, ℕ, ap, sym, ◌∙◌}
+use Rattle.std.specs.Char.{to_ascii_lowercase}
 use Rattle.lt_subtag.specs.Bytes.{folded}
 use Rattle.lt_tag.specs.Lists.{list_of}
-use Rattle.lt_tag.specs.Grandfathered.{IsGrandfathered}
-use Rattle.lt_tag.proofs.GrandfatheredTexts.{match_found, match_needed, match_listed, text_length}
+use Rattle.lt_tag.specs.Grandfathered.{IsGrandfathered, begins_listed}
+use Rattle.lt_tag.proofs.GrandfatheredTexts.{match_found, match_needed, match_listed, first_begins, none_begins}
 use Rattle.lt_tag.proofs.grandfathered.number_of_text.Goals as goal
-use Rattle.lt_tag.proofs.grandfathered.number_of_text.Goals.{then-text-lt-SHORTEST_TEXT-via-then-text-lt-SHORTEST_TEXT, then-text-lt-SHORTEST_TEXT-via-else-text-lt-SHORTEST_TEXT+then-text-gt-LONGEST_TEXT}
 
 pub returns-then-eq_ignore_ascii_case-clause-found : goal.returns-then-eq_ignore_ascii_case-clause-found
 returns-then-eq_ignore_ascii_case-clause-found c =
@@ -26,10 +26,12 @@ loop-number-preserved c =
     in
     (omega arith, below_more (λ (k : ℕ). IsGrandfathered (list_of c.args.text.now) k → ⊥) c.loop-number.number c.loop-number.invariant.1 here)
 
-pub returns-then-text-lt-SHORTEST_TEXT-clause-none : goal.returns-then-text-lt-SHORTEST_TEXT-clause-none
-returns-then-text-lt-SHORTEST_TEXT-clause-none c = λ number g.
-    let bounds = text_length c.args.text.now number g in
-    elim c.then-text-lt-SHORTEST_TEXT.branch [
-      | then-text-lt-SHORTEST_TEXT-via-then-text-lt-SHORTEST_TEXT w ↦ omega (arith, bounds.0, w.if-text-lt-SHORTEST_TEXT.true)
-      | then-text-lt-SHORTEST_TEXT-via-else-text-lt-SHORTEST_TEXT+then-text-gt-LONGEST_TEXT w ↦ omega (arith, bounds.1, w.if-text-gt-LONGEST_TEXT.true)
-    ]
+pub returns-in_default-clause-none : goal.returns-in_default-clause-none
+returns-in_default-clause-none c = λ number g. none_begins c.args.text.now number c.in_default.ensures.value g
+
+pub returns-then-not-begins_listed-clause-none : goal.returns-then-not-begins_listed-clause-none
+returns-then-not-begins_listed-clause-none c = λ number g.
+    let yes = first_begins c.args.text.now number c.in-Some.first.now c.in-Some.ensures.value g in
+    let no : begins_listed (length c.args.text.now) (to_ascii_lowercase c.in-Some.first.now) ≡ false =
+    ap (begins_listed (length c.args.text.now)) (sym c.to_ascii_lowercase.ensures.value) ∙ sym c.begins_listed.ensures ∙ c.if-not-begins_listed.true in
+    cc
