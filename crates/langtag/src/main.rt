@@ -16,12 +16,18 @@ fn words(rt: &(impl Env + AllocGlobal)) -> Result<Vec<String>, WordsFault> {
     }
 }
 
-/// The bytes of the file that a command names, and none where it names none.
-fn file_of(rt: &(impl Files + AllocGlobal), command: &Command) -> io::Result<Vec<u8>> {
-    match command.first_file() {
+/// The bytes of a file, and none where there is none.
+fn read_file(rt: &(impl Files + AllocGlobal), path: Option<&str>) -> io::Result<Vec<u8>> {
+    match path {
         Some(path) => fs::read(rt, path),
         None => Ok(Vec::new(rt.alloc())),
     }
+}
+
+/// The bytes of the files that a command names, in order.
+fn files_of(rt: &(impl Files + AllocGlobal), command: &Command) -> io::Result<(Vec<u8>, Vec<u8>)> {
+    let first = read_file(rt, command.first_file())?;
+    Ok((first, read_file(rt, command.second_file())?))
 }
 
 fn main(rt: HostRuntime) -> ExitCode {
@@ -30,14 +36,14 @@ fn main(rt: HostRuntime) -> ExitCode {
         Ok(command) => command,
         Err(fault) => return ExitCode::from(report(&fault, &mut output, &mut errors)),
     };
-    let status = match file_of(&rt, &command) {
-        Ok(file) => {
+    let status = match files_of(&rt, &command) {
+        Ok((first, second)) => {
             let mut input = Device::new(rt.stdin());
             perform(
                 rt.alloc(),
                 &command,
-                &file,
-                &[],
+                &first,
+                &second,
                 &mut input,
                 &mut output,
                 &mut errors,

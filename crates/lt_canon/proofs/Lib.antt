@@ -34,6 +34,9 @@ pub mod UpgradeLaw
 pub mod UpgradeTests
 pub mod UpgradeFindings
 pub mod UpgradeRows
+pub mod UpgradeChecks
+pub mod UpgradeWholes
+pub mod UpgradeFaults
 pub mod RecordChecks
 pub mod SeenRanges
 pub mod FirstFaults

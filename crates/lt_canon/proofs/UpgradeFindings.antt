@@ -131,7 +131,7 @@ module _ (B : List EntryParts) (CB : IsChecked B) where
         right = subst (IsReached B u) one (tag_reached B CB u m.1.0);
       }
 
-  proper_from : {t u : TagForm} → Star (TagStep B) t u → IsProper B u → IsProper B t
+  pub proper_from : {t u : TagForm} → Star (TagStep B) t u → IsProper B u → IsProper B t
   proper_from done p = p
   proper_from (then s r) p = s.from
 

@@ -18,11 +18,12 @@ use Rattle.lt_rewrite.specs.Conditions.{next_value}
 use Rattle.lt_rewrite.proofs.Chains.{same_end}
 use Rattle.lt_rewrite.proofs.ChainLength.{chain_ends_within}
 use Rattle.lt_canon.specs.Upgrade.{SameEnd, IsCovered, StaysRegistered, KeepsKind, KeepsEnds, IsSameExtlang, KeepsExtlang, IsSameTurn, KeepsTurn, HadTurn}
+use Rattle.lt_canon.specs.UpgradeChecking.{covers, is_among}
 use Rattle.lt_canon.proofs.Deciding.{Decides-true, Decides-false, Decides-implies, Decides-none, Decides-kind, Decides-list}
 use Rattle.lt_canon.proofs.CoreTests.{same_prefixes, Decides-prefixes}
 
 -- some element
-any_from : {A : Type 0} (q : A → Bool) (xs : List A) (a : A) → Contains xs a → q a ≡ true → list_any q xs ≡ true
+pub any_from : {A : Type 0} (q : A → Bool) (xs : List A) (a : A) → Contains xs a → q a ≡ true → list_any q xs ≡ true
 any_from q [] a c h = absurd (omega (arith, c.1))
 any_from q (x ∷ xs) a (zero, n, e) h = ap (λ b. b || list_any q xs) (ap q e ∙ h)
 any_from q (x ∷ xs) a (suc k, n, e) h = or_right (q x) (list_any q xs) (any_from q xs a (k, omega (arith, n), e) h)
@@ -45,18 +46,14 @@ Decides-any P q d xs =
 
 -- what is named stays registered
 
-abbrev pub covers_at : EntryName → List ℕ → List ℕ → Bool
-covers_at (names.Range c d) a b = (length c == length a) && (letters_le c a && letters_le b d)
-covers_at _ a b = false
-
 abbrev Covers : EntryName → List ℕ → List ℕ → Type 0
 Covers n a b = (c d : List ℕ) × (n ≡ names.Range c d) × (length c ≡ length a) × (letters_le c a ≡ true) × (letters_le b d ≡ true)
 
-covering : (n : EntryName) (a b c d : List ℕ) → n ≡ names.Range c d → length c ≡ length a → letters_le c a ≡ true → letters_le b d ≡ true → covers_at n a b ≡ true
+covering : (n : EntryName) (a b c d : List ℕ) → n ≡ names.Range c d → length c ≡ length a → letters_le c a ≡ true → letters_le b d ≡ true → covers n a b ≡ true
 covering n a b c d e l f t =
-    ap (λ n. covers_at n a b) e ∙ and_from (length c == length a) (letters_le c a && letters_le b d) ((Decides-eqb (length c) (length a)).1 l) (and_from (letters_le c a) (letters_le b d) f t)
+    ap (λ n. covers n a b) e ∙ and_from (length c == length a) (letters_le c a && letters_le b d) ((Decides-eqb (length c) (length a)).1 l) (and_from (letters_le c a) (letters_le b d) f t)
 
-covered_at : (B : List EntryParts) (k : Kind) (a b : List ℕ) (f : EntryParts) → Contains B f → f.kind ≡ k → (n : EntryName) → f.name ≡ n → covers_at n a b ≡ true → IsCovered B k a b
+covered_at : (B : List EntryParts) (k : Kind) (a b : List ℕ) (f : EntryParts) → Contains B f → f.kind ≡ k → (n : EntryName) → f.name ≡ n → covers n a b ≡ true → IsCovered B k a b
 covered_at B k a b f c e (names.Range x y) m h =
     let p = and_parts (length x == length a) (letters_le x a && letters_le b y) h in
     let q = and_parts (letters_le x a) (letters_le b y) p.1 in
@@ -65,16 +62,16 @@ covered_at B k a b f c e (names.Single s) m h = cc
 covered_at B k a b f c e (names.Whole t) m h = cc
 
 abbrev pub covered_test : List EntryParts → Kind → List ℕ → List ℕ → Bool
-covered_test B k a b = list_any (λ (f : EntryParts). same_kind f.kind k && covers_at f.name a b) B
+covered_test B k a b = list_any (λ (f : EntryParts). same_kind f.kind k && covers f.name a b) B
 
 Decides-covered : (B : List EntryParts) (k : Kind) (a b : List ℕ) → Decides (covered_test B k a b) (IsCovered B k a b)
 Decides-covered B k a b = (
   (λ h.
-      let r = from_any (λ (f : EntryParts). same_kind f.kind k && covers_at f.name a b) B h in
-      let p = and_parts (same_kind r.0.kind k) (covers_at r.0.name a b) r.2 in
+      let r = from_any (λ (f : EntryParts). same_kind f.kind k && covers f.name a b) B h in
+      let p = and_parts (same_kind r.0.kind k) (covers r.0.name a b) r.2 in
       covered_at B k a b r.0 r.1 ((Decides-kind r.0.kind k).0 p.0) r.0.name refl p.1),
-  (λ (c : IsCovered B k a b). any_from (λ (f : EntryParts). same_kind f.kind k && covers_at f.name a b) B c.entry c.there
-      (and_from (same_kind c.entry.kind k) (covers_at c.entry.name a b) ((Decides-kind c.entry.kind k).1 c.of_kind) (covering c.entry.name a b c.low c.high c.range c.one_length c.from c.to))),
+  (λ (c : IsCovered B k a b). any_from (λ (f : EntryParts). same_kind f.kind k && covers f.name a b) B c.entry c.there
+      (and_from (same_kind c.entry.kind k) (covers c.entry.name a b) ((Decides-kind c.entry.kind k).1 c.of_kind) (covering c.entry.name a b c.low c.high c.range c.one_length c.from c.to))),
 )
 
 abbrev pub stays_at_test : List EntryParts → Kind → EntryName → Bool
@@ -238,7 +235,7 @@ both_same false false f g = refl
 abbrev pub same_prefix_test : List (List (List ℕ)) → List (List (List ℕ)) → Bool
 same_prefix_test ps qs = within_test ps qs && within_test qs ps
 
-Decides-same_prefix : (ps qs : List (List (List ℕ))) → Decides (same_prefix_test ps qs) ((l : List ℕ) → lists ps l ≡ lists qs l)
+pub Decides-same_prefix : (ps qs : List (List (List ℕ))) → Decides (same_prefix_test ps qs) ((l : List ℕ) → lists ps l ≡ lists qs l)
 Decides-same_prefix ps qs =
     Decides-like (same_prefix_test ps qs) (λ p l. both_same (lists ps l) (lists qs l) (p.0 l) (p.1 l)) (λ f. ((λ l h. sym (f l) ∙ h), (λ l h. f l ∙ h)))
     (Decides-and _ _ (Decides-within ps qs) (Decides-within qs ps))
@@ -264,7 +261,7 @@ Decides-keeps_turn B e =
     (Decides-single (λ s v. is_short v ≡ true → IsSameTurn B e s v) (λ s v. not (is_short v) || same_turn_at B e s v (language_value B s))
     (λ s v. Decides-implies (is_short v) (same_turn_at B e s v (language_value B s)) (Decides-true (is_short v)) (Decides-same_turn B e s v (language_value B s) refl)) e.name (one_of e.value)))
 
-Decides-is_some : {A : Type 0} → (o : Option A) → Decides (is_some o) ((a : A) × (o ≡ Some a))
+pub Decides-is_some : {A : Type 0} → (o : Option A) → Decides (is_some o) ((a : A) × (o ≡ Some a))
 Decides-is_some None = ((λ h. cc), (λ k. let e = k.1 in cc))
 Decides-is_some (Some a) = ((λ h. (a, refl)), (λ k. refl))
 

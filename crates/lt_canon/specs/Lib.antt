@@ -9,6 +9,7 @@ pub mod Texts
 pub mod Equivalence
 pub mod ExtlangForm
 pub mod Upgrade
+pub mod UpgradeChecking
 pub mod Laws
 pub mod RecordChecks
 pub mod NameChecks

@@ -49,7 +49,7 @@ fn is_language_alone(prefix: &Prefix, language: &Subtag) -> bool
 }
 
 /// Whether the language alone is among Prefixes.
-fn lists(prefixes: &[Prefix], language: &Subtag) -> bool
+pub(crate) fn lists(prefixes: &[Prefix], language: &Subtag) -> bool
     ensures { result ≡ forms.lists prefixes.now language.now }
 {
     prefixes

@@ -20,7 +20,9 @@ mod refusals;
 mod rejections;
 mod repeats;
 mod traces;
+mod upgrade_checks;
 pub mod upgrade_laws;
+mod upgrades;
 mod usual_tags;
 mod whole_checks;
 mod whole_values;
@@ -35,6 +37,7 @@ pub use extlang_forms::extlang_form;
 pub use refusals::{Refusal, TextRefusal};
 pub use rejections::{Finding, Rejected, RejectedCause};
 pub use traces::{Trace, TraceFault, verify};
+pub use upgrades::{UpgradeFault, upgrade_check};
 
 #[cfg(test)]
 mod tests;

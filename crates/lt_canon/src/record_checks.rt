@@ -27,21 +27,21 @@ pub(crate) fn one_value(entry: &Entry) -> Option<&Subtag>
 }
 
 /// Whether a value of a variant is a language: it has 2 or 3 letters.
-fn is_short(subtag: &Subtag) -> bool
+pub(crate) fn is_short(subtag: &Subtag) -> bool
     ensures { result ≡ entries.is_short subtag.now }
 {
     subtag.bytes().len() <= 3
 }
 
 /// Whether a subtag has an entry under a kind.
-fn is_registered<L: Lookup>(table: &L, kind: Kind, subtag: &Subtag) -> bool
+pub(crate) fn is_registered<L: Lookup>(table: &L, kind: Kind, subtag: &Subtag) -> bool
     ensures { result ≡ entries.is_registered (L.listed table.now) kind subtag.now }
 {
     table.entry(kind, subtag).is_some()
 }
 
 /// Whether a variant has a language value.
-fn has_language_value<L: Lookup>(table: &L, variant: &Subtag) -> bool
+pub(crate) fn has_language_value<L: Lookup>(table: &L, variant: &Subtag) -> bool
     ensures { result ≡ is_some (language_value (L.listed table.now) variant.now) }
 {
     match table.entry(Kind::Variant, variant) {

@@ -21,7 +21,7 @@ use lt_tag::{Core, OutOfMemory, Tag};
 use std::alloc::Global;
 
 /// The tag and the value of a whole record that has a value.
-fn tag_and_value(entry: &Entry) -> Option<(&Tag, &Tag)>
+pub(crate) fn tag_and_value(entry: &Entry) -> Option<(&Tag, &Tag)>
     ensures { MatchOption result
         (OfWhole entry.now (λ t u. ⊥))
         (λ pair. (entry.now.name ≡ names.Whole pair.0.now) × (tag_of entry.now.value ≡ Some pair.1.now)) }

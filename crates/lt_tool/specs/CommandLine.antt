@@ -22,7 +22,7 @@ program = let app = new_app (codes "langtag") in record app { top = record app.t
 
 -- the subcommands, each with the names of its positionals
 abbrev pub subcommands : List (Text × List Text)
-subcommands = (codes "classify", codes "TAG" ∷ []) ∷ (codes "check", codes "REGISTRY" ∷ []) ∷ (codes "canon", codes "REGISTRY" ∷ []) ∷ (codes "extlang", codes "REGISTRY" ∷ codes "TAG" ∷ []) ∷ (codes "equal", codes "REGISTRY" ∷ codes "TAG" ∷ codes "OTHER" ∷ []) ∷ (codes "explain", codes "REGISTRY" ∷ codes "TAG" ∷ []) ∷ []
+subcommands = (codes "classify", codes "TAG" ∷ []) ∷ (codes "check", codes "REGISTRY" ∷ []) ∷ (codes "canon", codes "REGISTRY" ∷ []) ∷ (codes "extlang", codes "REGISTRY" ∷ codes "TAG" ∷ []) ∷ (codes "equal", codes "REGISTRY" ∷ codes "TAG" ∷ codes "OTHER" ∷ []) ∷ (codes "explain", codes "REGISTRY" ∷ codes "TAG" ∷ []) ∷ (codes "upgrade", codes "OLD" ∷ codes "NEW" ∷ []) ∷ []
 
 abbrev pub with_subcommands : App → List (Text × List Text) → App
 with_subcommands app [] = app

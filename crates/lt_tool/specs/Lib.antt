@@ -10,4 +10,5 @@ pub mod Answering
 pub mod Running
 pub mod Registries
 pub mod TagCommands
+pub mod UpgradeCommand
 pub mod Explanations

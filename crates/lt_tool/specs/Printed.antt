@@ -22,6 +22,7 @@ use Rattle.lt_tool.specs.declared.lines.Answer.{Answer}
 use Rattle.lt_tag.specs.declared.faults.OutOfMemory.{OutOfMemory}
 use Rattle.lt_tool.specs.TagCommands.{ByRegistry, Compares, FormsExtlang}
 use Rattle.lt_tool.specs.Explanations.{Explains}
+use Rattle.lt_tool.specs.UpgradeCommand.{UpgradesFile}
 use Rattle.lt_tool.specs.Written.{LacksMemory, Prints, Says}
 use Rattle.lt_tool.specs.declared.status.Status.{Status}
 use Rattle.lt_tool.specs.declared.status.Status.TheVariants as status
@@ -99,20 +100,22 @@ Canonicalises remaining contents file input input' output output' errors errors'
     ⊎ RunsCanon remaining contents file input input' output output' errors errors' result
 
 -- what a run of a command wrote to its output and its errors, and its exit status
-abbrev pub Performs : {I O : Type 0} → (I → Option (List ℕ)) → (O → Option (List ℕ)) → Command → List ℕ → (input input' : Device I) → (output output' : Device O)
+abbrev pub Performs : {I O : Type 0} → (I → Option (List ℕ)) → (O → Option (List ℕ)) → Command → (first second : List ℕ) → (input input' : Device I) → (output output' : Device O)
     → (errors errors' : Option (List ℕ)) → ℕ → Type 0
-Performs remaining contents (command.Classify tag) file input input' output output' errors errors' result =
+Performs remaining contents (command.Classify tag) first second input input' output output' errors errors' result =
     (input' ≡ input) × PrintsOrLacks contents (Classifies (string_bytes tag)) output output' errors errors' result
-Performs remaining contents (command.Check name) file input input' output output' errors errors' result =
-    (input' ≡ input) × PrintsOrLacks contents (Checks file) output output' errors errors' result
-Performs remaining contents (command.Canon name) file input input' output output' errors errors' result =
-    Canonicalises remaining contents file input input' output output' errors errors' result
-Performs remaining contents (command.Extlang name tag) file input input' output output' errors errors' result =
-    (input' ≡ input) × PrintsOrLacks contents (ByRegistry file (λ R. FormsExtlang R (string_bytes tag))) output output' errors errors' result
-Performs remaining contents (command.Equal name tag other) file input input' output output' errors errors' result =
-    (input' ≡ input) × PrintsOrLacks contents (ByRegistry file (λ R. Compares R (string_bytes tag) (string_bytes other))) output output' errors errors' result
-Performs remaining contents (command.Explain name tag) file input input' output output' errors errors' result =
-    (input' ≡ input) × PrintsOrLacks contents (ByRegistry file (λ R. Explains R (string_bytes tag))) output output' errors errors' result
+Performs remaining contents (command.Check name) first second input input' output output' errors errors' result =
+    (input' ≡ input) × PrintsOrLacks contents (Checks first) output output' errors errors' result
+Performs remaining contents (command.Canon name) first second input input' output output' errors errors' result =
+    Canonicalises remaining contents first input input' output output' errors errors' result
+Performs remaining contents (command.Extlang name tag) first second input input' output output' errors errors' result =
+    (input' ≡ input) × PrintsOrLacks contents (ByRegistry first (λ R. FormsExtlang R (string_bytes tag))) output output' errors errors' result
+Performs remaining contents (command.Equal name tag other) first second input input' output output' errors errors' result =
+    (input' ≡ input) × PrintsOrLacks contents (ByRegistry first (λ R. Compares R (string_bytes tag) (string_bytes other))) output output' errors errors' result
+Performs remaining contents (command.Explain name tag) first second input input' output output' errors errors' result =
+    (input' ≡ input) × PrintsOrLacks contents (ByRegistry first (λ R. Explains R (string_bytes tag))) output output' errors errors' result
+Performs remaining contents (command.Upgrade old new) first second input input' output output' errors errors' result =
+    (input' ≡ input) × PrintsOrLacks contents (UpgradesFile first second) output output' errors errors' result
 
 -- a run whose words are not those of a command says why on its errors
 pub record SaysUsage {O : Type 0} (output output' : Device O) (errors errors' : Option (List ℕ)) (text : List ℕ) (result : ℕ) : Type 0 where

@@ -29,6 +29,8 @@ IsNamed found (command.Equal file tag other) =
     Gives found (codes "equal") (codes "REGISTRY" ∷ codes "TAG" ∷ codes "OTHER" ∷ []) (string_bytes file ∷ string_bytes tag ∷ string_bytes other ∷ [])
 IsNamed found (command.Explain file tag) =
     Gives found (codes "explain") (codes "REGISTRY" ∷ codes "TAG" ∷ []) (string_bytes file ∷ string_bytes tag ∷ [])
+IsNamed found (command.Upgrade old new) =
+    Gives found (codes "upgrade") (codes "OLD" ∷ codes "NEW" ∷ []) (string_bytes old ∷ string_bytes new ∷ [])
 
 -- the file that the command names first
 abbrev pub first_file_of : Command → Option (List ℕ)
@@ -38,6 +40,12 @@ first_file_of (command.Canon file) = Some (string_bytes file)
 first_file_of (command.Extlang file tag) = Some (string_bytes file)
 first_file_of (command.Equal file tag other) = Some (string_bytes file)
 first_file_of (command.Explain file tag) = Some (string_bytes file)
+first_file_of (command.Upgrade old new) = Some (string_bytes old)
+
+-- and the one behind it
+abbrev pub second_file_of : Command → Option (List ℕ)
+second_file_of (command.Upgrade old new) = Some (string_bytes new)
+second_file_of _ = None
 
 -- the words name this command, by `clap`'s definition of the matches of a simple command
 abbrev pub Names : List Text → Command → Type 0

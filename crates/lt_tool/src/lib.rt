@@ -12,6 +12,7 @@ mod registries;
 mod runs;
 mod status;
 mod tag_commands;
+mod upgrade_command;
 mod words;
 
 pub use faults::ToolFault;

@@ -12,6 +12,7 @@ use crate::registries::{check, read_registry, refuse};
 use crate::runs::{Counts, run_lines};
 use crate::status::Status;
 use crate::tag_commands::{equal, explain, extlang};
+use crate::upgrade_command::upgrade;
 use crate::words::{Command, WordsFault};
 use lt_jar::Device;
 use lt_tag::OutOfMemory;
@@ -109,11 +110,12 @@ fn run<I: Read, O: Write, E: Write>(
     alloc: Global,
     command: &Command,
     first: &[u8],
+    second: &[u8],
     input: &mut Device<I>,
     output: &mut Device<O>,
     errors: &mut E,
 ) -> Status
-    ensures { Performs I.remaining O.contents command.now first.now input.old input.new output.old output.new
+    ensures { Performs I.remaining O.contents command.now first.now second.now input.old input.new output.old output.new
         (E.contents errors.old) (E.contents errors.new) (code_of result) }
 {
     match command {
@@ -130,6 +132,7 @@ fn run<I: Read, O: Write, E: Write>(
         Command::Explain(_, tag) => {
             print_answer(explain(alloc, first, tag.as_bytes()), output, errors)
         }
+        Command::Upgrade(_, _) => print_answer(upgrade(alloc, first, second), output, errors),
     }
 }
 
@@ -143,15 +146,15 @@ pub fn perform<I: Read, O: Write, E: Write>(
     alloc: Global,
     command: &Command,
     first: &[u8],
-    _second: &[u8],
+    second: &[u8],
     input: &mut Device<I>,
     output: &mut Device<O>,
     errors: &mut E,
 ) -> u8
-    ensures { Performs I.remaining O.contents command.now first.now input.old input.new output.old output.new
+    ensures { Performs I.remaining O.contents command.now first.now second.now input.old input.new output.old output.new
         (E.contents errors.old) (E.contents errors.new) result }
 {
-    run(alloc, command, first, input, output, errors).code()
+    run(alloc, command, first, second, input, output, errors).code()
 }
 
 /// Says that a file can't be read, and answers the exit status.

@@ -67,7 +67,10 @@ pub(crate) fn read_registry(
 }
 
 /// The line for a refused registry.
-fn line_of_refusal(alloc: Global, refusal: &RegistryRefusal) -> Result<Vec<u8>, OutOfMemory>
+pub(crate) fn line_of_refusal(
+    alloc: Global,
+    refusal: &RegistryRefusal,
+) -> Result<Vec<u8>, OutOfMemory>
     ensures { IfOk result (λ line. IsRegistryLine refusal.now line.items) }
 {
     let line = match refusal {

@@ -9,7 +9,7 @@ pub enum Status {
     Done = 0,
     /// A tag was refused.
     Refused = 1,
-    /// A registry was refused.
+    /// A registry or an upgrade was refused.
     RegistryRefused = 2,
     /// The words name no command.
     Usage = 3,

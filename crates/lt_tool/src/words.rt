@@ -2,7 +2,7 @@
 ghost use Rattle.std.specs.Prelude.{◌≡◌, false, IfOk, IfErr, map, Some, string_bytes};
 ghost use Rattle.lt_tool.specs.CommandLine.{langtag, subcommand};
 ghost use Rattle.std.specs.Option.{option_map};
-ghost use Rattle.lt_tool.specs.Reading.{first_file_of, Reads, IsRefused, IsNamed, NamesNone, IsAbsent, IsFaultOf};
+ghost use Rattle.lt_tool.specs.Reading.{first_file_of, second_file_of, Reads, IsRefused, IsNamed, NamesNone, IsAbsent, IsFaultOf};
 ghost use Rattle.lt_tool.specs.declared.words.WordsFault.TheVariants.{OutOfMemory};
 ghost use Rattle.clap.specs.declared.builder.command.Command.TheViews.{out-Command as fields_of};
 ghost use Rattle.clap.specs.Words.{app_of, first_of, found_of, rows_of, subcommand_rows_of};
@@ -27,6 +27,8 @@ pub enum Command {
     Equal(String, String, String),
     /// The steps from this tag to its canonical form, by the registry of this file, which comes first.
     Explain(String, String),
+    /// Whether the registry of the second file upgrades that of the first.
+    Upgrade(String, String),
 }
 
 impl Command {
@@ -38,7 +40,17 @@ impl Command {
             Command::Classify(_) => None,
             Command::Check(file) | Command::Canon(file) => Some(file.as_str()),
             Command::Extlang(file, _) | Command::Explain(file, _) => Some(file.as_str()),
-            Command::Equal(file, _, _) => Some(file.as_str()),
+            Command::Equal(file, _, _) | Command::Upgrade(file, _) => Some(file.as_str()),
+        }
+    }
+
+    /// The file that the command names behind it, if it names one.
+    pub fn second_file(&self) -> Option<&str>
+        ensures { option_map (λ file. file.now) result ≡ second_file_of self.now }
+    {
+        match self {
+            Command::Upgrade(_, file) => Some(file.as_str()),
+            _ => None,
         }
     }
 }
@@ -83,9 +95,19 @@ static REGISTRY: Positional = Positional {
     help: "A file in the format of the IANA Language Subtag Registry",
 };
 
+static OLD: Positional = Positional {
+    name: "OLD",
+    help: "A registry in that format",
+};
+
+static NEW: Positional = Positional {
+    name: "NEW",
+    help: "A newer registry in that format",
+};
+
 /// What the statuses mean, as each text of help says.
 const STATUSES: &str =
-    "Status: 0 done; 1 a tag was refused, or the tags are different; 2 the registry was refused; 3 the words name no command; 4 a file, the output or memory failed";
+    "Status: 0 done; 1 a tag was refused, or the tags are different; 2 a registry or an upgrade was refused; 3 the words name no command; 4 a file, the output or memory failed";
 
 /// A subcommand with these required positionals.
 fn new_subcommand<'a>(
@@ -126,6 +148,8 @@ fn new_langtag<'a>(alloc: Global) -> Result<clap::Command<'a>, AllocError>
     let equal = new_subcommand(alloc, "equal", about, &[&REGISTRY, &TAG, &OTHER])?;
     let about = "Prints the steps from a tag to its canonical form";
     let explain = new_subcommand(alloc, "explain", about, &[&REGISTRY, &TAG])?;
+    let about = "Tells whether a newer registry upgrades an older one";
+    let upgrade = new_subcommand(alloc, "upgrade", about, &[&OLD, &NEW])?;
     clap::Command::new(alloc, "langtag")
         .about("BCP 47 language tags (RFC 5646)")
         .after_help(STATUSES)
@@ -135,7 +159,8 @@ fn new_langtag<'a>(alloc: Global) -> Result<clap::Command<'a>, AllocError>
         .subcommand(canon)?
         .subcommand(extlang)?
         .subcommand(equal)?
-        .subcommand(explain)
+        .subcommand(explain)?
+        .subcommand(upgrade)
 }
 
 /// The value of a positional.
@@ -178,6 +203,10 @@ fn command_of(alloc: Global, matches: &ArgMatches<'_>) -> Result<Command, WordsF
         "explain" => Ok(Command::Explain(
             value_of(alloc, values, &REGISTRY)?,
             value_of(alloc, values, &TAG)?,
+        )),
+        "upgrade" => Ok(Command::Upgrade(
+            value_of(alloc, values, &OLD)?,
+            value_of(alloc, values, &NEW)?,
         )),
         _ => Err(WordsFault::Usage(format!(in alloc; "error: no subcommand {name}\n")?)),
     }

@@ -3,6 +3,7 @@ use Rattle.lt_tool.specs.Explanations.{Explains}
 use Rattle.lt_tool.specs.Printed.{Classifies}
 use Rattle.lt_tool.specs.Registries.{Checks}
 use Rattle.lt_tool.specs.TagCommands.{ByRegistry, Compares, FormsExtlang}
+use Rattle.lt_tool.specs.UpgradeCommand.{UpgradesFile}
 use Rattle.lt_tool.proofs.AnswerLemmas.{printed_answer}
 use Rattle.lt_tool.proofs.printing.run.Goals as goal
 
@@ -30,3 +31,7 @@ pub returns-in-Explain : goal.returns-in-Explain
 returns-in-Explain g c =
     let printed = printed_answer _ (ByRegistry c.args.first.now (λ R. Explains R c.as_bytes-in-Explain.result.now)) _ _ _ _ c.explain.result _ c.explain.ensures c.print_answer-in-Explain.ensures in
     rw c.in-Explain.is (refl, rw c.as_bytes-in-Explain.ensures.value at printed)
+
+pub returns-in-Upgrade : goal.returns-in-Upgrade
+returns-in-Upgrade g c =
+    rw c.in-Upgrade.is (refl, printed_answer _ (UpgradesFile c.args.first.now c.args.second.now) _ _ _ _ c.upgrade.result _ c.upgrade.ensures c.print_answer-in-Upgrade.ensures)

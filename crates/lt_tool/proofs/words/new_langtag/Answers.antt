@@ -16,6 +16,7 @@ returns c =
     let three = adds _ _ (app_of c.in_ok-canon.canon) _ _ two c.in_ok-canon.ensures.app (c.in_ok-subcommand-3.ensures.shape c.in_ok-canon.ensures.globals) in
     let four = adds _ _ (app_of c.in_ok-extlang.extlang) _ _ three c.in_ok-extlang.ensures.app (c.in_ok-subcommand-4.ensures.shape c.in_ok-extlang.ensures.globals) in
     let five = adds _ _ (app_of c.in_ok-equal.equal) _ _ four c.in_ok-equal.ensures.app (c.in_ok-subcommand-5.ensures.shape c.in_ok-equal.ensures.globals) in
+    let six = adds _ _ (app_of c.in_ok-explain.explain) _ _ five c.in_ok-explain.ensures.app (c.in_ok-subcommand-6.ensures.shape c.in_ok-explain.ensures.globals) in
     record {
-      app = IfOk-weaker c.subcommand-6.result _ _ (λ r a. adds _ _ (app_of c.in_ok-explain.explain) _ _ five c.in_ok-explain.ensures.app (a.shape c.in_ok-explain.ensures.globals)) c.subcommand-6.ensures;
+      app = IfOk-weaker c.subcommand-7.result _ _ (λ r a. adds _ _ (app_of c.in_ok-upgrade.upgrade) _ _ six c.in_ok-upgrade.ensures.app (a.shape c.in_ok-upgrade.ensures.globals)) c.subcommand-7.ensures;
     }

@@ -1,0 +1,7 @@
+use Rattle.std.proofs.Common.{sym, ◌∙◌}
+use Rattle.lt_canon.proofs.UpgradeChecks.{covered_compared}
+use Rattle.lt_canon.proofs.upgrade_checks.stays_registered.Goals as goal
+
+pub returns-in-Range : goal.returns-in-Range
+returns-in-Range g c =
+    covered_compared (g.L.Lookup.listed c.args.newer.now) c.args.entry.now c.kind-in-Range.result c.in-Range.first c.in-Range.last c.is_covered.result (sym c.name.ensures.value ∙ c.in-Range.is) c.kind-in-Range.ensures.value c.is_covered.ensures
