@@ -71,11 +71,14 @@ pub nothing_of_test : {A : Type 0} (xs : List A) → true ≡ (length xs == 0) �
 nothing_of_test [] h = refl
 nothing_of_test (x ∷ xs) h = let none : length (x ∷ xs) ≡ 0 = eqb-true (length (x ∷ xs)) 0 (sym h) in absurd (omega arith)
 
+-- a tag by its parts
+pub tag_of_parts : (t : TagForm) (c : CoreParts) (es : List ExtensionParts) (ps : List (List ℕ)) → Some c ≡ core_of t → es ≡ extensions_of t → ps ≡ private_of t → t ≡ LangTag c es ps
+tag_of_parts t c es ps h e p = langtag_of t c (sym h) ∙ (λ i. LangTag c (sym e i) (sym p i))
+
 -- a tag that is found valid, by its parts
 pub valid_parts : (R : List EntryParts) (t : TagForm) (c : CoreParts) (es : List ExtensionParts) (ps : List (List ℕ)) → IsTagValue t → HasNoFault R t → Some c ≡ core_of t → es ≡ extensions_of t → ps ≡ private_of t → IsValid R (LangTag c es ps)
 valid_parts R t c es ps k n h e p =
-    let same : t ≡ LangTag c es ps = langtag_of t c (sym h) ∙ (λ i. LangTag c (sym e i) (sym p i)) in
-    subst (IsValid R) same ((valid_law R t k).1 n)
+    subst (IsValid R) (tag_of_parts t c es ps h e p) ((valid_law R t k).1 n)
 
 -- what settling the extensions of a proper tag needs
 pub transforms_have_parts : (R : List EntryParts) (es : List ExtensionParts) → AllByRecursion (IsProperExtension R) es → AllByRecursion (λ (e : ExtensionParts). e.singleton ≡ transform → (p : TForm) × IsTransform e.subtags p) es

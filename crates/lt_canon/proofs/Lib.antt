@@ -1,3 +1,4 @@
+pub mod AppendedTexts
 pub mod EndForms
 pub mod CheckedRegistry
 pub mod TagProper

@@ -5,7 +5,7 @@ ghost use Rattle.lt_tag.specs.Values.{IsTagValue, core_of};
 ghost use Rattle.lt_registry.specs.Validity.{IsValid};
 ghost use Rattle.lt_rewrite.specs.Conditions.{HasEndingChain};
 ghost use Rattle.lt_canon.specs.Conditions.{plain, IsValidPlain, IsChecked};
-ghost use Rattle.lt_canon.specs.Answers.{IsCanonicalAnswer};
+ghost use Rattle.lt_canon.specs.Answers.{IsCanonicalAnswer, or_same};
 ghost use Rattle.lt_canon.specs.Settled.{IsDistinctForm, IsCoreRefusal, IsSettledValue};
 ghost use Rattle.lt_canon.specs.UsualTags.{IsUsual};
 
@@ -36,6 +36,20 @@ use std::alloc::Global;
 pub fn canonical<L: Lookup>(alloc: Global, checked: &Checked<L>, tag: &Tag) -> Result<Tag, Refusal>
     ensures { IsCanonicalAnswer (L.listed checked.now) tag.now result }
 {
+    match other_form(alloc, checked, tag)? {
+        Some(form) => Ok(form),
+        None => Ok(tag.copy(alloc)?),
+    }
+}
+
+/// The canonical form of a tag, or none where that is the tag itself. It may be given then too.
+pub(crate) fn other_form<L: Lookup>(
+    alloc: Global,
+    checked: &Checked<L>,
+    tag: &Tag,
+) -> Result<Option<Tag>, Refusal>
+    ensures { IsCanonicalAnswer (L.listed checked.now) tag.now (or_same tag.now result) }
+{
     let table = checked.table();
     if let Some(core) = usual_core(tag) {
         return form_of_usual(alloc, table, tag, core);
@@ -46,50 +60,48 @@ pub fn canonical<L: Lookup>(alloc: Global, checked: &Checked<L>, tag: &Tag) -> R
     };
     let (extensions, private) = (tag.extensions(), tag.private());
     if extensions.is_empty() && private.is_empty() {
-        form_of_core(alloc, table, core)
-    } else {
-        form_of_langtag(alloc, table, core, extensions, private)
+        return Ok(Some(form_of_core(alloc, table, core)?));
     }
+    let form = form_of_langtag(alloc, table, core, extensions, private)?;
+    Ok(Some(form))
 }
 
-/// The canonical form of a valid grandfathered or private use tag.
-fn form_of_coreless<L: Lookup>(alloc: Global, table: &L, tag: &Tag) -> Result<Tag, Refusal>
+/// The canonical form of a valid grandfathered or private use tag, or none where that is the tag itself.
+fn form_of_coreless<L: Lookup>(alloc: Global, table: &L, tag: &Tag) -> Result<Option<Tag>, Refusal>
     requires checked { IsChecked (L.listed table.now) }
     requires valid { IsValid (L.listed table.now) tag.now }
     requires coreless { core_of tag.now ≡ None }
-    ensures { IsCanonicalAnswer (L.listed table.now) tag.now result }
+    ensures { IsCanonicalAnswer (L.listed table.now) tag.now (or_same tag.now result) }
 {
     if tag.grandfathered().is_none() {
-        return Ok(tag.copy(alloc)?);
+        return Ok(None);
     }
     match whole_value(table, tag) {
-        Some(value) => Ok(settled_value(alloc, table, value)?),
-        None => Ok(tag.copy(alloc)?),
+        Some(value) => Ok(Some(settled_value(alloc, table, value)?)),
+        None => Ok(None),
     }
 }
 
-/// The canonical form of a langtag of a language, and a script and a region where there is one.
+/// The canonical form of a langtag of a language, and a script and a region where there is one, or none
+/// where that is the tag itself.
 fn form_of_usual<L: Lookup>(
     alloc: Global,
     table: &L,
     tag: &Tag,
     core: &Core,
-) -> Result<Tag, Refusal>
+) -> Result<Option<Tag>, Refusal>
     requires checked { IsChecked (L.listed table.now) }
     requires tag { IsTagValue tag.now }
     requires usual { IsUsual core.now }
     requires alone { tag.now ≡ plain core.now }
-    ensures { IsCanonicalAnswer (L.listed table.now) tag.now result }
+    ensures { IsCanonicalAnswer (L.listed table.now) tag.now (or_same tag.now result) }
 {
     if is_core_valued(table, core)? {
-        return form_of_core(alloc, table, core);
+        return Ok(Some(form_of_core(alloc, table, core)?));
     }
     match whole_value(table, tag) {
-        Some(value) => Ok(settled_value(alloc, table, value)?),
-        None => {
-            let form = core.copy(alloc)?;
-            Ok(Tag::from_parts(form, Vec::new(alloc), Vec::new(alloc)))
-        }
+        Some(value) => Ok(Some(settled_value(alloc, table, value)?)),
+        None => Ok(None),
     }
 }
 

@@ -2,7 +2,7 @@
 ghost use Rattle.std.specs.Prelude.{◌≡◌, IfOk, IfErr, OnOk, OnErr};
 ghost use Rattle.lt_canon.specs.Texts.{AppendsCanonicalText, IsCanonicalTextOf, IsTextRefusal};
 
-use crate::canonical_tags::canonical;
+use crate::canonical_tags::other_form;
 use crate::checked::Checked;
 use crate::refusals::TextRefusal;
 use lt_registry::Lookup;
@@ -25,8 +25,8 @@ pub fn append_canonical_text<L: Lookup>(
     ensures kept { OnErr result (texts.new.items ≡ texts.old.items) }
 {
     let tag = read_tag(alloc, text)?;
-    let form = canonical(alloc, checked, &tag)?;
-    append_tag(texts, &form)?;
+    let other = other_form(alloc, checked, &tag)?;
+    append_tag(texts, other.as_ref().unwrap_or(&tag))?;
     Ok(())
 }
 

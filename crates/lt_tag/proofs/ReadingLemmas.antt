@@ -1,16 +1,14 @@
 -- What is known of a text while its subtags are read from left to right.
-use Rattle.std.proofs.Common.{◌≡◌, true, ℕ, ◌≤◌, ◌<◌, ◌+◌, List, [], ◌∷◌, ◌++◌, length, take, refl, sym, ap, ◌∙◌, subst, arith, inl, inr}
+use Rattle.std.proofs.Common.{◌≡◌, ℕ, ◌≤◌, ◌<◌, ◌+◌, List, [], ◌∷◌, ◌++◌, length, take, refl, sym, ap, ◌∙◌, subst, arith, inl, inr}
 use Rattle.std.specs.Prelude.{Result, Ok, Err, IsOk, Some, None, option_and_then}
 use Rattle.std.proofs.lemmas.List.{append_assoc, length-append, take_at, length_push}
-use Rattle.lt_subtag.specs.Shapes.{is_language}
 use Rattle.lt_tag.specs.declared.faults.TagFault.{TagFault}
-use Rattle.lt_tag.specs.Parts.{CoreParts, TagForm}
+use Rattle.lt_tag.specs.Parts.{TagForm}
 use Rattle.lt_tag.specs.Lists.{pieces, list_of}
 use Rattle.lt_tag.specs.Listing.{listed, with_front, read_at}
 use Rattle.lt_tag.specs.WellFormed.{spell, IsShaped, IsNotGrandfathered, IsFirstMisplaced, Begins}
 use Rattle.lt_tag.specs.Faults.{HasList, HasBadList, longest_text}
-use Rattle.lt_tag.specs.Draft.{Draft, InCore, begun, drafted, finished, in_core, spell_draft}
-use Rattle.lt_tag.specs.Growth.{grown, of_language}
+use Rattle.lt_tag.specs.Draft.{Draft, begun, drafted, finished, spell_draft}
 use Rattle.lt_tag.proofs.DraftLists.{drafted_by, draft_of}
 use Rattle.lt_tag.specs.DraftShapes.{IsDraft}
 use Rattle.lt_tag.specs.DraftViews.{HasRoom}
@@ -39,16 +37,6 @@ of_next s ss t draft h =
 pub of_more : (done : List (List ℕ)) (t : List ℕ) (draft : Draft) → 0 < length done → draft_of done ≡ Some draft → draft_of (done ++ t ∷ []) ≡ drafted draft t
 of_more [] t draft n h = absurd (omega arith)
 of_more (s ∷ ss) t draft n h = of_next s ss t draft h
-
--- a language begins a core
-pub begun_language : (s : List ℕ) → is_language s ≡ true → begun s ≡ Some (InCore (of_language s))
-unfolding begun
-begun_language s h = rw h refl
-
--- a core that grows
-pub drafted_core : (core : CoreParts) (s : List ℕ) (more : CoreParts) → grown core s ≡ Some more → drafted (InCore core) s ≡ Some (InCore more)
-unfolding drafted
-drafted_core core s more h = ap (in_core core s) h
 
 ok_is : {X : Type 0} (r : Result X TagFault) → IsOk r → (x : X) × (r ≡ Ok x)
 ok_is (Ok x) h = (x, refl)

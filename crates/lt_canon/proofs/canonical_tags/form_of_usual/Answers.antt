@@ -1,14 +1,10 @@
-use Rattle.std.proofs.Common.{◌≡◌, false, inl, sym, ◌∙◌, subst}
+use Rattle.std.proofs.Common.{false, sym, ◌∙◌, subst}
 use Rattle.std.proofs.lemmas.Result.{err_from_is_err_and}
-use Rattle.lt_tag.specs.Parts.{LangTag}
-use Rattle.lt_tag.specs.Spelling.{spell_core}
-use Rattle.lt_tag.specs.WellFormed.{IsNotGrandfathered}
 use Rattle.lt_registry.specs.Validity.{IsValid}
-use Rattle.lt_canon.specs.Conditions.{plain}
 use Rattle.lt_canon.specs.Answers.{IsCanonicalFormOf}
 use Rattle.lt_canon.proofs.CheckedRegistry.{value_plain}
 use Rattle.lt_canon.proofs.CanonicalForms.{value_canonical}
-use Rattle.lt_canon.proofs.UsualTags.{usual_refused, usual_valid, usual_plain, usual_spells_none, usual_canonical}
+use Rattle.lt_canon.proofs.UsualTags.{usual_refused, usual_valid, usual_plain, usual_canonical}
 use Rattle.lt_canon.proofs.canonical_tags.form_of_usual.Goals as goal
 
 pub returns-in_err-is_core_valued : goal.returns-in_err-is_core_valued
@@ -39,23 +35,12 @@ returns-in_ok-settled_value-in-Some g c =
     (usual_valid R t core c.requires.usual c.requires.alone c.in_ok-is_core_valued.field-0 c.requires.tag told)
     (sym (c.in-Some.ensures {u = tt})) (c.in_ok-settled_value-in-Some.ensures {u = tt})
 
-pub from_parts-requires-clause-not_grandfathered :
-    goal.from_parts-requires-clause-not_grandfathered
-from_parts-requires-clause-not_grandfathered g c =
+pub returns-in-None : goal.returns-in-None
+returns-in-None g c =
     let R = g.L.Lookup.listed c.args.table.now in
     let t = c.args.tag.now in
     let core = c.args.core.now in
     let told = rw c.if-branch.false at (sym c.is_core_valued.ensures ∙ c.in_ok-is_core_valued.was) in
     let valid = usual_valid R t core c.requires.usual c.requires.alone false c.requires.tag told in
-    inl (subst (λ d. IsNotGrandfathered (spell_core d)) (sym (c.in_ok-form-in-None.ensures {u = tt})) (usual_spells_none R t core c.requires.usual c.requires.alone c.requires.checked valid told))
-
-pub returns-in_ok-form-in-None : goal.returns-in_ok-form-in-None
-returns-in_ok-form-in-None g c =
-    let R = g.L.Lookup.listed c.args.table.now in
-    let t = c.args.tag.now in
-    let core = c.args.core.now in
-    let told = rw c.if-branch.false at (sym c.is_core_valued.ensures ∙ c.in_ok-is_core_valued.was) in
-    let valid = usual_valid R t core c.requires.usual c.requires.alone false c.requires.tag told in
-    let same : c.from_parts.result ≡ plain core = c.from_parts.ensures ∙ (λ i. LangTag (c.in_ok-form-in-None.ensures {u = tt} i) (c.new.ensures.items i) (c.new-in-None.ensures.items i)) in
-    subst (IsCanonicalFormOf R t) (sym same)
+    subst (IsCanonicalFormOf R t) (sym c.requires.alone)
     (usual_canonical R t core c.requires.usual c.requires.alone c.requires.checked valid told (sym (c.in-None.ensures {u = tt})))
