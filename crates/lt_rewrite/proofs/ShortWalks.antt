@@ -2,6 +2,7 @@
 use Rattle.std.proofs.Common.{◌≡◌, ℕ, zero, suc, ◌+◌, ◌-◌, ◌<◌, ◌≤◌, true, false, List, [], ◌∷◌, ◌++◌, Option, Some, None, refl, sym, ap, ◌∙◌, subst, length, set, slice_get, get_or, Contains, Bor, is_some, arith}
 use Rattle.std.specs.Option.{option_copied}
 use Rattle.std.proofs.lemmas.List.{length-set}
+use Rattle.std.proofs.lemmas.List.Elements.{All-contains_itself}
 use Rattle.std.proofs.lemmas.Option.{slice_get_within, slice_get_read}
 use Rattle.lt_registry.specs.Parts.{EntryParts}
 use Rattle.lt_registry.specs.Entries.{entry, has_form, IsRegistry}
@@ -57,16 +58,9 @@ pub onward_form : (R : List EntryParts) → IsRegistry R → (k : Kind) (n : ℕ
 onward_form R G k n s t a h =
     subst (λ x. has_form k x ≡ true) a.2 (chase_keeps (next_value R k) (λ x. has_form k x ≡ true) (λ b c f p. next_form R G k b c f) a.0 s h)
 
--- the entries of a registry
-
-all_contained : (R : List EntryParts) (k : ℕ) (d : EntryParts) → k < length R → Contains R (get_or R k d)
-all_contained [] k d h = absurd (omega (arith, h))
-all_contained (x ∷ xs) zero d h = (0, omega arith, refl)
-all_contained (x ∷ xs) (suc k) d h = let c = all_contained xs k d (omega (arith, h)) in (suc c.0, omega (arith, c.1), c.2)
-
 -- the entry of a subtag is one of the entries
 pub entry_there : (R : List EntryParts) (k : Kind) (s : List ℕ) (e : EntryParts) → entry R k s ≡ Some e → Contains R e
-entry_there R k s e h = (entry_has R k s (Contains R) (all_contained R) e h).0
+entry_there R k s e h = (entry_has R k s (Contains R) (All-contains_itself R) e h).0
 
 -- each place and its shortcut
 
