@@ -2,6 +2,7 @@ mod answers;
 mod explanations;
 mod sample;
 mod traces;
+mod upgrades;
 
 use super::*;
 use lt_registry::ListTable;

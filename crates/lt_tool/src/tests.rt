@@ -2,6 +2,7 @@
 mod registries;
 mod sample;
 mod tags;
+mod upgrades;
 
 use crate::{Command, Status, ToolFault, WordsFault, perform, read_words, report, report_file};
 use lt_jar::Device;
@@ -46,13 +47,14 @@ fn words_that_name_a_command(rt: HostRuntime) {
 }
 
 /// Words that name no command.
-const USAGES: [&[&str]; 8] = [
+const USAGES: [&[&str]; 9] = [
     &[],
     &["unknown"],
     &["unknown", "en"],
     &["classify"],
     &["classify", "en", "fr"],
     &["classify", "-x"],
+    &["upgrade", "registry"],
     &["help", "unknown"],
     &["--version"],
 ];
@@ -93,13 +95,14 @@ fn words_that_ask_for_help(rt: HostRuntime) {
 }
 
 /// Words, and the file that their command names first.
-const FILES: [(&[&str], Option<&str>); 6] = [
+const FILES: [(&[&str], Option<&str>); 7] = [
     (&["classify", "en"], None),
     (&["check", "registry"], Some("registry")),
     (&["canon", "registry"], Some("registry")),
     (&["extlang", "registry", "en"], Some("registry")),
     (&["equal", "registry", "en", "fr"], Some("registry")),
     (&["explain", "registry", "en"], Some("registry")),
+    (&["upgrade", "registry", "newer"], Some("registry")),
 ];
 
 /// Whether the words name a command whose first file is this one.

@@ -105,3 +105,14 @@ pub fn sample_text(alloc: Global, end: &str, field: &str) -> Result<String, Allo
     }
     Ok(text)
 }
+
+/// The text of the registry with this row in place of the one of its name.
+pub fn changed_text(alloc: Global, change: &Row) -> Result<String, AllocError> {
+    let mut text = String::new(alloc);
+    push_line(&mut text, HEADER, "", "\n")?;
+    for row in &ROWS {
+        let row = if row.1 == change.1 { change } else { row };
+        push_record(&mut text, row, "\n")?;
+    }
+    Ok(text)
+}
