@@ -1,5 +1,5 @@
 -- What is owed for a tag that is to be made canonical.
-use Rattle.std.specs.Prelude.{ℕ, ◌≡◌, ◌⊎◌, List, ◌∷◌, ◌++◌, Option, Some, None, Result, Ok, Err}
+use Rattle.std.specs.Prelude.{ℕ, ◌≡◌, ◌⊎◌, List, ◌∷◌, ◌++◌, Result, Ok, Err}
 use Rattle.lt_tag.specs.Parts.{CoreParts, ExtensionParts, TagForm, LangTag, PrivateUse, Grandfathered}
 use Rattle.lt_registry.specs.Parts.{EntryParts}
 use Rattle.lt_registry.specs.Validity.{IsValid, Distinct}
@@ -64,9 +64,3 @@ IsCanonicalAnswer R t (Ok c) = IsCanonicalFormOf R t c
 IsCanonicalAnswer R t (Err (refusals.Invalid fault)) = IsFirstFault R t fault.kind fault.place
 IsCanonicalAnswer R t (Err (refusals.ReplacementRepeats v)) = IsRepeatOf R t v
 IsCanonicalAnswer R t (Err refusals.OutOfMemory) = Unit {0}
-
--- the form that is given, or the tag itself
-abbrev pub or_same : TagForm → Result (Option TagForm) Refusal → Result TagForm Refusal
-or_same t (Ok (Some c)) = Ok c
-or_same t (Ok None) = Ok t
-or_same t (Err refusal) = Err refusal

@@ -3,6 +3,7 @@ pub mod Conditions
 pub mod WholeChecks
 pub mod RegularTags
 pub mod Answers
+pub mod OtherForms
 pub mod Refusals
 pub mod Settled
 pub mod Texts

@@ -5,7 +5,8 @@ ghost use Rattle.lt_tag.specs.Values.{IsTagValue, core_of};
 ghost use Rattle.lt_registry.specs.Validity.{IsValid};
 ghost use Rattle.lt_rewrite.specs.Conditions.{HasEndingChain};
 ghost use Rattle.lt_canon.specs.Conditions.{plain, IsValidPlain, IsChecked};
-ghost use Rattle.lt_canon.specs.Answers.{IsCanonicalAnswer, or_same};
+ghost use Rattle.lt_canon.specs.Answers.{IsCanonicalAnswer};
+ghost use Rattle.lt_canon.specs.OtherForms.{or_same};
 ghost use Rattle.lt_canon.specs.Settled.{IsDistinctForm, IsCoreRefusal, IsSettledValue};
 ghost use Rattle.lt_canon.specs.UsualTags.{IsUsual};
 

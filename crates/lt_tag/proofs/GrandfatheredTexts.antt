@@ -7,7 +7,8 @@ use Rattle.std.proofs.lemmas.List.{get_or-map, length-map}
 use Rattle.lt_subtag.specs.Bytes.{is_subtag, folded}
 use Rattle.lt_tag.specs.Parts.{Grandfathered}
 use Rattle.lt_tag.specs.Lists.{pieces, list_of, onto_first}
-use Rattle.lt_tag.specs.Grandfathered.{begins_listed, grandfathered_texts, grandfathered_list, IsGrandfathered}
+use Rattle.lt_tag.specs.GrandfatheredFronts.{begins_listed}
+use Rattle.lt_tag.specs.Grandfathered.{grandfathered_texts, grandfathered_list, IsGrandfathered}
 use Rattle.lt_tag.specs.Faults.{HasList}
 use Rattle.lt_tag.proofs.TagLemmas.{table_length, list_all-at}
 use Rattle.lt_tag.proofs.TextLemmas.{some_pieces}

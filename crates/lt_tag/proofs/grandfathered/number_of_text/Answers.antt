@@ -2,7 +2,8 @@ use Rattle.std.proofs.Common.{◌≡◌, false, arith, below_more, length, ℕ, 
 use Rattle.std.specs.Char.{to_ascii_lowercase}
 use Rattle.lt_subtag.specs.Bytes.{folded}
 use Rattle.lt_tag.specs.Lists.{list_of}
-use Rattle.lt_tag.specs.Grandfathered.{IsGrandfathered, begins_listed}
+use Rattle.lt_tag.specs.Grandfathered.{IsGrandfathered}
+use Rattle.lt_tag.specs.GrandfatheredFronts.{begins_listed}
 use Rattle.lt_tag.proofs.GrandfatheredTexts.{match_found, match_needed, match_listed, first_begins, none_begins}
 use Rattle.lt_tag.proofs.grandfathered.number_of_text.Goals as goal
 

@@ -1,0 +1,11 @@
+-- How the texts of the 26 grandfathered tags begin, by their lengths.
+use Rattle.std.specs.Prelude.{ℕ, ◌==◌, ◌||◌, Bool, false, if◌then◌else◌}
+
+-- one of the texts has so many bytes and begins so
+abbrev pub begins_listed : ℕ → ℕ → Bool
+begins_listed length first =
+    if length == 5 || length == 7 then first == 105
+    else (if length == 6 then first == 110 || first == 122
+    else (if length == 8 then first == 105 || first == 122
+    else (if length == 9 then first == 101 || first == 105 || first == 115
+    else (if length == 10 then first == 97 || first == 105 || first == 122 else (if length == 11 then first == 99 else false)))))
