@@ -10,4 +10,7 @@ pub mod FaultLemmas
 pub mod ReadLemmas
 pub mod ParseLemmas
 pub mod LawLemmas
+pub mod PieceLemmas
+pub mod ReadingLemmas
+pub mod SourceLemmas
 pub mod WorkedRows

@@ -87,7 +87,7 @@ clean_more earlier lines before line rest e clean here front l after other is be
     ]
 
 -- no line before this number is wrong
-lowest_of : (earlier : ℕ) (text : List ℕ) (n : ℕ) → IsClean earlier (lines_of text) n → (other : Fault) (at : ℕ) → IsWrongAt earlier text other at → n + 1 ≤ at
+pub lowest_of : (earlier : ℕ) (text : List ℕ) (n : ℕ) → IsClean earlier (lines_of text) n → (other : Fault) (at : ℕ) → IsWrongAt earlier text other at → n + 1 ≤ at
 lowest_of earlier text n clean other at wrong =
     elim (below_or_above (length wrong.before) n) [
       | inl below ↦ absurd (clean wrong.before wrong.line wrong.after other wrong.all below wrong.wrong)

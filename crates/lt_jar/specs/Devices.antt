@@ -1,5 +1,5 @@
 -- What the clauses see of a device, and how it counts.
-use Rattle.std.specs.Prelude.{◌≡◌, ◌<◌, ◌-◌, ◌+◌, ◌^◌, ◌⊎◌, ◌&&◌, ℕ, List, length, min, if◌then◌else◌, nat_lt, nat_eq, Result, Ok, Err}
+use Rattle.std.specs.Prelude.{◌≡◌, ◌<◌, ◌-◌, ◌+◌, ◌^◌, ◌⊎◌, ◌&&◌, ℕ, zero, suc, List, length, min, if◌then◌else◌, nat_lt, nat_eq, Result, Ok, Err}
 use Rattle.lt_jar.specs.declared.devices.Device.{Device}
 
 -- the reader or the writer
@@ -20,6 +20,11 @@ greatest_count = 2 ^ 64 - 1
 
 abbrev pub one_more : ℕ → ℕ
 one_more count = min (count + 1) greatest_count
+
+-- a count after so many more
+abbrev pub after_reads : ℕ → ℕ → ℕ
+after_reads count zero = count
+after_reads count (suc reads) = one_more (after_reads count reads)
 
 -- the failures after a read with this answer
 abbrev pub failures_after_read : {E : Type 0} → Result ℕ E → ℕ → ℕ

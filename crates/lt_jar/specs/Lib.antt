@@ -8,4 +8,8 @@ pub mod Reading
 pub mod Views
 pub mod Names
 pub mod Going
+pub mod Pieces
+pub mod Lending
 pub mod Devices
+pub mod Sources
+pub mod Lent

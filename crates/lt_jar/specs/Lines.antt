@@ -1,5 +1,6 @@
 -- The lines of a text.
-use Rattle.std.specs.Prelude.{ℕ, List, [], ◌∷◌, ◌==◌, if◌then◌else◌}
+use Rattle.std.specs.Prelude.{◌≢◌, ℕ, List, [], ◌∷◌, ◌++◌, ◌==◌, if◌then◌else◌}
+use Rattle.std.specs.List.{All, flat_map}
 use Rattle.std.specs.Io.BufRead.{strip_last}
 
 -- the byte stands in front of the first line
@@ -15,3 +16,11 @@ lines_of (byte ∷ text) = if byte == 10 then [] ∷ lines_of text else begin_fi
 -- a line without the one carriage return (13) that may end it
 abbrev pub content_of : List ℕ → List ℕ
 content_of line = strip_last 13 line
+
+-- no line feed
+abbrev pub IsOneLine : List ℕ → Type 0
+IsOneLine text = All (λ byte. byte ≢ 10) text
+
+-- the lines, each with the line feed that ends it
+abbrev pub whole_lines : List (List ℕ) → List ℕ
+whole_lines lines = flat_map (λ (line : List ℕ). line ++ 10 ∷ []) lines

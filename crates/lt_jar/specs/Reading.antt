@@ -68,6 +68,20 @@ on_taken going (Err fault) = Err fault
 abbrev pub step : ℕ → Going → List ℕ → Result Going Fault
 step earlier going line = on_taken going (take_line (earlier + length going.records) going.fields line)
 
+-- a line more, where all is well so far
+abbrev pub on_going : ℕ → Result Going Fault → List ℕ → Result Going Fault
+on_going earlier (Ok going) line = step earlier going line
+on_going earlier (Err fault) line = Err fault
+
+-- lines more, up to the first that is wrong
+abbrev pub steps : ℕ → Result Going Fault → List (List ℕ) → Result Going Fault
+steps earlier said [] = said
+steps earlier said (line ∷ lines) = steps earlier (on_going earlier said line) lines
+
+-- no record has ended, and one goes on with these fields
+abbrev pub going_on : List Field → Result Going Fault
+going_on fields = Ok (record { records = []; fields = fields })
+
 -- the record that goes on, if it has a field
 abbrev pub rest_of : List Field → List (List Field)
 rest_of [] = []

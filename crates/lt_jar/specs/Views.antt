@@ -5,7 +5,7 @@ use Rattle.lt_jar.specs.Records.{Field}
 use Rattle.lt_jar.specs.Faults as faults
 use Rattle.lt_jar.specs.Reading as reading
 use Rattle.lt_jar.specs.declared.faults.JarFaultKind.{JarFaultKind}
-use Rattle.lt_jar.specs.declared.faults.JarFaultKind.TheVariants.{LineTooLong, NotUtf8, LeadingContinuation, BadLine, TooManyRecords, OutOfMemory}
+use Rattle.lt_jar.specs.declared.faults.JarFaultKind.TheVariants.{LineTooLong, NotUtf8, LeadingContinuation, BadLine, TooManyRecords, OutOfMemory, Read, TooManyTurns, Failed}
 use Rattle.lt_jar.specs.declared.faults.JarFault.{JarFault}
 use Rattle.lt_jar.specs.declared.lines.LineKind.{LineKind}
 use Rattle.lt_jar.specs.declared.lines.LineKind.TheVariants as kinds
@@ -27,6 +27,9 @@ fault_in LeadingContinuation = Some faults.LeadingContinuation
 fault_in BadLine = Some faults.BadLine
 fault_in TooManyRecords = Some faults.TooManyRecords
 fault_in OutOfMemory = None
+fault_in Read = None
+fault_in TooManyTurns = None
+fault_in Failed = None
 
 -- the fault of the text; or memory ran out at a line before which nothing is wrong
 abbrev pub IsFaultOf : List ℕ → JarFault → Type 0

@@ -9,7 +9,7 @@ use crate::lines::{LineKind, kind_of};
 use std::alloc::{AllocError, Global};
 
 /// The most bytes of a line, with its carriage return and without its line feed.
-const LONGEST_LINE: usize = 65_536;
+pub(crate) const LONGEST_LINE: usize = 65_536;
 
 /// The most records of a text.
 const MOST_RECORDS: usize = 100_000;
@@ -40,6 +40,19 @@ impl Draft {
         ensures { IsTrue result ↔ (self.now.fields.items ≡ []) }
     {
         self.fields.is_empty()
+    }
+
+    pub(crate) fn fields(&self) -> &[JarField]
+        ensures { result.now ≡ self.now.fields.items }
+    {
+        &self.fields
+    }
+
+    /// Lets the fields go.
+    pub(crate) fn clear(&mut self)
+        ensures { self.new.fields.items ≡ [] }
+    {
+        self.fields.clear();
     }
 
     /// Takes the next line, behind so many records that have ended.

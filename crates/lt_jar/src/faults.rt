@@ -6,7 +6,7 @@ ghost use Rattle.lt_jar.specs.declared.faults.JarFaultKind.TheVariants as kinds;
 use std::alloc::{AllocError, AllocFailed};
 use thiserror::Error;
 
-/// What is wrong with a line. Of several, the first of this list is answered.
+/// What is wrong with a line, or why it was not read. Of several, the first of this list is answered.
 #[derive(Clone, Copy, Debug, PartialEq, Eq)]
 pub enum JarFaultKind {
     /// It has more than 65,536 bytes, the carriage return counted and the line feed not.
@@ -21,6 +21,12 @@ pub enum JarFaultKind {
     TooManyRecords,
     /// A growth of memory was refused.
     OutOfMemory,
+    /// The reader failed.
+    Read,
+    /// 10,000,000 reads gave bytes.
+    TooManyTurns,
+    /// There was a fault before.
+    Failed,
 }
 
 impl JarFaultKind {
@@ -35,6 +41,9 @@ impl JarFaultKind {
             JarFaultKind::BadLine => "BadLine",
             JarFaultKind::TooManyRecords => "TooManyRecords",
             JarFaultKind::OutOfMemory => "OutOfMemory",
+            JarFaultKind::Read => "Read",
+            JarFaultKind::TooManyTurns => "TooManyTurns",
+            JarFaultKind::Failed => "Failed",
         }
     }
 }

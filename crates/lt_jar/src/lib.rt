@@ -3,15 +3,21 @@
 
 mod devices;
 mod drafts;
+mod engine;
 mod faults;
 mod jars;
 pub mod laws;
 mod lines;
+mod pieces;
+mod readers;
 mod reading;
+mod sources;
 
 pub use devices::Device;
 pub use faults::{JarFault, JarFaultKind};
 pub use jars::{Jar, JarField, Record};
+pub use pieces::{Pieces, Takes};
+pub use readers::{JarReader, RecordRef};
 pub use reading::read_jar;
 
 #[cfg(test)]

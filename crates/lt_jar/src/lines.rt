@@ -4,6 +4,7 @@ ghost use Rattle.std.specs.List.{list_all};
 ghost use Rattle.lt_jar.specs.Lines.{content_of, lines_of};
 ghost use Rattle.lt_jar.specs.LineKinds as lines;
 ghost use Rattle.lt_jar.specs.Views.{line_in};
+ghost use Rattle.lt_jar.specs.Pieces.{SplitsLine};
 
 /// The first line of a text, and what follows the line feed that ends it.
 pub(crate) fn cut_line(text: &[u8]) -> (&[u8], &[u8])
@@ -17,6 +18,18 @@ pub(crate) fn cut_line(text: &[u8]) -> (&[u8], &[u8])
         }
     }
     (text, &[])
+}
+
+/// What stands before the first line feed and behind it, if there is one.
+pub(crate) fn split_line(text: &[u8]) -> Option<(&[u8], &[u8])>
+    ensures { SplitsLine text.now result }
+{
+    for (i, byte) in text.iter().enumerate() {
+        if *byte == b'\n' {
+            return Some((&text[..i], &text[i + 1..]));
+        }
+    }
+    None
 }
 
 /// What a line is.

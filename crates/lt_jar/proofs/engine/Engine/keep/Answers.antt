@@ -1,0 +1,13 @@
+use Rattle.std.proofs.Common.{◌≡◌, ◌<◌, ◌∙◌, ◌++◌, [], rules, arith, inr, refl, sym, ap, length, length-append, vec_len}
+use Rattle.lt_jar.specs.Faults as faults
+use Rattle.lt_jar.specs.Limits.{longest_line}
+use Rattle.lt_jar.proofs.TakeLemmas.{take_line-too_long}
+use Rattle.lt_jar.proofs.engine.Engine.keep.Goals as goal
+
+pub returns-then-part-saturating_sub-clause-kept : goal.returns-then-part-saturating_sub-clause-kept
+returns-then-part-saturating_sub-clause-kept c =
+    let partial = c.args.self.now.partial in
+    let part = c.args.part.now in
+    let sum = length-append partial.items part in
+    let long : longest_line < length (partial.items ++ part) = omega (arith, sum, partial.ok.0, c.saturating_sub.ensures, c.if-part-saturating_sub.true, c.len.ensures) in
+    (λ fields. inr (faults.LineTooLong, refl, take_line-too_long c.args.self.now.ended fields (partial.items ++ part) long), λ none. omega (arith, long, ap length none), refl)

@@ -1,0 +1,26 @@
+-- What `JarReader` is over its device, and what its `next` leaves once the record is no longer borrowed.
+use Rattle.std.specs.Prelude.{◌≡◌, ℕ, List, [], Option, Some, None, Result, Ok, Err, Bool, IfOk, IfErr, IfSome, is_some}
+use Rattle.std.specs.Borrow.{Fml, RattleType, MutBor}
+use Rattle.std.specs.Io.BufRead.{Rests}
+use mir.Syntax.{named}
+use Rattle.lt_jar.specs.declared.faults.JarFault.{JarFault}
+use Rattle.lt_jar.specs.declared.readers.JarReader.{JarReader}
+use Rattle.lt_jar.specs.declared.readers.RecordRef.{RecordRef}
+use Rattle.lt_jar.specs.declared.sources.JarSource.{JarSource}
+use Rattle.lt_jar.specs.contracts.readers.JarReader.{the_row}
+use Rattle.lt_jar.specs.contracts.sources.JarSource.{the_row as source_row}
+use Rattle.lt_jar.specs.Sources.{Advances, record_in}
+
+-- whether a record came
+abbrev pub came : Result (Option RecordRef) JarFault → Result Bool JarFault
+came (Ok lent) = Ok (is_some lent)
+came (Err fault) = Err fault
+
+-- the call moved from old to new, and lent this
+pub record Moves {R : Type 0} (remaining : R → Option (List ℕ)) (old : JarReader R JarSource) (result : Result (Option RecordRef) JarFault) (new : JarReader R JarSource) : Type 0 where
+  pub same_reference : new.device.ghost_name ≡ old.device.ghost_name
+  pub advances : Advances remaining old.source new.source old.device.now new.device.now (came result)
+  pub fields : IfOk result (λ lent. IfSome lent (λ r. r.fields.now ≡ record_in new.source))
+
+abbrev pub LendsAs : (R : RattleType) → (R.Denot → Option (List ℕ)) → MutBor (JarReader R.Denot JarSource) → Result (Option RecordRef) JarFault → Fml
+LendsAs R remaining reader result = Rests (the_row (record { mir = named 0; lft = [] }) R source_row) reader (Moves remaining reader.now result)

@@ -1,0 +1,110 @@
+-- What is done with a piece of a text.
+use Rattle.std.specs.Prelude.{◌≡◌, ◌≢◌, ◌≤◌, ◌+◌, ℕ, Bool, true, false, List, [], ◌∷◌, ◌++◌, length, Option, Some, None, Result, Ok, Err, MatchOption}
+use Rattle.std.specs.Borrow.{Bor}
+use Rattle.std.specs.List.{AllByRecursion}
+use Rattle.lt_jar.specs.Lines.{IsOneLine, lines_of, whole_lines}
+use Rattle.lt_jar.specs.Records.{Field}
+use Rattle.lt_jar.specs.Reading.{Ends, Going, finished, going_on, rest_of, steps, take_line}
+use Rattle.lt_jar.specs.Faults as faults
+use Rattle.lt_jar.specs.Views.{IsSaid, IsTaken}
+use Rattle.lt_jar.specs.declared.faults.JarFaultKind.{JarFaultKind}
+use Rattle.lt_jar.specs.declared.drafts.Progress.{Progress}
+use Rattle.lt_jar.specs.declared.engine.Engine.{Engine}
+
+-- what stands before the first line feed and behind it
+abbrev pub SplitsLine : List ℕ → Option (Bor (List ℕ) × Bor (List ℕ)) → Type 0
+SplitsLine text parts = MatchOption parts (IsOneLine text) (λ p. IsOneLine p.0.now × (text ≡ p.0.now ++ 10 ∷ p.1.now))
+
+-- the fields of the record that is being read
+abbrev pub fields_in : Engine → List Field
+fields_in engine = engine.draft.fields.items
+
+-- the engine went over whole lines, which ended no record
+pub record GoesOver (old new : Engine) (lines : List (List ℕ)) : Type 0 where
+  pub each : AllByRecursion IsOneLine lines
+  pub ran : steps old.ended (going_on (fields_in old)) lines ≡ going_on (fields_in new)
+  pub line : new.line ≡ old.line + length lines
+  pub ended : new.ended ≡ old.ended
+  pub begun : IsOneLine new.partial.items
+
+-- a line in which all bytes are used
+abbrev pub EndsLine : Engine → Engine → Result Progress JarFaultKind → Type 0
+EndsLine old new (Ok progress) = (new.line ≡ old.line + 1) × (new.partial.items ≡ [])
+EndsLine old new (Err kind) = (new.line ≡ old.line) × IsOneLine new.partial.items
+
+-- all bytes are used, and what follows the last line feed is kept
+pub record TakesAll (old new : Engine) (piece : List ℕ) : Type 0 where
+  pub lines : List (List ℕ)
+  pub over : GoesOver old new lines
+  pub bytes : old.partial.items ++ piece ≡ whole_lines lines ++ new.partial.items
+  pub room : new.line ≤ old.line + length piece
+
+-- the last of the lines ends the record, and the rest is not used
+pub record TakesRecord (old new : Engine) (piece rest : List ℕ) : Type 0 where
+  pub lines : List (List ℕ)
+  pub last : List ℕ
+  pub each : AllByRecursion IsOneLine (lines ++ last ∷ [])
+  pub ran : steps old.ended (going_on (fields_in old)) lines ≡ going_on (fields_in new)
+  pub ends : take_line old.ended (fields_in new) last ≡ Ok (Ends (fields_in new))
+  pub line : new.line ≡ old.line + length lines + 1
+  pub ended : new.ended ≡ old.ended
+  pub empty : new.partial.items ≡ []
+  pub bytes : old.partial.items ++ piece ≡ whole_lines (lines ++ last ∷ []) ++ rest
+  pub front : List ℕ
+  pub split : piece ≡ front ++ rest
+  pub room : new.line + length rest ≤ old.line + length piece
+
+-- the line behind these lines is wrong, or memory ran out at it
+pub record StopsAt (old new : Engine) (piece : List ℕ) (kind : JarFaultKind) : Type 0 where
+  pub lines : List (List ℕ)
+  pub each : AllByRecursion IsOneLine lines
+  pub fields : List Field
+  pub ran : steps old.ended (going_on (fields_in old)) lines ≡ going_on fields
+  pub tail : List ℕ
+  pub wrong : List ℕ
+  pub after : List (List ℕ)
+  pub cut : lines_of tail ≡ wrong ∷ after
+  pub said : IsSaid kind (take_line old.ended fields wrong)
+  pub bytes : old.partial.items ++ piece ≡ whole_lines lines ++ tail
+  pub room : new.line ≤ old.line + length piece
+  pub line : new.line ≡ old.line + length lines
+  pub ended : new.ended ≡ old.ended
+  pub begun : IsOneLine new.partial.items
+
+-- what the engine did with a piece
+abbrev pub TakesPiece : Engine → Engine → List ℕ → Result (Option (Bor (List ℕ))) JarFaultKind → Type 0
+TakesPiece old new piece (Ok None) = TakesAll old new piece
+TakesPiece old new piece (Ok (Some rest)) = TakesRecord old new piece rest.now
+TakesPiece old new piece (Err kind) = StopsAt old new piece kind
+
+-- bytes without a line feed went behind those of the line that goes on; a line that is too long stops it
+abbrev pub KeepsBytes : Engine → Engine → List ℕ → Result (Unit {0}) JarFaultKind → Type 0
+KeepsBytes old new rest (Ok x) = new.partial.items ≡ old.partial.items ++ rest
+KeepsBytes old new rest (Err kind) = ((fields : List Field) → IsSaid kind (take_line old.ended fields (old.partial.items ++ rest))) × (old.partial.items ++ rest ≢ []) × (new.partial.items ≡ old.partial.items)
+
+-- the text ends: what is kept was the last line, if it is anything
+abbrev pub last_line : List ℕ → List (List ℕ)
+last_line [] = []
+last_line (byte ∷ line) = (byte ∷ line) ∷ []
+
+pub record Finishes (old new : Engine) (some : Bool) : Type 0 where
+  pub going : Going
+  pub ran : steps old.ended (going_on (fields_in old)) (last_line old.partial.items) ≡ Ok going
+  pub record_is : finished going ≡ rest_of (fields_in new)
+  pub with_fields : some ≡ true → fields_in new ≢ []
+  pub without : some ≡ false → fields_in new ≡ []
+  pub line : new.line ≡ old.line + length (last_line old.partial.items)
+  pub ended : new.ended ≡ old.ended
+  pub empty : new.partial.items ≡ []
+
+-- the last line is wrong, or memory ran out at it
+pub record StopsAtLast (old new : Engine) (kind : JarFaultKind) : Type 0 where
+  pub some : old.partial.items ≢ []
+  pub said : IsSaid kind (take_line old.ended (fields_in old) old.partial.items)
+  pub line : new.line ≡ old.line
+  pub ended : new.ended ≡ old.ended
+  pub begun : IsOneLine new.partial.items
+
+abbrev pub FinishesOr : Engine → Engine → Result Bool JarFaultKind → Type 0
+FinishesOr old new (Ok some) = Finishes old new some
+FinishesOr old new (Err kind) = StopsAtLast old new kind

@@ -1,0 +1,148 @@
+-- What a reader of records keeps from one call to the next, and what a call does.
+use Rattle.std.specs.Prelude.{◌≡◌, ◌≢◌, ◌<◌, ◌≤◌, ◌+◌, ◌-◌, ◌*◌, ◌⊎◌, ℕ, Bool, true, false, List, [], ◌∷◌, ◌++◌, length, take, drop, Option, Some, None, Result, Ok, Err}
+use Rattle.std.specs.Io.KnownBytes.{Consumes, IsAtEnd}
+use Rattle.lt_jar.specs.Devices.{HasFailed, after_reads, failures_of, inner_of, reads_of}
+use Rattle.lt_jar.specs.Lines.{lines_of}
+use Rattle.lt_jar.specs.Records.{Field, HasRecords}
+use Rattle.lt_jar.specs.Faults as faults
+use Rattle.lt_jar.specs.Lending.{CutsRecord, IsCutShort, IsSound}
+use Rattle.lt_jar.specs.Pieces.{StopsAt, StopsAtLast, TakesAll, TakesRecord, fields_in, last_line}
+use Rattle.lt_jar.specs.Reading.{Going, finished, going_on, rest_of, steps}
+use Rattle.lt_jar.specs.Views.{fault_in}
+use Rattle.lt_jar.specs.declared.devices.Device.{Device}
+use Rattle.lt_jar.specs.declared.faults.JarFault.{JarFault}
+use Rattle.lt_jar.specs.declared.faults.JarFaultKind.{JarFaultKind}
+use Rattle.lt_jar.specs.declared.faults.JarFaultKind.TheVariants as kinds
+use Rattle.lt_jar.specs.declared.sources.JarSource.{JarSource}
+use Rattle.lt_jar.specs.declared.sources.Status.TheVariants as state
+
+-- the most reads of one reader
+abbrev pub most_reads : ℕ
+most_reads = 10000000
+
+-- the bytes that were read and not yet handed on
+abbrev pub unread_in : JarSource → List ℕ
+unread_in s = take (s.end - s.start) (drop s.start s.buffer.items)
+
+-- the bytes that were read and not yet used
+abbrev pub kept_in : JarSource → List ℕ
+kept_in s = s.engine.partial.items ++ unread_in s
+
+-- the record that was lent last
+abbrev pub record_in : JarSource → List Field
+record_in s = fields_in s.engine
+
+-- how many records were lent
+abbrev pub lent_by : JarSource → ℕ
+lent_by s = s.engine.ended
+
+-- the number of the line at which the kept bytes begin
+abbrev pub line_of_kept : JarSource → ℕ
+line_of_kept s = s.engine.line
+
+-- nothing is read
+pub record IsFresh (s : JarSource) : Type 0 where
+  pub kept : kept_in s ≡ []
+  pub line : line_of_kept s ≡ 1
+  pub lent : lent_by s ≡ 0
+  pub turns : s.turns ≡ 0
+  pub status : s.status ≡ state.Open
+
+-- so many reads were made, which gave these bytes
+pub record IsRead {R : Type 0} (remaining : R → Option (List ℕ)) (old new : JarSource) (before after : Device R) (read : List ℕ) (reads : ℕ) : Type 0 where
+  pub consumes : Consumes (remaining (inner_of before)) (remaining (inner_of after)) read
+  pub calls : reads_of after ≡ after_reads (reads_of before) reads
+  pub turns : new.turns ≡ old.turns + reads
+  pub bounded : new.turns ≤ most_reads
+
+-- the engine took what was not handed on
+abbrev pub TakesUnread : JarSource → JarSource → Result Bool JarFaultKind → Type 0
+TakesUnread old new (Ok true) = TakesRecord old.engine new.engine (unread_in old) (unread_in new)
+TakesUnread old new (Ok false) = TakesAll old.engine new.engine (unread_in old) × (new.start ≡ new.end)
+TakesUnread old new (Err kind) = StopsAt old.engine new.engine (unread_in old) kind
+
+-- one read more
+abbrev pub FillsAs : {R : Type 0} → (R → Option (List ℕ)) → (old new : JarSource) → (before after : Device R) → List ℕ → ℕ → Result Bool JarFaultKind → Type 0
+FillsAs remaining old new before after read reads (Ok true) = (unread_in new ≡ read) × (0 < length read) × (reads ≡ 1) × (failures_of after ≡ failures_of before)
+FillsAs remaining old new before after read reads (Ok false) =
+    (new.start ≡ new.end) × (read ≡ []) × IsAtEnd (remaining (inner_of after)) × (failures_of after ≡ failures_of before) × (line_of_kept new + 1 ≤ 1 + 65536 * new.turns)
+FillsAs remaining old new before after read reads (Err kind) =
+    (read ≡ []) × (((kind ≡ kinds.Read) × HasFailed before after) ⊎ ((kind ≡ kinds.TooManyTurns) × (failures_of after ≡ failures_of before) × (new.turns ≡ most_reads) × (reads ≡ 0)))
+
+pub record Fills {R : Type 0} (remaining : R → Option (List ℕ)) (old new : JarSource) (before after : Device R) (result : Result Bool JarFaultKind) : Type 0 where
+  pub read : List ℕ
+  pub reads : ℕ
+  pub is_read : IsRead remaining old new before after read reads
+  pub fills : FillsAs remaining old new before after read reads result
+
+-- a last record counts among those that a text may have
+abbrev pub HasRoom : JarSource → Type 0
+HasRoom s = (going : Going) → steps (lent_by s) (going_on (record_in s)) (last_line s.engine.partial.items) ≡ Ok going → lent_by s + length (finished going) ≤ 100000
+
+-- the text ended
+pub record Finishes (old new : JarSource) (some : Bool) : Type 0 where
+  pub going : Going
+  pub ran : steps (lent_by old) (going_on (record_in old)) (last_line old.engine.partial.items) ≡ Ok going
+  pub record_is : finished going ≡ rest_of (record_in new)
+  pub with_fields : some ≡ true → (record_in new ≢ []) × (lent_by new ≡ lent_by old + 1)
+  pub without : some ≡ false → (record_in new ≡ []) × (lent_by new ≡ lent_by old)
+  pub line : line_of_kept new ≡ line_of_kept old + length (last_line old.engine.partial.items)
+  pub used : kept_in new ≡ []
+  pub turns : new.turns ≡ old.turns
+  pub status : new.status ≡ state.Ended
+
+abbrev pub Finished : JarSource → JarSource → Result Bool JarFaultKind → Type 0
+Finished old new (Ok some) = Finishes old new some
+Finished old new (Err kind) = StopsAtLast old.engine new.engine kind × (new.turns ≡ old.turns)
+
+-- A record was lent, which a separator ends: the kept bytes and those that were read are the lines up to its end, and the bytes that are kept now.
+pub record LendsEnded (old new : JarSource) (read : List ℕ) (reads : ℕ) : Type 0 where
+  pub lines : List (List ℕ)
+  pub cuts : CutsRecord (lent_by old) (kept_in old ++ read) (record_in new) lines (kept_in new)
+  pub line : line_of_kept new ≡ line_of_kept old + length lines
+  pub gave_bytes : reads ≤ length read
+  pub status : new.status ≡ state.Open
+
+-- the text ended, and its last lines have these records, one or none
+pub record LendsLast {R : Type 0} (remaining : R → Option (List ℕ)) (old new : JarSource) (after : Device R) (read : List ℕ) (records : List (List Field)) : Type 0 where
+  pub has : HasRecords (kept_in old ++ read) records
+  pub sound : IsSound (lent_by old) (kept_in old ++ read)
+  pub used : kept_in new ≡ []
+  pub line : line_of_kept new ≡ line_of_kept old + length (lines_of (kept_in old ++ read))
+  pub end : IsAtEnd (remaining (inner_of after))
+  pub status : new.status ≡ state.Ended
+
+-- why no record came, and the line that was being read
+pub record Stops {R : Type 0} (old new : JarSource) (before after : Device R) (read : List ℕ) (reads : ℕ) (kind : JarFaultKind) : Type 0 where
+  pub format : (fault : faults.Fault) → fault_in kind ≡ Some fault
+      → (number : ℕ) × faults.IsTheFault (lent_by old) (kept_in old ++ read) fault number × (line_of_kept new + 1 ≡ line_of_kept old + number)
+  pub memory : kind ≡ kinds.OutOfMemory → (number : ℕ) × faults.IsReached (lent_by old) (kept_in old ++ read) number × (line_of_kept new + 1 ≡ line_of_kept old + number)
+  pub device : kind ≡ kinds.Read → HasFailed before after × ((number : ℕ) × IsCutShort (lent_by old) (kept_in old ++ read) number × (line_of_kept new + 1 ≡ line_of_kept old + number))
+  pub all_made : kind ≡ kinds.TooManyTurns → (new.turns ≡ most_reads) × (reads ≤ length read)
+      × ((number : ℕ) × IsCutShort (lent_by old) (kept_in old ++ read) number × (line_of_kept new + 1 ≡ line_of_kept old + number))
+  pub first : kind ≢ kinds.Failed
+
+abbrev pub EndsAs : {R : Type 0} → (R → Option (List ℕ)) → (old new : JarSource) → (before after : Device R) → List ℕ → ℕ → Result Bool JarFaultKind → Type 0
+EndsAs remaining old new before after read reads (Ok true) =
+    (lent_by new ≡ lent_by old + 1) × (LendsEnded old new read reads ⊎ LendsLast remaining old new after read (record_in new ∷ []))
+EndsAs remaining old new before after read reads (Ok false) = (lent_by new ≡ lent_by old) × LendsLast remaining old new after read []
+EndsAs remaining old new before after read reads (Err kind) = Stops old new before after read reads kind
+
+-- what a call did that went on reading
+pub record ReadsRecord {R : Type 0} (remaining : R → Option (List ℕ)) (old new : JarSource) (before after : Device R) (result : Result Bool JarFaultKind) : Type 0 where
+  pub read : List ℕ
+  pub reads : ℕ
+  pub is_read : IsRead remaining old new before after read reads
+  pub ends : EndsAs remaining old new before after read reads result
+  pub rises : failures_of before < failures_of after → result ≡ Err kinds.Read
+
+abbrev pub without_line : Result Bool JarFault → Result Bool JarFaultKind
+without_line (Ok some) = Ok some
+without_line (Err fault) = Err fault.kind
+
+-- What a call did. After the end there is nothing, after a fault it is told that there was one, and at which line.
+pub record Advances {R : Type 0} (remaining : R → Option (List ℕ)) (old new : JarSource) (before after : Device R) (result : Result Bool JarFault) : Type 0 where
+  pub reads : old.status ≡ state.Open → ReadsRecord remaining old new before after (without_line result)
+  pub fails : (fault : JarFault) → result ≡ Err fault → (new.status ≡ state.Failed) × (fault.line ≡ line_of_kept new)
+  pub over : old.status ≡ state.Ended → (result ≡ Ok false) × (new.status ≡ state.Ended) × (after ≡ before)
+  pub again : old.status ≡ state.Failed → (result ≡ Err (record { kind = kinds.Failed; line = line_of_kept old })) × (new.status ≡ state.Failed) × (after ≡ before)

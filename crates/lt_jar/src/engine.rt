@@ -1,0 +1,143 @@
+//! The engine that reads records from pieces of a text.
+ghost use Rattle.std.specs.Prelude.{◌≡◌, ◌<◌, ◌≤◌, ◌+◌, ◌++◌, ◌^◌, [], length};
+ghost use Rattle.lt_jar.specs.Lines.{IsOneLine};
+ghost use Rattle.lt_jar.specs.Pieces.{EndsLine, FinishesOr, KeepsBytes, TakesPiece, fields_in};
+ghost use Rattle.lt_jar.specs.Reading as reading;
+ghost use Rattle.lt_jar.specs.Views.{IsTaken};
+
+use crate::drafts::{Draft, LONGEST_LINE, Progress};
+use crate::faults::JarFaultKind;
+use crate::jars::JarField;
+use crate::lines::split_line;
+use std::alloc::Global;
+
+/// What is read so far of a line and of a record.
+#[derive(Drop)]
+pub(crate) struct Engine {
+    /// The bytes so far of the line that is being read.
+    partial: Vec<u8>,
+    /// The fields so far of the record that is being read.
+    draft: Draft,
+    /// How many records ended before it.
+    ended: usize,
+    /// The number of the line.
+    line: u64,
+}
+
+impl Engine {
+    /// Nothing read so far.
+    pub(crate) fn new(alloc: Global) -> Engine
+        ensures empty { (result.partial.items ≡ []) × (fields_in result ≡ []) }
+        ensures start { (result.ended ≡ 0) × (result.line ≡ 1) }
+    {
+        Engine {
+            partial: Vec::new(alloc),
+            draft: Draft::new(alloc),
+            ended: 0,
+            line: 1,
+        }
+    }
+
+    /// Takes the bytes that end a line.
+    fn end_line(&mut self, alloc: Global, last: &[u8]) -> Result<Progress, JarFaultKind>
+        requires { self.old.line + 1 < 2 ^ 64 }
+        ensures taken { IsTaken result (reading.take_line self.old.ended (fields_in self.old)
+            (self.old.partial.items ++ last.now)) (fields_in self.new) }
+        ensures ended { self.new.ended ≡ self.old.ended }
+        ensures counted { IsOneLine self.old.partial.items → EndsLine self.old self.new result }
+    {
+        let taken = if self.partial.is_empty() {
+            self.draft.take_line(alloc, last, self.ended)
+        } else {
+            self.partial.extend_from_slice(last)?;
+            self.draft.take_line(alloc, &self.partial, self.ended)
+        };
+        self.partial.clear();
+        let progress = taken?;
+        self.line += 1;
+        Ok(progress)
+    }
+
+    /// Keeps the bytes of a line whose end is not read, up to the longest line.
+    fn keep(&mut self, part: &[u8]) -> Result<(), JarFaultKind>
+        ensures kept { KeepsBytes self.old self.new part.now result }
+        ensures same { (fields_in self.new ≡ fields_in self.old) × (self.new.ended ≡ self.old.ended) × (self.new.line ≡ self.old.line) }
+    {
+        if part.is_empty() {
+            return Ok(());
+        }
+        if part.len() > LONGEST_LINE.saturating_sub(self.partial.len()) {
+            return Err(JarFaultKind::LineTooLong);
+        }
+        self.partial.extend_from_slice(part)?;
+        Ok(())
+    }
+
+    /// Takes a piece of the text up to the end of a record, and gives what follows that. With
+    /// `None` the piece is used, and the record goes on.
+    pub(crate) fn take<'p>(
+        &mut self,
+        alloc: Global,
+        piece: &'p [u8],
+    ) -> Result<Option<&'p [u8]>, JarFaultKind>
+        requires begun { IsOneLine self.old.partial.items }
+        requires room { self.old.line + length piece.now < 2 ^ 64 }
+        ensures { TakesPiece self.old self.new piece.now result }
+    {
+        let mut rest = piece;
+        while let Some((line, after)) = split_line(rest) {
+            match self.end_line(alloc, line)? {
+                Progress::GoesOn => rest = after,
+                Progress::Ends => return Ok(Some(after)),
+            }
+        }
+        self.keep(rest)?;
+        Ok(None)
+    }
+
+    /// Takes the end of the text, and tells whether a record ends there.
+    pub(crate) fn finish(&mut self, alloc: Global) -> Result<bool, JarFaultKind>
+        requires begun { IsOneLine self.old.partial.items }
+        requires room { self.old.line + 1 < 2 ^ 64 }
+        ensures { FinishesOr self.old self.new result }
+    {
+        if self.partial.is_empty() {
+            return Ok(!self.draft.is_empty());
+        }
+        self.end_line(alloc, b"")?;
+        Ok(!self.draft.is_empty())
+    }
+
+    /// Begins a record.
+    pub(crate) fn begin_record(&mut self)
+        ensures fields { fields_in self.new ≡ [] }
+        ensures same { (self.new.partial.items ≡ self.old.partial.items) × (self.new.ended ≡ self.old.ended)
+            × (self.new.line ≡ self.old.line) }
+    {
+        self.draft.clear();
+    }
+
+    /// Counts the record that ended.
+    pub(crate) fn count_record(&mut self)
+        requires { self.old.ended < 100000 }
+        ensures ended { self.new.ended ≡ self.old.ended + 1 }
+        ensures same { (self.new.partial.items ≡ self.old.partial.items) × (fields_in self.new ≡ fields_in self.old)
+            × (self.new.line ≡ self.old.line) }
+    {
+        self.ended += 1;
+    }
+
+    /// The fields so far of the record.
+    pub(crate) fn fields(&self) -> &[JarField]
+        ensures { result.now ≡ fields_in self.now }
+    {
+        self.draft.fields()
+    }
+
+    /// The number of the line that is being read.
+    pub(crate) fn line(&self) -> u64
+        ensures { result ≡ self.now.line }
+    {
+        self.line
+    }
+}

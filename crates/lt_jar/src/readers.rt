@@ -1,0 +1,106 @@
+//! A reader that lends one record at a time from its buffer.
+ghost use Rattle.std.specs.Prelude.{◌≡◌, ◌<◌, IfSome, length, slice_get};
+
+use crate::devices::Device;
+use crate::faults::JarFault;
+use crate::jars::JarField;
+use crate::sources::JarSource;
+use std::alloc::Global;
+use std::io::Read;
+
+/// A record, in its reader's buffer.
+#[derive(Clone, Copy)]
+pub struct RecordRef<'a> {
+    fields: &'a [JarField],
+}
+
+impl<'a> RecordRef<'a> {
+    /// How many fields it has: at least one.
+    pub fn len(&self) -> usize
+        ensures { result ≡ length self.now.fields.now }
+    {
+        self.fields.len()
+    }
+
+    /// The name of the field behind `i` others, in the case in which the text has it.
+    pub fn name(&self, i: usize) -> &'a str
+        requires { i < length self.now.fields.now }
+        ensures { IfSome (slice_get self.now.fields.now i) (λ field. result.now ≡ field.0) }
+    {
+        self.fields[i].name()
+    }
+
+    /// The body of the field behind `i` others, with its continuation lines joined to it by
+    /// single spaces.
+    pub fn body(&self, i: usize) -> &'a str
+        requires { i < length self.now.fields.now }
+        ensures { IfSome (slice_get self.now.fields.now i) (λ field. result.now ≡ field.1) }
+    {
+        self.fields[i].body()
+    }
+}
+
+/// Reads a device record by record (RFC 5646, 3.1.1), and keeps no more of it than one record.
+pub struct JarReader<'d, R, S = JarSource> {
+    device: &'d mut Device<R>,
+    source: S,
+    alloc: Global,
+}
+
+impl<'d, R: Read> JarReader<'d, R, JarSource> {
+    ghost use Rattle.std.specs.Prelude.{◌≡◌, IfErr, IfOk};
+    ghost use Rattle.std.specs.Borrow.{sem};
+    ghost use Rattle.lt_jar.specs.Lent.{LendsAs};
+    ghost use Rattle.lt_jar.specs.Sources.{IsFresh};
+    ghost use Rattle.lt_jar.specs.declared.faults.JarFaultKind.TheVariants as kinds;
+
+    /// A reader at the start of what the device gives. It is refused for want of memory alone.
+    pub fn new(
+        alloc: Global,
+        device: &'d mut Device<R>,
+    ) -> Result<JarReader<'d, R, JarSource>, JarFault>
+        ensures same_reference { IfOk result (λ reader. reader.device.ghost_name ≡ device.entry.ghost_name) }
+        ensures same { IfOk result (λ reader. reader.device.now ≡ device.old) }
+        ensures fresh { IfOk result (λ reader. IsFresh reader.source) }
+        ensures memory { IfErr result (λ fault. (fault.kind ≡ kinds.OutOfMemory) × (fault.line ≡ 1)) }
+    {
+        match JarSource::new(alloc) {
+            Ok(source) => Ok(JarReader {
+                device,
+                source,
+                alloc,
+            }),
+            Err(kind) => Err(JarFault { kind, line: 1 }),
+        }
+    }
+
+    /// The next record, until the next call. After the last there is none.
+    ///
+    /// A line has at most 65,536 bytes, a text at most 100,000 records. The lowest line at which
+    /// anything is wrong is answered, and there the first of `JarFaultKind`. `Read` comes where a
+    /// read fails, `TooManyTurns` where 10,000,000 reads gave bytes, and `OutOfMemory`, each with
+    /// the line that was being read. After a fault the answer is `Failed`, with that fault's line.
+    pub fn next<'a>(&'a mut self) -> Result<Option<RecordRef<'a>>, JarFault>
+        ensures* ends { sem 𝓛 (LendsAs R.row R.remaining self.entry result) }
+    {
+        if self.source.advance(self.alloc, self.device)? {
+            Ok(Some(RecordRef {
+                fields: self.source.fields(),
+            }))
+        } else {
+            Ok(None)
+        }
+    }
+}
+
+impl<R, S: Drop> Drop for JarReader<'_, R, S> {
+    fn drop(self)
+        ensures { self.exit.0.now ≡ self.entry.device.now }
+    {
+        let JarReader {
+            device: _,
+            source: _,
+            alloc: _,
+        } = self;
+    }
+}

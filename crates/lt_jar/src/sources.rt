@@ -1,0 +1,177 @@
+//! The records of a reader, one by one.
+ghost use Rattle.std.specs.Prelude.{◌≡◌, ◌≤◌, ◌+◌, ◌-◌, ◌*◌, vec_len};
+ghost use Rattle.lt_jar.specs.Lines.{IsOneLine};
+
+use crate::devices::Device;
+use crate::engine::Engine;
+use crate::faults::{JarFault, JarFaultKind};
+use crate::jars::JarField;
+use std::alloc::Global;
+use std::io::Read;
+
+/// The most reads of one reader.
+const MOST_READS: u32 = 10_000_000;
+
+/// The most bytes that a read is asked for.
+const PIECE: usize = 65_536;
+
+/// Whether there may be more.
+#[derive(Clone, Copy)]
+pub(crate) enum Status {
+    Open,
+    Ended,
+    Failed,
+}
+
+/// The engine, and the bytes that were read and not yet handed on to it.
+#[derive(Drop)]
+pub struct JarSource {
+    engine: Engine,
+    buffer: Vec<u8>,
+    start: usize,
+    end: usize,
+    turns: u32,
+    status: Status,
+    ghost placed: { (start ≤ end) × (end ≤ vec_len buffer) × (vec_len buffer ≡ 65536) },
+    ghost bounded: { (turns ≤ 10000000) × (engine.line + (end - start) ≤ 1 + 65536 * turns) },
+    ghost begun: { IsOneLine engine.partial.items },
+    ghost few: { engine.ended ≤ 100000 },
+}
+
+impl JarSource {
+    ghost use Rattle.std.specs.Prelude.{◌≡◌, ◌<◌, ◌≤◌, ◌+◌, ◌*◌, IfErr, IfOk};
+    ghost use Rattle.lt_jar.specs.Pieces.{fields_in};
+    ghost use Rattle.lt_jar.specs.Sources.{Advances, Fills, Finished, HasRoom, IsFresh, ReadsRecord, TakesUnread, line_of_kept, record_in, unread_in};
+    ghost use Rattle.lt_jar.specs.declared.faults.JarFaultKind.TheVariants as kinds;
+    ghost use Rattle.lt_jar.specs.declared.sources.Status.TheVariants as state;
+
+    /// Nothing read so far.
+    pub(crate) fn new(alloc: Global) -> Result<JarSource, JarFaultKind>
+        ensures fresh { IfOk result IsFresh }
+        ensures memory { IfErr result (λ kind. kind ≡ kinds.OutOfMemory) }
+    {
+        Ok(JarSource {
+            engine: Engine::new(alloc),
+            buffer: vec![in alloc; 0u8; PIECE]?,
+            start: 0,
+            end: 0,
+            turns: 0,
+            status: Status::Open,
+        })
+    }
+
+    /// Hands on what was read, up to the end of a record, and tells whether one ended.
+    fn take_unread(&mut self, alloc: Global) -> Result<bool, JarFaultKind>
+        ensures takes { TakesUnread self.old self.new result }
+        ensures same { (self.new.turns ≡ self.old.turns) × (self.new.status ≡ self.old.status) }
+    {
+        let piece = &self.buffer[self.start..self.end];
+        match self.engine.take(alloc, piece) {
+            Ok(Some(rest)) => {
+                self.start = self.end - rest.len();
+                Ok(true)
+            }
+            Ok(None) => {
+                self.start = self.end;
+                Ok(false)
+            }
+            Err(kind) => {
+                self.start = self.end;
+                Err(kind)
+            }
+        }
+    }
+
+    /// Reads once. `false` is the end.
+    fn fill<R: Read>(&mut self, device: &mut Device<R>) -> Result<bool, JarFaultKind>
+        requires { self.old.start ≡ self.old.end }
+        ensures fills { Fills R.remaining self.old self.new device.old device.new result }
+        ensures same { (self.new.engine ≡ self.old.engine) × (self.new.status ≡ self.old.status) }
+    {
+        if self.turns == MOST_READS {
+            return Err(JarFaultKind::TooManyTurns);
+        }
+        self.turns += 1;
+        self.start = 0;
+        self.end = 0;
+        match device.read(&mut self.buffer) {
+            Ok(0) => Ok(false),
+            Ok(count) => {
+                self.end = count;
+                Ok(true)
+            }
+            Err(_) => Err(JarFaultKind::Read),
+        }
+    }
+
+    /// Takes the end of the text, and tells whether a record ends there.
+    fn finish(&mut self, alloc: Global) -> Result<bool, JarFaultKind>
+        requires room { line_of_kept self.old + 1 ≤ 1 + 65536 * self.old.turns }
+        requires few { HasRoom self.old }
+        requires used { self.old.start ≡ self.old.end }
+        ensures { Finished self.old self.new result }
+    {
+        let some = self.engine.finish(alloc)?;
+        if some {
+            self.engine.count_record();
+        }
+        self.status = Status::Ended;
+        Ok(some)
+    }
+
+    /// Reads up to the end of a record. `false` is the end of the text.
+    fn read_record<R: Read>(
+        &mut self,
+        alloc: Global,
+        device: &mut Device<R>,
+    ) -> Result<bool, JarFaultKind>
+        requires { self.old.status ≡ state.Open }
+        ensures { ReadsRecord R.remaining self.old self.new device.old device.new result }
+    {
+        self.engine.begin_record();
+        loop {
+            if self.take_unread(alloc)? {
+                self.engine.count_record();
+                return Ok(true);
+            }
+            if !self.fill(device)? {
+                return self.finish(alloc);
+            }
+        }
+    }
+
+    /// Moves to the next record. `false` is the end of the text.
+    pub(crate) fn advance<R: Read>(
+        &mut self,
+        alloc: Global,
+        device: &mut Device<R>,
+    ) -> Result<bool, JarFault>
+        ensures { Advances R.remaining self.old self.new device.old device.new result }
+    {
+        let line = self.engine.line();
+        match self.status {
+            Status::Failed => Err(JarFault {
+                kind: JarFaultKind::Failed,
+                line,
+            }),
+            Status::Ended => Ok(false),
+            Status::Open => match self.read_record(alloc, device) {
+                Ok(some) => Ok(some),
+                Err(kind) => {
+                    self.status = Status::Failed;
+                    Err(JarFault {
+                        kind,
+                        line: self.engine.line(),
+                    })
+                }
+            },
+        }
+    }
+
+    /// The fields of the record to which the last call moved.
+    pub(crate) fn fields(&self) -> &[JarField]
+        ensures { result.now ≡ record_in self.now }
+    {
+        self.engine.fields()
+    }
+}
