@@ -38,6 +38,7 @@ pub mod ExtensionsSettled
 pub mod CoreLeading
 pub mod CycleWalks
 pub mod MarkedWalks
+pub mod MarkLinks
 pub mod Cuts
 pub mod PartLeading
 pub mod PartCounts

@@ -18,7 +18,7 @@ use Rattle.lt_rewrite.proofs.ChainWalks.{walk_cycles}
 use Rattle.lt_rewrite.proofs.CycleWalks.{IsWalk, ends_there, ends_from}
 use Rattle.lt_rewrite.proofs.Entries.{entry_has, entry_of, next_is_value}
 
-same_numbers : (x y : ℕ) → eq_by_cmp nat_cmp x y ≡ true → x ≡ y
+pub same_numbers : (x y : ℕ) → eq_by_cmp nat_cmp x y ≡ true → x ≡ y
 same_numbers x y h =
     by_ranked (x < y) (x ≡ y) (y < x) (nat_cmp x y) (ranked x y (nat_cmp x y) refl) (λ e p. cc) (λ e p. p) (λ e p. cc)
 

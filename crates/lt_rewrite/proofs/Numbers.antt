@@ -34,6 +34,10 @@ one_at (x ∷ xs) rise (suc j) zero c d a b e =
     let above = All-from_recursion (λ (f : EntryParts). x.number < f.number) xs rise.0 j c (omega (arith, a)) in absurd (omega (arith, e, above))
 one_at (x ∷ xs) rise (suc j) (suc k) c d a b e = one_at xs rise.1 j k c d (omega (arith, a)) (omega (arith, b)) e
 
+pub one_numbered : (R : List EntryParts) → NumbersRise R → (e f : EntryParts) → Contains R e → Contains R f → e.number ≡ f.number → e ≡ f
+one_numbered R rise e f c d same =
+    sym c.2 ∙ one_at R rise c.0 d.0 e f c.1 d.1 (ap (λ (x : EntryParts). x.number) c.2 ∙ same ∙ ap (λ (x : EntryParts). x.number) (sym d.2)) ∙ d.2
+
 -- a record stands where one of its number does
 pub numbered_there : (R : List EntryParts) → NumbersRise R → (i : ℕ) (e f : EntryParts) → slice_get R i ≡ Some e → Contains R f → e.number ≡ f.number → slice_get R i ≡ Some f
 numbered_there R rise i e f there c same =

@@ -1,8 +1,10 @@
 -- The lowest record whose chain of values has no end (RFC 5646, 3.1.7), and orders of the records.
-use Rattle.std.specs.Prelude.{ℕ, ◌≡◌, ◌<◌, ◌*◌, ◌%◌, ◌^◌, List, All, Contains}
+use Rattle.std.specs.Prelude.{ℕ, ◌≡◌, ◌<◌, ◌*◌, ◌%◌, ◌^◌, List, Some, All, Contains}
 use Rattle.std.specs.BTreeSet.{BTreeSet}
 use Rattle.lt_registry.specs.Parts.{EntryParts}
-use Rattle.lt_rewrite.specs.Conditions.{HasEndingChain}
+use Rattle.lt_registry.specs.Entries.{entry}
+use Rattle.lt_registry.specs.declared.entries.Kind.{Kind}
+use Rattle.lt_rewrite.specs.Conditions.{HasEndingChain, next_value}
 use Rattle.lt_rewrite.specs.declared.cycles.Order.{Order}
 use Rattle.lt_rewrite.specs.declared.cycles.Order.TheVariants as orders
 
@@ -34,3 +36,11 @@ NumberEnds R number = All (λ f. f.number ≡ number → HasEndingChain R f) R
 -- the chains of all marked records end
 abbrev pub MarkedEnd : List EntryParts → BTreeSet ℕ → Type 0
 MarkedEnd R marked = All (NumberEnds R) marked.keys
+
+-- the record of a subtag on a chain is marked, if a value follows it
+abbrev pub IsMarkedAt : List EntryParts → BTreeSet ℕ → Kind → List ℕ → Type 0
+IsMarkedAt R marked k s = (e : EntryParts) (v : List ℕ) → entry R k s ≡ Some e → next_value R k s ≡ Some v → Contains marked.keys e.number
+
+-- the records behind a marked one on its chain are marked too
+abbrev pub MarksLeadOn : List EntryParts → BTreeSet ℕ → Type 0
+MarksLeadOn R marked = (k : Kind) (s v : List ℕ) → next_value R k s ≡ Some v → IsMarkedAt R marked k s → IsMarkedAt R marked k v

@@ -1,7 +1,8 @@
 //! Chains of values that have no end, found by marks on the records whose chains end (RFC 5646, 3.1.7).
-ghost use Rattle.std.specs.Prelude.{All, MatchBool, MatchOption, IfOk, OnOk};
+ghost use Rattle.std.specs.Prelude.{◌≡◌, ℕ, List, Some, All, MatchBool, MatchOption, IfOk, OnOk};
+ghost use Rattle.lt_registry.specs.Entries.{one_of};
 ghost use Rattle.lt_rewrite.specs.Conditions.{HasEndingChain};
-ghost use Rattle.lt_rewrite.specs.Cycles.{IsFirstCycle, MarkedEnd};
+ghost use Rattle.lt_rewrite.specs.Cycles.{IsFirstCycle, MarkedEnd, IsMarkedAt, MarksLeadOn};
 
 use crate::chain_ends::{following, next_value, one_value};
 use lt_registry::{Entry, Lookup};
@@ -35,7 +36,8 @@ fn ends_or_meets<L: Lookup>(table: &L, marked: &BTreeSet<u32, Global>, entry: &E
     next_value(table, kind, &subtag).is_none()
 }
 
-/// Marks the records with a value on the chain from a record's value, up to one that is marked.
+/// Marks the records with a value on the chain from a record's value. It stops at one that is marked,
+/// since those behind it are so too.
 fn mark<L: Lookup>(
     table: &L,
     marked: &mut BTreeSet<u32, Global>,
@@ -43,7 +45,10 @@ fn mark<L: Lookup>(
 ) -> Result<(), OutOfMemory>
     requires ending { HasEndingChain (L.listed table.now) entry.now }
     requires marked { MarkedEnd (L.listed table.now) marked.old }
-    ensures { OnOk result (MarkedEnd (L.listed table.now) marked.new) }
+    requires onward { MarksLeadOn (L.listed table.now) marked.old }
+    ensures marked { OnOk result (MarkedEnd (L.listed table.now) marked.new) }
+    ensures onward { OnOk result (MarksLeadOn (L.listed table.now) marked.new) }
+    ensures from { OnOk result ((v : List ℕ) → one_of entry.now.value ≡ Some v → IsMarkedAt (L.listed table.now) marked.new entry.now.kind v) }
 {
     let Some(value) = one_value(entry) else {
         return Ok(());
