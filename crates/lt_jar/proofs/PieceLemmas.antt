@@ -1,6 +1,6 @@
 -- What the turns over a piece keep, and how they end.
-use Rattle.std.proofs.Common.{◌≡◌, ◌≢◌, ◌==◌, ◌↔◌, Bool, true, false, not, ◌≤◌, ◌<◌, ◌+◌, ◌++◌, ◌∷◌, ◌∙◌, inl, inr, ℕ, List, [], Result, Ok, Err, length, sym, ap, refl, subst, arith, append_assoc, append-nil, add-zero, length-append}
-use Rattle.std.specs.List.{All, AllByRecursion, flat_map}
+use Rattle.std.proofs.Common.{◌≡◌, ◌≢◌, ◌==◌, ◌↔◌, Bool, true, false, not, ◌≤◌, ◌+◌, ◌++◌, ◌∷◌, ◌∙◌, ℕ, List, [], Result, Ok, Err, length, sym, ap, refl, subst, arith, append_assoc, append-nil, add-zero, length-append}
+use Rattle.std.specs.List.{AllByRecursion}
 use Rattle.std.proofs.lemmas.Bool.{eqb-true, eqb-false}
 use Rattle.std.proofs.lemmas.List.{nil_from_length}
 use Rattle.std.proofs.lemmas.Grind.{flat_map-append}
@@ -8,7 +8,7 @@ use Rattle.std.proofs.lemmas.List.Elements.{All-append, All-nil}
 use Rattle.lt_jar.specs.Lines.{IsOneLine, lines_of, whole_lines}
 use Rattle.lt_jar.specs.Records.{Field}
 use Rattle.lt_jar.specs.Faults.{Fault}
-use Rattle.lt_jar.specs.Reading.{Ends, Going, GoesOn, Taken, finished, going_on, rest_of, on_going, on_taken, step, steps, take_line}
+use Rattle.lt_jar.specs.Reading.{Ends, Going, GoesOn, Taken, finished, going_on, rest_of, on_going, on_taken, steps, take_line}
 use Rattle.lt_jar.specs.Pieces.{Finishes, GoesOver, StopsAt, last_line, TakesAll, TakesRecord, fields_in}
 use Rattle.lt_jar.specs.Views.{IsSaid, taken_in}
 use Rattle.lt_jar.specs.declared.engine.Engine.{Engine}

@@ -1,13 +1,13 @@
 -- What lines that ran make of the text that they are.
-use Rattle.std.proofs.Common.{◌≡◌, ◌≢◌, false, ◌≤◌, ◌<◌, ◌+◌, ◌++◌, ◌∷◌, ◌∙◌, ◌⊎◌, inl, inr, ℕ, List, [], Option, Some, None, Result, Ok, Err, length, map, sym, ap, refl, subst, arith, add-zero, zero-add, append_assoc, append-nil, length-append}
+use Rattle.std.proofs.Common.{◌≡◌, ◌≢◌, false, ◌≤◌, ◌+◌, ◌++◌, ◌∷◌, ◌∙◌, inl, inr, ℕ, List, [], Option, Some, None, Result, Ok, Err, length, sym, ap, refl, subst, arith, add-zero, zero-add, append-nil, length-append}
 use Rattle.std.specs.List.{AllByRecursion, filter, flat_map}
 use Rattle.lt_jar.specs.Lines.{IsOneLine, lines_of, whole_lines}
-use Rattle.lt_jar.specs.LineKinds.{Line, Separator, line_of}
+use Rattle.lt_jar.specs.LineKinds.{Separator}
 use Rattle.lt_jar.specs.Limits.{most_records}
-use Rattle.lt_jar.specs.Records.{Field, HasRecords, Written, has_field, lines_of_ended, record_of, shown}
-use Rattle.lt_jar.specs.Faults.{Fault, IsReached, IsTheFault, IsWrongAt, begun}
-use Rattle.lt_jar.specs.Reading.{Ends, Going, Taken, finished, going_on, on_going, start, step, steps, take_line}
-use Rattle.lt_jar.specs.Lending.{CutsRecord, EndsRecord, Gathers, IsCutShort, IsSound}
+use Rattle.lt_jar.specs.Records.{Field, Written, has_field, lines_of_ended, record_of, shown}
+use Rattle.lt_jar.specs.Faults.{Fault, IsReached, IsTheFault, begun}
+use Rattle.lt_jar.specs.Reading.{Ends, Going, finished, going_on, start, step, steps, take_line}
+use Rattle.lt_jar.specs.Lending.{CutsRecord, Gathers, IsCutShort, IsSound}
 use Rattle.lt_jar.specs.Views.{IsSaid, fault_in}
 use Rattle.lt_jar.specs.declared.faults.JarFaultKind.{JarFaultKind}
 use Rattle.lt_jar.specs.declared.faults.JarFaultKind.TheVariants as kinds

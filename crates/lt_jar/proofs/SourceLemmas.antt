@@ -1,20 +1,18 @@
 -- What the turns of one call keep, and how the call ends.
-use Rattle.std.proofs.Common.{◌≡◌, ◌≢◌, ◌≤◌, ◌<◌, ◌+◌, ◌-◌, ◌*◌, ◌++◌, ◌∷◌, ◌∙◌, ◌⊎◌, inl, inr, ℕ, Bool, true, false, List, [], Option, None, Some, Result, Ok, Err, length, take, drop, sym, ap, refl, subst, arith, zero, suc, add-zero, append_assoc, append-nil, length-append, length-drop}
+use Rattle.std.proofs.Common.{◌≡◌, ◌≢◌, ◌≤◌, ◌<◌, ◌+◌, ◌-◌, ◌++◌, ◌∷◌, ◌∙◌, ◌⊎◌, inl, inr, ℕ, Bool, true, false, List, [], Option, None, Some, Result, Ok, Err, length, take, drop, sym, ap, refl, subst, arith, zero, suc, add-zero, append_assoc, append-nil, length-append, length-drop}
 use Rattle.std.specs.List.{AllByRecursion}
-use Rattle.std.specs.Io.KnownBytes.{Consumes, IsAtEnd}
 use Rattle.std.proofs.KnownBytes.{Consumes-nil, Consumes-trans}
 use Rattle.std.proofs.Math.Seq.{drop-append_seam}
 use Rattle.std.proofs.lemmas.List.{drop-drop, drop-take, length-take-le}
 use Rattle.std.proofs.lemmas.List.Elements.{All-nil}
-use Rattle.lt_jar.specs.Devices.{HasFailed, after_reads, failures_of, greatest_count, inner_of, one_more, reads_of}
+use Rattle.lt_jar.specs.Devices.{HasFailed, after_reads, failures_of, greatest_count, one_more, reads_of}
 use Rattle.lt_jar.specs.Lines.{IsOneLine, lines_of, whole_lines}
 use Rattle.lt_jar.specs.Limits.{most_records}
 use Rattle.lt_jar.specs.Records.{Field, HasRecords}
-use Rattle.lt_jar.specs.Faults.{Fault, IsReached, IsTheFault}
-use Rattle.lt_jar.specs.Reading.{Ends, Going, Taken, finished, going_on, rest_of, steps, take_line}
-use Rattle.lt_jar.specs.Lending.{IsCutShort}
+use Rattle.lt_jar.specs.Faults.{Fault}
+use Rattle.lt_jar.specs.Reading.{Ends, Taken, finished, going_on, rest_of, steps, take_line}
 use Rattle.lt_jar.specs.Pieces.{StopsAt, StopsAtLast, TakesAll, TakesRecord, fields_in, last_line}
-use Rattle.lt_jar.specs.Sources.{EndsAs, Fills, FillsAs, Finished, Finishes, HasRoom, IsRead, LendsEnded, LendsLast, ReadsRecord, Stops, kept_in, lent_by, line_of_kept, most_reads, record_in, unread_in}
+use Rattle.lt_jar.specs.Sources.{EndsAs, Fills, Finished, Finishes, HasRoom, IsRead, LendsLast, ReadsRecord, Stops, kept_in, lent_by, line_of_kept, most_reads, record_in, unread_in}
 use Rattle.lt_jar.specs.Views.{IsSaid, fault_in}
 use Rattle.lt_jar.specs.declared.devices.Device.{Device}
 use Rattle.lt_jar.specs.declared.engine.Engine.{Engine}
@@ -25,7 +23,7 @@ use Rattle.lt_jar.specs.declared.sources.Status.TheVariants as state
 use Rattle.lt_jar.proofs.CutLemmas.{lines_of-last}
 use Rattle.lt_jar.proofs.PieceLemmas.{IsNoFeed, each-append, length-last, lines_of-whole, only_line, whole-append}
 use Rattle.lt_jar.proofs.ReadLemmas.{records_at_end}
-use Rattle.lt_jar.proofs.ReadingLemmas.{cut_short, cuts_record, fault_behind, few_at, lines_gather, ran_end, ran_on, reached_behind, read_last, read_lines, said_fault, said_no_other, sound_at_end}
+use Rattle.lt_jar.proofs.ReadingLemmas.{cut_short, cuts_record, fault_behind, few_at, ran_end, ran_on, reached_behind, read_last, read_lines, said_fault, said_no_other, sound_at_end}
 
 -- so far the call has read these bytes, and gone over these lines
 pub record SourceTurn {R : Type 0} (remaining : R → Option (List ℕ)) (old now : JarSource) (before after : Device R) : Type 0 where

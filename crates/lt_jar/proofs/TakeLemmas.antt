@@ -7,7 +7,7 @@ use Rattle.std.proofs.lemmas.Bool.{ltb-false, ltb-true}
 use Rattle.lt_jar.specs.LineKinds.{Line, Blank, Separator, Continuation, Start, Bad, line_of}
 use Rattle.lt_jar.specs.Limits.{longest_line, most_records}
 use Rattle.lt_jar.specs.Records.{Field}
-use Rattle.lt_jar.specs.Faults.{Fault, LineTooLong, NotUtf8, LeadingContinuation, BadLine, TooManyRecords}
+use Rattle.lt_jar.specs.Faults.{Fault, LineTooLong, NotUtf8, TooManyRecords}
 use Rattle.lt_jar.specs.Reading.{Ends, GoesOn, Taken, continued, lengthened, separated, started, take_kind, take_line, with_text}
 
 not_longer : (m n : ℕ) → m ≤ n → nat_lt n m ≡ false

@@ -1,5 +1,5 @@
 -- What `JarReader` is over its device, and what its `next` leaves once the record is no longer borrowed.
-use Rattle.std.specs.Prelude.{◌≡◌, ℕ, List, [], Option, Some, None, Result, Ok, Err, Bool, IfOk, IfErr, IfSome, is_some}
+use Rattle.std.specs.Prelude.{◌≡◌, ℕ, List, [], Option, Result, Ok, Err, Bool, IfOk, IfSome, is_some}
 use Rattle.std.specs.Borrow.{Fml, RattleType, MutBor}
 use Rattle.std.specs.Io.BufRead.{Rests}
 use mir.Syntax.{named}

@@ -5,8 +5,7 @@ use Rattle.std.specs.List.{AllByRecursion}
 use Rattle.lt_jar.specs.Lines.{IsOneLine, lines_of, whole_lines}
 use Rattle.lt_jar.specs.Records.{Field}
 use Rattle.lt_jar.specs.Reading.{Ends, Going, finished, going_on, rest_of, steps, take_line}
-use Rattle.lt_jar.specs.Faults as faults
-use Rattle.lt_jar.specs.Views.{IsSaid, IsTaken}
+use Rattle.lt_jar.specs.Views.{IsSaid}
 use Rattle.lt_jar.specs.declared.faults.JarFaultKind.{JarFaultKind}
 use Rattle.lt_jar.specs.declared.drafts.Progress.{Progress}
 use Rattle.lt_jar.specs.declared.engine.Engine.{Engine}

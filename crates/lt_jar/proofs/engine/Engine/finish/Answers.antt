@@ -1,4 +1,4 @@
-use Rattle.std.proofs.Common.{◌≡◌, ◌∙◌, [], refl, sym, ap, subst, append-nil, vec_len}
+use Rattle.std.proofs.Common.{◌∙◌, refl, sym, subst, append-nil, vec_len}
 use Rattle.std.proofs.lemmas.Result.{err_from_is_err_and}
 use Rattle.lt_jar.specs.Pieces.{fields_in}
 use Rattle.lt_jar.specs.Reading.{take_line}

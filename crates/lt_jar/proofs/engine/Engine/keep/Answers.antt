@@ -1,4 +1,4 @@
-use Rattle.std.proofs.Common.{◌≡◌, ◌<◌, ◌∙◌, ◌++◌, [], rules, arith, inr, refl, sym, ap, length, length-append, vec_len}
+use Rattle.std.proofs.Common.{◌<◌, ◌++◌, arith, inr, refl, ap, length, length-append}
 use Rattle.lt_jar.specs.Faults as faults
 use Rattle.lt_jar.specs.Limits.{longest_line}
 use Rattle.lt_jar.proofs.TakeLemmas.{take_line-too_long}

@@ -1,4 +1,4 @@
-use Rattle.std.proofs.Common.{◌≡◌, ◌≤◌, ◌-◌, Ok, length, take, drop, sym, ap, subst}
+use Rattle.std.proofs.Common.{◌≤◌, ◌-◌, Ok, take, drop, sym, ap, subst}
 use Rattle.lt_jar.specs.Pieces.{TakesPiece, TakesRecord}
 use Rattle.lt_jar.specs.Sources.{unread_in}
 use Rattle.lt_jar.proofs.SourceLemmas.{unread_rest}
