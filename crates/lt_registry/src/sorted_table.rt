@@ -11,7 +11,8 @@ use std::alloc::Global;
 use std::marker::Model;
 
 /// A table that finds entries by binary search: single records by their subtags, which are compared
-/// as numbers, and whole records by their tags. Ranges are looked at in the order of the file.
+/// as numbers, and whole records by their tags. A subtag that none names is looked for among ranges,
+/// of which the first of the file counts.
 #[derive(Debug, Drop)]
 pub struct SortedTable {
     registry: Registry,
