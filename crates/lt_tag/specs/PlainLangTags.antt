@@ -22,6 +22,10 @@ pub record GrowsAlong (core : CoreParts) (pieces : List (List ℕ)) (grown : Cor
   pub read : listed 2 pieces ≡ Ok subtags
   pub grows : grown_by core subtags ≡ Some grown
 
+-- the pieces behind the first are no subtags that a core has at its end one after another
+abbrev pub StopsAlong : CoreParts → List (List ℕ) → Type 0
+StopsAlong core pieces = (grown : CoreParts) → ¬ (GrowsAlong core pieces grown)
+
 -- how many extlangs may still follow a core that takes a script
 abbrev pub extlangs_left : CoreParts → ℕ
 extlangs_left core = if nat_le (length core.language) 3 then 3 - length core.extlangs else 0

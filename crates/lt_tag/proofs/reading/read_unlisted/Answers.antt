@@ -20,21 +20,21 @@ pub from_parts-requires-clause-not_grandfathered :
     goal.from_parts-requires-clause-not_grandfathered
 from_parts-requires-clause-not_grandfathered c =
     let split = cut_left _ _ _ c.cut.ensures.pieces in
-    let grown = subst (λ (k : CoreParts). GrowsAlong k (pieces_left c.cut.result.1) c.grow_along.new.core) c.of_language-core.ensures (c.in_ok-grow_along.ensures c.if-not-branch.false) in
+    let grown = subst (λ (k : CoreParts). GrowsAlong k (pieces_left c.cut.result.1) c.grow_along.new.core) c.of_language-core.ensures (c.in_ok-grow_along.ensures.grew c.if-not-branch.false) in
     let whole = grown_text c.args.text.now _ _ c.in-Some.language c.grow_along.new.core split (ap (subtag_or_fault 1) c.in-Some.ensures.read) c.in-Some.ensures.language grown in
     inl (subst (λ (l : List (List ℕ)). IsNotGrandfathered l) (sym whole.1) c.requires.other)
 
 pub returns-clause-listed : goal.returns-clause-listed
 returns-clause-listed c =
     let split = cut_left _ _ _ c.cut.ensures.pieces in
-    let grown = subst (λ (k : CoreParts). GrowsAlong k (pieces_left c.cut.result.1) c.grow_along.new.core) c.of_language-core.ensures (c.in_ok-grow_along.ensures c.if-not-branch.false) in
+    let grown = subst (λ (k : CoreParts). GrowsAlong k (pieces_left c.cut.result.1) c.grow_along.new.core) c.of_language-core.ensures (c.in_ok-grow_along.ensures.grew c.if-not-branch.false) in
     (grown_text c.args.text.now _ _ c.in-Some.language c.grow_along.new.core split (ap (subtag_or_fault 1) c.in-Some.ensures.read) c.in-Some.ensures.language grown).0
 
 pub returns-clause-spelled : goal.returns-clause-spelled
 returns-clause-spelled c =
     let split = cut_left _ _ _ c.cut.ensures.pieces in
     let core = c.grow_along.new.core in
-    let grown = subst (λ (k : CoreParts). GrowsAlong k (pieces_left c.cut.result.1) core) c.of_language-core.ensures (c.in_ok-grow_along.ensures c.if-not-branch.false) in
+    let grown = subst (λ (k : CoreParts). GrowsAlong k (pieces_left c.cut.result.1) core) c.of_language-core.ensures (c.in_ok-grow_along.ensures.grew c.if-not-branch.false) in
     let whole = grown_text c.args.text.now _ _ c.in-Some.language core split (ap (subtag_or_fault 1) c.in-Some.ensures.read) c.in-Some.ensures.language grown in
     let is : c.from_parts.result ≡ LangTag core [] [] = c.from_parts.ensures ∙ (λ i. LangTag core (c.new.ensures.items i) (c.new-2.ensures.items i)) in
     ap spell is ∙ append-nil (spell_core core) ∙ whole.1
