@@ -1,5 +1,5 @@
 //! Why a step is not applied.
-ghost use Rattle.std.specs.Prelude.{◌≡◌};
+ghost use Rattle.std.specs.Prelude.{◌≡◌, Some};
 ghost use Rattle.lt_rewrite.specs.ApplyFaults.{fault_name_of, no_memory};
 
 use lt_tag::OutOfMemory;
@@ -27,8 +27,10 @@ impl ApplyFault {
 }
 
 impl fmt::Display for ApplyFault {
+    ghost output = { λ fault. Some (fault_name_of fault) };
+
     fn fmt<W: fmt::Write>(&self, f: &mut fmt::Formatter<W>) -> fmt::Result {
-        write!(f, "{self:?}")
+        f.write_str(self.name())
     }
 }
 

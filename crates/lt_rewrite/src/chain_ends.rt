@@ -1,5 +1,5 @@
 //! Chains of values: each subtag's value, that one's value, and so on (RFC 5646, 3.1.7).
-ghost use Rattle.std.specs.Prelude.{◌≡◌, true, IfSome, IfOk, OnErr};
+ghost use Rattle.std.specs.Prelude.{◌≡◌, true, Some, IfSome, IfOk, OnErr, codes};
 ghost use Rattle.std.specs.Option.{option_copied};
 ghost use Rattle.lt_subtag.specs.Shapes.{is_language, is_extlang};
 ghost use Rattle.lt_registry.specs.Entries.{one_of, has_form, has_value_form, is_short};
@@ -17,6 +17,8 @@ use std::fmt;
 pub struct Cycle;
 
 impl fmt::Display for Cycle {
+    ghost output = { λ _. Some (codes "Cycle") };
+
     fn fmt<W: fmt::Write>(&self, f: &mut fmt::Formatter<W>) -> fmt::Result {
         write!(f, "Cycle")
     }
