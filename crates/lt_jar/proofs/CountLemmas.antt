@@ -98,7 +98,7 @@ begun-group [] = refl
 begun-group (field ∷ group) = let rest = begun-rest (field ∷ group) in omega (arith, rest)
 
 -- whatever goes before, nothing goes on after groups that have ended
-inside-ended : (ended : List (List Written)) → is_inside false (flat_map lines_of_ended ended) ≡ false
+pub inside-ended : (ended : List (List Written)) → is_inside false (flat_map lines_of_ended ended) ≡ false
 inside-ended [] = refl
 inside-ended (group ∷ ended) =
     is_inside-append false (lines_of_ended group) (flat_map lines_of_ended ended)
@@ -115,7 +115,7 @@ begun-ended_group group =
     let one = begun-group group in
     omega (arith, all, none, one)
 
-begun-ended : (ended : List (List Written)) → begun false (flat_map lines_of_ended ended) ≡ length (filter has_field ended)
+pub begun-ended : (ended : List (List Written)) → begun false (flat_map lines_of_ended ended) ≡ length (filter has_field ended)
 begun-ended [] = refl
 begun-ended (group ∷ ended) =
     let all = begun-append false (lines_of_ended group) (flat_map lines_of_ended ended) in

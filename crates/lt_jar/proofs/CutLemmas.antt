@@ -26,20 +26,6 @@ lines_of-last (byte ∷ next ∷ line) one some =
     let tail = All-tail IsNoEnd byte (next ∷ line) one in
     begins byte (next ∷ line) (All-head IsNoEnd byte (next ∷ line) one) ∙ ap (begin_first byte) (lines_of-last (next ∷ line) tail (omega arith))
 
--- the first line feed is at i
-pub lines_of-cut : (text : List ℕ) (i : ℕ) → i < length text → get_or text i 0 ≡ 10 → IsOneLine (take i text)
-    → lines_of text ≡ take i text ∷ lines_of (take (length text - (i + 1)) (drop (i + 1) text))
-lines_of-cut text i below end one =
-    let next : drop (suc i) text ≡ drop (i + 1) text = ap (λ n. drop n text) (sym (add-one i)) in
-    let back : drop i text ≡ 10 ∷ drop (i + 1) text = drop-cons text i 0 below ∙ ap (λ b. b ∷ drop (suc i) text) end ∙ ap (λ l. 10 ∷ l) next in
-    let split : text ≡ take i text ++ 10 ∷ drop (i + 1) text = sym (take-append-drop i text) ∙ ap (λ l. take i text ++ l) back in
-    let range : take (length text - (i + 1)) (drop (i + 1) text) ≡ drop (i + 1) text = ap (λ n. take n (drop (i + 1) text)) (sym (length-drop (i + 1) text)) ∙ take-length (drop (i + 1) text) in
-    ap lines_of split ∙ lines_of-ended (take i text) (drop (i + 1) text) one ∙ ap (λ l. take i text ∷ lines_of l) (sym range)
-
-pub lines_of-empty : (text : List ℕ) → length text ≡ 0 → lines_of text ≡ []
-lines_of-empty [] empty = refl
-lines_of-empty (byte ∷ text) empty = absurd (omega arith)
-
 pub whole_line : (text : List ℕ) (i : ℕ) → i ≡ length text → IsOneLine (take i text) → IsOneLine text
 whole_line text i all one = subst IsOneLine (ap (λ n. take n text) all ∙ take-length text) one
 

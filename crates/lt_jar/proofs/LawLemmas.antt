@@ -20,7 +20,7 @@ all_at : (P : List ℕ → Type 0) (before : List (List ℕ)) (line : List ℕ) 
 all_at P [] line after all = All-head P line after all
 all_at P (first ∷ before) line after all = all_at P before line after (All-tail P first (before ++ line ∷ after) all)
 
-shown-append : (xs ys : List (List ℕ)) → shown (xs ++ ys) ≡ shown xs ++ shown ys
+pub shown-append : (xs ys : List (List ℕ)) → shown (xs ++ ys) ≡ shown xs ++ shown ys
 shown-append xs ys = ap (filter is_shown) (map-append line_of xs ys) ∙ filter-append is_shown (map line_of xs) (map line_of ys)
 
 continuation_is : (kind : Line) → is_continuation kind ≡ true → (text : List ℕ) × (kind ≡ Continuation text)

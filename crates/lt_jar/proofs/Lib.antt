@@ -2,7 +2,6 @@
 pub mod CutLemmas
 pub mod BoundaryLemmas
 pub mod TakeLemmas
-pub mod StepLemmas
 pub mod BodyLemmas
 pub mod GroupLemmas
 pub mod CountLemmas
@@ -13,4 +12,7 @@ pub mod LawLemmas
 pub mod PieceLemmas
 pub mod ReadingLemmas
 pub mod SourceLemmas
+pub mod BehindLemmas
+pub mod LentLemmas
+pub mod JarLemmas
 pub mod WorkedRows

@@ -211,7 +211,7 @@ finish_none old new some none same ended counted kept tells = record {
   empty = kept ∙ none;
 }
 
-rest_some : (fields : List Field) → fields ≢ [] → rest_of fields ≡ fields ∷ []
+pub rest_some : (fields : List Field) → fields ≢ [] → rest_of fields ≡ fields ∷ []
 rest_some [] some = absurd (some refl)
 rest_some (field ∷ fields) some = refl
 

@@ -1,5 +1,5 @@
 -- What is known once the first lines of a text are read, and what follows of the next.
-use Rattle.std.proofs.Common.{◌≡◌, ◌≢◌, ◌∙◌, ◌++◌, ◌∷◌, ◌⊎◌, inl, inr, ℕ, List, [], Bool, true, false, Result, Ok, Err, refl, sym, ap, subst, append_assoc, append-nil, map, nat_lt, length, ◌+◌, ◌<◌, ◌≤◌, arith, if◌then◌else◌, length-append}
+use Rattle.std.proofs.Common.{◌≡◌, ◌∙◌, ◌++◌, ◌∷◌, ◌⊎◌, inl, inr, ℕ, List, [], Bool, true, false, Result, Ok, Err, refl, sym, ap, subst, append_assoc, append-nil, map, nat_lt, length, ◌+◌, ◌<◌, ◌≤◌, arith, if◌then◌else◌, length-append}
 use Rattle.std.specs.List.{All, filter}
 use Rattle.std.specs.Str.{IsUtf8, is_utf8}
 use Rattle.std.proofs.lemmas.Str.{IsUtf8-from_is_utf8}
@@ -8,12 +8,12 @@ use Rattle.std.proofs.lemmas.List.Elements.{All-append, All-cons, All-nil}
 use Rattle.lt_jar.specs.Lines.{lines_of}
 use Rattle.lt_jar.specs.LineKinds.{line_of}
 use Rattle.lt_jar.specs.Limits.{longest_line, most_records}
-use Rattle.lt_jar.specs.Records.{Field, HasRecords, IsWithin, Written, field_of, has_field, record_of, shown}
-use Rattle.lt_jar.specs.Faults.{Fault, IsReached, IsTheFault, IsWrong, IsWrongAt, LineTooLong, NotUtf8, begun, is_inside}
+use Rattle.lt_jar.specs.Records.{Field, HasRecords, IsWithin, has_field, record_of, shown}
+use Rattle.lt_jar.specs.Faults.{Fault, IsReached, IsTheFault, IsWrong, IsWrongAt, LineTooLong, NotUtf8, begun}
 use Rattle.lt_jar.specs.Reading.{Going, Taken, finished, on_taken, start, step, take_kind, take_line, with_taken}
-use Rattle.lt_jar.proofs.CountLemmas.{begun-groups, is_inside-groups}
+use Rattle.lt_jar.proofs.CountLemmas.{begun-groups}
 use Rattle.lt_jar.proofs.FaultLemmas.{Judges, judges, shown-more}
-use Rattle.lt_jar.proofs.GroupLemmas.{Leaves, finished-going_of, leaves_more, leaves_start, lines_of_groups}
+use Rattle.lt_jar.proofs.GroupLemmas.{Leaves, finished-going_of, leaves_more, leaves_start}
 
 abbrev IsShort : List ℕ → Type 0
 IsShort line = length line ≤ longest_line
@@ -45,10 +45,10 @@ read_none earlier text few = record {
   utf8 = All-nil IsUtf8;
 }
 
-head_is : {A : Type 0} (x y : A) (xs ys : List A) → x ∷ xs ≡ y ∷ ys → x ≡ y
+pub head_is : {A : Type 0} (x y : A) (xs ys : List A) → x ∷ xs ≡ y ∷ ys → x ≡ y
 head_is x y xs ys e = cc
 
-tail_is : {A : Type 0} (x y : A) (xs ys : List A) → x ∷ xs ≡ y ∷ ys → xs ≡ ys
+pub tail_is : {A : Type 0} (x y : A) (xs ys : List A) → x ∷ xs ≡ y ∷ ys → xs ≡ ys
 tail_is x y xs ys e = cc
 
 -- two cuts of a list at one length
@@ -68,7 +68,7 @@ below_or_at m n h = by_test (nat_lt m n) refl
     by_test true e = inl (ltb-true m n e)
     by_test false e = let above : n ≤ m = ltb-false m n e in inr (omega arith)
 
-below_or_above : (m n : ℕ) → (m < n) ⊎ (n ≤ m)
+pub below_or_above : (m n : ℕ) → (m < n) ⊎ (n ≤ m)
 below_or_above m n = by_test (nat_lt m n) refl
   where
     by_test : (t : Bool) → nat_lt m n ≡ t → (m < n) ⊎ (n ≤ m)
@@ -164,27 +164,6 @@ next_reached earlier text number left going line after read cut =
     record {
       from = omega arith;
       to = omega (arith, long, read.counted);
-      clean = λ other at wrong. let low = lowest_of earlier text (length read.before) read.clean other at wrong in omega (arith, low, read.counted);
-    }
-
--- where a record goes on, a line was read
-some_read : (before : List (List ℕ)) (going : Going) → Leaves (shown before) going → going.fields ≢ [] → 1 ≤ length before
-some_read [] going leaves some = absurd (some (ap (λ g. g.fields) leaves.going_is ∙ nothing leaves.ended leaves.last leaves.lines_are))
-  where
-    nothing : (ended : List (List Written)) (last : List Written) → [] ≡ lines_of_groups ended last → map field_of last ≡ []
-    nothing ended [] is = refl
-    nothing ended (field ∷ last) is = let at = ap (is_inside false) is ∙ is_inside-groups ended (field ∷ last) in cc
-some_read (line ∷ before) going leaves some = omega arith
-
--- the last line is reached
-pub last_reached : (earlier : ℕ) (text : List ℕ) (number : ℕ) (left : List (List ℕ)) (going : Going) → HasRead earlier text number left going → left ≡ [] → going.fields ≢ []
-    → IsReached earlier text number
-last_reached earlier text number left going read none some =
-    let all = ap length (read.all ∙ ap (λ l. read.before ++ l) none ∙ append-nil read.before) in
-    let from = some_read read.before going read.leaves some in
-    record {
-      from = omega (arith, from, read.counted);
-      to = omega (arith, all, read.counted);
       clean = λ other at wrong. let low = lowest_of earlier text (length read.before) read.clean other at wrong in omega (arith, low, read.counted);
     }
 

@@ -21,7 +21,7 @@ use Rattle.lt_jar.specs.declared.faults.JarFaultKind.TheVariants as kinds
 use Rattle.lt_jar.specs.declared.sources.JarSource.{JarSource}
 use Rattle.lt_jar.specs.declared.sources.Status.TheVariants as state
 use Rattle.lt_jar.proofs.CutLemmas.{lines_of-last}
-use Rattle.lt_jar.proofs.PieceLemmas.{IsNoFeed, each-append, length-last, lines_of-whole, only_line, whole-append}
+use Rattle.lt_jar.proofs.PieceLemmas.{IsNoFeed, each-append, length-last, lines_of-whole, only_line, rest_some, whole-append}
 use Rattle.lt_jar.proofs.ReadLemmas.{records_at_end}
 use Rattle.lt_jar.proofs.ReadingLemmas.{cut_short, cuts_record, fault_behind, few_at, ran_end, ran_on, reached_behind, read_last, read_lines, said_fault, said_no_other, sound_at_end}
 
@@ -128,7 +128,7 @@ turn_filled remaining old now new before between after turn empty fills engine s
       status = status ∙ turn.status;
     }
 
-last_one : (lines : List (List ℕ)) (last : List ℕ) → AllByRecursion IsOneLine (lines ++ last ∷ []) → AllByRecursion IsOneLine lines × IsOneLine last
+pub last_one : (lines : List (List ℕ)) (last : List ℕ) → AllByRecursion IsOneLine (lines ++ last ∷ []) → AllByRecursion IsOneLine lines × IsOneLine last
 last_one [] last each = (tt, each.0)
 last_one (line ∷ lines) last each = let rest = last_one lines last each.1 in ((each.0, rest.0), rest.1)
 
@@ -194,6 +194,7 @@ turn_lends remaining old now mid new before after turn few takes mid_turns mid_s
         }),
       );
       rises = λ more. absurd (omega (arith, more, turn.failures));
+      works = λ other. turn.failures;
     }
 
 read_memory : kinds.Read ≡ kinds.OutOfMemory → ⊥
@@ -248,6 +249,7 @@ turn_stops remaining old now new before after kind turn few stops turns =
           (subst (λ n. IsSaid kind (take_line n stops.fields stops.wrong)) turn.lent stops.said)
           (omega (arith, stops.line, turn.line, length-append turn.lines stops.lines));
       rises = λ more. absurd (omega (arith, more, turn.failures));
+      works = λ other. turn.failures;
     }
 
 kept_alone : (s : JarSource) → s.start ≡ s.end → kept_in s ≡ s.engine.partial.items
@@ -295,9 +297,13 @@ turn_failed remaining old now new before between after kind turn few empty one f
         | inl failed ↦ ap (λ k. let r : Result Bool JarFaultKind = Err k in r) failed.0
         | inr made ↦ absurd (omega (arith, more, turn.failures, made.1))
       ];
+      works = λ other. elim fills.fills.1 [
+        | inl failed ↦ absurd (other (ap (λ k. let r : Result Bool JarFaultKind = Err k in r) failed.0))
+        | inr made ↦ made.1 ∙ turn.failures
+      ];
     }
 
-lines_of-last_line : (line : List ℕ) → IsOneLine line → lines_of line ≡ last_line line
+pub lines_of-last_line : (line : List ℕ) → IsOneLine line → lines_of line ≡ last_line line
 lines_of-last_line [] one = refl
 lines_of-last_line (byte ∷ line) one = lines_of-last (byte ∷ line) one (omega arith)
 
@@ -313,10 +319,6 @@ turn_room remaining old now new before between turn few empty one engine = λ go
     let read = read_last (lent_by old) (kept_in old ++ turn.read) turn.lines partial (last_line partial) _ going few turn.each text (lines_of-last_line partial one) turn.ran more in
     let room = few_at (lent_by old) (kept_in old ++ turn.read) _ [] going read in
     omega (arith, room, ap (λ (e : Engine). e.ended) engine, turn.lent)
-
-rest_some : (fields : List Field) → fields ≢ [] → rest_of fields ≡ fields ∷ []
-rest_some [] some = absurd (some refl)
-rest_some (field ∷ fields) some = refl
 
 -- what the end of the text makes of the call
 pub turn_finishes : {R : Type 0} (remaining : R → Option (List ℕ)) (old now mid new : JarSource) (before between after : Device R) (some : Bool) → SourceTurn remaining old now before between → lent_by old ≤ most_records
@@ -350,6 +352,7 @@ turn_finishes {R} remaining old now mid new before between after some turn few e
       is_read = turns_kept (more_read remaining old now mid before between after turn.read fills.read turn.reads fills.reads turn.is_read fills.is_read);
       ends = by_some some refl lends lent;
       rises = λ rise. absurd (omega (arith, rise, turn.failures, fills.fills.3));
+      works = λ other. fills.fills.3 ∙ turn.failures;
     }
   where
     turns_kept : IsRead remaining old mid before after (turn.read ++ fills.read) (turn.reads + fills.reads) → IsRead remaining old new before after (turn.read ++ fills.read) (turn.reads + fills.reads)
@@ -382,6 +385,7 @@ turn_stops_last remaining old now mid new before between after kind turn few emp
       ends = stops_said old new before after (turn.read ++ fills.read) (turn.reads + fills.reads) kind turn.lines partial partial [] (record_in now) few turn.each text
           (only_line [] partial (All-nil IsNoFeed) one some) turn.ran said (stops.line ∙ ap (λ (e : Engine). e.line) engine ∙ turn.line);
       rises = λ rise. absurd (omega (arith, rise, turn.failures, fills.fills.3));
+      works = λ other. fills.fills.3 ∙ turn.failures;
     }
 
 -- the bytes behind those that were handed on

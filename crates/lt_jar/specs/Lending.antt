@@ -1,9 +1,9 @@
 -- The records of a text one by one.
-use Rattle.std.specs.Prelude.{◌≡◌, ◌≢◌, ◌+◌, ℕ, List, [], ◌∷◌, ◌++◌, length}
-use Rattle.std.specs.List.{AllByRecursion}
+use Rattle.std.specs.Prelude.{◌≡◌, ◌≢◌, ◌+◌, ℕ, List, [], ◌∷◌, ◌++◌, length, map}
+use Rattle.std.specs.List.{AllByRecursion, filter, flat_map}
 use Rattle.lt_jar.specs.Lines.{IsOneLine, whole_lines}
 use Rattle.lt_jar.specs.LineKinds.{Line, Separator, line_of}
-use Rattle.lt_jar.specs.Records.{Field, Written, lines_of_group, record_of, shown}
+use Rattle.lt_jar.specs.Records.{Field, Written, has_field, lines_of_ended, lines_of_group, record_of, shown}
 use Rattle.lt_jar.specs.Faults.{Fault, IsWrongAt}
 
 -- but for blank lines, the lines are separators, and then a group that has these fields
@@ -45,3 +45,24 @@ pub record IsCutShort (earlier : ℕ) (text : List ℕ) (number : ℕ) : Type 0 
   pub gathers : Gathers lines fields
   pub sound : IsSound earlier (whole_lines lines)
   pub counted : number ≡ length lines + 1
+
+-- but for blank lines, the lines are groups that separators end, and these are the records of the groups that have a field
+pub record AreEnded (lines : List (List ℕ)) (records : List (List Field)) : Type 0 where
+  pub groups : List (List Written)
+  pub lines_are : shown lines ≡ flat_map lines_of_ended groups
+  pub records_are : records ≡ map record_of (filter has_field groups)
+
+-- whole lines, with which nothing is wrong, and the line that is being read, which has this number among them
+pub record BreaksOff (earlier : ℕ) (text : List ℕ) (number : ℕ) : Type 0 where
+  pub ended : List (List ℕ)
+  pub records : List (List Field)
+  pub are_ended : AreEnded ended records
+  pub more : List (List ℕ)
+  pub fields : List Field
+  pub gathers : Gathers more fields
+  pub each : AllByRecursion IsOneLine (ended ++ more)
+  pub rest : List ℕ
+  pub one : IsOneLine rest
+  pub bytes : text ≡ whole_lines (ended ++ more) ++ rest
+  pub sound : IsSound earlier (whole_lines (ended ++ more))
+  pub counted : number ≡ length (ended ++ more) + 1

@@ -7,9 +7,9 @@ pub mod Faults
 pub mod Reading
 pub mod Views
 pub mod Names
-pub mod Going
 pub mod Pieces
 pub mod Lending
 pub mod Devices
 pub mod Sources
+pub mod LentSoFar
 pub mod Lent

@@ -135,6 +135,7 @@ pub record ReadsRecord {R : Type 0} (remaining : R → Option (List ℕ)) (old n
   pub is_read : IsRead remaining old new before after read reads
   pub ends : EndsAs remaining old new before after read reads result
   pub rises : failures_of before < failures_of after → result ≡ Err kinds.Read
+  pub works : result ≢ Err kinds.Read → failures_of after ≡ failures_of before
 
 abbrev pub without_line : Result Bool JarFault → Result Bool JarFaultKind
 without_line (Ok some) = Ok some

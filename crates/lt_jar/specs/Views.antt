@@ -48,8 +48,3 @@ taken_in progress.Ends fields = reading.Ends fields
 abbrev pub IsTaken : Result Progress JarFaultKind → Result reading.Taken faults.Fault → List Field → Type 0
 IsTaken (Ok progress) said fields = said ≡ Ok (taken_in progress fields)
 IsTaken (Err kind) said fields = IsSaid kind said
-
--- the step was made as computed
-abbrev pub IsStep : Result (Unit {0}) JarFaultKind → Result reading.Going faults.Fault → reading.Going → Type 0
-IsStep (Ok x) said going = said ≡ Ok going
-IsStep (Err kind) said going = IsSaid kind said

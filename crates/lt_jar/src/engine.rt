@@ -7,7 +7,7 @@ ghost use Rattle.lt_jar.specs.Views.{IsTaken};
 
 use crate::drafts::{Draft, LONGEST_LINE, Progress};
 use crate::faults::JarFaultKind;
-use crate::jars::JarField;
+use crate::jars::{JarField, Record};
 use crate::lines::split_line;
 use std::alloc::Global;
 
@@ -115,6 +115,17 @@ impl Engine {
             × (self.new.line ≡ self.old.line) }
     {
         self.draft.clear();
+    }
+
+    /// The record that ended, which is counted; another begins.
+    pub(crate) fn take_record(&mut self, alloc: Global) -> Record
+        requires { self.old.ended < 100000 }
+        ensures record { result ≡ fields_in self.old }
+        ensures begun { (fields_in self.new ≡ []) × (self.new.ended ≡ self.old.ended + 1) }
+        ensures same { (self.new.partial.items ≡ self.old.partial.items) × (self.new.line ≡ self.old.line) }
+    {
+        self.ended += 1;
+        self.draft.take_record(alloc)
     }
 
     /// Counts the record that ended.

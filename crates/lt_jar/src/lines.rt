@@ -6,20 +6,6 @@ ghost use Rattle.lt_jar.specs.LineKinds as lines;
 ghost use Rattle.lt_jar.specs.Views.{line_in};
 ghost use Rattle.lt_jar.specs.Pieces.{SplitsLine};
 
-/// The first line of a text, and what follows the line feed that ends it.
-pub(crate) fn cut_line(text: &[u8]) -> (&[u8], &[u8])
-    requires { 0 < length text.now }
-    ensures lines { lines_of text.now ≡ result.0.now ∷ lines_of result.1.now }
-    ensures shorter { length result.1.now < length text.now }
-{
-    for (i, byte) in text.iter().enumerate() {
-        if *byte == b'\n' {
-            return (&text[..i], &text[i + 1..]);
-        }
-    }
-    (text, &[])
-}
-
 /// What stands before the first line feed and behind it, if there is one.
 pub(crate) fn split_line(text: &[u8]) -> Option<(&[u8], &[u8])>
     ensures { SplitsLine text.now result }

@@ -22,6 +22,14 @@ impl<'a> RecordRef<'a> {
         self.fields.len()
     }
 
+    /// The fields, in the order of the text.
+    pub fn fields(self) -> &'a [JarField]
+        ensures { result.now ≡ self.entry.fields.now }
+    {
+        let RecordRef { fields } = self;
+        fields
+    }
+
     /// The name of the field behind `i` others, in the case in which the text has it.
     pub fn name(&self, i: usize) -> &'a str
         requires { i < length self.now.fields.now }
@@ -47,6 +55,27 @@ pub struct JarReader<'d, R, S = JarSource> {
     alloc: Global,
 }
 
+impl<R: Read> Device<R> {
+    ghost use Rattle.std.specs.Prelude.{◌≡◌, IfErr, IfOk};
+    ghost use Rattle.std.specs.Borrow.{sem, RestsIfErr};
+    ghost use Rattle.lt_jar.specs.contracts.devices.Device.{the_row};
+    ghost use Rattle.lt_jar.specs.Sources.{IsFresh};
+    ghost use Rattle.lt_jar.specs.declared.faults.JarFaultKind.TheVariants as kinds;
+
+    /// A reader of the records that the device gives. It is refused for want of memory alone, and
+    /// then the device is as it was.
+    pub fn records(&mut self, alloc: Global) -> Result<JarReader<'_, R, JarSource>, JarFault>
+        ensures* refused { sem 𝓛 (RestsIfErr (the_row R.row) self.entry (λ reader. reader.device.ghost_name) result (λ last. last ≡ self.old)) }
+        ensures same_reference { IfOk result (λ reader. reader.device.ghost_name ≡ self.entry.ghost_name) }
+        ensures same { IfOk result (λ reader. reader.device.now ≡ self.old) }
+        ensures fresh { IfOk result (λ reader. IsFresh reader.source) }
+        ensures memory { IfErr result (λ fault. (fault.kind ≡ kinds.OutOfMemory) × (fault.line ≡ 1)) }
+    {
+        let source = JarSource::new(alloc).map_err(|kind| JarFault { kind, line: 1 })?;
+        Ok(JarReader::over(alloc, self, source))
+    }
+}
+
 impl<'d, R: Read> JarReader<'d, R, JarSource> {
     ghost use Rattle.std.specs.Prelude.{◌≡◌, IfErr, IfOk};
     ghost use Rattle.std.specs.Borrow.{sem};
@@ -64,13 +93,22 @@ impl<'d, R: Read> JarReader<'d, R, JarSource> {
         ensures fresh { IfOk result (λ reader. IsFresh reader.source) }
         ensures memory { IfErr result (λ fault. (fault.kind ≡ kinds.OutOfMemory) × (fault.line ≡ 1)) }
     {
-        match JarSource::new(alloc) {
-            Ok(source) => Ok(JarReader {
-                device,
-                source,
-                alloc,
-            }),
-            Err(kind) => Err(JarFault { kind, line: 1 }),
+        device.records(alloc)
+    }
+
+    fn over(
+        alloc: Global,
+        device: &'d mut Device<R>,
+        source: JarSource,
+    ) -> JarReader<'d, R, JarSource>
+        ensures same_reference { result.device.ghost_name ≡ device.entry.ghost_name }
+        ensures same { result.device.now ≡ device.old }
+        ensures source { result.source ≡ source }
+    {
+        JarReader {
+            device,
+            source,
+            alloc,
         }
     }
 

@@ -1,59 +1,35 @@
 //! The records of a whole text.
-ghost use Rattle.std.specs.Prelude.{◌≡◌, ◌≢◌, [], OnErr, MatchResult, IfOk, IfErr};
-ghost use Rattle.lt_jar.specs.Reading as reading;
+ghost use Rattle.std.specs.Prelude.{◌≡◌, ◌<◌, ◌≤◌, ◌+◌, ◌∷◌, ◌++◌, [], IfErr, IfOk, OnOk};
 ghost use Rattle.lt_jar.specs.Records.{HasRecords, IsWithin};
-ghost use Rattle.lt_jar.specs.Views.{IsFaultOf, IsStep};
-ghost use Rattle.lt_jar.specs.Going.{going_in};
+ghost use Rattle.lt_jar.specs.Pieces.{fields_in};
+ghost use Rattle.lt_jar.specs.Views.{IsFaultOf};
 ghost use Rattle.lt_jar.specs.declared.faults.JarFaultKind.TheVariants as kinds;
 
-use crate::drafts::{Draft, Progress};
+use crate::engine::Engine;
 use crate::faults::{JarFault, JarFaultKind};
 use crate::jars::{Jar, Record};
-use crate::lines::cut_line;
 use std::alloc::Global;
 
-/// The records that have ended, and the one that is being read.
-#[derive(Drop)]
-struct JarBuilder {
-    records: Vec<Record>,
-    draft: Draft,
-}
-
-impl JarBuilder {
-    fn new(alloc: Global) -> JarBuilder
-        ensures { going_in result ≡ reading.start }
-    {
-        JarBuilder {
-            records: Vec::new(alloc),
-            draft: Draft::new(alloc),
-        }
-    }
-
-    /// Takes the next line.
-    fn take_line(&mut self, alloc: Global, line: &[u8]) -> Result<(), JarFaultKind>
-        ensures { IsStep result (reading.step 0 (going_in self.old) line.now) (going_in self.new) }
-    {
-        match self.draft.take_line(alloc, line, self.records.len()) {
-            Ok(Progress::GoesOn) => Ok(()),
-            Ok(Progress::Ends) => {
-                self.records.push(self.draft.take_record(alloc))?;
-                Ok(())
-            }
-            Err(kind) => Err(kind),
-        }
-    }
-
-    /// All records, at the end of the text.
-    fn finish(mut self, alloc: Global) -> Result<Vec<Record>, JarFaultKind>
-        ensures ok { IfOk result (λ records. records.items ≡ reading.finished (going_in self)) }
-        ensures kind { IfErr result (λ kind. kind ≡ kinds.OutOfMemory) }
-        ensures some { OnErr result ((going_in self).fields ≢ []) }
-    {
-        if !self.draft.is_empty() {
-            self.records.push(self.draft.take_record(alloc))?;
-        }
-        let JarBuilder { records, draft: _ } = self;
-        Ok(records)
+/// Puts the record that ended behind the others. Where memory runs out, it does so at the line
+/// that ended it.
+fn push_record(
+    alloc: Global,
+    engine: &mut Engine,
+    records: &mut Vec<Record>,
+) -> Result<(), JarFault>
+    requires behind_a_line { 1 ≤ engine.old.line }
+    requires few { engine.old.ended < 100000 }
+    ensures record { OnOk result (records.new.items ≡ records.old.items ++ fields_in engine.old ∷ []) }
+    ensures memory { IfErr result (λ fault. (fault.kind ≡ kinds.OutOfMemory) × (fault.line + 1 ≡ engine.old.line)) }
+    ensures begun { (fields_in engine.new ≡ []) × (engine.new.ended ≡ engine.old.ended + 1) }
+    ensures same { (engine.new.partial.items ≡ engine.old.partial.items) × (engine.new.line ≡ engine.old.line) }
+{
+    match records.push(engine.take_record(alloc)) {
+        Ok(()) => Ok(()),
+        Err(_) => Err(JarFault {
+            kind: JarFaultKind::OutOfMemory,
+            line: engine.line() - 1,
+        }),
     }
 }
 
@@ -67,19 +43,31 @@ pub fn read_jar(alloc: Global, text: &[u8]) -> Result<Jar, JarFault>
     ensures within { IfOk result (IsWithin text.now) }
     ensures fault { IfErr result (IsFaultOf text.now) }
 {
-    let mut builder = JarBuilder::new(alloc);
-    let mut number = 0u64;
+    let mut engine = Engine::new(alloc);
+    let mut records = Vec::new(alloc);
     let mut rest = text;
-    while !rest.is_empty() {
-        let (line, after) = cut_line(rest);
-        number += 1;
-        if let Err(kind) = builder.take_line(alloc, line) {
-            return Err(JarFault { kind, line: number });
+    loop {
+        match engine.take(alloc, rest) {
+            Ok(Some(after)) => {
+                push_record(alloc, &mut engine, &mut records)?;
+                rest = after;
+            }
+            Ok(None) => break,
+            Err(kind) => return Err(JarFault {
+                kind,
+                line: engine.line(),
+            }),
         }
-        rest = after;
     }
-    match builder.finish(alloc) {
-        Ok(records) => Ok(Jar { records }),
-        Err(kind) => Err(JarFault { kind, line: number }),
+    match engine.finish(alloc) {
+        Ok(true) => {
+            push_record(alloc, &mut engine, &mut records)?;
+            Ok(Jar { records })
+        }
+        Ok(false) => Ok(Jar { records }),
+        Err(kind) => Err(JarFault {
+            kind,
+            line: engine.line(),
+        }),
     }
 }

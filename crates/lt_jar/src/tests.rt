@@ -1,5 +1,6 @@
 //! Small texts with their records, and faults with their lines.
 mod counting;
+mod failing;
 mod one_by_one;
 mod sample;
 

@@ -1,5 +1,7 @@
 //! Records one by one, from pieces of a text.
-use super::{FAULTS, TEXTS, long_line, many_records, returned_text, shown};
+use super::{
+    FAULTS, TEXTS, long_line, many_records, push_fields, returned_text, sample_text, shown,
+};
 use crate::{Device, JarFault, JarReader, Pieces, RecordRef, Takes, read_jar};
 use std::alloc::{AllocError, Global};
 use std::io::{Read, Write};
@@ -22,7 +24,7 @@ fn push_record(text: &mut String, record: RecordRef<'_>) -> Result<(), AllocErro
 }
 
 /// What a reader lends, as `shown` has it, and the fault that comes then.
-fn lent<R: Read>(
+pub fn lent<R: Read>(
     alloc: Global,
     device: &mut Device<R>,
 ) -> Result<(String, Option<JarFault>), Fail> {
@@ -125,61 +127,34 @@ fn most_records_in_pieces(rt: HostRuntime) -> Result<(), Fail> {
 #[test]
 fn sample_in_pieces(rt: HostRuntime) -> Result<(), Fail> {
     let text = returned_text(rt.alloc())?;
-    let records = shown(rt.alloc(), &read_jar(rt.alloc(), text.as_bytes())?)?;
+    let Some(text) = text.as_bytes().strip_suffix(b"\r\n") else {
+        return Err(Fail::from("no end of the last line"));
+    };
+    let records = shown(rt.alloc(), &read_jar(rt.alloc(), text)?)?;
     for size in &SIZES {
-        assert!(rt; lends_records(rt.alloc(), text.as_bytes(), *size, &records)?);
+        assert!(rt; lends_records(rt.alloc(), text, *size, &records)?);
     }
     Ok(())
 }
 
-/// What so many calls answer.
-fn told<R: Read>(alloc: Global, device: &mut Device<R>, calls: usize) -> Result<String, Fail> {
-    let Ok(mut reader) = JarReader::new(alloc, device) else {
-        return Err(Fail::from("no reader"));
-    };
-    let mut text = String::new(alloc);
-    for _ in 0..calls {
-        match reader.next() {
-            Ok(Some(_)) => text.push_str("record;")?,
-            Ok(None) => text.push_str("none;")?,
-            Err(fault) => {
-                let (name, line) = (fault.kind.name(), fault.line);
-                text.push_str(&format!(in alloc; "{name} {line};")?)?;
-            }
-        }
+/// Whether `read_jar` answers for a text what a reader of it in pieces of 5 does.
+fn agree(alloc: Global, text: &[u8]) -> Result<bool, Fail> {
+    let mut device = Device::new(Pieces::once(text, 5));
+    let (records, fault) = lent(alloc, &mut device)?;
+    Ok(match (read_jar(alloc, text), fault) {
+        (Ok(jar), None) => shown(alloc, &jar)?.as_str() == records.as_str(),
+        (Err(whole), Some(fault)) => whole == fault,
+        _ => false,
+    })
+}
+
+#[test]
+fn sample_cut_after_each_byte(rt: HostRuntime) -> Result<(), Fail> {
+    let text = sample_text(rt.alloc())?;
+    for end in 0..=text.len() {
+        let cut = text.as_bytes().get(..end).unwrap_or(&[]);
+        assert!(rt; agree(rt.alloc(), cut)?, "{end}");
     }
-    Ok(text)
-}
-
-/// After the end there is none, and after a fault it is told again.
-#[test]
-fn ends_stay(rt: HostRuntime) -> Result<(), Fail> {
-    let mut device = Device::new(Pieces::once(b"A: b\n%%\n", 3));
-    let ended = told(rt.alloc(), &mut device, 3)?;
-    assert!(rt; ended.as_str() == "record;none;none;");
-    let mut device = Device::new(Pieces::once(b"A: b\n%%\n\nabc\nA: b", 3));
-    let failed = told(rt.alloc(), &mut device, 4)?;
-    assert!(rt; failed.as_str() == "record;BadLine 4;Failed 4;Failed 4;");
-    Ok(())
-}
-
-/// Whether a reader that fails at this call is told with this line, and then that it failed.
-fn fails_at_line(alloc: Global, text: &[u8], call: u64, line: u64) -> Result<bool, Fail> {
-    let mut device = Device::new(Pieces::once(text, 5).failing_at(call));
-    let (_, fault) = lent(alloc, &mut device)?;
-    let told = match fault {
-        Some(fault) => fault.kind.name() == "Read" && fault.line == line,
-        None => false,
-    };
-    Ok(told && device.failures() == 1)
-}
-
-#[test]
-fn readers_that_fail(rt: HostRuntime) -> Result<(), Fail> {
-    assert!(rt; fails_at_line(rt.alloc(), b"A: b\n%%\nC: d\n", 1, 1)?);
-    assert!(rt; fails_at_line(rt.alloc(), b"A: b\n%%\nC: d\n", 2, 2)?);
-    assert!(rt; fails_at_line(rt.alloc(), b"A: b\n%%\nC: d\n", 3, 3)?);
-    assert!(rt; fails_at_line(rt.alloc(), b"A: b\n%%\nC: d\n", 4, 4)?);
     Ok(())
 }
 
@@ -195,5 +170,29 @@ fn writers_for_tests(rt: HostRuntime) -> Result<(), Fail> {
     assert!(rt; takes.write(b"d")? == 1);
     takes.flush()?;
     assert!(rt; takes.taken() == b"abcd".as_slice());
+    Ok(())
+}
+
+/// Whether the first record that a reader lends has these fields, as `shown` has them.
+fn lends_fields<R: Read>(
+    alloc: Global,
+    device: &mut Device<R>,
+    fields: &str,
+) -> Result<bool, AllocError> {
+    let Ok(mut reader) = device.records(alloc) else {
+        return Ok(false);
+    };
+    let Ok(Some(record)) = reader.next() else {
+        return Ok(false);
+    };
+    let mut text = String::new(alloc);
+    push_fields(&mut text, record.fields())?;
+    Ok(text.as_str() == fields)
+}
+
+#[test]
+fn fields_of_a_record(rt: HostRuntime) -> Result<(), Fail> {
+    let mut device = Device::new(Pieces::once(b"A: b\nC: d\n%%\nE: f\n", 3));
+    assert!(rt; lends_fields(rt.alloc(), &mut device, "A=b;C=d")?);
     Ok(())
 }

@@ -1,0 +1,18 @@
+-- What a reader of records has lent since its start.
+use Rattle.std.specs.Prelude.{◌≡◌, ◌+◌, ℕ, List, ◌++◌, length}
+use Rattle.std.specs.List.{AllByRecursion}
+use Rattle.lt_jar.specs.Lines.{IsOneLine, whole_lines}
+use Rattle.lt_jar.specs.Records.{Field}
+use Rattle.lt_jar.specs.Lending.{AreEnded, IsSound}
+use Rattle.lt_jar.specs.Sources.{kept_in, lent_by, line_of_kept}
+use Rattle.lt_jar.specs.declared.sources.JarSource.{JarSource}
+
+-- these records were lent of the bytes that were read: whole lines that are them, with which nothing is wrong, and the bytes that are kept
+pub record HasLent (bytes : List ℕ) (records : List (List Field)) (s : JarSource) : Type 0 where
+  pub lines : List (List ℕ)
+  pub each : AllByRecursion IsOneLine lines
+  pub bytes_are : bytes ≡ whole_lines lines ++ kept_in s
+  pub ended : AreEnded lines records
+  pub sound : IsSound 0 (whole_lines lines)
+  pub counted : lent_by s ≡ length records
+  pub line : line_of_kept s ≡ length lines + 1
