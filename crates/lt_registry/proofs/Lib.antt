@@ -1,5 +1,6 @@
 pub mod CheckLemmas
 pub mod CoreFaultLemmas
+pub mod DraftLemmas
 pub mod ExtensionFaultLemmas
 pub mod FirstLemmas
 pub mod IndexLemmas
@@ -8,6 +9,7 @@ pub mod ListLemmas
 pub mod NameReadLemmas
 pub mod OrderLemmas
 pub mod RangeLemmas
+pub mod ReadRegistryLemmas
 pub mod RecordLaws
 pub mod RegistryLemmas
 pub mod SameLemmas

@@ -8,5 +8,7 @@ pub mod Checking
 pub mod Records
 pub mod RecordRefusals
 pub mod RecordSteps
+pub mod AddedRecords
+pub mod ReadRegistry
 pub mod TagOrder
 pub mod Sorted

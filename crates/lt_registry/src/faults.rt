@@ -2,6 +2,7 @@
 ghost use Rattle.std.specs.Prelude.{◌≡◌};
 ghost use Rattle.lt_registry.specs.Names.{name_of, record_name_of};
 
+use lt_jar::JarFault;
 use lt_tag::OutOfMemory;
 use std::alloc::AllocFailed;
 use thiserror::Error;
@@ -152,4 +153,37 @@ impl<T: Drop> From<AllocFailed<T>> for RecordFaultKind {
 pub struct RecordFault {
     pub kind: RecordFaultKind,
     pub number: u32,
+}
+
+/// Why a registry is not read.
+#[derive(Clone, Copy, Debug, Drop, Error, PartialEq, Eq)]
+pub enum RegistryFault {
+    /// The text is no jar, or was not read to its end.
+    #[error("{0}")]
+    Jar(JarFault),
+    /// A record gives no entry.
+    #[error("{0}")]
+    Record(RecordFault),
+}
+
+impl From<JarFault> for RegistryFault {
+    ghost use Rattle.std.specs.Prelude.{◌≡◌};
+    ghost use Rattle.lt_registry.specs.declared.faults.RegistryFault.TheVariants as refusals;
+
+    ghost from_gives = { λ fault refusal. refusal ≡ refusals.Jar fault };
+
+    fn from(fault: JarFault) -> RegistryFault {
+        RegistryFault::Jar(fault)
+    }
+}
+
+impl From<RecordFault> for RegistryFault {
+    ghost use Rattle.std.specs.Prelude.{◌≡◌};
+    ghost use Rattle.lt_registry.specs.declared.faults.RegistryFault.TheVariants as refusals;
+
+    ghost from_gives = { λ fault refusal. refusal ≡ refusals.Record fault };
+
+    fn from(fault: RecordFault) -> RegistryFault {
+        RegistryFault::Record(fault)
+    }
 }

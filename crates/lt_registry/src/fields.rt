@@ -7,7 +7,7 @@ ghost use Rattle.lt_tag.specs.Rest.{pieces_left};
 ghost use Rattle.lt_registry.specs.Records as record_words;
 
 use crate::entries::{Kind, Prefix};
-use lt_jar::{JarField, Record};
+use lt_jar::JarField;
 use lt_subtag::Subtag;
 use lt_tag::OutOfMemory;
 use std::alloc::Global;
@@ -27,43 +27,42 @@ pub(crate) fn is_called(field: &JarField, name: &str) -> bool
 }
 
 /// The body of the first field of a name.
-pub(crate) fn body<'a>(record: &'a Record, name: &str) -> Option<&'a str>
-    ensures { option_copied result ≡ record_words.body name.now «record».now }
+pub(crate) fn body<'a>(fields: &'a [JarField], name: &str) -> Option<&'a str>
+    ensures { option_copied result ≡ record_words.body name.now fields.now }
 {
-    let field = record.fields().iter().find(|field| is_called(field, name))?;
+    let field = fields.iter().find(|field| is_called(field, name))?;
     Some(field.body())
 }
 
 /// Whether a second field has a name.
-fn is_repeated(record: &Record, name: &str) -> bool
-    ensures { result ≡ record_words.is_repeated name.now «record».now }
+fn is_repeated(fields: &[JarField], name: &str) -> bool
+    ensures { result ≡ record_words.is_repeated name.now fields.now }
 {
-    let fields = record.fields();
     1 < fields.iter().filter(|field| is_called(field, name)).count()
 }
 
 /// Whether Type, Subtag, Tag or Preferred-Value stands twice.
-pub(crate) fn repeats_field(record: &Record) -> bool
-    ensures { result ≡ record_words.repeats_field «record».now }
+pub(crate) fn repeats_field(fields: &[JarField]) -> bool
+    ensures { result ≡ record_words.repeats_field fields.now }
 {
-    is_repeated(record, "Type")
-        || is_repeated(record, "Subtag")
-        || is_repeated(record, "Tag")
-        || is_repeated(record, "Preferred-Value")
+    is_repeated(fields, "Type")
+        || is_repeated(fields, "Subtag")
+        || is_repeated(fields, "Tag")
+        || is_repeated(fields, "Preferred-Value")
 }
 
 /// Whether a record has a date and no type.
-fn is_header(record: &Record) -> bool
-    ensures { result ≡ record_words.is_header «record».now }
+fn is_header(fields: &[JarField]) -> bool
+    ensures { result ≡ record_words.is_header fields.now }
 {
-    body(record, "File-Date").is_some() && body(record, "Type").is_none()
+    body(fields, "File-Date").is_some() && body(fields, "Type").is_none()
 }
 
 /// Whether the record of a number is the header of the file.
-pub(crate) fn is_header_at(number: u32, record: &Record) -> bool
-    ensures { result ≡ record_words.is_header_at number «record».now }
+pub(crate) fn is_header_at(number: u32, fields: &[JarField]) -> bool
+    ensures { result ≡ record_words.is_header_at number fields.now }
 {
-    number == 1 && is_header(record)
+    number == 1 && is_header(fields)
 }
 
 /// The kind that a type names.

@@ -2,6 +2,7 @@
 //! (RFC 5646, 2.2.9 and 3.1).
 #![tactic(auto)]
 
+mod drafts;
 mod entries;
 mod faults;
 mod fields;
@@ -23,7 +24,9 @@ mod validity;
 mod whole_index;
 
 pub use entries::{Entry, EntryName, EntryValue, Kind, Prefix};
-pub use faults::{RecordFault, RecordFaultKind, ValidFault, ValidFaultKind, ValidRefusal};
+pub use faults::{
+    RecordFault, RecordFaultKind, RegistryFault, ValidFault, ValidFaultKind, ValidRefusal,
+};
 pub use list_table::ListTable;
 pub use lookup::Lookup;
 pub use registry::Registry;

@@ -15,35 +15,36 @@ use crate::entries::{Entry, EntryName, EntryValue, Kind, Prefix};
 use crate::faults::RecordFaultKind;
 use crate::fields::{body, ends_of, is_called, kind_of, read_prefix, repeats_field};
 use crate::names::{is_alphabetic, is_up_to};
-use lt_jar::Record;
+use lt_jar::JarField;
 use lt_subtag::Subtag;
 use lt_tag::{OutOfMemory, Tag, TagFaultKind, read_tag};
 use std::alloc::Global;
 
-/// The entry of a record, which has this number in the file; or the first of what is wrong with it.
+/// The entry of the record of these fields, which has this number in the file; or the first of what is
+/// wrong with it.
 pub(crate) fn read_entry(
     alloc: Global,
-    record: &Record,
+    fields: &[JarField],
     number: u32,
 ) -> Result<Entry, RecordFaultKind>
-    ensures ok { IfOk result (IsEntryOf «record».now number) }
+    ensures ok { IfOk result (IsEntryOf fields.now number) }
     ensures forms { IfOk result IsEntry }
-    ensures err { IfErr result (IsRefused «record».now) }
+    ensures err { IfErr result (IsRefused fields.now) }
 {
-    if repeats_field(record) {
+    if repeats_field(fields) {
         return Err(RecordFaultKind::RepeatedField);
     }
-    let kind = read_kind(record)?;
-    let name = read_name(alloc, kind, record)?;
-    let value = read_value(alloc, kind, record)?;
-    let prefixes = read_prefixes(alloc, kind, record)?;
+    let kind = read_kind(fields)?;
+    let name = read_name(alloc, kind, fields)?;
+    let value = read_value(alloc, kind, fields)?;
+    let prefixes = read_prefixes(alloc, kind, fields)?;
     Ok(Entry::of_parts(number, kind, name, value, prefixes))
 }
 
-fn read_kind(record: &Record) -> Result<Kind, RecordFaultKind>
-    ensures { result ≡ steps.kind_by (record_words.body record_words.type_name «record».now) }
+fn read_kind(fields: &[JarField]) -> Result<Kind, RecordFaultKind>
+    ensures { result ≡ steps.kind_by (record_words.body record_words.type_name fields.now) }
 {
-    match body(record, "Type") {
+    match body(fields, "Type") {
         Some(text) => kind_of(text).ok_or(RecordFaultKind::UnknownType),
         None => Err(RecordFaultKind::MissingType),
     }
@@ -65,12 +66,12 @@ fn name_field(kind: Kind) -> &'static str
     if is_whole_kind(kind) { "Tag" } else { "Subtag" }
 }
 
-fn read_name(alloc: Global, kind: Kind, record: &Record) -> Result<EntryName, RecordFaultKind>
-    ensures ok { IfOk result (steps.IsNameIn kind «record».now) }
+fn read_name(alloc: Global, kind: Kind, fields: &[JarField]) -> Result<EntryName, RecordFaultKind>
+    ensures ok { IfOk result (steps.IsNameIn kind fields.now) }
     ensures fits { IfOk result (FitsName kind) }
-    ensures err { IfErr result (IsNameFault kind «record».now) }
+    ensures err { IfErr result (IsNameFault kind fields.now) }
 {
-    let Some(text) = body(record, name_field(kind)) else {
+    let Some(text) = body(fields, name_field(kind)) else {
         return Err(RecordFaultKind::MissingName);
     };
     if !is_whole_kind(kind) {
@@ -164,13 +165,13 @@ fn is_range(kind: Kind, first: &Subtag, last: &Subtag) -> bool
 fn read_value(
     alloc: Global,
     kind: Kind,
-    record: &Record,
+    fields: &[JarField],
 ) -> Result<Option<EntryValue>, RecordFaultKind>
-    ensures ok { IfOk result (IsValueOf kind (record_words.body record_words.value_name «record».now)) }
+    ensures ok { IfOk result (IsValueOf kind (record_words.body record_words.value_name fields.now)) }
     ensures fits { IfOk result (λ value. IfSome value (FitsValue kind)) }
-    ensures err { IfErr result (IsValueFault kind «record».now) }
+    ensures err { IfErr result (IsValueFault kind fields.now) }
 {
-    match body(record, "Preferred-Value") {
+    match body(fields, "Preferred-Value") {
         Some(text) => Ok(Some(read_one_value(alloc, kind, text.as_bytes())?)),
         None => Ok(None),
     }
@@ -231,23 +232,27 @@ fn has_prefixes(kind: Kind) -> bool
     }
 }
 
-fn read_prefixes(alloc: Global, kind: Kind, record: &Record) -> Result<Vec<Prefix>, RecordFaultKind>
-    ensures ok { IfOk result (λ prefixes. record_words.prefixes_in kind «record».now ≡ Some prefixes.items) }
-    ensures err { IfErr result (IsPrefixFault kind «record».now) }
+fn read_prefixes(
+    alloc: Global,
+    kind: Kind,
+    fields: &[JarField],
+) -> Result<Vec<Prefix>, RecordFaultKind>
+    ensures ok { IfOk result (λ prefixes. record_words.prefixes_in kind fields.now ≡ Some prefixes.items) }
+    ensures err { IfErr result (IsPrefixFault kind fields.now) }
 {
     if has_prefixes(kind) {
-        read_all_prefixes(alloc, record)
+        read_all_prefixes(alloc, fields)
     } else {
         Ok(Vec::new(alloc))
     }
 }
 
-fn read_all_prefixes(alloc: Global, record: &Record) -> Result<Vec<Prefix>, RecordFaultKind>
-    ensures ok { IfOk result (λ prefixes. record_words.prefixes_of (record_words.bodies record_words.prefix_name «record».now) ≡ Some prefixes.items) }
-    ensures err { IfErr result (steps.IsPrefixesFault «record».now) }
+fn read_all_prefixes(alloc: Global, fields: &[JarField]) -> Result<Vec<Prefix>, RecordFaultKind>
+    ensures ok { IfOk result (λ prefixes. record_words.prefixes_of (record_words.bodies record_words.prefix_name fields.now) ≡ Some prefixes.items) }
+    ensures err { IfErr result (steps.IsPrefixesFault fields.now) }
 {
     let mut prefixes = Vec::new(alloc);
-    for field in record.fields() {
+    for field in fields {
         if is_called(field, "Prefix") {
             match read_prefix(alloc, field.body().as_bytes())? {
                 Some(prefix) => prefixes.push(prefix)?,

@@ -1,15 +1,16 @@
 //! The entries of a registry.
-ghost use Rattle.std.specs.Prelude.{◌≡◌, ◌≤◌, ◌∷◌, ◌++◌, [], length, IfOk, IfErr, OnOk};
+ghost use Rattle.std.specs.Prelude.{◌≡◌, ◌≤◌, length, IfOk, IfErr};
 ghost use Rattle.lt_registry.specs.Entries.{IsRegistry};
+ghost use Rattle.lt_registry.specs.ReadRegistry.{ReadsRegistry};
 ghost use Rattle.lt_registry.specs.Records.{HasEntries};
-ghost use Rattle.lt_registry.specs.RecordRefusals.{IsRecordRefusal, no_room};
+ghost use Rattle.lt_registry.specs.RecordRefusals.{IsRecordRefusal};
 
+use crate::drafts::{Draft, add_record};
 use crate::entries::Entry;
-use crate::faults::{RecordFault, RecordFaultKind};
-use crate::fields::is_header_at;
-use crate::records::read_entry;
-use lt_jar::Record;
+use crate::faults::{RecordFault, RegistryFault};
+use lt_jar::{Device, Record};
 use std::alloc::Global;
+use std::io::Read;
 use std::marker::Model;
 
 /// The entries of a registry in the order of the file.
@@ -40,15 +41,23 @@ impl Registry {
     {
         let mut entries = Vec::new(alloc);
         for (index, record) in records.iter().enumerate() {
-            let number = index as u32 + 1;
-            if !is_header_at(number, record) {
-                match read_entry(alloc, record, number) {
-                    Ok(entry) => put(&mut entries, entry, number)?,
-                    Err(kind) => return Err(RecordFault { kind, number }),
-                }
-            }
+            add_record(alloc, &mut entries, record.fields(), index as u32 + 1)?;
         }
         Ok(Registry { entries })
+    }
+
+    /// The entries of a file's records, which are read one by one to the end of what the device gives,
+    /// and the first of what is wrong, as `from_records` says it. A fault of the jar goes before one of
+    /// a record.
+    pub fn read<R: Read>(alloc: Global, device: &mut Device<R>) -> Result<Registry, RegistryFault>
+        ensures { ReadsRegistry R.remaining device.old device.new result }
+    {
+        let mut reader = device.records(alloc)?;
+        let mut draft = Draft::new(alloc);
+        'records: while draft.take_next(alloc, &mut reader)? {}
+        Ok(Registry {
+            entries: draft.finish()?,
+        })
     }
 
     /// The entries in the order of the file.
@@ -58,15 +67,4 @@ impl Registry {
     {
         self.entries.as_slice()
     }
-}
-
-/// Puts an entry behind the others.
-fn put(entries: &mut Vec<Entry>, entry: Entry, number: u32) -> Result<(), RecordFault>
-    ensures ok { OnOk result (entries.new.items ≡ entries.old.items ++ entry ∷ []) }
-    ensures err { IfErr result (λ fault. fault ≡ no_room number) }
-{
-    entries.push(entry).map_err(|_| RecordFault {
-        kind: RecordFaultKind::OutOfMemory,
-        number,
-    })
 }

@@ -1,4 +1,6 @@
 mod answers;
+mod hostile;
+mod reading;
 mod sample;
 
 use super::*;

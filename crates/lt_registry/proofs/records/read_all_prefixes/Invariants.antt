@@ -6,4 +6,4 @@ use Rattle.lt_registry.proofs.records.read_all_prefixes.Given as goal
 -- the Prefixes so far stand before those of the fields that are left
 abbrev pub invariant-loop-field : goal.invariant-loop-field
 invariant-loop-field l =
-    prefixes_of (bodies prefix_name l.record) ≡ after l.prefixes.items (prefixes_of (bodies prefix_name (drop l.field-index l.field-items)))
+    prefixes_of (bodies prefix_name l.fields) ≡ after l.prefixes.items (prefixes_of (bodies prefix_name (drop l.field-index l.fields)))

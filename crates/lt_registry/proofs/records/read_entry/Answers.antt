@@ -7,36 +7,36 @@ use Rattle.lt_registry.proofs.records.read_entry.Goals as goal
 pub returns-in_err-name-clause-err : goal.returns-in_err-name-clause-err
 returns-in_err-name-clause-err c =
     let p = err_from_is_err_and c.from_residual-in_err-name.result c.from_residual-in_err-name.ensures.1 in
-    let once : repeats_field c.args.record.now ≡ false = sym c.repeats_field.ensures ∙ c.if-repeats_field.false in
-    let kind : HasKind c.args.record.now c.in_ok-kind.kind = kind_there c.args.record.now c.in_ok-kind.kind (sym c.read_kind.ensures ∙ c.in_ok-kind.was) in
-    rw (p.1, p.2) (name_refused c.args.record.now c.in_ok-kind.kind once kind c.in_err-name.field-0.0 c.in_err-name.ensures.err)
+    let once : repeats_field c.args.fields.now ≡ false = sym c.repeats_field.ensures ∙ c.if-repeats_field.false in
+    let kind : HasKind c.args.fields.now c.in_ok-kind.kind = kind_there c.args.fields.now c.in_ok-kind.kind (sym c.read_kind.ensures ∙ c.in_ok-kind.was) in
+    rw (p.1, p.2) (name_refused c.args.fields.now c.in_ok-kind.kind once kind c.in_err-name.field-0.0 c.in_err-name.ensures.err)
 
 pub returns-in_err-value-clause-err : goal.returns-in_err-value-clause-err
 returns-in_err-value-clause-err c =
     let p = err_from_is_err_and c.from_residual-in_err-value.result c.from_residual-in_err-value.ensures.1 in
-    let once : repeats_field c.args.record.now ≡ false = sym c.repeats_field.ensures ∙ c.if-repeats_field.false in
-    let kind : HasKind c.args.record.now c.in_ok-kind.kind = kind_there c.args.record.now c.in_ok-kind.kind (sym c.read_kind.ensures ∙ c.in_ok-kind.was) in
-    rw (p.1, p.2) (value_refused c.args.record.now c.in_ok-kind.kind once kind c.in_ok-name.name c.in_ok-name.ensures.ok c.in_err-value.field-0.0 c.in_err-value.ensures.err)
+    let once : repeats_field c.args.fields.now ≡ false = sym c.repeats_field.ensures ∙ c.if-repeats_field.false in
+    let kind : HasKind c.args.fields.now c.in_ok-kind.kind = kind_there c.args.fields.now c.in_ok-kind.kind (sym c.read_kind.ensures ∙ c.in_ok-kind.was) in
+    rw (p.1, p.2) (value_refused c.args.fields.now c.in_ok-kind.kind once kind c.in_ok-name.name c.in_ok-name.ensures.ok c.in_err-value.field-0.0 c.in_err-value.ensures.err)
 
 pub returns-in_err-prefixes-clause-err : goal.returns-in_err-prefixes-clause-err
 returns-in_err-prefixes-clause-err c =
     let p = err_from_is_err_and c.from_residual-in_err-prefixes.result c.from_residual-in_err-prefixes.ensures.1 in
-    let once : repeats_field c.args.record.now ≡ false = sym c.repeats_field.ensures ∙ c.if-repeats_field.false in
-    let kind : HasKind c.args.record.now c.in_ok-kind.kind = kind_there c.args.record.now c.in_ok-kind.kind (sym c.read_kind.ensures ∙ c.in_ok-kind.was) in
-    rw (p.1, p.2) (prefix_refused c.args.record.now c.in_ok-kind.kind once kind c.in_ok-name.name c.in_ok-name.ensures.ok c.in_ok-value.value c.in_ok-value.ensures.ok c.in_err-prefixes.field-0.0 c.in_err-prefixes.ensures.err)
+    let once : repeats_field c.args.fields.now ≡ false = sym c.repeats_field.ensures ∙ c.if-repeats_field.false in
+    let kind : HasKind c.args.fields.now c.in_ok-kind.kind = kind_there c.args.fields.now c.in_ok-kind.kind (sym c.read_kind.ensures ∙ c.in_ok-kind.was) in
+    rw (p.1, p.2) (prefix_refused c.args.fields.now c.in_ok-kind.kind once kind c.in_ok-name.name c.in_ok-name.ensures.ok c.in_ok-value.value c.in_ok-value.ensures.ok c.in_err-prefixes.field-0.0 c.in_err-prefixes.ensures.err)
 
 pub of_parts-requires : goal.of_parts-requires
 of_parts-requires c = record {
   name = c.in_ok-name.ensures.fits;
   value = c.in_ok-value.ensures.fits;
-  prefixes = prefixes_fit c.in_ok-kind.kind c.args.record.now c.in_ok-prefixes.prefixes.items c.in_ok-prefixes.ensures.ok;
-  prefixed = prefixes_where c.in_ok-kind.kind c.args.record.now c.in_ok-prefixes.prefixes.items c.in_ok-prefixes.ensures.ok;
+  prefixes = prefixes_fit c.in_ok-kind.kind c.args.fields.now c.in_ok-prefixes.prefixes.items c.in_ok-prefixes.ensures.ok;
+  prefixed = prefixes_where c.in_ok-kind.kind c.args.fields.now c.in_ok-prefixes.prefixes.items c.in_ok-prefixes.ensures.ok;
 }
 
 pub returns-clause-ok : goal.returns-clause-ok
 returns-clause-ok c =
-    let once : repeats_field c.args.record.now ≡ false = sym c.repeats_field.ensures ∙ c.if-repeats_field.false in
-    let kind : HasKind c.args.record.now c.in_ok-kind.kind = kind_there c.args.record.now c.in_ok-kind.kind (sym c.read_kind.ensures ∙ c.in_ok-kind.was) in
+    let once : repeats_field c.args.fields.now ≡ false = sym c.repeats_field.ensures ∙ c.if-repeats_field.false in
+    let kind : HasKind c.args.fields.now c.in_ok-kind.kind = kind_there c.args.fields.now c.in_ok-kind.kind (sym c.read_kind.ensures ∙ c.in_ok-kind.was) in
     rw c.of_parts.ensures.value (record {
       numbered = refl;
       once = once;

@@ -1,0 +1,114 @@
+//! The registry that is being read.
+ghost use Rattle.std.specs.Prelude.{◌≡◌, ◌<◌, [], IfErr, OnOk, None};
+ghost use Rattle.lt_jar.specs.Sources.{lent_by};
+ghost use Rattle.lt_registry.specs.AddedRecords.{IsAdded, IsPut, IsRefusedAt, Takes, TakesNext, finished};
+ghost use Rattle.lt_registry.specs.Entries.{IsRegistry};
+ghost use Rattle.lt_registry.specs.RecordRefusals.{IsRefused};
+
+use crate::entries::Entry;
+use crate::faults::{RecordFault, RecordFaultKind};
+use crate::fields::is_header_at;
+use crate::records::read_entry;
+use lt_jar::{JarFault, JarField, JarReader};
+use std::alloc::Global;
+use std::io::Read;
+
+/// Puts the entry of the record of these fields behind the others; a header has none.
+pub(crate) fn add_record(
+    alloc: Global,
+    entries: &mut Vec<Entry>,
+    fields: &[JarField],
+    number: u32,
+) -> Result<(), RecordFault>
+    ensures ok { OnOk result (IsAdded fields.now number entries.old.items entries.new.items) }
+    ensures err { IfErr result (IsRefusedAt fields.now number) }
+{
+    if is_header_at(number, fields) {
+        return Ok(());
+    }
+    match add_entry(alloc, entries, fields, number) {
+        Ok(()) => Ok(()),
+        Err(kind) => Err(RecordFault { kind, number }),
+    }
+}
+
+/// Puts the entry of the record of these fields behind the others.
+fn add_entry(
+    alloc: Global,
+    entries: &mut Vec<Entry>,
+    fields: &[JarField],
+    number: u32,
+) -> Result<(), RecordFaultKind>
+    ensures ok { OnOk result (IsPut fields.now number entries.old.items entries.new.items) }
+    ensures err { IfErr result (IsRefused fields.now) }
+{
+    entries.push(read_entry(alloc, fields, number)?)?;
+    Ok(())
+}
+
+/// The entries of the records so far, and the first fault of a record.
+#[derive(Drop)]
+pub(crate) struct Draft {
+    entries: Vec<Entry>,
+    number: u32,
+    fault: Option<RecordFault>,
+}
+
+impl Draft {
+    pub(crate) fn new(alloc: Global) -> Draft
+        ensures entries { result.entries.items ≡ [] }
+        ensures number { result.number ≡ 0 }
+        ensures fault { result.fault ≡ None }
+    {
+        Draft {
+            entries: Vec::new(alloc),
+            number: 0,
+            fault: None,
+        }
+    }
+
+    /// Takes the next record. After a fault no more entries are made.
+    pub(crate) fn take(&mut self, alloc: Global, fields: &[JarField])
+        requires { self.old.number < 100000 }
+        ensures { Takes fields.now self.old self.new }
+    {
+        self.number += 1;
+        if self.fault.is_none() {
+            self.fault = add_record(alloc, &mut self.entries, fields, self.number).err();
+        }
+    }
+
+    /// Takes the next record of a reader, and tells whether there is one.
+    pub(crate) fn take_next<R: Read>(
+        &mut self,
+        alloc: Global,
+        reader: &mut JarReader<'_, R>,
+    ) -> Result<bool, JarFault>
+        requires { self.old.number ≡ lent_by reader.old.source }
+        ensures { TakesNext R.remaining reader.old reader.new self.old self.new result }
+    {
+        match reader.next() {
+            Ok(Some(record)) => {
+                self.take(alloc, record.fields());
+                Ok(true)
+            }
+            Ok(None) => Ok(false),
+            Err(fault) => Err(fault),
+        }
+    }
+
+    /// The entries, or the fault.
+    pub(crate) fn finish(self) -> Result<Vec<Entry>, RecordFault>
+        ensures { result ≡ finished self.entries self.fault }
+    {
+        let Draft {
+            entries,
+            number: _,
+            fault,
+        } = self;
+        match fault {
+            None => Ok(entries),
+            Some(fault) => Err(fault),
+        }
+    }
+}
