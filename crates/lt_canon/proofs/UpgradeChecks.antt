@@ -7,7 +7,7 @@ use Rattle.std.proofs.lemmas.Bool.{and_from}
 use Rattle.std.proofs.lemmas.List.Elements.{All-contains_itself}
 use Rattle.std.proofs.lemmas.Slice.Eq.{bytes_eq-Decides}
 use Rattle.lt_registry.specs.Parts.{EntryParts}
-use Rattle.lt_registry.specs.Entries.{value, one_of, value_or, entry, is_short, is_registered, language_value, prefixes, prefixes_of, lists}
+use Rattle.lt_registry.specs.Entries.{value, one_of, value_or, entry, is_short, is_registered, language_value, prefixes_of, lists}
 use Rattle.lt_registry.specs.Same.{same_kind, same_list}
 use Rattle.lt_registry.specs.declared.entries.Kind.{Kind}
 use Rattle.lt_registry.specs.declared.entries.Kind.TheVariants as kinds
@@ -17,7 +17,7 @@ use Rattle.lt_rewrite.specs.Conditions.{next_value}
 use Rattle.lt_rewrite.specs.ChainEnds.{ChainEnds, ChainEndsIn}
 use Rattle.lt_rewrite.proofs.Entries.{entry_has}
 use Rattle.lt_canon.specs.Upgrade.{SameEnd, StaysRegistered, KeepsKind, KeepsEnds, IsSameExtlang, IsSameTurn, HadTurn}
-use Rattle.lt_canon.specs.UpgradeChecking.{covers, is_among}
+use Rattle.lt_canon.specs.UpgradeChecking.{covers, covers_found, is_among}
 use Rattle.lt_canon.proofs.Deciding.{Decides-kind, Decides-list}
 use Rattle.lt_canon.proofs.RecordChecks.{one_end}
 use Rattle.lt_canon.proofs.UpgradeTests.{any_from, stays_test, stays_at_test, covered_test, Decides-stays, within_test, same_prefix_test, Decides-same_prefix, Decides-is_some}
@@ -34,6 +34,11 @@ pub found_covers : (B : List EntryParts) (k : Kind) (a b : List ℕ) (f : EntryP
 found_covers B k a b f found h =
     let p = entry_has B k a (Contains B) (All-contains_itself B) f found in
     any_from (λ (e : EntryParts). same_kind e.kind k && covers e.name a b) B f p.0 (and_from (same_kind f.kind k) (covers f.name a b) ((Decides-kind f.kind k).1 p.1.of_kind) h)
+
+-- the same, where it is said of the record that a look-up finds
+pub found_record_covers : (B : List EntryParts) (k : Kind) (a b : List ℕ) (o : Option EntryParts) → entry B k a ≡ o → covers_found o a b ≡ true → list_any (λ (e : EntryParts). same_kind e.kind k && covers e.name a b) B ≡ true
+found_record_covers B k a b None found h = absurd (cc)
+found_record_covers B k a b (Some f) found h = found_covers B k a b f found h
 
 -- the chain of a kind, but for extlangs
 

@@ -1,6 +1,6 @@
 -- The first record that does not meet a condition on an upgrade is the lowest at fault, and the conditions in their
 -- order.
-use Rattle.std.proofs.Common.{◌≡◌, ◌↔◌, ℕ, zero, suc, ◌+◌, ◌<◌, ◌≤◌, ◌⊎◌, inl, inr, Bool, true, false, ◌==◌, ◌&&◌, List, [], ◌∷◌, length, Some, All, Result, Ok, Err, IfOk, IsTrue, refl, sym, ap, ◌∙◌, subst, arith}
+use Rattle.std.proofs.Common.{◌≡◌, ◌↔◌, ℕ, zero, suc, ◌+◌, ◌<◌, ◌≤◌, ◌⊎◌, inl, inr, Bool, true, false, ◌==◌, ◌&&◌, List, [], ◌∷◌, length, All, Result, IfOk, IsTrue, refl, sym, ap, ◌∙◌, subst, arith}
 use Rattle.std.specs.Prelude.{Contains, slice_index_or}
 use Rattle.std.proofs.lemmas.Bool.{and_parts, eqb-true}
 use Rattle.std.proofs.lemmas.List.Elements.{All-contains}
@@ -10,7 +10,7 @@ use Rattle.lt_registry.specs.declared.entries.Kind.TheVariants as kinds
 use Rattle.lt_rewrite.specs.Conditions.{FitsAsExtlang}
 use Rattle.lt_canon.specs.Conditions.{IsChecked}
 use Rattle.lt_canon.specs.Upgrade.{MeetsUpgrade, records_of, upgrade_rank_of, Upgrades, IsAtUpgradeFault, IsUpgradeFinding}
-use Rattle.lt_canon.specs.UpgradeChecking.{is_of_newer, IsFirstAtUpgradeFault, IsLowestUpgradeFault, MeetsUpgradeBelow}
+use Rattle.lt_canon.specs.UpgradeChecking.{is_of_newer, IsFirstAtUpgradeFault, MeetsUpgradeBelow}
 use Rattle.lt_canon.specs.declared.conditions.Condition.TheVariants as conditions
 use Rattle.lt_canon.specs.declared.conditions.UpgradeCondition.{UpgradeCondition}
 use Rattle.lt_canon.specs.declared.conditions.UpgradeCondition.TheVariants as upgrades

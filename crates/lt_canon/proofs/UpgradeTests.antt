@@ -18,7 +18,7 @@ use Rattle.lt_rewrite.specs.Conditions.{next_value}
 use Rattle.lt_rewrite.proofs.Chains.{same_end}
 use Rattle.lt_rewrite.proofs.ChainLength.{chain_ends_within}
 use Rattle.lt_canon.specs.Upgrade.{SameEnd, IsCovered, StaysRegistered, KeepsKind, KeepsEnds, IsSameExtlang, KeepsExtlang, IsSameTurn, KeepsTurn, HadTurn}
-use Rattle.lt_canon.specs.UpgradeChecking.{covers, is_among}
+use Rattle.lt_canon.specs.UpgradeChecking.{covers}
 use Rattle.lt_canon.proofs.Deciding.{Decides-true, Decides-false, Decides-implies, Decides-none, Decides-kind, Decides-list}
 use Rattle.lt_canon.proofs.CoreTests.{same_prefixes, Decides-prefixes}
 

@@ -1,5 +1,5 @@
 -- Whether two tags reach one canonical tag by a newer registry.
-use Rattle.std.proofs.Common.{◌≡◌, ◌↔◌, inl, inr, ◌⊎◌, ℕ, Bool, true, false, List, Some, refl, sym, ap, ◌∙◌, subst, IsTrue}
+use Rattle.std.proofs.Common.{◌≡◌, ◌↔◌, inl, inr, Bool, true, false, List, Some, refl, sym, ap, ◌∙◌, subst, IsTrue}
 use Rattle.std.proofs.lemmas.List.Elements.{All-contains}
 use Rattle.std.specs.Prelude.{Contains}
 use Rattle.lt_tag.specs.Parts.{TagForm, Grandfathered}
@@ -12,7 +12,6 @@ use Rattle.lt_registry.specs.declared.entries.Kind.TheVariants as kinds
 use Rattle.lt_registry.specs.declared.entries.EntryName.TheVariants as names
 use Rattle.lt_rewrite.specs.Conditions.{FitsGrandfathered}
 use Rattle.lt_rewrite.specs.TagSteps.{IsReached, IsCanonical}
-use Rattle.lt_canon.specs.Answers.{IsCanonicalFormOf, IsCanonicalAnswer}
 use Rattle.lt_canon.specs.Conditions.{IsValidPlain, HasValidWhole, IsChecked}
 use Rattle.lt_canon.specs.Equivalence.{IsEquivalenceAnswer, IsRefusedWith, IsFirstRefusal}
 use Rattle.lt_canon.specs.Upgrade.{MeetInCanonical}

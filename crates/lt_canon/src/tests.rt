@@ -1,5 +1,6 @@
 mod answers;
 mod explanations;
+mod hostile;
 mod sample;
 mod traces;
 mod upgrades;

@@ -46,10 +46,9 @@ fn covers(name: &EntryName, first: &Subtag, last: &Subtag) -> bool
     }
 }
 
-/// Whether the record of a kind that a look-up of the first subtag finds names such a range. Then one
-/// does.
+/// Whether the record of a kind that a look-up of the first subtag finds names such a range.
 fn found_covers<L: Lookup>(newer: &L, kind: Kind, first: &Subtag, last: &Subtag) -> bool
-    ensures { IsTrue result → checks.some_covers (L.listed newer.now) kind first.now last.now ≡ true }
+    ensures { result ≡ checks.covers_found (entries.entry (L.listed newer.now) kind first.now) first.now last.now }
 {
     match newer.entry(kind, first) {
         Some(entry) => covers(entry.name(), first, last),

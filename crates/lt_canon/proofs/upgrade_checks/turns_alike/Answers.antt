@@ -1,4 +1,4 @@
-use Rattle.std.proofs.Common.{◌↔◌, ℕ, List, ◌≡◌, sym, ap, ◌∙◌, subst}
+use Rattle.std.proofs.Common.{ℕ, List, sym, ap, ◌∙◌}
 use Rattle.lt_registry.specs.Entries.{lists}
 use Rattle.lt_canon.proofs.UpgradeChecks.{turn_compared}
 use Rattle.lt_canon.proofs.upgrade_checks.turns_alike.Goals as goal

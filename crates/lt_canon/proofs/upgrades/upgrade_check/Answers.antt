@@ -1,4 +1,4 @@
-use Rattle.std.proofs.Common.{◌+◌, ℕ, Option, subst}
+use Rattle.std.proofs.Common.{◌+◌, subst}
 use Rattle.std.specs.Prelude.{slice_index_or}
 use Rattle.lt_canon.specs.UpgradeChecking.{IsLowestUpgradeFault}
 use Rattle.lt_canon.specs.declared.conditions.UpgradeCondition.TheVariants as upgrades
