@@ -19,6 +19,10 @@ use Rattle.lt_tool.specs.declared.faults.ToolFault.TheVariants as faults
 abbrev pub longest_kept : ℕ
 longest_kept = 1026
 
+-- Lines are written once so many bytes of them are owed, if no read comes before.
+abbrev pub full : ℕ
+full = 65536
+
 -- one where the test holds, else none
 abbrev pub one_if : Bool → ℕ
 one_if true = 1

@@ -14,15 +14,15 @@ use Rattle.lt_tag.specs.declared.tags.Class.TheVariants as classes
 use Rattle.lt_jar.specs.declared.devices.Device.{Device}
 use Rattle.lt_registry.specs.Parts.{EntryParts}
 use Rattle.lt_tool.specs.Codes.{code_of, fault_said}
-use Rattle.lt_tool.specs.Registries.{Checks, HoldsRegistry, RefusesRegistry}
+use Rattle.lt_tool.specs.Registries.{ByRegistry, Checks, HoldsRegistry, Reading, ReadsFile, RefusesRegistry}
 use Rattle.lt_tool.specs.Running.{RunsLines}
 use Rattle.lt_tool.specs.declared.faults.ToolFault.{ToolFault}
 use Rattle.lt_tool.specs.declared.runs.Counts.{Counts}
 use Rattle.lt_tool.specs.declared.lines.Answer.{Answer}
 use Rattle.lt_tag.specs.declared.faults.OutOfMemory.{OutOfMemory}
-use Rattle.lt_tool.specs.TagCommands.{ByRegistry, Compares, FormsExtlang}
+use Rattle.lt_tool.specs.TagCommands.{Compares, FormsExtlang}
 use Rattle.lt_tool.specs.Explanations.{Explains}
-use Rattle.lt_tool.specs.UpgradeCommand.{UpgradesFile}
+use Rattle.lt_tool.specs.UpgradeCommand.{UpgradesFiles}
 use Rattle.lt_tool.specs.Written.{LacksMemory, Prints, Says}
 use Rattle.lt_tool.specs.declared.status.Status.{Status}
 use Rattle.lt_tool.specs.declared.status.Status.TheVariants as status
@@ -79,43 +79,48 @@ EndsRun errors errors' (Ok counts) result =
     Keeps errors errors' × (result ≡ code_of (if counts.refused == 0 then status.Done else status.Refused))
 EndsRun errors errors' (Err fault) result = Says errors errors' (fault_said fault) × (result ≡ code_of status.Failed)
 
--- the line for a file that holds no registry that passes
-abbrev pub Refuses : List ℕ → List ℕ → Status → Type 0
-Refuses file line end = RefusesRegistry file line × (end ≡ status.RegistryRefused)
-
 -- the lines of the input were answered by the registry of the file
-pub record RunsCanon {I O : Type 0} (remaining : I → Option (List ℕ)) (contents : O → Option (List ℕ)) (file : List ℕ)
+pub record RunsCanon {I O : Type 0} (remaining : I → Option (List ℕ)) (contents : O → Option (List ℕ)) (reading : Reading)
     (input input' : Device I) (output output' : Device O) (errors errors' : Option (List ℕ)) (result : ℕ) : Type 0 where
   pub entries : List EntryParts
-  pub registry : HoldsRegistry file entries
+  pub registry : HoldsRegistry reading entries
   pub end : Result Counts ToolFault
   pub runs : RunsLines entries remaining contents input input' output output' end
   pub ends : EndsRun errors errors' end result
 
--- what a run of `canon` wrote
-abbrev pub Canonicalises : {I O : Type 0} → (I → Option (List ℕ)) → (O → Option (List ℕ)) → List ℕ → (input input' : Device I) → (output output' : Device O)
-    → (errors errors' : Option (List ℕ)) → ℕ → Type 0
-Canonicalises remaining contents file input input' output output' errors errors' result =
-    ((input' ≡ input) × PrintsOrLacks contents (Refuses file) output output' errors errors' result)
-    ⊎ RunsCanon remaining contents file input input' output output' errors errors' result
+-- what a run of `canon` wrote, by what the reading of the file gave
+abbrev pub Canonicalises : {I O : Type 0} → (I → Option (List ℕ)) → (O → Option (List ℕ)) → (input input' : Device I) → (output output' : Device O)
+    → (errors errors' : Option (List ℕ)) → ℕ → Reading → Type 0
+Canonicalises remaining contents input input' output output' errors errors' result reading =
+    ((input' ≡ input) × PrintsOrLacks contents (RefusesRegistry reading) output output' errors errors' result)
+    ⊎ RunsCanon remaining contents reading input input' output output' errors errors' result
 
--- what a run of a command wrote to its output and its errors, and its exit status
-abbrev pub Performs : {I O : Type 0} → (I → Option (List ℕ)) → (O → Option (List ℕ)) → Command → (first second : List ℕ) → (input input' : Device I) → (output output' : Device O)
-    → (errors errors' : Option (List ℕ)) → ℕ → Type 0
-Performs remaining contents (command.Classify tag) first second input input' output output' errors errors' result =
-    (input' ≡ input) × PrintsOrLacks contents (Classifies (string_bytes tag)) output output' errors errors' result
-Performs remaining contents (command.Check name) first second input input' output output' errors errors' result =
-    (input' ≡ input) × PrintsOrLacks contents (Checks first) output output' errors errors' result
-Performs remaining contents (command.Canon name) first second input input' output output' errors errors' result =
-    Canonicalises remaining contents first input input' output output' errors errors' result
-Performs remaining contents (command.Extlang name tag) first second input input' output output' errors errors' result =
-    (input' ≡ input) × PrintsOrLacks contents (ByRegistry first (λ R. FormsExtlang R (string_bytes tag))) output output' errors errors' result
-Performs remaining contents (command.Equal name tag other) first second input input' output output' errors errors' result =
-    (input' ≡ input) × PrintsOrLacks contents (ByRegistry first (λ R. Compares R (string_bytes tag) (string_bytes other))) output output' errors errors' result
-Performs remaining contents (command.Explain name tag) first second input input' output output' errors errors' result =
-    (input' ≡ input) × PrintsOrLacks contents (ByRegistry first (λ R. Explains R (string_bytes tag))) output output' errors errors' result
-Performs remaining contents (command.Upgrade old new) first second input input' output output' errors errors' result =
-    (input' ≡ input) × PrintsOrLacks contents (UpgradesFile first second) output output' errors errors' result
+-- a run that leaves the second file and the input alone, and by what the reading of the first gave prints a line of which this holds
+abbrev pub PrintsByFile : {F G I O : Type 0} → (F → Option (List ℕ)) → (O → Option (List ℕ)) → (Reading → List ℕ → Status → Type 0)
+    → (first first' : Device F) → (second second' : Device G) → (input input' : Device I) → (output output' : Device O) → (errors errors' : Option (List ℕ)) → ℕ → Type 0
+PrintsByFile remaining contents IsAnswer first first' second second' input input' output output' errors errors' result =
+    (second' ≡ second) × (input' ≡ input)
+    × ReadsFile remaining first first' (λ reading. PrintsOrLacks contents (IsAnswer reading) output output' errors errors' result)
+
+-- what a run of a command read of the files and of its input, what it wrote to its output and its errors, and its exit status
+abbrev pub Performs : {F G I O : Type 0} → (F → Option (List ℕ)) → (G → Option (List ℕ)) → (I → Option (List ℕ)) → (O → Option (List ℕ)) → Command
+    → (first first' : Device F) → (second second' : Device G) → (input input' : Device I) → (output output' : Device O) → (errors errors' : Option (List ℕ)) → ℕ → Type 0
+Performs of_first of_second remaining contents (command.Classify tag) first first' second second' input input' output output' errors errors' result =
+    (first' ≡ first) × (second' ≡ second) × (input' ≡ input)
+    × PrintsOrLacks contents (Classifies (string_bytes tag)) output output' errors errors' result
+Performs of_first of_second remaining contents (command.Check name) first first' second second' input input' output output' errors errors' result =
+    PrintsByFile of_first contents Checks first first' second second' input input' output output' errors errors' result
+Performs of_first of_second remaining contents (command.Canon name) first first' second second' input input' output output' errors errors' result =
+    (second' ≡ second) × ReadsFile of_first first first' (Canonicalises remaining contents input input' output output' errors errors' result)
+Performs of_first of_second remaining contents (command.Extlang name tag) first first' second second' input input' output output' errors errors' result =
+    PrintsByFile of_first contents (ByRegistry (λ R. FormsExtlang R (string_bytes tag))) first first' second second' input input' output output' errors errors' result
+Performs of_first of_second remaining contents (command.Equal name tag other) first first' second second' input input' output output' errors errors' result =
+    PrintsByFile of_first contents (ByRegistry (λ R. Compares R (string_bytes tag) (string_bytes other))) first first' second second' input input' output output' errors errors' result
+Performs of_first of_second remaining contents (command.Explain name tag) first first' second second' input input' output output' errors errors' result =
+    PrintsByFile of_first contents (ByRegistry (λ R. Explains R (string_bytes tag))) first first' second second' input input' output output' errors errors' result
+Performs of_first of_second remaining contents (command.Upgrade old new) first first' second second' input input' output output' errors errors' result =
+    (input' ≡ input)
+    × UpgradesFiles of_first of_second first first' second second' (λ IsAnswer. PrintsOrLacks contents IsAnswer output output' errors errors' result)
 
 -- a run whose words are not those of a command says why on its errors
 pub record SaysUsage {O : Type 0} (output output' : Device O) (errors errors' : Option (List ℕ)) (text : List ℕ) (result : ℕ) : Type 0 where

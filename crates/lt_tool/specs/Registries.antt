@@ -1,58 +1,58 @@
 -- The registry that a file holds, and why it is refused.
-use Rattle.std.specs.Prelude.{◌≡◌, ℕ, List, [], ◌∷◌, ◌++◌, Some, codes, length}
+use Rattle.std.specs.Prelude.{◌≡◌, ◌≢◌, ◌⊎◌, ℕ, List, [], ◌∷◌, ◌++◌, Option, Result, Ok, Err, IfOk, codes, length}
 use Rattle.std.specs.Fmt.{decimal}
-use Rattle.lt_jar.specs.Faults as jar
 use Rattle.lt_jar.specs.Names as jar_names
-use Rattle.lt_jar.specs.Records.{Field, HasRecords}
-use Rattle.lt_jar.specs.Views.{fault_in}
+use Rattle.lt_jar.specs.declared.devices.Device.{Device}
 use Rattle.lt_jar.specs.declared.faults.JarFaultKind.{JarFaultKind}
+use Rattle.lt_jar.specs.declared.faults.JarFaultKind.TheVariants as jar_kinds
+use Rattle.lt_tag.specs.declared.faults.OutOfMemory.{OutOfMemory}
 use Rattle.lt_registry.specs.Names as record_names
 use Rattle.lt_registry.specs.Parts.{EntryParts}
-use Rattle.lt_registry.specs.Records.{HasEntries, IsFirstRecordFault}
-use Rattle.lt_registry.specs.declared.faults.RecordFaultKind.{RecordFaultKind}
+use Rattle.lt_registry.specs.ReadRegistry.{ReadsRegistry}
+use Rattle.lt_registry.specs.declared.faults.RecordFaultKind.TheVariants as record_kinds
+use Rattle.lt_registry.specs.declared.faults.RegistryFault.{RegistryFault}
+use Rattle.lt_registry.specs.declared.faults.RegistryFault.TheVariants as faults
 use Rattle.lt_canon.specs.declared.conditions.Condition.{Condition}
 use Rattle.lt_canon.specs.Codes as condition_codes
 use Rattle.lt_canon.specs.Conditions.{IsChecked, IsFinding}
+use Rattle.lt_tool.specs.declared.lines.Answer.{Answer}
 use Rattle.lt_tool.specs.declared.registries.RegistryRefusal.{RegistryRefusal}
 use Rattle.lt_tool.specs.declared.registries.RegistryRefusal.TheVariants as refusals
 use Rattle.lt_tool.specs.declared.status.Status.{Status}
 use Rattle.lt_tool.specs.declared.status.Status.TheVariants as status
 
--- the entries of the file
-pub record HoldsEntries (file : List ℕ) (entries : List EntryParts) : Type 0 where
-  pub records : List (List Field)
-  pub has : HasRecords file records
-  pub gives : HasEntries records entries
+-- what a reading of a file gave: the entries, or why there are none
+abbrev pub Reading : Type 0
+Reading = Result (List EntryParts) RegistryFault
 
--- the entries of the file, which pass the check
-pub record HoldsRegistry (file : List ℕ) (entries : List EntryParts) : Type 0 where
-  pub holds : HoldsEntries file entries
+-- A file was read, and this holds of what the reading gave. `ReadsRegistry` says what that is for the bytes that were read.
+pub record ReadsFile {F : Type 0} (remaining : F → Option (List ℕ)) (file file' : Device F) (Holds : Reading → Type 0) : Type 0 where
+  pub reading : Reading
+  pub reads : ReadsRegistry remaining file file' reading
+  pub holds : Holds reading
+
+-- the file holds these entries, which pass the check
+pub record HoldsRegistry (reading : Reading) (entries : List EntryParts) : Type 0 where
+  pub gave : reading ≡ Ok entries
   pub checked : IsChecked entries
 
--- the lowest line at which anything is wrong
-pub record HasJarFault (file : List ℕ) (kind : JarFaultKind) (line : ℕ) : Type 0 where
-  pub fault : jar.Fault
-  pub kind_is : fault_in kind ≡ Some fault
-  pub there : jar.IsTheFault 0 file fault line
-
--- the lowest record that has a fault
-pub record HasRecordFault (file : List ℕ) (kind : RecordFaultKind) (number : ℕ) : Type 0 where
-  pub records : List (List Field)
-  pub has : HasRecords file records
-  pub first : IsFirstRecordFault records kind number
-
 -- the lowest condition that fails, and there the lowest record
-pub record FailsCheck (file : List ℕ) (condition : Condition) (number : ℕ) : Type 0 where
+pub record FailsCheck (reading : Reading) (condition : Condition) (number : ℕ) : Type 0 where
   pub entries : List EntryParts
-  pub holds : HoldsEntries file entries
+  pub gave : reading ≡ Ok entries
   pub finding : IsFinding entries condition number
 
 -- why the file holds no registry that passes; want of memory aside
-abbrev pub IsRegistryRefusal : List ℕ → RegistryRefusal → Type 0
-IsRegistryRefusal file (refusals.Jar fault) = HasJarFault file fault.kind fault.line
-IsRegistryRefusal file (refusals.Record fault) = HasRecordFault file fault.kind fault.number
-IsRegistryRefusal file (refusals.Check finding) = FailsCheck file finding.condition finding.number
-IsRegistryRefusal file refusals.OutOfMemory = Unit {0}
+abbrev pub IsRegistryRefusal : Reading → RegistryRefusal → Type 0
+IsRegistryRefusal reading (refusals.Jar fault) = (reading ≡ Err (faults.Jar fault)) × (fault.kind ≢ jar_kinds.OutOfMemory)
+IsRegistryRefusal reading (refusals.Record fault) = (reading ≡ Err (faults.Record fault)) × (fault.kind ≢ record_kinds.OutOfMemory)
+IsRegistryRefusal reading (refusals.Check finding) = FailsCheck reading finding.condition finding.number
+IsRegistryRefusal reading refusals.OutOfMemory = Unit {0}
+
+-- the file holds a registry that passes, or is refused
+abbrev pub IsJudged : Reading → Result (List EntryParts) RegistryRefusal → Type 0
+IsJudged reading (Ok entries) = HoldsRegistry reading entries
+IsJudged reading (Err refusal) = IsRegistryRefusal reading refusal
 
 -- ---- what is printed
 
@@ -72,22 +72,37 @@ IsRegistryLine (refusals.Record fault) line = line ≡ record_line fault.number 
 IsRegistryLine (refusals.Check finding) line = line ≡ check_line (condition_codes.code_of finding.condition) finding.number
 IsRegistryLine refusals.OutOfMemory line = ⊥
 
--- the file is refused, and this line says why
-pub record RefusesRegistry (file line : List ℕ) : Type 0 where
+-- how a run ends on such a fault: a file that could not be read to its end is no registry that was refused
+abbrev pub jar_end : JarFaultKind → Status
+jar_end jar_kinds.Read = status.Failed
+jar_end jar_kinds.TooManyTurns = status.Failed
+jar_end kind = status.RegistryRefused
+
+-- how a run ends that has refused a registry so
+abbrev pub refused_end : RegistryRefusal → Status
+refused_end (refusals.Jar fault) = jar_end fault.kind
+refused_end refusal = status.RegistryRefused
+
+-- the file is refused, this line says why, and the run ends so
+pub record RefusesRegistry (reading : Reading) (line : List ℕ) (end : Status) : Type 0 where
   pub refusal : RegistryRefusal
-  pub is_refusal : IsRegistryRefusal file refusal
+  pub is_refusal : IsRegistryRefusal reading refusal
   pub line_is : IsRegistryLine refusal line
+  pub ends : end ≡ refused_end refusal
 
--- the number of the entries of a registry that passes
-pub record CountsEntries (file line : List ℕ) : Type 0 where
-  pub entries : List EntryParts
-  pub registry : HoldsRegistry file entries
-  pub line_is : line ≡ codes "ok " ++ decimal (length entries) ++ 10 ∷ []
+-- the file holds a registry by which a line is an answer, and the run ends so; or the file is refused
+abbrev pub ByRegistry : (List EntryParts → List ℕ → Status → Type 0) → Reading → List ℕ → Status → Type 0
+ByRegistry IsAnswer reading line end =
+    ((R : List EntryParts) × HoldsRegistry reading R × IsAnswer R line end) ⊎ RefusesRegistry reading line end
 
--- what `check` prints for a file, and how it ends
-abbrev pub Checks : List ℕ → List ℕ → Status → Type 0
-Checks file line status.Done = CountsEntries file line
-Checks file line status.RegistryRefused = RefusesRegistry file line
-Checks file line status.Refused = ⊥
-Checks file line status.Usage = ⊥
-Checks file line status.Failed = ⊥
+-- what `check` prints for a registry that passes: the number of its entries
+abbrev pub CountsEntries : List EntryParts → List ℕ → Status → Type 0
+CountsEntries R line end = (line ≡ codes "ok " ++ decimal (length R) ++ 10 ∷ []) × (end ≡ status.Done)
+
+-- what `check` prints, and how it ends
+abbrev pub Checks : Reading → List ℕ → Status → Type 0
+Checks = ByRegistry CountsEntries
+
+-- a file was read, and by what the reading gave the answer is this, unless memory was wanting for it
+abbrev pub Answers : {F : Type 0} → (F → Option (List ℕ)) → (file file' : Device F) → (Reading → List ℕ → Status → Type 0) → Result Answer OutOfMemory → Type 0
+Answers remaining file file' IsAnswer answer = ReadsFile remaining file file' (λ reading. IfOk answer (λ a. IsAnswer reading a.line.items a.status))

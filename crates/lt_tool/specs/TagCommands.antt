@@ -1,4 +1,4 @@
--- What the commands on one or two tags print, by the registry of a file.
+-- What the commands on one or two tags print by a registry.
 use Rattle.std.specs.Prelude.{◌≡◌, ◌⊎◌, ℕ, Bool, true, false, List, [], ◌∷◌, ◌++◌, codes}
 use Rattle.lt_tag.specs.Conventional.{conventional}
 use Rattle.lt_tag.specs.Faults.{HasFault, HasTag}
@@ -12,7 +12,6 @@ use Rattle.lt_canon.specs.declared.refusals.Refusal.TheVariants as tag_refusals
 use Rattle.lt_canon.specs.declared.refusals.TextRefusal.{TextRefusal}
 use Rattle.lt_canon.specs.declared.refusals.TextRefusal.TheVariants as refusals
 use Rattle.lt_tool.specs.Owed.{IsRefusalLine, RefusesText}
-use Rattle.lt_tool.specs.Registries.{HoldsRegistry, RefusesRegistry}
 use Rattle.lt_tool.specs.declared.status.Status.{Status}
 use Rattle.lt_tool.specs.declared.status.Status.TheVariants as status
 
@@ -80,8 +79,3 @@ Compares R first second line status.Refused = PrintsEquality R first second line
 Compares R first second line status.RegistryRefused = ⊥
 Compares R first second line status.Usage = ⊥
 Compares R first second line status.Failed = ⊥
-
--- a file holds a registry by which a line is an answer, and the run ends so; or the file is refused
-abbrev pub ByRegistry : List ℕ → (List EntryParts → List ℕ → Status → Type 0) → List ℕ → Status → Type 0
-ByRegistry file IsAnswer line end =
-    ((R : List EntryParts) × HoldsRegistry file R × IsAnswer R line end) ⊎ (RefusesRegistry file line × (end ≡ status.RegistryRefused))

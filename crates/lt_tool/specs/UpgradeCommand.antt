@@ -1,11 +1,12 @@
 -- What `upgrade` prints for the files of two registries, and how it ends.
-use Rattle.std.specs.Prelude.{◌≡◌, ◌⊎◌, ℕ, List, [], ◌∷◌, ◌++◌, codes}
+use Rattle.std.specs.Prelude.{◌≡◌, ◌⊎◌, ℕ, List, [], ◌∷◌, ◌++◌, Option, codes}
 use Rattle.std.specs.Fmt.{decimal}
 use Rattle.lt_registry.specs.Parts.{EntryParts}
 use Rattle.lt_canon.specs.Codes.{upgrade_code_of}
 use Rattle.lt_canon.specs.Upgrade.{Upgrades, IsUpgradeFinding}
 use Rattle.lt_canon.specs.declared.conditions.UpgradeCondition.{UpgradeCondition}
-use Rattle.lt_tool.specs.Registries.{HoldsRegistry, RefusesRegistry, IsRegistryLine}
+use Rattle.lt_jar.specs.declared.devices.Device.{Device}
+use Rattle.lt_tool.specs.Registries.{HoldsRegistry, IsRegistryLine, Reading, ReadsFile, RefusesRegistry}
 use Rattle.lt_tool.specs.declared.registries.RegistryRefusal.{RegistryRefusal}
 use Rattle.lt_tool.specs.declared.status.Status.{Status}
 use Rattle.lt_tool.specs.declared.status.Status.TheVariants as status
@@ -20,10 +21,10 @@ pub record IsMarkedLine (mark : List ℕ) (refusal : RegistryRefusal) (line : Li
   pub line_is : IsRegistryLine refusal rest
   pub marked : line ≡ mark ++ rest
 
--- a registry is refused, and this line says which and why
-pub record RefusesMarked (mark file line : List ℕ) : Type 0 where
+-- a registry is refused, this line says which and why, and the run ends so
+pub record RefusesMarked (mark : List ℕ) (reading : Reading) (line : List ℕ) (end : Status) : Type 0 where
   pub rest : List ℕ
-  pub refuses : RefusesRegistry file rest
+  pub refuses : RefusesRegistry reading rest end
   pub marked : line ≡ mark ++ rest
 
 abbrev pub old_mark : List ℕ
@@ -52,22 +53,14 @@ JudgesUpgrade A B line status.Refused = ⊥
 JudgesUpgrade A B line status.Usage = ⊥
 JudgesUpgrade A B line status.Failed = ⊥
 
--- both files hold registries that pass
-pub record JudgesRegistries (old new line : List ℕ) (end : Status) : Type 0 where
-  pub older : List EntryParts
-  pub older_registry : HoldsRegistry old older
-  pub newer : List EntryParts
-  pub newer_registry : HoldsRegistry new newer
-  pub judges : JudgesUpgrade older newer line end
+-- what is printed by an older registry that passes and the reading of a newer one, and how the run ends
+abbrev pub JudgesNewer : List EntryParts → Reading → List ℕ → Status → Type 0
+JudgesNewer A newer line end =
+    ((B : List EntryParts) × HoldsRegistry newer B × JudgesUpgrade A B line end) ⊎ RefusesMarked new_mark newer line end
 
--- the older file holds a registry that passes, and the newer one is refused
-pub record RefusesNew (old new line : List ℕ) : Type 0 where
-  pub older : List EntryParts
-  pub older_registry : HoldsRegistry old older
-  pub refuses : RefusesMarked new_mark new line
-
--- The older file is judged first, then the newer one, and then the upgrade.
-abbrev pub UpgradesFile : List ℕ → List ℕ → List ℕ → Status → Type 0
-UpgradesFile old new line end =
-    JudgesRegistries old new line end
-    ⊎ ((RefusesMarked old_mark old line ⊎ RefusesNew old new line) × (end ≡ status.RegistryRefused))
+-- The older file is read and judged first. Where it is refused, the newer one is left as it is.
+abbrev pub UpgradesFiles : {F G : Type 0} → (F → Option (List ℕ)) → (G → Option (List ℕ)) → (old old' : Device F) → (new new' : Device G)
+    → ((List ℕ → Status → Type 0) → Type 0) → Type 0
+UpgradesFiles remaining remaining' old old' new new' IsAnswered = ReadsFile remaining old old' (λ older.
+    ((new' ≡ new) × IsAnswered (RefusesMarked old_mark older))
+    ⊎ ((A : List EntryParts) × HoldsRegistry older A × ReadsFile remaining' new new' (λ newer. IsAnswered (JudgesNewer A newer))))

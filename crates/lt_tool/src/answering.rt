@@ -118,7 +118,8 @@ impl Answering {
 
     /// Writes what is owed if it is much.
     fn write_much<W: Write>(&mut self, output: &mut Device<W>) -> Result<(), ToolFault>
-        ensures { spec.WritesOwed W.contents self.old self.new output.old output.new result }
+        ensures writes { spec.WritesOwed W.contents self.old self.new output.old output.new result }
+        ensures emptied { OnOk result (spec.full ≤ vec_len self.old.owed → self.new.owed.items ≡ []) }
     {
         if self.owed.len() < FULL {
             return Ok(());

@@ -2,6 +2,7 @@
 ghost use Rattle.std.specs.Prelude.{◌≡◌};
 ghost use Rattle.lt_tool.specs.Codes.{code_of};
 ghost use Rattle.lt_tool.specs.Written.{Prints, Says, file_line, memory_line};
+ghost use Rattle.lt_tool.specs.Registries.{ReadsFile};
 ghost use Rattle.lt_tool.specs.Printed.{Canonicalises, EndsRun, Performs, PrintsResult, Reports};
 ghost use Rattle.lt_tool.specs.declared.status.Status.TheVariants.{Failed};
 
@@ -89,15 +90,15 @@ fn print_answer<O: Write, E: Write>(
 }
 
 /// Answers the lines of the input by the registry of a file.
-fn canon<I: Read, O: Write, E: Write>(
+fn canon<F: Read, I: Read, O: Write, E: Write>(
     alloc: Global,
-    file: &[u8],
+    file: &mut Device<F>,
     input: &mut Device<I>,
     output: &mut Device<O>,
     errors: &mut E,
 ) -> Status
-    ensures { Canonicalises I.remaining O.contents file.now input.old input.new output.old output.new
-        (E.contents errors.old) (E.contents errors.new) (code_of result) }
+    ensures { ReadsFile F.remaining file.old file.new (Canonicalises I.remaining O.contents input.old input.new
+        output.old output.new (E.contents errors.old) (E.contents errors.new) (code_of result)) }
 {
     match read_registry(alloc, file) {
         Ok(checked) => end_run(run_lines(alloc, &checked, input, output), errors),
@@ -106,17 +107,17 @@ fn canon<I: Read, O: Write, E: Write>(
 }
 
 /// Does what a command asks for, and tells how the run ended.
-fn run<I: Read, O: Write, E: Write>(
+fn run<F: Read, G: Read, I: Read, O: Write, E: Write>(
     alloc: Global,
     command: &Command,
-    first: &[u8],
-    second: &[u8],
+    first: &mut Device<F>,
+    second: &mut Device<G>,
     input: &mut Device<I>,
     output: &mut Device<O>,
     errors: &mut E,
 ) -> Status
-    ensures { Performs I.remaining O.contents command.now first.now second.now input.old input.new output.old output.new
-        (E.contents errors.old) (E.contents errors.new) (code_of result) }
+    ensures { Performs F.remaining G.remaining I.remaining O.contents command.now first.old first.new second.old second.new
+        input.old input.new output.old output.new (E.contents errors.old) (E.contents errors.new) (code_of result) }
 {
     match command {
         Command::Classify(tag) => print_answer(classify(alloc, tag.as_bytes()), output, errors),
@@ -138,21 +139,22 @@ fn run<I: Read, O: Write, E: Write>(
 
 /// Does what a command asks for, and answers the exit status.
 ///
-/// `first` and `second` are the bytes of the files that the command names, in order, and empty where it names
-/// none. The answer is written to `output` at once; `canon` answers the lines of `input` as they come. A write to
-/// `output` that fails, a read of `input` that fails, and want of memory are named on `errors`; a write there that
-/// fails is ignored.
-pub fn perform<I: Read, O: Write, E: Write>(
+/// `first` and `second` are the files that the command names, in order; one that it does not name is left as it is,
+/// and so is the second of `upgrade` where the first is refused. A file is read record by record, up to its end or
+/// the first line at fault. The answer is written to `output` at once; `canon` answers the lines of `input` as they
+/// come. A read of a file that fails, or is one too many, is answered as a fault of the file. A write to `output` that
+/// fails, a read of `input` that fails, and want of memory are named on `errors`; a write there that fails is ignored.
+pub fn perform<F: Read, G: Read, I: Read, O: Write, E: Write>(
     alloc: Global,
     command: &Command,
-    first: &[u8],
-    second: &[u8],
+    first: &mut Device<F>,
+    second: &mut Device<G>,
     input: &mut Device<I>,
     output: &mut Device<O>,
     errors: &mut E,
 ) -> u8
-    ensures { Performs I.remaining O.contents command.now first.now second.now input.old input.new output.old output.new
-        (E.contents errors.old) (E.contents errors.new) result }
+    ensures { Performs F.remaining G.remaining I.remaining O.contents command.now first.old first.new second.old second.new
+        input.old input.new output.old output.new (E.contents errors.old) (E.contents errors.new) result }
 {
     run(alloc, command, first, second, input, output, errors).code()
 }

@@ -1,20 +1,20 @@
 //! The registry that a command names.
-ghost use Rattle.std.specs.Prelude.{◌≡◌, IfErr, IfOk};
-ghost use Rattle.lt_tool.specs.Registries.{Checks, HoldsEntries, HoldsRegistry, IsRegistryLine, IsRegistryRefusal, RefusesRegistry};
-ghost use Rattle.lt_tool.specs.declared.status.Status.TheVariants.{RegistryRefused};
+ghost use Rattle.std.specs.Prelude.{◌≡◌, Err, IfOk, Ok};
+ghost use Rattle.lt_tool.specs.Registries.{Answers, Checks, CountsEntries, IsJudged, IsRegistryLine, IsRegistryRefusal, ReadsFile, refused_end};
 
 use crate::lines::Answer;
 use crate::status::Status;
 use lt_canon::{Checked, Finding, RejectedCause};
-use lt_jar::{JarFault, JarFaultKind, read_jar};
-use lt_registry::{Lookup, RecordFault, RecordFaultKind, Registry, SortedTable};
+use lt_jar::{Device, JarFault, JarFaultKind};
+use lt_registry::{Lookup, RecordFault, RecordFaultKind, Registry, RegistryFault, SortedTable};
 use lt_tag::OutOfMemory;
 use std::alloc::Global;
+use std::io::Read;
 
 /// Why a file holds no registry that passes the check.
 #[derive(Debug, Drop)]
 pub(crate) enum RegistryRefusal {
-    /// The file is not in the format of a registry.
+    /// The file is not in the format of a registry, or was not read to its end.
     Jar(JarFault),
     /// A record gives no entry.
     Record(RecordFault),
@@ -24,36 +24,44 @@ pub(crate) enum RegistryRefusal {
     OutOfMemory,
 }
 
-/// The entries of a file.
-fn read_entries(alloc: Global, file: &[u8]) -> Result<Registry, RegistryRefusal>
-    ensures ok { IfOk result (HoldsEntries file.now) }
-    ensures err { IfErr result (IsRegistryRefusal file.now) }
-{
-    let jar = match read_jar(alloc, file) {
-        Ok(jar) => jar,
-        Err(fault) if fault.kind == JarFaultKind::OutOfMemory => {
-            return Err(RegistryRefusal::OutOfMemory);
+impl RegistryRefusal {
+    /// How a run ends that has refused a registry so.
+    pub(crate) fn status(&self) -> Status
+        ensures { result ≡ refused_end self.now }
+    {
+        match self {
+            RegistryRefusal::Jar(
+                JarFault {
+                    kind: JarFaultKind::Read | JarFaultKind::TooManyTurns,
+                    line: _,
+                },
+            ) => Status::Failed,
+            _ => Status::RegistryRefused,
         }
-        Err(fault) => return Err(RegistryRefusal::Jar(fault)),
-    };
-    match Registry::from_records(alloc, &jar.records) {
-        Ok(registry) => Ok(registry),
-        Err(fault) if fault.kind == RecordFaultKind::OutOfMemory => {
-            Err(RegistryRefusal::OutOfMemory)
-        }
-        Err(fault) => Err(RegistryRefusal::Record(fault)),
     }
 }
 
-/// The entries of a file, which pass the check.
-pub(crate) fn read_registry(
-    alloc: Global,
-    file: &[u8],
-) -> Result<Checked<SortedTable>, RegistryRefusal>
-    ensures ok { IfOk result (HoldsRegistry file.now) }
-    ensures err { IfErr result (IsRegistryRefusal file.now) }
+impl From<RegistryFault> for RegistryRefusal {
+    ghost from_gives = { λ fault refusal. IsRegistryRefusal (Err fault) refusal };
+
+    fn from(fault: RegistryFault) -> RegistryRefusal {
+        match fault {
+            RegistryFault::Jar(fault) if fault.kind == JarFaultKind::OutOfMemory => {
+                RegistryRefusal::OutOfMemory
+            }
+            RegistryFault::Jar(fault) => RegistryRefusal::Jar(fault),
+            RegistryFault::Record(fault) if fault.kind == RecordFaultKind::OutOfMemory => {
+                RegistryRefusal::OutOfMemory
+            }
+            RegistryFault::Record(fault) => RegistryRefusal::Record(fault),
+        }
+    }
+}
+
+/// The entries, if they pass the check.
+fn check_entries(alloc: Global, registry: Registry) -> Result<Checked<SortedTable>, RegistryRefusal>
+    ensures { IsJudged (Ok registry) result }
 {
-    let registry = read_entries(alloc, file)?;
     let Ok(table) = SortedTable::new(alloc, registry) else {
         return Err(RegistryRefusal::OutOfMemory);
     };
@@ -63,6 +71,19 @@ pub(crate) fn read_registry(
             RejectedCause::Finding(finding) => RegistryRefusal::Check(finding),
             RejectedCause::OutOfMemory => RegistryRefusal::OutOfMemory,
         }),
+    }
+}
+
+/// The entries of a file, which pass the check.
+pub(crate) fn read_registry<F: Read>(
+    alloc: Global,
+    file: &mut Device<F>,
+) -> Result<Checked<SortedTable>, RegistryRefusal>
+    ensures { ReadsFile F.remaining file.old file.new (λ reading. IsJudged reading result) }
+{
+    match Registry::read(alloc, file) {
+        Ok(registry) => check_entries(alloc, registry),
+        Err(fault) => Err(RegistryRefusal::from(fault)),
     }
 }
 
@@ -94,27 +115,32 @@ pub(crate) fn line_of_refusal(
 /// What is answered where a registry is refused.
 pub(crate) fn refuse(alloc: Global, refusal: &RegistryRefusal) -> Result<Answer, OutOfMemory>
     ensures line { IfOk result (λ answer. IsRegistryLine refusal.now answer.line.items) }
-    ensures status { IfOk result (λ answer. answer.status ≡ RegistryRefused) }
+    ensures status { IfOk result (λ answer. answer.status ≡ refused_end refusal.now) }
 {
     Ok(Answer {
         line: line_of_refusal(alloc, refusal)?,
-        status: Status::RegistryRefused,
+        status: refusal.status(),
+    })
+}
+
+/// What `check` answers by a registry that passes.
+fn count_entries<L: Lookup>(alloc: Global, checked: &Checked<L>) -> Result<Answer, OutOfMemory>
+    ensures { IfOk result (λ answer. CountsEntries (L.listed checked.now) answer.line.items answer.status) }
+{
+    let count = checked.table().entries().len();
+    let line = format!(in alloc; "ok {count}\n")?;
+    Ok(Answer {
+        line: line.into_bytes(),
+        status: Status::Done,
     })
 }
 
 /// What `check` answers to a file.
-pub(crate) fn check(alloc: Global, file: &[u8]) -> Result<Answer, OutOfMemory>
-    ensures { IfOk result (λ answer. Checks file.now answer.line.items answer.status) }
+pub(crate) fn check<F: Read>(alloc: Global, file: &mut Device<F>) -> Result<Answer, OutOfMemory>
+    ensures { Answers F.remaining file.old file.new Checks result }
 {
     match read_registry(alloc, file) {
-        Ok(checked) => {
-            let count = checked.table().entries().len();
-            let line = format!(in alloc; "ok {count}\n")?;
-            Ok(Answer {
-                line: line.into_bytes(),
-                status: Status::Done,
-            })
-        }
+        Ok(checked) => count_entries(alloc, &checked),
         Err(refusal) => refuse(alloc, &refusal),
     }
 }

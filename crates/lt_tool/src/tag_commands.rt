@@ -3,7 +3,8 @@ ghost use Rattle.std.specs.Prelude.{◌≡◌, IfOk, IfErr};
 ghost use Rattle.lt_canon.specs.Texts.{IsTextRefusal};
 ghost use Rattle.lt_tool.specs.Explanations.{Explains};
 ghost use Rattle.lt_tool.specs.Owed.{IsRefusalLine};
-ghost use Rattle.lt_tool.specs.TagCommands.{ByRegistry, Compares, FormsExtlang, IsEqualityOf, IsExtlangTextOf, IsPairRefusal};
+ghost use Rattle.lt_tool.specs.Registries.{Answers, ByRegistry};
+ghost use Rattle.lt_tool.specs.TagCommands.{Compares, FormsExtlang, IsEqualityOf, IsExtlangTextOf, IsPairRefusal};
 ghost use Rattle.lt_tool.specs.declared.status.Status.TheVariants.{Refused};
 
 use crate::answer_lines::append_refusal;
@@ -12,9 +13,11 @@ use crate::lines::Answer;
 use crate::registries::{read_registry, refuse};
 use crate::status::Status;
 use lt_canon::{Checked, TextRefusal, equivalent, extlang_form};
+use lt_jar::Device;
 use lt_registry::Lookup;
 use lt_tag::{OutOfMemory, read_tag, write_tag};
 use std::alloc::Global;
+use std::io::Read;
 
 /// What is answered where a text is refused.
 fn answer_refusal(alloc: Global, refusal: &TextRefusal) -> Result<Answer, OutOfMemory>
@@ -115,8 +118,12 @@ fn answer_explain<L: Lookup>(
 }
 
 /// What `extlang` answers to a file and a text.
-pub(crate) fn extlang(alloc: Global, file: &[u8], text: &[u8]) -> Result<Answer, OutOfMemory>
-    ensures { IfOk result (λ answer. ByRegistry file.now (λ R. FormsExtlang R text.now) answer.line.items answer.status) }
+pub(crate) fn extlang<F: Read>(
+    alloc: Global,
+    file: &mut Device<F>,
+    text: &[u8],
+) -> Result<Answer, OutOfMemory>
+    ensures { Answers F.remaining file.old file.new (ByRegistry (λ R. FormsExtlang R text.now)) result }
 {
     match read_registry(alloc, file) {
         Ok(checked) => answer_extlang(alloc, &checked, text),
@@ -125,13 +132,13 @@ pub(crate) fn extlang(alloc: Global, file: &[u8], text: &[u8]) -> Result<Answer,
 }
 
 /// What `equal` answers to a file and two texts.
-pub(crate) fn equal(
+pub(crate) fn equal<F: Read>(
     alloc: Global,
-    file: &[u8],
+    file: &mut Device<F>,
     first: &[u8],
     second: &[u8],
 ) -> Result<Answer, OutOfMemory>
-    ensures { IfOk result (λ answer. ByRegistry file.now (λ R. Compares R first.now second.now) answer.line.items answer.status) }
+    ensures { Answers F.remaining file.old file.new (ByRegistry (λ R. Compares R first.now second.now)) result }
 {
     match read_registry(alloc, file) {
         Ok(checked) => answer_equal(alloc, &checked, first, second),
@@ -140,8 +147,12 @@ pub(crate) fn equal(
 }
 
 /// What `explain` answers to a file and a text.
-pub(crate) fn explain(alloc: Global, file: &[u8], text: &[u8]) -> Result<Answer, OutOfMemory>
-    ensures { IfOk result (λ answer. ByRegistry file.now (λ R. Explains R text.now) answer.line.items answer.status) }
+pub(crate) fn explain<F: Read>(
+    alloc: Global,
+    file: &mut Device<F>,
+    text: &[u8],
+) -> Result<Answer, OutOfMemory>
+    ensures { Answers F.remaining file.old file.new (ByRegistry (λ R. Explains R text.now)) result }
 {
     match read_registry(alloc, file) {
         Ok(checked) => answer_explain(alloc, &checked, text),

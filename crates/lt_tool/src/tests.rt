@@ -117,6 +117,9 @@ fn first_files(rt: HostRuntime) {
     }
 }
 
+/// What a command reads that names no file.
+const NO_FILE: &[u8] = &[];
+
 /// Whether the words name a command that prints this of a file and of the lines of the input, writes nothing to
 /// the errors, and ends so.
 fn prints(
@@ -134,8 +137,8 @@ fn prints(
     let end = perform(
         alloc,
         &command,
-        file,
-        &[],
+        &mut Device::new(file),
+        &mut Device::new(NO_FILE),
         &mut Device::new(lines),
         &mut Device::new(&mut output),
         &mut errors,
@@ -232,9 +235,15 @@ impl Write for Broken {
 
 /// The status of a command whose output is broken.
 fn perform_broken<E: Write>(alloc: Global, command: &Command, fails: bool, errors: &mut E) -> u8 {
-    let mut input = Device::new(io::empty());
-    let mut output = Device::new(Broken { fails });
-    perform(alloc, command, &[], &[], &mut input, &mut output, errors)
+    perform(
+        alloc,
+        command,
+        &mut Device::new(NO_FILE),
+        &mut Device::new(NO_FILE),
+        &mut Device::new(io::empty()),
+        &mut Device::new(Broken { fails }),
+        errors,
+    )
 }
 
 /// Whether a text's class meets a write that fails, which the errors name where they can.

@@ -1,15 +1,17 @@
 //! What is answered to the files of two registries.
 ghost use Rattle.std.specs.Prelude.{◌≡◌, IfOk};
-ghost use Rattle.lt_tool.specs.UpgradeCommand.{IsMarkedLine, JudgesUpgrade, UpgradesFile};
-ghost use Rattle.lt_tool.specs.declared.status.Status.TheVariants.{RegistryRefused};
+ghost use Rattle.lt_tool.specs.Registries.{Answers, refused_end};
+ghost use Rattle.lt_tool.specs.UpgradeCommand.{IsMarkedLine, JudgesNewer, JudgesUpgrade, UpgradesFiles};
 
 use crate::lines::Answer;
 use crate::registries::{RegistryRefusal, line_of_refusal, read_registry};
 use crate::status::Status;
 use lt_canon::{Checked, UpgradeFault, upgrade_check};
+use lt_jar::Device;
 use lt_registry::Lookup;
 use lt_tag::OutOfMemory;
 use std::alloc::Global;
+use std::io::Read;
 
 /// What is answered where a registry is refused, behind a mark that says which it is.
 fn refuse_marked(
@@ -18,7 +20,7 @@ fn refuse_marked(
     refusal: &RegistryRefusal,
 ) -> Result<Answer, OutOfMemory>
     ensures line { IfOk result (λ answer. IsMarkedLine mark.now refusal.now answer.line.items) }
-    ensures status { IfOk result (λ answer. answer.status ≡ RegistryRefused) }
+    ensures status { IfOk result (λ answer. answer.status ≡ refused_end refusal.now) }
 {
     let rest = line_of_refusal(alloc, refusal)?;
     let mut line = Vec::new(alloc);
@@ -26,7 +28,7 @@ fn refuse_marked(
     line.extend_from_slice(&rest)?;
     Ok(Answer {
         line,
-        status: Status::RegistryRefused,
+        status: refusal.status(),
     })
 }
 
@@ -58,16 +60,32 @@ fn answer_upgrade<A: Lookup, B: Lookup>(
     }
 }
 
-/// What `upgrade` answers to two files. The older one is judged first.
-pub(crate) fn upgrade(alloc: Global, old: &[u8], new: &[u8]) -> Result<Answer, OutOfMemory>
-    ensures { IfOk result (λ answer. UpgradesFile old.now new.now answer.line.items answer.status) }
+/// What `upgrade` answers to the file of a newer registry by an older one that passes.
+fn judge_newer<A: Lookup, G: Read>(
+    alloc: Global,
+    older: &Checked<A>,
+    new: &mut Device<G>,
+) -> Result<Answer, OutOfMemory>
+    ensures { Answers G.remaining new.old new.new (JudgesNewer (A.listed older.now)) result }
 {
-    let older = match read_registry(alloc, old) {
-        Ok(checked) => checked,
-        Err(refusal) => return refuse_marked(alloc, b"old ", &refusal),
-    };
     match read_registry(alloc, new) {
-        Ok(newer) => answer_upgrade(alloc, &older, &newer),
+        Ok(newer) => answer_upgrade(alloc, older, &newer),
         Err(refusal) => refuse_marked(alloc, b"new ", &refusal),
+    }
+}
+
+/// What `upgrade` answers to two files. The older one is read and judged first; where it is refused, the newer one
+/// is not read.
+pub(crate) fn upgrade<F: Read, G: Read>(
+    alloc: Global,
+    old: &mut Device<F>,
+    new: &mut Device<G>,
+) -> Result<Answer, OutOfMemory>
+    ensures { UpgradesFiles F.remaining G.remaining old.old old.new new.old new.new
+        (λ IsAnswer. IfOk result (λ answer. IsAnswer answer.line.items answer.status)) }
+{
+    match read_registry(alloc, old) {
+        Ok(older) => judge_newer(alloc, &older, new),
+        Err(refusal) => refuse_marked(alloc, b"old ", &refusal),
     }
 }

@@ -1,12 +1,12 @@
 //! The commands that read a registry: `check` and `canon`.
 use super::sample::{FOLDED, push_record, sample_text};
-use super::{prints, read};
+use super::{NO_FILE, prints, read};
 use crate::{ToolFault, perform, run_lines};
 use lt_canon::Checked;
-use lt_jar::{Device, read_jar};
+use lt_jar::{Device, Pieces, read_jar};
 use lt_registry::{Registry, SortedTable};
 use std::alloc::{AllocError, Global};
-use std::io::{self, ErrorKind, Read, Write};
+use std::io::{self, ErrorKind, Write};
 use std::test::Fail;
 
 /// The lines of a run, CR LF and a last line without a line end among them.
@@ -85,27 +85,6 @@ fn lines_are_answered(rt: HostRuntime) -> Result<(), Fail> {
     Ok(())
 }
 
-/// A reader that gives some bytes at a time, and fails at a call.
-#[derive(Drop)]
-struct Pieces<'a> {
-    bytes: &'a [u8],
-    piece: usize,
-    calls_left: usize,
-}
-
-impl Read for Pieces<'_> {
-    fn read(&mut self, buf: &mut [u8]) -> io::Result<usize> {
-        if self.calls_left == 0 {
-            return Err(io::Error::from(ErrorKind::Interrupted));
-        }
-        self.calls_left -= 1;
-        let count = self.piece.min(self.bytes.len()).min(buf.len());
-        buf[..count].copy_from_slice(&self.bytes[..count]);
-        self.bytes = &self.bytes[count..];
-        Ok(count)
-    }
-}
-
 fn checked(alloc: Global) -> Result<Option<Checked<SortedTable>>, AllocError> {
     let sample = sample_text(alloc, "\n", "")?;
     let Ok(jar) = read_jar(alloc, sample.as_bytes()) else {
@@ -120,18 +99,18 @@ fn checked(alloc: Global) -> Result<Option<Checked<SortedTable>>, AllocError> {
     Ok(Checked::new(alloc, table).ok())
 }
 
-/// The length of the pieces that a reader gives, the calls before it fails, what is written of a run over its
+/// The length of the pieces that a reader gives, the call at which it fails, what is written of a run over its
 /// lines, and whether the run reaches their end.
-const READS: [(usize, usize, &str, bool); 9] = [
+const READS: [(usize, u64, &str, bool); 9] = [
     (1, 64, OWED, true),
     (2, 64, OWED, true),
     (3, 64, OWED, true),
     (7, 64, OWED, true),
     (64, 64, OWED, true),
-    (4, 0, "", false),
-    (4, 2, "yue\n", false),
-    (4, 3, "yue\n! UnknownLanguage 1\n! EmptySubtag 1\n", false),
+    (4, 1, "", false),
+    (4, 3, "yue\n", false),
     (4, 4, "yue\n! UnknownLanguage 1\n! EmptySubtag 1\n", false),
+    (4, 5, "yue\n! UnknownLanguage 1\n! EmptySubtag 1\n", false),
 ];
 
 /// Whether a run over a reader's lines writes this, and reaches their end or names the read that failed.
@@ -156,12 +135,8 @@ fn lines_in_pieces(rt: HostRuntime) -> Result<(), Fail> {
     let Some(checked) = checked(rt.alloc())? else {
         panic!(rt; "the sample does not pass");
     };
-    for (piece, calls_left, owed, at_end) in &READS {
-        let reader = Pieces {
-            bytes: LINES,
-            piece: *piece,
-            calls_left: *calls_left,
-        };
+    for (piece, call, owed, at_end) in &READS {
+        let reader = Pieces::once(LINES, *piece).failing_at(*call);
         assert!(rt; answers(rt.alloc(), &checked, reader, owed, *at_end));
     }
     Ok(())
@@ -222,29 +197,30 @@ fn writes_of_a_run_that_fail(rt: HostRuntime) -> Result<(), Fail> {
     Ok(())
 }
 
-/// Whether `canon` over a reader and a writer of which one fails writes this before, and names the failure.
-fn names(alloc: Global, file: &str, calls_left: (usize, usize), owed: &str, named: &[u8]) -> bool {
+/// Whether `canon` over a reader that fails at a call, and a writer that fails after so many, writes this before,
+/// and names the failure.
+fn names(
+    alloc: Global,
+    file: &str,
+    call: u64,
+    writes_left: usize,
+    owed: &str,
+    named: &[u8],
+) -> bool {
     let Ok(command) = read(alloc, &["canon", "registry"]) else {
         return false;
     };
     let (mut taken, mut errors) = (Vec::new(alloc), Vec::new(alloc));
-    let mut input = Device::new(Pieces {
-        bytes: LINES,
-        piece: 4,
-        calls_left: calls_left.0,
-    });
-    let mut output = Device::new(Narrow {
-        taken: &mut taken,
-        calls_left: calls_left.1,
-    });
-    let file = file.as_bytes();
     let end = perform(
         alloc,
         &command,
-        file,
-        &[],
-        &mut input,
-        &mut output,
+        &mut Device::new(file.as_bytes()),
+        &mut Device::new(NO_FILE),
+        &mut Device::new(Pieces::once(LINES, 4).failing_at(call)),
+        &mut Device::new(Narrow {
+            taken: &mut taken,
+            calls_left: writes_left,
+        }),
         &mut errors,
     );
     end == 4 && taken.as_slice() == owed.as_bytes() && errors.as_slice() == named
@@ -253,7 +229,64 @@ fn names(alloc: Global, file: &str, calls_left: (usize, usize), owed: &str, name
 #[test]
 fn failures_of_canon(rt: HostRuntime) -> Result<(), Fail> {
     let sample = sample_text(rt.alloc(), "\n", "")?;
-    assert!(rt; names(rt.alloc(), &sample, (2, 64), "yue\n", b"! Read\n"));
-    assert!(rt; names(rt.alloc(), &sample, (64, 1), "yue\n", b"! Write\n"));
+    assert!(rt; names(rt.alloc(), &sample, 3, 64, "yue\n", b"! Read\n"));
+    assert!(rt; names(rt.alloc(), &sample, 64, 1, "yue\n", b"! Write\n"));
+    Ok(())
+}
+
+/// Whether a command prints this of the registry of a reader, ends so, and leaves the input alone.
+fn prints_of_reader(alloc: Global, name: &str, registry: Pieces, shown: &str, status: u8) -> bool {
+    let Ok(command) = read(alloc, &[name, "registry"]) else {
+        return false;
+    };
+    let (mut output, mut errors) = (Vec::new(alloc), Vec::new(alloc));
+    let mut input = Device::new(Pieces::once(LINES, 4).failing_at(1));
+    let end = perform(
+        alloc,
+        &command,
+        &mut Device::new(registry),
+        &mut Device::new(NO_FILE),
+        &mut input,
+        &mut Device::new(&mut output),
+        &mut errors,
+    );
+    end == status
+        && errors.is_empty()
+        && output.as_slice() == shown.as_bytes()
+        && input.failures() == 0
+}
+
+/// How many bytes a reader of a registry gives in a call.
+const PIECE: usize = 64;
+
+/// The line that the program prints where a read fails behind these bytes.
+fn read_line(alloc: Global, front: &[u8]) -> Result<String, AllocError> {
+    let line = front.split(|byte| *byte == b'\n').count();
+    format!(in alloc; "jar Read line {line}\n")
+}
+
+/// Whether the commands name the line that was being read where the reads behind these bytes of a registry fail.
+fn names_read(alloc: Global, registry: &[u8], front: &[u8], call: u64) -> Result<bool, AllocError> {
+    let line = read_line(alloc, front)?;
+    let reader = || Pieces::once(registry, PIECE).failing_at(call);
+    Ok(
+        prints_of_reader(alloc, "check", reader(), &line, 4)
+            && prints_of_reader(alloc, "canon", reader(), &line, 4),
+    )
+}
+
+#[test]
+fn reads_of_a_registry_that_fail(rt: HostRuntime) -> Result<(), Fail> {
+    let sample = sample_text(rt.alloc(), "\n", "")?;
+    let registry = sample.as_bytes();
+    for index in 0..registry.len().div_ceil(PIECE) {
+        let front = registry
+            .get(..index.saturating_mul(PIECE))
+            .unwrap_or(registry);
+        let call = (index as u64).saturating_add(1);
+        assert!(rt; names_read(rt.alloc(), registry, front, call)?);
+    }
+    let whole = Pieces::once(registry, PIECE);
+    assert!(rt; prints_of_reader(rt.alloc(), "check", whole, "ok 46\n", 0));
     Ok(())
 }

@@ -2,7 +2,7 @@
 use super::read;
 use super::sample::{changed_text, push_record, sample_text};
 use crate::{Command, WordsFault, perform};
-use lt_jar::Device;
+use lt_jar::{Device, Pieces};
 use std::alloc::Global;
 use std::io;
 use std::test::Fail;
@@ -16,8 +16,8 @@ fn prints(alloc: Global, old: &[u8], new: &[u8], shown: &str, status: u8) -> boo
     let end = perform(
         alloc,
         &command,
-        old,
-        new,
+        &mut Device::new(old),
+        &mut Device::new(new),
         &mut Device::new(io::empty()),
         &mut Device::new(&mut output),
         &mut errors,
@@ -84,6 +84,78 @@ fn registries_of_an_upgrade_that_are_refused(rt: HostRuntime) -> Result<(), Fail
             b"Subtag: en",
             "new record 1 MissingType\n",
             2
+        )
+    );
+    Ok(())
+}
+
+/// A file of one record that gives no entry.
+const NAMELESS: &[u8] = b"Type: language";
+
+/// Whether `upgrade`, with a read that fails in one of the files, prints this and fails; and whether it has read the
+/// newer file then.
+fn fails(
+    alloc: Global,
+    old: Pieces,
+    new: Pieces,
+    shown: &str,
+    status: u8,
+    newer_is_read: bool,
+) -> bool {
+    let Ok(command) = read(alloc, &["upgrade", "old", "new"]) else {
+        return false;
+    };
+    let (mut output, mut errors) = (Vec::new(alloc), Vec::new(alloc));
+    let mut new = Device::new(new);
+    let end = perform(
+        alloc,
+        &command,
+        &mut Device::new(old),
+        &mut new,
+        &mut Device::new(io::empty()),
+        &mut Device::new(&mut output),
+        &mut errors,
+    );
+    end == status
+        && errors.is_empty()
+        && output.as_slice() == shown.as_bytes()
+        && newer_is_read == (new.failures() > 0)
+}
+
+#[test]
+fn reads_of_an_upgrade_that_fail(rt: HostRuntime) -> Result<(), Fail> {
+    let sample = sample_text(rt.alloc(), "\n", "")?;
+    let broken = || Pieces::once(b"", 1).failing_at(1);
+    let whole = Pieces::once(sample.as_bytes(), 64);
+    assert!(rt;
+        fails(
+            rt.alloc(),
+            whole,
+            broken(),
+            "new jar Read line 1\n",
+            4,
+            true
+        )
+    );
+    assert!(rt;
+        fails(
+            rt.alloc(),
+            broken(),
+            broken(),
+            "old jar Read line 1\n",
+            4,
+            false
+        )
+    );
+    let refused = Pieces::once(NAMELESS, 64);
+    assert!(rt;
+        fails(
+            rt.alloc(),
+            refused,
+            broken(),
+            "old record 1 MissingName\n",
+            2,
+            false
         )
     );
     Ok(())

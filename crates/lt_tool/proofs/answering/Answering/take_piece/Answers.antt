@@ -18,7 +18,7 @@ returns-in_err-write_much g c =
     let p = err_from_is_err_and c.from_residual-in_err-write_much.result c.from_residual-in_err-write_much.ensures.1 in
     let split : IsOneLine c.in-Some.line.now × (c.loop-line.rest.now ≡ c.in-Some.line.now ++ 10 ∷ c.in-Some.after.now) = c.in-Some.ensures in
     rw (p.1, p.2) (turn_breaks R g.W.Write.contents c.args.piece.now c.loop-line.rest.now c.in-Some.line.now c.in-Some.after.now c.args.self.now c.loop-line.self c.end_line.new.self c.write_much.new.self
-    c.args.output.now c.loop-line.output c.write_much.new.output c.in_err-write_much.field-0.0 c.loop-line.invariant split.1 split.0 c.in_ok-end_line.ensures.taken c.in_err-write_much.ensures)
+    c.args.output.now c.loop-line.output c.write_much.new.output c.in_err-write_much.field-0.0 c.loop-line.invariant split.1 split.0 c.in_ok-end_line.ensures.taken c.in_err-write_much.ensures.writes)
 
 pub loop-line-preserved : goal.loop-line-preserved
 loop-line-preserved g c =
@@ -26,7 +26,7 @@ loop-line-preserved g c =
     let split : IsOneLine c.in-Some.line.now × (c.loop-line.rest.now ≡ c.in-Some.line.now ++ 10 ∷ c.in-Some.after.now) = c.in-Some.ensures in
     let counted = c.in_ok-end_line.ensures.counted in
     turn_next R g.W.Write.contents c.args.piece.now c.loop-line.rest.now c.in-Some.line.now c.in-Some.after.now c.args.self.now c.loop-line.self c.end_line.new.self c.write_much.new.self
-    c.args.output.now c.loop-line.output c.write_much.new.output c.loop-line.invariant split.1 split.0 c.in_ok-end_line.ensures.taken counted.0 counted.1 c.in_ok-write_much.ensures
+    c.args.output.now c.loop-line.output c.write_much.new.output c.loop-line.invariant split.1 split.0 c.in_ok-end_line.ensures.taken counted.0 counted.1 c.in_ok-write_much.ensures.writes
 
 pub returns-in_err-keep : goal.returns-in_err-keep
 returns-in_err-keep g c =
