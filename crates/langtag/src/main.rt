@@ -3,9 +3,13 @@
 
 use lt_jar::Device;
 use lt_tool::{Command, WordsFault, perform, read_words, report, report_file};
+use std::io::Read;
 use std::process::ExitCode;
-use std::rt::{Env, Files};
+use std::rt::Env;
 use std::{env, fs, io};
+
+/// What is read where a command names no file.
+const NO_FILE: &[u8] = &[];
 
 /// The words of the command line, the program's name first.
 fn words(rt: &(impl Env + AllocGlobal)) -> Result<Vec<String>, WordsFault> {
@@ -16,18 +20,35 @@ fn words(rt: &(impl Env + AllocGlobal)) -> Result<Vec<String>, WordsFault> {
     }
 }
 
-/// The bytes of a file, and none where there is none.
-fn read_file(rt: &(impl Files + AllocGlobal), path: Option<&str>) -> io::Result<Vec<u8>> {
-    match path {
-        Some(path) => fs::read(rt, path),
-        None => Ok(Vec::new(rt.alloc())),
-    }
+/// Does what a command asks for by its files, and answers the exit status.
+fn run<F: Read + Drop, G: Read + Drop>(
+    rt: &HostRuntime,
+    command: &Command,
+    first: F,
+    second: G,
+) -> u8 {
+    perform(
+        rt.alloc(),
+        command,
+        &mut Device::new(first),
+        &mut Device::new(second),
+        &mut Device::new(rt.stdin()),
+        &mut Device::new(rt.stdout()),
+        &mut rt.stderr(),
+    )
 }
 
-/// The bytes of the files that a command names, in order.
-fn files_of(rt: &(impl Files + AllocGlobal), command: &Command) -> io::Result<(Vec<u8>, Vec<u8>)> {
-    let first = read_file(rt, command.first_file())?;
-    Ok((first, read_file(rt, command.second_file())?))
+/// Opens the files that a command names, in order, and does what it asks for.
+fn run_on_files(rt: &HostRuntime, command: &Command) -> io::Result<u8> {
+    let Some(first) = command.first_file() else {
+        return Ok(run(rt, command, NO_FILE, NO_FILE));
+    };
+    let first = fs::open(rt, first)?;
+    let Some(second) = command.second_file() else {
+        return Ok(run(rt, command, first, NO_FILE));
+    };
+    let second = fs::open(rt, second)?;
+    Ok(run(rt, command, first, second))
 }
 
 fn main(rt: HostRuntime) -> ExitCode {
@@ -36,19 +57,8 @@ fn main(rt: HostRuntime) -> ExitCode {
         Ok(command) => command,
         Err(fault) => return ExitCode::from(report(&fault, &mut output, &mut errors)),
     };
-    let status = match files_of(&rt, &command) {
-        Ok((first, second)) => {
-            let mut input = Device::new(rt.stdin());
-            perform(
-                rt.alloc(),
-                &command,
-                &first,
-                &second,
-                &mut input,
-                &mut output,
-                &mut errors,
-            )
-        }
+    let status = match run_on_files(&rt, &command) {
+        Ok(status) => status,
         Err(error) if error.kind() == io::ErrorKind::OutOfMemory => {
             report(&WordsFault::OutOfMemory, &mut output, &mut errors)
         }
