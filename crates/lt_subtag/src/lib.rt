@@ -169,8 +169,8 @@ impl Subtag {
         is_alphabetic(bytes) && bytes.len() == 2 || is_numeric(bytes) && bytes.len() == 3
     }
 
-    /// Whether it has the form of a variant: 5 to 8 letters or digits, or a digit and 3 letters or
-    /// digits (RFC 5646, 2.2.5).
+    /// Whether it has the form of a variant: 5 or more letters or digits, or 4 of which the first is a
+    /// digit (RFC 5646, 2.2.5).
     #[tactic(auto, unfolding(crate::specs::Shapes::is_variant))]
     pub fn is_variant(&self) -> bool
         ensures { result ≡ shapes.is_variant self.now }
@@ -179,7 +179,7 @@ impl Subtag {
         5 <= bytes.len() || bytes.len() == 4 && bytes[0].is_ascii_digit()
     }
 
-    /// Whether it is a singleton: one digit, or one letter other than `x` (RFC 5646, 2.2.6).
+    /// Whether it is a singleton: a single digit or letter, but not `x` (RFC 5646, 2.2.6).
     #[tactic(auto, unfolding(crate::specs::Shapes::is_single, crate::specs::Shapes::is_singleton))]
     pub fn is_singleton(&self) -> bool
         ensures { result ≡ shapes.is_singleton self.now }

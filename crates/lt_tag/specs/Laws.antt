@@ -37,6 +37,6 @@ TextOfTagIsReadAgain = (tag : TagForm) → IsTag tag → length (conventional (s
 abbrev pub SameTextForSameTag : Type 0
 SameTextForSameTag = (a b : TagForm) → IsTag a → IsTag b → (conventional (spell a) ≡ conventional (spell b)) ↔ (a ≡ b)
 
--- Two texts that have lists are printed alike exactly if they differ in letter case alone.
+-- Two texts that have lists are printed alike exactly where nothing but letter case tells them apart.
 abbrev pub PrintedAlikeForSameLetters : Type 0
 PrintedAlikeForSameLetters = (a b : List ℕ) → HasList a → HasList b → (conventional (list_of a) ≡ conventional (list_of b)) ↔ (folded a ≡ folded b)

@@ -38,7 +38,7 @@ abbrev pub source_of_list : List (List ℕ) → Option (Option CoreParts)
 source_of_list [] = Some None
 source_of_list (s ∷ ss) = option_map Some (core_of_list (s ∷ ss))
 
--- one or more subtags of 3 to 8
+-- at least one, each of 3 to 8 letters or digits
 abbrev pub are_values : List (List ℕ) → Bool
 are_values values = nat_lt 0 (length values) && list_all is_long values
 

@@ -61,7 +61,7 @@ fn are_long(subtags: &[Subtag]) -> bool
     subtags.iter().all(|subtag| is_long(subtag))
 }
 
-/// One or more subtags of 3 to 8.
+/// Whether there is at least one, and each is of 3 to 8 letters or digits.
 fn are_values(subtags: &[Subtag]) -> bool
     ensures { result ≡ splitting.are_values subtags.now }
 {
@@ -138,9 +138,9 @@ fn read_source(alloc: Global, subtags: &[Subtag]) -> Result<Option<Core>, Transf
     Ok(Some(core))
 }
 
-/// The parts that spell a `u` extension (RFC 6067). There is one such value for each `u` extension: the
-/// subtags of 3 to 8 before the first two-character subtag are its attributes, each two-character subtag is
-/// a key, and the subtags of 3 to 8 that follow it are its types. The only refusal is want of memory.
+/// The parts that spell a `u` extension (RFC 6067). There is one such value for each `u` extension: its keys
+/// are the subtags of 2, its attributes what stands before the first key, and what stands between a key and
+/// the next are the types of the key. The only refusal is want of memory.
 pub fn split_u(alloc: Global, extension: &Extension) -> Result<UParts, OutOfMemory>
     requires { extension.now.singleton ≡ unicode }
     ensures parts { IfOk result (λ parts. IsUnicode extension.now.subtags parts) }
@@ -154,7 +154,7 @@ pub fn split_u(alloc: Global, extension: &Extension) -> Result<UParts, OutOfMemo
     })
 }
 
-/// The parts that spell a `t` extension (RFC 6497): a source and any fields, or one or more fields. There is
+/// The parts that spell a `t` extension (RFC 6497): a source, fields, or a source and fields behind it. There is
 /// at most one such value. BadTransform comes exactly where there is none; the tag is well-formed all the same.
 /// A separator may occur twice.
 pub fn split_t(alloc: Global, extension: &Extension) -> Result<TParts, TransformFault>

@@ -2,6 +2,7 @@
 use crate::cores::Core;
 use crate::extensions::Extension;
 use crate::faults::{OutOfMemory, TagFault};
+use crate::parts::{Field, Keyword};
 use crate::reading::read_tag;
 use crate::tags::{Class, Tag};
 use lt_subtag::Subtag;
@@ -64,6 +65,18 @@ pub(crate) fn put_extension(words: &mut Vec<u8>, extension: &Extension) -> Resul
     words.extend_from_slice(b" extension ")?;
     words.push(extension.singleton())?;
     put_each(words, " ", extension.subtags())
+}
+
+/// Adds a keyword at the end.
+pub(crate) fn put_keyword(words: &mut Vec<u8>, keyword: &Keyword) -> Result<(), OutOfMemory> {
+    put(words, " key ", &keyword.key)?;
+    put_each(words, " type ", &keyword.types)
+}
+
+/// Adds a field at the end.
+pub(crate) fn put_field(words: &mut Vec<u8>, field: &Field) -> Result<(), OutOfMemory> {
+    put(words, " separator ", &field.separator)?;
+    put_each(words, " value ", &field.values)
 }
 
 /// Adds copies of extensions at the end.

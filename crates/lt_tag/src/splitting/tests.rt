@@ -2,13 +2,7 @@ use super::*;
 use crate::faults::TagFault;
 use crate::joining::{join_t, join_u};
 use crate::reading::read_tag;
-use crate::words::{put, put_copied_core, put_each, put_extension};
-
-/// Adds a keyword at the end.
-fn put_keyword(words: &mut Vec<u8>, keyword: &Keyword) -> Result<(), OutOfMemory> {
-    put(words, " key ", &keyword.key)?;
-    put_each(words, " type ", &keyword.types)
-}
+use crate::words::{put_copied_core, put_each, put_extension, put_field, put_keyword};
 
 /// Adds copies of keywords at the end.
 fn put_keywords(
@@ -20,12 +14,6 @@ fn put_keywords(
         put_keyword(words, &keyword.copy(alloc)?)?;
     }
     Ok(())
-}
-
-/// Adds a field at the end.
-fn put_field(words: &mut Vec<u8>, field: &Field) -> Result<(), OutOfMemory> {
-    put(words, " separator ", &field.separator)?;
-    put_each(words, " value ", &field.values)
 }
 
 /// Adds copies of fields at the end.
