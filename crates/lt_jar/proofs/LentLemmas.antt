@@ -31,7 +31,7 @@ lent_start fresh = record {
 }
 
 -- A record more was lent, which a separator ends.
-pub lent_more : {bytes read : List ℕ} {records : List (List Field)} {old new : JarSource} {reads : ℕ} → HasLent bytes records old → LendsEnded old new read reads → lent_by new ≡ lent_by old + 1
+pub lent_more : {R : Type 0} {bytes read : List ℕ} {records : List (List Field)} {old new : JarSource} {before after : Device R} {reads : ℕ} → HasLent bytes records old → LendsEnded old new before after read reads → lent_by new ≡ lent_by old + 1
     → HasLent (bytes ++ read) (records ++ record_in new ∷ []) new
 lent_more {bytes} {read} {records} {old} {new} lent lends count =
     let lines = lends.lines in

@@ -12,6 +12,7 @@ pub mod LawLemmas
 pub mod PieceLemmas
 pub mod ReadingLemmas
 pub mod SourceLemmas
+pub mod TestDeviceLemmas
 pub mod BehindLemmas
 pub mod LentLemmas
 pub mod JarLemmas

@@ -12,7 +12,7 @@ use Rattle.lt_jar.specs.Records.{Field, HasRecords}
 use Rattle.lt_jar.specs.Faults.{Fault}
 use Rattle.lt_jar.specs.Reading.{Ends, Taken, finished, going_on, rest_of, steps, take_line}
 use Rattle.lt_jar.specs.Pieces.{StopsAt, StopsAtLast, TakesAll, TakesRecord, fields_in, last_line}
-use Rattle.lt_jar.specs.Sources.{EndsAs, Fills, Finished, Finishes, HasRoom, IsRead, LendsLast, ReadsRecord, Stops, kept_in, lent_by, line_of_kept, most_reads, record_in, unread_in}
+use Rattle.lt_jar.specs.Sources.{EndsAs, Fills, Finished, Finishes, HasRoom, IsRead, LastGave, LendsLast, ReadsRecord, Stops, kept_in, lent_by, line_of_kept, most_reads, record_in, unread_in}
 use Rattle.lt_jar.specs.Views.{IsSaid, fault_in}
 use Rattle.lt_jar.specs.declared.devices.Device.{Device}
 use Rattle.lt_jar.specs.declared.engine.Engine.{Engine}
@@ -23,7 +23,7 @@ use Rattle.lt_jar.specs.declared.sources.Status.TheVariants as state
 use Rattle.lt_jar.proofs.CutLemmas.{lines_of-last}
 use Rattle.lt_jar.proofs.PieceLemmas.{IsNoFeed, each-append, length-last, lines_of-whole, only_line, rest_some, whole-append}
 use Rattle.lt_jar.proofs.ReadLemmas.{records_at_end}
-use Rattle.lt_jar.proofs.ReadingLemmas.{cut_short, cuts_record, fault_behind, few_at, ran_end, ran_on, reached_behind, read_last, read_lines, said_fault, said_no_other, sound_at_end}
+use Rattle.lt_jar.proofs.ReadingLemmas.{cut_short, cuts_record, fault_behind, few_at, lines_gather, ran_end, ran_on, reached_behind, read_last, read_lines, said_fault, said_no_other, sound_at_end}
 
 -- so far the call has read these bytes, and gone over these lines
 pub record SourceTurn {R : Type 0} (remaining : R → Option (List ℕ)) (old now : JarSource) (before after : Device R) : Type 0 where
@@ -31,6 +31,7 @@ pub record SourceTurn {R : Type 0} (remaining : R → Option (List ℕ)) (old no
   pub reads : ℕ
   pub is_read : IsRead remaining old now before after read reads
   pub gave_bytes : reads ≤ length read
+  pub last_gave : LastGave old before → LastGave now after
   pub failures : failures_of after ≡ failures_of before
   pub lines : List (List ℕ)
   pub each : AllByRecursion IsOneLine lines
@@ -47,6 +48,7 @@ turn_begins remaining old now device none kept line lent turns bounded status = 
   reads = 0;
   is_read = record { consumes = Consumes-nil _; calls = refl; turns = omega (arith, turns); bounded = omega (arith, turns, bounded) };
   gave_bytes = omega arith;
+  last_gave = λ gave some. gave (omega (arith, some, turns));
   failures = refl;
   lines = [];
   each = tt;
@@ -79,6 +81,7 @@ turn_taken remaining old now new before after turn takes empty turns status =
       reads = turn.reads;
       is_read = record { consumes = turn.is_read.consumes; calls = turn.is_read.calls; turns = turns ∙ turn.is_read.turns; bounded = omega (arith, turns, turn.is_read.bounded) };
       gave_bytes = turn.gave_bytes;
+      last_gave = λ gave some. turn.last_gave gave (omega (arith, some, turns));
       failures = turn.failures;
       lines = turn.lines ++ over_lines;
       each = each-append turn.lines over_lines turn.each over.each;
@@ -117,6 +120,7 @@ turn_filled remaining old now new before between after turn empty fills engine s
       reads = turn.reads + fills.reads;
       is_read = more_read remaining old now new before between after turn.read fills.read turn.reads fills.reads turn.is_read fills.is_read;
       gave_bytes = omega (arith, long, turn.gave_bytes, gives.1, gives.2);
+      last_gave = λ gave some. gives.4;
       failures = gives.3 ∙ turn.failures;
       lines = turn.lines;
       each = turn.each;
@@ -190,6 +194,7 @@ turn_lends remaining old now mid new before after turn few takes mid_turns mid_s
               (ap (λ f. take_line (lent_by old) f e.last) fields ∙ e.ends ∙ ap (λ f. let r : Result Taken Fault = Ok (Ends f) in r) (sym fields));
           line = line ∙ e.line;
           gave_bytes = turn.gave_bytes;
+          last_gave = λ gave some. turn.last_gave gave (omega (arith, some, same_turns));
           status = status ∙ mid_status ∙ turn.status;
         }),
       );
@@ -227,6 +232,7 @@ stops_said old new before after read reads kind lines tail wrong others fields f
     length lines + 1,
     fault_behind (lent_by old) (kept_in old ++ read) lines tail wrong others fields fault few each bytes cut ran (said_fault kind (take_line (lent_by old) fields wrong) fault said is),
     omega (arith, line),
+    record { lines = lines; each = each; rest = tail; bytes = bytes; fields = fields; gathers = lines_gather (lent_by old) lines fields few each ran; counted = refl },
   );
   memory = λ is. (length lines + 1, reached_behind (lent_by old) (kept_in old ++ read) lines tail wrong others fields few each bytes cut ran, omega (arith, line));
   device = λ is. absurd (said_no_other kind (take_line (lent_by old) fields wrong) said (ap fault_in is) (λ m. read_memory (sym is ∙ m)));
@@ -289,7 +295,12 @@ turn_failed remaining old now new before between after kind turn few empty one f
           format = λ fault is. absurd (none_some fault (ap fault_in (sym made.0) ∙ is));
           memory = λ is. absurd (turns_memory (sym made.0 ∙ is));
           device = λ is. absurd (read_turns (sym is ∙ made.0));
-          all_made = λ is. (made.2, omega (arith, made.3, turn.gave_bytes, long), (length turn.lines + 1, short, line));
+          all_made = λ is. (
+            made.2,
+            omega (arith, made.3, turn.gave_bytes, long),
+            λ gave some. omega (arith, turn.last_gave gave (omega (arith, made.2, made.3, fills.is_read.turns)), made.4),
+            (length turn.lines + 1, short, line),
+          );
           first = λ is. turns_failed (sym made.0 ∙ is);
         }
       ];

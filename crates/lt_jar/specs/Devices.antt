@@ -14,6 +14,15 @@ failures_of device = device.failures
 abbrev pub reads_of : {T : Type 0} → Device T → ℕ
 reads_of device = device.reads
 
+-- how many bytes its last read gave
+abbrev pub last_given_of : {T : Type 0} → Device T → ℕ
+last_given_of device = device.last_given
+
+-- the bytes that a read with this answer gave
+abbrev pub given_by : {E : Type 0} → Result ℕ E → ℕ
+given_by (Ok n) = n
+given_by (Err error) = 0
+
 -- the greatest count, at which a count stays
 abbrev pub greatest_count : ℕ
 greatest_count = 2 ^ 64 - 1

@@ -34,6 +34,16 @@ pub record CutsRecord (earlier : ℕ) (text : List ℕ) (fields : List Field) (l
   pub ends : EndsRecord lines fields
   pub sound : IsSound earlier (whole_lines lines)
 
+-- the lines above the one of this number end no record
+pub record EndsNoneAbove (text : List ℕ) (number : ℕ) : Type 0 where
+  pub lines : List (List ℕ)
+  pub each : AllByRecursion IsOneLine lines
+  pub rest : List ℕ
+  pub bytes : text ≡ whole_lines lines ++ rest
+  pub fields : List Field
+  pub gathers : Gathers lines fields
+  pub counted : number ≡ length lines + 1
+
 -- whole lines, which end no record and with which nothing is wrong, and the line that is being read, which has this number among them
 pub record IsCutShort (earlier : ℕ) (text : List ℕ) (number : ℕ) : Type 0 where
   pub lines : List (List ℕ)

@@ -10,6 +10,7 @@ pub mod Names
 pub mod Pieces
 pub mod Lending
 pub mod Devices
+pub mod TestDevices
 pub mod Sources
 pub mod LentSoFar
 pub mod Lent

@@ -33,7 +33,7 @@ field_of f = (f.name, joined (filter is_something (f.first ∷ f.more)))
 abbrev pub lines_of_field : Written → List Line
 lines_of_field f = Start f.name f.first ∷ map Continuation f.more
 
--- a group is a list of fields
+-- the lines of a group, which are those of its fields
 abbrev pub lines_of_group : List Written → List Line
 lines_of_group group = flat_map lines_of_field group
 
@@ -56,7 +56,7 @@ has_field (field ∷ group) = true
 abbrev pub record_of : List Written → List Field
 record_of group = map field_of group
 
--- the text has these records: but for blank lines, its lines are groups of fields with separators between them, and the records are the groups that have a field
+-- the text has these records: but for blank lines, its lines are groups of fields with separators between them, and each group with a field in it is a record
 pub record HasRecords (text : List ℕ) (records : List (List Field)) : Type 0 where
   pub ended : List (List Written)
   pub last : List Written

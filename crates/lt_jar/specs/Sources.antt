@@ -1,11 +1,11 @@
 -- What a reader of records keeps from one call to the next, and what a call does.
 use Rattle.std.specs.Prelude.{◌≡◌, ◌≢◌, ◌<◌, ◌≤◌, ◌+◌, ◌-◌, ◌*◌, ◌⊎◌, ℕ, Bool, true, false, List, [], ◌∷◌, ◌++◌, length, take, drop, Option, Some, Result, Ok, Err}
 use Rattle.std.specs.Io.KnownBytes.{Consumes, IsAtEnd}
-use Rattle.lt_jar.specs.Devices.{HasFailed, after_reads, failures_of, inner_of, reads_of}
+use Rattle.lt_jar.specs.Devices.{HasFailed, after_reads, failures_of, inner_of, last_given_of, reads_of}
 use Rattle.lt_jar.specs.Lines.{lines_of}
 use Rattle.lt_jar.specs.Records.{Field, HasRecords}
 use Rattle.lt_jar.specs.Faults as faults
-use Rattle.lt_jar.specs.Lending.{CutsRecord, IsCutShort, IsSound}
+use Rattle.lt_jar.specs.Lending.{CutsRecord, EndsNoneAbove, IsCutShort, IsSound}
 use Rattle.lt_jar.specs.Pieces.{StopsAt, StopsAtLast, TakesAll, TakesRecord, fields_in, last_line}
 use Rattle.lt_jar.specs.Reading.{Going, finished, going_on, rest_of, steps}
 use Rattle.lt_jar.specs.Views.{fault_in}
@@ -48,6 +48,10 @@ pub record IsFresh (s : JarSource) : Type 0 where
   pub turns : s.turns ≡ 0
   pub status : s.status ≡ state.Open
 
+-- the last read of a reader gave bytes, if it has read
+abbrev pub LastGave : {R : Type 0} → JarSource → Device R → Type 0
+LastGave s device = 0 < s.turns → 0 < last_given_of device
+
 -- so many reads were made, which gave these bytes
 pub record IsRead {R : Type 0} (remaining : R → Option (List ℕ)) (old new : JarSource) (before after : Device R) (read : List ℕ) (reads : ℕ) : Type 0 where
   pub consumes : Consumes (remaining (inner_of before)) (remaining (inner_of after)) read
@@ -63,11 +67,11 @@ TakesUnread old new (Err kind) = StopsAt old.engine new.engine (unread_in old) k
 
 -- one read more
 abbrev pub FillsAs : {R : Type 0} → (R → Option (List ℕ)) → (old new : JarSource) → (before after : Device R) → List ℕ → ℕ → Result Bool JarFaultKind → Type 0
-FillsAs remaining old new before after read reads (Ok true) = (unread_in new ≡ read) × (0 < length read) × (reads ≡ 1) × (failures_of after ≡ failures_of before)
+FillsAs remaining old new before after read reads (Ok true) = (unread_in new ≡ read) × (0 < length read) × (reads ≡ 1) × (failures_of after ≡ failures_of before) × (0 < last_given_of after)
 FillsAs remaining old new before after read reads (Ok false) =
     (new.start ≡ new.end) × (read ≡ []) × IsAtEnd (remaining (inner_of after)) × (failures_of after ≡ failures_of before) × (line_of_kept new + 1 ≤ 1 + 65536 * new.turns)
 FillsAs remaining old new before after read reads (Err kind) =
-    (read ≡ []) × (((kind ≡ kinds.Read) × HasFailed before after) ⊎ ((kind ≡ kinds.TooManyTurns) × (failures_of after ≡ failures_of before) × (new.turns ≡ most_reads) × (reads ≡ 0)))
+    (read ≡ []) × (((kind ≡ kinds.Read) × HasFailed before after) ⊎ ((kind ≡ kinds.TooManyTurns) × (failures_of after ≡ failures_of before) × (new.turns ≡ most_reads) × (reads ≡ 0) × (last_given_of after ≡ last_given_of before)))
 
 pub record Fills {R : Type 0} (remaining : R → Option (List ℕ)) (old new : JarSource) (before after : Device R) (result : Result Bool JarFaultKind) : Type 0 where
   pub read : List ℕ
@@ -96,11 +100,12 @@ Finished old new (Ok some) = Finishes old new some
 Finished old new (Err kind) = StopsAtLast old.engine new.engine kind × (new.turns ≡ old.turns)
 
 -- A record was lent, which a separator ends: the kept bytes and those that were read are the lines up to its end, and the bytes that are kept now.
-pub record LendsEnded (old new : JarSource) (read : List ℕ) (reads : ℕ) : Type 0 where
+pub record LendsEnded {R : Type 0} (old new : JarSource) (before after : Device R) (read : List ℕ) (reads : ℕ) : Type 0 where
   pub lines : List (List ℕ)
   pub cuts : CutsRecord (lent_by old) (kept_in old ++ read) (record_in new) lines (kept_in new)
   pub line : line_of_kept new ≡ line_of_kept old + length lines
   pub gave_bytes : reads ≤ length read
+  pub last_gave : LastGave old before → LastGave new after
   pub status : new.status ≡ state.Open
 
 -- the text ended, and its last lines have these records, one or none
@@ -116,15 +121,16 @@ pub record LendsLast {R : Type 0} (remaining : R → Option (List ℕ)) (old new
 pub record Stops {R : Type 0} (old new : JarSource) (before after : Device R) (read : List ℕ) (reads : ℕ) (kind : JarFaultKind) : Type 0 where
   pub format : (fault : faults.Fault) → fault_in kind ≡ Some fault
       → (number : ℕ) × faults.IsTheFault (lent_by old) (kept_in old ++ read) fault number × (line_of_kept new + 1 ≡ line_of_kept old + number)
+      × EndsNoneAbove (kept_in old ++ read) number
   pub memory : kind ≡ kinds.OutOfMemory → (number : ℕ) × faults.IsReached (lent_by old) (kept_in old ++ read) number × (line_of_kept new + 1 ≡ line_of_kept old + number)
   pub device : kind ≡ kinds.Read → HasFailed before after × ((number : ℕ) × IsCutShort (lent_by old) (kept_in old ++ read) number × (line_of_kept new + 1 ≡ line_of_kept old + number))
-  pub all_made : kind ≡ kinds.TooManyTurns → (new.turns ≡ most_reads) × (reads ≤ length read)
+  pub all_made : kind ≡ kinds.TooManyTurns → (new.turns ≡ most_reads) × (reads ≤ length read) × (LastGave old before → LastGave new after)
       × ((number : ℕ) × IsCutShort (lent_by old) (kept_in old ++ read) number × (line_of_kept new + 1 ≡ line_of_kept old + number))
   pub first : kind ≢ kinds.Failed
 
 abbrev pub EndsAs : {R : Type 0} → (R → Option (List ℕ)) → (old new : JarSource) → (before after : Device R) → List ℕ → ℕ → Result Bool JarFaultKind → Type 0
 EndsAs remaining old new before after read reads (Ok true) =
-    (lent_by new ≡ lent_by old + 1) × (LendsEnded old new read reads ⊎ LendsLast remaining old new after read (record_in new ∷ []))
+    (lent_by new ≡ lent_by old + 1) × (LendsEnded old new before after read reads ⊎ LendsLast remaining old new after read (record_in new ∷ []))
 EndsAs remaining old new before after read reads (Ok false) = (lent_by new ≡ lent_by old) × LendsLast remaining old new after read []
 EndsAs remaining old new before after read reads (Err kind) = Stops old new before after read reads kind
 

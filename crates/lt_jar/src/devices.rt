@@ -2,7 +2,7 @@
 ghost use Rattle.std.specs.Prelude.{◌≡◌, ◌<◌, IfOk, OnErr, OnOk, length};
 ghost use Rattle.std.specs.Io.{ReadsAtMost, WritesAtMost};
 ghost use Rattle.std.specs.Io.KnownBytes.{Keeps, ReadConsumes, WriteAppends};
-ghost use Rattle.lt_jar.specs.Devices.{HasFailed, failures_after_read, failures_after_write, failures_of, inner_of, one_more, reads_of};
+ghost use Rattle.lt_jar.specs.Devices.{HasFailed, failures_after_read, failures_after_write, failures_of, given_by, inner_of, last_given_of, one_more, reads_of};
 
 use std::io::{self, Read, Write};
 
@@ -14,6 +14,8 @@ pub struct Device<T> {
     inner: T,
     failures: u64,
     reads: u64,
+    /// How many bytes the last read gave.
+    last_given: usize,
 }
 
 impl<T> Device<T> {
@@ -27,6 +29,7 @@ impl<T> Device<T> {
             inner,
             failures: 0,
             reads: 0,
+            last_given: 0,
         }
     }
 
@@ -51,11 +54,16 @@ impl<R: Read> Read for Device<R> {
         ensures works { OnOk result (failures_of self.new ≡ failures_of self.old) }
         ensures fails { OnErr result (HasFailed self.old self.new) }
         ensures reads { reads_of self.new ≡ one_more (reads_of self.old) }
+        ensures last { last_given_of self.new ≡ given_by result }
     {
         count_up(&mut self.reads);
         match self.inner.read(buf) {
-            Ok(count) => Ok(count),
+            Ok(count) => {
+                self.last_given = count;
+                Ok(count)
+            }
             Err(error) => {
+                self.last_given = 0;
                 count_up(&mut self.failures);
                 Err(error)
             }
@@ -77,6 +85,7 @@ impl<W: Write> Write for Device<W> {
         ensures takes_none { IfOk result (λ count. count ≡ 0 → 0 < length buf.now → HasFailed self.old self.new) }
         ensures fails { OnErr result (HasFailed self.old self.new) }
         ensures reads { reads_of self.new ≡ reads_of self.old }
+        ensures last { last_given_of self.new ≡ last_given_of self.old }
     {
         match self.inner.write(buf) {
             Ok(count) => {
@@ -97,6 +106,7 @@ impl<W: Write> Write for Device<W> {
         ensures bytes { Keeps (W.contents (inner_of self.old)) (W.contents (inner_of self.new)) }
         ensures counts { failures_of self.new ≡ failures_of self.old }
         ensures reads { reads_of self.new ≡ reads_of self.old }
+        ensures last { last_given_of self.new ≡ last_given_of self.old }
     {
         self.inner.flush()
     }

@@ -23,7 +23,7 @@ pub enum JarFaultKind {
     OutOfMemory,
     /// The reader failed.
     Read,
-    /// 10,000,000 reads gave bytes.
+    /// 10,000,000 reads were made, and the last of them gave bytes.
     TooManyTurns,
     /// There was a fault before.
     Failed,

@@ -1,4 +1,11 @@
 //! A reader and a writer for tests.
+ghost use Rattle.std.specs.Prelude.{◌≡◌, ◌+◌, ◌⊎◌, ◌++◌, ◌↔◌, false, true, take, drop, length, Some, None, IfErr, IfOk, IsErr, IsErrAnd, IsOk, OnErr};
+ghost use Rattle.std.specs.Io.{ReadsAtMost, WritesAtMost};
+ghost use Rattle.std.specs.Io.KnownBytes.{Keeps, ReadConsumes, WriteAppends};
+ghost use Rattle.std.specs.IoError.{error_kind};
+ghost use Rattle.lt_jar.specs.Devices.{one_more};
+ghost use Rattle.lt_jar.specs.TestDevices.{IsUnread, IsUnwritten, ReadFails, WriteFails, given_in, next_bytes, next_count, next_place, remaining_of, take_count, taken_by};
+
 use std::alloc::Global;
 use std::io::{self, ErrorKind, Read, Write};
 
@@ -14,8 +21,12 @@ pub struct Pieces<'a> {
 }
 
 impl<'a> Pieces<'a> {
-    /// A reader that gives the bytes once, so many in a call.
-    pub fn once(bytes: &'a [u8], piece: usize) -> Pieces<'a> {
+    /// A reader that gives the bytes once, so many in a call; in pieces of no bytes it gives none.
+    pub fn once(bytes: &'a [u8], piece: usize) -> Pieces<'a>
+        ensures unread { IsUnread result bytes.now piece }
+        ensures ends { result.endless ≡ false }
+        ensures remaining { remaining_of result ≡ Some (given_in piece bytes.now) }
+    {
         Pieces {
             bytes,
             at: 0,
@@ -27,7 +38,11 @@ impl<'a> Pieces<'a> {
     }
 
     /// A reader that begins again behind the last byte.
-    pub fn for_ever(bytes: &'a [u8], piece: usize) -> Pieces<'a> {
+    pub fn for_ever(bytes: &'a [u8], piece: usize) -> Pieces<'a>
+        ensures unread { IsUnread result bytes.now piece }
+        ensures endless { result.endless ≡ true }
+        ensures remaining { remaining_of result ≡ None }
+    {
         Pieces {
             bytes,
             at: 0,
@@ -39,7 +54,10 @@ impl<'a> Pieces<'a> {
     }
 
     /// The same reader, whose call of this number fails, counted from 1.
-    pub fn failing_at(self, call: u64) -> Pieces<'a> {
+    pub fn failing_at(self, call: u64) -> Pieces<'a>
+        ensures fails { result ≡ record self.entry { fails_at = call } }
+        ensures remaining { remaining_of result ≡ remaining_of self.entry }
+    {
         Pieces {
             bytes: self.bytes,
             at: self.at,
@@ -52,7 +70,25 @@ impl<'a> Pieces<'a> {
 }
 
 impl Read for Pieces<'_> {
-    fn read(&mut self, buf: &mut [u8]) -> io::Result<usize> {
+    ghost remaining = { remaining_of };
+
+    fn read(&mut self, buf: &mut [u8]) -> io::Result<usize>
+        ensures bound { ReadsAtMost result buf.new }
+        ensures bytes { ReadConsumes (remaining_of self.old) (remaining_of self.new)
+            result buf.new }
+        ensures fails { IsErr result ↔ ReadFails self.old }
+        ensures kind { IfErr result (λ error. error_kind error ≡ ErrorKind.Other) }
+        ensures count { IfOk result (λ count. count ≡ next_count self.old (length buf.old)) }
+        ensures copied { IfOk result (λ count.
+            buf.new ≡ take count (next_bytes self.old) ++ drop count buf.old) }
+        ensures moves { IfOk result (λ count.
+            self.new ≡ record self.old {
+              at = next_place self.old + count;
+              calls = one_more self.old.calls;
+            }) }
+        ensures stays { OnErr result (self.new ≡ record self.old { calls = one_more self.old.calls }) }
+        ensures unread { OnErr result (buf.new ≡ buf.old) }
+    {
         self.calls = self.calls.saturating_add(1);
         if self.calls == self.fails_at {
             return Err(io::Error::from(ErrorKind::Other));
@@ -80,7 +116,9 @@ pub struct Takes {
 
 impl Takes {
     /// A writer that takes so many bytes in a call.
-    pub fn new(alloc: Global, piece: usize) -> Takes {
+    pub fn new(alloc: Global, piece: usize) -> Takes
+        ensures { IsUnwritten result piece }
+    {
         Takes {
             taken: Vec::new(alloc),
             piece,
@@ -91,23 +129,43 @@ impl Takes {
     }
 
     /// The call of this number fails, counted from 1.
-    pub fn fail_at(&mut self, call: u64) {
+    pub fn fail_at(&mut self, call: u64)
+        ensures { self.new ≡ record self.old { fails_at = call } }
+    {
         self.fails_at = call;
     }
 
     /// The call of this number takes no byte, counted from 1.
-    pub fn take_none_at(&mut self, call: u64) {
+    pub fn take_none_at(&mut self, call: u64)
+        ensures { self.new ≡ record self.old { full_at = call } }
+    {
         self.full_at = call;
     }
 
     /// The bytes that were taken.
-    pub fn taken(&self) -> &[u8] {
+    pub fn taken(&self) -> &[u8]
+        ensures { result.now ≡ taken_by self.now }
+    {
         &self.taken
     }
 }
 
 impl Write for Takes {
-    fn write(&mut self, buf: &[u8]) -> io::Result<usize> {
+    ghost contents = { λ writer. Some (taken_by writer) };
+
+    fn write(&mut self, buf: &[u8]) -> io::Result<usize>
+        ensures bound { WritesAtMost result buf.now }
+        ensures bytes { WriteAppends (Some (taken_by self.old)) (Some (taken_by self.new))
+            result buf.now }
+        ensures fails { WriteFails self.old → IsErrAnd result (λ error. error_kind error ≡ ErrorKind.Other) }
+        ensures memory { IfErr result (λ error.
+            WriteFails self.old ⊎ (error_kind error ≡ ErrorKind.OutOfMemory)) }
+        ensures count { IfOk result (λ count. count ≡ take_count self.old (length buf.now)) }
+        ensures same { self.new ≡ record self.old {
+          taken = self.new.taken;
+          calls = one_more self.old.calls;
+        } }
+    {
         self.calls = self.calls.saturating_add(1);
         if self.calls == self.fails_at {
             return Err(io::Error::from(ErrorKind::Other));
@@ -122,7 +180,11 @@ impl Write for Takes {
         Ok(count)
     }
 
-    fn flush(&mut self) -> io::Result<()> {
+    fn flush(&mut self) -> io::Result<()>
+        ensures bytes { Keeps (Some (taken_by self.old)) (Some (taken_by self.new)) }
+        ensures ok { IsOk result }
+        ensures same { self.new ≡ self.old }
+    {
         Ok(())
     }
 }

@@ -116,8 +116,9 @@ impl<'d, R: Read> JarReader<'d, R, JarSource> {
     ///
     /// A line has at most 65,536 bytes, a text at most 100,000 records. The lowest line at which
     /// anything is wrong is answered, and there the first of `JarFaultKind`. `Read` comes where a
-    /// read fails, `TooManyTurns` where 10,000,000 reads gave bytes, and `OutOfMemory`, each with
-    /// the line that was being read. After a fault the answer is `Failed`, with that fault's line.
+    /// read fails, `TooManyTurns` where all 10,000,000 reads were made and the last gave bytes, and
+    /// `OutOfMemory`, each with the line that was being read. After a fault the answer is `Failed`,
+    /// with that fault's line.
     pub fn next<'a>(&'a mut self) -> Result<Option<RecordRef<'a>>, JarFault>
         ensures* ends { sem 𝓛 (LendsAs R.row R.remaining self.entry result) }
     {

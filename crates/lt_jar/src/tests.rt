@@ -1,6 +1,8 @@
 //! Small texts with their records, and faults with their lines.
 mod counting;
+mod endless;
 mod failing;
+mod growths;
 mod one_by_one;
 mod sample;
 

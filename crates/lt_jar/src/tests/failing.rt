@@ -7,7 +7,7 @@ use std::io::Read;
 use std::test::Fail;
 
 /// What so many calls answer.
-fn told<R: Read>(alloc: Global, device: &mut Device<R>, calls: usize) -> Result<String, Fail> {
+pub fn told<R: Read>(alloc: Global, device: &mut Device<R>, calls: usize) -> Result<String, Fail> {
     let Ok(mut reader) = device.records(alloc) else {
         return Err(Fail::from("no reader"));
     };
@@ -34,6 +34,9 @@ fn ends_stay(rt: HostRuntime) -> Result<(), Fail> {
     let mut device = Device::new(Pieces::once(b"A: b\n%%\n\nabc\nA: b", 3));
     let failed = told(rt.alloc(), &mut device, 4)?;
     assert!(rt; failed.as_str() == "record;BadLine 4;Failed 4;Failed 4;");
+    let mut device = Device::new(Pieces::once(b"Type: language\nSubtag: en\n%%\n  x", 3));
+    let failed = told(rt.alloc(), &mut device, 3)?;
+    assert!(rt; failed.as_str() == "record;LeadingContinuation 4;Failed 4;");
     Ok(())
 }
 

@@ -96,6 +96,22 @@ fn faults_in_pieces(rt: HostRuntime) -> Result<(), Fail> {
     Ok(())
 }
 
+/// The record that a separator ended is lent before the fault comes.
+#[test]
+fn record_before_a_fault(rt: HostRuntime) -> Result<(), Fail> {
+    for size in &SIZES {
+        let text = b"Type: language\nSubtag: en\n%%\n  x";
+        let mut device = Device::new(Pieces::once(text, *size));
+        let (records, fault) = lent(rt.alloc(), &mut device)?;
+        assert!(rt; records.as_str() == "Type=language;Subtag=en");
+        let Some(fault) = fault else {
+            return Err(Fail::from("no fault"));
+        };
+        assert!(rt; fault.kind.name() == "LeadingContinuation" && fault.line == 4);
+    }
+    Ok(())
+}
+
 #[test]
 fn longest_line_in_pieces(rt: HostRuntime) -> Result<(), Fail> {
     let short = long_line(rt.alloc(), 65_526, "")?;

@@ -1,0 +1,322 @@
+//! What a call does where a growth of memory is refused. `bench/growth.py` runs each test here once for
+//! each growth in it, and refuses that one alone; the gate refuses none. So a call that is not itself
+//! under test is made twice where it is refused.
+use super::{
+    FAULTS, TEXTS, has_fields, is_one_field, long_line, returned_text, shown as records_of,
+};
+use crate::{Device, Jar, JarFault, JarFaultKind, JarReader, Pieces, RecordRef, read_jar};
+use std::alloc::{AllocError, Global};
+use std::fmt::Debug;
+use std::io::Read;
+use std::test::Fail;
+
+/// What a call answers, which is made again where it was refused.
+fn twice<T, E: Drop, C: Fn() -> Result<T, E>>(call: C) -> Result<T, E>
+    requires { C.IsAlwaysCallable call }
+{
+    match call() {
+        Ok(value) => Ok(value),
+        Err(_) => call(),
+    }
+}
+
+/// A value as text.
+fn shown<T: Debug>(alloc: Global, value: &T) -> Result<String, AllocError> {
+    match format!(in alloc; "{value:?}") {
+        Ok(text) => Ok(text),
+        Err(_) => format!(in alloc; "{value:?}"),
+    }
+}
+
+/// Whether a call gives its answer, and leaves its arguments as they were; and where it tells that a
+/// growth was refused, whether it leaves them as well, and gives its answer when it is made again.
+fn answers<A, T, C, P, R>(
+    alloc: Global,
+    arguments: &A,
+    call: C,
+    is_answer: P,
+    is_refusal: R,
+) -> Result<bool, AllocError>
+where
+    A: Debug,
+    T: Drop,
+    C: Fn() -> T,
+    P: Fn(&T) -> bool,
+    R: Fn(&T) -> bool,
+    requires call { C.IsAlwaysCallable call }
+    requires answer { P.IsAlwaysCallable is_answer }
+    requires refusal { R.IsAlwaysCallable is_refusal }
+{
+    let before = shown(alloc, arguments)?;
+    let answer = call();
+    let is_kept = shown(alloc, arguments)?.as_str() == before.as_str();
+    Ok(is_kept && (is_answer(&answer) || (is_refusal(&answer) && is_answer(&call()))))
+}
+
+/// Whether reading a text answers as it should.
+fn is_read<P: Fn(&Result<Jar, JarFault>) -> bool>(
+    alloc: Global,
+    text: &[u8],
+    is_answer: P,
+) -> Result<bool, AllocError>
+    requires { P.IsAlwaysCallable is_answer }
+{
+    answers(
+        alloc,
+        &text,
+        || read_jar(alloc, text),
+        is_answer,
+        |answer| match answer {
+            Ok(_) => false,
+            Err(fault) => fault.kind == JarFaultKind::OutOfMemory && 1 <= fault.line,
+        },
+    )
+}
+
+/// Whether a jar has these records, as `records_of` gives them.
+fn has_records(alloc: Global, jar: &Jar, records: &str) -> bool {
+    matches!(twice(|| records_of(alloc, jar)), Ok(found) if found.as_str() == records)
+}
+
+#[test]
+fn records_are_read(rt: HostRuntime) -> Result<(), Fail> {
+    let alloc = rt.alloc();
+    for (text, records) in &TEXTS {
+        let is_jar = is_read(alloc, text.as_bytes(), |answer| match answer {
+            Ok(jar) => has_records(alloc, jar, records),
+            Err(_) => false,
+        })?;
+        assert!(rt; is_jar, "{text}");
+    }
+    for (text, name, line) in &FAULTS {
+        let is_fault = is_read(alloc, text, |answer| match answer {
+            Ok(_) => false,
+            Err(fault) => fault.kind.name() == *name && fault.line == *line,
+        })?;
+        assert!(rt; is_fault, "{name}");
+    }
+    Ok(())
+}
+
+#[test]
+fn the_longest_line_is_read(rt: HostRuntime) -> Result<(), Fail> {
+    let alloc = rt.alloc();
+    let longest = twice(|| long_line(alloc, 65_526, ""))?;
+    assert!(rt;
+        is_read(alloc, &longest, |answer| match answer {
+            Ok(jar) => is_one_field(jar, 65_526),
+            Err(_) => false,
+        })?
+    );
+    let longer = twice(|| long_line(alloc, 65_527, ""))?;
+    assert!(rt;
+        is_read(alloc, &longer, |answer| match answer {
+            Ok(_) => false,
+            Err(fault) => fault.kind == JarFaultKind::LineTooLong && fault.line == 1,
+        })?
+    );
+    Ok(())
+}
+
+/// Whether a jar is that of the sample with carriage returns.
+fn is_sample(alloc: Global, jar: &Jar) -> bool {
+    let sixth = "Type=language;Subtag=he;Description=Modern Hebrew";
+    jar.records().len() == 47 && matches!(twice(|| has_fields(alloc, jar, 5, sixth)), Ok(true))
+}
+
+#[test]
+fn the_sample_is_read(rt: HostRuntime) -> Result<(), Fail> {
+    let alloc = rt.alloc();
+    let text = twice(|| returned_text(alloc))?;
+    let text = text.as_bytes().strip_suffix(b"\r\n").unwrap_or(&[]);
+    assert!(rt;
+        is_read(alloc, text, |answer| match answer {
+            Ok(jar) => is_sample(alloc, jar),
+            Err(_) => false,
+        })?
+    );
+    Ok(())
+}
+
+/// The name and the body of each field.
+type Fields = &'static [(&'static str, &'static str)];
+
+/// Whether a record has these fields.
+fn is_record(record: RecordRef<'_>, fields: Fields) -> bool {
+    let mut found = record.fields().iter();
+    for (name, body) in fields {
+        match found.next() {
+            Some(field) if field.name() == *name && field.body() == *body => {}
+            _ => return false,
+        }
+    }
+    found.next().is_none()
+}
+
+/// What a reader of a text does.
+#[derive(Clone, Copy, PartialEq, Eq)]
+enum Outcome {
+    /// It lends the text's records, and then tells what it should.
+    Right,
+    /// A growth of memory was refused, and it tells so, and in the next call that it failed there.
+    Refused,
+    Wrong,
+}
+
+/// What a reader does, which has told a fault that is not the text's.
+fn failed<R: Read>(reader: &mut JarReader<'_, R>, fault: JarFault) -> Outcome {
+    let then = JarFault {
+        kind: JarFaultKind::Failed,
+        line: fault.line,
+    };
+    match reader.next() {
+        Err(next) if next == then && fault.kind == JarFaultKind::OutOfMemory => Outcome::Refused,
+        _ => Outcome::Wrong,
+    }
+}
+
+/// What a reader of a text of one record does, and then of this fault or none.
+fn reading<R: Read>(
+    reader: &mut JarReader<'_, R>,
+    fields: Fields,
+    end: Option<JarFault>,
+) -> Outcome {
+    match reader.next() {
+        Ok(Some(record)) if is_record(record, fields) => {}
+        Err(fault) => return failed(reader, fault),
+        _ => return Outcome::Wrong,
+    }
+    match reader.next() {
+        Ok(None) if end.is_none() => Outcome::Right,
+        Err(fault) if end == Some(fault) => Outcome::Right,
+        Err(fault) => failed(reader, fault),
+        _ => Outcome::Wrong,
+    }
+}
+
+/// Whether a reader was refused because a growth was.
+fn is_unmade(refusal: JarFault) -> bool {
+    refusal.kind == JarFaultKind::OutOfMemory && refusal.line == 1
+}
+
+/// What a new reader does.
+fn reading_of<R: Read>(
+    alloc: Global,
+    device: &mut Device<R>,
+    fields: Fields,
+    end: Option<JarFault>,
+) -> Outcome {
+    match JarReader::new(alloc, device) {
+        Ok(mut reader) => reading(&mut reader, fields, end),
+        Err(refusal) if is_unmade(refusal) => Outcome::Refused,
+        Err(_) => Outcome::Wrong,
+    }
+}
+
+/// Whether a text is read as it should be in pieces of this size; or a growth is refused, and then it is
+/// read so from another device.
+fn is_read_in_pieces(
+    alloc: Global,
+    text: &[u8],
+    size: usize,
+    fields: Fields,
+    end: Option<JarFault>,
+) -> bool {
+    let mut device = Device::new(Pieces::once(text, size));
+    let mut other = Device::new(Pieces::once(text, size));
+    match reading_of(alloc, &mut device, fields, end) {
+        Outcome::Right => true,
+        Outcome::Refused => reading_of(alloc, &mut other, fields, end) == Outcome::Right,
+        Outcome::Wrong => false,
+    }
+}
+
+/// Whether a device lends a record and then nothing. Where no reader is made, it is as it was, and
+/// lends the same to another.
+fn is_lent<R: Read>(alloc: Global, device: &mut Device<R>, fields: Fields) -> bool {
+    match device.records(alloc) {
+        Ok(mut reader) => return reading(&mut reader, fields, None) != Outcome::Wrong,
+        Err(refusal) if is_unmade(refusal) => {}
+        Err(_) => return false,
+    }
+    match device.records(alloc) {
+        Ok(mut reader) => reading(&mut reader, fields, None) == Outcome::Right,
+        Err(_) => false,
+    }
+}
+
+/// The sizes of the pieces in which a text is given.
+const SIZES: [usize; 3] = [1, 7, 1_000_000];
+
+#[test]
+fn records_are_lent(rt: HostRuntime) {
+    let text = b"A:\n  b \n\tc";
+    for size in &SIZES {
+        let mut device = Device::new(Pieces::once(text, *size));
+        assert!(rt; is_lent(rt.alloc(), &mut device, &[("A", "b c")]), "{size}");
+    }
+}
+
+#[test]
+fn records_are_lent_in_pieces(rt: HostRuntime) {
+    for size in &SIZES {
+        let is_right = is_read_in_pieces(
+            rt.alloc(),
+            b"A:\n  b \n\tc",
+            *size,
+            &[("A", "b c")],
+            None,
+        );
+        assert!(rt; is_right, "{size}");
+    }
+}
+
+#[test]
+fn records_are_lent_before_a_fault(rt: HostRuntime) {
+    let text = b"Type: language\nSubtag: en\n%%\n  x";
+    let fields: Fields = &[("Type", "language"), ("Subtag", "en")];
+    let fault = JarFault {
+        kind: JarFaultKind::LeadingContinuation,
+        line: 4,
+    };
+    for size in &SIZES {
+        let is_right = is_read_in_pieces(rt.alloc(), text, *size, fields, Some(fault));
+        assert!(rt; is_right, "{size}");
+    }
+}
+
+/// Marks where calls begin that take no memory: `bench/growth.py` refuses this growth, which is larger
+/// than any other, and each one behind it.
+fn mark(alloc: Global) {
+    let _ = Vec::<u8>::with_capacity(alloc, 1 << 36);
+}
+
+/// Whether a record is `A: b` alone, by each of its calls.
+fn is_small(record: RecordRef<'_>) -> bool {
+    record.len() == 1
+        && record.name(0) == "A"
+        && record.body(0) == "b"
+        && is_record(record, &[("A", "b")])
+}
+
+#[test]
+fn a_record_without_growth(rt: HostRuntime) -> Result<(), Fail> {
+    let mut device = Device::new(b"A: b\n".as_slice());
+    let mut reader = device.records(rt.alloc())?;
+    let Some(record) = reader.next()? else {
+        return Err(Fail::from("no record"));
+    };
+    mark(rt.alloc());
+    assert!(rt; is_small(record));
+    Ok(())
+}
+
+#[test]
+fn devices_without_growth(rt: HostRuntime) -> Result<(), Fail> {
+    mark(rt.alloc());
+    let mut buffer = [0u8; 4];
+    let mut device = Device::new(Pieces::once(b"abc", 2).failing_at(2));
+    assert!(rt; device.read(&mut buffer)? == 2);
+    assert!(rt; device.read(&mut buffer).is_err() && device.failures() == 1);
+    Ok(())
+}
