@@ -7,7 +7,7 @@ use Rattle.lt_jar.specs.Records.{Field, HasRecords}
 use Rattle.lt_jar.specs.Faults.{Fault, IsReached, IsTheFault}
 use Rattle.lt_jar.specs.Lending.{BreaksOff, IsSound}
 use Rattle.lt_jar.specs.LentSoFar.{HasLent}
-use Rattle.lt_jar.specs.Sources.{Advances, IsFresh, IsRead, LendsEnded, LendsLast, ReadsRecord, lent_by, line_of_kept, record_in}
+use Rattle.lt_jar.specs.Sources.{Advances, IsFresh, IsRead, LastGave, LendsEnded, LendsLast, ReadsRecord, lent_by, line_of_kept, record_in}
 use Rattle.lt_jar.specs.Views.{fault_in}
 use Rattle.lt_jar.specs.declared.devices.Device.{Device}
 use Rattle.lt_jar.specs.declared.faults.JarFault.{JarFault}
@@ -32,7 +32,7 @@ use Rattle.lt_registry.proofs.DraftLemmas.{HasDrafted, IsDraftOf, draft_more, dr
 -- the text goes on, or has ended
 abbrev pub Stands : {R : Type 0} → (R → Option (List ℕ)) → Device R → JarSource → List ℕ → ℕ → List (List Field) → Type 0
 Stands remaining now s bytes reads records =
-    ((s.status ≡ state.Open) × HasLent bytes records s × (reads ≤ length bytes))
+    ((s.status ≡ state.Open) × HasLent bytes records s × (reads ≤ length bytes) × LastGave s now)
     ⊎ ((s.status ≡ state.Ended) × HasRecords bytes records × IsSound 0 bytes × IsAtEnd (remaining (inner_of now)))
 
 -- since its start the reader has lent these records, of which the draft is made
@@ -57,7 +57,7 @@ read_none remaining s device d fresh entries number fault = record {
   failures = refl;
   lent = fresh.lent;
   draft = draft_none d entries number fault;
-  stands = inl (fresh.status, lent_start fresh, omega arith);
+  stands = inl (fresh.status, lent_start fresh, omega arith, λ some. absurd (omega (arith, some, fresh.turns)));
 }
 
 -- a record more was lent, and the draft took it
@@ -68,10 +68,10 @@ read_more {R} remaining first old new before now after d e so advances takes = b
     works : (let r : Result Bool JarFaultKind = Ok true in r) ≢ Err jars.Read
     works is = cc
 
-    by_end : (lent : HasLent so.bytes so.records old) → so.reads ≤ length so.bytes → (r : ReadsRecord remaining old new now after (Ok true)) → LendsEnded old new r.read r.reads ⊎ LendsLast remaining old new after r.read (record_in new ∷ [])
+    by_end : (lent : HasLent so.bytes so.records old) → so.reads ≤ length so.bytes → LastGave old now → (r : ReadsRecord remaining old new now after (Ok true)) → LendsEnded old new now after r.read r.reads ⊎ LendsLast remaining old new after r.read (record_in new ∷ [])
         → lent_by new ≡ lent_by old + 1 → Stands remaining after new (so.bytes ++ r.read) (so.reads + r.reads) (so.records ++ record_in new ∷ [])
-    by_end lent gave r (inl ended) count = inl (ended.status, lent_more lent ended count, omega (arith, gave, ended.gave_bytes, length-append so.bytes r.read))
-    by_end lent gave r (inr last) count = let all = lent_last lent last in inr (last.status, all.0, all.1, last.end)
+    by_end lent gave last r (inl ended) count = inl (ended.status, lent_more lent ended count, omega (arith, gave, ended.gave_bytes, length-append so.bytes r.read), ended.last_gave last)
+    by_end lent gave _ r (inr last) count = let all = lent_last lent last in inr (last.status, all.0, all.1, last.end)
 
     by_stand : Stands remaining now old so.bytes so.reads so.records → HasReadSoFar remaining first new before after e
     by_stand (inl goes) =
@@ -86,7 +86,7 @@ read_more {R} remaining first old new before now after d e so advances takes = b
           failures = r.works works ∙ so.failures;
           lent = omega (arith, count, so.lent, length-append so.records (record_in new ∷ []));
           draft = draft_more so.records (record_in new) d e takes so.draft;
-          stands = by_end goes.1 goes.2 r r.ends.1 count;
+          stands = by_end goes.1 goes.2 goes.3 r r.ends.1 count;
         }
     by_stand (inr ended) = absurd (let over = (advances.over ended.0).0 in cc)
 
@@ -199,8 +199,8 @@ read_stops {R} remaining first old new before now after d fault so advances = by
     kind_of : (k l : JarFaultKind) → (let r : Result Bool JarFaultKind = Err k in r) ≡ Err l → k ≡ l
     kind_of k l e = cc
 
-    refusal : (lent : HasLent so.bytes so.records old) → so.reads ≤ length so.bytes → (r : ReadsRecord remaining old new now after (Err fault.kind)) → IsJarRefusal before after (so.bytes ++ r.read) (so.reads + r.reads) fault
-    refusal lent gave r =
+    refusal : (lent : HasLent so.bytes so.records old) → so.reads ≤ length so.bytes → LastGave old now → (r : ReadsRecord remaining old new now after (Err fault.kind)) → IsJarRefusal before after (so.bytes ++ r.read) (so.reads + r.reads) fault
+    refusal lent gave last r =
         let stops = r.ends in
         let text = so.bytes ++ r.read in
         record {
@@ -213,7 +213,8 @@ read_stops {R} remaining first old new before now after d fault so advances = by
               let there = stops.all_made is in (
                 omega (arith, there.0, r.is_read.turns, so.is_read.turns, so.none),
                 omega (arith, there.1, gave, length-append so.bytes r.read),
-                subst (BreaksOff 0 text) (sym line) (lent_cut r.read new lent there.2.1 there.2.2),
+                there.2 last (omega (arith, there.0)),
+                subst (BreaksOff 0 text) (sym line) (lent_cut r.read new lent there.3.1 there.3.2),
               );
           first = stops.first;
         }
@@ -228,7 +229,7 @@ read_stops {R} remaining first old new before now after d fault so advances = by
           consumes = all.consumes;
           calls = all.calls;
           bounded = omega (arith, all.turns, all.bounded, so.none);
-          answers = refusal goes.1 goes.2 r;
+          answers = refusal goes.1 goes.2 goes.3 r;
           rises = λ more. kind_of fault.kind jars.Read (r.rises (omega (arith, more, so.failures)));
         }
     by_stand (inr ended) = absurd (let over = (advances.over ended.0).0 in cc)

@@ -41,7 +41,7 @@ letters_le (x ∷ xs) (y ∷ ys) = if x == y then letters_le xs ys else nat_lt x
 abbrev pub is_short : List ℕ → Bool
 is_short s = nat_le (length s) 3
 
--- Both ends have the kind's form, equal length and letters alone, and the first is not after the last.
+-- The first and the last have the form of the kind, are made of letters, are equally long, and do not fall.
 pub record IsRange (kind : Kind) (first last : List ℕ) : Type 0 where
   pub first_form : has_form kind first ≡ true
   pub last_form : has_form kind last ≡ true
@@ -105,7 +105,7 @@ holds s _ = false
 abbrev pub or_else : Option EntryParts → Option EntryParts → Option EntryParts
 or_else found other = option_or found other
 
--- the first single record of that name, else the first range that holds it
+-- the first record that names this subtag and no other; or, without such a record, the first whose range holds it
 abbrev pub entry : List EntryParts → Kind → List ℕ → Option EntryParts
 entry R k s =
     or_else (find (λ (e : EntryParts). same_kind e.kind k && is_named s e.name) R)

@@ -2,7 +2,7 @@
 -- not read to the end.
 use Rattle.std.specs.Prelude.{◌≡◌, ◌≢◌, ◌≤◌, ◌<◌, ◌⊎◌, ℕ, List, [], length, Option, Some, Result, Ok, Err}
 use Rattle.std.specs.Io.KnownBytes.{Consumes, IsAtEnd}
-use Rattle.lt_jar.specs.Devices.{HasFailed, after_reads, failures_of, inner_of, reads_of}
+use Rattle.lt_jar.specs.Devices.{HasFailed, after_reads, failures_of, inner_of, last_given_of, reads_of}
 use Rattle.lt_jar.specs.Records.{Field, HasRecords, IsWithin}
 use Rattle.lt_jar.specs.Faults.{Fault, IsReached, IsTheFault}
 use Rattle.lt_jar.specs.Lending.{BreaksOff}
@@ -29,7 +29,7 @@ pub record IsJarRefusal {R : Type 0} (before after : Device R) (bytes : List ℕ
   pub format : (kind : Fault) → fault_in fault.kind ≡ Some kind → IsTheFault 0 bytes kind fault.line
   pub memory : fault.kind ≡ jars.OutOfMemory → IsReached 0 bytes fault.line ⊎ ((reads ≡ 0) × (bytes ≡ []) × (fault.line ≡ 1))
   pub device : fault.kind ≡ jars.Read → HasFailed before after × BreaksOff 0 bytes fault.line
-  pub all_made : fault.kind ≡ jars.TooManyTurns → (reads ≡ most_reads) × (reads ≤ length bytes) × BreaksOff 0 bytes fault.line
+  pub all_made : fault.kind ≡ jars.TooManyTurns → (reads ≡ most_reads) × (reads ≤ length bytes) × (0 < last_given_of after) × BreaksOff 0 bytes fault.line
   pub first : fault.kind ≢ jars.Failed
 
 -- the entries of the records, or the fault of the lowest record at fault; a fault of the jar goes first

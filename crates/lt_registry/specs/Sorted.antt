@@ -137,7 +137,7 @@ pub record IsIndex {W K : Type 0} (row : ℕ → EntryParts → Option W) (place
   pub sound : All (IsRowAt row place R) rows
   pub complete : (p : ℕ) (e : EntryParts) (w : W) → slice_get R p ≡ Some e → row p e ≡ Some w → Any (λ v. (cmp (key v) (key w) ≡ Equal) × (place v ≤ p)) rows
 
--- the single records of a kind, sorted by subtag; of equal names the first alone
+-- the records of one subtag, of a kind, in the order of the subtags; the first alone for each subtag
 abbrev pub IsSingles : List EntryParts → Kind → List Row → Type 0
 IsSingles R kind rows = IsIndex (single_row kind) (λ (w : Row). w.place) (λ (w : Row). w.number) nat_cmp R rows
 

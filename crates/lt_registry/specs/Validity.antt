@@ -8,7 +8,7 @@ use Rattle.lt_registry.specs.Parts.{EntryParts}
 use Rattle.lt_registry.specs.Entries.{is_registered, prefixes, lists}
 use Rattle.lt_registry.specs.declared.entries.Kind.TheVariants as kinds
 
--- at most one extlang, which is registered, and the language is one of its Prefixes
+-- no extlang, or a single one, which is registered and has the language as one of its Prefixes
 abbrev pub ExtlangsFit : List EntryParts → List ℕ → List (List ℕ) → Type 0
 ExtlangsFit R l [] = Unit {0}
 ExtlangsFit R l (x ∷ []) = (is_registered R kinds.Extlang x ≡ true) × (lists (prefixes R kinds.Extlang x) l ≡ true)

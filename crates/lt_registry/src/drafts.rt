@@ -2,7 +2,6 @@
 ghost use Rattle.std.specs.Prelude.{◌≡◌, ◌<◌, [], IfErr, OnOk, None};
 ghost use Rattle.lt_jar.specs.Sources.{lent_by};
 ghost use Rattle.lt_registry.specs.AddedRecords.{IsAdded, IsPut, IsRefusedAt, Takes, TakesNext, finished};
-ghost use Rattle.lt_registry.specs.Entries.{IsRegistry};
 ghost use Rattle.lt_registry.specs.RecordRefusals.{IsRefused};
 
 use crate::entries::Entry;
@@ -68,7 +67,7 @@ impl Draft {
     }
 
     /// Takes the next record. After a fault no more entries are made.
-    pub(crate) fn take(&mut self, alloc: Global, fields: &[JarField])
+    fn take(&mut self, alloc: Global, fields: &[JarField])
         requires { self.old.number < 100000 }
         ensures { Takes fields.now self.old self.new }
     {

@@ -17,8 +17,8 @@ use crate::subtag_numbers::{number_of, rank_of};
 use lt_subtag::Subtag;
 use std::alloc::{AllocError, Global};
 
-/// The records of one kind: the single ones sorted by subtag, of equal names the first alone, where
-/// those whose subtags begin alike start, and the stretches of the ranges.
+/// The records of one kind: those of one subtag in the order of the subtags, the first alone for each
+/// subtag; where those whose subtags begin alike start; and the stretches of the ranges.
 #[derive(Debug, Drop)]
 pub(crate) struct KindIndex {
     kind: Kind,
@@ -98,7 +98,7 @@ impl KindIndex {
     }
 }
 
-/// The single records of a kind, sorted by subtag; of equal names the first alone.
+/// The records of one subtag, of a kind, in the order of the subtags; the first alone for each subtag.
 fn singles(alloc: Global, entries: &[Entry], kind: Kind) -> Result<Vec<Row>, AllocError>
     ensures { IfOk result (λ rows. sorted.IsSingles entries.now kind rows.items) }
 {

@@ -19,8 +19,9 @@ pub trait Lookup {
         ensures rising { NumbersRise (listed self.now) }
         ensures forms { All IsEntry (listed self.now) };
 
-    /// The entry of a subtag under a kind: the first record of that name, else the first range that
-    /// holds it. No subtag has an entry as a grandfathered or redundant tag.
+    /// The entry of a subtag under a kind: the first record that names this subtag and no other; or,
+    /// without such a record, the first whose range holds it. No subtag has an entry as a
+    /// grandfathered or redundant tag.
     fn entry(&self, kind: Kind, subtag: &Subtag) -> Option<&Entry>
         ensures { option_copied result ≡ entry (listed self.now) kind subtag.now };
 

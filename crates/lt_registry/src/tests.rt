@@ -1,4 +1,6 @@
 mod answers;
+mod failing;
+mod growths;
 mod hostile;
 mod reading;
 mod sample;
@@ -83,5 +85,28 @@ fn records_with_entries(rt: HostRuntime) -> Result<(), Fail> {
     assert!(rt; has_english_alone(rt.alloc(), dated)?);
     let tagged = "Type: language\nSubtag: aa\nTag: --";
     assert!(rt; has_one_entry(rt.alloc(), tagged)?);
+    Ok(())
+}
+
+/// Whether an entry has the Prefix `ja-Latn` alone.
+fn has_japanese_prefix(entry: &Entry) -> bool {
+    let [prefix] = entry.prefixes() else {
+        return false;
+    };
+    match prefix.subtags() {
+        [language, script] => {
+            language.bytes() == b"ja".as_slice() && script.bytes() == b"latn".as_slice()
+        }
+        _ => false,
+    }
+}
+
+#[test]
+fn prefix_of_an_entry(rt: HostRuntime) -> Result<(), Fail> {
+    let text = b"Type: variant\nSubtag: hepburn\nPrefix: ja-Latn";
+    let Ok(registry) = registry_of(rt.alloc(), text)? else {
+        return Err(Fail::from("the registry is refused"));
+    };
+    assert!(rt; matches!(registry.entries(), [entry] if has_japanese_prefix(entry)));
     Ok(())
 }

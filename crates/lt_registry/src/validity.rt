@@ -27,7 +27,7 @@ pub fn validate<L: Lookup>(alloc: Global, table: &L, tag: &Tag) -> Result<(), Va
     check_tag(alloc, table, tag, false)
 }
 
-/// Whether a tag is valid, or lacks validity only because variants repeat.
+/// Whether nothing keeps a tag from being valid, or nothing but variants that repeat.
 pub fn proper<L: Lookup>(alloc: Global, table: &L, tag: &Tag) -> Result<bool, OutOfMemory>
     ensures answer { IfOk result (λ proper. IsTrue proper ↔ RepeatsAtMost (L.listed table.now) tag.now) }
     ensures memory { OnErr result (HasTransform (extensions_of tag.now)) }

@@ -11,10 +11,10 @@ use std::process::Abort;
 use std::test::Fail;
 
 /// A kind, a subtag, and the number of its record.
-type SubtagRow = (Kind, &'static str, Option<u32>);
+pub type SubtagRow = (Kind, &'static str, Option<u32>);
 
 /// Subtags of the sample.
-const SUBTAGS: [SubtagRow; 5] = [
+pub const SUBTAGS: [SubtagRow; 5] = [
     (Kind::Language, "iw", Some(9)),
     (Kind::Region, "xb", Some(30)),
     (Kind::Region, "us", None),
@@ -31,7 +31,7 @@ fn entry_number<L: Lookup>(table: &L, kind: Kind, subtag: &Subtag) -> Option<u32
 }
 
 /// Whether the entry of a subtag has this number.
-fn finds<L: Lookup>(table: &L, kind: Kind, text: &str, number: Option<u32>) -> bool {
+pub fn finds<L: Lookup>(table: &L, kind: Kind, text: &str, number: Option<u32>) -> bool {
     match Subtag::read(text.as_bytes()) {
         Ok(subtag) => entry_number(table, kind, &subtag) == number,
         Err(_) => false,
@@ -60,14 +60,14 @@ fn finds_hebrew<L: Lookup>(table: &L) -> bool {
 }
 
 /// Whole tags of the sample with the numbers of their records.
-const WHOLE_TAGS: [(&str, Option<u32>); 3] = [
+pub const WHOLE_TAGS: [(&str, Option<u32>); 3] = [
     ("sgn-DE", Some(44)),
     ("sgn-DE-x-a", None),
     ("i-klingon", Some(40)),
 ];
 
 /// The number of the entry of a whole tag.
-fn whole_number<L: Lookup>(table: &L, tag: &Tag) -> Option<u32> {
+pub fn whole_number<L: Lookup>(table: &L, tag: &Tag) -> Option<u32> {
     match table.whole(tag) {
         Some(entry) => Some(entry.number()),
         None => None,

@@ -2,12 +2,13 @@
 use super::has_record_fault;
 use super::sample::{list_table, sorted_table};
 use crate::{Kind, Lookup};
+use lt_jar::read_jar;
 use lt_subtag::Subtag;
 use std::alloc::{AllocError, Global};
 use std::test::Fail;
 
 /// The text of so many records of one line, whose type is unknown.
-fn many_records(alloc: Global, records: usize) -> Result<String, AllocError> {
+pub fn many_records(alloc: Global, records: usize) -> Result<String, AllocError> {
     let mut text = String::new(alloc);
     for _ in 0..records {
         text.push_str("Type: x\n%%\n")?;
@@ -18,6 +19,7 @@ fn many_records(alloc: Global, records: usize) -> Result<String, AllocError> {
 #[test]
 fn the_most_records_with_faults(rt: HostRuntime) -> Result<(), Fail> {
     let text = many_records(rt.alloc(), 100_000)?;
+    assert!(rt; read_jar(rt.alloc(), text.as_bytes())?.records().len() == 100_000);
     assert!(rt; has_record_fault(rt.alloc(), &text, "UnknownType")?);
     Ok(())
 }

@@ -1,9 +1,10 @@
 //! Registries that are read from pieces of a text.
+use super::hostile::many_records;
 use super::sample::sample_text;
 use super::{RECORD_FAULTS, is_english};
 use crate::Registry;
 use lt_jar::{Device, Pieces};
-use std::alloc::Global;
+use std::alloc::{AllocError, Global};
 use std::test::Fail;
 
 /// The sizes of the pieces in which a text is given.
@@ -21,9 +22,9 @@ fn answer(alloc: Global, mut device: Device<Pieces<'_>>) -> Result<String, Fail>
 }
 
 /// Whether a text has this answer, whatever the size of its pieces.
-fn answers(alloc: Global, text: &str, told: &str) -> Result<bool, Fail> {
+fn answers(alloc: Global, text: &[u8], told: &str) -> Result<bool, Fail> {
     for size in &SIZES {
-        let device = Device::new(Pieces::once(text.as_bytes(), *size));
+        let device = Device::new(Pieces::once(text, *size));
         if answer(alloc, device)?.as_str() != told {
             return Ok(false);
         }
@@ -32,31 +33,98 @@ fn answers(alloc: Global, text: &str, told: &str) -> Result<bool, Fail> {
 }
 
 /// Texts and their answers: the lowest record at fault, but a fault of the jar before it.
-const TEXTS: [(&str, &str); 6] = [
-    ("", "ok 0"),
+const TEXTS: [(&[u8], &str); 11] = [
+    (b"", "ok 0"),
+    (b"%%\n\n%%\n", "ok 0"),
     (
-        "Type: language\nSubtag: en\n%%\nType: script",
+        b"Type: language\nSubtag: en\n%%\n  x",
+        "LeadingContinuation in line 4",
+    ),
+    (b"abc", "BadLine in line 1"),
+    (b"Type: a\nB: \xff", "NotUtf8 in line 2"),
+    (b"A:\n  b \n\tc", "MissingType 1"),
+    (
+        b"Type: language\nSubtag: en\n%%\nType: script",
         "MissingName 2",
     ),
-    ("Type: language\n%%\nSubtag: en", "MissingName 1"),
-    ("Subtag: en\n%%\nabc", "BadLine in line 3"),
+    (b"Type: language\n%%\nSubtag: en", "MissingName 1"),
+    (b"Subtag: en\n%%\nabc", "BadLine in line 3"),
     (
-        "Subtag: en\n%%\nType: x\n%%\n b",
+        b"Subtag: en\n%%\nType: x\n%%\n b",
         "LeadingContinuation in line 5",
     ),
-    ("File-Date: x\n%%\nTYPE : Language\nSUBTAG: EN", "ok 1"),
+    (b"File-Date: x\n%%\nTYPE : Language\nSUBTAG: EN", "ok 1"),
 ];
 
 #[test]
 fn texts_in_pieces(rt: HostRuntime) -> Result<(), Fail> {
     for (text, told) in &TEXTS {
-        assert!(rt; answers(rt.alloc(), text, told)?, "{text}");
+        assert!(rt; answers(rt.alloc(), text, told)?, "{told}");
     }
     for (text, name) in &RECORD_FAULTS {
         let told = format!(in rt.alloc(); "{name} 1")?;
-        assert!(rt; answers(rt.alloc(), text, told.as_str())?, "{text}");
+        assert!(rt;
+            answers(rt.alloc(), text.as_bytes(), told.as_str())?,
+            "{text}"
+        );
     }
-    assert!(rt; answers(rt.alloc(), sample_text(rt.alloc())?.as_str(), "ok 46")?);
+    Ok(())
+}
+
+/// The sample with carriage returns, a folded field in its sixth record, and no end of its last
+/// line.
+fn returned_text(alloc: Global) -> Result<String, AllocError> {
+    let sample = sample_text(alloc)?;
+    let mut text = String::new(alloc);
+    for (i, line) in sample.lines().enumerate() {
+        if i > 0 {
+            text.push_str("\r\n")?;
+        }
+        text.push_str(line)?;
+        if line == "Subtag: he" {
+            text.push_str("\r\nDescription: Modern\r\n Hebrew")?;
+        }
+    }
+    Ok(text)
+}
+
+#[test]
+fn sample_in_pieces(rt: HostRuntime) -> Result<(), Fail> {
+    let sample = sample_text(rt.alloc())?;
+    assert!(rt; answers(rt.alloc(), sample.as_bytes(), "ok 46")?);
+    let returned = returned_text(rt.alloc())?;
+    assert!(rt; returned.len() == 2_140);
+    assert!(rt; answers(rt.alloc(), returned.as_bytes(), "ok 46")?);
+    Ok(())
+}
+
+/// A field `Comments` whose body has so many letters.
+fn long_line(alloc: Global, letters: usize) -> Result<String, AllocError> {
+    let mut text = String::from_str(alloc, "Comments: ")?;
+    for _ in 0..letters {
+        text.push('a')?;
+    }
+    Ok(text)
+}
+
+#[test]
+fn longest_line_in_pieces(rt: HostRuntime) -> Result<(), Fail> {
+    let longest = long_line(rt.alloc(), 65_526)?;
+    assert!(rt; answers(rt.alloc(), longest.as_bytes(), "MissingType 1")?);
+    let longer = long_line(rt.alloc(), 65_527)?;
+    assert!(rt; answers(rt.alloc(), longer.as_bytes(), "LineTooLong in line 1")?);
+    Ok(())
+}
+
+/// The record at fault is told only where no more records follow than a text may have.
+#[test]
+fn most_records_in_pieces(rt: HostRuntime) -> Result<(), Fail> {
+    let mut text = many_records(rt.alloc(), 100_000)?;
+    let device = Device::new(Pieces::once(text.as_bytes(), 64));
+    assert!(rt; answer(rt.alloc(), device)?.as_str() == "UnknownType 1");
+    text.push_str("Type: x\n")?;
+    let device = Device::new(Pieces::once(text.as_bytes(), 64));
+    assert!(rt; answer(rt.alloc(), device)?.as_str() == "TooManyRecords in line 200001");
     Ok(())
 }
 

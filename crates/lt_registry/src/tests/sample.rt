@@ -93,6 +93,19 @@ pub fn sample_text(alloc: Global) -> Result<String, AllocError> {
     Ok(text)
 }
 
+/// The text with carriage returns, and a folded field in its sixth record.
+pub fn returned_text(alloc: Global) -> Result<String, AllocError> {
+    let mut text = String::new(alloc);
+    for line in sample_text(alloc)?.as_str().lines() {
+        text.push_str(line)?;
+        text.push_str("\r\n")?;
+        if line == "Subtag: he" {
+            text.push_str("Description: Modern\r\n Hebrew\r\n")?;
+        }
+    }
+    Ok(text)
+}
+
 /// The entries of a registry's text, or its fault.
 pub fn registry_of(alloc: Global, text: &[u8]) -> Result<Result<Registry, RecordFault>, Fail> {
     let jar = read_jar(alloc, text)?;
