@@ -36,7 +36,7 @@ value_form R G k s v e =
     let has : IsEntry en.at = valued_has R k s v IsEntry G.forms en in
     subst (λ k. has_value_form k v ≡ true) en.of_kind (value_form_at en.at.kind en.at.value v has.value en.gives)
 
--- a value of a language, script or region is registered
+-- what a language, script or region has as its value is registered
 pub value_registered : (R : List EntryParts) → MeetsCoreConditions R → (k : Kind) (s v : List ℕ) → keeps_kind k ≡ true → value R k s ≡ Some v → is_registered R k v ≡ true
 value_registered R C k s v keeps e =
     let en : ValuedEntry R k s v = valued R k s v e in

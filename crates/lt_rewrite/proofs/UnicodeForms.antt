@@ -24,7 +24,7 @@ text_total = nat_list_cmp_total
 pub key_total : IsTotalOrder key_cmp
 key_total = on_total (λ (k : KeywordParts). k.key) text_total
 
--- a keyword whose types are exactly true loses it
+-- true goes where it is all the types of a keyword
 record LosesTrue (k l : KeywordParts) : Type 0 where
   sole : k.types ≡ codes "true" ∷ []
   result : l ≡ record { key = k.key; types = [] }

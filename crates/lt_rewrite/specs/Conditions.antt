@@ -29,11 +29,11 @@ keeps_kind kinds.Script = true
 keeps_kind kinds.Region = true
 keeps_kind _ = false
 
--- The value of a language, script or region is registered under its kind.
+-- If a language, script or region has a value, then that value is registered too, as the same kind.
 abbrev pub HasRegisteredValue : List EntryParts → EntryParts → Type 0
 HasRegisteredValue R e = keeps_kind e.kind ≡ true → (v : List ℕ) → one_of e.value ≡ Some v → is_registered R e.kind v ≡ true
 
--- the value that follows in a chain: a variant's chain follows variant values alone, and extlangs have none
+-- the value that follows in a chain: after a variant only a variant, and none after an extlang
 abbrev pub next_value : List EntryParts → Kind → List ℕ → Option (List ℕ)
 next_value R kinds.Language s = value R kinds.Language s
 next_value R kinds.Extlang s = None
@@ -43,7 +43,7 @@ next_value R kinds.Variant s = variant_value R s
 next_value R kinds.Grandfathered s = None
 next_value R kinds.Redundant s = None
 
--- The chain of values from the value of a language, script, region or variant comes to an end.
+-- If a language, script, region or variant has a value, the chain of values that begins with this value ends.
 abbrev pub HasEndingChain : List EntryParts → EntryParts → Type 0
 HasEndingChain R e = (v : List ℕ) → one_of e.value ≡ Some v → Ends (next_value R e.kind) v
 
@@ -69,21 +69,22 @@ pub record IsFittingExtlang (R : List EntryParts) (e : EntryParts) : Type 0 wher
 abbrev pub FitsAsExtlang : List EntryParts → EntryParts → Type 0
 FitsAsExtlang R e = e.kind ≡ kinds.Extlang → IsFittingExtlang R e
 
--- The value of a variant is a registered language of 2 or 3 letters, or a registered variant that has no language
--- value.
+-- If a variant has a value, that value is registered: one of 2 or 3 letters as a language, a longer one as a variant,
+-- whose own value, if any, is no language.
 abbrev pub HasFittingVariantValue : List EntryParts → EntryParts → Type 0
 HasFittingVariantValue R e =
     e.kind ≡ kinds.Variant → (v : List ℕ) → one_of e.value ≡ Some v →
     ((is_short v ≡ true) × (is_registered R kinds.Language v ≡ true))
     ⊎ ((is_short v ≡ false) × (is_registered R kinds.Variant v ≡ true) × (language_value R v ≡ None))
 
--- A variant with a language value has at least one Prefix, and each is one subtag, a final language.
+-- If the value of a variant is a language, the variant names one Prefix or more, and every one of them is a single
+-- subtag, a final language.
 abbrev pub StandsBesideFinalLanguages : List EntryParts → EntryParts → Type 0
 StandsBesideFinalLanguages R e =
     e.kind ≡ kinds.Variant → (v : List ℕ) → one_of e.value ≡ Some v → is_short v ≡ true →
     (e.prefixes ≢ []) × AllByRecursion (λ (p : List (List ℕ)). (l : List ℕ) × (p ≡ l ∷ []) × IsFinalLanguage R l) e.prefixes
 
--- Each Prefix of a variant is a langtag without extensions and private use.
+-- Whatever Prefix a variant names is a langtag and a core alone.
 abbrev pub HasLangtagPrefixes : List EntryParts → EntryParts → Type 0
 HasLangtagPrefixes R e =
     e.kind ≡ kinds.Variant →
@@ -95,8 +96,8 @@ second_entry R (x ∷ xs) vs = entry R kinds.Extlang x
 second_entry R [] (v ∷ vs) = entry R kinds.Variant v
 second_entry R [] [] = None
 
--- The tag of a grandfathered record is one of the 26; and no regular one of them is valid as a langtag because of
--- this record.
+-- A grandfathered record has one of the 26 tags; and this record is not the entry of the second subtag of a regular one
+-- of them that is valid, read as a langtag.
 pub record FitsGrandfathered (R : List EntryParts) (e : EntryParts) : Type 0 where
   pub named : e.kind ≡ kinds.Grandfathered → (number : ℕ) × (e.name ≡ names.Whole (Grandfathered number))
   pub regular : (c : CoreParts) (number : ℕ) → IsCore c → IsGrandfathered (spell_core c) number → IsValidCore R c →

@@ -22,7 +22,7 @@ separator_cmp a b = text_cmp a.separator b.separator
 abbrev pub singleton_cmp : ExtensionParts → ExtensionParts → Ordering
 singleton_cmp a b = nat_cmp a.singleton b.singleton
 
--- a keyword whose types are exactly true loses it
+-- true goes where it is all the types of a keyword
 pub record DropsTrue (before : List KeywordParts) (k : KeywordParts) (after : List KeywordParts) (p q : List KeywordParts) : Type 0 where
   pub there : p ≡ before ++ k ∷ after
   pub sole : k.types ≡ codes "true" ∷ []

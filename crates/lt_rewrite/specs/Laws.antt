@@ -17,7 +17,7 @@ pub record IsOneNormalForm (R : List EntryParts) (c d : CoreParts) : Type 0 wher
   pub normal : IsCoreNormalForm (values_of R) c d
   pub alone : (e : CoreParts) → IsCoreNormalForm (values_of R) c e → e ≡ d
 
--- each core has exactly one core normal form
+-- each core has a core normal form and no second one
 abbrev pub HasOneNormalForm : List EntryParts → Type 0
 HasOneNormalForm R = (c : CoreParts) → (d : CoreParts) × IsOneNormalForm R c d
 

@@ -8,7 +8,7 @@ use Rattle.lt_rewrite.specs.Rewriting.{Star, Rests, Equivalent}
 use Rattle.lt_rewrite.specs.CoreSteps.{values_of, CoreStep}
 use Rattle.lt_rewrite.specs.Extensions.{ExtensionsStep}
 
--- a grandfathered tag, or a langtag without extensions and private use
+-- a tag that is grandfathered, or a langtag and a core alone
 abbrev pub IsPlain : TagForm → Type 0
 IsPlain (Grandfathered n) = Unit {0}
 IsPlain (LangTag c es ps) = (es ≡ []) × (ps ≡ [])
@@ -36,7 +36,7 @@ pub data TagChange (R : List EntryParts) (t u : TagForm) : Type 0 where
   on_extensions : (c : CoreParts) (es fs : List ExtensionParts) (ps : List (List ℕ)) → ExtensionsChange R c es fs ps t u → TagChange R t u
   on_whole : WholeChange R t u → TagChange R t u
 
--- A step leads from a proper tag to a proper tag. So no core step leads to what spells a grandfathered tag.
+-- A step makes a proper tag of a proper tag. So no core step leads to what spells a grandfathered tag.
 pub record TagStep (R : List EntryParts) (t u : TagForm) : Type 0 where
   pub from : IsProper R t
   pub to : IsProper R u
@@ -49,7 +49,7 @@ IsReached R t u = Star (TagStep R) t u
 abbrev pub AreEquivalent : List EntryParts → TagForm → TagForm → Type 0
 AreEquivalent R t u = Equivalent (TagStep R) t u
 
--- a valid tag from which no step leads
+-- a valid tag that no step leaves
 pub record IsCanonical (R : List EntryParts) (t : TagForm) : Type 0 where
   pub valid : IsValid R t
   pub at_rest : Rests (TagStep R) t

@@ -8,7 +8,7 @@ use std::fmt;
 /// Why a step is not applied to a tag.
 #[derive(Clone, Copy, Debug, Drop, PartialEq, Eq)]
 pub enum ApplyFault {
-    /// The step does not lead from the tag to a proper tag.
+    /// The step leads from the tag nowhere, or to no proper tag.
     NoSuchStep,
     /// A growth of memory was refused.
     OutOfMemory,

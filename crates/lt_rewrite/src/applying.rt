@@ -21,7 +21,7 @@ use lt_subtag::Subtag;
 use lt_tag::{Class, Core, Extension, OutOfMemory, Tag};
 use std::alloc::Global;
 
-/// A grandfathered tag, or a langtag without extensions and private use.
+/// Whether a tag is grandfathered, or a langtag and a core alone.
 fn is_plain(tag: &Tag) -> bool
     ensures { MatchBool result (IsPlain tag.now) (IsPlain tag.now → ⊥) }
 {

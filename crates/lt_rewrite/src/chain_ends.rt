@@ -16,11 +16,20 @@ use std::fmt;
 #[derive(Clone, Copy, Debug, Drop, PartialEq, Eq)]
 pub struct Cycle;
 
+impl Cycle {
+    /// The fault's name, as it is written here.
+    pub fn name(self) -> &'static str
+        ensures { result.now ≡ codes "Cycle" }
+    {
+        "Cycle"
+    }
+}
+
 impl fmt::Display for Cycle {
     ghost output = { λ _. Some (codes "Cycle") };
 
     fn fmt<W: fmt::Write>(&self, f: &mut fmt::Formatter<W>) -> fmt::Result {
-        write!(f, "Cycle")
+        f.write_str(self.name())
     }
 }
 
@@ -119,11 +128,11 @@ pub(crate) fn replacement<L: Lookup>(table: &L, extlang: &Subtag) -> Subtag
     }
 }
 
-/// The last subtag of the chain of values that begins with a subtag of a kind. A variant's chain
-/// follows variant values alone; for an extlang it is the chain of its replacement as a language,
-/// where an extlang that has no value, or is not registered, is its own replacement. Any other subtag
-/// without a value is its own end. Refused exactly where the chain has no end. Takes no memory; it
-/// looks up at most one subtag more than there are entries.
+/// Where the chain of values that begins with a subtag of a kind comes to an end: the subtag that no
+/// value follows. From a variant only variants follow. In place of an extlang the chain begins with
+/// the language that replaces it, which is the extlang itself where it has no value or no entry.
+/// Refused exactly where the chain has no end. Takes no memory; it looks up at most one subtag more
+/// than there are entries.
 pub fn chain_end<L: Lookup>(table: &L, kind: Kind, subtag: &Subtag) -> Result<Subtag, Cycle>
     ensures end { IfOk result (λ end. ChainEndsIn (L.listed table.now) kind subtag.now end) }
     ensures cycle { OnErr result (ChainEnds (L.listed table.now) kind subtag.now → ⊥) }

@@ -148,9 +148,8 @@ fn first_core_step<L: Lookup>(table: &L, core: &Core, start: usize) -> Option<St
 }
 
 /// Takes the steps on a core that begins after so many subtags, each the first that leads on, until
-/// none does, and adds them to others. The chains of the registry end, as they do where
-/// `first_cycle` is None. It is refused for want of memory alone.
-pub fn explain_core<L: Lookup>(
+/// none does, and adds them to others. Where it is refused, it may have taken some of them.
+pub(crate) fn take_core_steps<L: Lookup>(
     table: &L,
     core: &mut Core,
     start: usize,
@@ -166,4 +165,23 @@ pub fn explain_core<L: Lookup>(
         steps.push(step)?;
     }
     Ok(())
+}
+
+/// Takes the steps on a core that begins after so many subtags, each the first that leads on, until
+/// none does, and adds them to others. It gives back the core to which they lead, and all the steps.
+/// The chains of the registry end, as they do where `first_cycle` is None. It is refused for want of
+/// memory alone.
+pub fn explain_core<L: Lookup>(
+    table: &L,
+    mut core: Core,
+    start: usize,
+    mut steps: Vec<Step>,
+) -> Result<(Core, Vec<Step>), OutOfMemory>
+    requires chains { All (HasEndingChain (L.listed table.now)) (L.listed table.now) }
+    requires few { start ≤ 1200000 }
+    ensures adds { IfOk result (λ explained. AddsOnCore (L.listed table.now) start core explained.0 steps.items explained.1.items) }
+    ensures at_rest { IfOk result (λ explained. NoneLeads (CoreLeads (L.listed table.now) start explained.0)) }
+{
+    take_core_steps(table, &mut core, start, &mut steps)?;
+    Ok((core, steps))
 }

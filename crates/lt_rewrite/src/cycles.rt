@@ -80,8 +80,8 @@ fn first_endless<L: Lookup>(table: &L) -> Option<u32>
 }
 
 /// The lowest number of a record from whose value the chain of values has no end. None where each
-/// chain ends, as `settle_core` and the other settling calls ask for. A variant's chain follows
-/// variant values alone.
+/// chain ends, as `settle_core` and the other settling calls ask for. From a variant only variants
+/// follow.
 ///
 /// Takes no memory. Each chain is followed only to the first record that stands before its own in
 /// an order of the numbers that has nothing to do with the file's. So where all chains end, it

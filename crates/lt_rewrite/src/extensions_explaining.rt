@@ -85,27 +85,27 @@ fn explained_transform<L: Lookup>(
 }
 
 /// Takes the steps on extensions that begin after so many subtags, each the first that leads on,
-/// until none does, and adds them to others. Each singleton stands once, a `t` extension has the form
-/// of one, and the chains of the registry end, as they do where `first_cycle` is None. It is refused
-/// for want of memory alone.
+/// until none does, and adds them to others. It gives back the extensions to which they lead, and
+/// all the steps. Each singleton stands once, a `t` extension has the form of one, and the chains of
+/// the registry end, as they do where `first_cycle` is None. It is refused for want of memory alone.
 pub fn explain_extensions<L: Lookup>(
     alloc: Global,
     table: &L,
-    extensions: &mut Vec<Extension>,
+    mut extensions: Vec<Extension>,
     start: usize,
-    steps: &mut Vec<Step>,
-) -> Result<(), OutOfMemory>
+    mut steps: Vec<Step>,
+) -> Result<(Vec<Extension>, Vec<Step>), OutOfMemory>
     requires chains { All (HasEndingChain (L.listed table.now)) (L.listed table.now) }
-    requires singletons { Distinct (map (λ (e : ExtensionParts). e.singleton) extensions.old.items) }
-    requires transforms { AllByRecursion (λ (e : ExtensionParts). e.singleton ≡ transform → (p : TForm) × IsTransform e.subtags p) extensions.old.items }
-    requires few { start + length (spell_extensions extensions.old.items) ≤ 1100000 }
-    ensures adds { IfOk result (λ _. AddsOnExtensions (L.listed table.now) start extensions.old.items extensions.new.items steps.old.items steps.new.items) }
-    ensures at_rest { IfOk result (λ _. NoneLeads (ExtensionsLeads (L.listed table.now) start extensions.new.items)) }
+    requires singletons { Distinct (map (λ (e : ExtensionParts). e.singleton) extensions.items) }
+    requires transforms { AllByRecursion (λ (e : ExtensionParts). e.singleton ≡ transform → (p : TForm) × IsTransform e.subtags p) extensions.items }
+    requires few { start + length (spell_extensions extensions.items) ≤ 1100000 }
+    ensures adds { IfOk result (λ explained. AddsOnExtensions (L.listed table.now) start extensions.items explained.0.items steps.items explained.1.items) }
+    ensures at_rest { IfOk result (λ explained. NoneLeads (ExtensionsLeads (L.listed table.now) start explained.0.items)) }
 {
-    explain_swaps(extensions, start, StepKind::SwapExtensions, steps)?;
-    let unicode = explained_unicode(alloc, extensions, start, steps)?;
-    put_back(extensions, unicode);
-    let transform = explained_transform(alloc, table, extensions, start, steps)?;
-    put_back(extensions, transform);
-    Ok(())
+    explain_swaps(&mut extensions, start, StepKind::SwapExtensions, &mut steps)?;
+    let unicode = explained_unicode(alloc, &extensions, start, &mut steps)?;
+    put_back(&mut extensions, unicode);
+    let transform = explained_transform(alloc, table, &extensions, start, &mut steps)?;
+    put_back(&mut extensions, transform);
+    Ok((extensions, steps))
 }

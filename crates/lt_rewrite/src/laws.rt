@@ -12,8 +12,8 @@ pub fn chains_end()
     ensures end { (R : List EntryParts) → All (HasEndingChain R) R → ChainsEnd R }
 {}
 
-/// Under the conditions on core steps each core has exactly one core normal form, and each core
-/// step keeps it.
+/// Under the conditions on core steps each core has a core normal form and no second one, and each
+/// core step keeps it.
 pub fn one_core_normal_form()
     ensures one { (R : List EntryParts) → MeetsCoreConditions R → HasOneNormalForm R }
     ensures kept { (R : List EntryParts) → MeetsCoreConditions R → StepsKeepNormalForm R }

@@ -29,7 +29,7 @@ pub enum StepKind {
     DropKeyword,
     /// Two neighbouring keywords in falling order of their keys change places.
     SwapKeywords,
-    /// A keyword whose types are exactly `true` loses it.
+    /// `true` goes where it is all the types of a keyword.
     DropTrue,
     /// Two neighbouring fields in falling order of their separators change places.
     SwapFields,

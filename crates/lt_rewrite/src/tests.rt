@@ -1,24 +1,35 @@
 mod applying;
 mod core_explaining;
 mod extensions_explaining;
+mod growths;
 mod sample;
 mod shortcuts;
 
-ghost use Rattle.std.specs.Prelude.{◌≡◌, IfOk};
+ghost use Rattle.std.specs.Prelude.{◌≡◌, List, All, IfOk, OnOk, map};
+ghost use Rattle.std.specs.List.{AllByRecursion};
+ghost use Rattle.lt_tag.specs.Parts.{ExtensionParts, TForm};
+ghost use Rattle.lt_tag.specs.Extensions.{transform, IsTransform};
+ghost use Rattle.lt_registry.specs.Faults.{HasNoFault};
+ghost use Rattle.lt_registry.specs.Validity.{Distinct};
+ghost use Rattle.lt_rewrite.specs.Conditions.{HasEndingChain};
 
 use super::*;
-use lt_registry::{Kind, ListTable, validate};
+use crate::copies::copy_extensions;
+use growths::twice;
+use lt_registry::{Kind, ListTable, ValidRefusal, validate};
 use lt_subtag::Subtag;
-use lt_tag::{Core, Extension, OutOfMemory, TagFault, join_t, join_u, read_tag, split_t, split_u};
+use lt_tag::{
+    Core, Extension, OutOfMemory, Tag, TagFault, join_t, join_u, read_tag, split_t, split_u,
+};
 use sample::{sample, sample_with_cycle};
 use std::alloc::Global;
 use std::test::Fail;
 
 /// A copy of the core of a text's tag.
 fn core_of(alloc: Global, text: &str) -> Result<Core, Fail> {
-    let tag = read_tag(alloc, text.as_bytes())?;
+    let tag = twice(|| read_tag(alloc, text.as_bytes()))?;
     match tag.core() {
-        Some(core) => Ok(core.copy(alloc)?),
+        Some(core) => Ok(twice(|| core.copy(alloc))?),
         None => Err(Fail::from("no langtag")),
     }
 }
@@ -70,9 +81,9 @@ fn settled_u(alloc: Global, extension: &Extension) -> Result<Extension, Fail> {
     if extension.singleton() != b'u' {
         return Err(Fail::from("no u"));
     }
-    let mut parts = split_u(alloc, extension)?;
+    let mut parts = twice(|| split_u(alloc, extension))?;
     settle_u(alloc, &mut parts)?;
-    Ok(join_u(alloc, &parts)?)
+    Ok(twice(|| join_u(alloc, &parts))?)
 }
 
 /// The normal form of a `t` extension.
@@ -80,9 +91,9 @@ fn settled_t(alloc: Global, table: &ListTable, extension: &Extension) -> Result<
     if extension.singleton() != b't' || first_cycle(table).is_some() {
         return Err(Fail::from("no t"));
     }
-    let mut parts = split_t(alloc, extension)?;
+    let mut parts = twice(|| split_t(alloc, extension))?;
     settle_t(alloc, table, &mut parts)?;
-    Ok(join_t(alloc, &parts)?)
+    Ok(twice(|| join_t(alloc, &parts))?)
 }
 
 /// The normal form of a `u` or a `t` extension.
@@ -95,7 +106,7 @@ fn settled(alloc: Global, table: &ListTable, extension: &Extension) -> Result<Ex
 
 /// The normal form of the one extension of a text's tag.
 fn settled_extension(alloc: Global, table: &ListTable, text: &str) -> Result<Extension, Fail> {
-    let tag = read_tag(alloc, text.as_bytes())?;
+    let tag = twice(|| read_tag(alloc, text.as_bytes()))?;
     match tag.extensions() {
         [extension] => settled(alloc, table, extension),
         _ => Err(Fail::from("not one extension")),
@@ -108,7 +119,7 @@ fn are_extensions_of(
     extensions: &[Extension],
     text: &str,
 ) -> Result<bool, TagFault> {
-    let tag = read_tag(alloc, text.as_bytes())?;
+    let tag = twice(|| read_tag(alloc, text.as_bytes()))?;
     Ok(same_extensions(extensions, tag.extensions()))
 }
 
@@ -157,27 +168,53 @@ const EXTENSIONS: [(&str, &str); 11] = [
     ("en-t-iw-t0-aaa", "en-t-he-t0-aaa"),
 ];
 
-#[test]
-fn extensions(rt: HostRuntime) -> Result<(), Fail> {
-    let table = sample(rt.alloc())?;
-    for (text, other) in &EXTENSIONS {
-        assert!(rt;
-            extension_settles_to(rt.alloc(), &table, text, other)?,
-            "{text}"
-        );
+/// Judges a tag, again where memory is refused.
+fn judge(alloc: Global, table: &ListTable, tag: &Tag) -> Result<(), ValidRefusal>
+    ensures { OnOk result (HasNoFault table.now tag.now) }
+{
+    match validate(alloc, table, tag) {
+        Ok(()) => Ok(()),
+        Err(_) => validate(alloc, table, tag),
     }
-    Ok(())
 }
 
-/// Copies of extensions.
+/// Copies of extensions, made again where memory is refused.
 fn copies(alloc: Global, extensions: &[Extension]) -> Result<Vec<Extension>, OutOfMemory>
     ensures { IfOk result (λ copies. copies.items ≡ extensions.now) }
 {
-    let mut copies = Vec::new(alloc);
-    for extension in extensions {
-        copies.push(extension.copy(alloc)?)?;
+    match copy_extensions(alloc, extensions) {
+        Ok(copies) => Ok(copies),
+        Err(_) => copy_extensions(alloc, extensions),
     }
-    Ok(copies)
+}
+
+/// Settles extensions, again where memory is refused and they are what they were.
+fn settle(
+    alloc: Global,
+    table: &ListTable,
+    extensions: &mut Vec<Extension>,
+    before: &[Extension],
+) -> Result<(), OutOfMemory>
+    requires chains { All (HasEndingChain table.now) table.now }
+    requires singletons { Distinct (map (λ (e : ExtensionParts). e.singleton) extensions.old.items) }
+    requires transforms { AllByRecursion (λ (e : ExtensionParts). e.singleton ≡ transform → (p : TForm) × IsTransform e.subtags p) extensions.old.items }
+{
+    match settle_extensions(alloc, table, extensions) {
+        Err(OutOfMemory) if same_extensions(extensions, before) => {
+            settle_extensions(alloc, table, extensions)
+        }
+        answer => answer,
+    }
+}
+
+/// Refuses a table of which a chain has no end.
+fn know_chains(table: &ListTable) -> Result<(), &'static str>
+    ensures { OnOk result (All (HasEndingChain table.now) table.now) }
+{
+    match first_cycle(table) {
+        Some(_) => Err("a cycle"),
+        None => Ok(()),
+    }
 }
 
 /// The normal form of a valid tag's extensions.
@@ -186,13 +223,11 @@ fn settled_extensions(
     table: &ListTable,
     text: &str,
 ) -> Result<Vec<Extension>, Fail> {
-    let tag = read_tag(alloc, text.as_bytes())?;
-    validate(alloc, table, &tag)?;
-    if first_cycle(table).is_some() {
-        return Err(Fail::from("a cycle"));
-    }
+    let tag = twice(|| read_tag(alloc, text.as_bytes()))?;
+    judge(alloc, table, &tag)?;
+    know_chains(table)?;
     let mut extensions = copies(alloc, tag.extensions())?;
-    settle_extensions(alloc, table, &mut extensions)?;
+    settle(alloc, table, &mut extensions, tag.extensions())?;
     Ok(extensions)
 }
 
@@ -208,22 +243,17 @@ fn list_settles_to(
 }
 
 /// Texts with extensions, and with their normal form.
-const LISTS: [(&str, &str); 2] = [
+const LISTS: [(&str, &str); 3] = [
     ("en-b-ccc-bbb-a-aaa", "en-a-aaa-b-ccc-bbb"),
     (
         "en-u-nu-latn-ca-buddhist-t-iw-t0-aaa-a-bbb",
         "en-a-bbb-t-he-t0-aaa-u-ca-buddhist-nu-latn",
     ),
+    (
+        "en-u-kn-true-t-zh-yue-m0-names-a0-xyz",
+        "en-t-yue-a0-xyz-m0-names-u-kn",
+    ),
 ];
-
-#[test]
-fn lists_of_extensions(rt: HostRuntime) -> Result<(), Fail> {
-    let table = sample(rt.alloc())?;
-    for (text, other) in &LISTS {
-        assert!(rt; list_settles_to(rt.alloc(), &table, text, other)?, "{text}");
-    }
-    Ok(())
-}
 
 /// Whether the chain of a subtag ends in another.
 fn chain_ends_in(table: &ListTable, kind: Kind, subtag: &Subtag, end: &str) -> bool {
@@ -253,7 +283,6 @@ const CHAINS: [(Kind, &str, &str); 4] = [
 fn ends_of_chains(rt: HostRuntime) -> Result<(), Fail> {
     let table = sample(rt.alloc())?;
     assert!(rt; first_cycle(&table).is_none());
-    assert!(rt; first_cycle_in(rt.alloc(), &table)?.is_none());
     for (kind, text, end) in &CHAINS {
         assert!(rt; ends_in(&table, *kind, text, end), "{text}");
     }
@@ -273,7 +302,6 @@ fn chains_without_end(rt: HostRuntime) -> Result<(), Fail> {
     let table = sample_with_cycle(rt.alloc())?;
     assert!(rt; is_endless(&table, "he"));
     assert!(rt; first_cycle(&table) == Some(6));
-    assert!(rt; first_cycle_in(rt.alloc(), &table)? == Some(6));
     Ok(())
 }
 
@@ -281,4 +309,25 @@ fn chains_without_end(rt: HostRuntime) -> Result<(), Fail> {
 fn names_of_kinds(rt: HostRuntime) {
     assert!(rt; StepKind::VariantLanguage.name() == "VariantLanguage");
     assert!(rt; StepKind::DropTrue.name() == "DropTrue");
+}
+
+#[test]
+fn name_of_a_cycle(rt: HostRuntime) -> Result<(), Fail> {
+    assert!(rt; Cycle.name() == "Cycle");
+    assert!(rt; format!(in rt.alloc(); "{}", Cycle)?.as_str() == "Cycle");
+    Ok(())
+}
+
+/// Texts of cores, and how many subtags they have.
+const LENGTHS: [(&str, usize); 2] = [("de", 1), ("zh-cmn-Hans-DE-1901-hepburn", 6)];
+
+#[test]
+fn lengths_of_cores(rt: HostRuntime) -> Result<(), Fail> {
+    for (text, length) in &LENGTHS {
+        assert!(rt;
+            core_length(&core_of(rt.alloc(), text)?) == *length,
+            "{text}"
+        );
+    }
+    Ok(())
 }

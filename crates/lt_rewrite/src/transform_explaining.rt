@@ -7,7 +7,7 @@ ghost use Rattle.lt_rewrite.specs.Conditions.{HasEndingChain};
 ghost use Rattle.lt_rewrite.specs.Applying.{CoreLeads, TransformLeads};
 ghost use Rattle.lt_rewrite.specs.Runs.{NoneLeads, AddsOnTransform};
 
-use crate::core_explaining::explain_core;
+use crate::core_explaining::take_core_steps;
 use crate::extension_settling::recall_forms;
 use crate::field_applying::source_length;
 use crate::part_explaining::explain_swaps;
@@ -32,7 +32,7 @@ fn explain_source<L: Lookup>(
     let Some(source) = &mut parts.source else {
         return Ok(());
     };
-    explain_core(table, source, start, steps)
+    take_core_steps(table, source, start, steps)
 }
 
 /// Takes the steps on the parts of a `t` extension whose singleton stands at a place, each the first

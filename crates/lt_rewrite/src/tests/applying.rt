@@ -1,10 +1,20 @@
-use super::sample::{sample, sorted_sample};
+ghost use Rattle.std.specs.Prelude.{◌↔◌, IsTrue, IfOk};
+ghost use Rattle.lt_registry.specs.Validity.{IsProper};
+ghost use Rattle.lt_registry.specs.Faults.{RepeatsAtMost};
+
+use super::growths::twice;
+use super::sample::sorted_sample;
 use crate::{ApplyFault, Step, StepKind, apply};
 use lt_registry::{Lookup, proper};
 use lt_tag::{OutOfMemory, Tag, read_tag, write_tag};
 use std::alloc::Global;
 use std::process::Abort;
 use std::test::Fail;
+
+/// Whether a tag is printed so.
+fn is_printed(alloc: Global, tag: &Tag, text: &str) -> Result<bool, OutOfMemory> {
+    Ok(twice(|| write_tag(alloc, tag))?.as_slice() == text.as_bytes())
+}
 
 /// Whether an answer is a tag that is printed so, or a fault of that name.
 fn is_answer(
@@ -13,8 +23,36 @@ fn is_answer(
     wanted: &str,
 ) -> Result<bool, OutOfMemory> {
     match answer {
-        Ok(changed) => Ok(write_tag(alloc, &changed)?.as_slice() == wanted.as_bytes()),
+        Ok(changed) => is_printed(alloc, &changed, wanted),
         Err(fault) => Ok(fault.name() == wanted),
+    }
+}
+
+/// Whether a tag is proper, asked again where memory is refused.
+fn is_proper_tag<L: Lookup>(alloc: Global, table: &L, tag: &Tag) -> Result<bool, OutOfMemory>
+    ensures { IfOk result (λ proper. IsTrue proper ↔ RepeatsAtMost (L.listed table.now) tag.now) }
+{
+    match proper(alloc, table, tag) {
+        Ok(is_proper) => Ok(is_proper),
+        Err(_) => proper(alloc, table, tag),
+    }
+}
+
+/// The tag to which a step leads, asked again where memory is refused and the tag is what it was.
+fn applied<L: Lookup>(
+    alloc: Global,
+    table: &L,
+    tag: &Tag,
+    step: &Step,
+    text: &str,
+) -> Result<Tag, ApplyFault>
+    requires { IsProper (L.listed table.now) tag.now }
+{
+    match apply(alloc, table, tag, step) {
+        Err(ApplyFault::OutOfMemory) if is_printed(alloc, tag, text)? => {
+            apply(alloc, table, tag, step)
+        }
+        answer => answer,
     }
 }
 
@@ -26,13 +64,14 @@ fn leads<L: Lookup>(
     step: Step,
     wanted: &str,
 ) -> Result<bool, Fail> {
-    let tag = read_tag(alloc, text.as_bytes())?;
+    let tag = twice(|| read_tag(alloc, text.as_bytes()))?;
     let _ = tag.extensions();
-    let is_proper = proper(alloc, table, &tag)?;
+    let is_proper = is_proper_tag(alloc, table, &tag)?;
     if !is_proper {
         return Err(Fail::from("not proper"));
     }
-    Ok(is_answer(alloc, apply(alloc, table, &tag, &step), wanted)?)
+    let answer = applied(alloc, table, &tag, &step, text);
+    Ok(is_answer(alloc, answer, wanted)?)
 }
 
 /// Steps from tags: the kind, the place and the number, and the tag to which the step leads or the
@@ -79,7 +118,7 @@ const STEPS: [(&str, StepKind, u32, u32, &str); 14] = [
 ];
 
 /// Each step leads where its row says.
-fn steps_lead<L: Lookup>(rt: &impl Abort, alloc: Global, table: &L) -> Result<(), Fail> {
+pub(super) fn steps_lead<L: Lookup>(rt: &impl Abort, alloc: Global, table: &L) -> Result<(), Fail> {
     for row in &STEPS {
         let (text, kind, place, number, wanted) = *row;
         let step = Step {
@@ -90,12 +129,6 @@ fn steps_lead<L: Lookup>(rt: &impl Abort, alloc: Global, table: &L) -> Result<()
         assert!(rt; leads(alloc, table, text, step, wanted)?, "{text}");
     }
     Ok(())
-}
-
-#[test]
-fn steps_by_the_list_table(rt: HostRuntime) -> Result<(), Fail> {
-    let table = sample(rt.alloc())?;
-    steps_lead(&rt, rt.alloc(), &table)
 }
 
 #[test]

@@ -1,5 +1,4 @@
 use super::core_of;
-use super::sample::sample;
 use crate::{Step, StepKind, explain_core, first_cycle};
 use lt_registry::ListTable;
 use std::alloc::Global;
@@ -8,7 +7,7 @@ use std::test::Fail;
 /// A tag, and the kinds, places and records of the steps on its core.
 type Row = (&'static str, &'static [(StepKind, u32, u32)]);
 
-const ROWS: [Row; 5] = [
+pub(super) const ROWS: [Row; 5] = [
     (
         "zh-yue-DD",
         &[(StepKind::Extlang, 2, 23), (StepKind::Region, 2, 27)],
@@ -34,14 +33,17 @@ const ROWS: [Row; 5] = [
     ("sgn-DE", &[]),
 ];
 
-/// The steps on a tag's core.
-fn explained(alloc: Global, table: &ListTable, text: &str) -> Result<Vec<Step>, Fail> {
+/// The steps on a tag's core. Where memory is refused, they are taken again.
+pub(super) fn explained(alloc: Global, table: &ListTable, text: &str) -> Result<Vec<Step>, Fail> {
     if first_cycle(table).is_some() {
         return Err(Fail::from("a cycle"));
     }
-    let mut core = core_of(alloc, text)?;
-    let mut steps = Vec::new(alloc);
-    explain_core(table, &mut core, 0, &mut steps)?;
+    let core = core_of(alloc, text)?;
+    let answer = explain_core(table, core, 0, Vec::new(alloc));
+    let (_core, steps) = match answer {
+        Ok(explained) => explained,
+        Err(_) => explain_core(table, core_of(alloc, text)?, 0, Vec::new(alloc))?,
+    };
     Ok(steps)
 }
 
@@ -50,14 +52,4 @@ pub(super) fn are_steps(steps: &[Step], wanted: &[(StepKind, u32, u32)]) -> bool
     steps.len() == wanted.len()
         && steps.iter().zip(wanted).all(|(step, other)| (step.kind, step.place, step.number)
             == *other)
-}
-
-#[test]
-fn steps_in_their_order(rt: HostRuntime) -> Result<(), Fail> {
-    let table = sample(rt.alloc())?;
-    for (text, wanted) in &ROWS {
-        let steps = explained(rt.alloc(), &table, text)?;
-        assert!(rt; are_steps(&steps, wanted));
-    }
-    Ok(())
 }

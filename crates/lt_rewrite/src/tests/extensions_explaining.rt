@@ -1,16 +1,20 @@
-use super::core_explaining::are_steps;
-use super::sample::sample;
+ghost use Rattle.std.specs.Prelude.{All};
+ghost use Rattle.lt_registry.specs.Faults.{HasNoFault};
+ghost use Rattle.lt_rewrite.specs.Conditions.{HasEndingChain};
+
+use super::growths::twice;
+use super::judge;
 use crate::copies::copy_extensions;
 use crate::{Step, StepKind, explain_extensions, first_cycle};
-use lt_registry::{ListTable, validate};
-use lt_tag::read_tag;
+use lt_registry::ListTable;
+use lt_tag::{OutOfMemory, Tag, read_tag};
 use std::alloc::Global;
 use std::test::Fail;
 
 /// A tag of one subtag before its extensions, and the kinds, places and records of the steps on these.
 type Row = (&'static str, &'static [(StepKind, u32, u32)]);
 
-const ROWS: [Row; 4] = [
+pub(super) const ROWS: [Row; 4] = [
     (
         "de-u-foo-bar-co-true-ca-gregory-t-iw-x0-abc-m0-def",
         &[
@@ -34,24 +38,24 @@ const ROWS: [Row; 4] = [
 ];
 
 /// The steps on the extensions of a valid tag whose core has one subtag.
-fn explained(alloc: Global, table: &ListTable, text: &str) -> Result<Vec<Step>, Fail> {
-    let tag = read_tag(alloc, text.as_bytes())?;
-    validate(alloc, table, &tag)?;
-    if first_cycle(table).is_some() {
-        return Err(Fail::from("a cycle"));
-    }
-    let mut extensions = copy_extensions(alloc, tag.extensions())?;
-    let mut steps = Vec::new(alloc);
-    explain_extensions(alloc, table, &mut extensions, 1, &mut steps)?;
+fn explained_tag(alloc: Global, table: &ListTable, tag: &Tag) -> Result<Vec<Step>, OutOfMemory>
+    requires chains { All (HasEndingChain table.now) table.now }
+    requires valid { HasNoFault table.now tag.now }
+{
+    let extensions = copy_extensions(alloc, tag.extensions())?;
+    let (_extensions, steps) = explain_extensions(alloc, table, extensions, 1, Vec::new(alloc))?;
     Ok(steps)
 }
 
-#[test]
-fn steps_in_their_order(rt: HostRuntime) -> Result<(), Fail> {
-    let table = sample(rt.alloc())?;
-    for (text, wanted) in &ROWS {
-        let steps = explained(rt.alloc(), &table, text)?;
-        assert!(rt; are_steps(&steps, wanted));
+/// The steps on the extensions of a valid text whose core has one subtag.
+pub(super) fn explained(alloc: Global, table: &ListTable, text: &str) -> Result<Vec<Step>, Fail> {
+    let tag = twice(|| read_tag(alloc, text.as_bytes()))?;
+    judge(alloc, table, &tag)?;
+    if first_cycle(table).is_some() {
+        return Err(Fail::from("a cycle"));
     }
-    Ok(())
+    match explained_tag(alloc, table, &tag) {
+        Ok(steps) => Ok(steps),
+        Err(_) => Ok(explained_tag(alloc, table, &tag)?),
+    }
 }

@@ -1,4 +1,5 @@
 //! A small registry for tests, modelled on IANA's.
+use super::growths::twice;
 use lt_jar::read_jar;
 use lt_registry::{ListTable, Registry, SortedTable};
 use std::alloc::{AllocError, Global};
@@ -100,13 +101,13 @@ fn text_with(alloc: Global, value_of_hebrew: &str) -> Result<String, AllocError>
 
 /// The registry, in which the language `he` has this value.
 fn registry_with(alloc: Global, value_of_hebrew: &str) -> Result<Registry, Fail> {
-    let text = text_with(alloc, value_of_hebrew)?;
-    let jar = read_jar(alloc, text.as_bytes())?;
+    let text = twice(|| text_with(alloc, value_of_hebrew))?;
+    let jar = twice(|| read_jar(alloc, text.as_bytes()))?;
     let records = jar.records();
     if records.len() > 100_000 {
         return Err(Fail::from("too many records"));
     }
-    Ok(Registry::from_records(alloc, records)?)
+    Ok(twice(|| Registry::from_records(alloc, records))?)
 }
 
 /// The table of the sample.
@@ -116,7 +117,8 @@ pub fn sample(alloc: Global) -> Result<ListTable, Fail> {
 
 /// The sorted table of the sample.
 pub fn sorted_sample(alloc: Global) -> Result<SortedTable, Fail> {
-    match SortedTable::new(alloc, registry_with(alloc, "")?) {
+    let answer = SortedTable::new(alloc, registry_with(alloc, "")?);
+    match answer.or_else(|registry| SortedTable::new(alloc, registry)) {
         Ok(table) => Ok(table),
         Err(_) => Err(Fail::from("no memory for the table")),
     }

@@ -1,5 +1,6 @@
+use super::growths::twice;
 use super::sample::sample;
-use super::{CHAINS, CORES, core_of, same_core};
+use super::{CORES, core_of, same_core};
 use crate::{Shortcuts, first_cycle};
 use lt_registry::{Kind, ListTable};
 use lt_subtag::Subtag;
@@ -8,28 +9,19 @@ use std::alloc::Global;
 use std::test::Fail;
 
 /// Whether the chain of a subtag ends in another.
-fn ends_in(
+pub(super) fn chain_ends_in(
     alloc: Global,
     table: &ListTable,
     kind: Kind,
     text: &str,
     end: &str,
 ) -> Result<bool, Fail> {
-    let shortcuts = Shortcuts::of_table(alloc, table)?;
+    let shortcuts = twice(|| Shortcuts::of_table(alloc, table))?;
     let subtag = Subtag::read(text.as_bytes())?;
     match shortcuts.chain_end(table, kind, &subtag) {
         Ok(found) => Ok(found.bytes() == end.as_bytes()),
         Err(_) => Ok(false),
     }
-}
-
-#[test]
-fn ends_of_chains(rt: HostRuntime) -> Result<(), Fail> {
-    let table = sample(rt.alloc())?;
-    for (kind, text, end) in &CHAINS {
-        assert!(rt; ends_in(rt.alloc(), &table, *kind, text, end)?, "{text}");
-    }
-    Ok(())
 }
 
 /// The core normal form of a text's core.

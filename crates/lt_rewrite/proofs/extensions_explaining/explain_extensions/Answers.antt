@@ -13,10 +13,10 @@ use Rattle.lt_rewrite.proofs.extensions_explaining.explain_extensions.Goals as g
 pub explained_unicode-requires : goal.explained_unicode-requires
 explained_unicode-requires g c =
     let R : List EntryParts = g.L.Lookup.listed c.args.table.now in
-    let es : List ExtensionParts = c.args.extensions.now.items in
+    let es : List ExtensionParts = c.args.extensions.items in
     let k : IsKept c.args.start es = record { singletons = c.requires.singletons; transforms = c.requires.transforms; few = c.requires.few } in
-    let s : Swapped R c.args.start es c.explain_swaps.new.parts.items c.args.steps.now.items c.explain_swaps.new.steps.items =
-    swapped R c.args.start es c.explain_swaps.new.parts.items c.args.steps.now.items c.explain_swaps.new.steps.items k c.in_ok-explain_swaps.ensures.adds c.in_ok-explain_swaps.ensures.at_rest in
+    let s : Swapped R c.args.start es c.explain_swaps.new.parts.items c.args.steps.items c.explain_swaps.new.steps.items =
+    swapped R c.args.start es c.explain_swaps.new.parts.items c.args.steps.items c.explain_swaps.new.steps.items k c.in_ok-explain_swaps.ensures.adds c.in_ok-explain_swaps.ensures.at_rest in
     record { few = subst (λ (l : List ExtensionParts). c.args.start + length (spell_extensions l) ≤ 1100000) (sym c.deref.ensures.value) s.kept.few }
 
 pub put_back-requires : goal.put_back-requires
@@ -31,9 +31,9 @@ pub explained_transform-requires-clause-few : goal.explained_transform-requires-
 explained_transform-requires-clause-few g c =
     let R : List EntryParts = g.L.Lookup.listed c.args.table.now in
     let start : ℕ = c.args.start in
-    let es : List ExtensionParts = c.args.extensions.now.items in
+    let es : List ExtensionParts = c.args.extensions.items in
     let fs : List ExtensionParts = c.explain_swaps.new.parts.items in
-    let old : List Step = c.args.steps.now.items in
+    let old : List Step = c.args.steps.items in
     let new : List Step = c.explain_swaps.new.steps.items in
     let newer : List Step = c.explained_unicode.new.steps.items in
     let u : Option (ℕ × ExtensionParts) = c.in_ok-unicode.unicode in
@@ -46,9 +46,9 @@ pub explained_transform-requires-clause-transforms : goal.explained_transform-re
 explained_transform-requires-clause-transforms g c =
     let R : List EntryParts = g.L.Lookup.listed c.args.table.now in
     let start : ℕ = c.args.start in
-    let es : List ExtensionParts = c.args.extensions.now.items in
+    let es : List ExtensionParts = c.args.extensions.items in
     let fs : List ExtensionParts = c.explain_swaps.new.parts.items in
-    let old : List Step = c.args.steps.now.items in
+    let old : List Step = c.args.steps.items in
     let new : List Step = c.explain_swaps.new.steps.items in
     let newer : List Step = c.explained_unicode.new.steps.items in
     let u : Option (ℕ × ExtensionParts) = c.in_ok-unicode.unicode in
@@ -61,11 +61,11 @@ pub returns-clause-adds : goal.returns-clause-adds
 returns-clause-adds g c =
     let R : List EntryParts = g.L.Lookup.listed c.args.table.now in
     let start : ℕ = c.args.start in
-    let es : List ExtensionParts = c.args.extensions.now.items in
+    let es : List ExtensionParts = c.args.extensions.items in
     let fs : List ExtensionParts = c.explain_swaps.new.parts.items in
     let gs : List ExtensionParts = c.put_back.new.extensions.items in
     let hs : List ExtensionParts = c.put_back-2.new.extensions.items in
-    let old : List Step = c.args.steps.now.items in
+    let old : List Step = c.args.steps.items in
     let new : List Step = c.explain_swaps.new.steps.items in
     let newer : List Step = c.explained_unicode.new.steps.items in
     let last : List Step = c.explained_transform.new.steps.items in
@@ -79,11 +79,11 @@ pub returns-clause-at_rest : goal.returns-clause-at_rest
 returns-clause-at_rest g c =
     let R : List EntryParts = g.L.Lookup.listed c.args.table.now in
     let start : ℕ = c.args.start in
-    let es : List ExtensionParts = c.args.extensions.now.items in
+    let es : List ExtensionParts = c.args.extensions.items in
     let fs : List ExtensionParts = c.explain_swaps.new.parts.items in
     let gs : List ExtensionParts = c.put_back.new.extensions.items in
     let hs : List ExtensionParts = c.put_back-2.new.extensions.items in
-    let old : List Step = c.args.steps.now.items in
+    let old : List Step = c.args.steps.items in
     let new : List Step = c.explain_swaps.new.steps.items in
     let newer : List Step = c.explained_unicode.new.steps.items in
     let last : List Step = c.explained_transform.new.steps.items in

@@ -8,16 +8,16 @@ use Rattle.lt_registry.proofs.ValidityLaws.{valid_law}
 use Rattle.lt_rewrite.proofs.ValidExtensions.{can_settle}
 use Rattle.lt_rewrite.proofs.tests.settled_extensions.Goals as goal
 
-pub settle_extensions-requires-clause-singletons : goal.settle_extensions-requires-clause-singletons
-settle_extensions-requires-clause-singletons c =
+pub settle-requires-clause-singletons : goal.settle-requires-clause-singletons
+settle-requires-clause-singletons c =
     let R : List EntryParts = c.args.table.now in
     let t : TagForm = c.in_ok-tag.tag in
-    let valid : IsValid R t = (valid_law R t c.extensions.ensures.tag).1 c.in_ok-validate.ensures.ok in
+    let valid : IsValid R t = (valid_law R t c.extensions.ensures.tag).1 c.in_ok-judge.ensures in
     subst (λ (es : List ExtensionParts). Distinct (map (λ (e : ExtensionParts). e.singleton) es)) (sym (c.in_ok-extensions.ensures ∙ c.extensions.ensures.value)) (can_settle R t valid.proper.parts).singletons
 
-pub settle_extensions-requires-clause-transforms : goal.settle_extensions-requires-clause-transforms
-settle_extensions-requires-clause-transforms c =
+pub settle-requires-clause-transforms : goal.settle-requires-clause-transforms
+settle-requires-clause-transforms c =
     let R : List EntryParts = c.args.table.now in
     let t : TagForm = c.in_ok-tag.tag in
-    let valid : IsValid R t = (valid_law R t c.extensions.ensures.tag).1 c.in_ok-validate.ensures.ok in
+    let valid : IsValid R t = (valid_law R t c.extensions.ensures.tag).1 c.in_ok-judge.ensures in
     subst (λ (es : List ExtensionParts). AllByRecursion (λ (e : ExtensionParts). e.singleton ≡ transform → (p : TForm) × IsTransform e.subtags p) es) (sym (c.in_ok-extensions.ensures ∙ c.extensions.ensures.value)) (can_settle R t valid.proper.parts).transforms

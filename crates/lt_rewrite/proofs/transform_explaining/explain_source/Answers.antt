@@ -11,17 +11,17 @@ returns-clause-adds g c =
     let R = g.L.Lookup.listed c.args.table.now in
     let fs = c.parts.inside.fields.items in
     let from = c.in-Some.source in
-    let to = c.explain_core.new.core in
+    let to = c.take_core_steps.new.core in
     let is : t_parts (Some from) fs ≡ c.args.parts.now = ap (λ o. t_parts o fs) (sym c.in-Some.is) ∙ c.parts.view_is in
-    IfOk-weaker c.explain_core.result _ _
-    (λ _ h. subst (λ (p : TForm). AddsOnTransform R c.args.start p (t_parts (Some to) fs) c.args.steps.now.items c.explain_core.new.steps.items) is
-    (source_explained R c.args.start from to fs c.args.steps.now.items c.explain_core.new.steps.items h))
-    c.explain_core.ensures.adds
+    IfOk-weaker c.take_core_steps.result _ _
+    (λ _ h. subst (λ (p : TForm). AddsOnTransform R c.args.start p (t_parts (Some to) fs) c.args.steps.now.items c.take_core_steps.new.steps.items) is
+    (source_explained R c.args.start from to fs c.args.steps.now.items c.take_core_steps.new.steps.items h))
+    c.take_core_steps.ensures.adds
 
 pub returns-clause-at_rest : goal.returns-clause-at_rest
 returns-clause-at_rest g c =
     let R = g.L.Lookup.listed c.args.table.now in
-    let to : CoreParts = c.explain_core.new.core in
-    IfOk-weaker c.explain_core.result _ _
+    let to : CoreParts = c.take_core_steps.new.core in
+    IfOk-weaker c.take_core_steps.result _ _
     (λ _ h d e. let same : to ≡ d = cc in subst (λ (x : CoreParts). NoneLeads (CoreLeads R c.args.start x)) same h)
-    c.explain_core.ensures.at_rest
+    c.take_core_steps.ensures.at_rest

@@ -3,7 +3,7 @@ use Rattle.lt_rewrite.specs.Runs.{kind_rank}
 use Rattle.lt_rewrite.proofs.CoreFirst.{applied}
 use Rattle.lt_rewrite.proofs.CoreWeights.{weight_falls}
 use Rattle.lt_rewrite.proofs.FirstSteps.{adds_more}
-use Rattle.lt_rewrite.proofs.core_explaining.explain_core.Goals as goal
+use Rattle.lt_rewrite.proofs.core_explaining.take_core_steps.Goals as goal
 
 pub loop-step-smaller : goal.loop-step-smaller
 loop-step-smaller g c =

@@ -1,6 +1,6 @@
 use Rattle.lt_rewrite.specs.Runs.{AddsOnCore}
 use Rattle.lt_rewrite.proofs.CoreWeights.{weight}
-use Rattle.lt_rewrite.proofs.core_explaining.explain_core.Given as goal
+use Rattle.lt_rewrite.proofs.core_explaining.take_core_steps.Given as goal
 
 -- the steps so far lead here
 abbrev pub invariant-loop-step : goal.invariant-loop-step

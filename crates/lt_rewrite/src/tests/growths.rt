@@ -1,0 +1,91 @@
+//! The calls that take memory, on their rows. Each test holds whichever growth of memory is refused:
+//! `bench/growth.py` runs it once for each growth, and refuses that one alone.
+use super::applying::steps_lead;
+use super::core_explaining::are_steps;
+use super::sample::{sample, sample_with_cycle};
+use super::shortcuts::chain_ends_in;
+use super::{
+    CHAINS, EXTENSIONS, LISTS, core_explaining, extension_settles_to, extensions_explaining,
+    list_settles_to,
+};
+use crate::first_cycle_in;
+use std::test::Fail;
+
+/// What a call answers, made again where it is refused. No run refuses more than one growth.
+pub fn twice<T, E: Drop, F: Fn() -> Result<T, E> + Drop>(call: F) -> Result<T, E>
+    requires { F.IsAlwaysCallable call }
+    ensures { F.post call result }
+{
+    match call() {
+        Ok(value) => Ok(value),
+        Err(_) => call(),
+    }
+}
+
+#[test]
+fn parts_of_extensions_are_settled(rt: HostRuntime) -> Result<(), Fail> {
+    let table = sample(rt.alloc())?;
+    for (text, other) in &EXTENSIONS {
+        assert!(rt;
+            extension_settles_to(rt.alloc(), &table, text, other)?,
+            "{text}"
+        );
+    }
+    Ok(())
+}
+
+#[test]
+fn extensions_are_settled(rt: HostRuntime) -> Result<(), Fail> {
+    let table = sample(rt.alloc())?;
+    for (text, other) in &LISTS {
+        assert!(rt; list_settles_to(rt.alloc(), &table, text, other)?, "{text}");
+    }
+    Ok(())
+}
+
+#[test]
+fn steps_are_applied(rt: HostRuntime) -> Result<(), Fail> {
+    let table = sample(rt.alloc())?;
+    steps_lead(&rt, rt.alloc(), &table)
+}
+
+#[test]
+fn steps_on_cores_are_told(rt: HostRuntime) -> Result<(), Fail> {
+    let table = sample(rt.alloc())?;
+    for (text, wanted) in &core_explaining::ROWS {
+        let steps = core_explaining::explained(rt.alloc(), &table, text)?;
+        assert!(rt; are_steps(&steps, wanted), "{text}");
+    }
+    Ok(())
+}
+
+#[test]
+fn steps_on_extensions_are_told(rt: HostRuntime) -> Result<(), Fail> {
+    let table = sample(rt.alloc())?;
+    for (text, wanted) in &extensions_explaining::ROWS {
+        let steps = extensions_explaining::explained(rt.alloc(), &table, text)?;
+        assert!(rt; are_steps(&steps, wanted), "{text}");
+    }
+    Ok(())
+}
+
+#[test]
+fn cycles_are_found(rt: HostRuntime) -> Result<(), Fail> {
+    let table = sample(rt.alloc())?;
+    assert!(rt; twice(|| first_cycle_in(rt.alloc(), &table))?.is_none());
+    let table = sample_with_cycle(rt.alloc())?;
+    assert!(rt; twice(|| first_cycle_in(rt.alloc(), &table))? == Some(6));
+    Ok(())
+}
+
+#[test]
+fn shortcuts_lead_to_ends(rt: HostRuntime) -> Result<(), Fail> {
+    let table = sample(rt.alloc())?;
+    for (kind, text, end) in &CHAINS {
+        assert!(rt;
+            chain_ends_in(rt.alloc(), &table, *kind, text, end)?,
+            "{text}"
+        );
+    }
+    Ok(())
+}
