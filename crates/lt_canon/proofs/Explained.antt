@@ -33,14 +33,10 @@ use Rattle.lt_canon.proofs.Answering.{EndsAt, end_is}
 use Rattle.lt_canon.proofs.CanonicalForms.{langtag_of, transforms_have_parts, form_some}
 use Rattle.lt_canon.proofs.FirstTagSteps.{core_is_first, extensions_is_first}
 
--- what holds of an answer, from one or two facts of it
+-- what holds of an answer, from a fact of it
 pub if_ok : {A E : Type 0} (P Q : A → Type 0) (r : Result A E) → ((a : A) → P a → Q a) → IfOk r P → IfOk r Q
 if_ok P Q (Ok a) f h = f a h
 if_ok P Q (Err e) f h = h
-
-pub if_ok_both : {A E : Type 0} (P Q S : A → Type 0) (r : Result A E) → ((a : A) → P a → Q a → S a) → IfOk r P → IfOk r Q → IfOk r S
-if_ok_both P Q S (Ok a) f h k = f a h k
-if_ok_both P Q S (Err e) f h k = h
 
 pub some_of_test : {A : Type 0} (xs : List A) → false ≡ (length xs == 0) → 0 < length xs
 some_of_test [] h = cc

@@ -40,6 +40,8 @@ pub mod UpgradeWholes
 pub mod UpgradeFaults
 pub mod RecordChecks
 pub mod SeenRanges
+pub mod WidestRanges
+pub mod CoveredRanges
 pub mod FirstFaults
 pub mod OwnNames
 pub mod Judging

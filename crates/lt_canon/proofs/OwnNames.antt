@@ -160,7 +160,7 @@ kind_back kinds.Variant = refl
 kind_back kinds.Grandfathered = refl
 kind_back kinds.Redundant = refl
 
-kinds_same : (k l : Kind) → kind_number k ≡ kind_number l → k ≡ l
+pub kinds_same : (k l : Kind) → kind_number k ≡ kind_number l → k ≡ l
 kinds_same k l h = sym (kind_back k) ∙ ap kind_of h ∙ kind_back l
 
 ranges_same : (k l : Kind) (m n : EntryName) (r : RangeName) → range_at k m ≡ Some r → range_at l n ≡ Some r → (k ≡ l) × (m ≡ n)

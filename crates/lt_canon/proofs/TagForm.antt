@@ -98,7 +98,7 @@ module _ (R : List EntryParts) (C : IsChecked R) where
   pub core_normal : (c : CoreParts) → IsCoreNormalForm (values_of R) c (core_end c)
   core_normal c = form_is_normal cores_formed c
 
-  -- what the core normal form of the value of a whole record has
+  -- of a whole record's value: what its core normal form has
   pub resting : (t : TagForm) (c : CoreParts) → whole_value R t ≡ Some (plain c) → Distinct (core_end c).variants × All (λ (f : EntryParts). f.name ≡ names.Whole (plain (core_end c)) → tag_of f.value ≡ None) R
   resting t c e =
       let w = valued_whole R t (plain c) e in

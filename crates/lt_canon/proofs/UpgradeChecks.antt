@@ -1,10 +1,8 @@
 -- What decides the conditions on an upgrade that speak of one subtag after another.
 use Rattle.std.proofs.Common.{◌≡◌, ◌↔◌, ℕ, Bool, true, false, ◌&&◌, cond, List, [], ◌∷◌, length, Option, Some, None, refl, sym, ap, ◌∙◌, subst, IsTrue, is_some, bytes_eq, arith}
-use Rattle.std.specs.Prelude.{Contains, slice_index_or}
+use Rattle.std.specs.Prelude.{slice_index_or}
 use Rattle.std.specs.List.{list_all, list_any}
 use Rattle.std.specs.Option.{option_and_then}
-use Rattle.std.proofs.lemmas.Bool.{and_from}
-use Rattle.std.proofs.lemmas.List.Elements.{All-contains_itself}
 use Rattle.std.proofs.lemmas.Slice.Eq.{bytes_eq-Decides}
 use Rattle.lt_registry.specs.Parts.{EntryParts}
 use Rattle.lt_registry.specs.Entries.{value, one_of, value_or, entry, is_short, is_registered, language_value, prefixes_of, lists}
@@ -15,12 +13,11 @@ use Rattle.lt_registry.specs.declared.entries.EntryName.TheVariants as names
 use Rattle.lt_rewrite.specs.CoreSteps.{Ends, EndsIn}
 use Rattle.lt_rewrite.specs.Conditions.{next_value}
 use Rattle.lt_rewrite.specs.ChainEnds.{ChainEnds, ChainEndsIn}
-use Rattle.lt_rewrite.proofs.Entries.{entry_has}
 use Rattle.lt_canon.specs.Upgrade.{SameEnd, StaysRegistered, KeepsKind, KeepsEnds, IsSameExtlang, IsSameTurn, HadTurn}
-use Rattle.lt_canon.specs.UpgradeChecking.{covers, covers_found, is_among}
-use Rattle.lt_canon.proofs.Deciding.{Decides-kind, Decides-list}
+use Rattle.lt_canon.specs.UpgradeChecking.{covers, is_among}
+use Rattle.lt_canon.proofs.Deciding.{Decides-list}
 use Rattle.lt_canon.proofs.RecordChecks.{one_end}
-use Rattle.lt_canon.proofs.UpgradeTests.{any_from, stays_test, stays_at_test, covered_test, Decides-stays, within_test, same_prefix_test, Decides-same_prefix, Decides-is_some}
+use Rattle.lt_canon.proofs.UpgradeTests.{stays_test, stays_at_test, covered_test, Decides-stays, within_test, same_prefix_test, Decides-same_prefix, Decides-is_some}
 
 -- a range is covered
 pub covered_compared : (B : List EntryParts) (e : EntryParts) (k : Kind) (a b : List ℕ) (r : Bool) → e.name ≡ names.Range a b → k ≡ e.kind → r ≡ list_any (λ (f : EntryParts). same_kind f.kind k && covers f.name a b) B → IsTrue r ↔ StaysRegistered B e
@@ -28,17 +25,6 @@ covered_compared B e k a b r n m same =
     let d = Decides-stays B e in
     let t : stays_test B e ≡ r = ap (stays_at_test B e.kind) n ∙ ap (λ x. covered_test B x a b) (sym m) ∙ sym same in
     ((λ h. d.0 (t ∙ h)), (λ k. sym t ∙ d.1 k))
-
--- where the record that a look-up finds covers it, one does
-pub found_covers : (B : List EntryParts) (k : Kind) (a b : List ℕ) (f : EntryParts) → entry B k a ≡ Some f → covers f.name a b ≡ true → list_any (λ (e : EntryParts). same_kind e.kind k && covers e.name a b) B ≡ true
-found_covers B k a b f found h =
-    let p = entry_has B k a (Contains B) (All-contains_itself B) f found in
-    any_from (λ (e : EntryParts). same_kind e.kind k && covers e.name a b) B f p.0 (and_from (same_kind f.kind k) (covers f.name a b) ((Decides-kind f.kind k).1 p.1.of_kind) h)
-
--- the same, where it is said of the record that a look-up finds
-pub found_record_covers : (B : List EntryParts) (k : Kind) (a b : List ℕ) (o : Option EntryParts) → entry B k a ≡ o → covers_found o a b ≡ true → list_any (λ (e : EntryParts). same_kind e.kind k && covers e.name a b) B ≡ true
-found_record_covers B k a b None found h = absurd (cc)
-found_record_covers B k a b (Some f) found h = found_covers B k a b f found h
 
 -- the chain of a kind, but for extlangs
 

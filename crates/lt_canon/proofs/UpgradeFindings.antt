@@ -35,7 +35,7 @@ use Rattle.lt_canon.proofs.TagTests.{tag_value_test, Decides-tag_value}
 use Rattle.lt_canon.proofs.UpgradeTests.{stays_test, Decides-stays, keeps_ends_test, Decides-keeps_ends, keeps_extlang_test, Decides-keeps_extlang, keeps_turn_test, Decides-keeps_turn, had_turn_test, Decides-had_turn}
 use Rattle.lt_canon.proofs.WholeTests.{whole_at_test, end_of, is_end}
 
--- a grandfathered tag, or a langtag without extensions and private use
+-- a tag that is grandfathered, or a langtag and a core alone
 data Bare : TagForm → Type 0 where
   grandfathered : (n : ℕ) → Bare (Grandfathered n)
   langtag : (c : CoreParts) → Bare (plain c)

@@ -17,13 +17,13 @@ pub record IsSecondOccurrence (variants : List (List ℕ)) (v : List ℕ) : Type
   pub there : variants ≡ before ++ v ∷ (between ++ v ∷ after)
   pub first : Distinct (before ++ v ∷ between)
 
--- in the core normal form of the core
+-- that variant where core steps on a core have come to rest
 pub record IsRepeatOfCore (R : List EntryParts) (c : CoreParts) (v : List ℕ) : Type 0 where
   pub form : CoreParts
   pub normal : IsCoreNormalForm (values_of R) c form
   pub second : IsSecondOccurrence form.variants v
 
--- in that of the source of an extension
+-- and where they have on the source of an extension
 pub record IsRepeatOfSource (R : List EntryParts) (es : List ExtensionParts) (v : List ℕ) : Type 0 where
   pub before : List ExtensionParts
   pub extension : ExtensionParts

@@ -25,20 +25,19 @@ pub record IsValidPlain (R : List EntryParts) (t : TagForm) : Type 0 where
   pub is : t ≡ plain core
   pub valid : IsValid R t
 
--- The value of a whole record, and a redundant tag that has one, are valid langtags without extensions and private
--- use.
+-- If a whole record has a value, this is a valid langtag and a core alone; and so is the record's tag, if it is redundant.
 abbrev pub HasValidWhole : List EntryParts → EntryParts → Type 0
 HasValidWhole R e = OfWhole e (λ t u. IsValidPlain R u × (e.kind ≡ kinds.Redundant → IsValidPlain R t))
 
--- The core normal form of the value of a whole record repeats no variant and equals no whole record that has a
--- value.
+-- If a whole record has a value, no variant stands twice in the core normal form of this value, and this form is not the
+-- tag of a whole record with a value.
 abbrev pub HasRestingWhole : List EntryParts → EntryParts → Type 0
 HasRestingWhole R e =
     OfWhole e (λ t u. (c d : CoreParts) → u ≡ plain c → IsCoreNormalForm (values_of R) c d →
     Distinct d.variants × All (λ (f : EntryParts). f.name ≡ names.Whole (plain d) → tag_of f.value ≡ None) R)
 
--- Where a tag with a value has a core normal form other than itself, that form, or the core normal form of that
--- form's value, equals the core normal form of the value.
+-- Let a tag with a value have a core normal form that is another tag. Then the value has this core normal form too; or
+-- this form has a value as a whole tag, and the two values have one core normal form.
 abbrev pub HasAgreeingWhole : List EntryParts → EntryParts → Type 0
 HasAgreeingWhole R e =
     OfWhole e (λ t u. (c s p d : CoreParts) → t ≡ plain c → u ≡ plain p → IsCoreNormalForm (values_of R) c s → s ≢ c → IsCoreNormalForm (values_of R) p d →

@@ -12,7 +12,7 @@ abbrev pub prefix_of : List (List (List ℕ)) → Option (List ℕ)
 prefix_of ((p ∷ []) ∷ rest) = if is_short p then Some p else None
 prefix_of _ = None
 
--- the Prefix becomes the language, and the old language the extlang
+-- the Prefix is now the language, and what was the language stands behind it as an extlang
 abbrev pub behind : Option (List ℕ) → CoreParts → CoreParts
 behind None c = c
 behind (Some p) c = record c { language = p; extlangs = c.language ∷ [] }

@@ -14,7 +14,7 @@ use Rattle.lt_canon.specs.Answers.{IsCanonicalFormOf, IsNamedRepeat}
 use Rattle.lt_canon.specs.Texts.{IsCanonicalTextOf}
 use Rattle.lt_canon.specs.ExtlangForm.{extlang_form}
 
--- where two tags are reached from one proper tag, some tag is reached from both
+-- any two tags that steps reach from one proper tag lead on to a common one
 abbrev pub StepsAreConfluent : List EntryParts → Type 0
 StepsAreConfluent R = IsConfluent (IsProper R) (TagStep R)
 

@@ -11,6 +11,7 @@ pub mod Equivalence
 pub mod ExtlangForm
 pub mod Upgrade
 pub mod UpgradeChecking
+pub mod WidestRanges
 pub mod Laws
 pub mod RecordChecks
 pub mod NameChecks

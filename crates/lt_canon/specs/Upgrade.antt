@@ -89,7 +89,7 @@ pub record MeetInCanonical (B : List EntryParts) (t u : TagForm) : Type 0 where
   pub left : IsReached B t tag
   pub right : IsReached B u tag
 
--- An old whole tag and its old value reach one canonical tag.
+-- An old whole tag and its old value come to the same canonical tag.
 abbrev pub KeepsWhole : List EntryParts → EntryParts → Type 0
 KeepsWhole B e = OfWhole e (MeetInCanonical B)
 

@@ -57,11 +57,6 @@ covers _ first last = false
 abbrev pub some_covers : List EntryParts → Kind → List ℕ → List ℕ → Bool
 some_covers R kind first last = list_any (λ (e : EntryParts). same_kind e.kind kind && covers e.name first last) R
 
--- the record, if there is one, names such a range
-abbrev pub covers_found : Option EntryParts → List ℕ → List ℕ → Bool
-covers_found None first last = false
-covers_found (Some e) first last = covers e.name first last
-
 -- a Prefix of one subtag is among others
 abbrev pub is_among : List (List (List ℕ)) → List (List ℕ) → Bool
 is_among others (language ∷ []) = lists others language

@@ -25,9 +25,9 @@ use std::alloc::Global;
 /// The canonical form of a tag (RFC 5646, 4.5): the one canonical tag that steps reach from it.
 ///
 /// - `Invalid`, with the fault that `validate` tells, exactly where the tag is not valid.
-/// - `ReplacementRepeats` exactly where the tag is valid and steps can repeat a variant. It names the
-///   leftmost variant that stands a second time in the core normal form of the core or, where that
-///   repeats none, of the source of the `t` extension.
+/// - `ReplacementRepeats` exactly where steps can repeat a variant of the tag, which is valid. When core
+///   steps have come to rest, it is the first variant from the left that has stood already: in the core
+///   or, if none has there, in the source of the `t` extension.
 ///
 /// A tag without extensions and private use is looked up as a whole once. Of a langtag of a language, and
 /// a script and a region where there is one, each subtag is looked up once beside that; where one of them

@@ -5,9 +5,9 @@ ghost use Rattle.lt_canon.specs.Codes.{code_of, upgrade_code_of};
 /// The conditions on a registry, in the order in which they are judged.
 #[derive(Clone, Copy, Debug, PartialEq, Eq)]
 pub enum Condition {
-    /// No two records of one kind have one name, and no two whole records one tag.
+    /// No earlier record has the kind and the name, and no earlier whole record the tag.
     OwnName,
-    /// The value of a language, script or region is registered under its kind.
+    /// If a language, script or region has a value, that is registered too, as the same kind.
     RegisteredValue,
     /// The chain of values from each value comes to an end.
     EndingChain,
@@ -18,14 +18,14 @@ pub enum Condition {
     FittingVariantValue,
     /// A variant with a language value has Prefixes, each a language without a value.
     FinalPrefixes,
-    /// Each Prefix of a variant is a langtag without extensions and private use.
+    /// Whatever Prefix a variant names is a langtag and a core alone.
     LangtagPrefixes,
     /// A grandfathered record names one of the 26 tags, and no regular one is valid as a langtag.
     FittingGrandfathered,
-    /// The value of a whole record, and a redundant tag that has one, are valid langtags without
-    /// extensions and private use.
+    /// If a whole record has a value, this is a valid langtag and a core alone; and so is a
+    /// redundant tag that has one.
     ValidWhole,
-    /// The core normal form of the value of a whole record repeats no variant and has no value.
+    /// In the core normal form of a whole record's value no variant stands twice, and it has no value.
     RestingWhole,
     /// A redundant tag from which core steps lead comes to the same end as its value.
     AgreeingWhole,
@@ -68,7 +68,7 @@ pub enum UpgradeCondition {
     SameTurn,
     /// No variant that the old registry has without a language value gets one.
     NoNewTurn,
-    /// An old whole tag and its old value reach one canonical tag in the new registry.
+    /// An old whole tag and its old value come to the same canonical tag in the new registry.
     SameWhole,
 }
 

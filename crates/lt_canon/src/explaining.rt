@@ -27,58 +27,58 @@ pub fn explain<L: Lookup>(alloc: Global, checked: &Checked<L>, tag: &Tag) -> Res
     ensures err { IfErr result (λ refusal. IsCanonicalAnswer (L.listed checked.now) tag.now (Err refusal)) }
 {
     let last = canonical(alloc, checked, tag)?;
-    let mut steps = Vec::new(alloc);
-    explain_tag(alloc, checked.table(), tag, &mut steps)?;
+    let steps = explain_tag(alloc, checked.table(), tag, Vec::new(alloc))?;
     Ok(Trace { steps, last })
 }
 
-/// Takes the steps on a tag, each the first that leads on, until none does, and adds them to others.
+/// Takes the steps on a tag, each the first that leads on, until none does, and adds them to others,
+/// which it gives back.
 fn explain_tag<L: Lookup>(
     alloc: Global,
     table: &L,
     tag: &Tag,
-    steps: &mut Vec<Step>,
-) -> Result<(), OutOfMemory>
+    steps: Vec<Step>,
+) -> Result<Vec<Step>, OutOfMemory>
     requires checked { IsChecked (L.listed table.now) }
     requires proper { IsProper (L.listed table.now) tag.now }
-    ensures { IfOk result (λ _. LeadsToRest (L.listed table.now) tag.now steps.old.items steps.new.items) }
+    ensures { IfOk result (λ taken. LeadsToRest (L.listed table.now) tag.now steps.items taken.items) }
 {
     let Some(core) = tag.core() else {
         if tag.grandfathered().is_none() {
-            return Ok(());
+            return Ok(steps);
         }
         return explain_whole(alloc, table, tag, steps);
     };
-    let mut settled = core.copy(alloc)?;
-    explain_core(table, &mut settled, 0, steps)?;
+    let (settled, steps) = explain_core(table, core.copy(alloc)?, 0, steps)?;
     let (extensions, private) = (tag.extensions(), tag.private());
     if extensions.is_empty() && private.is_empty() {
         let settled = Tag::from_parts(settled, Vec::new(alloc), Vec::new(alloc));
         return explain_whole(alloc, table, &settled, steps);
     }
-    let mut others = copy_extensions(alloc, extensions)?;
-    explain_extensions(alloc, table, &mut others, core_length(&settled), steps)
+    let others = copy_extensions(alloc, extensions)?;
+    let (_, steps) = explain_extensions(alloc, table, others, core_length(&settled), steps)?;
+    Ok(steps)
 }
 
 /// Takes the Whole step of a tag whose core is at rest, if its record has a value, and the steps on the
-/// core of the value, and adds them to others.
+/// core of the value, and adds them to others, which it gives back.
 fn explain_whole<L: Lookup>(
     alloc: Global,
     table: &L,
     tag: &Tag,
-    steps: &mut Vec<Step>,
-) -> Result<(), OutOfMemory>
+    mut steps: Vec<Step>,
+) -> Result<Vec<Step>, OutOfMemory>
     requires checked { IsChecked (L.listed table.now) }
     requires proper { IsProper (L.listed table.now) tag.now }
     requires plain { IsPlain tag.now }
     requires at_rest { RestsOnCore (L.listed table.now) tag.now }
-    ensures { IfOk result (λ _. LeadsToRest (L.listed table.now) tag.now steps.old.items steps.new.items) }
+    ensures { IfOk result (λ taken. LeadsToRest (L.listed table.now) tag.now steps.items taken.items) }
 {
     let Some(entry) = table.whole(tag) else {
-        return Ok(());
+        return Ok(steps);
     };
     let Some(value) = tag_value(entry) else {
-        return Ok(());
+        return Ok(steps);
     };
     steps.push(Step {
         kind: StepKind::Whole,
@@ -86,8 +86,8 @@ fn explain_whole<L: Lookup>(
         number: entry.number(),
     })?;
     let Some(core) = value.core() else {
-        return Ok(());
+        return Ok(steps);
     };
-    let mut settled = core.copy(alloc)?;
-    explain_core(table, &mut settled, 0, steps)
+    let (_, steps) = explain_core(table, core.copy(alloc)?, 0, steps)?;
+    Ok(steps)
 }

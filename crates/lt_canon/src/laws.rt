@@ -11,14 +11,14 @@ use lt_registry::Lookup;
 /// What holds of the steps of a registry that passes the check.
 ///
 /// - Each proper tag has an end that steps reach, that each step keeps, and from which none leads.
-/// - Where two tags are reached from one proper tag, some tag is reached from both.
+/// - Tags that steps reach from one proper tag lead on to a common one.
 /// - A class of equivalent tags has at most one canonical tag.
 /// - A valid tag reaches a canonical tag and can repeat no variant, or it can repeat one and is
 ///   equivalent to no canonical tag; of two valid tags that are equivalent both can or neither.
 /// - Valid tags that can repeat none are equivalent exactly if their canonical forms are equal, and
 ///   exactly if the texts of these are.
-/// - A canonical form is its own canonical form; a canonical text of at most 1,024 bytes is its own
-///   canonical text.
+/// - A canonical form is its own canonical form; a canonical text is its own canonical text, unless
+///   it has more than 1,024 bytes.
 /// - Where a valid tag can repeat a variant, there is one variant that the refusal names.
 pub fn confluence<L: Lookup>(checked: &Checked<L>)
     ensures ends { HasEndForms (L.listed checked.now) }
@@ -35,9 +35,8 @@ pub fn confluence<L: Lookup>(checked: &Checked<L>)
     let _ = checked.table();
 }
 
-/// Each proper tag has an end that steps reach, that each step keeps, and from which none leads; so where two tags
-/// are reached from one proper tag, some tag is reached from both, and a class of equivalent tags has at most one
-/// canonical tag.
+/// Each proper tag has an end that steps reach, that each step keeps, and from which none leads; so tags that steps
+/// reach from one proper tag lead on to a common one, and a class of equivalent tags has at most one canonical tag.
 pub fn steps_are_confluent()
     ensures ends { (R : List EntryParts) → IsChecked R → HasEndForms R }
     ensures confluent { (R : List EntryParts) → IsChecked R → StepsAreConfluent R }

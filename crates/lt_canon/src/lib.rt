@@ -26,6 +26,7 @@ mod upgrades;
 mod usual_tags;
 mod whole_checks;
 mod whole_values;
+mod widest_ranges;
 
 pub use canonical_tags::canonical;
 pub use canonical_texts::{append_canonical_text, canonical_text};

@@ -87,7 +87,7 @@ fn end_alike<L: Lookup>(table: &L, shortcuts: &Shortcuts, left: &Subtag, right: 
     }
 }
 
-/// Whether the value of a language, script or region is registered under its kind.
+/// Whether the value that a language, script or region may have is registered too, as the same kind.
 pub(crate) fn has_registered_value<L: Lookup>(table: &L, entry: &Entry) -> bool
     ensures { IsTrue result ↔ HasRegisteredValue (L.listed table.now) entry.now }
 {
@@ -122,8 +122,8 @@ pub(crate) fn fits_as_extlang<L: Lookup>(table: &L, shortcuts: &Shortcuts, entry
         && end_alike(table, shortcuts, subtag, replacement)
 }
 
-/// Whether the value of a variant is a registered language of 2 or 3 letters, or a registered variant
-/// that has no language value.
+/// Whether the value that a variant may have is registered: one of 2 or 3 letters as a language, a
+/// longer one as a variant, whose own value, if any, is no language.
 pub(crate) fn has_fitting_variant_value<L: Lookup>(table: &L, entry: &Entry) -> bool
     ensures { IsTrue result ↔ HasFittingVariantValue (L.listed table.now) entry.now }
 {
@@ -159,7 +159,7 @@ fn have_final_languages<L: Lookup>(table: &L, prefixes: &[Prefix]) -> bool
     prefixes.iter().all(|prefix| is_final_prefix(table, prefix))
 }
 
-/// Whether each Prefix of a variant is a langtag without extensions and private use.
+/// Whether all that a variant names as a Prefix are langtags and cores alone.
 pub(crate) fn has_langtag_prefixes(entry: &Entry) -> bool
     ensures { (R : List EntryParts) → IsTrue result ↔ HasLangtagPrefixes R entry.now }
 {

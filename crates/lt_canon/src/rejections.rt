@@ -1,8 +1,8 @@
 //! Why a table is rejected.
 use crate::conditions::Condition;
 
-/// What the check finds: the lowest condition that fails, and there the lowest number of a record at
-/// fault.
+/// What the check finds: the first condition that some record does not meet, and of those records the
+/// lowest number.
 #[derive(Clone, Copy, Debug, Drop, PartialEq, Eq)]
 pub struct Finding {
     pub condition: Condition,

@@ -1,19 +1,28 @@
 mod answers;
 mod explanations;
+mod growths;
 mod hostile;
 mod sample;
 mod traces;
 mod upgrades;
 
 use super::*;
+use growths::{is_shown, shown};
 use lt_registry::ListTable;
-use sample::{sample, sample_with};
 use std::alloc::Global;
 use std::test::Fail;
 
-/// What the check finds in a table: nothing, or the code of the condition and the record.
+/// What the check finds in a table: nothing, or the code of the condition and the record. A table that
+/// is handed back is what it was.
 fn finding(alloc: Global, table: ListTable) -> Result<Option<(&'static str, u32)>, Fail> {
-    match Checked::new(alloc, table) {
+    let before = shown(alloc, &table)?;
+    let answer = Checked::new(alloc, table).or_else(|rejected| match rejected.cause {
+        RejectedCause::OutOfMemory if is_shown(alloc, &rejected.table, before.as_str()) => {
+            Checked::new(alloc, rejected.table)
+        }
+        _ => Err(rejected),
+    });
+    match answer {
         Ok(_) => Ok(None),
         Err(rejected) => match rejected.cause {
             RejectedCause::Finding(finding) => {
@@ -71,20 +80,3 @@ const CHANGES: [(u32, &str, &str); 12] = [
         "C12",
     ),
 ];
-
-#[test]
-fn sample_passes(rt: HostRuntime) -> Result<(), Fail> {
-    let table = sample(rt.alloc())?;
-    assert_eq!(rt; finding(rt.alloc(), table)?, None);
-    Ok(())
-}
-
-#[test]
-fn changed_samples_are_rejected(rt: HostRuntime) -> Result<(), Fail> {
-    for row in &CHANGES {
-        let (number, record, code) = *row;
-        let table = sample_with(rt.alloc(), number as usize, record)?;
-        assert_eq!(rt; finding(rt.alloc(), table)?, Some((code, number)), "{code}");
-    }
-    Ok(())
-}

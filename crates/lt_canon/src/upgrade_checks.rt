@@ -1,15 +1,15 @@
 //! Whether a record meets a condition on a newer registry beside an older one.
-ghost use Rattle.std.specs.Prelude.{◌≡◌, ◌≢◌, ◌↔◌, ◌&&◌, true, List, ℕ, length, IsTrue, IfOk, Contains};
-ghost use Rattle.std.specs.List.{list_all, list_any};
-ghost use Rattle.lt_registry.specs.Parts.{EntryParts};
+ghost use Rattle.std.specs.Prelude.{◌≡◌, ◌≢◌, ◌↔◌, List, ℕ, length, IsTrue, IfOk, Contains};
+ghost use Rattle.std.specs.List.{list_all};
 ghost use Rattle.lt_registry.specs.Entries as entries;
-ghost use Rattle.lt_registry.specs.Same.{same_kind, same_list};
+ghost use Rattle.lt_registry.specs.Same.{same_list};
 ghost use Rattle.lt_registry.specs.Validity.{RepeatsNoVariant};
 ghost use Rattle.lt_registry.specs.declared.entries.Kind.TheVariants as kinds;
 ghost use Rattle.lt_rewrite.specs.Conditions.{next_value};
 ghost use Rattle.lt_rewrite.specs.Shortcuts.{AreShortcuts};
 ghost use Rattle.lt_canon.specs.Upgrade.{SameEnd, StaysRegistered, KeepsKind, KeepsEnds, IsSameExtlang, KeepsExtlang, IsSameTurn, KeepsTurn, HadTurn, MeetInCanonical, KeepsWhole};
 ghost use Rattle.lt_canon.specs.UpgradeChecking as checks;
+ghost use Rattle.lt_canon.specs.WidestRanges.{HoldRanges};
 
 use crate::checked::Checked;
 use crate::equivalence::equivalent;
@@ -17,67 +17,21 @@ use crate::grandfathered_checks::lists;
 use crate::record_checks::{has_language_value, is_registered, is_short, one_value};
 use crate::refusals::Refusal;
 use crate::whole_checks::tag_and_value;
+use crate::widest_ranges::WidestRanges;
 use lt_registry::{Entry, EntryName, Kind, Lookup, Prefix};
 use lt_rewrite::Shortcuts;
 use lt_subtag::Subtag;
 use lt_tag::{OutOfMemory, Tag};
 use std::alloc::Global;
-use std::cmp::Ordering;
-
-/// Whether the first subtag is the other or stands before it in letter order.
-fn is_up_to(first: &Subtag, other: &Subtag) -> bool
-    ensures { result ≡ entries.letters_le first.now other.now }
-{
-    match first.cmp(other) {
-        Ordering::Less | Ordering::Equal => true,
-        Ordering::Greater => false,
-    }
-}
-
-/// Whether a name is a range of the same length that goes from a first to a last subtag at least.
-fn covers(name: &EntryName, first: &Subtag, last: &Subtag) -> bool
-    ensures { result ≡ checks.covers name.now first.now last.now }
-{
-    match name {
-        EntryName::Range(low, high) => {
-            low.bytes().len() == first.bytes().len() && is_up_to(low, first) && is_up_to(last, high)
-        }
-        _ => false,
-    }
-}
-
-/// Whether the record of a kind that a look-up of the first subtag finds names such a range.
-fn found_covers<L: Lookup>(newer: &L, kind: Kind, first: &Subtag, last: &Subtag) -> bool
-    ensures { result ≡ checks.covers_found (entries.entry (L.listed newer.now) kind first.now) first.now last.now }
-{
-    match newer.entry(kind, first) {
-        Some(entry) => covers(entry.name(), first, last),
-        None => false,
-    }
-}
-
-/// Whether one of all records of a kind names such a range.
-fn one_covers<L: Lookup>(newer: &L, kind: Kind, first: &Subtag, last: &Subtag) -> bool
-    ensures { result ≡ list_any (λ (e : EntryParts). same_kind e.kind kind && checks.covers e.name first.now last.now) (L.listed newer.now) }
-{
-    newer.entries().iter().any(|entry| entry.kind() == kind && covers(entry.name(), first, last))
-}
-
-/// Whether a record of a kind names such a range. All records are looked at only where the one that a
-/// look-up finds does not.
-fn is_covered<L: Lookup>(newer: &L, kind: Kind, first: &Subtag, last: &Subtag) -> bool
-    ensures { result ≡ checks.some_covers (L.listed newer.now) kind first.now last.now }
-{
-    found_covers(newer, kind, first, last) || one_covers(newer, kind, first, last)
-}
 
 /// Whether what a record names is registered in the newer registry.
-pub(crate) fn stays_registered<L: Lookup>(newer: &L, entry: &Entry) -> bool
+pub(crate) fn stays_registered<L: Lookup>(newer: &L, ranges: &WidestRanges, entry: &Entry) -> bool
+    requires { HoldRanges (L.listed newer.now) ranges.now }
     ensures { IsTrue result ↔ StaysRegistered (L.listed newer.now) entry.now }
 {
     match entry.name() {
         EntryName::Single(subtag) => is_registered(newer, entry.kind(), subtag),
-        EntryName::Range(first, last) => is_covered(newer, entry.kind(), first, last),
+        EntryName::Range(first, last) => ranges.cover(entry.kind(), first, last),
         EntryName::Whole(_) => true,
     }
 }

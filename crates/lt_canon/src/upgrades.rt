@@ -1,5 +1,5 @@
 //! The check of a newer registry beside an older one.
-ghost use Rattle.std.specs.Prelude.{◌≡◌, ◌↔◌, false, Contains, IsTrue, IfOk, IfErr, OnOk};
+ghost use Rattle.std.specs.Prelude.{◌≡◌, ◌≢◌, ◌↔◌, false, Contains, IsTrue, IfOk, IfErr, OnOk};
 ghost use Rattle.lt_rewrite.specs.Shortcuts.{AreShortcuts};
 ghost use Rattle.lt_canon.specs.Laws.{UpgradeKeepsTags};
 ghost use Rattle.lt_canon.specs.Upgrade.{MeetsUpgrade, Upgrades};
@@ -11,6 +11,7 @@ use crate::upgrade_checks::{
     had_turn, keeps_ends, keeps_extlang, keeps_turn, keeps_whole, stays_registered,
 };
 use crate::upgrade_laws::upgrades_keep_tags;
+use crate::widest_ranges::WidestRanges;
 use lt_registry::{Entry, Lookup};
 use lt_rewrite::Shortcuts;
 use lt_tag::OutOfMemory;
@@ -19,8 +20,8 @@ use std::alloc::{AllocError, Global};
 /// Why a newer registry is no upgrade of an older one.
 #[derive(Clone, Copy, Debug, Drop, PartialEq, Eq)]
 pub enum UpgradeFault {
-    /// The lowest condition that fails, and there the lowest number of a record at fault: of a record
-    /// of the older registry, but by `NoNewTurn` of one of the newer.
+    /// The first condition that some record does not meet, and of those records the lowest number: of
+    /// the older registry's, but for `NoNewTurn` of the newer's.
     Fails {
         condition: UpgradeCondition,
         number: u32,
@@ -67,7 +68,7 @@ const IN_ORDER: [UpgradeCondition; 6] = [
     UpgradeCondition::SameWhole,
 ];
 
-/// Whether a record of the older registry meets a condition on such records.
+/// Whether a record of the older registry meets a condition on such records behind the first.
 fn meets<A: Lookup, B: Lookup>(
     alloc: Global,
     older: &Checked<A>,
@@ -78,22 +79,23 @@ fn meets<A: Lookup, B: Lookup>(
 ) -> Result<bool, OutOfMemory>
     requires shortcuts { AreShortcuts (B.listed newer.now) shortcuts.now }
     requires older { is_of_newer condition ≡ false }
+    requires further { condition ≢ UpgradeCondition.StaysRegistered }
     requires listed { Contains (A.listed older.now) entry.now }
     ensures { IfOk result (λ meets. IsTrue meets ↔ MeetsUpgrade condition (A.listed older.now) (B.listed newer.now) entry.now) }
 {
     let _ = older.table();
     let table = newer.table();
     match condition {
-        UpgradeCondition::StaysRegistered => Ok(stays_registered(table, entry)),
         UpgradeCondition::SameEnds => Ok(keeps_ends(table, shortcuts, entry)),
         UpgradeCondition::SameExtlang => Ok(keeps_extlang(table, shortcuts, entry)),
         UpgradeCondition::SameTurn => Ok(keeps_turn(table, shortcuts, entry)),
         UpgradeCondition::SameWhole => keeps_whole(alloc, older, newer, entry),
-        UpgradeCondition::NoNewTurn => unreachable!(),
+        UpgradeCondition::StaysRegistered | UpgradeCondition::NoNewTurn => unreachable!(),
     }
 }
 
-/// The first record of the older registry that does not meet a condition on such records.
+/// The first record of the older registry that does not meet a condition on such records behind the
+/// first.
 fn first_failing<A: Lookup, B: Lookup>(
     alloc: Global,
     older: &Checked<A>,
@@ -103,10 +105,29 @@ fn first_failing<A: Lookup, B: Lookup>(
 ) -> Result<Option<u32>, OutOfMemory>
     requires shortcuts { AreShortcuts (B.listed newer.now) shortcuts.now }
     requires older { is_of_newer condition ≡ false }
+    requires further { condition ≢ UpgradeCondition.StaysRegistered }
     ensures { IfOk result (IsLowestUpgradeFault (A.listed older.now) (B.listed newer.now) condition) }
 {
     for entry in older.table().entries() {
         if !meets(alloc, older, newer, shortcuts, condition, entry)? {
+            return Ok(Some(entry.number()));
+        }
+    }
+    Ok(None)
+}
+
+/// The first record of the older registry whose name is not registered in the newer.
+fn first_unregistered<A: Lookup, B: Lookup>(
+    alloc: Global,
+    older: &Checked<A>,
+    newer: &Checked<B>,
+) -> Result<Option<u32>, OutOfMemory>
+    ensures { IfOk result (IsLowestUpgradeFault (A.listed older.now) (B.listed newer.now) UpgradeCondition.StaysRegistered) }
+{
+    let table = newer.table();
+    let ranges = WidestRanges::of_entries(alloc, table.entries())?;
+    for entry in older.table().entries() {
+        if !stays_registered(table, &ranges, entry) {
             return Ok(Some(entry.number()));
         }
     }
@@ -138,18 +159,19 @@ fn lowest_fault<A: Lookup, B: Lookup>(
     ensures { IfOk result (IsLowestUpgradeFault (A.listed older.now) (B.listed newer.now) condition) }
 {
     match condition {
+        UpgradeCondition::StaysRegistered => first_unregistered(alloc, older, newer),
         UpgradeCondition::NoNewTurn => Ok(first_new_turn(older, newer)),
         _ => first_failing(alloc, older, newer, shortcuts, condition),
     }
 }
 
 /// Whether a newer registry upgrades an older one: whether it meets each of the six
-/// [conditions](UpgradeCondition) beside it. They are judged in order, each over all records before the
-/// next.
+/// [conditions](UpgradeCondition) beside it. They are judged in order, and a condition only where all
+/// records meet those before it.
 ///
-/// Each tag that the older registry finds valid is then valid in the newer one, tags that are equivalent
-/// by the older are equivalent by the newer, and what the newer makes of an old canonical form is what it
-/// makes of the tag: one canonical form, or a refusal that names one variant.
+/// A tag is then valid by the newer registry if it is so by the older one, and two tags are equivalent if
+/// they are so by the older. Of a tag with a canonical form by the older registry, the newer one makes
+/// what it makes of that form: one canonical form, or a refusal that names one variant.
 pub fn upgrade_check<A: Lookup, B: Lookup>(
     alloc: Global,
     older: &Checked<A>,

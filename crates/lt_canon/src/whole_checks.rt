@@ -145,8 +145,8 @@ fn comes_to_rest<L: Lookup>(
     Ok(value_of(alloc, table, form).is_none())
 }
 
-/// Whether the core normal form of the value of a record, if it is a whole record with a value,
-/// repeats no variant and equals no whole record that has a value.
+/// Whether a record is no whole record with a value; or no variant stands twice in the core normal form
+/// of its value, and this form is not the tag of a whole record with a value.
 pub(crate) fn has_resting_whole<L: Lookup>(
     alloc: Global,
     table: &L,

@@ -1,7 +1,12 @@
-use crate::{Checked, Refusal, explain};
+ghost use Rattle.std.specs.Prelude.{◌↔◌, IsTrue, IfOk};
+ghost use Rattle.lt_registry.specs.Validity.{IsProper};
+ghost use Rattle.lt_registry.specs.Faults.{RepeatsAtMost};
+
+use super::growths::{answered, twice};
+use crate::{Checked, Refusal, Trace, explain};
 use lt_registry::{Lookup, proper};
-use lt_rewrite::{Step, StepKind, apply};
-use lt_tag::{Tag, read_tag, write_tag};
+use lt_rewrite::{ApplyFault, Step, StepKind, apply};
+use lt_tag::{OutOfMemory, Tag, read_tag, write_tag};
 use std::alloc::Global;
 use std::process::Abort;
 use std::test::Fail;
@@ -81,6 +86,26 @@ fn is_step(step: &Step, row: &Row) -> bool {
     step.kind == kind && step.place == place && step.number == number
 }
 
+/// Whether a tag is proper, asked again where memory is refused.
+fn is_proper_tag<L: Lookup>(alloc: Global, table: &L, tag: &Tag) -> Result<bool, OutOfMemory>
+    ensures { IfOk result (λ proper. IsTrue proper ↔ RepeatsAtMost (L.listed table.now) tag.now) }
+{
+    match proper(alloc, table, tag) {
+        Ok(is_proper) => Ok(is_proper),
+        Err(_) => proper(alloc, table, tag),
+    }
+}
+
+/// The tag to which a step leads from one that is proper, asked again where it is refused.
+fn applied<L: Lookup>(alloc: Global, table: &L, tag: &Tag, step: &Step) -> Result<Tag, ApplyFault>
+    requires { IsProper (L.listed table.now) tag.now }
+{
+    match apply(alloc, table, tag, step) {
+        Ok(next) => Ok(next),
+        Err(_) => apply(alloc, table, tag, step),
+    }
+}
+
 /// The tag to which a step leads from another, which is proper, if it is printed so.
 fn led<L: Lookup>(
     alloc: Global,
@@ -90,12 +115,12 @@ fn led<L: Lookup>(
     text: &str,
 ) -> Result<Tag, Fail> {
     let _ = tag.extensions();
-    let is_proper = proper(alloc, table, tag)?;
+    let is_proper = is_proper_tag(alloc, table, tag)?;
     if !is_proper {
         return Err(Fail::from("not proper"));
     }
-    let next = apply(alloc, table, tag, step).map_err(|fault| fault.name())?;
-    if write_tag(alloc, &next)?.as_slice() == text.as_bytes() {
+    let next = applied(alloc, table, tag, step).map_err(|fault| fault.name())?;
+    if twice(|| write_tag(alloc, &next))?.as_slice() == text.as_bytes() {
         Ok(next)
     } else {
         Err(Fail::from("another text"))
@@ -110,11 +135,21 @@ fn lead_on<L: Lookup>(
     steps: &[Step],
     rows: &[Row],
 ) -> Result<bool, Fail> {
-    let mut here = tag.copy(alloc)?;
+    let mut here = twice(|| tag.copy(alloc))?;
     for (step, row) in steps.iter().zip(rows) {
         here = led(alloc, table, &here, step, row.3)?;
     }
     Ok(steps.len() == rows.len() && steps.iter().zip(rows).all(|(step, row)| is_step(step, row)))
+}
+
+/// The explanation of a text's tag, or why there is none.
+fn explained<L: Lookup>(alloc: Global, checked: &Checked<L>, tag: &Tag) -> Result<Trace, Refusal> {
+    answered(
+        alloc,
+        tag,
+        || explain(alloc, checked, tag),
+        |refusal| matches!(refusal, Refusal::OutOfMemory),
+    )
 }
 
 /// Whether these are the steps from a text to its canonical text.
@@ -125,9 +160,9 @@ fn is_explained<L: Lookup>(
     rows: &[Row],
     last: &str,
 ) -> Result<bool, Fail> {
-    let tag = read_tag(alloc, text.as_bytes())?;
-    let trace = explain(alloc, checked, &tag).map_err(|_| "an explanation")?;
-    let end = write_tag(alloc, &trace.last)?;
+    let tag = twice(|| read_tag(alloc, text.as_bytes()))?;
+    let trace = explained(alloc, checked, &tag).map_err(|_| "an explanation")?;
+    let end = twice(|| write_tag(alloc, &trace.last))?;
     Ok(
         end.as_slice() == last.as_bytes()
             && lead_on(alloc, checked.table(), &tag, &trace.steps, rows)?,
@@ -148,8 +183,8 @@ fn has_no_explanation<L: Lookup>(
     checked: &Checked<L>,
     text: &str,
 ) -> Result<bool, Fail> {
-    let tag = read_tag(alloc, text.as_bytes())?;
-    match explain(alloc, checked, &tag) {
+    let tag = twice(|| read_tag(alloc, text.as_bytes()))?;
+    match explained(alloc, checked, &tag) {
         Ok(_trace) => Ok(false),
         Err(refusal) => Ok(is_unknown_language(refusal)),
     }

@@ -1,4 +1,5 @@
 //! A small registry for tests, modelled on IANA's.
+use super::growths::twice;
 use lt_jar::read_jar;
 use lt_registry::{ListTable, Registry, SortedTable};
 use std::alloc::{AllocError, Global};
@@ -99,13 +100,13 @@ fn text_with(alloc: Global, number: usize, record: &str) -> Result<String, Alloc
 
 /// The entries of the sample with another record in place of the one of a number, or behind the last.
 fn registry_with(alloc: Global, number: usize, record: &str) -> Result<Registry, Fail> {
-    let text = text_with(alloc, number, record)?;
-    let jar = read_jar(alloc, text.as_bytes())?;
+    let text = twice(|| text_with(alloc, number, record))?;
+    let jar = twice(|| read_jar(alloc, text.as_bytes()))?;
     let records = jar.records();
     if records.len() > 100_000 {
         return Err(Fail::from("too many records"));
     }
-    Ok(Registry::from_records(alloc, records)?)
+    Ok(twice(|| Registry::from_records(alloc, records))?)
 }
 
 /// The table of the sample with another record in place of the one of a number, or behind the last.
@@ -120,7 +121,8 @@ pub fn sample(alloc: Global) -> Result<ListTable, Fail> {
 
 /// The sorted table of the sample.
 pub fn sorted_sample(alloc: Global) -> Result<SortedTable, Fail> {
-    match SortedTable::new(alloc, registry_with(alloc, 0, "")?) {
+    let table = SortedTable::new(alloc, registry_with(alloc, 0, "")?);
+    match table.or_else(|registry| SortedTable::new(alloc, registry)) {
         Ok(table) => Ok(table),
         Err(_) => Err(Fail::from("no memory for the table")),
     }

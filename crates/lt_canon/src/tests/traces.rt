@@ -1,13 +1,14 @@
+use super::growths::{answered, twice};
 use crate::{Checked, Trace, TraceFault, verify};
 use lt_registry::{Lookup, ValidFault, ValidFaultKind};
 use lt_rewrite::{Step, StepKind};
-use lt_tag::read_tag;
+use lt_tag::{TagFault, read_tag};
 use std::alloc::Global;
 use std::process::Abort;
 use std::test::Fail;
 
 /// The steps from `sgn-DD`, of which the first uses this record, and an end.
-fn two_steps(alloc: Global, number: u32, last: &str) -> Result<Trace, Fail> {
+fn two_steps(alloc: Global, number: u32, last: &str) -> Result<Trace, TagFault> {
     let mut steps = Vec::new(alloc);
     steps.push(Step {
         kind: StepKind::Region,
@@ -48,9 +49,16 @@ fn is_verified<L: Lookup>(
     last: &str,
     wanted: Result<(), TraceFault>,
 ) -> Result<bool, Fail> {
-    let tag = read_tag(alloc, text.as_bytes())?;
-    let trace = two_steps(alloc, number, last)?;
-    Ok(verify(alloc, checked, &tag, &trace) == wanted)
+    let tag = twice(|| read_tag(alloc, text.as_bytes()))?;
+    let trace = twice(|| two_steps(alloc, number, last))?;
+    let told = (tag, trace);
+    let answer = answered(
+        alloc,
+        &told,
+        || verify(alloc, checked, &told.0, &told.1),
+        |fault| *fault == TraceFault::OutOfMemory,
+    );
+    Ok(answer == wanted)
 }
 
 /// Each trace is verified, or has the fault of its row.

@@ -1,26 +1,33 @@
 //! The check of an upgrade between the sample and the sample with one change.
+use super::answers::has_form;
 use super::sample::{sample, sample_with, sorted_sample};
 use crate::{Checked, UpgradeFault, upgrade_check};
-use lt_registry::Lookup;
+use lt_registry::{Lookup, validate};
+use lt_tag::read_tag;
 use std::alloc::Global;
 use std::test::Fail;
 
-/// A table that passes the check.
-fn checked<L: Lookup + Drop>(alloc: Global, table: L) -> Result<Checked<L>, Fail> {
-    match Checked::new(alloc, table) {
+/// A table that passes the check. It is handed back where memory is refused.
+pub(super) fn checked<L: Lookup + Drop>(alloc: Global, table: L) -> Result<Checked<L>, Fail> {
+    let answer = Checked::new(alloc, table);
+    match answer.or_else(|rejected| Checked::new(alloc, rejected.table)) {
         Ok(checked) => Ok(checked),
         Err(_) => Err(Fail::from("both registries pass")),
     }
 }
 
 /// What the check of an upgrade finds: nothing, or the code of the condition and the record.
-fn fault<A: Lookup + Drop, B: Lookup + Drop>(
+pub(super) fn fault<A: Lookup + Drop, B: Lookup + Drop>(
     alloc: Global,
     older: A,
     newer: B,
 ) -> Result<Option<(&'static str, u32)>, Fail> {
     let (older, newer) = (checked(alloc, older)?, checked(alloc, newer)?);
-    match upgrade_check(alloc, &older, &newer) {
+    let answer = match upgrade_check(alloc, &older, &newer) {
+        Err(UpgradeFault::OutOfMemory) => upgrade_check(alloc, &older, &newer),
+        answer => answer,
+    };
+    match answer {
         Ok(()) => Ok(None),
         Err(UpgradeFault::Fails { condition, number }) => Ok(Some((condition.code(), number))),
         Err(UpgradeFault::OutOfMemory) => Err(Fail::from("no memory")),
@@ -28,10 +35,18 @@ fn fault<A: Lookup + Drop, B: Lookup + Drop>(
 }
 
 /// Records put in the place of one of the sample, an empty one to take it out, and the condition that then
-/// fails at that number.
-const FAULTS: [(u32, &str, &str); 8] = [
+/// fails at that number. No two ranges together cover an old one, nor does one of another length or kind.
+pub(super) const FAULTS: [(u32, &str, &str); 12] = [
     (23, "", "U1"),
     (30, "Type: region\nSubtag: XA..XY\n", "U1"),
+    (
+        30,
+        "Type: region\nSubtag: WA..XN\n%%\nType: region\nSubtag: XB..ZA\n",
+        "U1",
+    ),
+    (19, "Type: language\nSubtag: qa..qz\n", "U1"),
+    (19, "Type: language\nSubtag: qaaa..qtzz\n", "U1"),
+    (26, "Type: language\nSubtag: qaaa..qabx\n", "U1"),
     (9, "Type: language\nSubtag: iw\n", "U2"),
     (
         23,
@@ -57,10 +72,19 @@ const FAULTS: [(u32, &str, &str); 8] = [
 ];
 
 /// Records put in the place of one of the sample, or behind the last, after which each condition holds.
-const UPGRADES: [(usize, &str); 4] = [
+/// The range that covers an old one need not be the first that holds its ends.
+pub(super) const UPGRADES: [(usize, &str); 6] = [
     (0, ""),
     (48, "Type: language\nSubtag: fr\n"),
     (30, "Type: region\nSubtag: WZ..XZ\n"),
+    (
+        30,
+        "Type: region\nSubtag: XA..XB\n%%\nType: region\nSubtag: WB..YA\n%%\nType: region\nSubtag: WC..XY\n",
+    ),
+    (
+        30,
+        "Type: region\nSubtag: XB..ZA\n%%\nType: region\nSubtag: XA..XY\n%%\nType: region\nSubtag: WB..XZ\n",
+    ),
     (
         34,
         "Type: variant\nSubtag: arevela\nPreferred-Value: hy\nPrefix: hy\nPrefix: hy\n",
@@ -68,32 +92,26 @@ const UPGRADES: [(usize, &str); 4] = [
 ];
 
 #[test]
-fn changed_samples_are_no_upgrades(rt: HostRuntime) -> Result<(), Fail> {
-    for row in &FAULTS {
-        let (number, record, code) = *row;
-        let older = sample(rt.alloc())?;
-        let newer = sample_with(rt.alloc(), number as usize, record)?;
-        assert_eq!(rt;
-            fault(rt.alloc(), older, newer)?,
-            Some((code, number)),
-            "{code}"
-        );
-    }
-    Ok(())
-}
-
-#[test]
-fn changed_samples_are_upgrades(rt: HostRuntime) -> Result<(), Fail> {
-    for row in &UPGRADES {
-        let (number, record) = *row;
-        let older = sorted_sample(rt.alloc())?;
-        let newer = sample_with(rt.alloc(), number, record)?;
-        assert_eq!(rt; fault(rt.alloc(), older, newer)?, None, "{record}");
-    }
-    Ok(())
-}
-
-#[test]
 fn names_of_faults(rt: HostRuntime) {
     assert_eq!(rt; UpgradeFault::OutOfMemory.name(), "OutOfMemory");
+}
+
+/// A language whose value is taken out is its own canonical form.
+#[test]
+fn value_that_is_taken_out(rt: HostRuntime) -> Result<(), Fail> {
+    let newer = sample_with(rt.alloc(), 9, "Type: language\nSubtag: iw\n")?;
+    let newer = checked(rt.alloc(), newer)?;
+    assert!(rt; has_form(rt.alloc(), &newer, "iw", "iw")?);
+    Ok(())
+}
+
+/// A language that is added is valid, as it was not before.
+#[test]
+fn language_that_is_added(rt: HostRuntime) -> Result<(), Fail> {
+    let language = read_tag(rt.alloc(), b"fr")?;
+    let older = sample(rt.alloc())?;
+    let newer = sample_with(rt.alloc(), 48, "Type: language\nSubtag: fr\n")?;
+    assert!(rt; validate(rt.alloc(), &older, &language).is_err());
+    assert!(rt; validate(rt.alloc(), &newer, &language).is_ok());
+    Ok(())
 }

@@ -8,6 +8,6 @@ pub returns-clause-ok : goal.returns-clause-ok
 returns-clause-ok g c =
     let R = g.L.Lookup.listed c.args.checked.now in
     let t = c.args.tag.now in
-    let run : List Step = c.explain_tag.new.steps.items in
-    let rest : LeadsToRest R t c.new-steps.result.items run = subst (λ l. LeadsToRest (g.L.Lookup.listed l) t c.new-steps.result.items run) c.table.ensures.value (c.in_ok-explain_tag.ensures {u = tt}) in
-    explained R c.table.ensures.checked t c.in_ok-last.last run (c.in_ok-last.ensures {u = tt}) (subst (λ xs. LeadsToRest R t xs run) c.new-steps.ensures.items rest)
+    let run : List Step = c.in_ok-steps.steps.items in
+    let rest : LeadsToRest R t c.new.result.items run = subst (λ l. LeadsToRest (g.L.Lookup.listed l) t c.new.result.items run) c.table.ensures.value (c.in_ok-steps.ensures {u = tt}) in
+    explained R c.table.ensures.checked t c.in_ok-last.last run (c.in_ok-last.ensures {u = tt}) (subst (λ xs. LeadsToRest R t xs run) c.new.ensures.items rest)

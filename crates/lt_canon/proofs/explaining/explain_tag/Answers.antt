@@ -14,14 +14,14 @@ use Rattle.lt_canon.specs.Explaining.{LeadsToRest}
 use Rattle.lt_canon.specs.declared.conditions.Condition.TheVariants as conditions
 use Rattle.lt_canon.proofs.TagProper.{proper_parts, core_spells_none}
 use Rattle.lt_canon.proofs.CanonicalForms.{none_of_test, nothing_of_test}
-use Rattle.lt_canon.proofs.Explained.{if_ok, if_ok_both, some_of_test, plain_made, first_adds, plain_explained, langtag_explained, coreless_explained, transforms_of}
+use Rattle.lt_canon.proofs.Explained.{if_ok, some_of_test, plain_made, first_adds, plain_explained, langtag_explained, coreless_explained, transforms_of}
 use Rattle.lt_canon.proofs.explaining.explain_tag.Goals.{else-is_empty-via-then-is_empty+else-is_empty-2, else-is_empty-via-else-is_empty}
 use Rattle.lt_canon.proofs.explaining.explain_tag.Goals as goal
 
 pub returns-then-is_none : goal.returns-then-is_none
 returns-then-is_none g c =
     let t = c.args.tag.now in
-    coreless_explained (g.L.Lookup.listed c.args.table.now) c.requires.checked t c.args.steps.now.items (sym (c.in_default.ensures {u = tt}).value)
+    coreless_explained (g.L.Lookup.listed c.args.table.now) c.requires.checked t c.args.steps.items (sym (c.in_default.ensures {u = tt}).value)
     (none_of_test c.grandfathered.result (number_of t) c.grandfathered.ensures.value (c.if-is_none.ensures {u = tt}))
 
 pub explain_core-requires-clause-chains : goal.explain_core-requires-clause-chains
@@ -31,22 +31,22 @@ pub from_parts-settled-requires-clause-not_grandfathered :
     goal.from_parts-settled-requires-clause-not_grandfathered
 from_parts-settled-requires-clause-not_grandfathered g c =
     let R = g.L.Lookup.listed c.args.table.now in
-    let d : CoreParts = c.explain_core.new.core in
+    let d : CoreParts = c.in_ok-settled.settled in
     let es = c.extensions-extensions.result.now in
     let ps = c.private-private.result.now in
-    let adds = subst (λ (x : CoreParts). AddsOnCore R 0 x d c.args.steps.now.items c.explain_core.new.steps.items) (c.in_ok-settled.ensures {u = tt}) (c.in_ok-explain_core.ensures {u = tt}).adds in
-    let on = plain_explained R c.requires.checked c.args.tag.now c.in-Some.core.now d es ps c.args.steps.now.items c.explain_core.new.steps.items c.requires.proper (c.in-Some.ensures {u = tt}).value c.extensions-extensions.ensures.value c.private-private.ensures.value (nothing_of_test es (c.if-is_empty.ensures {u = tt})) (nothing_of_test ps (c.if-is_empty-2.ensures {u = tt})) adds in
+    let adds = subst (λ (x : CoreParts). AddsOnCore R 0 x d c.args.steps.items c.in_ok-settled.steps.items) (c.in_ok-copy.ensures {u = tt}) (c.in_ok-settled.ensures {u = tt}).adds in
+    let on = plain_explained R c.requires.checked c.args.tag.now c.in-Some.core.now d es ps c.args.steps.items c.in_ok-settled.steps.items c.requires.proper (c.in-Some.ensures {u = tt}).value c.extensions-extensions.ensures.value c.private-private.ensures.value (nothing_of_test es (c.if-is_empty.ensures {u = tt})) (nothing_of_test ps (c.if-is_empty-2.ensures {u = tt})) adds in
     inl (core_spells_none R c.requires.checked d (proper_parts R d [] [] on.0).core)
 
 pub explain_whole-requires-then-is_empty-2-clause-proper :
     goal.explain_whole-requires-then-is_empty-2-clause-proper
 explain_whole-requires-then-is_empty-2-clause-proper g c =
     let R = g.L.Lookup.listed c.args.table.now in
-    let d : CoreParts = c.explain_core.new.core in
+    let d : CoreParts = c.in_ok-settled.settled in
     let es = c.extensions-extensions.result.now in
     let ps = c.private-private.result.now in
-    let adds = subst (λ (x : CoreParts). AddsOnCore R 0 x d c.args.steps.now.items c.explain_core.new.steps.items) (c.in_ok-settled.ensures {u = tt}) (c.in_ok-explain_core.ensures {u = tt}).adds in
-    let on = plain_explained R c.requires.checked c.args.tag.now c.in-Some.core.now d es ps c.args.steps.now.items c.explain_core.new.steps.items c.requires.proper (c.in-Some.ensures {u = tt}).value c.extensions-extensions.ensures.value c.private-private.ensures.value (nothing_of_test es (c.if-is_empty.ensures {u = tt})) (nothing_of_test ps (c.if-is_empty-2.ensures {u = tt})) adds in
+    let adds = subst (λ (x : CoreParts). AddsOnCore R 0 x d c.args.steps.items c.in_ok-settled.steps.items) (c.in_ok-copy.ensures {u = tt}) (c.in_ok-settled.ensures {u = tt}).adds in
+    let on = plain_explained R c.requires.checked c.args.tag.now c.in-Some.core.now d es ps c.args.steps.items c.in_ok-settled.steps.items c.requires.proper (c.in-Some.ensures {u = tt}).value c.extensions-extensions.ensures.value c.private-private.ensures.value (nothing_of_test es (c.if-is_empty.ensures {u = tt})) (nothing_of_test ps (c.if-is_empty-2.ensures {u = tt})) adds in
     let same = plain_made c.from_parts-settled.result d c.new.result.items c.new-then-is_empty-2.result.items c.from_parts-settled.ensures c.new.ensures.items c.new-then-is_empty-2.ensures.items in
     subst (IsProper R) (sym same) on.0
 
@@ -54,26 +54,25 @@ pub explain_whole-requires-then-is_empty-2-clause-at_rest :
     goal.explain_whole-requires-then-is_empty-2-clause-at_rest
 explain_whole-requires-then-is_empty-2-clause-at_rest g c = λ b h.
     let R = g.L.Lookup.listed c.args.table.now in
-    let d : CoreParts = c.explain_core.new.core in
+    let d : CoreParts = c.in_ok-settled.settled in
     let same : Some d ≡ Some b = sym (ap core_of c.from_parts-settled.ensures) ∙ h in
     let is : d ≡ b = cc in
-    subst (λ (x : CoreParts). NoneLeads (CoreLeads R 0 x)) is (c.in_ok-explain_core.ensures {u = tt}).at_rest
+    subst (λ (x : CoreParts). NoneLeads (CoreLeads R 0 x)) is (c.in_ok-settled.ensures {u = tt}).at_rest
 
 pub returns-then-is_empty-2 : goal.returns-then-is_empty-2
 returns-then-is_empty-2 g c =
     let R = g.L.Lookup.listed c.args.table.now in
     let t = c.args.tag.now in
-    let d : CoreParts = c.explain_core.new.core in
+    let d : CoreParts = c.in_ok-settled.settled in
     let es = c.extensions-extensions.result.now in
     let ps = c.private-private.result.now in
-    let old : List Step = c.args.steps.now.items in
-    let mid : List Step = c.explain_core.new.steps.items in
-    let new : List Step = c.explain_whole-then-is_empty-2.new.steps.items in
-    let adds = subst (λ (x : CoreParts). AddsOnCore R 0 x d old mid) (c.in_ok-settled.ensures {u = tt}) (c.in_ok-explain_core.ensures {u = tt}).adds in
+    let old : List Step = c.args.steps.items in
+    let mid : List Step = c.in_ok-settled.steps.items in
+    let adds = subst (λ (x : CoreParts). AddsOnCore R 0 x d old mid) (c.in_ok-copy.ensures {u = tt}) (c.in_ok-settled.ensures {u = tt}).adds in
     let on = plain_explained R c.requires.checked t c.in-Some.core.now d es ps old mid c.requires.proper (c.in-Some.ensures {u = tt}).value c.extensions-extensions.ensures.value c.private-private.ensures.value (nothing_of_test es (c.if-is_empty.ensures {u = tt})) (nothing_of_test ps (c.if-is_empty-2.ensures {u = tt})) adds in
     let same = plain_made c.from_parts-settled.result d c.new.result.items c.new-then-is_empty-2.result.items c.from_parts-settled.ensures c.new.ensures.items c.new-then-is_empty-2.ensures.items in
-    if_ok (λ _. LeadsToRest R c.from_parts-settled.result mid new) (λ _. LeadsToRest R t old new) c.explain_whole-then-is_empty-2.result
-    (λ _ rest. first_adds R c.requires.checked t (plain d) old mid new on.1 (subst (λ (x : TagForm). LeadsToRest R x mid new) same rest))
+    if_ok _ _ c.explain_whole-then-is_empty-2.result
+    (λ taken rest. first_adds R c.requires.checked t (plain d) old mid taken.items on.1 (subst (λ (x : TagForm). LeadsToRest R x mid taken.items) same rest))
     c.explain_whole-then-is_empty-2.ensures
 
 pub explain_extensions-requires-clause-chains : goal.explain_extensions-requires-clause-chains
@@ -97,18 +96,17 @@ returns g c =
     let R = g.L.Lookup.listed c.args.table.now in
     let t = c.args.tag.now in
     let core : CoreParts = c.in-Some.core.now in
-    let d : CoreParts = c.explain_core.new.core in
+    let d : CoreParts = c.in_ok-settled.settled in
     let es : List ExtensionParts = c.in_ok-others.others.items in
     let ps : List (List ℕ) = c.private-private.result.now in
-    let old : List Step = c.args.steps.now.items in
-    let mid : List Step = c.explain_core.new.steps.items in
+    let old : List Step = c.args.steps.items in
+    let mid : List Step = c.in_ok-settled.steps.items in
     let start : ℕ = c.core_length.result in
     let copied : es ≡ c.extensions-extensions.result.now = c.in_ok-others.ensures {u = tt} in
     let some : 0 < length es + length ps = elim c.else-is_empty.branch [
       | else-is_empty-via-then-is_empty+else-is_empty-2 w ↦ omega (arith, some_of_test ps (w.if-is_empty-2.ensures {u = tt}))
       | else-is_empty-via-else-is_empty w ↦ omega (arith, ap length copied, some_of_test c.extensions-extensions.result.now (w.if-is_empty.ensures {u = tt}))
     ] in
-    let adds = subst (λ (x : CoreParts). AddsOnCore R 0 x d old mid) (c.in_ok-settled.ensures {u = tt}) (c.in_ok-explain_core.ensures {u = tt}).adds in
-    if_ok_both _ _ _ c.explain_extensions.result
-    (λ _ more none. langtag_explained R c.requires.checked t core d es _ ps start old mid _ c.requires.proper (c.in-Some.ensures {u = tt}).value (copied ∙ c.extensions-extensions.ensures.value) c.private-private.ensures.value some adds (c.in_ok-explain_core.ensures {u = tt}).at_rest c.core_length.ensures.value more none)
-    c.explain_extensions.ensures.adds c.explain_extensions.ensures.at_rest
+    let adds = subst (λ (x : CoreParts). AddsOnCore R 0 x d old mid) (c.in_ok-copy.ensures {u = tt}) (c.in_ok-settled.ensures {u = tt}).adds in
+    let given = c.in_ok-steps.ensures {u = tt} in
+    langtag_explained R c.requires.checked t core d es _ ps start old mid _ c.requires.proper (c.in-Some.ensures {u = tt}).value (copied ∙ c.extensions-extensions.ensures.value) c.private-private.ensures.value some adds (c.in_ok-settled.ensures {u = tt}).at_rest c.core_length.ensures.value given.adds given.at_rest
