@@ -2,13 +2,14 @@
 use Rattle.std.proofs.Common.{◌≡◌, ◌≤◌, ◌<◌, ◌+◌, ◌*◌, ◌++◌, ◌∙◌, inl, inr, ℕ, List, [], Option, Result, Ok, Err, length, sym, ap, refl, subst, arith, add-one, append-nil, length-append, take, drop}
 use Rattle.std.specs.Io.KnownBytes.{Appends, Consumes, IsAtEnd, Keeps}
 use Rattle.std.proofs.KnownBytes.{Appends-nil, Appends-trans, Consumes-kept, Consumes-nil, Consumes-trans}
-use Rattle.lt_jar.specs.Devices.{HasFailed, failures_of, inner_of, one_more, reads_of}
+use Rattle.lt_jar.specs.Devices.{HasFailed, after_reads, failures_of, inner_of, last_given_of, one_more, reads_of}
 use Rattle.lt_jar.specs.Lines.{lines_of}
+use Rattle.lt_jar.specs.Sources.{most_reads}
 use Rattle.lt_jar.specs.declared.devices.Device.{Device}
 use Rattle.lt_registry.specs.Parts.{EntryParts}
 use Rattle.lt_tool.specs.Answering.{FinishesLines, HasRoom, IsStop, IsTaken, TakesPiece}
 use Rattle.lt_tool.specs.Owed.{AreOwed, IsBegun, IsOwed, IsOwedToLastFeed}
-use Rattle.lt_tool.specs.Running.{EndsAs, HasRead, RunsLines, after_reads, most_reads}
+use Rattle.lt_tool.specs.Running.{EndsAs, HasRead, RunsLines}
 use Rattle.lt_tool.specs.declared.answering.Answering.{Answering}
 use Rattle.lt_tool.specs.declared.faults.ToolFault.{ToolFault}
 use Rattle.lt_tool.specs.declared.faults.ToolFault.TheVariants as faults
@@ -17,12 +18,7 @@ use Rattle.lt_tool.proofs.DeviceLemmas.{failed_from}
 use Rattle.lt_tool.proofs.TakenLemmas.{begun_nothing, taken_room}
 use Rattle.std.proofs.Math.Seq.{take-append_seam}
 
-after_no_reads : (count : ℕ) → after_reads count 0 ≡ count
-unfolding after_reads
-after_no_reads count = refl
-
 after_more_reads : (count reads : ℕ) → after_reads count (reads + 1) ≡ one_more (after_reads count reads)
-unfolding after_reads
 after_more_reads count reads = ap (after_reads count) (add-one reads)
 
 -- so far this was read and answered
@@ -36,6 +32,7 @@ pub record RunTurn {I O : Type 0} (R : List EntryParts) (remaining : I → Optio
   pub emptied : state.owed.items ≡ []
   pub calls : HasRead input input' turn
   pub some : turn ≤ length read
+  pub last_gave : 0 < turn → 0 < last_given_of input'
   pub most : length read ≤ 65536 * turn
   pub read_failures : failures_of input' ≡ failures_of input
   pub write_failures : failures_of output' ≡ failures_of output
@@ -70,8 +67,9 @@ run_first R remaining contents input output state kept owed lines refused = reco
   appends = Appends-nil _;
   taken = nothing_taken R state kept owed lines refused;
   emptied = owed;
-  calls = sym (after_no_reads (reads_of input));
+  calls = refl;
   some = omega arith;
+  last_gave = λ some. absurd (omega (arith, some));
   most = omega arith;
   read_failures = refl;
   write_failures = refl;
@@ -84,8 +82,8 @@ read_more input before after turn has more = more ∙ ap one_more has ∙ sym (a
 -- a piece was read and taken
 pub run_next : {I O : Type 0} (R : List EntryParts) (remaining : I → Option (List ℕ)) (contents : O → Option (List ℕ)) (input before after : Device I) (output between last : Device O)
     (state new : Answering) (turn : ℕ) (piece : List ℕ) → RunTurn R remaining contents input before output between state turn → ReadsPiece remaining before after piece
-    → 0 < length piece → length piece ≤ 65536 → TakesPiece R contents piece state new between last (Ok tt) → RunTurn R remaining contents input after output last new (turn + 1)
-run_next R remaining contents input before after output between last state new turn piece t r some short takes = record {
+    → 0 < length piece → length piece ≤ 65536 → 0 < last_given_of after → TakesPiece R contents piece state new between last (Ok tt) → RunTurn R remaining contents input after output last new (turn + 1)
+run_next R remaining contents input before after output between last state new turn piece t r some short gave takes = record {
   read = t.read ++ piece;
   written = t.written ++ takes.written;
   consumes = Consumes-trans _ _ _ _ _ t.consumes r.consumes;
@@ -94,6 +92,7 @@ run_next R remaining contents input before after output between last state new t
   emptied = takes.done.1;
   calls = read_more input before after turn t.calls r.calls;
   some = let n = length-append t.read piece in omega (arith, n, t.some);
+  last_gave = λ some. gave;
   most = let n = length-append t.read piece in omega (arith, n, t.most);
   read_failures = r.failures ∙ t.read_failures;
   write_failures = takes.done.0 ∙ t.write_failures;
@@ -109,7 +108,7 @@ run_lacks R remaining contents input output = record {
   consumes = Consumes-nil _;
   appends = Appends-nil _;
   begun = record { lines = []; others = []; cut = refl; owed = []; each = tt; rest = []; front = refl };
-  calls = sym (after_no_reads (reads_of input));
+  calls = refl;
   bounded = omega arith;
   ends = tt;
   read_rises = λ lt. absurd (omega (arith, lt));
@@ -159,7 +158,7 @@ run_turns R remaining contents input after output last state turn t all = record
   begun = begun_nothing R t.read t.written [] t.read state t.taken (sym (append-nil t.read));
   calls = t.calls;
   bounded = omega (arith, all);
-  ends = record { all_made = all; gave_bytes = omega (arith, all, t.some); owed = owed_to_last_feed R t.read t.written state t.taken t.emptied };
+  ends = record { all_made = all; gave_bytes = omega (arith, all, t.some); last_gave = t.last_gave (omega (arith, all)); owed = owed_to_last_feed R t.read t.written state t.taken t.emptied };
   read_rises = λ lt. absurd (omega (arith, lt, t.read_failures));
   write_rises = λ lt. absurd (omega (arith, lt, t.write_failures));
 }

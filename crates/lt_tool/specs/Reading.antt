@@ -47,7 +47,7 @@ abbrev pub second_file_of : Command → Option (List ℕ)
 second_file_of (command.Upgrade old new) = Some (string_bytes new)
 second_file_of _ = None
 
--- the words name this command, by `clap`'s definition of the matches of a simple command
+-- the words name this command, by what `clap` defines as the matches of a command
 abbrev pub Names : List Text → Command → Type 0
 Names words = IsNamed (subcommand_of langtag words)
 

@@ -1,22 +1,14 @@
 -- What a run over the lines of a reader read and wrote, and how it ended.
-use Rattle.std.specs.Prelude.{◌≡◌, ◌<◌, ◌≤◌, ℕ, zero, suc, List, length, Option, Result, Ok, Err}
+use Rattle.std.specs.Prelude.{◌≡◌, ◌<◌, ◌≤◌, ℕ, List, length, Option, Result, Ok, Err}
 use Rattle.std.specs.Io.KnownBytes.{Appends, Consumes, IsAtEnd}
-use Rattle.lt_jar.specs.Devices.{HasFailed, failures_of, inner_of, one_more, reads_of}
+use Rattle.lt_jar.specs.Devices.{HasFailed, after_reads, failures_of, inner_of, last_given_of, reads_of}
+use Rattle.lt_jar.specs.Sources.{most_reads}
 use Rattle.lt_jar.specs.declared.devices.Device.{Device}
 use Rattle.lt_registry.specs.Parts.{EntryParts}
 use Rattle.lt_tool.specs.Owed.{IsBegun, IsOwed, IsOwedToLastFeed}
 use Rattle.lt_tool.specs.declared.faults.ToolFault.{ToolFault}
 use Rattle.lt_tool.specs.declared.faults.ToolFault.TheVariants as faults
 use Rattle.lt_tool.specs.declared.runs.Counts.{Counts}
-
--- the most reads of one run
-abbrev pub most_reads : ℕ
-most_reads = 10000000
-
--- a device's count after so many reads more
-unfoldable pub after_reads : ℕ → ℕ → ℕ
-after_reads count zero = count
-after_reads count (suc reads) = one_more (after_reads count reads)
 
 -- so many reads were made
 abbrev pub HasRead : {T : Type 0} → Device T → Device T → ℕ → Type 0
@@ -33,10 +25,11 @@ pub record IsStoppedByRead {I : Type 0} (R : List EntryParts) (input input' : De
   pub failed : HasFailed input input'
   pub owed : IsOwedToLastFeed R read written
 
--- the most reads were made, each of which gave bytes, and what is owed up to the last line feed was written
-pub record IsStoppedByTurns (R : List EntryParts) (reads : ℕ) (read written : List ℕ) : Type 0 where
+-- the most reads were made, the last of them gave bytes, and what is owed up to the last line feed was written
+pub record IsStoppedByTurns {I : Type 0} (R : List EntryParts) (input' : Device I) (reads : ℕ) (read written : List ℕ) : Type 0 where
   pub all_made : reads ≡ most_reads
   pub gave_bytes : most_reads ≤ length read
+  pub last_gave : 0 < last_given_of input'
   pub owed : IsOwedToLastFeed R read written
 
 -- how the run ended
@@ -44,7 +37,7 @@ abbrev pub EndsAs : {I O : Type 0} → List EntryParts → (I → Option (List �
     → ℕ → (read written : List ℕ) → Result Counts ToolFault → Type 0
 EndsAs R remaining input input' output output' reads read written (Ok counts) = IsDone R remaining input' read written counts
 EndsAs R remaining input input' output output' reads read written (Err faults.Read) = IsStoppedByRead R input input' read written
-EndsAs R remaining input input' output output' reads read written (Err faults.TooManyTurns) = IsStoppedByTurns R reads read written
+EndsAs R remaining input input' output output' reads read written (Err faults.TooManyTurns) = IsStoppedByTurns R input' reads read written
 EndsAs R remaining input input' output output' reads read written (Err faults.Write) = HasFailed output output'
 EndsAs R remaining input input' output output' reads read written (Err faults.OutOfMemory) = Unit {0}
 

@@ -47,7 +47,7 @@ impl Counts {
 /// line is no part of its text. What is owed for the lines of the bytes that were read is written before the next read.
 ///
 /// - `Read`, if a read fails: what is owed for each line whose line feed was read has been written.
-/// - `TooManyTurns`, if 10,000,000 reads gave bytes: the same has been written.
+/// - `TooManyTurns`, if all 10,000,000 reads were made and the last gave bytes: the same has been written.
 /// - `Write`, if a write fails or takes none of some bytes, and `OutOfMemory`: a front of what is owed was written.
 pub fn run_lines<L: Lookup, R: Read, W: Write>(
     alloc: Global,

@@ -1,4 +1,6 @@
 //! The words of the command line, and what a run prints.
+mod growths;
+mod hostile;
 mod registries;
 mod sample;
 mod tags;
@@ -184,9 +186,9 @@ fn classes(rt: HostRuntime) {
     }
 }
 
-/// `en`, then 113 times `-aaaaaaaa`, then this end.
-fn long_text(alloc: Global, end: &str) -> Result<String, AllocError> {
-    let mut text = String::from_str(alloc, "en")?;
+/// This front, then 113 times `-aaaaaaaa`, then this end.
+fn long_text(alloc: Global, front: &str, end: &str) -> Result<String, AllocError> {
+    let mut text = String::from_str(alloc, front)?;
     for _ in 0..113 {
         text.push_str("-aaaaaaaa")?;
     }
@@ -207,9 +209,9 @@ fn is_too_long(alloc: Global, text: &str) -> bool {
 
 #[test]
 fn longest_texts(rt: HostRuntime) -> Result<(), Fail> {
-    let longest = long_text(rt.alloc(), "-1aaa")?;
+    let longest = long_text(rt.alloc(), "en", "-1aaa")?;
     assert!(rt; is_longest(rt.alloc(), &longest)?);
-    let longer = long_text(rt.alloc(), "-aaaaa")?;
+    let longer = long_text(rt.alloc(), "en", "-aaaaa")?;
     assert!(rt; is_too_long(rt.alloc(), &longer));
     Ok(())
 }

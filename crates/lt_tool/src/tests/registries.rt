@@ -10,10 +10,10 @@ use std::io::{self, ErrorKind, Write};
 use std::test::Fail;
 
 /// The lines of a run, CR LF and a last line without a line end among them.
-const LINES: &[u8] = b"zh-yue\r\nfr\n\nsgn-dd";
+pub const LINES: &[u8] = b"zh-yue\r\nfr\n\nsgn-dd";
 
 /// What is owed for them.
-const OWED: &str = "yue\n! UnknownLanguage 1\n! EmptySubtag 1\ngsg\n";
+pub const OWED: &str = "yue\n! UnknownLanguage 1\n! EmptySubtag 1\ngsg\n";
 
 /// Whether a command on the registry of a file prints this to the lines of the input, and ends so.
 fn prints_of(
@@ -85,7 +85,8 @@ fn lines_are_answered(rt: HostRuntime) -> Result<(), Fail> {
     Ok(())
 }
 
-fn checked(alloc: Global) -> Result<Option<Checked<SortedTable>>, AllocError> {
+/// The sample, if it passes the check.
+pub fn checked(alloc: Global) -> Result<Option<Checked<SortedTable>>, AllocError> {
     let sample = sample_text(alloc, "\n", "")?;
     let Ok(jar) = read_jar(alloc, sample.as_bytes()) else {
         return Ok(None);
@@ -235,7 +236,13 @@ fn failures_of_canon(rt: HostRuntime) -> Result<(), Fail> {
 }
 
 /// Whether a command prints this of the registry of a reader, ends so, and leaves the input alone.
-fn prints_of_reader(alloc: Global, name: &str, registry: Pieces, shown: &str, status: u8) -> bool {
+pub fn prints_of_reader(
+    alloc: Global,
+    name: &str,
+    registry: Pieces,
+    shown: &str,
+    status: u8,
+) -> bool {
     let Ok(command) = read(alloc, &[name, "registry"]) else {
         return false;
     };
@@ -279,7 +286,7 @@ fn names_read(alloc: Global, registry: &[u8], front: &[u8], call: u64) -> Result
 fn reads_of_a_registry_that_fail(rt: HostRuntime) -> Result<(), Fail> {
     let sample = sample_text(rt.alloc(), "\n", "")?;
     let registry = sample.as_bytes();
-    for index in 0..registry.len().div_ceil(PIECE) {
+    for index in 0..=registry.len().div_ceil(PIECE) {
         let front = registry
             .get(..index.saturating_mul(PIECE))
             .unwrap_or(registry);

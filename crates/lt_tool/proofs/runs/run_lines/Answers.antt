@@ -84,6 +84,6 @@ loop-turn-preserved g c =
     let takes = subst (λ (l : List ℕ). TakesPiece R g.W.Write.contents l c.loop-turn.answering c.take_piece.new.self c.loop-turn.output c.take_piece.new.output (Ok tt)) same c.in_ok-take_piece-in-Ok.ensures in
     record {
       turn = run_next R g.R.Read.remaining g.W.Write.contents c.args.input.now c.loop-turn.input c.read.new.self c.args.output.now c.loop-turn.output c.take_piece.new.output
-          c.loop-turn.answering c.take_piece.new.self c.loop-turn._turn (take count buffer) c.loop-turn.invariant.turn reads some short takes;
+          c.loop-turn.answering c.take_piece.new.self c.loop-turn._turn (take count buffer) c.loop-turn.invariant.turn reads some short (omega (arith, ensures.last, c.in-Ok.count-test)) takes;
       buffer = ap length held_is ∙ full ∙ c.loop-turn.invariant.buffer;
     }
