@@ -2,7 +2,7 @@
 
 PREFIX ?= /usr/local
 
-.PHONY: all test bench install clean
+.PHONY: all test bench growth install clean
 
 # Proves each crate that changed, and builds the program: `rt run` proves, builds and runs it.
 all:
@@ -17,6 +17,12 @@ test:
 # Measures the program that `make` built, over a registry of IANA's size; it takes some seconds.
 bench:
 	bench/run.sh
+
+# Refuses each growth of memory in turn, in the tests that are meant for it and in the program. `rt test` proves the tests
+# of a crate, where they changed, and leaves them in out/.
+growth: all
+	set -e; for crate in lt_tag lt_jar lt_registry lt_rewrite lt_canon lt_tool; do (cd crates/$$crate && rt test); done
+	bench/growth.py
 
 install: all
 	install -d $(DESTDIR)$(PREFIX)/bin

@@ -75,6 +75,11 @@ def nested_ranges(count):
     return [record("language", name(n, 5) + ".." + name(26 ** 5 - 1 - n, 5)) for n in range(count)]
 
 
+def overlapping_ranges(count):
+    """Ranges each of which begins within the one before it and ends behind it."""
+    return [record("language", name(2 * n, 5) + ".." + name(2 * n + 3, 5)) for n in range(count)]
+
+
 def duplicate_ranges(count):
     return [record("language", "aaaaa..zzzzz")] * count
 
@@ -188,6 +193,7 @@ REGISTRIES = {
     "duplicates": duplicates,
     "ranges": ranges,
     "nested-ranges": nested_ranges,
+    "overlapping-ranges": overlapping_ranges,
     "duplicate-ranges": duplicate_ranges,
     "ranges-and-values": ranges_and_values,
     "redundant": redundant,

@@ -1,0 +1,163 @@
+#!/usr/bin/env python3
+"""Refuses each growth of memory in turn: in the tests of each crate that are meant for it, and in the program.
+
+Usage: growth.py [NAME..]
+
+A NAME is a crate, or `langtag` for the program; without one, all are run. `rt test` in a crate's folder
+leaves its tests there, and `make` builds the program; `make growth` does both first.
+
+A run refuses the growth of one number and no other, for each number from 1 on until a run met no refusal.
+A test of a module `growths` has to pass in each. A command has to give the answer that it gives without a
+refusal, or a front of it with `! OutOfMemory` and status 4. A test `.._without_growth` marks where calls
+begin that take no memory, and each growth behind that is refused: it has to pass and to meet none.
+Prints the number of refusals in each, and ends with status 1 where one is not as it has to be.
+"""
+
+import itertools
+import os
+import subprocess
+import sys
+import tempfile
+from pathlib import Path
+
+ROOT = Path(__file__).resolve().parent.parent
+CRATES = ["lt_tag", "lt_jar", "lt_registry", "lt_rewrite", "lt_canon", "lt_tool"]
+PROGRAM = ROOT / "build" / "langtag"
+SECONDS = 60
+NONE = "_without_growth"
+
+# Counts the growths of a process and refuses the one of the number that the environment names. One of 64
+# GiB is a mark: it and each behind it are refused. A byte for each goes to the descriptor that is named.
+REFUSER = r"""
+#include <stdlib.h>
+#include <unistd.h>
+
+extern void *__libc_malloc(size_t), *__libc_calloc(size_t, size_t), *__libc_realloc(void *, size_t);
+static const size_t mark = (size_t)1 << 36;
+static long number, count;
+static int told;
+
+__attribute__((constructor)) static void start(void) {
+    told = atoi(getenv("REFUSED_TOLD"));
+    number = atol(getenv("REFUSED_GROWTH"));
+    count = 0; /* those of the loader are no growths of the program */
+}
+
+static int refused(size_t size) {
+    static int is_marked = 0;
+    int is_mark = size >= mark;
+    is_marked |= is_mark;
+    if (++count != number && !is_marked) return 0;
+    return write(told, is_mark ? "m" : "r", 1) == 1;
+}
+
+void *malloc(size_t size) { return refused(size) ? NULL : __libc_malloc(size); }
+void *calloc(size_t items, size_t size) { return refused(size) ? NULL : __libc_calloc(items, size); }
+void *realloc(void *old, size_t size) { return refused(size) ? NULL : __libc_realloc(old, size); }
+"""
+
+SAMPLE = ROOT / "examples" / "sample-registry.txt"
+LINES = b"zh-yue\r\nfr\n\nen-u-foo-bar-foo-nu-latn-ca-buddhist-NU-arab\nen-t-zh-yue-m0-names-a0-xyz\nsgn-dd"
+# Each command with its input.
+COMMANDS = [
+    (["--help"], b""),
+    (["classify", "en-Latn-a-bb"], b""),
+    (["check", SAMPLE], b""),
+    (["canon", SAMPLE], LINES),
+    (["extlang", SAMPLE, "cmn-hans"], b""),
+    (["equal", SAMPLE, "YUE", "zh-yue"], b""),
+    (["explain", SAMPLE, "sgn-dd"], b""),
+    (["explain", SAMPLE, "en-u-foo-bar-foo-nu-latn-ca-buddhist-NU-arab"], b""),
+    (["upgrade", SAMPLE, SAMPLE], b""),
+]
+
+
+def build_refuser(folder):
+    """The library that refuses a growth, built in a folder."""
+    library = Path(folder, "refuser.so")
+    words = [os.environ.get("CC", "cc"), "-O2", "-fPIC", "-shared", "-x", "c", "-o", library, "-"]
+    subprocess.run(words, input=REFUSER, text=True, check=True)
+    return library
+
+
+def run(library, words, number, lines=b""):
+    """The status, output and errors of a run that refuses the growth of this number, and what it met."""
+    reading, writing = os.pipe()
+    names = {"LD_PRELOAD": str(library), "REFUSED_GROWTH": str(number), "REFUSED_TOLD": str(writing)}
+    try:
+        done = subprocess.run(words, input=lines, capture_output=True, timeout=SECONDS,
+                              pass_fds=[writing], env={**os.environ, **names})
+    finally:
+        os.close(writing)
+    with open(reading, "rb") as told:
+        return (done.returncode, done.stdout, done.stderr), told.read()
+
+
+def stop(words, answer, why):
+    status, output, errors = answer
+    sys.exit("growth.py: %s: %s\nstatus %d\n%s%s" % (
+        " ".join(map(str, words)), why, status, output.decode(), errors.decode()))
+
+
+def try_each(library, words, is_right, lines=b""):
+    """How many runs met a refusal. `is_right` has to be true of each, and of the last, which met none."""
+    for number in itertools.count(1):
+        answer, met = run(library, words, number, lines)
+        if not is_right(answer, met):
+            stop(words, answer, "growth %d was refused" % number)
+        if not met:
+            return number - 1
+
+
+def tests_of(crate):
+    """The names of a crate's tests that are meant for this, each with the words that run it."""
+    binary = ROOT / "crates" / crate / "out" / (crate + "_tests")
+    if not binary.exists():
+        sys.exit("growth.py: `rt test` in the folder of %s makes its tests" % crate)
+    listed = subprocess.run([binary, "--list"], capture_output=True, check=True, text=True).stdout
+    names = [line.removesuffix(": test") for line in listed.splitlines()]
+    return [(name, [binary, name]) for name in names if "growths::" in name] or sys.exit(
+        "growth.py: %s has no such tests" % crate)
+
+
+def judge_test(library, name, words):
+    """How many growths of a test were refused one by one."""
+    if name.endswith(NONE):
+        answer, met = run(library, words, 0)
+        if answer[0] != 0 or met != b"m":
+            stop(words, answer, "a growth was refused behind the mark")
+        return 0
+    refused = try_each(library, words, lambda answer, met: answer[0] == 0)
+    return refused or sys.exit("growth.py: %s of %s met no growth" % (name, words[0].name))
+
+
+def judge_command(library, command, lines):
+    """How many growths of a command were refused."""
+    words = [PROGRAM, *command]
+    own, _ = run(library, words, 0, lines)
+
+    def is_right(answer, met):
+        status, output, errors = answer
+        is_cut = status == 4 and own[1].startswith(output) and errors == b"! OutOfMemory\n"
+        return answer == own or (met == b"r" and is_cut)
+
+    if own[0] not in (0, 1) or own[2]:
+        stop(words, own, "no growth was refused")
+    return try_each(library, words, is_right, lines)
+
+
+def main():
+    with tempfile.TemporaryDirectory() as folder:
+        library = build_refuser(folder)
+        for crate in sys.argv[1:] or [*CRATES, "langtag"]:
+            if crate != "langtag":
+                for name, words in tests_of(crate):
+                    print("%s %s: %d" % (crate, name, judge_test(library, name, words)), flush=True)
+                continue
+            for command, lines in COMMANDS:
+                shown = " ".join(word for word in command if word != SAMPLE)
+                print("langtag %s: %d" % (shown, judge_command(library, command, lines)), flush=True)
+
+
+if __name__ == "__main__":
+    main()
