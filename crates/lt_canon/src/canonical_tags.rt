@@ -11,7 +11,6 @@ ghost use Rattle.lt_canon.specs.Settled.{IsDistinctForm, IsCoreRefusal, IsSettle
 ghost use Rattle.lt_canon.specs.UsualTags.{IsUsual};
 
 use crate::checked::Checked;
-use crate::copies::{copy_extensions, copy_subtags};
 use crate::refusals::Refusal;
 use crate::repeats::{second_in_sources, second_occurrence};
 use crate::usual_tags::{is_core_valued, usual_core};
@@ -19,7 +18,7 @@ use crate::whole_values::whole_value;
 use lt_registry::{Lookup, validate};
 use lt_rewrite::{settle_core, settle_extensions};
 use lt_subtag::Subtag;
-use lt_tag::{Core, Extension, OutOfMemory, Tag};
+use lt_tag::{Core, Extension, OutOfMemory, Tag, copy_extensions, copy_subtags};
 use std::alloc::Global;
 
 /// The canonical form of a tag (RFC 5646, 4.5): the one canonical tag that steps reach from it.

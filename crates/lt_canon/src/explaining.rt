@@ -8,13 +8,12 @@ ghost use Rattle.lt_canon.specs.Explaining.{IsExplanation, RestsOnCore, LeadsToR
 
 use crate::canonical_tags::canonical;
 use crate::checked::Checked;
-use crate::copies::copy_extensions;
 use crate::refusals::Refusal;
 use crate::traces::Trace;
 use crate::whole_values::tag_value;
 use lt_registry::Lookup;
 use lt_rewrite::{Step, StepKind, core_length, explain_core, explain_extensions};
-use lt_tag::{OutOfMemory, Tag};
+use lt_tag::{OutOfMemory, Tag, copy_extensions};
 use std::alloc::Global;
 
 /// The steps that lead from a tag to its canonical form (RFC 5646, 4.5), and that form. Each step is the

@@ -8,11 +8,10 @@ ghost use Rattle.lt_canon.specs.ExtlangForm.{prefix_of, IsExtlangFormOf};
 
 use crate::canonical_tags::canonical;
 use crate::checked::Checked;
-use crate::copies::{copy_extensions, copy_subtags};
 use crate::refusals::Refusal;
 use lt_registry::{Kind, Lookup};
 use lt_subtag::Subtag;
-use lt_tag::Tag;
+use lt_tag::{Tag, copy_extensions, copy_subtags};
 use std::alloc::Global;
 
 /// The extlang form of a tag (RFC 5646, 4.5): the canonical form and, where its language is an extlang

@@ -6,7 +6,6 @@ mod canonical_texts;
 mod checked;
 mod checking;
 mod conditions;
-mod copies;
 mod cores;
 mod equivalence;
 mod explaining;

@@ -11,14 +11,13 @@ ghost use Rattle.lt_rewrite.specs.ApplyFaults.{IsApplyFault};
 ghost use Rattle.lt_rewrite.specs.declared.steps.StepKind.TheVariants as kinds;
 
 use crate::apply_faults::ApplyFault;
-use crate::copies::{copy_extensions, copy_subtags};
 use crate::core_applying::apply_to_core;
 use crate::extension_applying::apply_to_extensions;
 use crate::field_applying::core_length;
 use crate::steps::{Step, StepKind};
 use lt_registry::{EntryValue, Lookup, proper};
 use lt_subtag::Subtag;
-use lt_tag::{Class, Core, Extension, OutOfMemory, Tag};
+use lt_tag::{Class, Core, Extension, OutOfMemory, Tag, copy_extensions, copy_subtags};
 use std::alloc::Global;
 
 /// Whether a tag is grandfathered, or a langtag and a core alone.

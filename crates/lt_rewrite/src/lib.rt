@@ -4,7 +4,6 @@
 mod apply_faults;
 mod applying;
 mod chain_ends;
-mod copies;
 mod core_applying;
 mod core_explaining;
 mod core_settling;

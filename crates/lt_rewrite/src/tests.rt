@@ -14,12 +14,12 @@ ghost use Rattle.lt_registry.specs.Validity.{Distinct};
 ghost use Rattle.lt_rewrite.specs.Conditions.{HasEndingChain};
 
 use super::*;
-use crate::copies::copy_extensions;
 use growths::twice;
 use lt_registry::{Kind, ListTable, ValidRefusal, validate};
 use lt_subtag::Subtag;
 use lt_tag::{
-    Core, Extension, OutOfMemory, Tag, TagFault, join_t, join_u, read_tag, split_t, split_u,
+    Core, Extension, OutOfMemory, Tag, TagFault, copy_extensions, join_t, join_u, read_tag,
+    split_t, split_u,
 };
 use sample::{sample, sample_with_cycle};
 use std::alloc::Global;

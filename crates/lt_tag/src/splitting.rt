@@ -9,7 +9,8 @@ ghost use Rattle.lt_tag.specs.Splitting as splitting;
 ghost use Rattle.lt_tag.specs.Values.{most_parts};
 ghost use Rattle.lt_tag.specs.Transform.{IsTransformFault, IsFieldFault, IsSourceFault, no_memory};
 
-use crate::cores::{Core, copy_subtags};
+use crate::copies::copy_subtags;
+use crate::cores::Core;
 use crate::extensions::Extension;
 use crate::faults::{OutOfMemory, TransformFault};
 use crate::parts::{Field, Keyword, TParts, UParts};

@@ -1,4 +1,5 @@
 //! Tags and their parts in words, for tests.
+use crate::copies::{copy_extensions, copy_subtags};
 use crate::cores::Core;
 use crate::extensions::Extension;
 use crate::faults::{OutOfMemory, TagFault};
@@ -85,8 +86,8 @@ fn put_extensions(
     alloc: Global,
     extensions: &[Extension],
 ) -> Result<(), OutOfMemory> {
-    for extension in extensions {
-        put_extension(words, &extension.copy(alloc)?)?;
+    for extension in copy_extensions(alloc, extensions)?.as_slice() {
+        put_extension(words, extension)?;
     }
     Ok(())
 }
@@ -95,7 +96,7 @@ fn put_extensions(
 fn put_tag(words: &mut Vec<u8>, alloc: Global, tag: &Tag) -> Result<(), OutOfMemory> {
     put_copied_core(words, alloc, tag.core())?;
     put_extensions(words, alloc, tag.extensions())?;
-    put_each(words, " private ", tag.private())
+    put_each(words, " private ", &copy_subtags(alloc, tag.private())?)
 }
 
 /// Whether copies of the parts of a text's tag have these words.

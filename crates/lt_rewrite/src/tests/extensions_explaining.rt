@@ -4,10 +4,9 @@ ghost use Rattle.lt_rewrite.specs.Conditions.{HasEndingChain};
 
 use super::growths::twice;
 use super::judge;
-use crate::copies::copy_extensions;
 use crate::{Step, StepKind, explain_extensions, first_cycle};
 use lt_registry::ListTable;
-use lt_tag::{OutOfMemory, Tag, read_tag};
+use lt_tag::{OutOfMemory, Tag, copy_extensions, read_tag};
 use std::alloc::Global;
 use std::test::Fail;
 

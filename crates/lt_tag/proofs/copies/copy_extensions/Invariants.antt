@@ -1,5 +1,5 @@
 use Rattle.std.proofs.Common.{◌≡◌, take}
-use Rattle.lt_canon.proofs.copies.copy_extensions.Given as goal
+use Rattle.lt_tag.proofs.copies.copy_extensions.Given as goal
 
 -- the extensions so far are copied
 abbrev pub invariant-loop-extension : goal.invariant-loop-extension

@@ -1,5 +1,5 @@
 use Rattle.std.proofs.Common.{◌≡◌, take}
-use Rattle.lt_tag.proofs.cores.copy_subtags.Given as goal
+use Rattle.lt_tag.proofs.copies.copy_subtags.Given as goal
 
 -- the subtags so far are copied
 abbrev pub invariant-loop-subtag : goal.invariant-loop-subtag

@@ -1,12 +1,13 @@
 //! Copies of the parts of a tag.
 ghost use Rattle.std.specs.Prelude.{◌≡◌, IfOk};
 
+use crate::extensions::Extension;
+use crate::faults::OutOfMemory;
 use lt_subtag::Subtag;
-use lt_tag::{Extension, OutOfMemory};
 use std::alloc::Global;
 
-/// Equal subtags. Without one it takes no memory.
-pub(crate) fn copy_subtags(alloc: Global, subtags: &[Subtag]) -> Result<Vec<Subtag>, OutOfMemory>
+/// Equal subtags. Where there are none it takes no memory; it is refused for memory alone.
+pub fn copy_subtags(alloc: Global, subtags: &[Subtag]) -> Result<Vec<Subtag>, OutOfMemory>
     ensures { IfOk result (λ copy. copy.items ≡ subtags.now) }
 {
     let mut copy = Vec::with_capacity(alloc, subtags.len())?;
@@ -16,8 +17,8 @@ pub(crate) fn copy_subtags(alloc: Global, subtags: &[Subtag]) -> Result<Vec<Subt
     Ok(copy)
 }
 
-/// Equal extensions. Without one it takes no memory.
-pub(crate) fn copy_extensions(
+/// Equal extensions. Where there are none it takes no memory; it is refused for memory alone.
+pub fn copy_extensions(
     alloc: Global,
     extensions: &[Extension],
 ) -> Result<Vec<Extension>, OutOfMemory>

@@ -1,6 +1,0 @@
-use Rattle.std.proofs.Common.{◌≡◌, take}
-use Rattle.lt_canon.proofs.copies.copy_subtags.Given as goal
-
--- the subtags so far are copied
-abbrev pub invariant-loop-subtag : goal.invariant-loop-subtag
-invariant-loop-subtag l = l.copy.items ≡ take l.subtag-index l.subtags
