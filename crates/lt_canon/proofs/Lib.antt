@@ -43,6 +43,7 @@ pub mod SeenRanges
 pub mod WidestRanges
 pub mod CoveredRanges
 pub mod FirstFaults
+pub mod OneExplanation
 pub mod OwnNames
 pub mod Judging
 pub mod Tracing

@@ -27,7 +27,7 @@ use Rattle.lt_canon.specs.declared.traces.TraceFault.TheVariants as faults
 pub trace_determined : (R : List EntryParts) → TracesHaveOneEnd R
 trace_determined R t a b [] h k = sym h ∙ k
 trace_determined R t a b (step ∷ steps) h k =
-    let same : k.0 ≡ h.0 = steps_determined R t k.0 h.0 step step k.1 h.1 refl refl in
+    let same : k.0 ≡ h.0 = (steps_determined R t k.0 h.0 step step k.1 h.1 refl refl).result in
     trace_determined R h.0 a b steps h.2 (subst (λ u. IsTrace R u steps b) same k.2)
 
 -- a trace, and one after it

@@ -31,6 +31,11 @@ pub record IsExplanation (R : List EntryParts) (t : TagForm) (steps : List Step)
   pub trace : IsTrace R t steps end
   pub is_run : IsRun (LeadsBy R) rank_in t steps end
 
+-- a tag has one explanation
+abbrev pub HasOneExplanation : List EntryParts → Type 0
+HasOneExplanation R =
+    (t a b : TagForm) (steps others : List Step) → IsExplanation R t steps a → IsExplanation R t others b → (steps ≡ others) × (a ≡ b)
+
 -- no step leads on from the core of a tag, if it has one
 abbrev pub RestsOnCore : List EntryParts → TagForm → Type 0
 RestsOnCore R t = (c : CoreParts) → core_of t ≡ Some c → NoneLeads (CoreLeads R 0 c)

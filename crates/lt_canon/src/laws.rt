@@ -4,6 +4,7 @@ ghost use Rattle.std.specs.Prelude.{List};
 ghost use Rattle.lt_registry.specs.Parts.{EntryParts};
 ghost use Rattle.lt_canon.specs.Conditions.{IsChecked};
 ghost use Rattle.lt_canon.specs.Laws.{HasEndForms, StepsAreConfluent, OneCanonicalTag, CanonicalOrRepeats, RepeatTogether, EquivalenceIsEquality, EquivalenceIsEqualText, CanonicalTwiceIsOnce, CanonicalTextTwiceIsOnce, RepeatsAreNamed, ExtlangFormsLeadBack, TracesReachTheirEnd, TracesHaveOneEnd};
+ghost use Rattle.lt_canon.specs.Explaining.{HasOneExplanation};
 
 use crate::checked::Checked;
 use lt_registry::Lookup;
@@ -70,4 +71,9 @@ pub fn traces_reach_their_end()
 /// The steps of a trace lead from a tag to one end, in every registry.
 pub fn traces_have_one_end()
     ensures { (R : List EntryParts) → TracesHaveOneEnd R }
+{}
+
+/// A tag has one explanation, in every registry: the steps are fixed by which of them is the first that leads on.
+pub fn tags_have_one_explanation()
+    ensures { (R : List EntryParts) → HasOneExplanation R }
 {}

@@ -1,5 +1,5 @@
 -- Marks that lead along chains of values to their ends.
-use Rattle.std.proofs.Common.{◌≡◌, ℕ, zero, suc, ◌<◌, ◌⊎◌, inl, inr, List, [], ◌∷◌, Option, Bool, true, false, not, Some, None, refl, sym, ap, ◌∙◌, subst, length, get_or, Contains, All, arith}
+use Rattle.std.proofs.Common.{◌≡◌, ℕ, zero, suc, ◌<◌, ◌⊎◌, inl, inr, List, [], ◌∷◌, Option, Bool, true, false, not, Some, None, refl, sym, ap, ◌∙◌, subst, length, get_or, Contains, arith}
 use Rattle.std.specs.BTreeSet.{insert_key}
 use Rattle.std.specs.List.{list_any}
 use Rattle.std.specs.Ordering.{nat_cmp, eq_by_cmp, match_ordering}

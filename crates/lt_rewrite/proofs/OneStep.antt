@@ -1,4 +1,4 @@
--- The kind and the place of a step determine its result.
+-- The kind and the place of a step determine its record and its result.
 use Rattle.std.proofs.Common.{◌≡◌, ◌≢◌, ℕ, ◌+◌, ◌≤◌, ◌<◌, Bool, true, false, Ordering, List, [], ◌∷◌, ◌++◌, Option, Some, refl, sym, ap, ◌∙◌, subst, length, map, append_assoc, length-append, arith}
 use Rattle.std.specs.Prelude.{option_to_list, flat_map}
 use Rattle.lt_tag.specs.Parts.{CoreParts, ExtensionParts, UForm, TForm, TagForm, LangTag}
@@ -6,9 +6,10 @@ use Rattle.lt_tag.specs.Spelling.{spell_core, spell_extension, spell_extensions}
 use Rattle.lt_tag.specs.Extensions.{spell_keyword, spell_u, spell_field, spell_source, spell_t, transform, unicode}
 use Rattle.lt_tag.proofs.PartsLaws.{u_unique, t_unique}
 use Rattle.lt_registry.specs.Parts.{EntryParts}
-use Rattle.lt_registry.specs.Entries.{whole_value}
+use Rattle.lt_registry.specs.Entries.{entry, whole_value, number_of}
 use Rattle.lt_registry.specs.Faults.{before_variants}
 use Rattle.lt_registry.specs.Validity.{Distinct, IsProperLangTag, HasProperParts}
+use Rattle.lt_registry.specs.declared.entries.Kind.TheVariants as kinds
 use Rattle.lt_rewrite.specs.CoreSteps.{values_of, CoreStep, by_extlang, by_language, by_script, by_region, by_variant, by_turn}
 use Rattle.lt_rewrite.specs.Orderings.{ListStep, by_swap, by_drop}
 use Rattle.lt_rewrite.specs.Extensions.{text_cmp, key_cmp, separator_cmp, singleton_cmp, UnicodeStep, on_attributes, on_keywords, on_types, TransformStep, on_source, on_fields, ExtensionStep, in_unicode, in_transform, ExtensionsStep, inside, among}
@@ -26,38 +27,61 @@ record SameSpot (step other : Step) : Type 0 where
   pub kind : step.kind ≡ other.kind
   pub place : step.place ≡ other.place
 
+-- they use one record and lead to one result
+record SameEnd {A : Type 0} (step other : Step) (a b : A) : Type 0 where
+  pub number : step.number ≡ other.number
+  pub result : a ≡ b
+
 same_some : {A : Type 0} (o : Option A) (a b : A) → o ≡ Some a → o ≡ Some b → a ≡ b
 same_some o a b e f = cc
 
-one_core_result : (R : List EntryParts) (start : ℕ) (c d e : CoreParts) (s : CoreStep (values_of R) c d) (u : CoreStep (values_of R) c e) → SameSpot (core_label R start s) (core_label R start u) → d ≡ e
+one_core_result : (R : List EntryParts) (start : ℕ) (c d e : CoreParts) (s : CoreStep (values_of R) c d) (u : CoreStep (values_of R) c e) → SameSpot (core_label R start s) (core_label R start u) → SameEnd (core_label R start s) (core_label R start u) d e
 one_core_result R start c d e (by_extlang x s) (by_extlang y u) h =
     let k : x ≡ y = let a = s.one in let b = u.one in cc in
-    s.result ∙ ap (λ z. core ((values_of R).replacement z) [] c.script c.region c.variants) k ∙ sym u.result
+    record {
+      number = ap (λ z. number_of (entry R kinds.Extlang z)) k;
+      result = s.result ∙ ap (λ z. core ((values_of R).replacement z) [] c.script c.region c.variants) k ∙ sym u.result;
+    }
 one_core_result R start c d e (by_language v s) (by_language w u) h =
-    s.result ∙ ap (λ z. core z c.extlangs c.script c.region c.variants) (same_some ((values_of R).language c.language) v w s.has u.has) ∙ sym u.result
+    record {
+      number = refl;
+      result = s.result ∙ ap (λ z. core z c.extlangs c.script c.region c.variants) (same_some ((values_of R).language c.language) v w s.has u.has) ∙ sym u.result;
+    }
 one_core_result R start c d e (by_script a v s) (by_script b w u) h =
     let k : a ≡ b = same_some c.script a b s.there u.there in
-    s.result ∙ ap (λ z. core c.language c.extlangs (Some z) c.region c.variants) (same_some ((values_of R).script a) v w s.has (ap (values_of R).script k ∙ u.has)) ∙ sym u.result
+    record {
+      number = ap (λ z. number_of (entry R kinds.Script z)) k;
+      result = s.result ∙ ap (λ z. core c.language c.extlangs (Some z) c.region c.variants) (same_some ((values_of R).script a) v w s.has (ap (values_of R).script k ∙ u.has)) ∙ sym u.result;
+    }
 one_core_result R start c d e (by_region a v s) (by_region b w u) h =
     let k : a ≡ b = same_some c.region a b s.there u.there in
-    s.result ∙ ap (λ z. core c.language c.extlangs c.script (Some z) c.variants) (same_some ((values_of R).region a) v w s.has (ap (values_of R).region k ∙ u.has)) ∙ sym u.result
+    record {
+      number = ap (λ z. number_of (entry R kinds.Region z)) k;
+      result = s.result ∙ ap (λ z. core c.language c.extlangs c.script (Some z) c.variants) (same_some ((values_of R).region a) v w s.has (ap (values_of R).region k ∙ u.has)) ∙ sym u.result;
+    }
 one_core_result R start c d e (by_variant before v w after s) (by_variant before' v' w' after' u) h =
     let p : start + before_variants c + length before + 1 ≡ start + before_variants c + length before' + 1 = h.place in
     let l : length before ≡ length before' = omega (arith, p) in
     let k : SameCut before before' v v' after after' = same_cut before before' v v' after after' (sym s.there ∙ u.there) l in
     let q : w ≡ w' = same_some ((values_of R).variant v) w w' s.has (ap (values_of R).variant k.at ∙ u.has) in
-    s.result ∙ (λ i. core c.language c.extlangs c.script c.region (k.front i ++ q i ∷ k.rest i)) ∙ sym u.result
+    record {
+      number = ap (λ z. number_of (entry R kinds.Variant z)) k.at;
+      result = s.result ∙ (λ i. core c.language c.extlangs c.script c.region (k.front i ++ q i ∷ k.rest i)) ∙ sym u.result;
+    }
 one_core_result R start c d e (by_turn before v m after s) (by_turn before' v' m' after' u) h =
     let p : start + before_variants c + length before + 1 ≡ start + before_variants c + length before' + 1 = h.place in
     let l : length before ≡ length before' = omega (arith, p) in
     let k : SameCut before before' v v' after after' = same_cut before before' v v' after after' (sym s.there ∙ u.there) l in
     let q : m ≡ m' = same_some ((values_of R).turn c.language v) m m' s.has (ap ((values_of R).turn c.language) k.at ∙ u.has) in
-    s.result ∙ (λ i. core (q i) c.extlangs c.script c.region (k.front i ++ k.rest i)) ∙ sym u.result
-one_core_result R start c d e s u h = let k = h.kind in cc
+    record {
+      number = ap (λ z. number_of (entry R kinds.Variant z)) k.at;
+      result = s.result ∙ (λ i. core (q i) c.extlangs c.script c.region (k.front i ++ k.rest i)) ∙ sym u.result;
+    }
+one_core_result R start c d e s u h = let k = h.kind in record { number = cc; result = cc }
 
-one_core_any : (R : List EntryParts) (start : ℕ) (c c' d d' : CoreParts) → c ≡ c' → (s : CoreStep (values_of R) c d) (u : CoreStep (values_of R) c' d') → SameSpot (core_label R start s) (core_label R start u) → d ≡ d'
+one_core_any : (R : List EntryParts) (start : ℕ) (c c' d d' : CoreParts) → c ≡ c' → (s : CoreStep (values_of R) c d) (u : CoreStep (values_of R) c' d') → SameSpot (core_label R start s) (core_label R start u) → SameEnd (core_label R start s) (core_label R start u) d d'
 one_core_any R start c c' d d' e s u h =
-    let P : CoreParts → Type 0 = λ x. (u : CoreStep (values_of R) x d') → SameSpot (core_label R start s) (core_label R start u) → d ≡ d' in
+    let P : CoreParts → Type 0 = λ x. (u : CoreStep (values_of R) x d') → SameSpot (core_label R start s) (core_label R start u) → SameEnd (core_label R start s) (core_label R start u) d d' in
     subst P e (λ u h. one_core_result R start c d d' s u h) u h
 
 one_list_result : {A : Type 0} (once : Bool) (cmp : A → A → Ordering) (swap drop : StepKind) → (once ≡ true → swap ≢ drop) → (spell : A → List (List ℕ)) → ((a : A) → spell a ≢ []) → (start : ℕ) (xs ys zs : List A) (s : ListStep once cmp xs ys) (u : ListStep once cmp xs zs) → SameSpot (list_label swap drop spell start s) (list_label swap drop spell start u) → ys ≡ zs
@@ -80,6 +104,10 @@ one_list_result once cmp swap drop differ spell n start xs ys zs (by_drop before
     s.result ∙ sym (append_assoc before (a ∷ between) after) ∙ (λ i. k.front i ++ k.rest i) ∙ append_assoc before' (a' ∷ between') after' ∙ sym u.result
 one_list_result once cmp swap drop differ spell n start xs ys zs (by_swap before a b after s) (by_drop before' a' between' b' after' o u) h = absurd (differ o h.kind)
 one_list_result once cmp swap drop differ spell n start xs ys zs (by_drop before a between b after o s) (by_swap before' a' b' after' u) h = absurd (differ o (sym h.kind))
+
+list_number : {A : Type 0} {once : Bool} {cmp : A → A → Ordering} {xs ys : List A} (swap drop : StepKind) (spell : A → List (List ℕ)) (start : ℕ) (s : ListStep once cmp xs ys) → (list_label swap drop spell start s).number ≡ 0
+list_number swap drop spell start (by_swap before x y after s) = refl
+list_number swap drop spell start (by_drop before x between y after o s) = refl
 
 -- a class of each kind: 0 on a core, 1 to 3 in u, 4 in t, 5 on extensions, 6 on whole tags
 class : StepKind → ℕ
@@ -168,21 +196,31 @@ one_unicode_at start p q r s u e h = absurd (omega (arith, e))
 one_unicode : (start : ℕ) (p q r : UForm) (s : UnicodeStep p q) (u : UnicodeStep p r) → SameSpot (unicode_label start s) (unicode_label start u) → q ≡ r
 one_unicode start p q r s u h = one_unicode_at start p q r s u (parts_differ start p q r s u h) h
 
+unicode_number : (start : ℕ) (p q : UForm) (s : UnicodeStep p q) → (unicode_label start s).number ≡ 0
+unicode_number start p q (on_attributes s k) = list_number steps.SwapAttributes steps.DropAttribute (λ a. a ∷ []) start s
+unicode_number start p q (on_keywords a s) = list_number steps.SwapKeywords steps.DropKeyword spell_keyword (start + length p.attributes) s
+unicode_number start p q (on_types a before k after s) = refl
+
 fields_class : (start : ℕ) (p q : TForm) (h : ListStep false separator_cmp p.fields q.fields) → class (list_label steps.SwapFields steps.SwapFields spell_field start h).kind ≡ 4
 unfolding class
 fields_class start p q h = list_class steps.SwapFields steps.SwapFields 4 refl refl spell_field start h
 
-one_transform : (R : List EntryParts) (start : ℕ) (p q r : TForm) (s : TransformStep R p q) (u : TransformStep R p r) → SameSpot (transform_label R start s) (transform_label R start u) → q ≡ r
+one_transform : (R : List EntryParts) (start : ℕ) (p q r : TForm) (s : TransformStep R p q) (u : TransformStep R p r) → SameSpot (transform_label R start s) (transform_label R start u) → SameEnd (transform_label R start s) (transform_label R start u) q r
 one_transform R start p q r (on_source c d s) (on_source c' d' u) h =
     let e : c ≡ c' = same_some p.source c c' s.from u.from in
-    let k : d ≡ d' = one_core_any R start c c' d d' e s.step u.step h in
-    let a : q.source ≡ r.source = s.to ∙ ap Some k ∙ sym u.to in
+    let k : SameEnd (core_label R start s.step) (core_label R start u.step) d d' = one_core_any R start c c' d d' e s.step u.step h in
+    let a : q.source ≡ r.source = s.to ∙ ap Some k.result ∙ sym u.to in
     let b : q.fields ≡ r.fields = s.fields ∙ sym u.fields in
-    λ i. record { source = a i; fields = b i }
+    record { number = k.number; result = λ i. record { source = a i; fields = b i } }
 one_transform R start p q r (on_fields x s) (on_fields y u) h =
     let a : q.source ≡ r.source = x ∙ sym y in
     let b : q.fields ≡ r.fields = one_list_result false separator_cmp steps.SwapFields steps.SwapFields (λ x _. cc) spell_field (λ f e. cc) (start + length (spell_source p.source)) p.fields q.fields r.fields s u h in
-    λ i. record { source = a i; fields = b i }
+    let n = spell_field in
+    let l : ℕ = start + length (spell_source p.source) in
+    record {
+      number = list_number steps.SwapFields steps.SwapFields n l s ∙ sym (list_number steps.SwapFields steps.SwapFields n l u);
+      result = λ i. record { source = a i; fields = b i };
+    }
 one_transform R start p q r (on_source c d s) (on_fields y u) h =
     let a = core_class R start c d s.step in
     let b = fields_class (start + length (spell_source p.source)) p r u in
@@ -198,24 +236,30 @@ same_extension : (f g : ExtensionParts) → f.singleton ≡ g.singleton → f.su
 same_extension f g a b = λ i. record { singleton = a i; subtags = b i }
 
 -- on one extension
-one_extension_result : (R : List EntryParts) (start : ℕ) (e f g : ExtensionParts) (s : ExtensionStep R e f) (u : ExtensionStep R e g) → SameSpot (extension_label R start s) (extension_label R start u) → f ≡ g
+one_extension_result : (R : List EntryParts) (start : ℕ) (e f g : ExtensionParts) (s : ExtensionStep R e f) (u : ExtensionStep R e g) → SameSpot (extension_label R start s) (extension_label R start u) → SameEnd (extension_label R start s) (extension_label R start u) f g
 one_extension_result R start e f g (in_unicode p q s) (in_unicode p' q' u) h =
     let same : p ≡ p' = u_unique e.subtags p p' s.from u.from in
     let P : UForm → Type 0 = λ x. (k : UnicodeStep x q') → SameSpot (unicode_label start s.step) (unicode_label start k) → q ≡ q' in
     let k : q ≡ q' = subst P same (λ k h. one_unicode start p q q' s.step k h) u.step h in
-    same_extension f g (s.singleton ∙ sym u.singleton) (sym s.to.spelled ∙ ap spell_u k ∙ u.to.spelled)
+    record {
+      number = unicode_number start p q s.step ∙ sym (unicode_number start p' q' u.step);
+      result = same_extension f g (s.singleton ∙ sym u.singleton) (sym s.to.spelled ∙ ap spell_u k ∙ u.to.spelled);
+    }
 one_extension_result R start e f g (in_transform p q s) (in_transform p' q' u) h =
     let same : p ≡ p' = t_unique e.subtags p p' s.from u.from in
-    let P : TForm → Type 0 = λ x. (k : TransformStep R x q') → SameSpot (transform_label R start s.step) (transform_label R start k) → q ≡ q' in
-    let k : q ≡ q' = subst P same (λ k h. one_transform R start p q q' s.step k h) u.step h in
-    same_extension f g (s.singleton ∙ sym u.singleton) (sym s.to.spelled ∙ ap spell_t k ∙ u.to.spelled)
+    let P : TForm → Type 0 = λ x. (k : TransformStep R x q') → SameSpot (transform_label R start s.step) (transform_label R start k) → SameEnd (transform_label R start s.step) (transform_label R start k) q q' in
+    let k : SameEnd (transform_label R start s.step) (transform_label R start u.step) q q' = subst P same (λ k h. one_transform R start p q q' s.step k h) u.step h in
+    record {
+      number = k.number;
+      result = same_extension f g (s.singleton ∙ sym u.singleton) (sym s.to.spelled ∙ ap spell_t k.result ∙ u.to.spelled);
+    }
 one_extension_result R start e f g (in_unicode p q s) (in_transform p' q' u) h = absurd (omega (arith, s.is_u, u.is_t))
 one_extension_result R start e f g (in_transform p q s) (in_unicode p' q' u) h = absurd (omega (arith, s.is_t, u.is_u))
 
-one_extension_any : (R : List EntryParts) (start start' : ℕ) (e e' f g : ExtensionParts) → start ≡ start' → e ≡ e' → (s : ExtensionStep R e f) (u : ExtensionStep R e' g) → SameSpot (extension_label R start s) (extension_label R start' u) → f ≡ g
+one_extension_any : (R : List EntryParts) (start start' : ℕ) (e e' f g : ExtensionParts) → start ≡ start' → e ≡ e' → (s : ExtensionStep R e f) (u : ExtensionStep R e' g) → SameSpot (extension_label R start s) (extension_label R start' u) → SameEnd (extension_label R start s) (extension_label R start' u) f g
 one_extension_any R start start' e e' f g n k s u h =
-    let P : ExtensionParts → Type 0 = λ x. (u : ExtensionStep R x g) → SameSpot (extension_label R start s) (extension_label R start' u) → f ≡ g in
-    let Q : ℕ → Type 0 = λ m. (u : ExtensionStep R e g) → SameSpot (extension_label R start s) (extension_label R m u) → f ≡ g in
+    let P : ExtensionParts → Type 0 = λ x. (u : ExtensionStep R x g) → SameSpot (extension_label R start s) (extension_label R start' u) → SameEnd (extension_label R start s) (extension_label R start' u) f g in
+    let Q : ℕ → Type 0 = λ m. (u : ExtensionStep R e g) → SameSpot (extension_label R start s) (extension_label R m u) → SameEnd (extension_label R start s) (extension_label R m u) f g in
     subst P k (subst Q n (λ u h. one_extension_result R start e f g s u h)) u h
 
 -- what the label of a step on an extension tells
@@ -260,7 +304,7 @@ unfolding class
 whole_class = refl
 
 -- on a list of extensions whose singletons differ
-one_extensions_result : (R : List EntryParts) (start : ℕ) (es fs gs : List ExtensionParts) → Distinct (map (λ (e : ExtensionParts). e.singleton) es) → (s : ExtensionsStep R es fs) (u : ExtensionsStep R es gs) → SameSpot (extensions_label R start s) (extensions_label R start u) → fs ≡ gs
+one_extensions_result : (R : List EntryParts) (start : ℕ) (es fs gs : List ExtensionParts) → Distinct (map (λ (e : ExtensionParts). e.singleton) es) → (s : ExtensionsStep R es fs) (u : ExtensionsStep R es gs) → SameSpot (extensions_label R start s) (extensions_label R start u) → SameEnd (extensions_label R start s) (extensions_label R start u) fs gs
 one_extensions_result R start es fs gs D (inside before e f after w s) (inside before' e' f' after' w' s') h =
     let k : ℕ = start + length (spell_extensions before) + 1 in
     let k' : ℕ = start + length (spell_extensions before') + 1 in
@@ -268,10 +312,14 @@ one_extensions_result R start es fs gs D (inside before e f after w s) (inside b
     let D' = subst (λ l. Distinct (map (λ (e : ExtensionParts). e.singleton) l)) w.there D in
     let cut : SameCut before before' e e' after after' = distinct_cut before before' e e' after after' (sym w.there ∙ w'.there) D' one in
     let n : start + length (spell_extensions before) + 1 ≡ start + length (spell_extensions before') + 1 = ap (λ l. start + length (spell_extensions l) + 1) cut.front in
-    let ef : f ≡ f' = one_extension_any R (start + length (spell_extensions before) + 1) (start + length (spell_extensions before') + 1) e e' f f' n cut.at s s' h in
-    w.result ∙ (λ i. cut.front i ++ ef i ∷ cut.rest i) ∙ sym w'.result
+    let ef : SameEnd (extension_label R k s) (extension_label R k' s') f f' = one_extension_any R k k' e e' f f' n cut.at s s' h in
+    let er : f ≡ f' = ef.result in
+    record { number = ef.number; result = w.result ∙ (λ i. cut.front i ++ er i ∷ cut.rest i) ∙ sym w'.result }
 one_extensions_result R start es fs gs D (among s) (among u) h =
-    one_list_result false singleton_cmp steps.SwapExtensions steps.SwapExtensions (λ x _. cc) spell_extension (λ e k. cc) start es fs gs s u h
+    record {
+      number = list_number steps.SwapExtensions steps.SwapExtensions spell_extension start s ∙ sym (list_number steps.SwapExtensions steps.SwapExtensions spell_extension start u);
+      result = one_list_result false singleton_cmp steps.SwapExtensions steps.SwapExtensions (λ x _. cc) spell_extension (λ e k. cc) start es fs gs s u h;
+    }
 one_extensions_result R start es fs gs D (inside before e f after w s) (among u) h =
     let k : ℕ = start + length (spell_extensions before) + 1 in
     let t = tells_low k e (class (extension_label R k s).kind) (extension_label R k s).place (extension_tells R k e f s) in
@@ -285,10 +333,10 @@ one_extensions_result R start es fs gs D (among u) (inside before e f after w s)
     let b = ap class h.kind in
     absurd (omega (arith, t.0, a, b))
 
-one_extensions_any : (R : List EntryParts) (start start' : ℕ) (es es' fs gs : List ExtensionParts) → start ≡ start' → es ≡ es' → Distinct (map (λ (e : ExtensionParts). e.singleton) es) → (s : ExtensionsStep R es fs) (u : ExtensionsStep R es' gs) → SameSpot (extensions_label R start s) (extensions_label R start' u) → fs ≡ gs
+one_extensions_any : (R : List EntryParts) (start start' : ℕ) (es es' fs gs : List ExtensionParts) → start ≡ start' → es ≡ es' → Distinct (map (λ (e : ExtensionParts). e.singleton) es) → (s : ExtensionsStep R es fs) (u : ExtensionsStep R es' gs) → SameSpot (extensions_label R start s) (extensions_label R start' u) → SameEnd (extensions_label R start s) (extensions_label R start' u) fs gs
 one_extensions_any R start start' es es' fs gs n k D s u h =
-    let P : List ExtensionParts → Type 0 = λ x. (u : ExtensionsStep R x gs) → SameSpot (extensions_label R start s) (extensions_label R start' u) → fs ≡ gs in
-    let Q : ℕ → Type 0 = λ m. (u : ExtensionsStep R es gs) → SameSpot (extensions_label R start s) (extensions_label R m u) → fs ≡ gs in
+    let P : List ExtensionParts → Type 0 = λ x. (u : ExtensionsStep R x gs) → SameSpot (extensions_label R start s) (extensions_label R start' u) → SameEnd (extensions_label R start s) (extensions_label R start' u) fs gs in
+    let Q : ℕ → Type 0 = λ m. (u : ExtensionsStep R es gs) → SameSpot (extensions_label R start s) (extensions_label R m u) → SameEnd (extensions_label R start s) (extensions_label R m u) fs gs in
     subst P k (subst Q n (λ u h. one_extensions_result R start es fs gs D s u h)) u h
 
 -- the class and the place of a step on extensions
@@ -301,15 +349,16 @@ extensions_low R start es fs (among s) =
     let a = among_class start es fs s in
     (omega (arith, a), λ z. absurd (omega (arith, a, z)))
 
--- the kind and the place determine what a step on a tag leads to
-one_result : (R : List EntryParts) (t u v : TagForm) → HasProperParts R t → (s : TagChange R t u) (r : TagChange R t v) → SameSpot (tag_label R s) (tag_label R r) → u ≡ v
+-- the kind and the place determine the record of a step on a tag, and what it leads to
+one_result : (R : List EntryParts) (t u v : TagForm) → HasProperParts R t → (s : TagChange R t u) (r : TagChange R t v) → SameSpot (tag_label R s) (tag_label R r) → SameEnd (tag_label R s) (tag_label R r) u v
 one_result R t u v P (on_core c d es ps s) (on_core c' d' es' ps' r) h =
     let e : LangTag c es ps ≡ LangTag c' es' ps' = sym s.from ∙ r.from in
     let ec : c ≡ c' = cc in
     let ee : es ≡ es' = cc in
     let ep : ps ≡ ps' = cc in
-    let ed : d ≡ d' = one_core_any R 0 c c' d d' ec s.step r.step h in
-    s.to ∙ (λ i. LangTag (ed i) (ee i) (ep i)) ∙ sym r.to
+    let k : SameEnd (core_label R 0 s.step) (core_label R 0 r.step) d d' = one_core_any R 0 c c' d d' ec s.step r.step h in
+    let ed : d ≡ d' = k.result in
+    record { number = k.number; result = s.to ∙ (λ i. LangTag (ed i) (ee i) (ep i)) ∙ sym r.to }
 one_result R t u v P (on_extensions c es fs ps s) (on_extensions c' es' fs' ps' r) h =
     let e : LangTag c es ps ≡ LangTag c' es' ps' = sym s.from ∙ r.from in
     let ec : c ≡ c' = cc in
@@ -317,9 +366,10 @@ one_result R t u v P (on_extensions c es fs ps s) (on_extensions c' es' fs' ps' 
     let ep : ps ≡ ps' = cc in
     let L : IsProperLangTag R c es = subst (HasProperParts R) s.from P in
     let n : length (spell_core c) ≡ length (spell_core c') = ap (λ x. length (spell_core x)) ec in
-    let ef : fs ≡ fs' = one_extensions_any R (length (spell_core c)) (length (spell_core c')) es es' fs fs' n ee L.singletons s.step r.step h in
-    s.to ∙ (λ i. LangTag (ec i) (ef i) (ep i)) ∙ sym r.to
-one_result R t u v P (on_whole s) (on_whole r) h = same_some (whole_value R t) u v s.has r.has
+    let k : SameEnd (extensions_label R (length (spell_core c)) s.step) (extensions_label R (length (spell_core c')) r.step) fs fs' = one_extensions_any R (length (spell_core c)) (length (spell_core c')) es es' fs fs' n ee L.singletons s.step r.step h in
+    let ef : fs ≡ fs' = k.result in
+    record { number = k.number; result = s.to ∙ (λ i. LangTag (ec i) (ef i) (ep i)) ∙ sym r.to }
+one_result R t u v P (on_whole s) (on_whole r) h = record { number = refl; result = same_some (whole_value R t) u v s.has r.has }
 one_result R t u v P (on_core c d es ps s) (on_whole r) h = absurd (omega (arith, core_class R 0 c d s.step, whole_class, ap class h.kind))
 one_result R t u v P (on_whole r) (on_core c d es ps s) h = absurd (omega (arith, core_class R 0 c d s.step, whole_class, ap class h.kind))
 one_result R t u v P (on_extensions c es fs ps s) (on_whole r) h = absurd (omega (arith, (extensions_low R (length (spell_core c)) es fs s.step).0, whole_class, ap class h.kind))
@@ -342,8 +392,10 @@ one_result R t u v P (on_extensions c' es' fs ps' r) (on_core c d es ps s) h =
 pub steps_determined : (R : List EntryParts) → StepsAreDetermined R
 steps_determined R t u v step other a b k p =
     let h : SameSpot (tag_label R a.0.change) (tag_label R b.0.change) = record { kind = ap (λ (x : Step). x.kind) a.1 ∙ k ∙ sym (ap (λ (x : Step). x.kind) b.1); place = ap (λ (x : Step). x.place) a.1 ∙ p ∙ sym (ap (λ (x : Step). x.place) b.1) } in
-    one_result R t u v a.0.from.parts a.0.change b.0.change h
+    let e : SameEnd (tag_label R a.0.change) (tag_label R b.0.change) u v = one_result R t u v a.0.from.parts a.0.change b.0.change h in
+    let n : step.number ≡ other.number = sym (ap (λ (x : Step). x.number) a.1) ∙ e.number ∙ ap (λ (x : Step). x.number) b.1 in
+    record { same = λ i. record { kind = k i; place = p i; number = n i }; result = e.result }
 
 -- so does the label
 pub one_labelled : (R : List EntryParts) (t u v : TagForm) → HasProperParts R t → (s : TagChange R t u) (r : TagChange R t v) → tag_label R s ≡ tag_label R r → u ≡ v
-one_labelled R t u v P s r e = one_result R t u v P s r (record { kind = ap (λ (x : Step). x.kind) e; place = ap (λ (x : Step). x.place) e })
+one_labelled R t u v P s r e = (one_result R t u v P s r (record { kind = ap (λ (x : Step). x.kind) e; place = ap (λ (x : Step). x.place) e })).result

@@ -26,7 +26,7 @@ pub fn core_steps_stay_proper()
     ensures spelled { (R : List EntryParts) → All (FitsGrandfathered R) R → ProperCoresSpellNone R }
 {}
 
-/// In every registry the kind and the place of a step determine what it leads to.
+/// In every registry the kind and the place of a step determine its record and what it leads to.
 pub fn steps_are_determined()
     ensures { (R : List EntryParts) → StepsAreDetermined R }
 {}

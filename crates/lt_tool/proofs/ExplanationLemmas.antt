@@ -43,7 +43,7 @@ pub explaining_more : (R : List EntryParts) (t : TagForm) (steps : List Step) (e
 explaining_more R t steps end old new more i default here next h now on proper grown =
     let step = get_or steps i default in
     let ahead = ahead_here R steps end i default here h now.ahead in
-    let same : ahead.0 ≡ next = steps_determined R here ahead.0 next step step ahead.1 on refl refl in
+    let same : ahead.0 ≡ next = (steps_determined R here ahead.0 next step step ahead.1 on refl refl).result in
     record {
       proper = proper;
       ahead = subst (λ u. IsTrace R u (drop (i + 1) steps) end) same ahead.2;

@@ -1,0 +1,90 @@
+-- A tag has one explanation: the first of the steps that lead on is one alone.
+use Rattle.std.proofs.Common.{◌≡◌, ℕ, ◌+◌, inl, inr, Bool, true, false, List, [], ◌∷◌, refl, sym, ap, ◌∙◌, subst, arith}
+use Rattle.std.specs.Prelude.{nat_eq, nat_le, if◌then◌else◌}
+use Rattle.lt_tag.specs.Parts.{TagForm}
+use Rattle.lt_registry.specs.Parts.{EntryParts}
+use Rattle.lt_rewrite.specs.Rewriting.{Rests}
+use Rattle.lt_rewrite.specs.TagSteps.{TagStep}
+use Rattle.lt_rewrite.specs.Labels.{LeadsBy}
+use Rattle.lt_rewrite.specs.Laws.{AreOneStep}
+use Rattle.lt_rewrite.specs.Runs.{rank_of, IsNoLater, IsFirst, IsRun}
+use Rattle.lt_rewrite.specs.declared.steps.Step.{Step}
+use Rattle.lt_rewrite.specs.declared.steps.StepKind.{StepKind}
+use Rattle.lt_rewrite.specs.declared.steps.StepKind.TheVariants as steps
+use Rattle.lt_rewrite.proofs.OneStep.{steps_determined}
+use Rattle.lt_canon.specs.Explaining.{is_of_source, rank_in, HasOneExplanation}
+
+-- the kind of a rank, which is one of a step on a source from 14 to 19
+kind_at : ℕ → StepKind
+kind_at n =
+    if nat_eq n 1 then steps.Extlang else (if nat_eq n 2 then steps.Language else (if nat_eq n 3 then steps.Script else (
+    if nat_eq n 4 then steps.Region else (if nat_eq n 5 then steps.Variant else (if nat_eq n 6 then steps.VariantLanguage else (
+    if nat_eq n 7 then steps.Whole else (if nat_eq n 8 then steps.SwapExtensions else (if nat_eq n 9 then steps.DropAttribute else (
+    if nat_eq n 10 then steps.SwapAttributes else (if nat_eq n 11 then steps.DropKeyword else (if nat_eq n 12 then steps.SwapKeywords else (
+    if nat_eq n 13 then steps.DropTrue else (if nat_eq n 14 then steps.Extlang else (if nat_eq n 15 then steps.Language else (
+    if nat_eq n 16 then steps.Script else (if nat_eq n 17 then steps.Region else (if nat_eq n 18 then steps.Variant else (
+    if nat_eq n 19 then steps.VariantLanguage else steps.SwapFields))))))))))))))))))
+
+-- the rank of a kind, on a source or elsewhere
+rank_on : Bool → StepKind → ℕ
+rank_on source kind = if source then (if nat_le (rank_of kind) 6 then rank_of kind + 13 else rank_of kind) else rank_of kind
+
+kind_back : (source : Bool) (kind : StepKind) → kind_at (rank_on source kind) ≡ kind
+unfolding kind_at rank_on
+kind_back true steps.Extlang = refl
+kind_back true steps.Language = refl
+kind_back true steps.Script = refl
+kind_back true steps.Region = refl
+kind_back true steps.Variant = refl
+kind_back true steps.VariantLanguage = refl
+kind_back true steps.Whole = refl
+kind_back true steps.SwapExtensions = refl
+kind_back true steps.DropAttribute = refl
+kind_back true steps.SwapAttributes = refl
+kind_back true steps.DropKeyword = refl
+kind_back true steps.SwapKeywords = refl
+kind_back true steps.DropTrue = refl
+kind_back true steps.SwapFields = refl
+kind_back false steps.Extlang = refl
+kind_back false steps.Language = refl
+kind_back false steps.Script = refl
+kind_back false steps.Region = refl
+kind_back false steps.Variant = refl
+kind_back false steps.VariantLanguage = refl
+kind_back false steps.Whole = refl
+kind_back false steps.SwapExtensions = refl
+kind_back false steps.DropAttribute = refl
+kind_back false steps.SwapAttributes = refl
+kind_back false steps.DropKeyword = refl
+kind_back false steps.SwapKeywords = refl
+kind_back false steps.DropTrue = refl
+kind_back false steps.SwapFields = refl
+
+-- so the rank of a step among the steps on a tag tells its kind
+rank_tells : (t : TagForm) (step : Step) → kind_at (rank_in t step) ≡ step.kind
+unfolding rank_on
+rank_tells t step = kind_back (is_of_source t step) step.kind
+
+-- of two steps that each come no later than the other
+both_first : (rank : Step → ℕ) (a b : Step) → IsNoLater rank a b → IsNoLater rank b a → (rank a ≡ rank b) × (a.place ≡ b.place)
+both_first rank a b (inl x) (inl y) = absurd (omega (arith, x, y))
+both_first rank a b (inl x) (inr y) = absurd (omega (arith, x, y.0))
+both_first rank a b (inr x) (inl y) = absurd (omega (arith, x.0, y))
+both_first rank a b (inr x) (inr y) = (x.0, omega (arith, x.1, y.1))
+
+one_first : (R : List EntryParts) (t u v : TagForm) (a b : Step) → IsFirst (LeadsBy R t) (rank_in t) a u → IsFirst (LeadsBy R t) (rank_in t) b v → AreOneStep a b u v
+one_first R t u v a b h k =
+    let e = both_first (rank_in t) a b (h.first b v k.leads) (k.first a u h.leads) in
+    steps_determined R t u v a b h.leads k.leads (sym (rank_tells t a) ∙ ap kind_at e.0 ∙ rank_tells t b) e.1
+
+one_run : (R : List EntryParts) (t a b : TagForm) (xs ys : List Step) → IsRun (LeadsBy R) rank_in t xs a → IsRun (LeadsBy R) rank_in t ys b → Rests (TagStep R) a → Rests (TagStep R) b → (xs ≡ ys) × (a ≡ b)
+one_run R t a b [] [] h k m n = (refl, sym h ∙ k)
+one_run R t a b [] (y ∷ ys) h k m n = absurd (m k.0 (subst (λ x. TagStep R x k.0) h k.1.leads.0))
+one_run R t a b (x ∷ xs) [] h k m n = absurd (n h.0 (subst (λ x. TagStep R x h.0) k h.1.leads.0))
+one_run R t a b (x ∷ xs) (y ∷ ys) h k m n =
+    let one : AreOneStep x y h.0 k.0 = one_first R t h.0 k.0 x y h.1 k.1 in
+    let rest = one_run R h.0 a b xs ys h.2 (subst (λ c. IsRun (LeadsBy R) rank_in c ys b) (sym one.result) k.2) m n in
+    (λ i. one.same i ∷ rest.0 i, rest.1)
+
+pub one_explanation : (R : List EntryParts) → HasOneExplanation R
+one_explanation R t a b xs ys h k = one_run R t a b xs ys h.is_run k.is_run h.form.canonical.at_rest k.form.canonical.at_rest
