@@ -15,19 +15,19 @@ use Rattle.lt_canon.proofs.FirstFaults.{below_or_not}
 use Rattle.lt_canon.proofs.Findings.{all_conditions}
 
 -- but for three of them
-pub by_record : (k : Condition) → (k ≡ conditions.OwnName → ⊥) → (k ≡ conditions.EndingChain → ⊥) → (k ≡ conditions.FittingGrandfathered → ⊥) → is_by_record k ≡ true
-by_record conditions.OwnName a b c = absurd (a refl)
-by_record conditions.RegisteredValue a b c = refl
-by_record conditions.EndingChain a b c = absurd (b refl)
-by_record conditions.FittingExtlang a b c = refl
-by_record conditions.FittingVariantValue a b c = refl
-by_record conditions.FinalPrefixes a b c = refl
-by_record conditions.LangtagPrefixes a b c = refl
-by_record conditions.FittingGrandfathered a b c = absurd (c refl)
-by_record conditions.ValidWhole a b c = refl
-by_record conditions.RestingWhole a b c = refl
-by_record conditions.AgreeingWhole a b c = refl
-by_record conditions.NoRangeValue a b c = refl
+pub by_record : (k : Condition) → (k ≡ conditions.OwnName → ⊥) → (k ≡ conditions.FittingGrandfathered → ⊥) → is_by_record k ≡ true
+by_record conditions.OwnName a c = absurd (a refl)
+by_record conditions.RegisteredValue a c = refl
+by_record conditions.EndingChain a c = refl
+by_record conditions.FittingExtlang a c = refl
+by_record conditions.FittingVariantValue a c = refl
+by_record conditions.FinalPrefixes a c = refl
+by_record conditions.LangtagPrefixes a c = refl
+by_record conditions.FittingGrandfathered a c = absurd (c refl)
+by_record conditions.ValidWhole a c = refl
+by_record conditions.RestingWhole a c = refl
+by_record conditions.AgreeingWhole a c = refl
+by_record conditions.NoRangeValue a c = refl
 
 -- the lowest cycle is the lowest fault by the condition on chains
 cycle_fault : (R : List EntryParts) (o : Option ℕ) → MatchOption o (All (HasEndingChain R) R) (IsFirstCycle R) → IsLowestFault R conditions.EndingChain o
@@ -43,10 +43,6 @@ cycle_fault R (Some n) h = record {
         let s = f.numbered in
         let low : f.entry.number < n = omega (arith, s, l) in
         absurd (f.fails (All-contains (λ (e : EntryParts). e.number < n → HasEndingChain R e) R f.entry h.lower f.there low))
-
-pub cycle_answer : {E : Type 0} (R : List EntryParts) (k : Condition) → k ≡ conditions.EndingChain → (r : Result (Option ℕ) E) → IfOk r (λ o. MatchOption o (All (HasEndingChain R) R) (IsFirstCycle R)) → IfOk r (IsLowestFault R k)
-cycle_answer R k s (Ok o) h = subst (λ (c : Condition). IsLowestFault R c o) (sym s) (cycle_fault R o h)
-cycle_answer R k s (Err e) h = tt
 
 rank_bounds : (k : Condition) → (1 ≤ rank_of k) × (rank_of k ≤ 12)
 rank_bounds conditions.OwnName = (omega arith, omega arith)
@@ -133,19 +129,19 @@ decided_at R e k j s b h = subst (λ c. IsTrue b ↔ Meets c R e) (sym s) h
 pub answered_at : {E : Type 0} (R : List EntryParts) (e : EntryParts) (k j : Condition) → k ≡ j → (r : Result Bool E) → IfOk r (λ b. IsTrue b ↔ Meets j R e) → IfOk r (λ b. IsTrue b ↔ Meets k R e)
 answered_at R e k j s r h = subst (λ c. IfOk r (λ b. IsTrue b ↔ Meets c R e)) (sym s) h
 
-pub not_by_record : (k : Condition) → is_by_record k ≡ true → (k ≡ conditions.RegisteredValue → ⊥) → (k ≡ conditions.FittingExtlang → ⊥) → (k ≡ conditions.FittingVariantValue → ⊥) → (k ≡ conditions.FinalPrefixes → ⊥) → (k ≡ conditions.LangtagPrefixes → ⊥) → (k ≡ conditions.ValidWhole → ⊥) → (k ≡ conditions.RestingWhole → ⊥) → (k ≡ conditions.AgreeingWhole → ⊥) → (k ≡ conditions.NoRangeValue → ⊥) → ⊥
-not_by_record conditions.OwnName h a b c d p e f g i = cc
-not_by_record conditions.RegisteredValue h a b c d p e f g i = a refl
-not_by_record conditions.EndingChain h a b c d p e f g i = cc
-not_by_record conditions.FittingExtlang h a b c d p e f g i = b refl
-not_by_record conditions.FittingVariantValue h a b c d p e f g i = c refl
-not_by_record conditions.FinalPrefixes h a b c d p e f g i = d refl
-not_by_record conditions.LangtagPrefixes h a b c d p e f g i = p refl
-not_by_record conditions.FittingGrandfathered h a b c d p e f g i = cc
-not_by_record conditions.ValidWhole h a b c d p e f g i = e refl
-not_by_record conditions.RestingWhole h a b c d p e f g i = f refl
-not_by_record conditions.AgreeingWhole h a b c d p e f g i = g refl
-not_by_record conditions.NoRangeValue h a b c d p e f g i = i refl
+pub not_by_record : (k : Condition) → is_by_record k ≡ true → (k ≡ conditions.RegisteredValue → ⊥) → (k ≡ conditions.EndingChain → ⊥) → (k ≡ conditions.FittingExtlang → ⊥) → (k ≡ conditions.FittingVariantValue → ⊥) → (k ≡ conditions.FinalPrefixes → ⊥) → (k ≡ conditions.LangtagPrefixes → ⊥) → (k ≡ conditions.ValidWhole → ⊥) → (k ≡ conditions.RestingWhole → ⊥) → (k ≡ conditions.AgreeingWhole → ⊥) → (k ≡ conditions.NoRangeValue → ⊥) → ⊥
+not_by_record conditions.OwnName h a z b c d p e f g i = cc
+not_by_record conditions.RegisteredValue h a z b c d p e f g i = a refl
+not_by_record conditions.EndingChain h a z b c d p e f g i = z refl
+not_by_record conditions.FittingExtlang h a z b c d p e f g i = b refl
+not_by_record conditions.FittingVariantValue h a z b c d p e f g i = c refl
+not_by_record conditions.FinalPrefixes h a z b c d p e f g i = d refl
+not_by_record conditions.LangtagPrefixes h a z b c d p e f g i = p refl
+not_by_record conditions.FittingGrandfathered h a z b c d p e f g i = cc
+not_by_record conditions.ValidWhole h a z b c d p e f g i = e refl
+not_by_record conditions.RestingWhole h a z b c d p e f g i = f refl
+not_by_record conditions.AgreeingWhole h a z b c d p e f g i = g refl
+not_by_record conditions.NoRangeValue h a z b c d p e f g i = i refl
 
 in_order : ranked_from 1 all_conditions ≡ true
 in_order = refl

@@ -9,17 +9,13 @@ pub mod Checks
 pub mod UpgradeValid
 pub mod UpgradeCores
 pub mod Deciding
-pub mod TagTests
 pub mod CoreTests
-pub mod WholeTests
 pub mod WholeRecords
 pub mod WholeVerdicts
 pub mod RegularLists
 pub mod GrandfatheredVerdicts
 pub mod DistinctTests
 pub mod Findings
-pub mod Sample
-pub mod SampleRows
 pub mod Distinctness
 pub mod SecondVariants
 pub mod TagRepeats
@@ -34,7 +30,6 @@ pub mod UpgradeRepeats
 pub mod UpgradeLaw
 pub mod UpgradeTests
 pub mod UpgradeFindings
-pub mod UpgradeRows
 pub mod UpgradeChecks
 pub mod UpgradeWholes
 pub mod UpgradeFaults

@@ -21,7 +21,6 @@ IsLowestFault R condition (Some number) = IsFirstAtFault R condition number
 -- whether a look at one record after another decides the condition
 abbrev pub is_by_record : Condition → Bool
 is_by_record conditions.OwnName = false
-is_by_record conditions.EndingChain = false
 is_by_record conditions.FittingGrandfathered = false
 is_by_record _ = true
 

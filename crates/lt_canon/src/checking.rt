@@ -15,7 +15,7 @@ use crate::record_checks::{
 use crate::rejections::Finding;
 use crate::whole_checks::{has_agreeing_whole, has_resting_whole, has_valid_whole};
 use lt_registry::{Entry, Lookup};
-use lt_rewrite::{Shortcuts, first_cycle_in};
+use lt_rewrite::Shortcuts;
 use lt_tag::OutOfMemory;
 use std::alloc::Global;
 
@@ -51,6 +51,7 @@ fn meets<L: Lookup>(
 {
     match condition {
         Condition::RegisteredValue => Ok(has_registered_value(table, entry)),
+        Condition::EndingChain => Ok(shortcuts.has_end(table, entry)),
         Condition::FittingExtlang => Ok(fits_as_extlang(table, shortcuts, entry)),
         Condition::FittingVariantValue => Ok(has_fitting_variant_value(table, entry)),
         Condition::FinalPrefixes => Ok(stands_beside_final_languages(table, entry)),
@@ -111,7 +112,6 @@ fn lowest_fault<L: Lookup>(
 {
     match condition {
         Condition::OwnName => first_taken_name(alloc, table),
-        Condition::EndingChain => first_cycle_in(alloc, table),
         Condition::FittingGrandfathered => Ok(first_misfit(table)),
         _ => first_failing(alloc, table, shortcuts, condition),
     }

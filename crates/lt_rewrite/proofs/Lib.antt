@@ -37,8 +37,6 @@ pub mod ExtensionSettled
 pub mod ExtensionsSettled
 pub mod CoreLeading
 pub mod CycleWalks
-pub mod MarkedWalks
-pub mod MarkLinks
 pub mod Cuts
 pub mod PartLeading
 pub mod PartCounts

@@ -1,6 +1,5 @@
 -- The lowest record whose chain of values has no end (RFC 5646, 3.1.7), and orders of the records.
 use Rattle.std.specs.Prelude.{ℕ, ◌≡◌, ◌<◌, ◌*◌, ◌%◌, ◌^◌, List, Some, All, Contains}
-use Rattle.std.specs.BTreeSet.{BTreeSet}
 use Rattle.lt_registry.specs.Parts.{EntryParts}
 use Rattle.lt_registry.specs.Entries.{entry}
 use Rattle.lt_registry.specs.declared.entries.Kind.{Kind}
@@ -28,19 +27,3 @@ EarlierEnd R order before = All (λ f. place order f.number < before → HasEndi
 -- a record's chain ends if those of all records before it in an order do
 abbrev pub EndsAfterEarlier : List EntryParts → Order → EntryParts → Type 0
 EndsAfterEarlier R order e = EarlierEnd R order (place order e.number) → HasEndingChain R e
-
--- the chain of the record of a number ends
-abbrev pub NumberEnds : List EntryParts → ℕ → Type 0
-NumberEnds R number = All (λ f. f.number ≡ number → HasEndingChain R f) R
-
--- the chains of all marked records end
-abbrev pub MarkedEnd : List EntryParts → BTreeSet ℕ → Type 0
-MarkedEnd R marked = All (NumberEnds R) marked.keys
-
--- the record of a subtag on a chain is marked, if a value follows it
-abbrev pub IsMarkedAt : List EntryParts → BTreeSet ℕ → Kind → List ℕ → Type 0
-IsMarkedAt R marked k s = (e : EntryParts) (v : List ℕ) → entry R k s ≡ Some e → next_value R k s ≡ Some v → Contains marked.keys e.number
-
--- the records behind a marked one on its chain are marked too
-abbrev pub MarksLeadOn : List EntryParts → BTreeSet ℕ → Type 0
-MarksLeadOn R marked = (k : Kind) (s v : List ℕ) → next_value R k s ≡ Some v → IsMarkedAt R marked k s → IsMarkedAt R marked k v

@@ -16,7 +16,6 @@ mod extensions_settling;
 mod field_applying;
 mod keyword_applying;
 pub mod laws;
-mod marked_chains;
 pub mod ordering_laws;
 mod part_applying;
 mod part_explaining;
@@ -36,7 +35,6 @@ pub use extension_settling::{settle_t, settle_u};
 pub use extensions_explaining::explain_extensions;
 pub use extensions_settling::settle_extensions;
 pub use field_applying::core_length;
-pub use marked_chains::first_cycle_in;
 pub use shortcuts::Shortcuts;
 pub use steps::{Step, StepKind};
 

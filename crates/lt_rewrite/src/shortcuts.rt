@@ -1,5 +1,5 @@
 //! Shortcuts along the chains of values of a table's records (RFC 5646, 3.1.7).
-ghost use Rattle.std.specs.Prelude.{◌≡◌, ◌+◌, ◌≤◌, ◌<◌, true, Some, ℕ, List, All, IfOk, OnErr, Contains, length};
+ghost use Rattle.std.specs.Prelude.{◌≡◌, ◌+◌, ◌≤◌, ◌<◌, true, Some, ℕ, List, All, IfOk, OnErr, Contains, length, IsTrue, ◌↔◌};
 ghost use Rattle.std.specs.List.{slice_get};
 ghost use Rattle.lt_registry.specs.Parts.{EntryParts};
 ghost use Rattle.lt_registry.specs.Entries.{NumbersRise, has_form};
@@ -9,7 +9,7 @@ ghost use Rattle.lt_rewrite.specs.Conditions.{HasEndingChain};
 ghost use Rattle.lt_rewrite.specs.ChainEnds.{ChainEnds, ChainEndsIn};
 ghost use Rattle.lt_rewrite.specs.Shortcuts.{IsOnward, IsShortcut, LeadOn, AreShortcuts};
 
-use crate::chain_ends::{Cycle, following, next_value, replacement};
+use crate::chain_ends::{Cycle, following, next_value, one_value, replacement};
 use crate::core_settling::settle_along;
 use lt_registry::{Entry, Kind, Lookup};
 use lt_subtag::Subtag;
@@ -86,6 +86,17 @@ impl Shortcuts {
         match next_value(table, kind, end) {
             Some(_) => Err(Cycle),
             None => Ok(end.copy()),
+        }
+    }
+
+    /// Whether the chain of values from a record's value ends.
+    pub fn has_end<L: Lookup>(&self, table: &L, entry: &Entry) -> bool
+        requires { AreShortcuts (L.listed table.now) self.now }
+        ensures { IsTrue result ↔ HasEndingChain (L.listed table.now) entry.now }
+    {
+        match one_value(entry) {
+            Some(value) => self.end_of_chain(table, entry.kind(), value).is_ok(),
+            None => true,
         }
     }
 

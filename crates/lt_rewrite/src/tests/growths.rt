@@ -8,7 +8,8 @@ use super::{
     CHAINS, EXTENSIONS, LISTS, core_explaining, extension_settles_to, extensions_explaining,
     list_settles_to,
 };
-use crate::first_cycle_in;
+use crate::Shortcuts;
+use lt_registry::Lookup;
 use std::test::Fail;
 
 /// What a call answers, made again where it is refused. No run refuses more than one growth.
@@ -70,15 +71,6 @@ fn steps_on_extensions_are_told(rt: HostRuntime) -> Result<(), Fail> {
 }
 
 #[test]
-fn cycles_are_found(rt: HostRuntime) -> Result<(), Fail> {
-    let table = sample(rt.alloc())?;
-    assert!(rt; twice(|| first_cycle_in(rt.alloc(), &table))?.is_none());
-    let table = sample_with_cycle(rt.alloc())?;
-    assert!(rt; twice(|| first_cycle_in(rt.alloc(), &table))? == Some(6));
-    Ok(())
-}
-
-#[test]
 fn shortcuts_lead_to_ends(rt: HostRuntime) -> Result<(), Fail> {
     let table = sample(rt.alloc())?;
     for (kind, text, end) in &CHAINS {
@@ -86,6 +78,17 @@ fn shortcuts_lead_to_ends(rt: HostRuntime) -> Result<(), Fail> {
             chain_ends_in(rt.alloc(), &table, *kind, text, end)?,
             "{text}"
         );
+    }
+    Ok(())
+}
+
+#[test]
+fn shortcuts_tell_chains_without_end(rt: HostRuntime) -> Result<(), Fail> {
+    let table = sample_with_cycle(rt.alloc())?;
+    let shortcuts = twice(|| Shortcuts::of_table(rt.alloc(), &table))?;
+    for entry in table.entries() {
+        let is_on_cycle = entry.number() == 6 || entry.number() > 46;
+        assert!(rt; shortcuts.has_end(&table, entry) != is_on_cycle, "{}", entry.number());
     }
     Ok(())
 }

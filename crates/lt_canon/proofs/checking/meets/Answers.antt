@@ -3,7 +3,7 @@ use Rattle.lt_canon.proofs.checking.meets.Goals as goal
 
 pub unreachable-requires : goal.unreachable-requires
 unreachable-requires g c =
-    not_by_record c.args.condition c.requires.by_record c.in_default.not-RegisteredValue c.in_default.not-FittingExtlang c.in_default.not-FittingVariantValue c.in_default.not-FinalPrefixes c.in_default.not-LangtagPrefixes c.in_default.not-ValidWhole c.in_default.not-RestingWhole c.in_default.not-AgreeingWhole c.in_default.not-NoRangeValue
+    not_by_record c.args.condition c.requires.by_record c.in_default.not-RegisteredValue c.in_default.not-EndingChain c.in_default.not-FittingExtlang c.in_default.not-FittingVariantValue c.in_default.not-FinalPrefixes c.in_default.not-LangtagPrefixes c.in_default.not-ValidWhole c.in_default.not-RestingWhole c.in_default.not-AgreeingWhole c.in_default.not-NoRangeValue
 
 pub returns-in-ValidWhole : goal.returns-in-ValidWhole
 returns-in-ValidWhole g c = decided_at (g.L.Lookup.listed c.args.table.now) c.args.entry.now c.args.condition _ c.in-ValidWhole.is c.has_valid_whole.result c.has_valid_whole.ensures

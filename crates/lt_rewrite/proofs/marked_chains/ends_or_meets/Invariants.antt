@@ -1,9 +1,0 @@
-use Rattle.std.proofs.Common.{◌≡◌, ℕ, List, Some}
-use Rattle.lt_registry.specs.Entries.{one_of}
-use Rattle.lt_rewrite.specs.CoreSteps.{chase}
-use Rattle.lt_rewrite.specs.Conditions.{next_value}
-use Rattle.lt_rewrite.proofs.marked_chains.ends_or_meets.Given as goal
-
--- so many values have been followed
-abbrev pub invariant-loop-turn : goal.invariant-loop-turn
-invariant-loop-turn g l = (v : List ℕ) → one_of l.entry.value ≡ Some v → l.subtag ≡ chase (next_value (g.L.Lookup.listed l.table) l.kind) l._turn v
