@@ -19,6 +19,3 @@ pub use jars::{Jar, JarField, Record};
 pub use pieces::{Pieces, Takes};
 pub use readers::{JarReader, RecordRef};
 pub use reading::read_jar;
-
-#[cfg(test)]
-mod tests;

@@ -1,5 +1,5 @@
 //! Devices over readers and writers that work and that fail.
-use crate::Device;
+use lt_jar::Device;
 use std::io::{self, Read, Write};
 use std::test::Fail;
 

@@ -1,57 +1,10 @@
-//! What a call does where a growth of memory is refused. `bench/growth.py` runs each test here once for
-//! each growth in it, and refuses that one alone; the gate refuses none. So a call that is not itself
-//! under test is made twice where it is refused.
-use super::{
-    FAULTS, TEXTS, has_fields, is_one_field, long_line, returned_text, shown as records_of,
-};
-use crate::{Device, Jar, JarFault, JarFaultKind, JarReader, Pieces, RecordRef, read_jar};
+//! What a call does where a growth of memory is refused.
+use super::{FAULTS, TEXTS, has_fields, is_one_field, long_line, shown as records_of};
+use lt_jar::{Device, Jar, JarFault, JarFaultKind, JarReader, Pieces, RecordRef, read_jar};
+use lt_testing::{answers, mark, returned_text, twice};
 use std::alloc::{AllocError, Global};
-use std::fmt::Debug;
 use std::io::Read;
 use std::test::Fail;
-
-/// What a call answers, which is made again where it was refused.
-fn twice<T, E: Drop, C: Fn() -> Result<T, E>>(call: C) -> Result<T, E>
-    requires { C.IsAlwaysCallable call }
-{
-    match call() {
-        Ok(value) => Ok(value),
-        Err(_) => call(),
-    }
-}
-
-/// A value as text.
-fn shown<T: Debug>(alloc: Global, value: &T) -> Result<String, AllocError> {
-    match format!(in alloc; "{value:?}") {
-        Ok(text) => Ok(text),
-        Err(_) => format!(in alloc; "{value:?}"),
-    }
-}
-
-/// Whether a call gives its answer, and leaves its arguments as they were; and where it tells that a
-/// growth was refused, whether it leaves them as well, and gives its answer when it is made again.
-fn answers<A, T, C, P, R>(
-    alloc: Global,
-    arguments: &A,
-    call: C,
-    is_answer: P,
-    is_refusal: R,
-) -> Result<bool, AllocError>
-where
-    A: Debug,
-    T: Drop,
-    C: Fn() -> T,
-    P: Fn(&T) -> bool,
-    R: Fn(&T) -> bool,
-    requires call { C.IsAlwaysCallable call }
-    requires answer { P.IsAlwaysCallable is_answer }
-    requires refusal { R.IsAlwaysCallable is_refusal }
-{
-    let before = shown(alloc, arguments)?;
-    let answer = call();
-    let is_kept = shown(alloc, arguments)?.as_str() == before.as_str();
-    Ok(is_kept && (is_answer(&answer) || (is_refusal(&answer) && is_answer(&call()))))
-}
 
 /// Whether reading a text answers as it should.
 fn is_read<P: Fn(&Result<Jar, JarFault>) -> bool>(
@@ -283,12 +236,6 @@ fn records_are_lent_before_a_fault(rt: HostRuntime) {
         let is_right = is_read_in_pieces(rt.alloc(), text, *size, fields, Some(fault));
         assert!(rt; is_right, "{size}");
     }
-}
-
-/// Marks where calls begin that take no memory: `bench/growth.py` refuses this growth, which is larger
-/// than any other, and each one behind it.
-fn mark(alloc: Global) {
-    let _ = Vec::<u8>::with_capacity(alloc, 1 << 36);
 }
 
 /// Whether a record is `A: b` alone, by each of its calls.

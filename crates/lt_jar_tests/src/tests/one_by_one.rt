@@ -1,8 +1,7 @@
 //! Records one by one, from pieces of a text.
-use super::{
-    FAULTS, TEXTS, long_line, many_records, push_fields, returned_text, sample_text, shown,
-};
-use crate::{Device, JarFault, JarReader, Pieces, RecordRef, Takes, read_jar};
+use super::{FAULTS, TEXTS, long_line, many_records, push_fields, shown};
+use lt_jar::{Device, JarFault, JarReader, Pieces, RecordRef, Takes, read_jar};
+use lt_testing::{returned_text, sample_text};
 use std::alloc::{AllocError, Global};
 use std::io::{Read, Write};
 use std::test::Fail;

@@ -1,7 +1,7 @@
 //! Readers that end, and readers that fail.
 use super::one_by_one::lent;
-use super::sample_text;
-use crate::{Device, Pieces};
+use lt_jar::{Device, Pieces};
+use lt_testing::sample_text;
 use std::alloc::Global;
 use std::io::Read;
 use std::test::Fail;

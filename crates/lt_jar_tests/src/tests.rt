@@ -4,10 +4,9 @@ mod endless;
 mod failing;
 mod growths;
 mod one_by_one;
-mod sample;
 
-use super::*;
-use sample::{HEADER, ROWS, push_line, push_record, sample_text};
+use lt_jar::{Jar, JarField, read_jar};
+use lt_testing::{returned_text, sample_text};
 use std::alloc::{AllocError, Global};
 use std::test::Fail;
 
@@ -171,19 +170,6 @@ fn sample_is_read(rt: HostRuntime) -> Result<(), Fail> {
     assert!(rt; jar.records().len() == 47);
     assert!(rt; has_fields(rt.alloc(), &jar, 0, "File-Date=2024-01-01")?);
     Ok(())
-}
-
-/// The sample with carriage returns, and a folded field in its sixth record.
-fn returned_text(alloc: Global) -> Result<String, AllocError> {
-    let mut text = String::new(alloc);
-    push_line(&mut text, HEADER, "", "\r\n")?;
-    for (kind, name, value, prefix) in &ROWS {
-        push_record(&mut text, kind, name, value, prefix, "\r\n")?;
-        if *name == "he" {
-            text.push_str("Description: Modern\r\n Hebrew\r\n")?;
-        }
-    }
-    Ok(text)
 }
 
 /// The sample with carriage returns has no end of its last line.

@@ -1,6 +1,6 @@
 //! Readers that give one byte in each read, for as many reads as a reader of records may make.
 use super::failing::told;
-use crate::{Device, Pieces};
+use lt_jar::{Device, Pieces};
 use std::test::Fail;
 
 /// The end comes in the last read.

@@ -1,0 +1,52 @@
+//! What a call does where a growth of memory is refused. `bench/growth.py` runs each test of a module
+//! `growths` once for each growth in it, and refuses that one alone; the gate refuses none. So a call that
+//! is not itself under test is made twice where it is refused.
+use std::alloc::{AllocError, Global};
+use std::fmt::Debug;
+
+/// What a call answers, made again where it is refused.
+pub fn twice<T, E: Drop, C: Fn() -> Result<T, E>>(call: C) -> Result<T, E>
+    requires { C.IsAlwaysCallable call }
+    ensures { C.post call result }
+{
+    match call() {
+        Ok(value) => Ok(value),
+        Err(_) => call(),
+    }
+}
+
+/// A value in words.
+pub fn shown<T: Debug>(alloc: Global, value: &T) -> Result<String, AllocError> {
+    twice(|| format!(in alloc; "{value:?}"))
+}
+
+/// Whether a call gives its answer, and leaves its arguments as they were; and where it tells that a
+/// growth was refused, whether it leaves them as well, and gives its answer when it is made again.
+pub fn answers<A, T, C, P, R>(
+    alloc: Global,
+    arguments: &A,
+    call: C,
+    is_answer: P,
+    is_refusal: R,
+) -> Result<bool, AllocError>
+where
+    A: Debug,
+    T: Drop,
+    C: Fn() -> T,
+    P: Fn(&T) -> bool,
+    R: Fn(&T) -> bool,
+    requires call { C.IsAlwaysCallable call }
+    requires answer { P.IsAlwaysCallable is_answer }
+    requires refusal { R.IsAlwaysCallable is_refusal }
+{
+    let before = shown(alloc, arguments)?;
+    let answer = call();
+    let is_kept = shown(alloc, arguments)?.as_str() == before.as_str();
+    Ok(is_kept && (is_answer(&answer) || (is_refusal(&answer) && is_answer(&call()))))
+}
+
+/// Marks where calls begin that take no memory: `bench/growth.py` refuses this growth, which is larger
+/// than any other, and each one after it.
+pub fn mark(alloc: Global) {
+    let _ = Vec::<u8>::with_capacity(alloc, 1 << 36);
+}
