@@ -2,7 +2,7 @@
 
 PREFIX ?= /usr/local
 
-.PHONY: all test bench growth install clean
+.PHONY: all test statement bench growth install clean
 
 # Proves each crate that changed, and builds the program: `rt run` proves, builds and runs it.
 all:
@@ -13,6 +13,10 @@ all:
 # Proves everything from nothing, and runs each test.
 test:
 	rt ci
+
+# Counts what has to be believed: the definitions that the headline reaches. It needs no toolchain.
+statement:
+	bench/statement.py --readme
 
 # Measures the program that `make` built, over a registry of IANA's size; it takes some seconds.
 bench:
