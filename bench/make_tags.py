@@ -1,11 +1,19 @@
 #!/usr/bin/env python3
-"""Prints tags of the kinds that catalogues hold, by the subtags of a registry.
+"""Prints a list of tags by the subtags of a registry, one a line.
 
-Usage: make_tags.py REGISTRY [COUNT]
+Usage: make_tags.py REGISTRY LIST [COUNT]
 
-One tag a line, 200,000 unless a count is given; a few per cent of them are refused. The same tags come out each time.
+LIST is one of these:
+
+- `mixed`: a fifth are a language alone, half a language and a region, a seventh have a script too, 8 % have a `u` or
+  `t` extension and 3 % private use; the rest are extlangs, variants, whole tags, and some that are refused.
+- `catalogue`: some 400 distinct tags of `mixed`, by Zipf's law, as catalogues of libraries and logs have.
+- `distinct`: tags of `mixed`, none of them twice.
+
+200,000 tags come unless a COUNT is given, and the same each time.
 """
 
+import itertools
 import random
 import sys
 
@@ -34,6 +42,10 @@ def read_registry(path):
     return names, prefixes
 
 
+# How many distinct tags the list `catalogue` has.
+CATALOGUE = 400
+
+
 class Tags:
     def __init__(self, names, prefixes):
         self.random = random.Random(20260102)
@@ -43,13 +55,13 @@ class Tags:
         return items[self.random.randrange(len(items))]
 
     def language(self):
-        return self.pick(COMMON if self.random.random() < 0.8 else self.names["language"])
+        return self.pick(COMMON if self.random.random() < 0.9 else self.names["language"])
 
     def region(self):
-        return self.pick(COMMON_REGIONS if self.random.random() < 0.8 else self.names["region"])
+        return self.pick(COMMON_REGIONS if self.random.random() < 0.95 else self.names["region"])
 
     def script(self):
-        return self.pick(COMMON_SCRIPTS if self.random.random() < 0.8 else self.names["script"])
+        return self.pick(COMMON_SCRIPTS if self.random.random() < 0.9 else self.names["script"])
 
     def extlang(self):
         name = self.pick(self.names["extlang"])
@@ -69,46 +81,62 @@ class Tags:
     def private(self):
         return self.pick([self.language() + "-", self.core() + "-", ""]) + self.pick(PRIVATE)
 
+    def with_region(self):
+        return self.language() + "-" + self.region()
+
+    def with_script(self):
+        return self.language() + "-" + self.script()
+
+    def with_both(self):
+        return self.with_script() + "-" + self.region()
+
     def core(self):
-        kind = self.random.random()
-        if kind < 0.3:
-            return self.language()
-        if kind < 0.75:
-            return self.language() + "-" + self.region()
-        if kind < 0.88:
-            return self.language() + "-" + self.script()
-        return self.language() + "-" + self.script() + "-" + self.region()
+        return self.random.choices([self.language, self.with_region, self.with_script, self.with_both], [6, 9, 3, 2])[0]()
 
     def tag(self):
         kinds = (
-            (0.70, self.core),
-            (0.74, self.extlang),
-            (0.80, self.variant),
-            (0.88, self.unicode),
-            (0.90, self.transform),
-            (0.92, self.private),
-            (0.945, lambda: self.pick(self.names["grandfathered"])),
-            (0.97, lambda: self.pick(self.names["redundant"])),
+            (20, self.language),
+            (50, self.with_region),
+            (14, self.with_both),
+            (6, self.unicode),
+            (2, self.transform),
+            (3, self.private),
+            (1, self.with_script),
+            (1, self.variant),
+            (1, self.extlang),
+            (0.5, lambda: self.pick(self.names["grandfathered"])),
+            (0.5, lambda: self.pick(self.names["redundant"])),
+            (1, lambda: self.pick(REFUSED)),
         )
-        kind = self.random.random()
-        for below, make in kinds:
-            if kind < below:
-                return make()
-        return self.pick(REFUSED)
+        return self.random.choices([make for _, make in kinds], [share for share, _ in kinds])[0]()
 
-    def spelled(self):
-        """A tag as catalogues spell it: mostly well, at times in one case."""
-        tag, kind = self.tag(), self.random.random()
-        if kind < 0.1:
-            return tag.lower()
-        return tag.upper() if kind < 0.15 else tag
+    def mixed(self):
+        """Tags as catalogues spell them: mostly well, at times in one case."""
+        while True:
+            tag, kind = self.tag(), self.random.random()
+            yield tag.lower() if kind < 0.05 else tag.upper() if kind < 0.08 else tag
+
+    def distinct(self):
+        """Tags of which none comes twice."""
+        seen = set()
+        for tag in self.mixed():
+            if tag not in seen:
+                seen.add(tag)
+                yield tag
+
+    def catalogue(self):
+        """A few tags, the first the most and the one of rank n an n-th of that."""
+        tags = list(itertools.islice(self.distinct(), CATALOGUE))
+        shares = list(itertools.accumulate(1 / (rank + 1) for rank in range(CATALOGUE)))
+        while True:
+            yield self.random.choices(tags, cum_weights=shares)[0]
 
 
 def main():
     tags = Tags(*read_registry(sys.argv[1]))
-    count = int(sys.argv[2]) if len(sys.argv) > 2 else 200000
-    for _ in range(count):
-        sys.stdout.write(tags.spelled() + "\n")
+    lists = {"mixed": tags.mixed, "catalogue": tags.catalogue, "distinct": tags.distinct}
+    count = int(sys.argv[3]) if len(sys.argv) > 3 else 200000
+    sys.stdout.writelines(tag + "\n" for tag in itertools.islice(lists[sys.argv[2]](), count))
 
 
 if __name__ == "__main__":

@@ -1,0 +1,85 @@
+use crate::{Recent, ShortText};
+use std::alloc::{AllocError, Global};
+use std::test::Fail;
+
+const LINES: [(&str, &str, bool); 4] = [
+    ("zh-yue", "yue\n", false),
+    ("", "! EmptySubtag 1\n", true),
+    ("EN-us", "en-US\n", false),
+    ("zh-yu", "zh-YU\n", false),
+];
+
+const LONG: &str = "de-1901-x-abcdefgh-abcdefgh-abcde";
+
+/// What a table has for the front of a text.
+fn found(
+    alloc: Global,
+    table: &Recent,
+    text: &str,
+    count: usize,
+) -> Result<Option<(Vec<u8>, bool)>, AllocError> {
+    let mut answer = Vec::new(alloc);
+    match table.find(text.as_bytes(), count.min(text.len())) {
+        Some(there) => {
+            there.answer.append_to(&mut answer)?;
+            Ok(Some((answer, there.refused)))
+        }
+        None => Ok(None),
+    }
+}
+
+#[test]
+fn finds_what_was_put(rt: HostRuntime) -> Result<(), Fail> {
+    let mut table = Recent::new(rt.alloc());
+    for (line, answer, refused) in &LINES {
+        assert!(rt;
+            found(rt.alloc(), &table, line, line.len())?.is_none(),
+            "{line}"
+        );
+        table.put(line.as_bytes(), answer.as_bytes(), *refused);
+    }
+    for (line, answer, refused) in &LINES {
+        let there = found(rt.alloc(), &table, line, line.len())?;
+        let is_right = there.is_some_and(|(text, no)| text.as_slice() == answer.as_bytes()
+            && no == *refused);
+        assert!(rt; is_right, "{line}");
+    }
+    Ok(())
+}
+
+#[test]
+fn finds_the_front_of_a_text(rt: HostRuntime) -> Result<(), Fail> {
+    let mut table = Recent::new(rt.alloc());
+    table.put(b"zh-yue", b"yue\n", false);
+    let text = "zh-yue\nen\nand thirty-two bytes more";
+    assert!(rt; found(rt.alloc(), &table, text, 6)?.is_some());
+    assert!(rt; found(rt.alloc(), &table, text, 5)?.is_none());
+    assert!(rt; found(rt.alloc(), &table, text, 7)?.is_none());
+    Ok(())
+}
+
+#[test]
+fn keeps_no_long_line(rt: HostRuntime) -> Result<(), Fail> {
+    let mut table = Recent::new(rt.alloc());
+    table.put(LONG.as_bytes(), b"de\n", false);
+    table.put(b"de", LONG.as_bytes(), false);
+    assert!(rt; found(rt.alloc(), &table, LONG, LONG.len())?.is_none());
+    assert!(rt; found(rt.alloc(), &table, LONG, 2)?.is_none());
+    Ok(())
+}
+
+#[test]
+fn compares_each_byte(rt: HostRuntime) -> Result<(), Fail> {
+    for place in 0..32usize {
+        let mut other = [b'a'; 32];
+        other[place] = b'b';
+        let Some(first) = ShortText::front(&[b'a'; 32], 32) else {
+            return Err("short".into());
+        };
+        let Some(second) = ShortText::front(&other, 32) else {
+            return Err("short".into());
+        };
+        assert!(rt; !first.is(&second) && first.is(&first));
+    }
+    Ok(())
+}
