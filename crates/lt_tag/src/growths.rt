@@ -1,0 +1,585 @@
+//! What a call does where a growth of memory is refused. `bench/growth.py` runs each test here once for
+//! each growth in it, and refuses that one alone; the gate refuses none. So a call that is not itself
+//! under test is made twice where it is refused.
+use crate::cores::Core;
+use crate::extensions::Extension;
+use crate::faults::{OutOfMemory, TagFault, TagFaultKind, TransformFault};
+use crate::joining::{join_t, join_u};
+use crate::parts::{TParts, UParts};
+use crate::reading::read_tag;
+use crate::splitting::{split_t, split_u};
+use crate::tags::{Class, Tag};
+use crate::words::{put_core, put_each, put_extension, put_field, put_keyword};
+use crate::writing::{append_tag, write_tag};
+use lt_subtag::Subtag;
+use std::alloc::{AllocError, Global};
+use std::fmt::Debug;
+use std::test::Fail;
+
+/// What a call answers, which is made again where it was refused.
+fn twice<T, E: Drop, C: Fn() -> Result<T, E>>(call: C) -> Result<T, E>
+    requires { C.IsAlwaysCallable call }
+{
+    match call() {
+        Ok(value) => Ok(value),
+        Err(_) => call(),
+    }
+}
+
+/// A value as text.
+fn shown<T: Debug>(alloc: Global, value: &T) -> Result<String, AllocError> {
+    match format!(in alloc; "{value:?}") {
+        Ok(text) => Ok(text),
+        Err(_) => format!(in alloc; "{value:?}"),
+    }
+}
+
+/// Whether a call gives its answer, and leaves its arguments as they were; and where it tells that a
+/// growth was refused, whether it leaves them as well, and gives its answer when it is made again.
+fn answers<A, T, C, P, R>(
+    alloc: Global,
+    arguments: &A,
+    call: C,
+    is_answer: P,
+    is_refusal: R,
+) -> Result<bool, AllocError>
+where
+    A: Debug,
+    T: Drop,
+    C: Fn() -> T,
+    P: Fn(&T) -> bool,
+    R: Fn(&T) -> bool,
+    requires call { C.IsAlwaysCallable call }
+    requires answer { P.IsAlwaysCallable is_answer }
+    requires refusal { R.IsAlwaysCallable is_refusal }
+{
+    let before = shown(alloc, arguments)?;
+    let answer = call();
+    let is_kept = shown(alloc, arguments)?.as_str() == before.as_str();
+    Ok(is_kept && (is_answer(&answer) || (is_refusal(&answer) && is_answer(&call()))))
+}
+
+/// Whether a call makes of its argument what it should; and where a growth was refused, whether it
+/// leaves it as it was, and then makes the same of it.
+fn changes<A, E, C, P>(
+    alloc: Global,
+    argument: &mut A,
+    call: C,
+    is_changed: P,
+) -> Result<bool, AllocError>
+where
+    A: Debug,
+    E: Drop,
+    C: Fn(&mut A) -> Result<(), E>,
+    P: Fn(&A) -> bool,
+    requires call { C.IsAlwaysCallable call }
+    requires changed { P.IsAlwaysCallable is_changed }
+{
+    let before = shown(alloc, argument)?;
+    if call(argument).is_err() {
+        let is_kept = shown(alloc, argument)?.as_str() == before.as_str();
+        if !is_kept || call(argument).is_err() {
+            return Ok(false);
+        }
+    }
+    Ok(is_changed(argument))
+}
+
+/// Whether a call is refused for want of memory.
+fn is_refused<T>(answer: &Result<T, OutOfMemory>) -> bool {
+    answer.is_err()
+}
+
+/// The tag of a text.
+fn tag_of(alloc: Global, text: &str) -> Result<Tag, TagFault> {
+    twice(|| read_tag(alloc, text.as_bytes()))
+}
+
+/// Whether a tag's text is this one.
+fn has_text(alloc: Global, tag: &Tag, text: &str) -> bool {
+    matches!(twice(|| write_tag(alloc, tag)), Ok(written) if written.as_slice() == text.as_bytes())
+}
+
+/// Texts with those of their tags.
+const TEXTS: [(&str, &str); 3] = [
+    ("ZH-yue-hant-hk", "zh-yue-Hant-HK"),
+    ("zh-MIN", "zh-min"),
+    ("X-a", "x-a"),
+];
+
+/// Texts of no tags with the names and the places of their faults.
+const FAULTS: [(&str, &str, u32); 9] = [
+    ("", "EmptySubtag", 1),
+    ("en-", "EmptySubtag", 2),
+    ("en_US", "BadByte", 1),
+    ("en-abcdefghi", "LongSubtag", 2),
+    ("i-foo", "BadLanguage", 1),
+    ("en-a-x-b", "Misplaced", 3),
+    ("sgn-BE-FR-x-a", "Misplaced", 3),
+    ("en-a", "Unfinished", 3),
+    ("x", "Unfinished", 2),
+];
+
+/// Whether reading a text answers as it should.
+fn is_read<P: Fn(&Result<Tag, TagFault>) -> bool>(
+    alloc: Global,
+    text: &str,
+    is_answer: P,
+) -> Result<bool, AllocError>
+    requires { P.IsAlwaysCallable is_answer }
+{
+    let refusal = TagFault {
+        kind: TagFaultKind::OutOfMemory,
+        place: 0,
+    };
+    answers(
+        alloc,
+        &text,
+        || read_tag(alloc, text.as_bytes()),
+        is_answer,
+        |answer| matches!(answer, Err(fault) if *fault == refusal),
+    )
+}
+
+#[test]
+fn tags_are_read(rt: HostRuntime) -> Result<(), Fail> {
+    let alloc = rt.alloc();
+    for (text, written) in &TEXTS {
+        let is_tag = is_read(alloc, text, |answer| match answer {
+            Ok(tag) => has_text(alloc, tag, written),
+            Err(_) => false,
+        })?;
+        assert!(rt; is_tag, "{text}");
+    }
+    for (text, name, place) in &FAULTS {
+        let is_fault = is_read(alloc, text, |answer| match answer {
+            Ok(_) => false,
+            Err(fault) => fault.kind.name() == *name && fault.place == *place,
+        })?;
+        assert!(rt; is_fault, "{text}");
+    }
+    Ok(())
+}
+
+/// Whether a tag is written so.
+fn is_written(alloc: Global, tag: &Tag, text: &str) -> Result<bool, AllocError> {
+    answers(
+        alloc,
+        tag,
+        || write_tag(alloc, tag),
+        |answer| matches!(answer, Ok(written) if written.as_slice() == text.as_bytes()),
+        |answer| is_refused(answer),
+    )
+}
+
+/// Whether a tag's text is put behind another.
+fn is_appended(alloc: Global, tag: &Tag, text: &str) -> Result<bool, AllocError> {
+    let mut found = twice(|| Vec::from_slice(alloc, b"en "))?;
+    changes(
+        alloc,
+        &mut found,
+        |found| append_tag(found, tag),
+        |found| found.strip_prefix(b"en ") == Some(text.as_bytes()),
+    )
+}
+
+#[test]
+fn tags_are_written(rt: HostRuntime) -> Result<(), Fail> {
+    for (text, written) in &TEXTS {
+        let tag = tag_of(rt.alloc(), text)?;
+        assert!(rt; is_written(rt.alloc(), &tag, written)?, "{text}");
+    }
+    Ok(())
+}
+
+#[test]
+fn tags_are_appended(rt: HostRuntime) -> Result<(), Fail> {
+    for (text, written) in &TEXTS {
+        let tag = tag_of(rt.alloc(), text)?;
+        assert!(rt; is_appended(rt.alloc(), &tag, written)?, "{text}");
+    }
+    Ok(())
+}
+
+/// Whether an answer is a value that is shown as this text.
+fn is_shown<T: Debug>(alloc: Global, answer: &Result<T, OutOfMemory>, text: &str) -> bool {
+    match answer {
+        Ok(value) => matches!(shown(alloc, value), Ok(found) if found.as_str() == text),
+        Err(_) => false,
+    }
+}
+
+/// Whether a call gives a copy of a value.
+fn is_copied<T, C>(alloc: Global, value: &T, copy: C) -> Result<bool, AllocError>
+where
+    T: Debug + Drop,
+    C: Fn() -> Result<T, OutOfMemory>,
+    requires { C.IsAlwaysCallable copy }
+{
+    let source = shown(alloc, value)?;
+    answers(
+        alloc,
+        value,
+        copy,
+        |answer| is_shown(alloc, answer, source.as_str()),
+        |answer| is_refused(answer),
+    )
+}
+
+#[test]
+fn tags_are_copied(rt: HostRuntime) -> Result<(), Fail> {
+    let alloc = rt.alloc();
+    for text in &["en-Latn-a-bb", "de-1901-x-a", "x-a", "i-lux"] {
+        let tag = tag_of(alloc, text)?;
+        assert!(rt; is_copied(alloc, &tag, || tag.copy(alloc))?, "{text}");
+    }
+    Ok(())
+}
+
+#[test]
+fn cores_are_copied(rt: HostRuntime) -> Result<(), Fail> {
+    let alloc = rt.alloc();
+    for text in &["en-Latn-a-bb", "de-1901-x-a"] {
+        let tag = tag_of(alloc, text)?;
+        let Some(core) = tag.core() else {
+            return Err(Fail::from("no core"));
+        };
+        assert!(rt; is_copied(alloc, core, || core.copy(alloc))?, "{text}");
+    }
+    Ok(())
+}
+
+/// The extension of a tag.
+fn extension_of(tag: &Tag) -> Result<&Extension, &'static str> {
+    match tag.extensions() {
+        [extension] => Ok(extension),
+        _ => Err("not one extension"),
+    }
+}
+
+#[test]
+fn extensions_are_copied(rt: HostRuntime) -> Result<(), Fail> {
+    let tag = tag_of(rt.alloc(), "en-Latn-a-bb")?;
+    let extension = extension_of(&tag)?;
+    assert!(rt; is_copied(rt.alloc(), extension, || extension.copy(rt.alloc()))?);
+    Ok(())
+}
+
+/// The parts of a `u` extension in words.
+fn unicode_words(alloc: Global, parts: &UParts) -> Result<Vec<u8>, OutOfMemory> {
+    let mut words = Vec::new(alloc);
+    put_each(&mut words, " attribute ", &parts.attributes)?;
+    for keyword in &parts.keywords {
+        put_keyword(&mut words, keyword)?;
+    }
+    Ok(words)
+}
+
+/// The parts of a `t` extension in words.
+fn transform_words(alloc: Global, parts: &TParts) -> Result<Vec<u8>, OutOfMemory> {
+    let mut words = Vec::new(alloc);
+    if let Some(source) = &parts.source {
+        put_core(&mut words, source)?;
+    }
+    for field in &parts.fields {
+        put_field(&mut words, field)?;
+    }
+    Ok(words)
+}
+
+/// Texts with the words of the parts of their `u` extension.
+const UNICODE: [(&str, &str); 3] = [
+    (
+        "en-u-foo-bar-nu-latn-ca-buddhist",
+        " attribute foo attribute bar key nu type latn key ca type buddhist",
+    ),
+    (
+        "en-u-bar-foo-ca-buddhist-nu-latn",
+        " attribute bar attribute foo key ca type buddhist key nu type latn",
+    ),
+    ("en-u-11", " key 11"),
+];
+
+/// Whether a `u` extension is split into parts of these words.
+fn unicode_is_split(alloc: Global, extension: &Extension, words: &str) -> Result<bool, AllocError> {
+    if extension.singleton() != b'u' {
+        return Ok(false);
+    }
+    answers(
+        alloc,
+        extension,
+        || split_u(alloc, extension),
+        |answer| match answer {
+            Ok(parts) =>
+                matches!(twice(|| unicode_words(alloc, parts)), Ok(found) if found.as_slice() == words.as_bytes()),
+            Err(_) => false,
+        },
+        |answer| is_refused(answer),
+    )
+}
+
+/// Whether the parts of a `u` extension are joined to it.
+fn unicode_is_joined(alloc: Global, extension: &Extension) -> Result<bool, Fail> {
+    if extension.singleton() != b'u' {
+        return Ok(false);
+    }
+    let parts = match split_u(alloc, extension) {
+        Ok(parts) => parts,
+        Err(_) => split_u(alloc, extension)?,
+    };
+    let whole = shown(alloc, extension)?;
+    Ok(answers(
+        alloc,
+        &parts,
+        || join_u(alloc, &parts),
+        |answer| is_shown(alloc, answer, whole.as_str()),
+        |answer| is_refused(answer),
+    )?)
+}
+
+#[test]
+fn unicode_extensions_are_split(rt: HostRuntime) -> Result<(), Fail> {
+    for (text, words) in &UNICODE {
+        let tag = tag_of(rt.alloc(), text)?;
+        let extension = extension_of(&tag)?;
+        assert!(rt; unicode_is_split(rt.alloc(), extension, words)?, "{text}");
+    }
+    Ok(())
+}
+
+#[test]
+fn unicode_parts_are_joined(rt: HostRuntime) -> Result<(), Fail> {
+    for (text, _) in &UNICODE {
+        let tag = tag_of(rt.alloc(), text)?;
+        assert!(rt;
+            unicode_is_joined(rt.alloc(), extension_of(&tag)?)?,
+            "{text}"
+        );
+    }
+    Ok(())
+}
+
+/// Whether the parts of a `u` extension are copied.
+fn unicode_is_copied(alloc: Global, extension: &Extension) -> Result<bool, Fail> {
+    if extension.singleton() != b'u' {
+        return Ok(false);
+    }
+    let parts = twice(|| split_u(alloc, extension))?;
+    Ok(is_copied(alloc, &parts, || parts.copy(alloc))?)
+}
+
+/// Texts with the words of the parts of their `t` extension.
+const TRANSFORMS: [(&str, &str); 3] = [
+    (
+        "en-t-zh-yue-m0-names-a0-xyz",
+        " language zh extlang yue separator m0 value names separator a0 value xyz",
+    ),
+    (
+        "en-t-yue-a0-xyz-m0-names",
+        " language yue separator a0 value xyz separator m0 value names",
+    ),
+    (
+        "en-t-de-latn-de-1901",
+        " language de script latn region de variant 1901",
+    ),
+];
+
+/// Whether splitting a `t` extension answers as it should.
+fn transform_answers<P: Fn(&Result<TParts, TransformFault>) -> bool>(
+    alloc: Global,
+    extension: &Extension,
+    is_answer: P,
+) -> Result<bool, AllocError>
+    requires { P.IsAlwaysCallable is_answer }
+{
+    if extension.singleton() != b't' {
+        return Ok(false);
+    }
+    answers(
+        alloc,
+        extension,
+        || split_t(alloc, extension),
+        is_answer,
+        |answer| matches!(answer, Err(TransformFault::OutOfMemory)),
+    )
+}
+
+/// Whether parts of a `t` extension have these words.
+fn has_transform_words(alloc: Global, parts: &TParts, words: &str) -> bool {
+    match twice(|| transform_words(alloc, parts)) {
+        Ok(found) => found.as_slice() == words.as_bytes(),
+        Err(_) => false,
+    }
+}
+
+#[test]
+fn transforms_are_split(rt: HostRuntime) -> Result<(), Fail> {
+    let alloc = rt.alloc();
+    for (text, words) in &TRANSFORMS {
+        let tag = tag_of(alloc, text)?;
+        let is_split = transform_answers(alloc, extension_of(&tag)?, |answer| match answer {
+            Ok(parts) => has_transform_words(alloc, parts, words),
+            Err(_) => false,
+        })?;
+        assert!(rt; is_split, "{text}");
+    }
+    for text in &["en-t-m0", "en-t-zh-yue-m0"] {
+        let tag = tag_of(alloc, text)?;
+        let is_refused = transform_answers(alloc, extension_of(&tag)?, |answer| {
+            matches!(answer, Err(TransformFault::BadTransform))
+        })?;
+        assert!(rt; is_refused, "{text}");
+    }
+    Ok(())
+}
+
+/// Whether the parts of a `t` extension are joined to it.
+fn transform_is_joined(alloc: Global, extension: &Extension) -> Result<bool, Fail> {
+    if extension.singleton() != b't' {
+        return Ok(false);
+    }
+    let parts = match split_t(alloc, extension) {
+        Ok(parts) => parts,
+        Err(_) => split_t(alloc, extension)?,
+    };
+    let whole = shown(alloc, extension)?;
+    Ok(answers(
+        alloc,
+        &parts,
+        || join_t(alloc, &parts),
+        |answer| is_shown(alloc, answer, whole.as_str()),
+        |answer| is_refused(answer),
+    )?)
+}
+
+#[test]
+fn transform_parts_are_joined(rt: HostRuntime) -> Result<(), Fail> {
+    for (text, _) in &TRANSFORMS {
+        let tag = tag_of(rt.alloc(), text)?;
+        assert!(rt;
+            transform_is_joined(rt.alloc(), extension_of(&tag)?)?,
+            "{text}"
+        );
+    }
+    Ok(())
+}
+
+/// Whether the parts of a `t` extension are copied.
+fn transform_is_copied(alloc: Global, extension: &Extension) -> Result<bool, Fail> {
+    if extension.singleton() != b't' {
+        return Ok(false);
+    }
+    let parts = twice(|| split_t(alloc, extension))?;
+    Ok(is_copied(alloc, &parts, || parts.copy(alloc))?)
+}
+
+#[test]
+fn parts_are_copied(rt: HostRuntime) -> Result<(), Fail> {
+    for (text, _) in &UNICODE {
+        let tag = tag_of(rt.alloc(), text)?;
+        assert!(rt;
+            unicode_is_copied(rt.alloc(), extension_of(&tag)?)?,
+            "{text}"
+        );
+    }
+    for (text, _) in &TRANSFORMS {
+        let tag = tag_of(rt.alloc(), text)?;
+        assert!(rt;
+            transform_is_copied(rt.alloc(), extension_of(&tag)?)?,
+            "{text}"
+        );
+    }
+    Ok(())
+}
+
+/// Marks where calls begin that take no memory: `bench/growth.py` refuses this growth, which is larger
+/// than any other, and each one behind it.
+fn mark(alloc: Global) {
+    let _ = Vec::<u8>::with_capacity(alloc, 1 << 36);
+}
+
+/// Puts another language and extlang in the place of a core's.
+fn set_languages(core: &mut Core) {
+    core.drop_extlangs();
+    if let (Ok(language), Ok(extlang)) = (Subtag::read(b"ms"), Subtag::read(b"min"))
+        && language.is_language()
+        && language.bytes().len() <= 3
+        && extlang.is_extlang()
+    {
+        core.set_language(language);
+        core.set_extlang(extlang);
+    }
+}
+
+/// Puts another script, another region and one variant in the place of a core's.
+fn set_others(core: &mut Core) {
+    if let (Ok(script), Ok(region)) = (Subtag::read(b"latn"), Subtag::read(b"419"))
+        && script.is_script()
+        && region.is_region()
+        && core.script().is_some()
+        && core.region().is_some()
+    {
+        core.set_script(script);
+        core.set_region(region);
+    }
+    if let Ok(variant) = Subtag::read(b"1996")
+        && variant.is_variant()
+        && core.variants().len() == 2
+    {
+        core.set_variant(1, variant);
+        core.remove_variant(0);
+    }
+}
+
+/// Whether the texts of subtags are these.
+fn are_texts(subtags: &[Subtag], texts: &[&[u8]]) -> bool {
+    let mut others = texts.iter();
+    for subtag in subtags {
+        match others.next() {
+            Some(text) if subtag.bytes() == *text => {}
+            _ => return false,
+        }
+    }
+    others.next().is_none()
+}
+
+/// Whether a core has the parts of `ms-min-Latn-419-1996`.
+fn is_malay(core: &Core) -> bool {
+    let (Some(script), Some(region)) = (core.script(), core.region()) else {
+        return false;
+    };
+    core.language().bytes() == b"ms".as_slice()
+        && are_texts(core.extlangs(), &[b"min"])
+        && script.bytes() == b"latn".as_slice()
+        && region.bytes() == b"419".as_slice()
+        && are_texts(core.variants(), &[b"1996"])
+}
+
+/// Whether a tag has extensions and private use as `zh-a-bb-x-c`, and is no grandfathered one.
+fn has_rest(tag: &Tag) -> bool {
+    let [extension] = tag.extensions() else {
+        return false;
+    };
+    tag.class() == Class::LangTag
+        && tag.grandfathered().is_none()
+        && extension.singleton() == b'a'
+        && are_texts(extension.subtags(), &[b"bb"])
+        && are_texts(tag.private(), &[b"c"])
+}
+
+#[test]
+fn parts_without_growth(rt: HostRuntime) -> Result<(), Fail> {
+    let alloc = rt.alloc();
+    let tag = tag_of(alloc, "zh-yue-hant-hk-1901-abcde-a-bb-x-c")?;
+    let Some(core) = tag.core() else {
+        return Err(Fail::from("no core"));
+    };
+    let mut core = core.copy(alloc)?;
+    mark(alloc);
+    set_languages(&mut core);
+    set_others(&mut core);
+    assert!(rt; has_rest(&tag) && is_malay(&core) && core.literal().is_none());
+    let tag = Tag::from_parts(core, Vec::new(alloc), Vec::new(alloc));
+    assert!(rt; matches!(tag.core(), Some(core) if is_malay(core)));
+    Ok(())
+}
