@@ -16,7 +16,7 @@ test:
 
 # Counts what has to be believed: the definitions that the headline reaches. It needs no toolchain.
 statement:
-	bench/statement.py --readme
+	bench/statement.py --docs
 
 # Measures the program that `make` built, over a registry of IANA's size; it takes some seconds.
 bench:

@@ -1,15 +1,15 @@
 #!/usr/bin/env python3
 """Counts the statement: every definition that the clauses of the headline reach, and so all that has to be believed.
 
-Usage: bench/statement.py [--most N] [--list] [--readme]
+Usage: bench/statement.py [--most N] [--list] [--docs]
 
 It starts at the clauses of README's table (HEADLINE below) and follows each name: definitions in crates/*/specs/*.antt, and
 in crates/*/src the enums, structs, views (`impl Model`) and traits that they speak of. What std defines is not counted. A
 line counts unless it is blank, a comment, a `use`, an attribute or a closing bracket alone.
 
 It prints each file with the lines reached, and their sum. With --list it prints each definition too. It ends with 1 if a
-definition is reached that is in an inner file (specs/inner/), if the sum is above N (700), or, with --readme, if README.md
-doesn't give the sum.
+definition is reached that is in an inner file (specs/inner/), or if the sum is above N (700); with --docs also if README.md
+doesn't give the sum, or docs/READING.md doesn't name a definition.
 """
 
 import argparse
@@ -343,7 +343,7 @@ def main():
     parser = argparse.ArgumentParser(description="Counts the statement: all that has to be believed.")
     parser.add_argument("--most", type=int, default=700, help="the most lines allowed")
     parser.add_argument("--list", action="store_true", help="print each definition")
-    parser.add_argument("--readme", action="store_true", help="compare the sum with README's")
+    parser.add_argument("--docs", action="store_true", help="compare with README.md and docs/READING.md")
     words = parser.parse_args()
 
     tree = Tree()
@@ -370,10 +370,21 @@ def main():
     if total > words.most:
         print(f"more than {words.most}")
         failed = True
-    if words.readme and f"{total:,} lines" not in (ROOT / "README.md").read_text(encoding="utf-8"):
-        print("README.md gives another number")
-        failed = True
+    if words.docs:
+        failed = not agrees_with_docs(total, tree.reached.values()) or failed
     return 1 if failed else 0
+
+
+def agrees_with_docs(total, items):
+    """Whether README gives the sum, and READING.md names each definition."""
+    agrees = f"{total:,} lines" in (ROOT / "README.md").read_text(encoding="utf-8")
+    if not agrees:
+        print("README.md gives another number")
+    named = set(re.findall(r"[\w]+", (ROOT / "docs/READING.md").read_text(encoding="utf-8")))
+    missing = sorted({item.name for item in items if item.path.suffix == ".antt" and item.name not in named})
+    if missing:
+        print(f"docs/READING.md doesn't name {', '.join(missing)}")
+    return agrees and not missing
 
 
 if __name__ == "__main__":
