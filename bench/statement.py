@@ -3,9 +3,10 @@
 
 Usage: bench/statement.py [--most N] [--list] [--docs]
 
-It starts at the clauses of README's table (HEADLINE below) and follows each name: definitions in crates/*/specs/*.antt, and
-in crates/*/src the enums, structs, views (`impl Model`) and traits that they speak of. What std defines is not counted. A
-line counts unless it is blank, a comment, a `use`, an attribute or a closing bracket alone.
+It starts at the clauses of README's table (HEADLINE below) and follows each name: definitions in crates/*/specs/**/*.antt, and
+in crates/*/src the enums, structs, views (`impl Model`) and traits that they speak of. Of a type with a view the view counts,
+and not the private fields; what a variant of an enum holds is followed only if a definition looks at it. What std defines is not
+counted. A line counts unless it is blank, a comment, a `use`, an attribute or a closing bracket alone.
 
 It prints each file with the lines reached, and their sum. With --list it prints each definition too. It ends with 1 if a
 definition is reached that is in an inner file (specs/inner/), or if the sum is above N (700); with --docs also if README.md
@@ -23,7 +24,7 @@ ROOT = Path(__file__).resolve().parent.parent
 HEADLINE = [
     ("Checked", ["invariant"]),
     ("new", ["value", "passes", "cause"], "Checked"),
-    ("canonical", ["ok", "invalid", "repeats"]),
+    ("canonical", ["ok", "repeats"]),
     ("canonical_text", ["written"]),
     ("equivalent", ["answer"]),
     ("confluence", ["canonical", "twice", "text_twice", "equal_texts"]),
@@ -37,6 +38,19 @@ def is_counted(line):
     if not text or text.startswith(("--", "//", "use ", "ghost use ", "#[", "#![")):
         return False
     return re.search(r"\w", text) is not None
+
+
+def is_enum(item):
+    return re.match(r"\s*(pub(\(\w+\))? )?enum ", item.lines[0]) is not None
+
+
+def is_looked_at(variant, text):
+    """Whether an equation takes what the variant holds and uses it."""
+    for match in re.finditer(r"\(\w+\." + variant + r" ([^()]+)\)(.*(?:\n .*)*)", text):
+        rest = match.group(2)
+        if any(re.search(r"(?<!\w)" + re.escape(name) + r"(?!\w)", rest) for name in match.group(1).split()):
+            return True
+    return False
 
 
 def tokens(text):
@@ -61,12 +75,9 @@ class Item:
         self.bound = set()
 
     def text(self):
-        """The lines without comments and imports; of an enum without the names of its variants."""
+        """The lines without comments and imports."""
         comment = "--" if self.path.suffix == ".antt" else "//"
-        lines = [line.split(comment)[0] for line in self.lines if not line.strip().startswith("ghost use ")]
-        if re.match(r"\s*(pub(\(\w+\))? )?enum ", self.lines[0]):
-            lines = [re.sub(r"^\s+\w+", " ", line) for line in lines]
-        return "\n".join(lines)
+        return "\n".join(line.split(comment)[0] for line in self.lines if not line.strip().startswith("ghost use "))
 
     def count(self):
         return sum(1 for line in self.lines if is_counted(line))
@@ -239,9 +250,24 @@ class Tree:
             self.queue.append((item, scope))
 
     def follow(self):
+        """Follows each name; at last what the variants of enums hold, which further definitions may look at."""
+        enums = []
         while self.queue:
-            item, scope = self.queue.pop()
-            self.follow_text(item.text(), scope, item)
+            while self.queue:
+                item, scope = self.queue.pop()
+                if is_enum(item):
+                    enums.append((item, scope))
+                else:
+                    self.follow_text(item.text(), scope, item)
+            for item, scope in enums:
+                self.follow_payloads(item, scope)
+
+    def follow_payloads(self, item, scope):
+        text = "\n".join(other.text() for other in self.reached.values() if other.path.suffix == ".antt")
+        for line in item.lines:
+            variant = re.match(r"\s+(\w+)\((.*)\),", line)
+            if variant and is_looked_at(variant.group(1), text):
+                self.follow_text(variant.group(2), scope, item)
 
     def follow_text(self, text, scope, item):
         for parts in tokens(text):
@@ -279,10 +305,26 @@ class Tree:
         self.reach_type(crate, name)
 
     def reach_type(self, crate, name):
-        for source in self.sources.get(crate, []):
-            for table in (source.types, source.models, source.traits):
-                if name in table:
-                    self.reach(table[name], source)
+        sources = self.sources.get(crate, [])
+        models = [source for source in sources if name in source.models]
+        for source in models:
+            self.reach(source.models[name], source)
+            self.reach_fields(source.models[name], source.types.get(name), source)
+        for source in sources:
+            if name in source.types and not models:
+                self.reach(source.types[name], source)
+            if name in source.traits:
+                self.reach(source.traits[name], source)
+
+    def reach_fields(self, model, fields, source):
+        """The types of the fields that a view shows, which have views of their own."""
+        view = re.search(r"ghost view = (.*)", model.text())
+        for line in fields.lines if fields and view else []:
+            field = re.match(r"\s+(?:pub )?(\w+): (.*),", line)
+            if field and f".{field.group(1)}" in view.group(1):
+                for name in re.findall(r"\b[A-Z]\w*", field.group(2)):
+                    if name not in (item.name for item in self.reached.values() if item.path.suffix == ".rt"):
+                        self.follow_type(name, source)
 
     def reach_path(self, module, name):
         """What an import names: a definition, a constructor, or a type that a source declares."""
@@ -304,7 +346,6 @@ class Tree:
                 for source in sources:
                     if call in source.models:
                         self.reach(source.models[call], source)
-                        self.reach(source.types.get(call), source)
                         return
             raise SystemExit(f"no type {call} with an invariant")
         for sources in self.sources.values():
