@@ -8,6 +8,7 @@ pub mod ListFaultLemmas
 pub mod ListLemmas
 pub mod NameReadLemmas
 pub mod OrderLemmas
+pub mod PrefixLemmas
 pub mod RangeLemmas
 pub mod ReadRegistryLemmas
 pub mod RecordLaws

@@ -9,6 +9,7 @@ pub mod Records
 pub mod RecordRefusals
 pub mod RecordSteps
 pub mod AddedRecords
+pub mod Prefixes
 pub mod ReadRegistry
 pub mod TagOrder
 pub mod Sorted

@@ -1,7 +1,8 @@
 //! Entries of a registry.
 ghost use Rattle.std.specs.Prelude.{◌≡◌};
-ghost use Rattle.lt_registry.specs.Entries.{IsEntry, IsPrefix};
+ghost use Rattle.lt_registry.specs.Entries.{IsEntry, IsPrefix, lists};
 
+use crate::prefixes::Prefixes;
 use lt_subtag::Subtag;
 use lt_tag::Tag;
 use std::marker::Model;
@@ -77,7 +78,7 @@ pub struct Entry {
     kind: Kind,
     name: EntryName,
     value: Option<EntryValue>,
-    prefixes: Vec<Prefix>,
+    prefixes: Prefixes,
 }
 
 impl Model for Entry {
@@ -86,9 +87,9 @@ impl Model for Entry {
 
     ghost Value = { EntryParts };
 
-    ghost view = { λ e. record { number = e.number; kind = e.kind; name = e.name; value = e.value; prefixes = e.prefixes.items } };
+    ghost view = { λ e. record { number = e.number; kind = e.kind; name = e.name; value = e.value; prefixes = e.prefixes } };
 
-    ghost invariant = { λ e. IsEntry (record { number = e.number; kind = e.kind; name = e.name; value = e.value; prefixes = e.prefixes.items }) };
+    ghost invariant = { λ e. IsEntry (record { number = e.number; kind = e.kind; name = e.name; value = e.value; prefixes = e.prefixes }) };
 }
 
 impl Entry {
@@ -98,10 +99,10 @@ impl Entry {
         kind: Kind,
         name: EntryName,
         value: Option<EntryValue>,
-        prefixes: Vec<Prefix>,
+        prefixes: Prefixes,
     ) -> Entry
-        requires { IsEntry (record { number = number; kind = kind; name = name; value = value; prefixes = prefixes.items }) }
-        ensures value { result ≡ record { number = number; kind = kind; name = name; value = value; prefixes = prefixes.items } }
+        requires { IsEntry (record { number = number; kind = kind; name = name; value = value; prefixes = prefixes }) }
+        ensures value { result ≡ record { number = number; kind = kind; name = name; value = value; prefixes = prefixes } }
         ensures entry { IsEntry result }
     {
         Entry {
@@ -150,6 +151,13 @@ impl Entry {
         ensures value { result.now ≡ self.now.prefixes }
         ensures entry { IsEntry self.now }
     {
-        self.prefixes.as_slice()
+        self.prefixes.all()
+    }
+
+    /// Whether a subtag alone is one of the record's Prefixes. It is looked for among them by a search.
+    pub fn has_prefix(&self, subtag: &Subtag) -> bool
+        ensures { result ≡ lists self.now.prefixes subtag.now }
+    {
+        self.prefixes.has(subtag)
     }
 }

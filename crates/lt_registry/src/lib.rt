@@ -12,6 +12,7 @@ pub mod laws;
 mod list_table;
 mod lookup;
 mod names;
+mod prefixes;
 mod ranges;
 mod records;
 mod registry;

@@ -15,6 +15,7 @@ use crate::entries::{Entry, EntryName, EntryValue, Kind, Prefix};
 use crate::faults::RecordFaultKind;
 use crate::fields::{body, ends_of, is_called, kind_of, read_prefix, repeats_field};
 use crate::names::{is_alphabetic, is_up_to};
+use crate::prefixes::Prefixes;
 use lt_jar::JarField;
 use lt_subtag::Subtag;
 use lt_tag::{OutOfMemory, Tag, TagFaultKind, read_tag};
@@ -236,14 +237,14 @@ fn read_prefixes(
     alloc: Global,
     kind: Kind,
     fields: &[JarField],
-) -> Result<Vec<Prefix>, RecordFaultKind>
-    ensures ok { IfOk result (λ prefixes. record_words.prefixes_in kind fields.now ≡ Some prefixes.items) }
+) -> Result<Prefixes, RecordFaultKind>
+    ensures ok { IfOk result (λ prefixes. record_words.prefixes_in kind fields.now ≡ Some prefixes) }
     ensures err { IfErr result (IsPrefixFault kind fields.now) }
 {
     if has_prefixes(kind) {
-        read_all_prefixes(alloc, fields)
+        Ok(Prefixes::of_list(alloc, read_all_prefixes(alloc, fields)?)?)
     } else {
-        Ok(Vec::new(alloc))
+        Ok(Prefixes::none(alloc))
     }
 }
 

@@ -4,13 +4,12 @@ ghost use Rattle.std.specs.Option.{option_copied};
 ghost use Rattle.lt_tag.specs.Spelling.{spell_core};
 ghost use Rattle.lt_tag.specs.Extensions.{transform};
 ghost use Rattle.lt_tag.specs.Values.{extensions_of};
-ghost use Rattle.lt_registry.specs.Entries as forms;
+
 ghost use Rattle.lt_registry.specs.Faults.{HasNoFault, HasFault, HasExtensionFault, HasTransform, IsRefusal, RepeatsAtMost};
-ghost use Rattle.lt_registry.specs.Same as same;
 ghost use Rattle.lt_registry.specs.Checking as checking;
 ghost use Rattle.lt_registry.specs.Checking.{Counted, TellsOrLacks};
 
-use crate::entries::{Entry, Kind, Prefix};
+use crate::entries::{Entry, Kind};
 use crate::faults::{ValidFault, ValidFaultKind, ValidRefusal};
 use crate::lookup::Lookup;
 use crate::same::same_list;
@@ -150,25 +149,9 @@ fn check_prefix(extlang: Option<&Entry>, start: u32, language: &Subtag) -> Resul
             place: start + 2,
         }),
         Some(entry) => {
-            let listed = lists(entry.prefixes(), language);
+            let listed = entry.has_prefix(language);
             check(listed, ValidFaultKind::ExtlangPrefix, start + 2)
         }
-    }
-}
-
-/// Whether a language is one of some Prefixes.
-fn lists(prefixes: &[Prefix], language: &Subtag) -> bool
-    ensures { result ≡ forms.lists prefixes.now language.now }
-{
-    prefixes.iter().any(|prefix| is_language(prefix, language))
-}
-
-fn is_language(prefix: &Prefix, language: &Subtag) -> bool
-    ensures { result ≡ same.same_list prefix.now (language.now ∷ []) }
-{
-    match prefix.subtags() {
-        [only] => only == language,
-        _ => false,
     }
 }
 

@@ -29,8 +29,8 @@ pub of_parts-requires : goal.of_parts-requires
 of_parts-requires c = record {
   name = c.in_ok-name.ensures.fits;
   value = c.in_ok-value.ensures.fits;
-  prefixes = prefixes_fit c.in_ok-kind.kind c.args.fields.now c.in_ok-prefixes.prefixes.items c.in_ok-prefixes.ensures.ok;
-  prefixed = prefixes_where c.in_ok-kind.kind c.args.fields.now c.in_ok-prefixes.prefixes.items c.in_ok-prefixes.ensures.ok;
+  prefixes = prefixes_fit c.in_ok-kind.kind c.args.fields.now c.in_ok-prefixes.prefixes c.in_ok-prefixes.ensures.ok;
+  prefixed = prefixes_where c.in_ok-kind.kind c.args.fields.now c.in_ok-prefixes.prefixes c.in_ok-prefixes.ensures.ok;
 }
 
 pub returns-clause-ok : goal.returns-clause-ok

@@ -1,0 +1,82 @@
+//! The Prefixes of a record, and a search among them (RFC 5646, 3.1.8).
+ghost use Rattle.std.specs.Prelude.{◌≡◌, List, [], IfOk};
+ghost use Rattle.std.specs.List.{AllByRecursion, filter_map};
+ghost use Rattle.lt_registry.specs.Entries.{IsPrefix, lists};
+ghost use Rattle.lt_registry.specs.Prefixes.{single_of};
+
+use crate::entries::Prefix;
+use crate::subtag_numbers::number_of;
+use lt_subtag::Subtag;
+use lt_tag::OutOfMemory;
+use std::alloc::Global;
+use std::marker::Model;
+
+/// The Prefixes of a record in the order of the file; and the numbers of those that are one subtag, which rise.
+#[derive(Debug, Drop)]
+pub(crate) struct Prefixes {
+    all: Vec<Prefix>,
+    singles: Vec<u64>,
+}
+
+impl Model for Prefixes {
+    ghost use Rattle.std.specs.Prelude.{ℕ, List};
+    ghost use Rattle.lt_registry.specs.Prefixes.{AreSingles};
+
+    ghost Value = { List (List (List ℕ)) };
+
+    ghost view = { λ p. p.all.items };
+
+    ghost invariant = { λ p. AreSingles p.all.items p.singles.items };
+}
+
+impl Prefixes {
+    /// No Prefixes.
+    pub(crate) fn none(alloc: Global) -> Prefixes
+        ensures { result ≡ [] }
+    {
+        Prefixes {
+            all: Vec::new(alloc),
+            singles: Vec::new(alloc),
+        }
+    }
+
+    /// These Prefixes. Refused for want of memory alone.
+    pub(crate) fn of_list(alloc: Global, prefixes: Vec<Prefix>) -> Result<Prefixes, OutOfMemory>
+        ensures { IfOk result (λ made. made ≡ prefixes.items) }
+    {
+        let mut singles = singles(alloc, &prefixes)?;
+        singles.sort_unstable();
+        Ok(Prefixes {
+            all: prefixes,
+            singles,
+        })
+    }
+
+    /// The Prefixes in order.
+    pub(crate) fn all(&self) -> &[Prefix]
+        ensures { result.now ≡ self.now }
+    {
+        self.all.as_slice()
+    }
+
+    /// Whether a subtag alone is one of them.
+    pub(crate) fn has(&self, subtag: &Subtag) -> bool
+        requires { AllByRecursion IsPrefix self.now }
+        ensures { result ≡ lists self.now subtag.now }
+    {
+        self.singles.binary_search(&number_of(subtag)).is_ok()
+    }
+}
+
+/// The numbers of the Prefixes that are one subtag.
+fn singles(alloc: Global, prefixes: &[Prefix]) -> Result<Vec<u64>, OutOfMemory>
+    ensures { IfOk result (λ numbers. numbers.items ≡ filter_map single_of prefixes.now) }
+{
+    let mut numbers = Vec::new(alloc);
+    for prefix in prefixes {
+        if let [only] = prefix.subtags() {
+            numbers.push(number_of(only))?;
+        }
+    }
+    Ok(numbers)
+}
