@@ -2,8 +2,7 @@
 ghost use Rattle.std.specs.Prelude.{◌≡◌, ◌<◌, ℕ, true, Some, None, [], ◌∷◌, List, All, IfSome, IfOk, OnErr, length, MatchOption};
 ghost use Rattle.std.specs.Option.{option_copied};
 ghost use Rattle.lt_subtag.specs.Shapes.{is_language};
-ghost use Rattle.lt_registry.specs.Same.{same_list};
-ghost use Rattle.lt_registry.specs.Entries.{has_form, lists};
+ghost use Rattle.lt_registry.specs.Entries.{has_form};
 ghost use Rattle.lt_rewrite.specs.Rewriting.{Star};
 ghost use Rattle.lt_rewrite.specs.CoreSteps.{values_of, CoreStep, IsCoreNormalForm, Ends, EndsIn};
 ghost use Rattle.lt_rewrite.specs.Conditions as conditions;
@@ -13,7 +12,7 @@ ghost use Rattle.lt_rewrite.specs.CoreSettling.{IsFirstTurn, HasNoTurn, HasFinal
 
 use crate::chain_ends::{Cycle, end_of_chain, is_short, one_value, replacement};
 use crate::shortcuts::Shortcuts;
-use lt_registry::{Kind, Lookup, Prefix};
+use lt_registry::{Kind, Lookup};
 use lt_subtag::Subtag;
 use lt_tag::Core;
 
@@ -121,25 +120,6 @@ fn settle_language<L: Lookup>(table: &L, shortcuts: Option<&Shortcuts>, core: &m
     core.set_language(end);
 }
 
-/// Whether a Prefix is the language alone.
-fn is_language_alone(prefix: &Prefix, language: &Subtag) -> bool
-    ensures { result ≡ same_list prefix.now (language.now ∷ []) }
-{
-    match prefix.subtags() {
-        [only] => only.bytes() == language.bytes(),
-        _ => false,
-    }
-}
-
-/// Whether the language alone is among Prefixes.
-fn lists(prefixes: &[Prefix], language: &Subtag) -> bool
-    ensures { result ≡ lists prefixes.now language.now }
-{
-    prefixes
-        .iter()
-        .any(|prefix| is_language_alone(prefix, language))
-}
-
 /// The language that a variant turns into beside a language.
 fn turn<'a, L: Lookup>(table: &'a L, language: &Subtag, variant: &Subtag) -> Option<&'a Subtag>
     ensures value { option_copied result ≡ (values_of (L.listed table.now)).turn language.now variant.now }
@@ -147,7 +127,7 @@ fn turn<'a, L: Lookup>(table: &'a L, language: &Subtag, variant: &Subtag) -> Opt
 {
     match table.entry(Kind::Variant, variant) {
         Some(entry) => match one_value(entry) {
-            Some(value) if is_short(value) && lists(entry.prefixes(), language) => Some(value),
+            Some(value) if is_short(value) && entry.has_prefix(language) => Some(value),
             _ => None,
         },
         None => None,
