@@ -1,227 +1,136 @@
 #!/usr/bin/env python3
-"""Writes hostile registries of 99,999 records each: long chains, cycles, equal names, ranges, whole records, Prefixes.
+"""Measures the program on registries and lines that are made against it.
 
-Usage: hostile.py FOLDER [RECORDS]
+Usage: hostile.py PROGRAM [--records N] [--only WORD] [--seconds S]
 
-Prints the name of each file that it writes. The same files come out each time.
+For each registry of `hostile_registries.py`, with N, 2N and 4N records (25,000, 50,000 and 100,000 less one): processor
+time and memory of `check`, and of `upgrade` to itself and to the registry after it. Then the time of a line of `canon`
+for the longest tags, over some of them. The last line tells how many figures are past a limit: 2 seconds or 300 MB for a
+registry, 1 millisecond for a line, or more than 2.6 times the time for twice the records. Ends with 1 if any is.
 """
 
+import argparse
 import os
-import random
+import resource
+import subprocess
 import sys
+import tempfile
+import time
 
-LETTERS = "abcdefghijklmnopqrstuvwxyz"
+from hostile_registries import REGISTRIES, name, text_of
 
-
-def name(number, length):
-    """A name of so many letters for a number below 26 to that power, in the order of the numbers."""
-    letters = []
-    for _ in range(length):
-        number, rest = divmod(number, 26)
-        letters.append(LETTERS[rest])
-    return "".join(reversed(letters))
-
-
-def record(kind, subtag, value="", prefixes=()):
-    label = "Tag" if kind in ("grandfathered", "redundant") else "Subtag"
-    lines = ["Type: " + kind, label + ": " + subtag, "Added: 2009-07-29"]
-    if value:
-        lines += ["Deprecated: 2009-07-29", "Preferred-Value: " + value]
-    return "\n".join(lines + ["Prefix: " + prefix for prefix in prefixes])
+MOST_SECONDS = 2.0
+MOST_MEGABYTES = 300
+MOST_RATIO = 2.6
+MOST_MILLISECONDS = 1.0
+# A shorter time says little of how it grows.
+LEAST_SECONDS = 0.2
 
 
-def chain(order):
-    """Languages, each the value of the one before it; the last has none."""
-    names = [name(number, 5) for number in range(len(order))]
-    records = [record("language", one, other) for one, other in zip(names, names[1:])]
-    records.append(record("language", names[-1]))
-    return [records[place] for place in order]
+def run(words, given, seconds):
+    """The status, the processor seconds, the megabytes and the last line of a run; no status where it took too long."""
+    with tempfile.TemporaryFile() as output, tempfile.TemporaryFile() as source:
+        source.write(given)
+        source.seek(0)
+        process = subprocess.Popen(words, stdin=source, stdout=output, stderr=subprocess.STDOUT)
+        ends = time.monotonic() + seconds
+        while True:
+            done, status, used = os.wait4(process.pid, os.WNOHANG)
+            if done:
+                break
+            if time.monotonic() > ends:
+                process.kill()
+                os.wait4(process.pid, 0)
+                process.returncode = 0
+                return None, seconds, 0, "no answer"
+            time.sleep(0.005)
+        process.returncode = os.waitstatus_to_exitcode(status)
+        output.seek(0)
+        lines = output.read().decode("utf-8", "replace").splitlines() or [""]
+        return process.returncode, used.ru_utime + used.ru_stime, used.ru_maxrss / 1024, lines[-1][:40]
 
 
-def mixed(count):
-    order = list(range(count))
-    random.Random(20260103).shuffle(order)
-    return order
+def registries(options, folder, found):
+    """The table of `check` and `upgrade`."""
+    sizes = [options.records, 2 * options.records, 4 * options.records - 1]
+    titles = [title for title in REGISTRIES if options.only in title]
+    print(f"{'registry':28}{'command':10}{'MB':>6}" + "".join(f"{f'{n} s':>14}" for n in sizes) + f"{'ratio':>7}{'MB used':>9}  answer")
+    for place, title in enumerate(titles):
+        other = titles[(place + 1) % len(titles)]
+        for command in ("check", "itself", "next"):
+            times, memory, answer = [], 0, ""
+            for size in sizes:
+                names = []
+                for wanted in (title, other) if command == "next" else (title,):
+                    path = os.path.join(folder, f"{wanted}-{size}")
+                    if not os.path.exists(path):
+                        with open(path, "w", encoding="ascii") as file:
+                            file.write(text_of(wanted, size))
+                    names.append(path)
+                words = ["check", names[0]] if command == "check" else ["upgrade", names[0], names[-1]]
+                status, seconds, used, answer = run([options.program] + words, b"", options.seconds)
+                times.append(seconds)
+                memory = max(memory, used)
+                if status is None or status > 2:
+                    found.append(f"{title} {command}: {answer or status}")
+                    break
+            ratio = max((b / a for a, b in zip(times, times[1:]) if a >= LEAST_SECONDS), default=0)
+            size = os.path.getsize(os.path.join(folder, f"{title}-{sizes[len(times) - 1]}")) / 1e6
+            print(f"{title:28}{command:10}{size:6.1f}" + "".join(f"{t:14.2f}" for t in times + [0] * (3 - len(times))) + f"{ratio:7.1f}{memory:9.0f}  {answer}", flush=True)
+            for passed, what in (
+                (times[-1] > MOST_SECONDS, f"{times[-1]:.1f} s"),
+                (memory > MOST_MEGABYTES, f"{memory:.0f} MB"),
+                (ratio > MOST_RATIO, f"{ratio:.1f} times"),
+            ):
+                if passed:
+                    found.append(f"{title} {command}: {what}")
 
 
-def cycle(order):
-    """A chain that comes back to its last but one."""
-    count = len(order)
-    records = chain(range(count - 1)) + [record("language", name(count - 1, 5), name(count - 2, 5))]
-    records[count - 2] = record("language", name(count - 2, 5), name(count - 1, 5))
-    return [records[place] for place in order]
-
-
-def then_cycle(order):
-    """A chain that ends, and behind it two languages that are each other's value."""
-    return chain(order) + [record("language", "yyyya", "yyyyb"), record("language", "yyyyb", "yyyya")]
-
-
-def languages(count):
-    return [record("language", name(number, 5)) for number in range(count)]
-
-
-def duplicates(count):
-    return [record("language", "aaaaa")] * count
-
-
-def ranges(count):
-    """Ranges of which none holds another's ends."""
-    return [record("language", name(2 * n, 5) + ".." + name(2 * n + 1, 5)) for n in range(count)]
-
-
-def nested_ranges(count):
-    """Ranges each of which holds the next."""
-    return [record("language", name(n, 5) + ".." + name(26 ** 5 - 1 - n, 5)) for n in range(count)]
-
-
-def overlapping_ranges(count):
-    """Ranges each of which begins within the one before it and ends behind it."""
-    return [record("language", name(2 * n, 5) + ".." + name(2 * n + 3, 5)) for n in range(count)]
-
-
-def duplicate_ranges(count):
-    return [record("language", "aaaaa..zzzzz")] * count
-
-
-def ranges_and_values(count):
-    """Ranges, and as many languages with values of which none but the last range holds any."""
-    half = count // 2
-    records = [record("language", name(2 * n, 5) + ".." + name(2 * n + 1, 5)) for n in range(half)]
-    records.append(record("language", "zzzya..zzzyb"))
-    return records + [record("language", name(n, 5), "zzzya") for n in range(10 ** 6, 10 ** 6 + count - half - 1)]
-
-
-def redundant(count, value=""):
-    """Redundant tags of languages with a region, beside their languages."""
-    half = count // 2
-    records = [record("language", name(n, 5)) for n in range(half)] + [record("region", "AA")]
-    return records + [record("redundant", name(n, 5) + "-AA", value) for n in range(count - half - 1)]
-
-
-def duplicate_tags(count):
-    head = [record("language", "aaaaa"), record("region", "AA")]
-    return head + [record("redundant", "aaaaa-AA")] * (count - 2)
-
-
-def grandfathered(count):
-    return [record("grandfathered", "i-klingon")] * count
-
-
-def one_language(count):
-    """Redundant tags of one language with a variant each, beside the variants."""
-    half = (count - 1) // 2
-    variants = [record("variant", name(n, 8)) for n in range(half)]
-    tags = [record("redundant", "de-" + name(n, 8)) for n in range(count - 1 - half)]
-    return [record("language", "de")] + variants + tags[:half] + tags[half:]
-
-
-def wholes_of_a_chain(count):
-    """A chain of languages, and redundant tags whose values all begin it."""
-    third = count // 3
-    heads = [record("language", name(n, 6)) for n in range(third)] + [record("region", "AA")]
-    tags = [record("redundant", name(n, 6) + "-AA", name(0, 5)) for n in range(third)]
-    return chain(range(count - 2 * third - 1)) + heads + tags
-
-
-def turns_of_a_chain(count):
-    """A chain of languages, and redundant tags whose values all have a variant that turns into its first."""
-    third = count // 3
-    heads = [record("language", name(n, 6)) for n in range(third)] + [record("region", "AA")]
-    heads += [record("language", "de"), record("language", "aa", name(0, 5)), record("variant", "rozaj", "aa", ["de"])]
-    tags = [record("redundant", name(n, 6) + "-AA", "de-rozaj") for n in range(third)]
-    return chain(range(count - 2 * third - 4)) + heads + tags
-
-
-def whole_chain(count):
-    """Redundant tags, each the value of the one before it."""
-    half = count // 2
-    records = [record("language", name(n, 5)) for n in range(half)] + [record("region", "AA")]
-    left = count - half - 1
-    names = [name(n, 5) + "-AA" for n in range(left)]
-    records += [record("redundant", one, other) for one, other in zip(names, names[1:])]
-    return records + [record("redundant", names[-1])]
-
-
-def extlangs(count):
-    """The 17,576 extlangs that there can be, each with its language, and languages beside them."""
-    most = min(26 ** 3, count // 2)
-    names = [name(n, 3) for n in range(most)]
-    records = [record("language", one) for one in names]
-    records += [record("extlang", one, one, ["aaa"]) for one in names]
-    return records + [record("language", name(n, 5)) for n in range(count - len(records))]
-
-
-def extlangs_of_a_chain(count):
-    """Extlangs whose replacements all begin one chain."""
-    most = min(26 ** 3, count // 4)
-    length = count - 2 * most - 1
-    names = [name(n, 3) for n in range(most)]
-    records = [record("language", one, name(0, 5)) for one in names]
-    records += [record("extlang", one, one, ["zz"]) for one in names]
-    return records + [record("language", "zz")] + chain(range(length))
-
-
-def variants(count):
-    """Variants with a Prefix each, a language with a value for each of the rest."""
-    return [record("language", "de")] + [record("variant", name(n, 8), "", ["de"]) for n in range(count - 1)]
-
-
-def variants_to_languages(count):
-    """Variants with a language as value and a Prefix each."""
-    head = [record("language", "de"), record("language", "fr")]
-    return head + [record("variant", name(n, 8), "fr", ["de"]) for n in range(count - 2)]
-
-
-def prefixes(count):
-    """A variant with very many Prefixes."""
-    many = ["de"] * (count // 2)
-    return [record("language", "de"), record("language", "fr"), record("variant", "rozaj", "fr", many)]
-
-
-REGISTRIES = {
-    "chain-rising": lambda count: chain(range(count)),
-    "chain-falling": lambda count: chain(range(count - 1, -1, -1)),
-    "chain-mixed": lambda count: chain(mixed(count)),
-    "cycle-rising": lambda count: cycle(range(count)),
-    "cycle-falling": lambda count: cycle(range(count - 1, -1, -1)),
-    "cycle-mixed": lambda count: cycle(mixed(count)),
-    "chain-rising-then-cycle": lambda count: then_cycle(range(count - 2)),
-    "chain-falling-then-cycle": lambda count: then_cycle(range(count - 3, -1, -1)),
-    "chain-mixed-then-cycle": lambda count: then_cycle(mixed(count - 2)),
-    "languages": languages,
-    "duplicates": duplicates,
-    "ranges": ranges,
-    "nested-ranges": nested_ranges,
-    "overlapping-ranges": overlapping_ranges,
-    "duplicate-ranges": duplicate_ranges,
-    "ranges-and-values": ranges_and_values,
-    "redundant": redundant,
-    "redundant-values": lambda count: redundant(count, "aaaaa"),
-    "duplicate-tags": duplicate_tags,
-    "one-language": one_language,
-    "whole-chain": whole_chain,
-    "wholes-of-a-chain": wholes_of_a_chain,
-    "turns-of-a-chain": turns_of_a_chain,
-    "grandfathered": grandfathered,
-    "extlangs": extlangs,
-    "extlangs-of-a-chain": extlangs_of_a_chain,
-    "variants": variants,
-    "variants-to-languages": variants_to_languages,
-    "prefixes": prefixes,
-}
+def lines(options, folder, found):
+    """The table of lines."""
+    tail = "".join("-" + name(n, 8) for n in range(112))
+    long = {
+        "chain-rising": "aaaaa",
+        "variant-chain": "de" + "".join("-" + name(n, 8) for n in range(112)),
+        "replaced-in-turn": name(0, 3) + tail,
+        "languages": "aaaaa" + "-u" + "-aa-bbb" * 140,
+        "ranges": "aaaaa-a-" + "-".join(["aa"] * 330),
+        "redundant": "aaaaa-t-aaaaa" + "".join(f"-{chr(97 + n // 10)}{n % 10}-xxx" for n in range(140)),
+    }
+    print(f"\n{'registry':28}{'bytes of the line':>18}{'ms a line':>12}  answer")
+    for title, line in long.items():
+        if options.only not in title:
+            continue
+        path = os.path.join(folder, f"{title}-line")
+        with open(path, "w", encoding="ascii") as file:
+            file.write(text_of(title, 4 * options.records - 1))
+        count = 200
+        words = [options.program, "canon", path]
+        first = run(words, b"", options.seconds)
+        answer = run(words, (line + "\n").encode() * count, options.seconds)
+        milliseconds = 1000 * (answer[1] - first[1]) / count
+        print(f"{title:28}{len(line):18}{milliseconds:12.3f}  {answer[3]}", flush=True)
+        if answer[0] is None or milliseconds > MOST_MILLISECONDS:
+            found.append(f"a line over {title}: {milliseconds:.2f} ms")
 
 
 def main():
-    folder = sys.argv[1]
-    count = int(sys.argv[2]) if len(sys.argv) > 2 else 99999
-    for title, make in REGISTRIES.items():
-        with open(os.path.join(folder, title + ".txt"), "w", encoding="ascii") as file:
-            file.write("File-Date: 2026-01-01\n")
-            for one in make(count):
-                file.write("%%\n" + one + "\n")
-        print(title + ".txt")
+    parser = argparse.ArgumentParser()
+    parser.add_argument("program")
+    parser.add_argument("--records", type=int, default=25000)
+    parser.add_argument("--only", default="")
+    parser.add_argument("--seconds", type=float, default=30)
+    options = parser.parse_args()
+    resource.setrlimit(resource.RLIMIT_CORE, (0, 0))
+    found = []
+    with tempfile.TemporaryDirectory() as folder:
+        registries(options, folder, found)
+        lines(options, folder, found)
+    for one in found:
+        print("past a limit: " + one)
+    print(f"{len(found)} past a limit")
+    return 1 if found else 0
 
 
 if __name__ == "__main__":
-    main()
+    sys.exit(main())
