@@ -15,7 +15,7 @@ use Rattle.lt_registry.specs.declared.entries.EntryName.TheVariants as names
 use Rattle.lt_registry.specs.declared.entries.EntryValue.{EntryValue}
 use Rattle.lt_registry.specs.declared.entries.EntryValue.TheVariants as values
 
--- the form of the subtags of a kind; whole tags have none
+-- the form of the subtags of a kind; whole tags have none (RFC 5646, 3.1.4)
 abbrev pub has_form : Kind → List ℕ → Bool
 has_form kinds.Language s = is_language s
 has_form kinds.Extlang s = is_extlang s
@@ -25,23 +25,24 @@ has_form kinds.Variant s = is_variant s
 has_form kinds.Grandfathered s = false
 has_form kinds.Redundant s = false
 
--- the types of whole records
+-- the types of whole records (RFC 5646, 2.2.8)
 abbrev pub is_whole_kind : Kind → Bool
 is_whole_kind kinds.Grandfathered = true
 is_whole_kind kinds.Redundant = true
 is_whole_kind _ = false
 
--- the letter order of texts of one length
+-- the letter order of texts of one length (RFC 5646, 3.1.4)
 abbrev pub letters_le : List ℕ → List ℕ → Bool
 letters_le [] _ = true
 letters_le (x ∷ xs) [] = false
 letters_le (x ∷ xs) (y ∷ ys) = if x == y then letters_le xs ys else nat_lt x y
 
--- a language of 2 or 3 letters is no longer than this, and no variant is as short
+-- a language of 2 or 3 letters is no longer than this, and no variant is as short (RFC 5646, 2.2.1)
 abbrev pub is_short : List ℕ → Bool
 is_short s = nat_le (length s) 3
 
--- The first and the last have the form of the kind, are made of letters, are equally long, and do not fall.
+-- The first and the last have the form of the kind, are made of letters, are equally long, and do not fall (RFC 5646,
+-- 3.1.4).
 pub record IsRange (kind : Kind) (first last : List ℕ) : Type 0 where
   pub first_form : has_form kind first ≡ true
   pub last_form : has_form kind last ≡ true
@@ -50,14 +51,14 @@ pub record IsRange (kind : Kind) (first last : List ℕ) : Type 0 where
   pub one_length : length first ≡ length last
   pub in_order : letters_le first last ≡ true
 
--- a name has the form of its kind
+-- a name has the form of its kind (RFC 5646, 3.1.4)
 abbrev pub FitsName : Kind → EntryName → Type 0
 FitsName kind (names.Single s) = has_form kind s ≡ true
 FitsName kind (names.Range a b) = IsRange kind a b
 FitsName kind (names.Whole t) = (is_whole_kind kind ≡ true) × IsTagValue t
 
--- The value of a language or extlang is a language, that of a script or region is one, that of a
--- variant a variant or a language of 2 or 3 letters.
+-- The value of a language or extlang is a language, that of a script or region is one, that of a variant a variant or
+-- a language of 2 or 3 letters (RFC 5646, 3.1.7).
 abbrev pub has_value_form : Kind → List ℕ → Bool
 has_value_form kinds.Language s = is_language s
 has_value_form kinds.Extlang s = is_language s
@@ -67,66 +68,75 @@ has_value_form kinds.Variant s = is_variant s || (is_language s && is_short s)
 has_value_form kinds.Grandfathered s = false
 has_value_form kinds.Redundant s = false
 
+-- a preferred value has the form that its record's type asks for (RFC 5646, 3.1.7)
 abbrev pub FitsValue : Kind → EntryValue → Type 0
 FitsValue kind (values.One s) = has_value_form kind s ≡ true
 FitsValue kind (values.Whole t) = (is_whole_kind kind ≡ true) × IsTagValue t
 
--- a list of one subtag or more
+-- a list of one subtag or more (RFC 5646, 3.1.8)
 pub record IsPrefix (prefix : List (List ℕ)) : Type 0 where
   pub subtags : list_all is_subtag prefix ≡ true
   pub some : 0 < length prefix
 
--- the forms of an entry; only extlangs and variants have Prefixes
+-- the forms of an entry; only extlangs and variants have Prefixes (RFC 5646, 3.1.2)
 pub record IsEntry (e : EntryParts) : Type 0 where
   pub name : FitsName e.kind e.name
   pub value : IfSome e.value (FitsValue e.kind)
   pub prefixes : AllByRecursion IsPrefix e.prefixes
   pub prefixed : (e.prefixes ≡ []) ⊎ ((e.kind ≡ kinds.Extlang) ⊎ (e.kind ≡ kinds.Variant))
 
--- each number is above those before it
+-- each number is above those before it (this project's own)
 abbrev pub NumbersRise : List EntryParts → Type 0
 NumbersRise [] = Unit {0}
 NumbersRise (e ∷ es) = AllByRecursion (λ (f : EntryParts). e.number < f.number) es × NumbersRise es
 
--- a registry: the numbers rise, and each entry has its forms
+-- a registry: the numbers rise, and each entry has its forms (RFC 5646, 3.1)
 pub record IsRegistry (es : List EntryParts) : Type 0 where
   pub rising : NumbersRise es
   pub forms : All IsEntry es
 
+-- the name is this one subtag (RFC 5646, 3.1.4)
 abbrev pub is_named : List ℕ → EntryName → Bool
 is_named s (names.Single n) = bytes_eq n s
 is_named s _ = false
 
--- a range holds the subtags of its length, letters alone, from its first to its last in letter order
+-- a range holds the subtags of its length, letters alone, from its first to its last in letter order (RFC 5646,
+-- 3.1.4)
 abbrev pub holds : List ℕ → EntryName → Bool
 holds s (names.Range a b) = (length s == length a) && (is_alphabetic s && (letters_le a s && letters_le s b))
 holds s _ = false
 
+-- what was found, or else another (this project's own)
 abbrev pub or_else : Option EntryParts → Option EntryParts → Option EntryParts
 or_else found other = option_or found other
 
 -- the first record that names this subtag and no other; or, without such a record, the first whose range holds it
+-- (RFC 5646, 3.1.4)
 abbrev pub entry : List EntryParts → Kind → List ℕ → Option EntryParts
 entry R k s =
     or_else (find (λ (e : EntryParts). same_kind e.kind k && is_named s e.name) R)
     (find (λ (e : EntryParts). same_kind e.kind k && holds s e.name) R)
 
+-- the subtag has an entry of this kind (RFC 5646, 2.2.9)
 abbrev pub is_registered : List EntryParts → Kind → List ℕ → Bool
 is_registered R k s = is_some (entry R k s)
 
--- the one subtag that a record gives as its value
+-- the one subtag that a record gives as its value (RFC 5646, 3.1.7)
 abbrev pub one_of : Option EntryValue → Option (List ℕ)
 one_of (Some (values.One v)) = Some v
 one_of (Some (values.Whole t)) = None
 one_of None = None
 
+-- the preferred value of a subtag, if it is one subtag (RFC 5646, 3.1.7)
 abbrev pub value : List EntryParts → Kind → List ℕ → Option (List ℕ)
 value R k s = option_and_then (λ (e : EntryParts). one_of e.value) (entry R k s)
 
+-- the Prefixes of an entry, if there is one (RFC 5646, 3.1.8)
 abbrev pub prefixes_of : Option EntryParts → List (List (List ℕ))
 prefixes_of (Some e) = e.prefixes
 prefixes_of None = []
 
+-- the Prefixes of a subtag (RFC 5646, 3.1.8)
 abbrev pub prefixes : List EntryParts → Kind → List ℕ → List (List (List ℕ))
 prefixes R k s = prefixes_of (entry R k s)
 
@@ -135,39 +145,42 @@ abbrev pub number_of : Option EntryParts → ℕ
 number_of (Some e) = e.number
 number_of None = 0
 
--- the language is one of the Prefixes
+-- the language is one of the Prefixes (RFC 5646, 3.1.8)
 abbrev pub lists : List (List (List ℕ)) → List ℕ → Bool
 lists ps l = list_any (λ (p : List (List ℕ)). same_list p (l ∷ [])) ps
 
--- the value of a variant where it is a variant
+-- the value of a variant where it is a variant (RFC 5646, 3.1.7)
 abbrev pub variant_value : List EntryParts → List ℕ → Option (List ℕ)
 variant_value R v = option_and_then (λ w. if is_short w then None else Some w) (value R kinds.Variant v)
 
--- the value of a variant where it is a language
+-- the value of a variant where it is a language (RFC 5646, 3.1.7)
 abbrev pub language_value : List EntryParts → List ℕ → Option (List ℕ)
 language_value R v = option_and_then (λ w. if is_short w then Some w else None) (value R kinds.Variant v)
 
+-- the preferred value if there is one, else the subtag itself (RFC 5646, 3.1.7)
 abbrev pub value_or : Option (List ℕ) → List ℕ → List ℕ
 value_or (Some v) s = v
 value_or None s = s
 
--- the value of an extlang, or itself
+-- the value of an extlang, or itself (RFC 5646, 4.5, rule 3)
 abbrev pub replacement : List EntryParts → List ℕ → List ℕ
 replacement R x = value_or (value R kinds.Extlang x) x
 
--- the first whole record whose tag this is
+-- the name is this whole tag (RFC 5646, 2.2.8)
 abbrev pub is_whole : TagForm → EntryName → Bool
 is_whole t (names.Whole u) = same_tag u t
 is_whole t _ = false
 
+-- the first whole record whose tag this is (RFC 5646, 2.2.8)
 abbrev pub whole : List EntryParts → TagForm → Option EntryParts
 whole R t = find (λ (e : EntryParts). is_whole t e.name) R
 
--- the tag that a record gives as its value
+-- the tag that a record gives as its value (RFC 5646, 3.1.7)
 abbrev pub tag_of : Option EntryValue → Option TagForm
 tag_of (Some (values.Whole t)) = Some t
 tag_of (Some (values.One v)) = None
 tag_of None = None
 
+-- the preferred value of a whole tag, if it has one (RFC 5646, 3.1.7)
 abbrev pub whole_value : List EntryParts → TagForm → Option TagForm
 whole_value R t = option_and_then (λ (e : EntryParts). tag_of e.value) (whole R t)

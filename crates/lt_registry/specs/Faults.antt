@@ -13,31 +13,36 @@ use Rattle.lt_registry.specs.declared.faults.ValidFaultKind.TheVariants as fault
 use Rattle.lt_registry.specs.declared.faults.ValidRefusal.{ValidRefusal}
 use Rattle.lt_registry.specs.declared.faults.ValidRefusal.TheVariants as refusals
 
--- how many subtags stand before the script, the region, the variants
+-- how many subtags come before the script, the region, the variants (RFC 5646, 2.1)
 abbrev pub before_script : CoreParts → ℕ
 before_script c = 1 + length c.extlangs
 
+-- those before the region (RFC 5646, 2.1)
 abbrev pub before_region : CoreParts → ℕ
 before_region c = before_script c + length (option_to_list c.script)
 
+-- those before the variants (RFC 5646, 2.1)
 abbrev pub before_variants : CoreParts → ℕ
 before_variants c = before_region c + length (option_to_list c.region)
 
--- the faults of a core that begins after so many subtags
+-- the faults of a core that begins after a number of subtags (RFC 5646, 2.2.9)
 abbrev pub HasCoreFault : List EntryParts → ℕ → CoreParts → ValidFaultKind → ℕ → Type 0
 HasCoreFault R start c faults.UnknownLanguage place =
     (place ≡ start + 1) × (is_registered R kinds.Language c.language ≡ false)
 HasCoreFault R start c faults.UnknownExtlang place =
-    (x : List ℕ) × (rest : List (List ℕ)) × (c.extlangs ≡ x ∷ rest) × (place ≡ start + 2) × (is_registered R kinds.Extlang x ≡ false)
+    (x : List ℕ) × (rest : List (List ℕ)) × (c.extlangs ≡ x ∷ rest) × (place ≡ start + 2)
+    × (is_registered R kinds.Extlang x ≡ false)
 HasCoreFault R start c faults.ExtlangPrefix place =
     (x : List ℕ) × (rest : List (List ℕ)) × (c.extlangs ≡ x ∷ rest) × (place ≡ start + 2)
     × (lists (prefixes R kinds.Extlang x) c.language ≡ false)
 HasCoreFault R start c faults.TooManyExtlangs place =
     (x y : List ℕ) × (rest : List (List ℕ)) × (c.extlangs ≡ x ∷ y ∷ rest) × (place ≡ start + 3)
 HasCoreFault R start c faults.UnknownScript place =
-    (s : List ℕ) × (c.script ≡ Some s) × (place ≡ start + before_script c + 1) × (is_registered R kinds.Script s ≡ false)
+    (s : List ℕ) × (c.script ≡ Some s) × (place ≡ start + before_script c + 1)
+    × (is_registered R kinds.Script s ≡ false)
 HasCoreFault R start c faults.UnknownRegion place =
-    (s : List ℕ) × (c.region ≡ Some s) × (place ≡ start + before_region c + 1) × (is_registered R kinds.Region s ≡ false)
+    (s : List ℕ) × (c.region ≡ Some s) × (place ≡ start + before_region c + 1)
+    × (is_registered R kinds.Region s ≡ false)
 HasCoreFault R start c faults.UnknownVariant place =
     (before : List (List ℕ)) × (v : List ℕ) × (after : List (List ℕ)) × (c.variants ≡ before ++ v ∷ after)
     × (place ≡ start + before_variants c + length before + 1) × (is_registered R kinds.Variant v ≡ false)
@@ -48,33 +53,34 @@ HasCoreFault R start c faults.DuplicateVariant place =
 HasCoreFault R start c faults.DuplicateSingleton place = ⊥
 HasCoreFault R start c faults.BadTransform place = ⊥
 
--- no parts spell the subtags of the t extension
+-- no parts spell the subtags of the t extension (RFC 6497, 2.2)
 pub record HasBadForm (e : ExtensionParts) : Type 0 where
   pub transforms : e.singleton ≡ transform
   pub formless : (p : TForm) → IsTransform e.subtags p → ⊥
 
--- the source of a t extension
+-- the source of a t extension (RFC 6497, 2.2)
 pub record HasSource (e : ExtensionParts) (source : CoreParts) : Type 0 where
   pub transforms : e.singleton ≡ transform
   pub parts : TForm
   pub formed : IsTransform e.subtags parts
   pub there : parts.source ≡ Some source
 
--- the faults of an extension whose singleton stands at a place
+-- the faults of an extension whose singleton is at a place (RFC 5646, 2.2.9)
 abbrev pub HasExtensionFault : List EntryParts → ℕ → ExtensionParts → ValidFaultKind → ℕ → Type 0
 HasExtensionFault R start e kind place =
     ((kind ≡ faults.BadTransform) × (place ≡ start) × HasBadForm e)
     ⊎ ((source : CoreParts) × HasSource e source × HasCoreFault R start source kind place)
 
--- the faults of an extension of a langtag, its singleton's repetition aside
-pub record IsFaultOfExtension (R : List EntryParts) (c : CoreParts) (es : List ExtensionParts) (kind : ValidFaultKind) (place : ℕ) : Type 0 where
+-- the faults of an extension of a langtag, its singleton's repetition aside (RFC 5646, 2.2.9)
+pub record IsFaultOfExtension (R : List EntryParts) (c : CoreParts) (es : List ExtensionParts) (kind : ValidFaultKind)
+    (place : ℕ) : Type 0 where
   pub before : List ExtensionParts
   pub extension : ExtensionParts
   pub after : List ExtensionParts
   pub there : es ≡ before ++ extension ∷ after
   pub fault : HasExtensionFault R (length (spell_core c) + length (spell_extensions before) + 1) extension kind place
 
--- a singleton stands a second time, at a place
+-- a singleton occurs a second time, at a place (RFC 5646, 2.2.6)
 pub record IsSecondSingleton (c : CoreParts) (es : List ExtensionParts) (place : ℕ) : Type 0 where
   pub before : List ExtensionParts
   pub first : ExtensionParts
@@ -85,7 +91,7 @@ pub record IsSecondSingleton (c : CoreParts) (es : List ExtensionParts) (place :
   pub alike : first.singleton ≡ second.singleton
   pub here : place ≡ length (spell_core c) + length (spell_extensions (before ++ first ∷ between)) + 1
 
--- the tag has this fault at this place
+-- the tag has this fault at this place (RFC 5646, 2.2.9)
 abbrev pub HasFault : List EntryParts → TagForm → ValidFaultKind → ℕ → Type 0
 HasFault R (LangTag c es ps) kind place =
     HasCoreFault R 0 c kind place
@@ -100,7 +106,7 @@ HasNoFault R t = (kind : ValidFaultKind) (place : ℕ) → HasFault R t kind pla
 abbrev pub RepeatsAtMost : List EntryParts → TagForm → Type 0
 RepeatsAtMost R t = (kind : ValidFaultKind) (place : ℕ) → HasFault R t kind place → kind ≡ faults.DuplicateVariant
 
--- of the faults at one place the one of the least rank is told
+-- of the faults at one place the one of the least rank is answered (this project's own)
 abbrev pub rank_of : ValidFaultKind → ℕ
 rank_of faults.UnknownLanguage = 0
 rank_of faults.UnknownExtlang = 1
@@ -113,22 +119,23 @@ rank_of faults.DuplicateVariant = 7
 rank_of faults.DuplicateSingleton = 8
 rank_of faults.BadTransform = 9
 
--- of some faults the one of the least place, and there of the least rank
+-- of some faults the one of the least place, and there of the least rank (this project's own)
 pub record IsFirstOf (F : ValidFaultKind → ℕ → Type 0) (kind : ValidFaultKind) (place : ℕ) : Type 0 where
   pub there : F kind place
   pub leftmost : (other : ValidFaultKind) (elsewhere : ℕ) → F other elsewhere → place ≤ elsewhere
   pub earliest : (other : ValidFaultKind) → F other place → rank_of kind ≤ rank_of other
 
--- the fault of a tag that is told
+-- the fault of a tag that is answered (RFC 5646, 2.2.9)
 abbrev pub IsFirstFault : List EntryParts → TagForm → ValidFaultKind → ℕ → Type 0
 IsFirstFault R t kind place = IsFirstOf (HasFault R t) kind place
 
 -- one of the extensions is a t extension
 abbrev pub HasTransform : List ExtensionParts → Type 0
 HasTransform es =
-    (before : List ExtensionParts) × (e : ExtensionParts) × (after : List ExtensionParts) × (es ≡ before ++ e ∷ after) × (e.singleton ≡ transform)
+    (before : List ExtensionParts) × (e : ExtensionParts) × (after : List ExtensionParts) × (es ≡ before ++ e ∷ after)
+    × (e.singleton ≡ transform)
 
--- the first fault; or memory was wanting for the parts of a t extension
+-- the first fault; or memory ran out for the parts of a t extension
 abbrev pub IsRefusal : List EntryParts → TagForm → ValidRefusal → Type 0
 IsRefusal R t (refusals.Fault fault) = IsFirstFault R t fault.kind fault.place
 IsRefusal R t refusals.OutOfMemory = HasTransform (extensions_of t)

@@ -8,12 +8,13 @@ use Rattle.lt_subtag.specs.declared.SubtagFault.TheVariants as faults
 use Rattle.lt_subtag.specs.declared.Case.{Case}
 use Rattle.lt_subtag.specs.declared.Case.TheVariants as cases
 
--- the subtag that a piece of a text stands for, or the first fault of that piece
+-- the subtag that a piece of a text stands for, or the first fault of that piece (RFC 5646, 2.1)
 abbrev pub subtag_of : List ℕ → Result (List ℕ) SubtagFault
 subtag_of piece =
     if length piece == 0 then Err faults.Empty
-    else (if list_all is_ascii_alphanumeric piece then (if nat_le (length piece) 8 then Ok (folded piece) else Err faults.TooLong)
-    else Err faults.BadByte)
+    else (if list_all is_ascii_alphanumeric piece
+          then (if nat_le (length piece) 8 then Ok (folded piece) else Err faults.TooLong)
+          else Err faults.BadByte)
 
 -- the letters of a subtag in a case
 abbrev pub cased : Case → List ℕ → List ℕ
