@@ -1,0 +1,8 @@
+use Rattle.std.proofs.Common.{Err, Ok}
+use Rattle.bcp47.proofs.registries.Registry.from_bytes.Goals as goal
+
+pub returns-in-Ok : goal.returns-in-Ok
+returns-in-Ok c = (Ok c.in-Ok.entries, c.in-Ok.ensures, c.check_entries.ensures)
+
+pub returns-in-Err : goal.returns-in-Err
+returns-in-Err c = (Err c.in-Err.fault, c.in-Err.ensures, c.from.ensures)

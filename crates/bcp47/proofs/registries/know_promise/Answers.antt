@@ -1,0 +1,11 @@
+use Rattle.bcp47.proofs.registries.know_promise.Goals as goal
+
+pub returns : goal.returns
+returns c = record {
+  checked = c.table.ensures.checked;
+  canonical = c.confluence.ensures.canonical;
+  named = c.confluence.ensures.named;
+  twice = c.confluence.ensures.twice;
+  text_twice = c.confluence.ensures.text_twice;
+  equivalence = c.confluence.ensures.equal_texts;
+}

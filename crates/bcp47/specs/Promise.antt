@@ -1,0 +1,67 @@
+-- What a registry of this crate promises, on one page: what it is, how it is read, and what holds of every one.
+use Rattle.std.specs.Prelude.{◌≡◌, ◌≢◌, ℕ, List, Option, Result, Ok, Err}
+use Rattle.lt_jar.specs.Records.{Field, HasRecords, IsWithin}
+use Rattle.lt_jar.specs.Views.{IsFaultOf}
+use Rattle.lt_jar.specs.declared.devices.Device.{Device}
+use Rattle.lt_jar.specs.declared.faults.JarFaultKind.TheVariants as jar_kinds
+use Rattle.lt_registry.specs.Parts.{EntryParts}
+use Rattle.lt_registry.specs.ReadRegistry.{ReadsRegistry}
+use Rattle.lt_registry.specs.Records.{HasEntries}
+use Rattle.lt_registry.specs.RecordRefusals.{IsRecordRefusal}
+use Rattle.lt_registry.specs.declared.faults.RecordFaultKind.TheVariants as record_kinds
+use Rattle.lt_registry.specs.declared.faults.RegistryFault.{RegistryFault}
+use Rattle.lt_registry.specs.declared.faults.RegistryFault.TheVariants as faults
+use Rattle.lt_canon.specs.Conditions.{IsChecked, IsFinding}
+use Rattle.lt_canon.specs.Laws.{CanonicalOrRepeats, CanonicalTwiceIsOnce, CanonicalTextTwiceIsOnce, EquivalenceIsEqualText, RepeatsAreNamed}
+use Rattle.bcp47.specs.declared.errors.RegistryError.{RegistryError}
+use Rattle.bcp47.specs.declared.errors.RegistryError.TheVariants as errors
+
+-- ---- the promise (RFC 5646, 4.5)
+
+-- What holds of every registry of this crate.
+pub record Promise (R : List EntryParts) : Type 0 where
+  -- each record meets each of the twelve conditions
+  pub checked : IsChecked R
+  -- A valid tag reaches a canonical tag, from which no step leads, and steps can repeat no variant of it; or they can
+  -- repeat one, and the tag is equivalent to no canonical tag.
+  pub canonical : CanonicalOrRepeats R
+  -- where steps can repeat a variant, the refusal names one, and no other
+  pub named : RepeatsAreNamed R
+  -- a canonical form is its own canonical form, and so is a canonical text of at most 1,024 bytes
+  pub twice : CanonicalTwiceIsOnce R
+  pub text_twice : CanonicalTextTwiceIsOnce R
+  -- Valid tags that are not refused are equivalent exactly if the texts of their canonical forms are equal.
+  pub equivalence : EquivalenceIsEqualText R
+
+-- ---- how it is read (RFC 5646, 3.1)
+
+-- what was read: entries, or why there are none
+abbrev pub Reading : Type 0
+Reading = Result (List EntryParts) RegistryFault
+
+-- what bytes are read as; nothing is owed where no memory was left
+abbrev pub IsReadingOf : List ℕ → Reading → Type 0
+IsReadingOf bytes (Ok R) = (records : List (List Field)) × HasRecords bytes records × IsWithin bytes records × HasEntries records R
+IsReadingOf bytes (Err (faults.Record fault)) =
+    (records : List (List Field)) × HasRecords bytes records × IsWithin bytes records × IsRecordRefusal records fault
+IsReadingOf bytes (Err (faults.Jar fault)) = IsFaultOf bytes fault
+
+-- why what was read is no registry; nothing is owed where no memory was left
+abbrev pub IsRefusal : Reading → RegistryError → Type 0
+IsRefusal reading (errors.Jar fault) = (reading ≡ Err (faults.Jar fault)) × (fault.kind ≢ jar_kinds.OutOfMemory)
+IsRefusal reading (errors.Record fault) = (reading ≡ Err (faults.Record fault)) × (fault.kind ≢ record_kinds.OutOfMemory)
+IsRefusal reading (errors.Check finding) = (R : List EntryParts) × (reading ≡ Ok R) × IsFinding R finding.condition finding.number
+IsRefusal reading errors.OutOfMemory = Unit {0}
+
+-- the entries that were read, which pass the check; or the refusal that is owed
+abbrev pub IsJudged : Reading → Result (List EntryParts) RegistryError → Type 0
+IsJudged reading (Ok R) = (reading ≡ Ok R) × IsChecked R
+IsJudged reading (Err error) = IsRefusal reading error
+
+-- a registry is read from bytes
+abbrev pub ReadsBytes : List ℕ → Result (List EntryParts) RegistryError → Type 0
+ReadsBytes bytes result = (reading : Reading) × IsReadingOf bytes reading × IsJudged reading result
+
+-- and from a device; `ReadsRegistry` says what that is for the bytes that were read
+abbrev pub ReadsDevice : {F : Type 0} → (F → Option (List ℕ)) → (before after : Device F) → Result (List EntryParts) RegistryError → Type 0
+ReadsDevice remaining before after result = (reading : Reading) × ReadsRegistry remaining before after reading × IsJudged reading result

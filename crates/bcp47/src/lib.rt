@@ -1,0 +1,27 @@
+//! BCP 47 language tags by a registry of language subtags: all that a program names that reads tags,
+//! compares them and makes them canonical (RFC 5646, 4.5).
+//!
+//! A [`Registry`] is read from bytes or from a device, and passes the check of its twelve conditions. What
+//! it promises for every such registry stands on one page, `specs/Promise.antt`.
+#![tactic(auto)]
+
+mod errors;
+mod readings;
+mod registries;
+
+pub use errors::RegistryError;
+pub use lt_canon::{
+    Condition, Finding, Refusal, TextRefusal, Trace, TraceFault, UpgradeCondition, UpgradeFault,
+};
+pub use lt_jar::{Device, JarFault, JarFaultKind};
+pub use lt_registry::{
+    Entry, EntryName, EntryValue, Kind, Prefix, RecordFault, RecordFaultKind, ValidFault,
+    ValidFaultKind, ValidRefusal,
+};
+pub use lt_rewrite::{Step, StepKind};
+pub use lt_subtag::{Case, Subtag, SubtagFault};
+pub use lt_tag::{
+    Class, Core, Extension, OutOfMemory, Tag, TagFault, TagFaultKind, append_tag, read_tag,
+    write_tag,
+};
+pub use registries::Registry;

@@ -1,0 +1,15 @@
+//! The entries that bytes have.
+ghost use Rattle.std.specs.Prelude.{◌≡◌};
+ghost use Rattle.bcp47.specs.Promise.{IsReadingOf};
+
+use lt_jar::read_jar;
+use lt_registry::{Registry, RegistryFault};
+use std::alloc::Global;
+
+/// The entries that bytes have, or the first of what is wrong with them.
+pub(crate) fn read_entries(alloc: Global, bytes: &[u8]) -> Result<Registry, RegistryFault>
+    ensures { IsReadingOf bytes.now result }
+{
+    let jar = read_jar(alloc, bytes)?;
+    Ok(Registry::from_records(alloc, jar.records())?)
+}

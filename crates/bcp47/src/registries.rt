@@ -1,0 +1,209 @@
+//! A registry that passes the check, and what it says of tags.
+ghost use Rattle.std.specs.Prelude.{◌≡◌, Ok, OnOk, OnErr, IfOk, IfErr, Err};
+ghost use Rattle.lt_registry.specs.Faults as validity;
+ghost use Rattle.lt_rewrite.specs.TagSteps.{AreEquivalent};
+ghost use Rattle.lt_canon.specs.Conditions.{IsChecked};
+ghost use Rattle.lt_canon.specs.Answers.{IsCanonicalAnswer};
+ghost use Rattle.lt_canon.specs.Equivalence.{IsEquivalenceAnswer, IsFirstRefusal};
+ghost use Rattle.lt_canon.specs.Explaining.{IsExplanation};
+ghost use Rattle.lt_canon.specs.ExtlangForm.{IsExtlangFormOf};
+ghost use Rattle.lt_canon.specs.Texts.{AppendsCanonicalText, IsCanonicalTextOf, IsTextRefusal};
+ghost use Rattle.lt_canon.specs.Traces.{IsTraceFault, IsValidTrace};
+ghost use Rattle.lt_canon.specs.Laws.{UpgradeKeepsTags};
+ghost use Rattle.lt_canon.specs.Upgrade.{Upgrades};
+ghost use Rattle.lt_canon.specs.UpgradeChecking.{IsUpgradeFault};
+ghost use Rattle.bcp47.specs.Promise.{IsJudged, ReadsBytes, ReadsDevice, Promise};
+
+use crate::errors::RegistryError;
+use crate::readings::read_entries;
+use lt_canon::laws::confluence;
+use lt_canon::{Checked, Refusal, RejectedCause, TextRefusal, Trace, TraceFault, UpgradeFault};
+use lt_jar::Device;
+use lt_registry::{Entry, Lookup, Registry as Entries, SortedTable, ValidRefusal};
+use lt_tag::Tag;
+use std::alloc::Global;
+use std::io::Read;
+use std::marker::Model;
+
+/// A registry of language subtags in the format of IANA's (RFC 5646, 3.1), which passes the check: each
+/// record meets each [`Condition`](crate::Condition). A contract sees the list of its entries.
+#[derive(Drop)]
+pub struct Registry {
+    checked: Checked<SortedTable>,
+}
+
+impl Model for Registry {
+    ghost use Rattle.std.specs.Prelude.{List};
+    ghost use Rattle.lt_registry.specs.Parts.{EntryParts};
+    ghost use Rattle.lt_canon.specs.Conditions.{IsChecked};
+
+    ghost Value = { List EntryParts };
+
+    ghost view = { λ r. r.checked };
+
+    ghost invariant = { λ r. IsChecked r.checked };
+}
+
+/// The registry of these entries, if they pass the check.
+fn check_entries(alloc: Global, entries: Entries) -> Result<Registry, RegistryError>
+    ensures { IsJudged (Ok entries) result }
+{
+    let Ok(table) = SortedTable::new(alloc, entries) else {
+        return Err(RegistryError::OutOfMemory);
+    };
+    match Checked::new(alloc, table) {
+        Ok(checked) => Ok(Registry { checked }),
+        Err(rejected) => Err(match rejected.cause {
+            RejectedCause::Finding(finding) => RegistryError::Check(finding),
+            RejectedCause::OutOfMemory => RegistryError::OutOfMemory,
+        }),
+    }
+}
+
+/// What holds of each table that passes the check.
+fn know_promise(checked: &Checked<SortedTable>)
+    ensures { Promise checked.now }
+{
+    let _ = checked.table();
+    confluence(checked);
+}
+
+impl Registry {
+    /// The registry whose text the bytes are, if it passes the check.
+    ///
+    /// - `Jar`: the lowest line at which anything is wrong, and there the first fault.
+    /// - `Record`: else the lowest record that gives no entry, and its first fault.
+    /// - `Check`: else the first condition that some record does not meet, and of those records the lowest.
+    pub fn from_bytes(alloc: Global, bytes: &[u8]) -> Result<Registry, RegistryError>
+        ensures { ReadsBytes bytes.now result }
+    {
+        match read_entries(alloc, bytes) {
+            Ok(entries) => check_entries(alloc, entries),
+            Err(fault) => Err(RegistryError::from(fault)),
+        }
+    }
+
+    /// The registry that a device gives, which is read to its end, record by record. It is refused as by
+    /// `from_bytes`; and as `Jar` with `Read` where the device fails, or with `TooManyTurns` after
+    /// 10,000,000 reads.
+    pub fn read<R: Read>(alloc: Global, device: &mut Device<R>) -> Result<Registry, RegistryError>
+        ensures { ReadsDevice R.remaining device.old device.new result }
+    {
+        match Entries::read(alloc, device) {
+            Ok(entries) => check_entries(alloc, entries),
+            Err(fault) => Err(RegistryError::from(fault)),
+        }
+    }
+
+    /// What holds of every registry; nothing is computed.
+    pub fn promise(&self)
+        ensures { Promise self.now }
+    {
+        know_promise(&self.checked);
+    }
+
+    /// The entries in the order of the file.
+    pub fn entries(&self) -> &[Entry]
+        ensures value { result.now ≡ self.now }
+        ensures checked { IsChecked self.now }
+    {
+        self.checked.table().entries()
+    }
+
+    /// Whether a tag is valid (RFC 5646, 2.2.9): the fault of the least place and, there, of the first
+    /// kind, if there is one. Memory is taken only for the parts of a `t` extension.
+    pub fn validate(&self, alloc: Global, tag: &Tag) -> Result<(), ValidRefusal>
+        ensures ok { OnOk result (validity.HasNoFault self.now tag.now) }
+        ensures err { IfErr result (validity.IsRefusal self.now tag.now) }
+    {
+        lt_registry::validate(alloc, self.checked.table(), tag)
+    }
+
+    /// The canonical form of a tag (RFC 5646, 4.5): the one canonical tag that steps reach from it.
+    ///
+    /// - `Invalid`, with the fault that `validate` answers, exactly where the tag is not valid.
+    /// - `ReplacementRepeats` exactly where steps can repeat a variant of the valid tag.
+    pub fn canonical(&self, alloc: Global, tag: &Tag) -> Result<Tag, Refusal>
+        ensures { IsCanonicalAnswer self.now tag.now result }
+    {
+        lt_canon::canonical(alloc, &self.checked, tag)
+    }
+
+    /// The text, in conventional case, of the canonical form of the tag that a text is read as.
+    ///
+    /// - `NotATag`, with the fault that `Tag::read` answers, exactly where the text is read as none.
+    /// - `Invalid` and `ReplacementRepeats` where `canonical` refuses the tag so.
+    pub fn canonical_text(&self, alloc: Global, text: &[u8]) -> Result<Vec<u8>, TextRefusal>
+        ensures written { IfOk result (λ canonical. IsCanonicalTextOf self.now text.now canonical.items) }
+        ensures refusal { IfErr result (λ refusal. IsTextRefusal self.now text.now refusal) }
+    {
+        lt_canon::canonical_text(alloc, &self.checked, text)
+    }
+
+    /// Appends what `canonical_text` answers to other texts. A refusal leaves what was there.
+    pub fn append_canonical_text(
+        &self,
+        alloc: Global,
+        text: &[u8],
+        texts: &mut Vec<u8>,
+    ) -> Result<(), TextRefusal>
+        ensures appended { OnOk result (AppendsCanonicalText self.now text.now texts.old.items texts.new.items) }
+        ensures refusal { IfErr result (λ refusal. IsTextRefusal self.now text.now refusal) }
+        ensures kept { OnErr result (texts.new.items ≡ texts.old.items) }
+    {
+        lt_canon::append_canonical_text(alloc, &self.checked, text, texts)
+    }
+
+    /// The extlang form of a tag (RFC 5646, 4.5): its canonical form and, where the language of that is an
+    /// extlang too, the Prefix of that in front of it. It is refused as `canonical` refuses.
+    pub fn extlang_form(&self, alloc: Global, tag: &Tag) -> Result<Tag, Refusal>
+        ensures form { IfOk result (λ form. IsExtlangFormOf self.now tag.now form) }
+        ensures refusal { IfErr result (λ refusal. IsCanonicalAnswer self.now tag.now (Err refusal)) }
+    {
+        lt_canon::extlang_form(alloc, &self.checked, tag)
+    }
+
+    /// Whether two tags are equivalent: whether steps, forth and back, lead from one to the other, which is
+    /// whether their canonical forms are equal. A refusal is that of `canonical` for the first tag, else
+    /// for the second.
+    pub fn equivalent(&self, alloc: Global, first: &Tag, second: &Tag) -> Result<bool, Refusal>
+        ensures answer { IfOk result (λ answer. IsEquivalenceAnswer self.now first.now second.now answer) }
+        ensures refusal { IfErr result (λ refusal. IsFirstRefusal self.now first.now second.now refusal) }
+    {
+        lt_canon::equivalent(alloc, &self.checked, first, second)
+    }
+
+    /// The steps that lead from a tag to its canonical form, each the first that leads on, and that form.
+    /// It is refused as `canonical` refuses.
+    pub fn explain(&self, alloc: Global, tag: &Tag) -> Result<Trace, Refusal>
+        ensures ok { IfOk result (λ trace. IsExplanation self.now tag.now trace.steps.items trace.last) }
+        ensures err { IfErr result (λ refusal. IsCanonicalAnswer self.now tag.now (Err refusal)) }
+    {
+        lt_canon::explain(alloc, &self.checked, tag)
+    }
+
+    /// Whether the steps of a trace lead from a valid tag, one after another, to its last tag, which is
+    /// then equivalent to the tag.
+    ///
+    /// - `Invalid`, with the fault that `validate` answers, where the tag is not valid.
+    /// - Else `NoSuchStep` with the first step, counted from 1, that does not lead on.
+    /// - Else `WrongEnd` where the steps lead to another tag.
+    pub fn verify(&self, alloc: Global, tag: &Tag, trace: &Trace) -> Result<(), TraceFault>
+        ensures ok { OnOk result (IsValidTrace self.now tag.now trace.now.steps.items trace.now.last) }
+        ensures equivalent { OnOk result (AreEquivalent self.now tag.now trace.now.last) }
+        ensures err { IfErr result (λ fault. IsTraceFault self.now tag.now trace.now.steps.items trace.now.last fault) }
+    {
+        lt_canon::verify(alloc, &self.checked, tag, trace)
+    }
+
+    /// Whether a newer registry upgrades this one: whether it meets each
+    /// [`UpgradeCondition`](crate::UpgradeCondition) beside it. Tags that are valid by this registry are then
+    /// valid by the newer one, and equivalent tags equivalent.
+    pub fn upgrade_check(&self, alloc: Global, newer: &Registry) -> Result<(), UpgradeFault>
+        ensures upgrades { OnOk result (Upgrades self.now newer.now) }
+        ensures keeps { OnOk result (UpgradeKeepsTags self.now newer.now) }
+        ensures fault { IfErr result (IsUpgradeFault self.now newer.now) }
+    {
+        lt_canon::upgrade_check(alloc, &self.checked, &newer.checked)
+    }
+}
