@@ -14,26 +14,29 @@ use Rattle.lt_registry.specs.declared.entries.Kind.TheVariants as kinds
 use Rattle.lt_registry.specs.declared.entries.EntryName.TheVariants as names
 use Rattle.lt_rewrite.specs.CoreSteps.{Ends, EndsIn}
 
--- one kind and one name, or one whole tag
+-- one kind and one name, or one whole tag (RFC 5646, 3.1.4)
 abbrev pub Clash : EntryParts → EntryParts → Type 0
-Clash e f = ((e.kind ≡ f.kind) × (e.name ≡ f.name)) ⊎ ((t : TagForm) × (e.name ≡ names.Whole t) × (f.name ≡ names.Whole t))
+Clash e f = ((e.kind ≡ f.kind) × (e.name ≡ f.name))
+    ⊎ ((t : TagForm) × (e.name ≡ names.Whole t) × (f.name ≡ names.Whole t))
 
--- No record of a lower number has its kind and its name, or its whole tag.
+-- No record of a lower number has its kind and its name, or its whole tag (C1; RFC 5646, 3.1.4).
 abbrev pub HasOwnName : List EntryParts → EntryParts → Type 0
 HasOwnName R e = (f : EntryParts) → Contains R f → f.number < e.number → Clash f e → ⊥
 
--- the kinds whose values are of their own kind
+-- the kinds whose values are of their own kind (RFC 5646, 3.1.7)
 abbrev pub keeps_kind : Kind → Bool
 keeps_kind kinds.Language = true
 keeps_kind kinds.Script = true
 keeps_kind kinds.Region = true
 keeps_kind _ = false
 
--- If a language, script or region has a value, then that value is registered too, as the same kind.
+-- If a language, script or region has a value, then that value is registered too, as the same kind (C2; RFC 5646,
+-- 3.1.7).
 abbrev pub HasRegisteredValue : List EntryParts → EntryParts → Type 0
-HasRegisteredValue R e = keeps_kind e.kind ≡ true → (v : List ℕ) → one_of e.value ≡ Some v → is_registered R e.kind v ≡ true
+HasRegisteredValue R e =
+    keeps_kind e.kind ≡ true → (v : List ℕ) → one_of e.value ≡ Some v → is_registered R e.kind v ≡ true
 
--- the value that follows in a chain: after a variant only a variant, and none after an extlang
+-- the value that follows in a chain: after a variant only a variant, and none after an extlang (RFC 5646, 3.1.7)
 abbrev pub next_value : List EntryParts → Kind → List ℕ → Option (List ℕ)
 next_value R kinds.Language s = value R kinds.Language s
 next_value R kinds.Extlang s = None
@@ -43,17 +46,18 @@ next_value R kinds.Variant s = variant_value R s
 next_value R kinds.Grandfathered s = None
 next_value R kinds.Redundant s = None
 
--- If a language, script, region or variant has a value, the chain of values that begins with this value ends.
+-- If a language, script, region or variant has a value, the chain of values that begins with this value ends (C3; RFC
+-- 5646, 3.1.7).
 abbrev pub HasEndingChain : List EntryParts → EntryParts → Type 0
 HasEndingChain R e = (v : List ℕ) → one_of e.value ≡ Some v → Ends (next_value R e.kind) v
 
--- a registered language without a value
+-- a registered language without a value (RFC 5646, 3.1.7)
 pub record IsFinalLanguage (R : List EntryParts) (l : List ℕ) : Type 0 where
   pub registered : is_registered R kinds.Language l ≡ true
   pub final : value R kinds.Language l ≡ None
 
--- one subtag with one Prefix of one subtag, a final language; itself and its replacement are languages whose
--- chains end alike
+-- one subtag with one Prefix of one subtag, a final language; itself and its replacement are languages whose chains
+-- end alike (RFC 5646, 2.2.2)
 pub record IsFittingExtlang (R : List EntryParts) (e : EntryParts) : Type 0 where
   pub subtag : List ℕ
   pub single : e.name ≡ names.Single subtag
@@ -66,11 +70,12 @@ pub record IsFittingExtlang (R : List EntryParts) (e : EntryParts) : Type 0 wher
   pub ends : EndsIn (value R kinds.Language) subtag end
   pub replacement_ends : EndsIn (value R kinds.Language) (value_or (one_of e.value) subtag) end
 
+-- an extlang is a fitting one (C4; RFC 5646, 2.2.2)
 abbrev pub FitsAsExtlang : List EntryParts → EntryParts → Type 0
 FitsAsExtlang R e = e.kind ≡ kinds.Extlang → IsFittingExtlang R e
 
 -- If a variant has a value, that value is registered: one of 2 or 3 letters as a language, a longer one as a variant,
--- whose own value, if any, is no language.
+-- whose own value, if any, is no language (C5; RFC 5646, 3.1.7).
 abbrev pub HasFittingVariantValue : List EntryParts → EntryParts → Type 0
 HasFittingVariantValue R e =
     e.kind ≡ kinds.Variant → (v : List ℕ) → one_of e.value ≡ Some v →
@@ -78,32 +83,34 @@ HasFittingVariantValue R e =
     ⊎ ((is_short v ≡ false) × (is_registered R kinds.Variant v ≡ true) × (language_value R v ≡ None))
 
 -- If the value of a variant is a language, the variant names one Prefix or more, and every one of them is a single
--- subtag, a final language.
+-- subtag, a final language (C6; RFC 5646, 3.1.8).
 abbrev pub StandsBesideFinalLanguages : List EntryParts → EntryParts → Type 0
 StandsBesideFinalLanguages R e =
     e.kind ≡ kinds.Variant → (v : List ℕ) → one_of e.value ≡ Some v → is_short v ≡ true →
-    (e.prefixes ≢ []) × AllByRecursion (λ (p : List (List ℕ)). (l : List ℕ) × (p ≡ l ∷ []) × IsFinalLanguage R l) e.prefixes
+    (e.prefixes ≢ [])
+    × AllByRecursion (λ (p : List (List ℕ)). (l : List ℕ) × (p ≡ l ∷ []) × IsFinalLanguage R l) e.prefixes
 
--- Whatever Prefix a variant names is a langtag and a core alone.
+-- Whatever Prefix a variant names is a langtag and a core alone (C7; RFC 5646, 3.1.8).
 abbrev pub HasLangtagPrefixes : List EntryParts → EntryParts → Type 0
 HasLangtagPrefixes R e =
     e.kind ≡ kinds.Variant →
-    AllByRecursion (λ (p : List (List ℕ)). (c : CoreParts) × IsCore c × (spell_core c ≡ p) × IsNotGrandfathered p) e.prefixes
+    AllByRecursion
+      (λ (p : List (List ℕ)). (c : CoreParts) × IsCore c × (spell_core c ≡ p) × IsNotGrandfathered p) e.prefixes
 
--- the entry of the second subtag of a core of two, an extlang or a variant
+-- the entry of the second subtag of a core of two, an extlang or a variant (RFC 5646, 2.2.8)
 abbrev pub second_entry : List EntryParts → List (List ℕ) → List (List ℕ) → Option EntryParts
 second_entry R (x ∷ xs) vs = entry R kinds.Extlang x
 second_entry R [] (v ∷ vs) = entry R kinds.Variant v
 second_entry R [] [] = None
 
--- A grandfathered record has one of the 26 tags; and this record is not the entry of the second subtag of a regular one
--- of them that is valid, read as a langtag.
+-- A grandfathered record has one of the 26 tags; and this record is not the entry of the second subtag of a regular
+-- one of them that is valid, read as a langtag (C8; RFC 5646, 2.2.8).
 pub record FitsGrandfathered (R : List EntryParts) (e : EntryParts) : Type 0 where
   pub named : e.kind ≡ kinds.Grandfathered → (number : ℕ) × (e.name ≡ names.Whole (Grandfathered number))
   pub regular : (c : CoreParts) (number : ℕ) → IsCore c → IsGrandfathered (spell_core c) number → IsValidCore R c →
       second_entry R c.extlangs c.variants ≢ Some e
 
--- A range has no value.
+-- A range has no value (C12; RFC 5646, 3.1.7).
 abbrev pub HasNoRangeValue : EntryParts → Type 0
 HasNoRangeValue e = (first last : List ℕ) → e.name ≡ names.Range first last → e.value ≡ None
 
