@@ -1,0 +1,5 @@
+use Rattle.lt_tag.specs.OrderLaws.{tag_total, tags_apart, same_exactly}
+use Rattle.lt_tag.proofs.comparing_laws.tag_equality.Goals as goal
+
+pub returns : goal.returns
+returns c = same_exactly tag_total tags_apart c.args.left.now c.args.right.now _ c.eq.ensures

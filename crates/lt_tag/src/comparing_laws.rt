@@ -1,0 +1,28 @@
+//! What the comparisons of cores, extensions and tags compute: `==` is equality of their parts. Nothing
+//! else is computed here.
+ghost use Rattle.std.specs.Prelude.{◌≡◌, ◌↔◌, IsTrue};
+
+use crate::cores::Core;
+use crate::extensions::Extension;
+use crate::tags::Tag;
+
+/// Two cores are equal exactly if their parts are.
+pub fn core_equality(left: &Core, right: &Core) -> bool
+    ensures { IsTrue result ↔ (left.now ≡ right.now) }
+{
+    left == right
+}
+
+/// Two extensions are equal exactly if their parts are.
+pub fn extension_equality(left: &Extension, right: &Extension) -> bool
+    ensures { IsTrue result ↔ (left.now ≡ right.now) }
+{
+    left == right
+}
+
+/// Two tags are equal exactly if their parts are; so exactly if their texts are.
+pub fn tag_equality(left: &Tag, right: &Tag) -> bool
+    ensures { IsTrue result ↔ (left.now ≡ right.now) }
+{
+    left == right
+}
