@@ -3,7 +3,7 @@
 
 Usage: growth.py [NAME..]
 
-A NAME is a crate, or `langtag` for the program; without one, all are run. `rt test` in a crate's folder
+A NAME is a crate of tests, or `langtag` for the program; without one, all are run. `rt test` in a crate's folder
 leaves its tests there, and `make` builds the program; `make growth` does both first.
 
 A run refuses the growth of one number and no other, for each number from 1 on until a run met no refusal.
@@ -21,7 +21,7 @@ import tempfile
 from pathlib import Path
 
 ROOT = Path(__file__).resolve().parent.parent
-CRATES = ["lt_tag", "lt_jar_tests", "lt_registry", "lt_rewrite", "lt_canon", "lt_tool"]
+CRATES = ["lt_tag", "lt_jar_tests", "lt_registry_tests", "lt_rewrite", "lt_canon", "lt_tool"]
 PROGRAM = ROOT / "build" / "langtag"
 SECONDS = 60
 NONE = "_without_growth"

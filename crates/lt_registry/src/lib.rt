@@ -33,6 +33,3 @@ pub use lookup::Lookup;
 pub use registry::Registry;
 pub use sorted_table::SortedTable;
 pub use validity::{proper, validate};
-
-#[cfg(test)]
-mod tests;

@@ -1,61 +1,15 @@
-//! What a call does where a growth of memory is refused. `bench/growth.py` runs each test here once for
-//! each growth in it, and refuses that one alone; the gate refuses none. So a call that is not itself
-//! under test is made twice where it is refused.
-use super::answers::{SUBTAGS, WHOLE_TAGS, finds, whole_number};
-use super::sample::{returned_text, sample_text};
+//! What a call does where a growth of memory is refused.
+use super::answers::{JUDGED, PROPER, SUBTAGS, WHOLE_TAGS, finds_each, is_judgement, whole_number};
 use super::{RECORD_FAULTS, is_english};
-use crate::{
+use lt_jar::{Device, JarFault, JarFaultKind, Pieces, read_jar};
+use lt_registry::{
     ListTable, Lookup, RecordFault, RecordFaultKind, Registry, RegistryFault, SortedTable,
     ValidRefusal, proper, validate,
 };
-use lt_jar::{Device, JarFault, JarFaultKind, Pieces, read_jar};
 use lt_tag::{Tag, TagFault, read_tag};
+use lt_testing::{answers, mark, returned_text, sample_text, shown, twice};
 use std::alloc::{AllocError, Global};
-use std::fmt::Debug;
 use std::test::Fail;
-
-/// What a call answers, which is made again where it was refused.
-fn twice<T, E: Drop, C: Fn() -> Result<T, E>>(call: C) -> Result<T, E>
-    requires { C.IsAlwaysCallable call }
-{
-    match call() {
-        Ok(value) => Ok(value),
-        Err(_) => call(),
-    }
-}
-
-/// A value as text.
-fn shown<T: Debug>(alloc: Global, value: &T) -> Result<String, AllocError> {
-    match format!(in alloc; "{value:?}") {
-        Ok(text) => Ok(text),
-        Err(_) => format!(in alloc; "{value:?}"),
-    }
-}
-
-/// Whether a call gives its answer, and leaves its arguments as they were; and where it tells that a
-/// growth was refused, whether it leaves them as well, and gives its answer when it is made again.
-fn answers<A, T, C, P, R>(
-    alloc: Global,
-    arguments: &A,
-    call: C,
-    is_answer: P,
-    is_refusal: R,
-) -> Result<bool, AllocError>
-where
-    A: Debug,
-    T: Drop,
-    C: Fn() -> T,
-    P: Fn(&T) -> bool,
-    R: Fn(&T) -> bool,
-    requires call { C.IsAlwaysCallable call }
-    requires answer { P.IsAlwaysCallable is_answer }
-    requires refusal { R.IsAlwaysCallable is_refusal }
-{
-    let before = shown(alloc, arguments)?;
-    let answer = call();
-    let is_kept = shown(alloc, arguments)?.as_str() == before.as_str();
-    Ok(is_kept && (is_answer(&answer) || (is_refusal(&answer) && is_answer(&call()))))
-}
 
 /// Whether making entries of a text's records answers as it should.
 fn is_made<P: Fn(&Result<Registry, RecordFault>) -> bool>(
@@ -98,11 +52,6 @@ fn entries_are_made(rt: HostRuntime) -> Result<(), Fail> {
             Err(_) => false,
         })?
     );
-    Ok(())
-}
-
-#[test]
-fn entries_of_the_sample_are_made(rt: HostRuntime) -> Result<(), Fail> {
     let text = twice(|| sample_text(rt.alloc()))?;
     assert!(rt;
         is_made(rt.alloc(), text.as_str(), |answer| match answer {
@@ -196,17 +145,12 @@ fn tag_of(alloc: Global, text: &str) -> Result<Tag, TagFault> {
 
 /// Whether a table finds the subtags and the whole tags of the sample.
 fn finds_sample(alloc: Global, table: &SortedTable) -> Result<bool, TagFault> {
-    for (kind, text, number) in &SUBTAGS {
-        if !finds(table, *kind, text, *number) {
-            return Ok(false);
-        }
-    }
     for (text, number) in &WHOLE_TAGS {
         if whole_number(table, &tag_of(alloc, text)?) != *number {
             return Ok(false);
         }
     }
-    Ok(table.entries().len() == 46)
+    Ok(table.entries().len() == 46 && finds_each(table, &SUBTAGS))
 }
 
 /// The table of a registry; where a growth was refused, of the registry that was handed back, which has
@@ -239,17 +183,6 @@ fn sorted_tables_are_made(rt: HostRuntime) -> Result<(), Fail> {
     Ok(())
 }
 
-/// Whether an answer is this fault, or none.
-fn is_judgement(answer: &Result<(), ValidRefusal>, told: Option<(&str, u32)>) -> bool {
-    match (answer, told) {
-        (Ok(()), None) => true,
-        (Err(ValidRefusal::Fault(fault)), Some((name, place))) => {
-            fault.kind.name() == name && fault.place == place
-        }
-        _ => false,
-    }
-}
-
 /// Whether a tag has this fault, or none.
 fn is_judged(
     alloc: Global,
@@ -266,26 +199,6 @@ fn is_judged(
     )
 }
 
-/// Tags with the names and the places of their faults.
-const TAGS: [(&str, Option<(&str, u32)>); 6] = [
-    ("de-1901", None),
-    ("de-1901-1901", Some(("DuplicateVariant", 3))),
-    ("en-t-zh-yue-m0-names", None),
-    ("en-t-m0", Some(("BadTransform", 2))),
-    ("en-t-zh-min", Some(("ExtlangPrefix", 4))),
-    ("en-t-de-latn-1901-1901", Some(("DuplicateVariant", 6))),
-];
-
-#[test]
-fn tags_are_judged(rt: HostRuntime) -> Result<(), Fail> {
-    let table = ListTable::new(sample(rt.alloc())?);
-    for (text, told) in &TAGS {
-        let tag = tag_of(rt.alloc(), text)?;
-        assert!(rt; is_judged(rt.alloc(), &table, &tag, *told)?, "{text}");
-    }
-    Ok(())
-}
-
 /// Whether `proper` answers this for a tag.
 fn is_proper(alloc: Global, table: &ListTable, tag: &Tag, told: bool) -> Result<bool, AllocError> {
     answers(
@@ -297,39 +210,27 @@ fn is_proper(alloc: Global, table: &ListTable, tag: &Tag, told: bool) -> Result<
     )
 }
 
-/// Tags, and whether they are proper.
-const PROPER: [(&str, bool); 5] = [
-    ("de-1901-1901", true),
-    ("fr", false),
-    ("en-t-zh-yue-m0-names", true),
-    ("en-t-de-latn-1901-1901", true),
-    ("en-t-fr-m0-names", false),
-];
-
 #[test]
-fn tags_are_proper(rt: HostRuntime) -> Result<(), Fail> {
+fn tags_are_judged(rt: HostRuntime) -> Result<(), Fail> {
     let table = ListTable::new(sample(rt.alloc())?);
+    for (text, told) in &JUDGED {
+        assert!(rt;
+            is_judged(rt.alloc(), &table, &tag_of(rt.alloc(), text)?, *told)?,
+            "{text}"
+        );
+    }
     for (text, told) in &PROPER {
-        let tag = tag_of(rt.alloc(), text)?;
-        assert!(rt; is_proper(rt.alloc(), &table, &tag, *told)?, "{text}");
+        assert!(rt;
+            is_proper(rt.alloc(), &table, &tag_of(rt.alloc(), text)?, *told)?,
+            "{text}"
+        );
     }
     Ok(())
 }
 
-/// Marks where calls begin that take no memory: `bench/growth.py` refuses this growth, which is larger
-/// than any other, and each one behind it.
-fn mark(alloc: Global) {
-    let _ = Vec::<u8>::with_capacity(alloc, 1 << 36);
-}
-
 /// Whether a table finds the subtags of the sample, and the first of its whole tags.
 fn finds_by_no_growth<L: Lookup>(table: &L, tag: &Tag, number: Option<u32>) -> bool {
-    for (kind, text, number) in &SUBTAGS {
-        if !finds(table, *kind, text, *number) {
-            return false;
-        }
-    }
-    whole_number(table, tag) == number && table.entries().len() == 46
+    finds_each(table, &SUBTAGS) && whole_number(table, tag) == number && table.entries().len() == 46
 }
 
 #[test]

@@ -1,8 +1,8 @@
 //! Registries that are meant to do harm.
 use super::has_record_fault;
-use super::sample::{list_table, sorted_table};
-use crate::{Kind, Lookup};
+use super::tables::{list_table, sorted_table};
 use lt_jar::read_jar;
+use lt_registry::{Kind, Lookup};
 use lt_subtag::Subtag;
 use std::alloc::{AllocError, Global};
 use std::test::Fail;

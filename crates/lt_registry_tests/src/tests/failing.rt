@@ -1,7 +1,7 @@
 //! Registries whose reads fail, each in turn.
-use super::sample::sample_text;
-use crate::{Registry, RegistryFault};
 use lt_jar::{Device, JarFaultKind, Pieces};
+use lt_registry::{Registry, RegistryFault};
+use lt_testing::sample_text;
 use std::alloc::Global;
 use std::test::Fail;
 

@@ -3,12 +3,12 @@ mod failing;
 mod growths;
 mod hostile;
 mod reading;
-mod sample;
+mod tables;
 
-use super::*;
-use sample::registry_of;
+use lt_registry::{Entry, EntryName, Kind};
 use std::alloc::Global;
 use std::test::Fail;
+use tables::registry_of;
 
 /// Texts of one record with the names of their faults.
 const RECORD_FAULTS: [(&str, &str); 14] = [
@@ -39,14 +39,6 @@ fn has_record_fault(alloc: Global, text: &str, name: &str) -> Result<bool, Fail>
     })
 }
 
-#[test]
-fn records_with_faults(rt: HostRuntime) -> Result<(), Fail> {
-    for (text, name) in &RECORD_FAULTS {
-        assert!(rt; has_record_fault(rt.alloc(), text, name)?, "{text}");
-    }
-    Ok(())
-}
-
 /// Whether an entry is that of a second record, of the language `en` alone.
 fn is_english(entry: &Entry) -> bool {
     let named = match entry.name() {
@@ -60,17 +52,6 @@ fn is_english(entry: &Entry) -> bool {
         && entry.prefixes().is_empty()
 }
 
-/// Whether a text has the language `en` as its one entry.
-fn has_english_alone(alloc: Global, text: &str) -> Result<bool, Fail> {
-    Ok(match registry_of(alloc, text.as_bytes())? {
-        Ok(registry) => match registry.entries() {
-            [entry] => is_english(entry),
-            _ => false,
-        },
-        Err(_) => false,
-    })
-}
-
 /// Whether a text has one entry.
 fn has_one_entry(alloc: Global, text: &str) -> Result<bool, Fail> {
     Ok(match registry_of(alloc, text.as_bytes())? {
@@ -80,9 +61,7 @@ fn has_one_entry(alloc: Global, text: &str) -> Result<bool, Fail> {
 }
 
 #[test]
-fn records_with_entries(rt: HostRuntime) -> Result<(), Fail> {
-    let dated = "File-Date: x\n%%\nTYPE : Language\nSUBTAG: EN";
-    assert!(rt; has_english_alone(rt.alloc(), dated)?);
+fn a_tag_beside_a_subtag(rt: HostRuntime) -> Result<(), Fail> {
     let tagged = "Type: language\nSubtag: aa\nTag: --";
     assert!(rt; has_one_entry(rt.alloc(), tagged)?);
     Ok(())

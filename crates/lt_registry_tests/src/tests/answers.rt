@@ -1,13 +1,13 @@
 //! Both tables answer alike, and as the registry says.
-use super::sample::{list_table, sample_text, sorted_table};
-use crate::{
+use super::tables::{list_table, sorted_table};
+use lt_registry::{
     Entry, EntryName, EntryValue, Kind, ListTable, Lookup, SortedTable, ValidRefusal, proper,
     validate,
 };
 use lt_subtag::Subtag;
-use lt_tag::{Tag, read_tag};
+use lt_tag::{Tag, TagFault, read_tag};
+use lt_testing::sample_text;
 use std::alloc::{AllocError, Global};
-use std::process::Abort;
 use std::test::Fail;
 
 /// A kind, a subtag, and the number of its record.
@@ -38,11 +38,14 @@ pub fn finds<L: Lookup>(table: &L, kind: Kind, text: &str, number: Option<u32>) 
     }
 }
 
-/// Each subtag has the entry of its row.
-fn subtags_are_found<L: Lookup>(rt: &impl Abort, table: &L, rows: &[SubtagRow]) {
+/// Whether each subtag has the entry of its row.
+pub fn finds_each<L: Lookup>(table: &L, rows: &[SubtagRow]) -> bool {
     for (kind, text, number) in rows {
-        assert!(rt; finds(table, *kind, text, *number), "{text}");
+        if !finds(table, *kind, text, *number) {
+            return false;
+        }
     }
+    true
 }
 
 /// Whether the language `iw` has the value `he`.
@@ -74,138 +77,118 @@ pub fn whole_number<L: Lookup>(table: &L, tag: &Tag) -> Option<u32> {
     }
 }
 
-/// Whether the entry of a whole tag has this number.
-fn finds_whole<L: Lookup>(alloc: Global, table: &L, text: &str, number: Option<u32>) -> bool {
-    match read_tag(alloc, text.as_bytes()) {
-        Ok(tag) => whole_number(table, &tag) == number,
-        Err(_) => false,
+/// Whether the entry of each whole tag has the number of its row.
+fn finds_each_whole<L: Lookup>(
+    alloc: Global,
+    table: &L,
+    rows: &[(&str, Option<u32>)],
+) -> Result<bool, TagFault> {
+    for (text, number) in rows {
+        if whole_number(table, &read_tag(alloc, text.as_bytes())?) != *number {
+            return Ok(false);
+        }
     }
+    Ok(true)
 }
 
-/// Each whole tag has the entry of its row.
-fn whole_tags_are_found<L: Lookup>(rt: &impl Abort, alloc: Global, table: &L) {
-    for (text, number) in &WHOLE_TAGS {
-        assert!(rt; finds_whole(alloc, table, text, *number), "{text}");
-    }
-}
-
-/// Texts of tags with the names and the places of their faults.
-const TAG_FAULTS: [(&str, &str, u32); 18] = [
-    ("zh-min-x-a", "ExtlangPrefix", 2),
-    ("zh-gan-yue", "TooManyExtlangs", 3),
-    ("fr", "UnknownLanguage", 1),
-    ("zh-abc", "UnknownExtlang", 2),
-    ("en-Zzzz", "UnknownScript", 2),
-    ("en-US", "UnknownRegion", 2),
-    ("de-abcde", "UnknownVariant", 2),
-    ("de-1901-1901", "DuplicateVariant", 3),
-    ("en-a-aaa-A-bbb", "DuplicateSingleton", 4),
-    ("en-t-m0", "BadTransform", 2),
-    ("en-t-fr", "UnknownLanguage", 3),
-    ("en-t-aaaa", "UnknownLanguage", 3),
-    ("en-t-zh-min", "ExtlangPrefix", 4),
-    ("en-t-de-1901-1901", "DuplicateVariant", 5),
-    ("en-t-m0-a0-aaa", "BadTransform", 2),
-    ("en-t-de-m0-xx", "BadTransform", 2),
-    ("en-t-m0-t-de", "BadTransform", 2),
-    ("en-t-m0-aaa-t-de", "DuplicateSingleton", 5),
+/// Texts of tags with the names and the places of their faults, or none.
+pub const JUDGED: [(&str, Option<(&str, u32)>); 27] = [
+    ("zh-min-x-a", Some(("ExtlangPrefix", 2))),
+    ("zh-gan-yue", Some(("TooManyExtlangs", 3))),
+    ("fr", Some(("UnknownLanguage", 1))),
+    ("zh-abc", Some(("UnknownExtlang", 2))),
+    ("en-Zzzz", Some(("UnknownScript", 2))),
+    ("en-US", Some(("UnknownRegion", 2))),
+    ("de-abcde", Some(("UnknownVariant", 2))),
+    ("de-1901-1901", Some(("DuplicateVariant", 3))),
+    ("en-a-aaa-A-bbb", Some(("DuplicateSingleton", 4))),
+    ("en-t-m0", Some(("BadTransform", 2))),
+    ("en-t-fr", Some(("UnknownLanguage", 3))),
+    ("en-t-aaaa", Some(("UnknownLanguage", 3))),
+    ("en-t-zh-min", Some(("ExtlangPrefix", 4))),
+    ("en-t-de-1901-1901", Some(("DuplicateVariant", 5))),
+    ("en-t-m0-a0-aaa", Some(("BadTransform", 2))),
+    ("en-t-de-m0-xx", Some(("BadTransform", 2))),
+    ("en-t-m0-t-de", Some(("BadTransform", 2))),
+    ("en-t-m0-aaa-t-de", Some(("DuplicateSingleton", 5))),
+    ("de-1901", None),
+    ("en-t-m0-aaa-M0-bbb", None),
+    ("en-u-11", None),
+    ("zh-yue-hans-dd", None),
+    ("de-qaaa-xb", None),
+    ("x-ab", None),
+    ("i-enochian", None),
+    ("en-t-zh-yue-m0-names", None),
+    ("en-t-de-latn-1901-1901", Some(("DuplicateVariant", 6))),
 ];
-
-/// Whether a tag has the fault of this name at this place.
-fn tells<L: Lookup>(alloc: Global, table: &L, tag: &Tag, name: &str, place: u32) -> bool {
-    match validate(alloc, table, tag) {
-        Err(ValidRefusal::Fault(fault)) => fault.kind.name() == name && fault.place == place,
-        _ => false,
-    }
-}
-
-/// Whether a text's tag has the fault of this name at this place.
-fn has_fault<L: Lookup>(alloc: Global, table: &L, text: &str, name: &str, place: u32) -> bool {
-    match read_tag(alloc, text.as_bytes()) {
-        Ok(tag) => tells(alloc, table, &tag, name, place),
-        Err(_) => false,
-    }
-}
-
-/// Each tag has the fault of its row.
-fn faults_are_told<L: Lookup>(rt: &impl Abort, alloc: Global, table: &L) {
-    for (text, name, place) in &TAG_FAULTS {
-        assert!(rt; has_fault(alloc, table, text, name, *place), "{text}");
-    }
-}
-
-/// Texts of valid tags.
-const VALID_TAGS: [&str; 7] = [
-    "de-1901",
-    "en-t-m0-aaa-M0-bbb",
-    "en-u-11",
-    "zh-yue-hans-dd",
-    "de-qaaa-xb",
-    "x-ab",
-    "i-enochian",
-];
-
-/// Whether a text's tag is valid.
-fn is_valid<L: Lookup>(alloc: Global, table: &L, text: &str) -> bool {
-    match read_tag(alloc, text.as_bytes()) {
-        Ok(tag) => validate(alloc, table, &tag).is_ok(),
-        Err(_) => false,
-    }
-}
-
-/// Each of the valid tags is valid.
-fn valid_tags_pass<L: Lookup>(rt: &impl Abort, alloc: Global, table: &L) {
-    for text in &VALID_TAGS {
-        assert!(rt; is_valid(alloc, table, text), "{text}");
-    }
-}
 
 /// Texts of tags, and whether they are proper.
-const PROPER_TAGS: [(&str, bool); 4] = [
+pub const PROPER: [(&str, bool); 7] = [
     ("de-1901-1901", true),
     ("en-t-de-1901-1901", true),
     ("fr", false),
     ("de-1901-1901-abcde", false),
+    ("en-t-zh-yue-m0-names", true),
+    ("en-t-de-latn-1901-1901", true),
+    ("en-t-fr-m0-names", false),
 ];
 
-/// Whether `proper` gives this answer for a text's tag.
-fn is_proper<L: Lookup>(alloc: Global, table: &L, text: &str, answer: bool) -> bool {
-    match read_tag(alloc, text.as_bytes()) {
-        Ok(tag) => matches!(proper(alloc, table, &tag), Ok(proper) if proper == answer),
-        Err(_) => false,
+/// Whether an answer is this fault, or none.
+pub fn is_judgement(answer: &Result<(), ValidRefusal>, told: Option<(&str, u32)>) -> bool {
+    match (answer, told) {
+        (Ok(()), None) => true,
+        (Err(ValidRefusal::Fault(fault)), Some((name, place))) => {
+            fault.kind.name() == name && fault.place == place
+        }
+        _ => false,
     }
 }
 
-/// Each tag is proper as its row says.
-fn proper_tags_are_told<L: Lookup>(rt: &impl Abort, alloc: Global, table: &L) {
-    for (text, answer) in &PROPER_TAGS {
-        assert!(rt; is_proper(alloc, table, text, *answer), "{text}");
-    }
+/// Whether a text's tag is judged so.
+fn judges<L: Lookup>(
+    alloc: Global,
+    table: &L,
+    text: &str,
+    told: Option<(&str, u32)>,
+) -> Result<bool, TagFault> {
+    let tag = read_tag(alloc, text.as_bytes())?;
+    Ok(is_judgement(&validate(alloc, table, &tag), told))
 }
 
-/// A table of the sample has its entries, and judges tags by them.
-fn sample_is_answered<L: Lookup>(rt: &impl Abort, alloc: Global, table: &L) {
-    assert!(rt; table.entries().len() == 46 && finds_hebrew(table));
-    subtags_are_found(rt, table, &SUBTAGS);
-    whole_tags_are_found(rt, alloc, table);
-    faults_are_told(rt, alloc, table);
-    valid_tags_pass(rt, alloc, table);
-    proper_tags_are_told(rt, alloc, table);
+/// Whether a text's tag is proper as this says.
+fn tells_proper<L: Lookup>(
+    alloc: Global,
+    table: &L,
+    text: &str,
+    told: bool,
+) -> Result<bool, TagFault> {
+    let tag = read_tag(alloc, text.as_bytes())?;
+    Ok(matches!(proper(alloc, table, &tag), Ok(answer) if answer == told))
 }
 
+/// Whether a table has the entries of the sample.
+fn has_sample<L: Lookup>(alloc: Global, table: &L) -> Result<bool, TagFault> {
+    Ok(
+        table.entries().len() == 46
+            && finds_hebrew(table)
+            && finds_each(table, &SUBTAGS)
+            && finds_each_whole(alloc, table, &WHOLE_TAGS)?,
+    )
+}
+
+/// Tags are judged by the other table where growths are refused.
 #[test]
-fn the_list_table_of_the_sample(rt: HostRuntime) -> Result<(), Fail> {
-    let text = sample_text(rt.alloc())?;
-    let table = list_table(rt.alloc(), text.as_bytes())?;
-    sample_is_answered(&rt, rt.alloc(), &table);
-    Ok(())
-}
-
-#[test]
-fn the_sorted_table_of_the_sample(rt: HostRuntime) -> Result<(), Fail> {
+fn the_sample_is_answered(rt: HostRuntime) -> Result<(), Fail> {
     let text = sample_text(rt.alloc())?;
     let table = sorted_table(rt.alloc(), text.as_bytes())?;
-    sample_is_answered(&rt, rt.alloc(), &table);
+    assert!(rt; has_sample(rt.alloc(), &table)?);
+    assert!(rt; has_sample(rt.alloc(), &list_table(rt.alloc(), text.as_bytes())?)?);
+    for (text, told) in &JUDGED {
+        assert!(rt; judges(rt.alloc(), &table, text, *told)?, "{text}");
+    }
+    for (text, told) in &PROPER {
+        assert!(rt; tells_proper(rt.alloc(), &table, text, *told)?, "{text}");
+    }
     Ok(())
 }
 
@@ -223,14 +206,17 @@ const IN_REGIONS: [SubtagRow; 4] = [
 
 #[test]
 fn singles_before_ranges(rt: HostRuntime) -> Result<(), Fail> {
-    subtags_are_found(&rt, &list_table(rt.alloc(), REGIONS)?, &IN_REGIONS);
-    subtags_are_found(&rt, &sorted_table(rt.alloc(), REGIONS)?, &IN_REGIONS);
+    assert!(rt; finds_each(&list_table(rt.alloc(), REGIONS)?, &IN_REGIONS));
+    assert!(rt; finds_each(&sorted_table(rt.alloc(), REGIONS)?, &IN_REGIONS));
     Ok(())
 }
 
 /// Whether a table finds the first of two records of a subtag, and of two of a whole tag.
-fn finds_first<L: Lookup>(alloc: Global, table: &L) -> bool {
-    finds(table, Kind::Language, "de", Some(2)) && finds_whole(alloc, table, "sgn-DE", Some(44))
+fn finds_first<L: Lookup>(alloc: Global, table: &L) -> Result<bool, TagFault> {
+    Ok(
+        finds(table, Kind::Language, "de", Some(2))
+            && finds_each_whole(alloc, table, &[("sgn-DE", Some(44))])?,
+    )
 }
 
 /// The sample with a second record of a subtag, and a second one of a whole tag.
@@ -244,7 +230,7 @@ fn doubled_text(alloc: Global) -> Result<String, AllocError> {
 fn tables_find_first(alloc: Global, text: &[u8]) -> Result<bool, Fail> {
     let list = list_table(alloc, text)?;
     let sorted = sorted_table(alloc, text)?;
-    Ok(finds_first(alloc, &list) && finds_first(alloc, &sorted))
+    Ok(finds_first(alloc, &list)? && finds_first(alloc, &sorted)?)
 }
 
 #[test]
