@@ -10,7 +10,7 @@ use Rattle.lt_rewrite.specs.Labels.{LeadsBy}
 use Rattle.lt_rewrite.specs.Names.{name_of}
 use Rattle.lt_rewrite.specs.declared.steps.Step.{Step}
 use Rattle.lt_canon.specs.Explaining.{IsExplanation}
-use Rattle.lt_tool.specs.Owed.{RefusesText}
+use Rattle.lt_lines.specs.Owed.{RefusesText}
 use Rattle.lt_tool.specs.declared.status.Status.{Status}
 use Rattle.lt_tool.specs.declared.status.Status.TheVariants as status
 

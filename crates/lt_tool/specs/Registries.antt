@@ -1,8 +1,7 @@
 -- The registry that a file holds, and why it is refused.
-use Rattle.std.specs.Prelude.{◌≡◌, ◌≢◌, ◌⊎◌, ℕ, List, [], ◌∷◌, ◌++◌, Option, Result, Ok, Err, IfOk, codes, length}
+use Rattle.std.specs.Prelude.{◌≡◌, ◌≢◌, ◌⊎◌, ℕ, List, [], ◌∷◌, ◌++◌, Result, Ok, Err, IfOk, codes, length}
 use Rattle.std.specs.Fmt.{decimal}
 use Rattle.lt_jar.specs.Names as jar_names
-use Rattle.lt_jar.specs.declared.devices.Device.{Device}
 use Rattle.lt_jar.specs.declared.faults.JarFaultKind.{JarFaultKind}
 use Rattle.lt_jar.specs.declared.faults.JarFaultKind.TheVariants as jar_kinds
 use Rattle.lt_tag.specs.declared.faults.OutOfMemory.{OutOfMemory}
@@ -15,6 +14,7 @@ use Rattle.lt_registry.specs.declared.faults.RegistryFault.TheVariants as faults
 use Rattle.lt_canon.specs.declared.conditions.Condition.{Condition}
 use Rattle.lt_canon.specs.Codes as condition_codes
 use Rattle.lt_canon.specs.Conditions.{IsChecked, IsFinding}
+use Rattle.lt_tool.specs.Streams.{Stream}
 use Rattle.lt_tool.specs.declared.lines.Answer.{Answer}
 use Rattle.lt_tool.specs.declared.registries.RegistryRefusal.{RegistryRefusal}
 use Rattle.lt_tool.specs.declared.registries.RegistryRefusal.TheVariants as refusals
@@ -26,9 +26,9 @@ abbrev pub Reading : Type 0
 Reading = Result (List EntryParts) RegistryFault
 
 -- A file was read, and this holds of what the reading gave. `ReadsRegistry` says what that is for the bytes that were read.
-pub record ReadsFile {F : Type 0} (remaining : F → Option (List ℕ)) (file file' : Device F) (Holds : Reading → Type 0) : Type 0 where
+pub record ReadsFile {F : Type 0} (file : Stream F) (Holds : Reading → Type 0) : Type 0 where
   pub reading : Reading
-  pub reads : ReadsRegistry remaining file file' reading
+  pub reads : ReadsRegistry file.bytes file.before file.after reading
   pub holds : Holds reading
 
 -- the file holds these entries, which pass the check
@@ -104,5 +104,5 @@ abbrev pub Checks : Reading → List ℕ → Status → Type 0
 Checks = ByRegistry CountsEntries
 
 -- a file was read, and by what the reading gave the answer is this, unless memory was wanting for it
-abbrev pub Answers : {F : Type 0} → (F → Option (List ℕ)) → (file file' : Device F) → (Reading → List ℕ → Status → Type 0) → Result Answer OutOfMemory → Type 0
-Answers remaining file file' IsAnswer answer = ReadsFile remaining file file' (λ reading. IfOk answer (λ a. IsAnswer reading a.line.items a.status))
+abbrev pub Answers : {F : Type 0} → Stream F → (Reading → List ℕ → Status → Type 0) → Result Answer OutOfMemory → Type 0
+Answers file IsAnswer answer = ReadsFile file (λ reading. IfOk answer (λ a. IsAnswer reading a.line.items a.status))

@@ -1,12 +1,12 @@
 -- What `upgrade` prints for the files of two registries, and how it ends.
-use Rattle.std.specs.Prelude.{◌≡◌, ◌⊎◌, ℕ, List, [], ◌∷◌, ◌++◌, Option, codes}
+use Rattle.std.specs.Prelude.{◌≡◌, ◌⊎◌, ℕ, List, [], ◌∷◌, ◌++◌, codes}
 use Rattle.std.specs.Fmt.{decimal}
 use Rattle.lt_registry.specs.Parts.{EntryParts}
 use Rattle.lt_canon.specs.Codes.{upgrade_code_of}
 use Rattle.lt_canon.specs.Upgrade.{Upgrades, IsUpgradeFinding}
 use Rattle.lt_canon.specs.declared.conditions.UpgradeCondition.{UpgradeCondition}
-use Rattle.lt_jar.specs.declared.devices.Device.{Device}
 use Rattle.lt_tool.specs.Registries.{HoldsRegistry, IsRegistryLine, Reading, ReadsFile, RefusesRegistry}
+use Rattle.lt_tool.specs.Streams.{IsUntouched, Stream}
 use Rattle.lt_tool.specs.declared.registries.RegistryRefusal.{RegistryRefusal}
 use Rattle.lt_tool.specs.declared.status.Status.{Status}
 use Rattle.lt_tool.specs.declared.status.Status.TheVariants as status
@@ -59,8 +59,7 @@ JudgesNewer A newer line end =
     ((B : List EntryParts) × HoldsRegistry newer B × JudgesUpgrade A B line end) ⊎ RefusesMarked new_mark newer line end
 
 -- The older file is read and judged first. Where it is refused, the newer one is left as it is.
-abbrev pub UpgradesFiles : {F G : Type 0} → (F → Option (List ℕ)) → (G → Option (List ℕ)) → (old old' : Device F) → (new new' : Device G)
-    → ((List ℕ → Status → Type 0) → Type 0) → Type 0
-UpgradesFiles remaining remaining' old old' new new' IsAnswered = ReadsFile remaining old old' (λ older.
-    ((new' ≡ new) × IsAnswered (RefusesMarked old_mark older))
-    ⊎ ((A : List EntryParts) × HoldsRegistry older A × ReadsFile remaining' new new' (λ newer. IsAnswered (JudgesNewer A newer))))
+abbrev pub UpgradesFiles : {F G : Type 0} → Stream F → Stream G → ((List ℕ → Status → Type 0) → Type 0) → Type 0
+UpgradesFiles old new IsAnswered = ReadsFile old (λ older.
+    (IsUntouched new × IsAnswered (RefusesMarked old_mark older))
+    ⊎ ((A : List EntryParts) × HoldsRegistry older A × ReadsFile new (λ newer. IsAnswered (JudgesNewer A newer))))

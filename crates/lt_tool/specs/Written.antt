@@ -1,21 +1,20 @@
--- What stands on writers after a text was written to one.
-use Rattle.std.specs.Prelude.{◌≡◌, ◌⊎◌, ℕ, List, [], ◌∷◌, ◌++◌, Option, codes}
-use Rattle.std.specs.Io.KnownBytes.{Appends, Keeps}
+-- What stands on the output and the errors of a run after a text was written to one.
+use Rattle.std.specs.Prelude.{◌≡◌, ◌⊎◌, ℕ, List, [], ◌∷◌, ◌++◌, codes}
+use Rattle.std.specs.Io.KnownBytes.{Appends}
 use Rattle.lt_jar.specs.Devices.{HasFailed, failures_of, inner_of}
-use Rattle.lt_jar.specs.declared.devices.Device.{Device}
+use Rattle.lt_lines.specs.DeviceOutput.{IsFrontOf}
 use Rattle.lt_tool.specs.Codes.{code_of}
+use Rattle.lt_tool.specs.Streams.{IsUntouched, Stream}
 use Rattle.lt_tool.specs.declared.status.Status.{Status}
 use Rattle.lt_tool.specs.declared.status.Status.TheVariants as status
 
--- the text begins with what was written
-abbrev pub IsFrontOf : List ℕ → List ℕ → Type 0
-IsFrontOf written text = (rest : List ℕ) × (text ≡ written ++ rest)
-
--- the front of a text was written, and nothing else
-pub record Says (before after : Option (List ℕ)) (text : List ℕ) : Type 0 where
+-- the text was written, or the writer failed and the front of the text stands there; and nothing else was written
+pub record Says {E : Type 0} (errors : Stream E) (text : List ℕ) : Type 0 where
   pub written : List ℕ
-  pub appends : Appends before after written
+  pub appends : Appends (errors.bytes (inner_of errors.before)) (errors.bytes (inner_of errors.after)) written
   pub front : IsFrontOf written text
+  pub all : ((written ≡ text) × (failures_of errors.after ≡ failures_of errors.before))
+      ⊎ HasFailed errors.before errors.after
 
 -- the lines that name a failure
 abbrev pub write_line : List ℕ
@@ -29,16 +28,15 @@ memory_line = codes "! OutOfMemory" ++ 10 ∷ []
 
 -- A run prints a text to its output, and ends so; or the output failed, the front of the text stands there, and the
 -- errors name it.
-pub record Prints {O : Type 0} (contents : O → Option (List ℕ)) (output output' : Device O) (errors errors' : Option (List ℕ))
-    (text : List ℕ) (end : Status) (result : ℕ) : Type 0 where
+pub record Prints {O E : Type 0} (output : Stream O) (errors : Stream E) (text : List ℕ) (end : Status) (result : ℕ) : Type 0 where
   pub written : List ℕ
-  pub appends : Appends (contents (inner_of output)) (contents (inner_of output')) written
+  pub appends : Appends (output.bytes (inner_of output.before)) (output.bytes (inner_of output.after)) written
   pub front : IsFrontOf written text
-  pub ends : ((result ≡ code_of end) × (written ≡ text) × (failures_of output' ≡ failures_of output) × Keeps errors errors')
-      ⊎ ((result ≡ code_of status.Failed) × HasFailed output output' × Says errors errors' write_line)
+  pub ends : ((result ≡ code_of end) × (written ≡ text) × (failures_of output.after ≡ failures_of output.before) × IsUntouched errors)
+      ⊎ ((result ≡ code_of status.Failed) × HasFailed output.before output.after × Says errors write_line)
 
 -- a run that had no memory for its answer
-pub record LacksMemory {O : Type 0} (output output' : Device O) (errors errors' : Option (List ℕ)) (result : ℕ) : Type 0 where
+pub record LacksMemory {O E : Type 0} (output : Stream O) (errors : Stream E) (result : ℕ) : Type 0 where
   pub failed : result ≡ code_of status.Failed
-  pub printed : output' ≡ output
-  pub said : Says errors errors' memory_line
+  pub printed : IsUntouched output
+  pub said : Says errors memory_line

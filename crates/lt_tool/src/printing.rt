@@ -1,37 +1,29 @@
 //! What a run of the program writes.
 ghost use Rattle.std.specs.Prelude.{◌≡◌};
 ghost use Rattle.lt_tool.specs.Codes.{code_of};
+ghost use Rattle.lt_tool.specs.Streams.{stream};
 ghost use Rattle.lt_tool.specs.Written.{Prints, Says, file_line, memory_line};
 ghost use Rattle.lt_tool.specs.Registries.{ReadsFile};
 ghost use Rattle.lt_tool.specs.Printed.{Canonicalises, EndsRun, Performs, PrintsResult, Reports};
 ghost use Rattle.lt_tool.specs.declared.status.Status.TheVariants.{Failed};
 
-use crate::device_output::write_text;
-use crate::faults::ToolFault;
 use crate::lines::{Answer, classify};
 use crate::registries::{check, read_registry, refuse};
-use crate::runs::{Counts, run_lines};
 use crate::status::Status;
 use crate::tag_commands::{equal, explain, extlang};
 use crate::upgrade_command::upgrade;
-use crate::words::{Command, WordsFault};
 use lt_jar::Device;
+use lt_lines::{Counts, ToolFault, run_lines, write_text};
 use lt_tag::OutOfMemory;
+use lt_words::{Command, WordsFault};
 use std::alloc::Global;
 use std::io::{Read, Write};
 
-/// Writes a text to the errors, up to the first write that fails, which is ignored.
-fn say<E: Write>(text: &[u8], errors: &mut E)
-    ensures { Says (E.contents errors.old) (E.contents errors.new) text.now }
+/// Writes a text to the errors, up to the first write that fails, which their device counts.
+pub(crate) fn say<E: Write>(text: &[u8], errors: &mut Device<E>)
+    ensures { Says (stream E.contents errors.old errors.new) text.now }
 {
-    let mut at = 0;
-    while at < text.len() {
-        match errors.write(&text[at..]) {
-            Ok(0) => return,
-            Ok(count) => at += count,
-            Err(_) => return,
-        }
-    }
+    let _ = write_text(text, errors);
 }
 
 /// Prints a text, for a run that ends so.
@@ -39,9 +31,9 @@ fn print<O: Write, E: Write>(
     text: &[u8],
     end: Status,
     output: &mut Device<O>,
-    errors: &mut E,
+    errors: &mut Device<E>,
 ) -> Status
-    ensures { Prints O.contents output.old output.new (E.contents errors.old) (E.contents errors.new) text.now end (code_of result) }
+    ensures { Prints (stream O.contents output.old output.new) (stream E.contents errors.old errors.new) text.now end (code_of result) }
 {
     match write_text(text, output) {
         Ok(()) => end,
@@ -53,17 +45,17 @@ fn print<O: Write, E: Write>(
 }
 
 /// Says that no memory was left.
-fn report_memory<E: Write>(errors: &mut E) -> Status
+pub(crate) fn report_memory<E: Write>(errors: &mut Device<E>) -> Status
     ensures status { result ≡ Failed }
-    ensures said { Says (E.contents errors.old) (E.contents errors.new) memory_line }
+    ensures said { Says (stream E.contents errors.old errors.new) memory_line }
 {
     say(b"! OutOfMemory\n", errors);
     Status::Failed
 }
 
 /// Says how a run over lines ended.
-fn end_run<E: Write>(end: Result<Counts, ToolFault>, errors: &mut E) -> Status
-    ensures { EndsRun (E.contents errors.old) (E.contents errors.new) end (code_of result) }
+fn end_run<E: Write>(end: Result<Counts, ToolFault>, errors: &mut Device<E>) -> Status
+    ensures { EndsRun (stream E.contents errors.old errors.new) end (code_of result) }
 {
     match end {
         Ok(counts) if counts.refused == 0 => Status::Done,
@@ -79,9 +71,9 @@ fn end_run<E: Write>(end: Result<Counts, ToolFault>, errors: &mut E) -> Status
 fn print_answer<O: Write, E: Write>(
     answer: Result<Answer, OutOfMemory>,
     output: &mut Device<O>,
-    errors: &mut E,
+    errors: &mut Device<E>,
 ) -> Status
-    ensures { PrintsResult O.contents output.old output.new (E.contents errors.old) (E.contents errors.new) answer (code_of result) }
+    ensures { PrintsResult (stream O.contents output.old output.new) (stream E.contents errors.old errors.new) answer (code_of result) }
 {
     match answer {
         Ok(answer) => print(&answer.line, answer.status, output, errors),
@@ -95,10 +87,10 @@ fn canon<F: Read, I: Read, O: Write, E: Write>(
     file: &mut Device<F>,
     input: &mut Device<I>,
     output: &mut Device<O>,
-    errors: &mut E,
+    errors: &mut Device<E>,
 ) -> Status
-    ensures { ReadsFile F.remaining file.old file.new (Canonicalises I.remaining O.contents input.old input.new
-        output.old output.new (E.contents errors.old) (E.contents errors.new) (code_of result)) }
+    ensures { ReadsFile (stream F.remaining file.old file.new) (Canonicalises (stream I.remaining input.old input.new)
+        (stream O.contents output.old output.new) (stream E.contents errors.old errors.new) (code_of result)) }
 {
     match read_registry(alloc, file) {
         Ok(checked) => end_run(run_lines(alloc, &checked, input, output), errors),
@@ -114,10 +106,11 @@ fn run<F: Read, G: Read, I: Read, O: Write, E: Write>(
     second: &mut Device<G>,
     input: &mut Device<I>,
     output: &mut Device<O>,
-    errors: &mut E,
+    errors: &mut Device<E>,
 ) -> Status
-    ensures { Performs F.remaining G.remaining I.remaining O.contents command.now first.old first.new second.old second.new
-        input.old input.new output.old output.new (E.contents errors.old) (E.contents errors.new) (code_of result) }
+    ensures { Performs command.now (stream F.remaining first.old first.new) (stream G.remaining second.old second.new)
+        (stream I.remaining input.old input.new) (stream O.contents output.old output.new)
+        (stream E.contents errors.old errors.new) (code_of result) }
 {
     match command {
         Command::Classify(tag) => print_answer(classify(alloc, tag.as_bytes()), output, errors),
@@ -143,7 +136,8 @@ fn run<F: Read, G: Read, I: Read, O: Write, E: Write>(
 /// and so is the second of `upgrade` where the first is refused. A file is read record by record, up to its end or
 /// the first line at fault. The answer is written to `output` at once; `canon` answers the lines of `input` as they
 /// come. A read of a file that fails, or is one too many, is answered as a fault of the file. A write to `output` that
-/// fails, a read of `input` that fails, and want of memory are named on `errors`; a write there that fails is ignored.
+/// fails, a read of `input` that fails, and an allocation that fails are named on `errors`; a write
+/// there that fails is counted by the device alone.
 pub fn perform<F: Read, G: Read, I: Read, O: Write, E: Write>(
     alloc: Global,
     command: &Command,
@@ -151,18 +145,19 @@ pub fn perform<F: Read, G: Read, I: Read, O: Write, E: Write>(
     second: &mut Device<G>,
     input: &mut Device<I>,
     output: &mut Device<O>,
-    errors: &mut E,
+    errors: &mut Device<E>,
 ) -> u8
-    ensures { Performs F.remaining G.remaining I.remaining O.contents command.now first.old first.new second.old second.new
-        input.old input.new output.old output.new (E.contents errors.old) (E.contents errors.new) result }
+    ensures { Performs command.now (stream F.remaining first.old first.new) (stream G.remaining second.old second.new)
+        (stream I.remaining input.old input.new) (stream O.contents output.old output.new)
+        (stream E.contents errors.old errors.new) result }
 {
     run(alloc, command, first, second, input, output, errors).code()
 }
 
 /// Says that a file can't be read, and answers the exit status.
-pub fn report_file<E: Write>(errors: &mut E) -> u8
+pub fn report_file<E: Write>(errors: &mut Device<E>) -> u8
     ensures status { result ≡ code_of Failed }
-    ensures said { Says (E.contents errors.old) (E.contents errors.new) file_line }
+    ensures said { Says (stream E.contents errors.old errors.new) file_line }
 {
     say(b"! File\n", errors);
     Status::Failed.code()
@@ -171,8 +166,12 @@ pub fn report_file<E: Write>(errors: &mut E) -> u8
 /// Says why the words are no command, and answers the exit status.
 ///
 /// Help goes to `output`, and any other fault to `errors`.
-pub fn report<O: Write, E: Write>(fault: &WordsFault, output: &mut Device<O>, errors: &mut E) -> u8
-    ensures { Reports fault.now O.contents output.old output.new (E.contents errors.old) (E.contents errors.new) result }
+pub fn report<O: Write, E: Write>(
+    fault: &WordsFault,
+    output: &mut Device<O>,
+    errors: &mut Device<E>,
+) -> u8
+    ensures { Reports fault.now (stream O.contents output.old output.new) (stream E.contents errors.old errors.new) result }
 {
     let status = match fault {
         WordsFault::Help(text) => print(text.as_bytes(), Status::Done, output, errors),

@@ -1,6 +1,7 @@
 //! The registry that a command names.
 ghost use Rattle.std.specs.Prelude.{◌≡◌, Err, IfOk, Ok};
 ghost use Rattle.lt_tool.specs.Registries.{Answers, Checks, CountsEntries, IsJudged, IsRegistryLine, IsRegistryRefusal, ReadsFile, refused_end};
+ghost use Rattle.lt_tool.specs.Streams.{stream};
 
 use crate::lines::Answer;
 use crate::status::Status;
@@ -79,7 +80,7 @@ pub(crate) fn read_registry<F: Read>(
     alloc: Global,
     file: &mut Device<F>,
 ) -> Result<Checked<SortedTable>, RegistryRefusal>
-    ensures { ReadsFile F.remaining file.old file.new (λ reading. IsJudged reading result) }
+    ensures { ReadsFile (stream F.remaining file.old file.new) (λ reading. IsJudged reading result) }
 {
     match Registry::read(alloc, file) {
         Ok(registry) => check_entries(alloc, registry),
@@ -137,7 +138,7 @@ fn count_entries<L: Lookup>(alloc: Global, checked: &Checked<L>) -> Result<Answe
 
 /// What `check` answers to a file.
 pub(crate) fn check<F: Read>(alloc: Global, file: &mut Device<F>) -> Result<Answer, OutOfMemory>
-    ensures { Answers F.remaining file.old file.new Checks result }
+    ensures { Answers (stream F.remaining file.old file.new) Checks result }
 {
     match read_registry(alloc, file) {
         Ok(checked) => count_entries(alloc, &checked),

@@ -2,18 +2,19 @@
 ghost use Rattle.std.specs.Prelude.{◌≡◌, IfOk, IfErr};
 ghost use Rattle.lt_canon.specs.Texts.{IsTextRefusal};
 ghost use Rattle.lt_tool.specs.Explanations.{Explains};
-ghost use Rattle.lt_tool.specs.Owed.{IsRefusalLine};
+ghost use Rattle.lt_lines.specs.Owed.{IsRefusalLine};
 ghost use Rattle.lt_tool.specs.Registries.{Answers, ByRegistry};
 ghost use Rattle.lt_tool.specs.TagCommands.{Compares, FormsExtlang, IsEqualityOf, IsExtlangTextOf, IsPairRefusal};
 ghost use Rattle.lt_tool.specs.declared.status.Status.TheVariants.{Refused};
+ghost use Rattle.lt_tool.specs.Streams.{stream};
 
-use crate::answer_lines::append_refusal;
 use crate::explanations::explanation;
 use crate::lines::Answer;
 use crate::registries::{read_registry, refuse};
 use crate::status::Status;
 use lt_canon::{Checked, TextRefusal, equivalent, extlang_form};
 use lt_jar::Device;
+use lt_lines::append_refusal;
 use lt_registry::Lookup;
 use lt_tag::{OutOfMemory, read_tag, write_tag};
 use std::alloc::Global;
@@ -123,7 +124,7 @@ pub(crate) fn extlang<F: Read>(
     file: &mut Device<F>,
     text: &[u8],
 ) -> Result<Answer, OutOfMemory>
-    ensures { Answers F.remaining file.old file.new (ByRegistry (λ R. FormsExtlang R text.now)) result }
+    ensures { Answers (stream F.remaining file.old file.new) (ByRegistry (λ R. FormsExtlang R text.now)) result }
 {
     match read_registry(alloc, file) {
         Ok(checked) => answer_extlang(alloc, &checked, text),
@@ -138,7 +139,7 @@ pub(crate) fn equal<F: Read>(
     first: &[u8],
     second: &[u8],
 ) -> Result<Answer, OutOfMemory>
-    ensures { Answers F.remaining file.old file.new (ByRegistry (λ R. Compares R first.now second.now)) result }
+    ensures { Answers (stream F.remaining file.old file.new) (ByRegistry (λ R. Compares R first.now second.now)) result }
 {
     match read_registry(alloc, file) {
         Ok(checked) => answer_equal(alloc, &checked, first, second),
@@ -152,7 +153,7 @@ pub(crate) fn explain<F: Read>(
     file: &mut Device<F>,
     text: &[u8],
 ) -> Result<Answer, OutOfMemory>
-    ensures { Answers F.remaining file.old file.new (ByRegistry (λ R. Explains R text.now)) result }
+    ensures { Answers (stream F.remaining file.old file.new) (ByRegistry (λ R. Explains R text.now)) result }
 {
     match read_registry(alloc, file) {
         Ok(checked) => answer_explain(alloc, &checked, text),

@@ -1,6 +1,7 @@
 //! The words of the command line, and what a run prints.
 mod growths;
 mod hostile;
+mod program;
 mod registries;
 mod sample;
 mod tags;
@@ -119,6 +120,17 @@ fn first_files(rt: HostRuntime) {
     }
 }
 
+/// Whether the words name a command that reads the input.
+fn reads_input(read: &Result<Command, WordsFault>) -> bool {
+    matches!(read, Ok(command) if command.reads_input())
+}
+
+#[test]
+fn commands_that_read_the_input(rt: HostRuntime) {
+    assert!(rt; reads_input(&read(rt.alloc(), &["canon", "registry"])));
+    assert!(rt; !reads_input(&read(rt.alloc(), &["check", "registry"])));
+}
+
 /// What a command reads that names no file.
 const NO_FILE: &[u8] = &[];
 
@@ -143,7 +155,7 @@ fn prints(
         &mut Device::new(NO_FILE),
         &mut Device::new(lines),
         &mut Device::new(&mut output),
-        &mut errors,
+        &mut Device::new(&mut errors),
     );
     end == status && errors.is_empty() && output.as_slice() == shown.as_bytes()
 }
@@ -244,7 +256,7 @@ fn perform_broken<E: Write>(alloc: Global, command: &Command, fails: bool, error
         &mut Device::new(NO_FILE),
         &mut Device::new(io::empty()),
         &mut Device::new(Broken { fails }),
-        errors,
+        &mut Device::new(errors),
     )
 }
 
@@ -270,7 +282,11 @@ fn writes_that_fail(rt: HostRuntime) {
 /// Whether a fault of the words prints this, says this to the errors, and ends so.
 fn reports(alloc: Global, fault: &WordsFault, printed: &str, said: &str, end: Status) -> bool {
     let (mut output, mut errors) = (Vec::new(alloc), Vec::new(alloc));
-    let status = report(fault, &mut Device::new(&mut output), &mut errors);
+    let status = report(
+        fault,
+        &mut Device::new(&mut output),
+        &mut Device::new(&mut errors),
+    );
     status == end.code()
         && output.as_slice() == printed.as_bytes()
         && errors.as_slice() == said.as_bytes()
@@ -280,7 +296,7 @@ fn reports(alloc: Global, fault: &WordsFault, printed: &str, said: &str, end: St
 fn reports_write(alloc: Global, fault: &WordsFault) -> bool {
     let mut errors = Vec::new(alloc);
     let mut output = Device::new(Broken { fails: true });
-    let status = report(fault, &mut output, &mut errors);
+    let status = report(fault, &mut output, &mut Device::new(&mut errors));
     status == 4 && errors.as_slice() == b"! Write\n".as_slice()
 }
 
@@ -299,7 +315,7 @@ fn faults_of_the_words(rt: HostRuntime) -> Result<(), Fail> {
 #[test]
 fn files_that_fail(rt: HostRuntime) {
     let mut errors = Vec::new(rt.alloc());
-    assert!(rt; report_file(&mut errors) == Status::Failed.code());
+    assert!(rt; report_file(&mut Device::new(&mut errors)) == Status::Failed.code());
     assert!(rt; errors.as_slice() == b"! File\n".as_slice());
     assert!(rt; ToolFault::TooManyTurns.name() == "TooManyTurns");
 }

@@ -2,6 +2,7 @@
 ghost use Rattle.std.specs.Prelude.{◌≡◌, IfOk};
 ghost use Rattle.lt_tool.specs.Registries.{Answers, refused_end};
 ghost use Rattle.lt_tool.specs.UpgradeCommand.{IsMarkedLine, JudgesNewer, JudgesUpgrade, UpgradesFiles};
+ghost use Rattle.lt_tool.specs.Streams.{stream};
 
 use crate::lines::Answer;
 use crate::registries::{RegistryRefusal, line_of_refusal, read_registry};
@@ -66,7 +67,7 @@ fn judge_newer<A: Lookup, G: Read>(
     older: &Checked<A>,
     new: &mut Device<G>,
 ) -> Result<Answer, OutOfMemory>
-    ensures { Answers G.remaining new.old new.new (JudgesNewer (A.listed older.now)) result }
+    ensures { Answers (stream G.remaining new.old new.new) (JudgesNewer (A.listed older.now)) result }
 {
     match read_registry(alloc, new) {
         Ok(newer) => answer_upgrade(alloc, older, &newer),
@@ -81,7 +82,7 @@ pub(crate) fn upgrade<F: Read, G: Read>(
     old: &mut Device<F>,
     new: &mut Device<G>,
 ) -> Result<Answer, OutOfMemory>
-    ensures { UpgradesFiles F.remaining G.remaining old.old old.new new.old new.new
+    ensures { UpgradesFiles (stream F.remaining old.old old.new) (stream G.remaining new.old new.new)
         (λ IsAnswer. IfOk result (λ answer. IsAnswer answer.line.items answer.status)) }
 {
     match read_registry(alloc, old) {

@@ -125,7 +125,7 @@ fn perform_on(alloc: Global, command: &Command, file: &str) -> Ended {
         &mut Device::new(file.as_bytes()),
         &mut Device::new(LINES),
         &mut Device::new(&mut output),
-        &mut errors,
+        &mut Device::new(&mut errors),
     );
     Ended {
         status,

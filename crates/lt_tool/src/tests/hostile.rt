@@ -95,7 +95,7 @@ fn canon_fails<R: Read + Drop, W: Write>(
         &mut Device::new(NO_FILE),
         &mut Device::new(reader),
         &mut Device::new(writer),
-        &mut errors,
+        &mut Device::new(&mut errors),
     );
     end == 4 && errors.as_slice() == said
 }
@@ -213,7 +213,7 @@ fn is_judged(alloc: Global, command: &Command, file: &[u8]) -> bool {
         &mut Device::new(NO_FILE),
         &mut Device::new(NO_FILE),
         &mut Device::new(&mut output),
-        &mut errors,
+        &mut Device::new(&mut errors),
     );
     let wanted = if output.starts_with(b"ok ") { 0 } else { 2 };
     end == wanted && errors.is_empty()

@@ -222,7 +222,7 @@ fn names(
             taken: &mut taken,
             calls_left: writes_left,
         }),
-        &mut errors,
+        &mut Device::new(&mut errors),
     );
     end == 4 && taken.as_slice() == owed.as_bytes() && errors.as_slice() == named
 }
@@ -255,7 +255,7 @@ pub fn prints_of_reader(
         &mut Device::new(NO_FILE),
         &mut input,
         &mut Device::new(&mut output),
-        &mut errors,
+        &mut Device::new(&mut errors),
     );
     end == status
         && errors.is_empty()

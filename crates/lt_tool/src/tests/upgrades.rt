@@ -20,7 +20,7 @@ fn prints(alloc: Global, old: &[u8], new: &[u8], shown: &str, status: u8) -> boo
         &mut Device::new(new),
         &mut Device::new(io::empty()),
         &mut Device::new(&mut output),
-        &mut errors,
+        &mut Device::new(&mut errors),
     );
     end == status && errors.is_empty() && output.as_slice() == shown.as_bytes()
 }
@@ -114,7 +114,7 @@ fn fails(
         &mut new,
         &mut Device::new(io::empty()),
         &mut Device::new(&mut output),
-        &mut errors,
+        &mut Device::new(&mut errors),
     );
     end == status
         && errors.is_empty()

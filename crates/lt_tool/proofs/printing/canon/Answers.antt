@@ -4,7 +4,7 @@ use Rattle.lt_tool.proofs.AnswerLemmas.{printed_answer, read_more, refused_answe
 use Rattle.lt_tool.proofs.printing.canon.Goals as goal
 
 pub returns-in-Ok : goal.returns-in-Ok
-returns-in-Ok g c = read_more g.F.Read.remaining _ _ _ _ c.in-Ok.ensures (λ reading holds. inr (record {
+returns-in-Ok g c = read_more _ _ _ c.in-Ok.ensures (λ reading holds. inr (record {
   entries = c.in-Ok.checked;
   registry = holds;
   end = c.run_lines.result;
@@ -13,9 +13,9 @@ returns-in-Ok g c = read_more g.F.Read.remaining _ _ _ _ c.in-Ok.ensures (λ rea
 }))
 
 pub returns-in-Err : goal.returns-in-Err
-returns-in-Err g c = read_more g.F.Read.remaining _ _ _ _ c.in-Err.ensures (λ reading is.
+returns-in-Err g c = read_more _ _ _ c.in-Err.ensures (λ reading is.
     inl (
       refl,
-      printed_answer _ (RefusesRegistry reading) _ _ _ _ c.refuse.result _
+      printed_answer (RefusesRegistry reading) _ _ c.refuse.result _
           (refused_answer reading c.in-Err.refusal c.refuse.result is c.refuse.ensures.line c.refuse.ensures.status) c.print_answer.ensures,
     ))

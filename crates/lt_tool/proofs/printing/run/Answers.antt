@@ -8,12 +8,12 @@ use Rattle.lt_tool.proofs.printing.run.Goals as goal
 
 pub returns-in-Classify : goal.returns-in-Classify
 returns-in-Classify g c =
-    let printed = printed_answer _ (Classifies c.as_bytes.result.now) _ _ _ _ c.classify.result _ c.classify.ensures c.print_answer.ensures in
+    let printed = printed_answer (Classifies c.as_bytes.result.now) _ _ c.classify.result _ c.classify.ensures c.print_answer.ensures in
     rw c.in-Classify.is (refl, refl, refl, rw c.as_bytes.ensures.value at printed)
 
 pub returns-in-Check : goal.returns-in-Check
 returns-in-Check g c =
-    rw c.in-Check.is (refl, refl, printed_by g.F.Read.remaining _ _ _ Checks _ _ _ _ c.check.result _ c.check.ensures c.print_answer-in-Check.ensures)
+    rw c.in-Check.is (refl, refl, printed_by _ Checks _ _ c.check.result _ c.check.ensures c.print_answer-in-Check.ensures)
 
 pub returns-in-Canon : goal.returns-in-Canon
 returns-in-Canon g c = rw c.in-Canon.is (refl, c.canon.ensures)
@@ -21,25 +21,25 @@ returns-in-Canon g c = rw c.in-Canon.is (refl, c.canon.ensures)
 pub returns-in-Extlang : goal.returns-in-Extlang
 returns-in-Extlang g c =
     let answers = ByRegistry (λ R. FormsExtlang R c.as_bytes-in-Extlang.result.now) in
-    let printed = printed_by g.F.Read.remaining _ _ _ answers _ _ _ _ c.extlang.result _ c.extlang.ensures c.print_answer-in-Extlang.ensures in
+    let printed = printed_by _ answers _ _ c.extlang.result _ c.extlang.ensures c.print_answer-in-Extlang.ensures in
     rw c.in-Extlang.is (refl, refl, rw c.as_bytes-in-Extlang.ensures.value at printed)
 
 pub returns-in-Equal : goal.returns-in-Equal
 returns-in-Equal g c =
     let answers = ByRegistry (λ R. Compares R c.as_bytes-in-Equal.result.now c.as_bytes-in-Equal-2.result.now) in
-    let printed = printed_by g.F.Read.remaining _ _ _ answers _ _ _ _ c.equal-answer.result _ c.equal-answer.ensures c.print_answer-in-Equal.ensures in
+    let printed = printed_by _ answers _ _ c.equal-answer.result _ c.equal-answer.ensures c.print_answer-in-Equal.ensures in
     rw c.in-Equal.is (refl, refl, rw (c.as_bytes-in-Equal.ensures.value, c.as_bytes-in-Equal-2.ensures.value) at printed)
 
 pub returns-in-Explain : goal.returns-in-Explain
 returns-in-Explain g c =
     let answers = ByRegistry (λ R. Explains R c.as_bytes-in-Explain.result.now) in
-    let printed = printed_by g.F.Read.remaining _ _ _ answers _ _ _ _ c.explain.result _ c.explain.ensures c.print_answer-in-Explain.ensures in
+    let printed = printed_by _ answers _ _ c.explain.result _ c.explain.ensures c.print_answer-in-Explain.ensures in
     rw c.in-Explain.is (refl, refl, rw c.as_bytes-in-Explain.ensures.value at printed)
 
 pub returns-in-Upgrade : goal.returns-in-Upgrade
 returns-in-Upgrade g c =
     rw c.in-Upgrade.is (
       refl,
-      upgrades_more g.F.Read.remaining g.G.Read.remaining _ _ _ _ _ _ c.upgrade.ensures
-          (λ IsAnswer made. printed_answer _ IsAnswer _ _ _ _ c.upgrade.result _ made c.print_answer-in-Upgrade.ensures),
+      upgrades_more _ _ _ _ c.upgrade.ensures
+          (λ IsAnswer made. printed_answer IsAnswer _ _ c.upgrade.result _ made c.print_answer-in-Upgrade.ensures),
     )

@@ -1,0 +1,8 @@
+-- Lemmas on answers to lines.
+pub mod WrittenLemmas
+pub mod DeviceLemmas
+pub mod OwedLemmas
+pub mod TextLemmas
+pub mod TakenLemmas
+pub mod PieceLemmas
+pub mod RunLemmas

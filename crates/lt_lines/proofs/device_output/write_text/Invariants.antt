@@ -1,0 +1,13 @@
+use Rattle.std.proofs.Common.{◌≡◌, ◌-◌, length}
+use Rattle.lt_jar.specs.Devices.{failures_of, inner_of}
+use Rattle.lt_lines.proofs.WrittenLemmas.{Writing}
+use Rattle.lt_lines.proofs.device_output.write_text.Given as goal
+
+abbrev pub invariant-loop-at : goal.invariant-loop-at
+invariant-loop-at g l = record {
+  front : Writing (g.W.Write.contents (inner_of l.fn.output)) (g.W.Write.contents (inner_of l.output)) l.text l.at;
+  failures : failures_of l.output ≡ failures_of l.fn.output;
+}
+
+abbrev pub decreases-loop-at : goal.decreases-loop-at
+decreases-loop-at g l = length l.text - l.at

@@ -1,0 +1,15 @@
+-- The names of the faults that end a run.
+use Rattle.std.specs.Prelude.{ℕ, List, [], ◌∷◌, ◌++◌, codes}
+use Rattle.lt_lines.specs.declared.faults.ToolFault.{ToolFault}
+use Rattle.lt_lines.specs.declared.faults.ToolFault.TheVariants as faults
+
+-- the name of a fault, as it is printed
+abbrev pub tool_name_of : ToolFault → List ℕ
+tool_name_of faults.Read = codes "Read"
+tool_name_of faults.Write = codes "Write"
+tool_name_of faults.TooManyTurns = codes "TooManyTurns"
+tool_name_of faults.OutOfMemory = codes "OutOfMemory"
+
+-- the line that says what ended a run
+abbrev pub fault_said : ToolFault → List ℕ
+fault_said fault = codes "! " ++ tool_name_of fault ++ 10 ∷ []

@@ -1,0 +1,6 @@
+-- What the contracts of a run over lines cite.
+pub mod Faults
+pub mod DeviceOutput
+pub mod Owed
+pub mod Answering
+pub mod Running

@@ -1,0 +1,70 @@
+//! Runs over the lines of a reader.
+ghost use Rattle.std.specs.Prelude.{◌≡◌, ◌<◌, ◌+◌, ◌^◌};
+ghost use Rattle.lt_lines.specs.Answering.{one_if};
+ghost use Rattle.lt_lines.specs.Running.{RunsLines};
+
+use crate::answering::Answering;
+use crate::faults::ToolFault;
+use lt_canon::Checked;
+use lt_jar::Device;
+use lt_registry::Lookup;
+use std::alloc::Global;
+use std::io::{Read, Write};
+
+/// The most reads of one run.
+const MOST_READS: u32 = 10_000_000;
+
+/// The most bytes that a read is asked for.
+const PIECE: usize = 65536;
+
+/// What a run over lines did.
+#[derive(Clone, Copy, Debug, PartialEq, Eq)]
+pub struct Counts {
+    /// The lines that were answered.
+    pub lines: u64,
+    /// Those of them whose text was refused.
+    pub refused: u64,
+}
+
+impl Counts {
+    /// Counts one line more.
+    pub(crate) fn count(&mut self, refused: bool)
+        requires { (self.old.lines + 1 < 2 ^ 64) × (self.old.refused + 1 < 2 ^ 64) }
+        ensures lines { self.new.lines ≡ self.old.lines + 1 }
+        ensures refused { self.new.refused ≡ self.old.refused + one_if refused }
+    {
+        self.lines += 1;
+        if refused {
+            self.refused += 1;
+        }
+    }
+}
+
+/// Answers each line of a reader by one line, in order, each ended by a line feed: by the canonical text, or by `! `,
+/// the name of the fault and its place, or by `! ReplacementRepeats ` and the variant in lower case.
+///
+/// A line feed ends a line, and what follows the last one is a line if it is anything; a carriage return that ends a
+/// line is no part of its text. What is owed for the lines of the bytes that were read is written before the next read.
+///
+/// - `Read`, if a read fails: what is owed for each line whose line feed was read has been written.
+/// - `TooManyTurns`, if all 10,000,000 reads were made and the last gave bytes: the same has been written.
+/// - `Write`, if a write fails or takes none of some bytes, and `OutOfMemory`: a front of what is owed was written.
+pub fn run_lines<L: Lookup, R: Read, W: Write>(
+    alloc: Global,
+    checked: &Checked<L>,
+    input: &mut Device<R>,
+    output: &mut Device<W>,
+) -> Result<Counts, ToolFault>
+    ensures { RunsLines (L.listed checked.now) R.remaining W.contents input.old input.new output.old output.new result }
+{
+    let mut buffer = vec![in alloc; 0u8; PIECE]?;
+    let mut answering = Answering::new(alloc);
+    for _turn in 0..MOST_READS {
+        match input.read(&mut buffer) {
+            Ok(0) => return answering.finish(alloc, checked, output),
+            Ok(count) => answering.take_piece(alloc, checked, &buffer[..count], output)?,
+            Err(_) => return Err(ToolFault::Read),
+        }
+    }
+    Err(ToolFault::TooManyTurns)
+}

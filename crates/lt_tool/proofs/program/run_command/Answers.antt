@@ -1,0 +1,26 @@
+use Rattle.std.proofs.Common.{◌≡◌, Ok, Err, true, false, refl, rules}
+use Rattle.lt_words.specs.Reading.{reads_input_of}
+use Rattle.lt_tool.proofs.program.run_command.Goals as goal
+
+pub returns-in-Ok : goal.returns-in-Ok
+returns-in-Ok g c =
+    let reads : reads_input_of c.args.command.now ≡ true = search rules in
+    rw reads (record {
+      answer = Ok c.in-Ok.field-0;
+      between = c.read.new.self;
+      asks = record { buffer = c.read.new.buf; empty = search rules; consumes = c.in-Ok.ensures.bytes };
+      goes_on = c.run_on_files-in-Ok.ensures;
+    })
+
+pub returns-in-Err : goal.returns-in-Err
+returns-in-Err g c =
+    let reads : reads_input_of c.args.command.now ≡ true = search rules in
+    rw reads (record {
+      answer = Err c.in-Err.field-0;
+      between = c.read.new.self;
+      asks = record { buffer = c.read.new.buf; empty = search rules; consumes = c.in-Err.ensures.bytes };
+      goes_on = (
+        refl,
+        record { failed = c.refuse_input.ensures.status; opened = refl; printed = refl; said = c.refuse_input.ensures.said },
+      );
+    })

@@ -1,0 +1,178 @@
+-- A run of the program, from its words to its exit status.
+use Rattle.std.specs.Prelude.{◌≡◌, ◌≢◌, ◌⊎◌, ℕ, Bool, true, false, List, [], ◌∷◌, ◌++◌, Option, Some, None, String, Vec, Result, Ok, Err, length, map, codes, string_bytes}
+use Rattle.std.specs.IoError.{error_kind}
+use Rattle.std.specs.Io.KnownBytes.{ReadConsumes}
+use Rattle.std.specs.declared.alloc.Global.{Global}
+use Rattle.std.specs.declared.io.Error.{Error}
+use Rattle.std.specs.declared.io.ErrorKind.{ErrorKind}
+use Rattle.std.specs.declared.io.ErrorKind.TheVariants as kinds
+use Rattle.lt_jar.specs.Devices.{failures_of, inner_of, reads_of}
+use Rattle.lt_jar.specs.declared.devices.Device.{Device}
+use Rattle.lt_words.specs.Reading.{IsRefused, Reads, first_file_of, reads_input_of, second_file_of}
+use Rattle.lt_words.specs.declared.commands.Command.{Command}
+use Rattle.lt_words.specs.declared.faults.WordsFault.{WordsFault}
+use Rattle.lt_words.specs.declared.faults.WordsFault.TheVariants as fault
+use Rattle.lt_tool.specs.Codes.{code_of}
+use Rattle.lt_tool.specs.Printed.{Performs, Reports}
+use Rattle.lt_tool.specs.Streams.{IsUntouched, Stream, stream}
+use Rattle.lt_tool.specs.Written.{Says, file_line, memory_line}
+use Rattle.lt_tool.specs.declared.status.Status.TheVariants as status
+
+-- the words of the command line, or why they can't be had
+abbrev pub GivenWords : Type 0
+GivenWords = Result (List (List ℕ)) Error
+
+-- the bytes of each word
+abbrev pub texts_of : Result (Vec (String Global) Global) Error → GivenWords
+texts_of (Ok words) = Ok (map string_bytes words.items)
+texts_of (Err error) = Err error
+
+-- the words are there, and name this command
+abbrev pub NamesCommand : GivenWords → Command → Type 0
+NamesCommand (Ok words) command = Reads words command
+NamesCommand (Err error) command = ⊥
+
+-- why there is no command; out of memory aside, words that can't be had are a fault of usage
+abbrev pub IsProgramFault : GivenWords → WordsFault → Type 0
+IsProgramFault (Ok words) f = IsRefused words f
+IsProgramFault (Err error) (fault.Help text) = ⊥
+IsProgramFault (Err error) (fault.Usage text) = error_kind error ≢ kinds.OutOfMemory
+IsProgramFault (Err error) fault.OutOfMemory = Unit {0}
+
+-- what opens files: a call on a name leads from one of its states to the next, with this answer; the bytes of a file;
+-- and its state before and after the run
+pub record Opener (P F : Type 0) : Type 1 where
+  pub calls : P → List ℕ → Result F Error → P → Type 0
+  pub bytes : F → Option (List ℕ)
+  pub before : P
+  pub after : P
+
+abbrev pub opener_of : {P F : Type 0} → (P → List ℕ → Result F Error → P → Type 0) → (F → Option (List ℕ)) → (before after : P) → Opener P F
+opener_of calls bytes before after = record { calls = calls; bytes = bytes; before = before; after = after }
+
+-- a device that was not read or written so far
+pub record IsNew {T : Type 0} (inner : T) (device : Device T) : Type 0 where
+  pub holds : inner_of device ≡ inner
+  pub failures : failures_of device ≡ 0
+  pub reads : reads_of device ≡ 0
+
+-- the line for a file that can't be opened
+abbrev pub open_line : ErrorKind → List ℕ
+open_line kinds.OutOfMemory = memory_line
+open_line kind = file_line
+
+-- a file can't be opened: nothing is read, and the errors say why
+pub record RefusesFile {I O E : Type 0} (error : Error) (input : Stream I) (output : Stream O) (errors : Stream E) (result : ℕ) : Type 0 where
+  pub failed : result ≡ code_of status.Failed
+  pub read : IsUntouched input
+  pub printed : IsUntouched output
+  pub said : Says errors (open_line (error_kind error))
+
+-- by what the opening of a file answered, the run goes on with a device of the file, or ends for this reason
+abbrev pub GoesOn : {F : Type 0} → Result F Error → (Device F → Type 0) → (Error → Type 0) → Type 0
+GoesOn {F} (Ok file) Goes Ends = (device : Device F) × IsNew file device × Goes device
+GoesOn {F} (Err error) Goes Ends = Ends error
+
+-- a file of this name is opened, and then the run goes on so, or ends so, from this state of the opener
+pub record Opens {P F : Type 0} (calls : P → List ℕ → Result F Error → P → Type 0) (before : P) (name : List ℕ)
+    (Goes : P → Device F → Type 0) (Ends : P → Error → Type 0) : Type 0 where
+  pub answer : Result F Error
+  pub between : P
+  pub called : calls before name answer between
+  pub goes_on : GoesOn answer (Goes between) (Ends between)
+
+-- the command is performed on these devices, and nothing more is opened
+pub record PerformsOn {P F G I O E : Type 0} (command : Command) (of_first : F → Option (List ℕ)) (of_second : G → Option (List ℕ))
+    (state after : P) (first : Device F) (second : Device G) (input : Stream I) (output : Stream O) (errors : Stream E) (result : ℕ) : Type 0 where
+  pub opened : after ≡ state
+  pub first' : Device F
+  pub second' : Device G
+  pub performs : Performs command (stream of_first first first') (stream of_second second second') input output errors result
+
+-- no file is opened after this state, and the run ends since the one before can't be
+pub record EndsAt {P I O E : Type 0} (state after : P) (input : Stream I) (output : Stream O) (errors : Stream E) (result : ℕ) (error : Error) : Type 0 where
+  pub opened : after ≡ state
+  pub refuses : RefusesFile error input output errors result
+
+-- the file that the command names second, if it names one, is opened, and the command performed on both
+abbrev pub RunsOnFirst : {P F N I O E : Type 0} → Command → Opener P F → (N → Option (List ℕ)) → Stream I → Stream O → Stream E → ℕ
+    → Device F → Option (List ℕ) → Type 0
+RunsOnFirst {P} {F} {N} command opener of_none input output errors result first None =
+    (none : Device N) × PerformsOn command opener.bytes of_none opener.before opener.after first none input output errors result
+RunsOnFirst command opener of_none input output errors result first (Some name) =
+    Opens opener.calls opener.before name
+    (λ between second. PerformsOn command opener.bytes opener.bytes between opener.after first second input output errors result)
+    (λ between error. EndsAt between opener.after input output errors result error)
+
+-- The file that the command names first, if it names one, is opened, and then the second.
+abbrev pub RunsOnFiles : {P F N I O E : Type 0} → Command → Opener P F → (N → Option (List ℕ)) → Stream I → Stream O → Stream E → ℕ
+    → Option (List ℕ) → Type 0
+RunsOnFiles {P} {F} {N} command opener of_none input output errors result None =
+    (none : Device N) × (other : Device N)
+    × PerformsOn command of_none of_none opener.before opener.after none other input output errors result
+RunsOnFiles command opener of_none input output errors result (Some name) =
+    Opens opener.calls opener.before name
+    (λ between first. RunsOnFirst command (opener_of opener.calls opener.bytes between opener.after) of_none input output errors result
+    first (second_file_of command))
+    (λ between error. EndsAt between opener.after input output errors result error)
+
+-- the input was read into a buffer of no bytes, and answered this
+pub record Asks {I : Type 0} (input : Stream I) (answer : Result ℕ Error) : Type 0 where
+  pub buffer : List ℕ
+  pub empty : length buffer ≡ 0
+  pub consumes : ReadConsumes (input.bytes (inner_of input.before)) (input.bytes (inner_of input.after)) answer buffer
+
+-- the line for an input that can't be read
+abbrev pub input_line : List ℕ
+input_line = codes "! Read" ++ 10 ∷ []
+
+-- an input that can't be read: no file is opened, and the errors say so
+pub record RefusesInput {P F O E : Type 0} (opener : Opener P F) (output : Stream O) (errors : Stream E) (result : ℕ) : Type 0 where
+  pub failed : result ≡ code_of status.Failed
+  pub opened : opener.after ≡ opener.before
+  pub printed : IsUntouched output
+  pub said : Says errors input_line
+
+-- by what the input answered when it was asked for no bytes, the run goes on, or ends
+abbrev pub GoesOnWith : {P F N I O E : Type 0} → Command → Opener P F → (N → Option (List ℕ)) → (between : Device I) → Stream I → Stream O → Stream E → ℕ
+    → Result ℕ Error → Type 0
+GoesOnWith command opener of_none between input output errors result (Ok n) =
+    RunsOnFiles command opener of_none (stream input.bytes between input.after) output errors result (first_file_of command)
+GoesOnWith command opener of_none between input output errors result (Err error) =
+    (input.after ≡ between) × RefusesInput opener output errors result
+
+-- A command that reads the input asks it first for no bytes, which fails where it is closed.
+pub record AsksAndRuns {P F N I O E : Type 0} (command : Command) (opener : Opener P F) (of_none : N → Option (List ℕ)) (input : Stream I)
+    (output : Stream O) (errors : Stream E) (result : ℕ) : Type 0 where
+  pub answer : Result ℕ Error
+  pub between : Device I
+  pub asks : Asks (stream input.bytes input.before between) answer
+  pub goes_on : GoesOnWith command opener of_none between input output errors result answer
+
+-- a run of a command: which files it opened in which order, and what it then did
+abbrev pub RunsCommand : {P F N I O E : Type 0} → Command → Opener P F → (N → Option (List ℕ)) → Stream I → Stream O → Stream E → ℕ
+    → (reads_input : Bool) → Type 0
+RunsCommand command opener of_none input output errors result true = AsksAndRuns command opener of_none input output errors result
+RunsCommand command opener of_none input output errors result false =
+    RunsOnFiles command opener of_none input output errors result (first_file_of command)
+
+-- the words name a command, and it is run
+pub record RunsWords {P F N I O E : Type 0} (words : GivenWords) (opener : Opener P F) (of_none : N → Option (List ℕ)) (input : Stream I)
+    (output : Stream O) (errors : Stream E) (result : ℕ) : Type 0 where
+  pub command : Command
+  pub names : NamesCommand words command
+  pub runs : RunsCommand command opener of_none input output errors result (reads_input_of command)
+
+-- the words name none: nothing is opened or read, and the run says why
+pub record RefusesWords {P F I O E : Type 0} (words : GivenWords) (opener : Opener P F) (input : Stream I) (output : Stream O) (errors : Stream E)
+    (result : ℕ) : Type 0 where
+  pub why : WordsFault
+  pub is_fault : IsProgramFault words why
+  pub opened : opener.after ≡ opener.before
+  pub read : IsUntouched input
+  pub reports : Reports why output errors result
+
+-- a run of the program: what it opened, read and wrote, and its exit status
+abbrev pub RunsProgram : {P F N I O E : Type 0} → GivenWords → Opener P F → (N → Option (List ℕ)) → Stream I → Stream O → Stream E → ℕ → Type 0
+RunsProgram words opener of_none input output errors result =
+    RunsWords words opener of_none input output errors result ⊎ RefusesWords words opener input output errors result

@@ -1,0 +1,16 @@
+-- What a run of the program reads and writes.
+use Rattle.std.specs.Prelude.{◌≡◌, ℕ, List, Option}
+use Rattle.lt_jar.specs.declared.devices.Device.{Device}
+
+-- a device that a run reads or writes: its bytes, as far as a clause knows them, and what it was before and after
+pub record Stream (T : Type 0) : Type 0 where
+  pub bytes : T → Option (List ℕ)
+  pub before : Device T
+  pub after : Device T
+
+abbrev pub stream : {T : Type 0} → (T → Option (List ℕ)) → (before after : Device T) → Stream T
+stream bytes before after = record { bytes = bytes; before = before; after = after }
+
+-- nothing was read or written
+abbrev pub IsUntouched : {T : Type 0} → Stream T → Type 0
+IsUntouched s = s.after ≡ s.before

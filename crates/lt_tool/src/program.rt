@@ -1,0 +1,173 @@
+//! A run of the program, from its words to its exit status.
+ghost use Rattle.std.specs.Prelude.{◌≡◌, IfErr, IfOk};
+ghost use Rattle.std.specs.Fn.{CalledAt};
+ghost use Rattle.std.specs.IoError.{error_kind};
+ghost use Rattle.lt_words.specs.Reading.{first_file_of, reads_input_of, second_file_of};
+ghost use Rattle.lt_tool.specs.Codes.{code_of};
+ghost use Rattle.lt_tool.specs.Program.{IsProgramFault, NamesCommand, RunsCommand, RunsOnFiles, RunsOnFirst, RunsProgram, input_line, open_line, opener_of, texts_of};
+ghost use Rattle.lt_tool.specs.Streams.{stream};
+ghost use Rattle.lt_tool.specs.Written.{Says};
+ghost use Rattle.lt_tool.specs.declared.status.Status.TheVariants.{Failed};
+
+use crate::printing::{perform, report, report_file, report_memory, say};
+use crate::status::Status;
+use lt_jar::Device;
+use lt_words::{Command, WordsFault, read_words};
+use std::alloc::Global;
+use std::io::{self, Read, Write};
+
+/// What is read where a command names no file.
+const NO_FILE: &[u8] = &[];
+
+/// The command that the words name.
+fn command_of(alloc: Global, words: io::Result<Vec<String>>) -> Result<Command, WordsFault>
+    ensures names { IfOk result (NamesCommand (texts_of words)) }
+    ensures fault { IfErr result (IsProgramFault (texts_of words)) }
+{
+    match words {
+        Ok(words) => read_words(alloc, &words),
+        Err(error) if error.kind() == io::ErrorKind::OutOfMemory => Err(WordsFault::OutOfMemory),
+        Err(error) => Err(WordsFault::Usage(format!(in alloc; "error: {error}\n")?)),
+    }
+}
+
+/// Says why a file can't be opened.
+fn refuse_file<E: Write>(error: &io::Error, errors: &mut Device<E>) -> u8
+    ensures status { result ≡ code_of Failed }
+    ensures said { Says (stream E.contents errors.old errors.new) (open_line (error_kind error.now)) }
+{
+    match error.kind() {
+        io::ErrorKind::OutOfMemory => report_memory(errors).code(),
+        _ => report_file(errors),
+    }
+}
+
+/// Says that the input can't be read.
+fn refuse_input<E: Write>(errors: &mut Device<E>) -> u8
+    ensures status { result ≡ code_of Failed }
+    ensures said { Says (stream E.contents errors.old errors.new) input_line }
+{
+    say(b"! Read\n", errors);
+    Status::Failed.code()
+}
+
+/// Opens the file that a command names second, if it names one, and does what the command asks for.
+fn run_on_first<F: Read + Drop, P: FnMut(&str) -> io::Result<F>, I: Read, O: Write, E: Write>(
+    alloc: Global,
+    command: &Command,
+    mut first: Device<F>,
+    opener: &mut P,
+    input: &mut Device<I>,
+    output: &mut Device<O>,
+    errors: &mut Device<E>,
+) -> u8
+    requires { P.IsAlwaysCallable opener.old }
+    ensures { RunsOnFirst command.now (opener_of (CalledAt P.FnMut) F.remaining opener.old opener.new)
+        ⟦<&'static [u8] as Read>⟧.remaining (stream I.remaining input.old input.new) (stream O.contents output.old output.new)
+        (stream E.contents errors.old errors.new) result first (second_file_of command.now) }
+{
+    let Some(name) = command.second_file() else {
+        return perform(
+            alloc,
+            command,
+            &mut first,
+            &mut Device::new(NO_FILE),
+            input,
+            output,
+            errors,
+        );
+    };
+    match opener(name) {
+        Ok(second) => perform(
+            alloc,
+            command,
+            &mut first,
+            &mut Device::new(second),
+            input,
+            output,
+            errors,
+        ),
+        Err(error) => refuse_file(&error, errors),
+    }
+}
+
+/// Opens the files that a command names, in order, and does what it asks for.
+fn run_on_files<F: Read + Drop, P: FnMut(&str) -> io::Result<F>, I: Read, O: Write, E: Write>(
+    alloc: Global,
+    command: &Command,
+    opener: &mut P,
+    input: &mut Device<I>,
+    output: &mut Device<O>,
+    errors: &mut Device<E>,
+) -> u8
+    requires { P.IsAlwaysCallable opener.old }
+    ensures { RunsOnFiles command.now (opener_of (CalledAt P.FnMut) F.remaining opener.old opener.new)
+        ⟦<&'static [u8] as Read>⟧.remaining (stream I.remaining input.old input.new) (stream O.contents output.old output.new)
+        (stream E.contents errors.old errors.new) result (first_file_of command.now) }
+{
+    let Some(name) = command.first_file() else {
+        let (mut none, mut other) = (Device::new(NO_FILE), Device::new(NO_FILE));
+        return perform(alloc, command, &mut none, &mut other, input, output, errors);
+    };
+    match opener(name) {
+        Ok(first) => run_on_first(
+            alloc,
+            command,
+            Device::new(first),
+            opener,
+            input,
+            output,
+            errors,
+        ),
+        Err(error) => refuse_file(&error, errors),
+    }
+}
+
+/// Does what a command asks for, if the input can be read where the command reads it.
+fn run_command<F: Read + Drop, P: FnMut(&str) -> io::Result<F>, I: Read, O: Write, E: Write>(
+    alloc: Global,
+    command: &Command,
+    opener: &mut P,
+    input: &mut Device<I>,
+    output: &mut Device<O>,
+    errors: &mut Device<E>,
+) -> u8
+    requires { P.IsAlwaysCallable opener.old }
+    ensures { RunsCommand command.now (opener_of (CalledAt P.FnMut) F.remaining opener.old opener.new)
+        ⟦<&'static [u8] as Read>⟧.remaining (stream I.remaining input.old input.new) (stream O.contents output.old output.new)
+        (stream E.contents errors.old errors.new) result (reads_input_of command.now) }
+{
+    if !command.reads_input() {
+        return run_on_files(alloc, command, opener, input, output, errors);
+    }
+    match input.read(&mut []) {
+        Ok(_) => run_on_files(alloc, command, opener, input, output, errors),
+        Err(_) => refuse_input(errors),
+    }
+}
+
+/// Runs the program by the words of its command line, of which the first is its name, and answers the exit status.
+///
+/// `opener` opens the files that the words name: the first, and then the second, where a command names two. One that
+/// can't be opened ends the run by `! File` on `errors`, and the status 4. Where the command reads `input`, it is
+/// asked for no bytes before a file is opened, so that one that is closed is not taken for a file that is opened in
+/// its place: it ends the run by `! Read`, and the status 4. Then [`perform`] does what the command asks for, or
+/// [`report`] says why the words name none.
+pub fn run_program<F: Read + Drop, P: FnMut(&str) -> io::Result<F>, I: Read, O: Write, E: Write>(
+    alloc: Global,
+    words: io::Result<Vec<String>>,
+    opener: &mut P,
+    input: &mut Device<I>,
+    output: &mut Device<O>,
+    errors: &mut Device<E>,
+) -> u8
+    requires { P.IsAlwaysCallable opener.old }
+    ensures { RunsProgram (texts_of words) (opener_of (CalledAt P.FnMut) F.remaining opener.old opener.new)
+        ⟦<&'static [u8] as Read>⟧.remaining (stream I.remaining input.old input.new) (stream O.contents output.old output.new)
+        (stream E.contents errors.old errors.new) result }
+{
+    match command_of(alloc, words) {
+        Ok(command) => run_command(alloc, &command, opener, input, output, errors),
+        Err(fault) => report(&fault, output, errors),
+    }
+}

@@ -1,0 +1,3 @@
+-- Lemmas on the words of the command line.
+pub mod ReadingLemmas
+mod WorkedRows

@@ -1,0 +1,65 @@
+-- What a parse's answer says of the words.
+use Rattle.std.proofs.Common.{◌≡◌, ◌⊎◌, inl, inr, ℕ, List, [], ◌∷◌, Option, true, refl, sym, subst}
+use Rattle.clap.specs.Words.{App, HasMatchesOf, IsAmong, Row, Text, fault_of, is_simple, is_simple_and_free, subcommand_of}
+use Rattle.clap.specs.Words.{subcommand_rows_of}
+use Rattle.clap.specs.declared.parser.matches.ArgMatches.{ArgMatches}
+use Rattle.clap.specs.declared.error.kind.ErrorKind.{ErrorKind}
+use Rattle.clap.specs.declared.error.kind.ErrorKind.TheVariants as kind
+use Rattle.lt_words.specs.CommandLine.{langtag}
+use Rattle.lt_words.specs.Reading.{Reads, IsFaultOf, IsNamed, IsRefused, NamesNone}
+use Rattle.lt_words.specs.declared.commands.Command.{Command}
+use Rattle.lt_words.specs.declared.faults.WordsFault.{WordsFault}
+use Rattle.lt_words.specs.declared.faults.WordsFault.TheVariants as fault
+
+-- the program's command is one that `clap` states the matches of
+pub langtag-simple : is_simple langtag ≡ true
+langtag-simple = refl
+
+pub langtag-free : is_simple_and_free langtag ≡ true
+langtag-free = refl
+
+-- what a parse found, where the command is the program's
+pub rows_found : (a : App) (words : List Text) (m : ArgMatches) → a ≡ langtag → HasMatchesOf a words m
+    → subcommand_rows_of m ≡ subcommand_of langtag words
+rows_found a words m same has = (subst (λ (x : App). HasMatchesOf x words m) same has langtag-simple).1
+
+-- what it says is wrong with the words
+pub said_of : (P : List ErrorKind → Type 0) (a : App) (words : List Text) → a ≡ langtag
+    → (is_simple_and_free a ≡ true → P (fault_of a words)) → P (fault_of langtag words)
+said_of P a words same said =
+    subst (λ (x : App). is_simple_and_free x ≡ true → P (fault_of x words)) same said langtag-free
+
+-- a parse that found a command
+pub reads_named : (words : List Text) (found : Option (Text × List Row)) (command : Command) → found ≡ subcommand_of langtag words
+    → fault_of langtag words ≡ [] → IsNamed found command → Reads words command
+reads_named words found command same right named = record {
+  right = right;
+  names = subst (λ (f : Option (Text × List Row)). IsNamed f command) same named;
+}
+
+-- a parse that found none
+pub refused_unnamed : (words : List Text) (found : Option (Text × List Row)) (f : WordsFault) → found ≡ subcommand_of langtag words
+    → fault_of langtag words ≡ [] → NamesNone found f → IsRefused words f
+refused_unnamed words found (fault.Help text) same right unnamed = absurd unnamed
+refused_unnamed words found (fault.Usage text) same right unnamed = (
+  λ command reads. unnamed command (subst (λ (g : Option (Text × List Row)). IsNamed g command) (sym same) reads.names),
+  λ asks. let bad = sym right in cc,
+)
+refused_unnamed words found fault.OutOfMemory same right unnamed = tt
+
+among_one : (k other : ErrorKind) → IsAmong k (other ∷ []) → k ≡ other
+among_one k other (inl e) = e
+among_one k other (inr bad) = absurd bad
+
+-- a parse that failed
+pub refused_failed : (words : List Text) (k : ErrorKind) (printed : Option (List ℕ)) (f : WordsFault)
+    → (k ≡ kind.OutOfMemory) ⊎ IsAmong k (fault_of langtag words) → IsFaultOf k printed f → IsRefused words f
+refused_failed words k printed (fault.Help text) (inl memory) help = let shown : k ≡ kind.DisplayHelp = help.0 in cc
+refused_failed words k printed (fault.Help text) (inr among) help =
+    subst (λ (x : ErrorKind). IsAmong x (fault_of langtag words)) help.0 among
+refused_failed words k printed (fault.Usage text) (inl memory) usage = absurd (usage.1 memory)
+refused_failed words k printed (fault.Usage text) (inr among) usage = (
+  λ command reads. subst (λ (ks : List ErrorKind). IsAmong k ks) reads.right among,
+  λ asks. usage.0 (among_one k kind.DisplayHelp (subst (λ (ks : List ErrorKind). IsAmong k ks) asks among)),
+)
+refused_failed words k printed fault.OutOfMemory how out = tt

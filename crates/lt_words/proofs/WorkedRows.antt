@@ -1,0 +1,49 @@
+-- The command line on words that are written out.
+use Rattle.std.proofs.Common.{◌≡◌, List, [], ◌∷◌, Option, Some, codes, option_map, refl}
+use Rattle.clap.proofs.OnLiterals.{clap_on_literals}
+use Rattle.clap.specs.Words.{Text, fault_of, first_of, subcommand_of}
+use Rattle.clap.specs.declared.error.kind.ErrorKind.TheVariants as kind
+use Rattle.lt_words.specs.CommandLine.{langtag}
+
+-- the subcommand, and the value of this positional
+read_as : Text → List Text → Option (Text × Option Text)
+read_as name words = option_map (λ found. (found.0, first_of name found.1)) (subcommand_of langtag words)
+
+abbrev classify : List Text → List Text
+classify words = codes "langtag" ∷ codes "classify" ∷ words
+
+-- a tag
+tag-read : read_as (codes "TAG") (classify (codes "zh-TW" ∷ [])) ≡ Some (codes "classify", Some (codes "zh-TW"))
+unfolding clap_on_literals read_as
+tag-read = refl
+
+tag-right : fault_of langtag (classify (codes "zh-TW" ∷ [])) ≡ []
+unfolding clap_on_literals
+tag-right = refl
+
+-- an empty word is a tag
+empty-read : read_as (codes "TAG") (classify ([] ∷ [])) ≡ Some (codes "classify", Some [])
+unfolding clap_on_literals read_as
+empty-read = refl
+
+empty-right : fault_of langtag (classify ([] ∷ [])) ≡ []
+unfolding clap_on_literals
+empty-right = refl
+
+-- no word, no tag, and one tag too many
+none-wrong : fault_of langtag (codes "langtag" ∷ []) ≡ kind.MissingSubcommand ∷ []
+unfolding clap_on_literals
+none-wrong = refl
+
+missing-wrong : fault_of langtag (classify []) ≡ kind.MissingRequiredArgument ∷ []
+unfolding clap_on_literals
+missing-wrong = refl
+
+second-wrong : fault_of langtag (classify (codes "en" ∷ codes "fr" ∷ [])) ≡ kind.UnknownArgument ∷ []
+unfolding clap_on_literals
+second-wrong = refl
+
+-- a request for help
+help-asked : fault_of langtag (codes "langtag" ∷ codes "--help" ∷ []) ≡ kind.DisplayHelp ∷ []
+unfolding clap_on_literals
+help-asked = refl

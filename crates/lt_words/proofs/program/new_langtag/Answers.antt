@@ -1,0 +1,18 @@
+use Rattle.std.proofs.Common.{◌≡◌, ◌∙◌, ap}
+use Rattle.std.proofs.lemmas.Result.{IfOk-weaker}
+use Rattle.clap.specs.Words.{App, Shape, app_of, with_subcommand}
+use Rattle.lt_words.proofs.program.new_langtag.Goals as goal
+
+-- one subcommand more
+adds : (old new : App) (sub : Shape) (old_is : App) → old ≡ old_is → new ≡ with_subcommand old sub → new ≡ with_subcommand old_is sub
+adds old new sub old_is e is = is ∙ ap (λ (a : App). with_subcommand a sub) e
+
+pub returns : goal.returns
+returns c =
+    let one = adds _ (app_of c.in_ok-program.program) _ _ c.new_program-program.ensures c.in_ok-program.ensures in
+    let two = adds _ (app_of c.in_ok-program-2.program) _ _ one c.in_ok-program-2.ensures in
+    let three = adds _ (app_of c.in_ok-program-3.program) _ _ two c.in_ok-program-3.ensures in
+    let four = adds _ (app_of c.in_ok-program-4.program) _ _ three c.in_ok-program-4.ensures in
+    let five = adds _ (app_of c.in_ok-program-5.program) _ _ four c.in_ok-program-5.ensures in
+    let six = adds _ (app_of c.in_ok-program-6.program) _ _ five c.in_ok-program-6.ensures in
+    IfOk-weaker c.with_new-7.result _ _ (λ r is. adds _ (app_of r) _ _ six is) c.with_new-7.ensures

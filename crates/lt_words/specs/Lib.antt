@@ -1,0 +1,3 @@
+-- What the words of the command line name.
+pub mod CommandLine
+pub mod Reading

@@ -1,0 +1,57 @@
+//! The commands of the program.
+ghost use Rattle.std.specs.Prelude.{◌≡◌};
+ghost use Rattle.std.specs.Option.{option_map};
+ghost use Rattle.lt_words.specs.Reading.{first_file_of, reads_input_of, second_file_of};
+
+/// What the words ask for.
+#[derive(Debug, Drop)]
+pub enum Command {
+    /// The class of this tag, and the tag in conventional case.
+    Classify(String),
+    /// Whether the registry of this file passes the check.
+    Check(String),
+    /// The canonical form of each line of the input, by the registry of this file.
+    Canon(String),
+    /// The extlang form of this tag, by the registry of this file, which comes first.
+    Extlang(String, String),
+    /// Whether these two tags are equivalent, by the registry of this file, which comes first.
+    Equal(String, String, String),
+    /// The steps from this tag to its canonical form, by the registry of this file, which comes first.
+    Explain(String, String),
+    /// Whether the registry of the second file upgrades that of the first.
+    Upgrade(String, String),
+}
+
+impl Command {
+    /// The file that the command names first, if it names one.
+    pub fn first_file(&self) -> Option<&str>
+        ensures { option_map (λ file. file.now) result ≡ first_file_of self.now }
+    {
+        match self {
+            Command::Classify(_) => None,
+            Command::Check(file) | Command::Canon(file) => Some(file.as_str()),
+            Command::Extlang(file, _) | Command::Explain(file, _) => Some(file.as_str()),
+            Command::Equal(file, _, _) | Command::Upgrade(file, _) => Some(file.as_str()),
+        }
+    }
+
+    /// Whether the command answers the lines of the standard input.
+    pub fn reads_input(&self) -> bool
+        ensures { result ≡ reads_input_of self.now }
+    {
+        match self {
+            Command::Canon(_) => true,
+            _ => false,
+        }
+    }
+
+    /// The file that the command names after it, if it names one.
+    pub fn second_file(&self) -> Option<&str>
+        ensures { option_map (λ file. file.now) result ≡ second_file_of self.now }
+    {
+        match self {
+            Command::Upgrade(_, file) => Some(file.as_str()),
+            _ => None,
+        }
+    }
+}

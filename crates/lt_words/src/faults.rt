@@ -1,0 +1,24 @@
+//! What words are that name no command.
+ghost use Rattle.std.specs.Prelude.{◌≡◌};
+ghost use Rattle.lt_words.specs.declared.faults.WordsFault.TheVariants.{OutOfMemory};
+
+use std::alloc::AllocError;
+
+/// Why the words ask for nothing.
+#[derive(Debug, Drop)]
+pub enum WordsFault {
+    /// They ask for help, which is this text.
+    Help(String),
+    /// They are no command of the program, as this text says.
+    Usage(String),
+    /// No memory was left.
+    OutOfMemory,
+}
+
+impl From<AllocError> for WordsFault {
+    ghost from_gives = { λ _ fault. fault ≡ OutOfMemory };
+
+    fn from(_error: AllocError) -> WordsFault {
+        WordsFault::OutOfMemory
+    }
+}

@@ -1,0 +1,11 @@
+//! The words of the command line of `langtag`, and the command that they name.
+#![tactic(auto)]
+
+mod commands;
+mod faults;
+mod program;
+mod reading;
+
+pub use commands::Command;
+pub use faults::WordsFault;
+pub use reading::read_words;

@@ -1,0 +1,114 @@
+#!/bin/bash
+# Runs the built program on real files and streams, and compares what it writes and its statuses with what is owed.
+# Argument: the program (build/langtag, if there is none). The last line counts; the status is 1 if any run failed.
+program=$(realpath "${1:-"$(dirname "$0")/../build/langtag"}")
+sample=$(realpath "$(dirname "$0")/../examples/sample-registry.txt")
+folder=$(mktemp -d)
+trap 'rm -rf "$folder"' EXIT
+cd "$folder" || exit 1
+passed=0
+failed=0
+
+# is NAME STATUS STDOUT STDERR: compares what the last run wrote to `out` and `err`, and its status.
+is() {
+    local ended=$?
+    if [ "$ended" = "$2" ] && [ "$(cat out; echo .)" = "$(printf '%b' "$3"; echo .)" ] &&
+        [ "$(cat err; echo .)" = "$(printf '%b' "$4"; echo .)" ]; then
+        passed=$((passed + 1))
+    else
+        failed=$((failed + 1))
+        echo "failed: $1: status $ended; wanted $2"
+        head -n 3 out err
+    fi
+}
+
+# record KEY..: a record of a registry, a field an argument.
+record() {
+    echo '%%'
+    printf '%s\n' "$@"
+}
+
+{
+    echo 'File-Date: 2024-01-01'
+    record 'Type: language' 'Subtag: en'
+    record 'Type: language' 'Subtag: fr'
+} > old
+{
+    echo 'File-Date: 2024-02-01'
+    record 'Type: language' 'Subtag: en'
+} > new
+printf 'no registry\n' > other
+: > empty
+
+run() { "$program" "$@" < empty > out 2> err; }
+
+# one command after another, with its files in their places
+run classify ZH-yue-hant-hk; is classify 0 'langtag zh-yue-Hant-HK\n' ''
+run classify en_US; is 'classify refuses' 1 '! BadByte 1\n' ''
+run check "$sample"; is check 0 'ok 46\n' ''
+run check other; is 'check refuses' 2 'jar BadLine line 1\n' ''
+run extlang "$sample" cmn-hans; is extlang 0 'zh-cmn-Hans\n' ''
+run extlang "$sample" en-x; is 'extlang refuses' 1 '! Unfinished 3\n' ''
+run equal "$sample" YUE zh-yue; is equal 0 'equal\n' ''
+run equal "$sample" en de; is different 1 'different\n' ''
+run explain "$sample" sgn-dd; is explain 0 'Region 2 27 sgn-DE\nWhole 1 44 gsg\n= gsg\n' ''
+run upgrade old new; is 'upgrade old new' 2 'upgrade U1 record 3\n' ''
+run upgrade new old; is 'upgrade new old' 0 'ok\n' ''
+run upgrade old old; is 'upgrade old old' 0 'ok\n' ''
+run upgrade other new; is 'upgrade: the first is refused' 2 'old jar BadLine line 1\n' ''
+run upgrade new other; is 'upgrade: the second is refused' 2 'new jar BadLine line 1\n' ''
+
+# the lines of the standard input, by a pipe and by a file
+printf 'zh-yue\r\nen_US\nDE' | "$program" canon "$sample" > out 2> err; is 'canon refuses one' 1 'yue\n! BadByte 1\nde\n' ''
+printf 'zh-yue\nDE\n' > lines
+"$program" canon "$sample" < lines > out 2> err; is canon 0 'yue\nde\n' ''
+"$program" canon other < lines > out 2> err; is 'canon: the registry is refused' 2 'jar BadLine line 1\n' ''
+
+# a line is answered before the next is there
+mkfifo to from
+"$program" canon "$sample" < to > from 2> err &
+exec 3> to 4< from
+echo zh-yue >&3
+read -r -t 10 line <&4
+echo DE >&3
+read -r -t 10 other_line <&4
+exec 3>&-
+wait $!
+ended=$?
+exec 4<&-
+printf '%s\n%s\n' "$line" "$other_line" > out
+(exit "$ended"); is 'canon answers at once' 0 'yue\nde\n' ''
+
+# files that are not there, or can't be read
+run check missing; is 'check: no file' 4 '' '! File\n'
+run canon missing; is 'canon: no file' 4 '' '! File\n'
+run upgrade missing new; is 'upgrade: no first file' 4 '' '! File\n'
+run upgrade new missing; is 'upgrade: no second file' 4 '' '! File\n'
+run check .; is 'check: a folder' 4 'jar Read line 1\n' ''
+
+# streams that are closed or full
+"$program" canon "$sample" <&- > out 2> err; is 'closed input' 4 '' '! Read\n'
+"$program" check "$sample" <&- > out 2> err; is 'closed input that is not read' 0 'ok 46\n' ''
+"$program" canon "$sample" < . > out 2> err; is 'an input that fails' 4 '' '! Read\n'
+: > out
+"$program" canon "$sample" < lines >&- 2> err; is 'closed output' 4 '' '! Write\n'
+"$program" canon "$sample" < lines > /dev/full 2> err; is 'full output' 4 '' '! Write\n'
+"$program" check "$sample" < empty > /dev/full 2> err; is 'full output of check' 4 '' '! Write\n'
+"$program" --help < empty > /dev/full 2> err; is 'full output of help' 4 '' '! Write\n'
+: > err
+"$program" check missing < empty > out 2> /dev/full; is 'full errors' 4 '' ''
+"$program" canon "$sample" < lines > out 2>&-; is 'closed errors' 0 'yue\nde\n' ''
+
+# words
+"$program" --help < empty > help 2> err; ended=$?
+grep '^Usage: ' help > out
+(exit "$ended"); is help 0 'Usage: langtag <COMMAND>\n' ''
+"$program" upgrade old < empty > out 2> usage; ended=$?
+head -c 7 usage > err
+(exit "$ended"); is usage 3 '' 'error: '
+"$program" $'\xff' < empty > out 2> usage; ended=$?
+head -c 7 usage > err
+(exit "$ended"); is 'a word that is not UTF-8' 3 '' 'error: '
+
+echo "$passed passed, $failed failed"
+[ "$failed" = 0 ]
