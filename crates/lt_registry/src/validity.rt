@@ -4,7 +4,6 @@ ghost use Rattle.std.specs.Option.{option_copied};
 ghost use Rattle.lt_tag.specs.Spelling.{spell_core};
 ghost use Rattle.lt_tag.specs.Extensions.{transform};
 ghost use Rattle.lt_tag.specs.Values.{extensions_of};
-
 ghost use Rattle.lt_registry.specs.Faults.{HasNoFault, HasFault, HasExtensionFault, HasTransform, IsRefusal, RepeatsAtMost};
 ghost use Rattle.lt_registry.specs.Checking as checking;
 ghost use Rattle.lt_registry.specs.Checking.{Counted, TellsOrLacks};

@@ -13,8 +13,8 @@ abbrev pub subtag_of : List ℕ → Result (List ℕ) SubtagFault
 subtag_of piece =
     if length piece == 0 then Err faults.Empty
     else (if list_all is_ascii_alphanumeric piece
-          then (if nat_le (length piece) 8 then Ok (folded piece) else Err faults.TooLong)
-          else Err faults.BadByte)
+    then (if nat_le (length piece) 8 then Ok (folded piece) else Err faults.TooLong)
+    else Err faults.BadByte)
 
 -- the letters of a subtag in a case
 abbrev pub cased : Case → List ℕ → List ℕ

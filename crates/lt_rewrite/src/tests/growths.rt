@@ -88,7 +88,11 @@ fn shortcuts_tell_chains_without_end(rt: HostRuntime) -> Result<(), Fail> {
     let shortcuts = twice(|| Shortcuts::of_table(rt.alloc(), &table))?;
     for entry in table.entries() {
         let is_on_cycle = entry.number() == 6 || entry.number() > 46;
-        assert!(rt; shortcuts.has_end(&table, entry) != is_on_cycle, "{}", entry.number());
+        assert!(rt;
+            shortcuts.has_end(&table, entry) != is_on_cycle,
+            "{}",
+            entry.number()
+        );
     }
     Ok(())
 }
