@@ -15,7 +15,8 @@ error_name_of errors.OutOfMemory = codes "OutOfMemory"
 
 abbrev pub error_text : RegistryError → List ℕ
 error_text (errors.Jar fault) = codes "jar " ++ jar_names.name_of fault.kind ++ codes " line " ++ decimal fault.line
-error_text (errors.Record fault) = codes "record " ++ decimal fault.number ++ 32 ∷ [] ++ record_names.record_name_of fault.kind
+error_text (errors.Record fault) =
+    codes "record " ++ decimal fault.number ++ 32 ∷ [] ++ record_names.record_name_of fault.kind
 error_text (errors.Check finding) =
     codes "check " ++ condition_codes.code_of finding.condition ++ codes " record " ++ decimal finding.number
 error_text errors.OutOfMemory = codes "OutOfMemory"

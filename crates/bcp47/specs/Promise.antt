@@ -12,7 +12,8 @@ use Rattle.lt_registry.specs.declared.faults.RecordFaultKind.TheVariants as reco
 use Rattle.lt_registry.specs.declared.faults.RegistryFault.{RegistryFault}
 use Rattle.lt_registry.specs.declared.faults.RegistryFault.TheVariants as faults
 use Rattle.lt_canon.specs.Conditions.{IsChecked, IsFinding}
-use Rattle.lt_canon.specs.Laws.{CanonicalOrRepeats, CanonicalTwiceIsOnce, CanonicalTextTwiceIsOnce, EquivalenceIsEqualText, RepeatsAreNamed}
+use Rattle.lt_canon.specs.Laws.{CanonicalOrRepeats, CanonicalTwiceIsOnce, CanonicalTextTwiceIsOnce}
+use Rattle.lt_canon.specs.Laws.{EquivalenceIsEqualText, RepeatsAreNamed}
 use Rattle.bcp47.specs.declared.errors.RegistryError.{RegistryError}
 use Rattle.bcp47.specs.declared.errors.RegistryError.TheVariants as errors
 
@@ -41,7 +42,8 @@ Reading = Result (List EntryParts) RegistryFault
 
 -- what bytes are read as; nothing is owed where no memory was left
 abbrev pub IsReadingOf : List ℕ → Reading → Type 0
-IsReadingOf bytes (Ok R) = (records : List (List Field)) × HasRecords bytes records × IsWithin bytes records × HasEntries records R
+IsReadingOf bytes (Ok R) =
+    (records : List (List Field)) × HasRecords bytes records × IsWithin bytes records × HasEntries records R
 IsReadingOf bytes (Err (faults.Record fault)) =
     (records : List (List Field)) × HasRecords bytes records × IsWithin bytes records × IsRecordRefusal records fault
 IsReadingOf bytes (Err (faults.Jar fault)) = IsFaultOf bytes fault
@@ -49,8 +51,10 @@ IsReadingOf bytes (Err (faults.Jar fault)) = IsFaultOf bytes fault
 -- why what was read is no registry; nothing is owed where no memory was left
 abbrev pub IsRefusal : Reading → RegistryError → Type 0
 IsRefusal reading (errors.Jar fault) = (reading ≡ Err (faults.Jar fault)) × (fault.kind ≢ jar_kinds.OutOfMemory)
-IsRefusal reading (errors.Record fault) = (reading ≡ Err (faults.Record fault)) × (fault.kind ≢ record_kinds.OutOfMemory)
-IsRefusal reading (errors.Check finding) = (R : List EntryParts) × (reading ≡ Ok R) × IsFinding R finding.condition finding.number
+IsRefusal reading (errors.Record fault) =
+    (reading ≡ Err (faults.Record fault)) × (fault.kind ≢ record_kinds.OutOfMemory)
+IsRefusal reading (errors.Check finding) =
+    (R : List EntryParts) × (reading ≡ Ok R) × IsFinding R finding.condition finding.number
 IsRefusal reading errors.OutOfMemory = Unit {0}
 
 -- the entries that were read, which pass the check; or the refusal that is owed
@@ -63,5 +67,7 @@ abbrev pub ReadsBytes : List ℕ → Result (List EntryParts) RegistryError → 
 ReadsBytes bytes result = (reading : Reading) × IsReadingOf bytes reading × IsJudged reading result
 
 -- and from a device; `ReadsRegistry` says what that is for the bytes that were read
-abbrev pub ReadsDevice : {F : Type 0} → (F → Option (List ℕ)) → (before after : Device F) → Result (List EntryParts) RegistryError → Type 0
-ReadsDevice remaining before after result = (reading : Reading) × ReadsRegistry remaining before after reading × IsJudged reading result
+abbrev pub ReadsDevice : {F : Type 0} → (F → Option (List ℕ)) → (before after : Device F)
+    → Result (List EntryParts) RegistryError → Type 0
+ReadsDevice remaining before after result =
+    (reading : Reading) × ReadsRegistry remaining before after reading × IsJudged reading result
