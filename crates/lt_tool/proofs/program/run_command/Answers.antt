@@ -1,4 +1,4 @@
-use Rattle.std.proofs.Common.{◌≡◌, Ok, Err, true, false, refl, rules}
+use Rattle.std.proofs.Common.{◌≡◌, Ok, Err, true, refl, rules}
 use Rattle.lt_words.specs.Reading.{reads_input_of}
 use Rattle.lt_tool.proofs.program.run_command.Goals as goal
 
