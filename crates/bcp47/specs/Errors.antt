@@ -3,7 +3,7 @@ use Rattle.std.specs.Prelude.{ℕ, List, [], ◌∷◌, ◌++◌, codes}
 use Rattle.std.specs.Fmt.{decimal}
 use Rattle.lt_jar.specs.Names as jar_names
 use Rattle.lt_registry.specs.Names as record_names
-use Rattle.lt_canon.specs.Codes as condition_codes
+use Rattle.lt_check.specs.Codes as condition_codes
 use Rattle.bcp47.specs.declared.errors.RegistryError.{RegistryError}
 use Rattle.bcp47.specs.declared.errors.RegistryError.TheVariants as errors
 

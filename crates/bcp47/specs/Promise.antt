@@ -11,9 +11,10 @@ use Rattle.lt_registry.specs.RecordRefusals.{IsRecordRefusal}
 use Rattle.lt_registry.specs.declared.faults.RecordFaultKind.TheVariants as record_kinds
 use Rattle.lt_registry.specs.declared.faults.RegistryFault.{RegistryFault}
 use Rattle.lt_registry.specs.declared.faults.RegistryFault.TheVariants as faults
-use Rattle.lt_canon.specs.Conditions.{IsChecked, IsFinding}
+use Rattle.lt_check.specs.Conditions.{IsChecked, IsFinding}
 use Rattle.lt_canon.specs.Laws.{CanonicalOrRepeats, CanonicalTwiceIsOnce, CanonicalTextTwiceIsOnce}
-use Rattle.lt_canon.specs.Laws.{EquivalenceIsEqualText, RepeatsAreNamed}
+use Rattle.lt_canon.specs.Laws.{EquivalenceIsEqualText}
+use Rattle.lt_canon.specs.RepeatLaws.{RepeatsAreNamed}
 use Rattle.bcp47.specs.declared.errors.RegistryError.{RegistryError}
 use Rattle.bcp47.specs.declared.errors.RegistryError.TheVariants as errors
 

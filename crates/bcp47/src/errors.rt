@@ -3,7 +3,7 @@ ghost use Rattle.std.specs.Prelude.{◌≡◌, Err, Some};
 ghost use Rattle.bcp47.specs.Errors.{error_name_of, error_text};
 ghost use Rattle.bcp47.specs.Promise.{IsRefusal};
 
-use lt_canon::Finding;
+use lt_check::Finding;
 use lt_jar::{JarFault, JarFaultKind};
 use lt_registry::{RecordFault, RecordFaultKind, RegistryFault};
 use std::error::Error;

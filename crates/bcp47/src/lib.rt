@@ -10,9 +10,8 @@ mod readings;
 mod registries;
 
 pub use errors::RegistryError;
-pub use lt_canon::{
-    Condition, Finding, Refusal, TextRefusal, Trace, TraceFault, UpgradeCondition, UpgradeFault,
-};
+pub use lt_canon::{Refusal, TextRefusal, Trace, TraceFault};
+pub use lt_check::{Condition, Finding};
 pub use lt_jar::{Device, JarFault, JarFaultKind};
 pub use lt_registry::{
     Entry, EntryName, EntryValue, Kind, Prefix, RecordFault, RecordFaultKind, ValidFault,
@@ -24,4 +23,5 @@ pub use lt_tag::{
     Class, Core, Extension, OutOfMemory, Tag, TagFault, TagFaultKind, append_tag, read_tag,
     write_tag,
 };
+pub use lt_upgrade::{UpgradeCondition, UpgradeFault};
 pub use registries::Registry;

@@ -2,25 +2,28 @@
 ghost use Rattle.std.specs.Prelude.{◌≡◌, Ok, OnOk, OnErr, IfOk, IfErr, Err};
 ghost use Rattle.lt_registry.specs.Faults as validity;
 ghost use Rattle.lt_rewrite.specs.TagSteps.{AreEquivalent};
-ghost use Rattle.lt_canon.specs.Conditions.{IsChecked};
-ghost use Rattle.lt_canon.specs.Answers.{IsCanonicalAnswer};
+ghost use Rattle.lt_check.specs.Conditions.{IsChecked};
+ghost use Rattle.lt_canon.specs.Answers.{IsCanonicalFormOf, RefusesOnlyRepeats};
+ghost use Rattle.lt_canon.specs.Refusals.{NamesFault, IsRefusedWith};
 ghost use Rattle.lt_canon.specs.Equivalence.{IsEquivalenceAnswer, IsFirstRefusal};
 ghost use Rattle.lt_canon.specs.Explaining.{IsExplanation};
 ghost use Rattle.lt_canon.specs.ExtlangForm.{IsExtlangFormOf};
 ghost use Rattle.lt_canon.specs.Texts.{AppendsCanonicalText, IsCanonicalTextOf, IsTextRefusal};
 ghost use Rattle.lt_canon.specs.Traces.{IsTraceFault, IsValidTrace};
-ghost use Rattle.lt_canon.specs.Laws.{UpgradeKeepsTags};
-ghost use Rattle.lt_canon.specs.Upgrade.{Upgrades};
-ghost use Rattle.lt_canon.specs.UpgradeChecking.{IsUpgradeFault};
+ghost use Rattle.lt_upgrade.specs.Laws.{UpgradeKeepsTags};
+ghost use Rattle.lt_upgrade.specs.Upgrade.{Upgrades};
+ghost use Rattle.lt_upgrade.specs.UpgradeChecking.{IsUpgradeFault};
 ghost use Rattle.bcp47.specs.Promise.{IsJudged, ReadsBytes, ReadsDevice, Promise};
 
 use crate::errors::RegistryError;
 use crate::readings::read_entries;
 use lt_canon::laws::confluence;
-use lt_canon::{Checked, Refusal, RejectedCause, TextRefusal, Trace, TraceFault, UpgradeFault};
+use lt_canon::{Refusal, TextRefusal, Trace, TraceFault};
+use lt_check::{Checked, RejectedCause};
 use lt_jar::Device;
 use lt_registry::{Entry, Lookup, Registry as Entries, SortedTable, ValidRefusal};
 use lt_tag::Tag;
+use lt_upgrade::UpgradeFault;
 use std::alloc::Global;
 use std::io::Read;
 use std::marker::Model;
@@ -35,7 +38,7 @@ pub struct Registry {
 impl Model for Registry {
     ghost use Rattle.std.specs.Prelude.{List};
     ghost use Rattle.lt_registry.specs.Parts.{EntryParts};
-    ghost use Rattle.lt_canon.specs.Conditions.{IsChecked};
+    ghost use Rattle.lt_check.specs.Conditions.{IsChecked};
 
     ghost Value = { List EntryParts };
 
@@ -124,7 +127,9 @@ impl Registry {
     /// - `Invalid`, with the fault that `validate` answers, exactly where the tag is not valid.
     /// - `ReplacementRepeats` exactly where steps can repeat a variant of the valid tag.
     pub fn canonical(&self, alloc: Global, tag: &Tag) -> Result<Tag, Refusal>
-        ensures { IsCanonicalAnswer self.now tag.now result }
+        ensures ok { IfOk result (λ form. IsCanonicalFormOf self.now tag.now form) }
+        ensures repeats { IfErr result (λ refusal. RefusesOnlyRepeats self.now tag.now refusal) }
+        ensures invalid { IfErr result (λ refusal. NamesFault self.now tag.now refusal) }
     {
         lt_canon::canonical(alloc, &self.checked, tag)
     }
@@ -158,7 +163,7 @@ impl Registry {
     /// extlang too, the Prefix of that in front of it. It is refused as `canonical` refuses.
     pub fn extlang_form(&self, alloc: Global, tag: &Tag) -> Result<Tag, Refusal>
         ensures form { IfOk result (λ form. IsExtlangFormOf self.now tag.now form) }
-        ensures refusal { IfErr result (λ refusal. IsCanonicalAnswer self.now tag.now (Err refusal)) }
+        ensures refusal { IfErr result (λ refusal. IsRefusedWith self.now tag.now refusal) }
     {
         lt_canon::extlang_form(alloc, &self.checked, tag)
     }
@@ -177,7 +182,7 @@ impl Registry {
     /// It is refused as `canonical` refuses.
     pub fn explain(&self, alloc: Global, tag: &Tag) -> Result<Trace, Refusal>
         ensures ok { IfOk result (λ trace. IsExplanation self.now tag.now trace.steps.items trace.last) }
-        ensures err { IfErr result (λ refusal. IsCanonicalAnswer self.now tag.now (Err refusal)) }
+        ensures err { IfErr result (λ refusal. IsRefusedWith self.now tag.now refusal) }
     {
         lt_canon::explain(alloc, &self.checked, tag)
     }
@@ -204,6 +209,6 @@ impl Registry {
         ensures keeps { OnOk result (UpgradeKeepsTags self.now newer.now) }
         ensures fault { IfErr result (IsUpgradeFault self.now newer.now) }
     {
-        lt_canon::upgrade_check(alloc, &self.checked, &newer.checked)
+        lt_upgrade::upgrade_check(alloc, &self.checked, &newer.checked)
     }
 }

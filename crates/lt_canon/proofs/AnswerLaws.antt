@@ -20,12 +20,13 @@ use Rattle.lt_rewrite.specs.TagSteps.{TagStep, IsCanonical}
 use Rattle.lt_rewrite.proofs.Entries.{prefixes_at}
 use Rattle.lt_rewrite.proofs.Forms.{ExtlangEntry, extlang_entry}
 use Rattle.lt_rewrite.proofs.NameForms as names
-use Rattle.lt_canon.specs.Conditions.{IsChecked}
+use Rattle.lt_check.specs.Conditions.{IsChecked}
 use Rattle.lt_canon.specs.Answers.{IsCanonicalFormOf}
 use Rattle.lt_canon.specs.Equivalence.{IsEquivalenceAnswer}
 use Rattle.lt_canon.specs.ExtlangForm.{prefix_of, behind, extlang_form, IsExtlangFormOf}
-use Rattle.lt_canon.specs.Laws.{EquivalenceIsEquality, EquivalenceIsEqualText, CanonicalTwiceIsOnce, CanonicalTextTwiceIsOnce}
-use Rattle.lt_canon.proofs.Checks.{core_conditions}
+use Rattle.lt_canon.specs.Corollaries.{EquivalenceIsEquality}
+use Rattle.lt_canon.specs.Laws.{EquivalenceIsEqualText, CanonicalTwiceIsOnce, CanonicalTextTwiceIsOnce}
+use Rattle.lt_check.proofs.Checks.{core_conditions}
 use Rattle.lt_canon.proofs.TagRepeats.{form_is_end}
 use Rattle.lt_canon.proofs.ExtlangForms.{no_extlang, forms_lead_back}
 use Rattle.lt_canon.proofs.TagProper.{proper_parts, core_spells_none}

@@ -10,9 +10,9 @@ use Rattle.lt_rewrite.specs.Extensions.{ExtensionsStep}
 use Rattle.lt_rewrite.specs.TagSteps.{IsPlain, TagStep, on_whole, IsReached}
 use Rattle.lt_rewrite.proofs.Stars.{star_trans}
 use Rattle.lt_rewrite.proofs.NormalForms.{normal_is_form}
-use Rattle.lt_canon.specs.Conditions.{plain, IsChecked}
+use Rattle.lt_check.specs.Conditions.{plain, IsChecked}
 use Rattle.lt_canon.specs.Answers.{IsNamedRepeat, IsCanonicalFormOf, IsRepeatOf}
-use Rattle.lt_canon.proofs.CheckedRegistry.{value_plain}
+use Rattle.lt_check.proofs.CheckedRegistry.{value_plain}
 use Rattle.lt_canon.proofs.EndForms.{star_proper, star_end, rest_is_end}
 use Rattle.lt_canon.proofs.TagProper.{step_of_change}
 use Rattle.lt_canon.proofs.TagForm.{core_end, cores_formed, tag_end, end_form, cores_reached, cores_proper, extensions_reached, value_rests}

@@ -6,8 +6,7 @@ use Rattle.lt_tag.specs.Faults.{HasTag}
 use Rattle.lt_tag.specs.Parts.{TagForm}
 use Rattle.lt_tag.specs.WellFormed.{spell}
 use Rattle.lt_registry.specs.Parts.{EntryParts}
-use Rattle.lt_canon.specs.Answers.{IsCanonicalAnswer}
-use Rattle.lt_canon.specs.OtherForms.{or_same}
+use Rattle.lt_canon.specs.OtherForms.{IsCanonicalAnswer, or_same}
 use Rattle.lt_canon.specs.Texts.{AppendsCanonicalText}
 
 -- what is chosen, where a reference to the form or to the tag is

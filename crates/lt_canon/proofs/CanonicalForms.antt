@@ -21,8 +21,9 @@ use Rattle.lt_rewrite.specs.Extensions.{ExtensionsStep}
 use Rattle.lt_rewrite.specs.TagSteps.{IsPlain, IsReached}
 use Rattle.lt_rewrite.proofs.Stars.{star_trans}
 use Rattle.lt_rewrite.proofs.NormalForms.{star_keeps, normal_is_form}
-use Rattle.lt_canon.specs.Conditions.{plain, IsValidPlain, IsChecked}
-use Rattle.lt_canon.specs.Answers.{IsCanonicalFormOf, IsRepeatOf, IsCanonicalAnswer}
+use Rattle.lt_check.specs.Conditions.{plain, IsValidPlain, IsChecked}
+use Rattle.lt_canon.specs.Answers.{IsCanonicalFormOf, IsRepeatOf}
+use Rattle.lt_canon.specs.OtherForms.{IsCanonicalAnswer}
 use Rattle.lt_canon.specs.Settled.{IsDistinctForm, IsCoreRefusal, IsSecondInSources, IsSettledValue}
 use Rattle.lt_canon.specs.Refusals.{of_valid}
 use Rattle.lt_canon.specs.declared.refusals.Refusal.{Refusal}

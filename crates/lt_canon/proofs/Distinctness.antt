@@ -5,6 +5,7 @@ use Rattle.std.proofs.lemmas.Slice.Eq.{bytes_eq-Decides}
 use Rattle.lt_tag.specs.Parts.{CoreParts}
 use Rattle.lt_registry.specs.Validity.{Distinct}
 use Rattle.lt_rewrite.proofs.PartLists.{all_middle, first_same, others_same}
+use Rattle.lt_check.proofs.DistinctTests.{distinct_more}
 use Rattle.lt_canon.specs.Answers.{IsSecondOccurrence}
 
 -- a fact, or its refutation
@@ -57,14 +58,6 @@ look (x ∷ xs) v = by (differ v x) (look xs v)
     by (inr e) k = inl (record { before = []; between = xs; there = ap (λ z. z ∷ xs) e })
     by (inl n) (inl k) = inl (record { before = x ∷ k.before; between = k.between; there = ap (λ l. x ∷ l) k.there })
     by (inl n) (inr k) = inr (n, k)
-
-all_more : (P : List ℕ → Type 0) (xs : List (List ℕ)) (v : List ℕ) → AllByRecursion P xs → P v → AllByRecursion P (xs ++ v ∷ [])
-all_more P [] v h p = (p, tt)
-all_more P (x ∷ xs) v h p = (h.0, all_more P xs v h.1 p)
-
-pub distinct_more : (xs : List (List ℕ)) (v : List ℕ) → Distinct xs → AllByRecursion (λ y. y ≢ v) xs → Distinct (xs ++ v ∷ [])
-distinct_more [] v h k = (tt, tt)
-distinct_more (x ∷ xs) v h k = (all_more (λ y. y ≢ x) xs v h.0 (λ e. k.0 (sym e)), distinct_more xs v h.1 k.1)
 
 second_from : (rest seen : List (List ℕ)) → Distinct seen → (Distinct (seen ++ rest) → ⊥) → (v : List ℕ) × IsSecondOccurrence (seen ++ rest) v
 second_from [] seen d n = absurd (n (subst Distinct (sym (append-nil seen)) d))

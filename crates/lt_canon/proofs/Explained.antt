@@ -22,10 +22,10 @@ use Rattle.lt_rewrite.specs.declared.steps.StepKind.TheVariants as steps
 use Rattle.lt_rewrite.proofs.Stars.{star_path}
 use Rattle.lt_rewrite.proofs.NormalForms.{normal_is_form}
 use Rattle.lt_rewrite.proofs.FirstSteps.{adds_none, adds_more, adds_all, run_lift}
-use Rattle.lt_canon.specs.Conditions.{plain, IsChecked}
+use Rattle.lt_check.specs.Conditions.{plain, IsChecked}
 use Rattle.lt_canon.specs.Answers.{IsCanonicalFormOf}
 use Rattle.lt_canon.specs.Explaining.{rank_in, IsExplanation, RestsOnCore, LeadsToRest}
-use Rattle.lt_canon.proofs.CheckedRegistry.{value_plain}
+use Rattle.lt_check.proofs.CheckedRegistry.{value_plain}
 use Rattle.lt_canon.proofs.TagForm.{core_end, cores_formed, value_rests, extensions_step_from}
 use Rattle.lt_canon.proofs.TagRest.{lang_at_end, grandfathered_rests, private_rests, none_rests}
 use Rattle.lt_canon.proofs.TagLaws.{traces_reach_their_end}

@@ -19,10 +19,10 @@ use Rattle.lt_rewrite.proofs.Entries.{settles, prefixes_at}
 use Rattle.lt_rewrite.proofs.Forms.{ExtlangEntry, extlang_entry, replacement_at}
 use Rattle.lt_rewrite.proofs.NameForms.{language_form, extlang_form}
 use Rattle.lt_rewrite.proofs.CoreEnds.{end_is, form_of_language}
-use Rattle.lt_canon.specs.Conditions.{IsChecked}
+use Rattle.lt_check.specs.Conditions.{IsChecked}
 use Rattle.lt_canon.specs.ExtlangForm.{prefix_of, behind, extlang_core}
-use Rattle.lt_canon.specs.Laws.{LeadsBack, ExtlangFormsLeadBack}
-use Rattle.lt_canon.proofs.Checks.{core_conditions}
+use Rattle.lt_canon.specs.ExtlangLaws.{LeadsBack, ExtlangFormsLeadBack}
+use Rattle.lt_check.proofs.Checks.{core_conditions}
 use Rattle.lt_canon.proofs.EndForms.{rest_is_end}
 use Rattle.lt_canon.proofs.TagProper.{proper_parts, proper_langtag, core_spells_none, step_of_change}
 use Rattle.lt_canon.proofs.TagForm.{core_end, lang_end, tag_end, tag_reached, end_form}

@@ -18,10 +18,10 @@ use Rattle.lt_rewrite.proofs.PartLists.{all_step}
 use Rattle.lt_rewrite.proofs.TransformForms.{t_form}
 use Rattle.lt_rewrite.proofs.FoundParts.{one_transform}
 use Rattle.lt_rewrite.proofs.ExtensionForms.{singleton_total}
-use Rattle.lt_canon.specs.Conditions.{plain, IsChecked}
+use Rattle.lt_check.specs.Conditions.{plain, IsChecked}
 use Rattle.lt_canon.specs.Answers.{IsSecondOccurrence, IsRepeatOfCore, IsRepeatOfSource, HasDistinctForm, IsNamedRepeat}
-use Rattle.lt_canon.specs.Laws.{RepeatsAreNamed}
-use Rattle.lt_canon.proofs.CheckedRegistry.{value_plain}
+use Rattle.lt_canon.specs.RepeatLaws.{RepeatsAreNamed}
+use Rattle.lt_check.proofs.CheckedRegistry.{value_plain}
 use Rattle.lt_canon.proofs.Distinctness.{Decided, decide_distinct, second, one_second, second_repeats, distinct_apart, Aligned, same, shorter, longer, align}
 use Rattle.lt_canon.proofs.TagForm.{or_value, core_end, cores_formed, core_normal, extension_end, value_end, lang_end, resting}
 use Rattle.lt_canon.proofs.TagRepeats.{end_parts, repeats_at_end}

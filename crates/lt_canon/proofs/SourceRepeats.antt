@@ -17,7 +17,7 @@ use Rattle.lt_rewrite.proofs.PartLists.{all_step, all_middle}
 use Rattle.lt_rewrite.proofs.TransformForms.{t_form, if_some_is}
 use Rattle.lt_rewrite.proofs.FoundParts.{one_transform}
 use Rattle.lt_rewrite.proofs.ExtensionForms.{singleton_total}
-use Rattle.lt_canon.specs.Conditions.{IsChecked}
+use Rattle.lt_check.specs.Conditions.{IsChecked}
 use Rattle.lt_canon.specs.Answers.{IsSecondOccurrence, IsRepeatOfCore, IsRepeatOfSource}
 use Rattle.lt_canon.specs.Settled.{IsSecondInSource, IsSecondInSources}
 use Rattle.lt_canon.proofs.Distinctness.{second_repeats}

@@ -18,11 +18,11 @@ use Rattle.lt_rewrite.proofs.Proper.{step_shaped}
 use Rattle.lt_rewrite.proofs.CoreShapes.{core_form, core_formed}
 use Rattle.lt_rewrite.proofs.PartLists.{empty_middle, step_some}
 use Rattle.lt_rewrite.proofs.ExtensionForms.{extension_form, extensions_form, extensions_formed}
-use Rattle.lt_canon.specs.Conditions.{plain, HasRestingWhole, HasAgreeingWhole, IsChecked}
-use Rattle.lt_canon.specs.declared.conditions.Condition.TheVariants as conditions
+use Rattle.lt_check.specs.Conditions.{plain, HasRestingWhole, HasAgreeingWhole, IsChecked}
+use Rattle.lt_check.specs.declared.conditions.Condition.TheVariants as conditions
 use Rattle.lt_canon.proofs.EndForms.{IsEndForm}
-use Rattle.lt_canon.proofs.Checks.{core_conditions}
-use Rattle.lt_canon.proofs.CheckedRegistry.{valued_whole, whole_has, no_value, value_plain}
+use Rattle.lt_check.proofs.Checks.{core_conditions}
+use Rattle.lt_check.proofs.CheckedRegistry.{valued_whole, whole_has, no_value, value_plain}
 use Rattle.lt_canon.proofs.TagProper.{core_step_tag, extensions_step_tag, step_of_change}
 
 -- the end of a tag that is no langtag with extensions or private use

@@ -7,8 +7,10 @@ use Rattle.lt_rewrite.specs.TagSteps.{IsReached}
 use Rattle.lt_rewrite.specs.Labels.{IsTrace}
 use Rattle.lt_rewrite.specs.declared.steps.Step.{Step}
 use Rattle.lt_rewrite.proofs.Stars.{star_path}
-use Rattle.lt_canon.specs.Conditions.{IsChecked}
-use Rattle.lt_canon.specs.Laws.{HasEndForms, StepsAreConfluent, OneCanonicalTag, TracesReachTheirEnd}
+use Rattle.lt_check.specs.Conditions.{IsChecked}
+use Rattle.lt_canon.specs.Laws.{HasEndForms, StepsAreConfluent}
+use Rattle.lt_canon.specs.Corollaries.{OneCanonicalTag}
+use Rattle.lt_canon.specs.TraceLaws.{TracesReachTheirEnd}
 use Rattle.lt_canon.proofs.EndForms.{confluent, rest_unique, star_equivalent}
 use Rattle.lt_canon.proofs.TagForm.{tag_end, end_form, change_kept, tag_reached}
 use Rattle.lt_canon.proofs.TagRest.{tag_end_rests}

@@ -20,9 +20,9 @@ use Rattle.lt_rewrite.proofs.PartLists.{all_both, all_step, all_middle, all_repl
 use Rattle.lt_rewrite.proofs.TransformForms.{if_some_is, is_if_some}
 use Rattle.lt_rewrite.proofs.FoundParts.{one_transform}
 use Rattle.lt_rewrite.proofs.ExtensionShapes.{extension_step_singleton, extensions_step_values, extensions_step_count}
-use Rattle.lt_canon.specs.Conditions.{IsChecked}
-use Rattle.lt_canon.proofs.Checks.{core_conditions}
-use Rattle.lt_canon.proofs.CheckedRegistry.{grandfathered_fit, value_plain}
+use Rattle.lt_check.specs.Conditions.{IsChecked}
+use Rattle.lt_check.proofs.Checks.{core_conditions}
+use Rattle.lt_check.proofs.CheckedRegistry.{grandfathered_fit, value_plain}
 
 -- the parts of a proper langtag
 pub record ProperParts (R : List EntryParts) (c : CoreParts) (es : List ExtensionParts) (ps : List (List ℕ)) : Type 0 where

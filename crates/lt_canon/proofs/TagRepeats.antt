@@ -20,11 +20,12 @@ use Rattle.lt_rewrite.proofs.FoundParts.{one_transform}
 use Rattle.lt_rewrite.proofs.Proper.{step_shaped}
 use Rattle.lt_rewrite.proofs.ExtensionForms.{transform_form, t_form_is}
 use Rattle.lt_rewrite.proofs.Repeats.{TurnsOnce, turning, distinct_filter, turns_once_kept, form_distinct}
-use Rattle.lt_canon.specs.Conditions.{plain, IsValidPlain, IsChecked}
-use Rattle.lt_canon.specs.Laws.{RepeatsWithoutForm, CanonicalOrRepeats, RepeatTogether, EquivalenceIsEquality}
+use Rattle.lt_check.specs.Conditions.{plain, IsValidPlain, IsChecked}
+use Rattle.lt_canon.specs.Laws.{RepeatsWithoutForm, CanonicalOrRepeats}
+use Rattle.lt_canon.specs.Corollaries.{RepeatTogether, EquivalenceIsEquality}
 use Rattle.lt_canon.specs.Answers.{IsCanonicalFormOf}
-use Rattle.lt_canon.proofs.Checks.{core_conditions}
-use Rattle.lt_canon.proofs.CheckedRegistry.{IsGrandfatheredTag, value_plain, tag_plain}
+use Rattle.lt_check.proofs.Checks.{core_conditions}
+use Rattle.lt_check.proofs.CheckedRegistry.{IsGrandfatheredTag, value_plain, tag_plain}
 use Rattle.lt_canon.proofs.EndForms.{star_proper, star_end, star_equivalent, equivalent_end, equivalent_trans, equivalent_sym, rest_is_end}
 use Rattle.lt_canon.proofs.Distinctness.{Decided, decide_both, decide_each, decide_distinct, decide_source}
 use Rattle.lt_canon.proofs.TagForm.{or_value, core_end, cores_formed, extension_end, value_end, lang_end, tag_end, tag_reached, end_form}

@@ -8,8 +8,8 @@ use Rattle.lt_rewrite.specs.CoreSteps.{values_of, CoreStep}
 use Rattle.lt_rewrite.specs.Extensions.{ExtensionsStep}
 use Rattle.lt_rewrite.specs.TagSteps.{TagChange, on_core, on_extensions, on_whole, TagStep}
 use Rattle.lt_rewrite.proofs.NormalForms.{star_keeps}
-use Rattle.lt_canon.specs.Conditions.{plain, IsChecked}
-use Rattle.lt_canon.proofs.CheckedRegistry.{value_plain}
+use Rattle.lt_check.specs.Conditions.{plain, IsChecked}
+use Rattle.lt_check.proofs.CheckedRegistry.{value_plain}
 use Rattle.lt_canon.proofs.TagForm.{or_value, core_end, cores_formed, extensions_end, extensions_end_formed, value_end, lang_end, tag_end, value_rests, extensions_step_from, extensions_step_to}
 
 -- a langtag at its end

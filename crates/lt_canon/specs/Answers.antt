@@ -1,9 +1,9 @@
--- What is owed for a tag that is to be made canonical.
-use Rattle.std.specs.Prelude.{ℕ, ◌≡◌, ◌⊎◌, List, ◌∷◌, ◌++◌, Result, Ok, Err}
+-- The canonical form of a tag (RFC 5646, 4.5), and the variant that is named where steps can repeat one.
+use Rattle.std.specs.Prelude.{ℕ, ◌≡◌, ◌⊎◌, List, ◌∷◌, ◌++◌}
 use Rattle.lt_tag.specs.Parts.{CoreParts, ExtensionParts, TagForm, LangTag, PrivateUse, Grandfathered}
 use Rattle.lt_registry.specs.Parts.{EntryParts}
 use Rattle.lt_registry.specs.Validity.{IsValid, Distinct}
-use Rattle.lt_registry.specs.Faults.{HasSource, IsFirstFault}
+use Rattle.lt_registry.specs.Faults.{HasSource}
 use Rattle.lt_rewrite.specs.CoreSteps.{values_of, IsCoreNormalForm}
 use Rattle.lt_rewrite.specs.TagSteps.{IsReached, IsCanonical, CanRepeat}
 use Rattle.lt_canon.specs.declared.refusals.Refusal.{Refusal}
@@ -58,9 +58,8 @@ pub record IsRepeatOf (R : List EntryParts) (t : TagForm) (v : List ℕ) : Type 
   pub repeats : CanRepeat R t
   pub named : IsNamedRepeat R t v
 
--- the canonical form, or the refusal that is owed; want of memory aside
-abbrev pub IsCanonicalAnswer : List EntryParts → TagForm → Result TagForm Refusal → Type 0
-IsCanonicalAnswer R t (Ok c) = IsCanonicalFormOf R t c
-IsCanonicalAnswer R t (Err (refusals.Invalid fault)) = IsFirstFault R t fault.kind fault.place
-IsCanonicalAnswer R t (Err (refusals.ReplacementRepeats v)) = IsRepeatOf R t v
-IsCanonicalAnswer R t (Err refusals.OutOfMemory) = Unit {0}
+-- A valid tag is refused only where steps can repeat a variant, and this is named. Where no memory was left nothing is said.
+abbrev pub RefusesOnlyRepeats : List EntryParts → TagForm → Refusal → Type 0
+RefusesOnlyRepeats R t (refusals.Invalid fault) = IsValid R t → ⊥
+RefusesOnlyRepeats R t (refusals.ReplacementRepeats v) = IsRepeatOf R t v
+RefusesOnlyRepeats R t refusals.OutOfMemory = Unit {0}

@@ -1,11 +1,12 @@
 -- Whether two tags are equivalent, or the refusal that is owed.
-use Rattle.std.specs.Prelude.{◌≡◌, ◌⊎◌, ◌↔◌, Bool, IsTrue, List, Err}
+use Rattle.std.specs.Prelude.{◌≡◌, ◌⊎◌, ◌↔◌, Bool, IsTrue, List}
 use Rattle.lt_tag.specs.Parts.{TagForm}
 use Rattle.lt_tag.specs.WellFormed.{spell}
 use Rattle.lt_tag.specs.Conventional.{conventional}
 use Rattle.lt_registry.specs.Parts.{EntryParts}
 use Rattle.lt_rewrite.specs.TagSteps.{AreEquivalent}
-use Rattle.lt_canon.specs.Answers.{IsCanonicalFormOf, IsCanonicalAnswer}
+use Rattle.lt_canon.specs.Answers.{IsCanonicalFormOf}
+use Rattle.lt_canon.specs.Refusals.{IsRefusedWith}
 use Rattle.lt_canon.specs.declared.refusals.Refusal.{Refusal}
 
 -- Both tags have canonical forms; and whether the tags are equivalent is whether the forms are equal, and whether
@@ -18,9 +19,6 @@ pub record IsEquivalenceAnswer (R : List EntryParts) (t u : TagForm) (answer : B
   pub equivalent : IsTrue answer ↔ AreEquivalent R t u
   pub equal : IsTrue answer ↔ (first ≡ second)
   pub equal_texts : IsTrue answer ↔ (conventional (spell first) ≡ conventional (spell second))
-
-abbrev pub IsRefusedWith : List EntryParts → TagForm → Refusal → Type 0
-IsRefusedWith R t refusal = IsCanonicalAnswer R t (Err refusal)
 
 -- the second tag's refusal, where the first is not refused
 pub record IsSecondRefusal (R : List EntryParts) (t u : TagForm) (refusal : Refusal) : Type 0 where

@@ -1,14 +1,31 @@
--- How a refusal is told by the calls above.
+-- Why a tag has no canonical form, and how the calls above tell it.
+use Rattle.std.specs.Prelude.{List}
+use Rattle.lt_tag.specs.Parts.{TagForm}
 use Rattle.lt_tag.specs.declared.faults.TagFault.{TagFault}
 use Rattle.lt_tag.specs.declared.faults.TagFaultKind.{TagFaultKind}
 use Rattle.lt_tag.specs.declared.faults.TagFaultKind.TheVariants as kinds
+use Rattle.lt_registry.specs.Parts.{EntryParts}
+use Rattle.lt_registry.specs.Faults.{IsFirstFault}
 use Rattle.lt_registry.specs.declared.faults.ValidFault.{ValidFault}
 use Rattle.lt_registry.specs.declared.faults.ValidRefusal.{ValidRefusal}
 use Rattle.lt_registry.specs.declared.faults.ValidRefusal.TheVariants as checks
+use Rattle.lt_canon.specs.Answers.{IsRepeatOf}
 use Rattle.lt_canon.specs.declared.refusals.Refusal.{Refusal}
 use Rattle.lt_canon.specs.declared.refusals.Refusal.TheVariants as refusals
 use Rattle.lt_canon.specs.declared.refusals.TextRefusal.{TextRefusal}
 use Rattle.lt_canon.specs.declared.refusals.TextRefusal.TheVariants as texts
+
+-- The tag's first fault is named where the refusal is that the tag is not valid. Of any other this says nothing.
+abbrev pub NamesFault : List EntryParts → TagForm → Refusal → Type 0
+NamesFault R t (refusals.Invalid fault) = IsFirstFault R t fault.kind fault.place
+NamesFault R t (refusals.ReplacementRepeats v) = Unit {0}
+NamesFault R t refusals.OutOfMemory = Unit {0}
+
+-- the refusal that is owed: the fault, or the variant that is named; nothing is owed where no memory was left
+abbrev pub IsRefusedWith : List EntryParts → TagForm → Refusal → Type 0
+IsRefusedWith R t (refusals.Invalid fault) = IsFirstFault R t fault.kind fault.place
+IsRefusedWith R t (refusals.ReplacementRepeats v) = IsRepeatOf R t v
+IsRefusedWith R t refusals.OutOfMemory = Unit {0}
 
 -- why a tag that is not found valid has no canonical form
 abbrev pub of_valid : ValidRefusal → Refusal

@@ -5,7 +5,7 @@ use Rattle.lt_registry.specs.Parts.{EntryParts}
 use Rattle.lt_registry.specs.Validity.{Distinct}
 use Rattle.lt_registry.specs.Faults.{HasSource}
 use Rattle.lt_rewrite.specs.CoreSteps.{values_of, IsCoreNormalForm}
-use Rattle.lt_canon.specs.Conditions.{plain}
+use Rattle.lt_check.specs.Conditions.{plain}
 use Rattle.lt_canon.specs.Answers.{IsSecondOccurrence, IsRepeatOfCore}
 use Rattle.lt_canon.specs.declared.refusals.Refusal.{Refusal}
 use Rattle.lt_canon.specs.declared.refusals.Refusal.TheVariants as refusals

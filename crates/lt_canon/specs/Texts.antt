@@ -1,5 +1,5 @@
 -- What is owed for a text that is to be made canonical.
-use Rattle.std.specs.Prelude.{ℕ, ◌≡◌, List, ◌++◌, Result, Ok, Err}
+use Rattle.std.specs.Prelude.{ℕ, ◌≡◌, List, ◌++◌}
 use Rattle.lt_tag.specs.Parts.{TagForm}
 use Rattle.lt_tag.specs.WellFormed.{spell}
 use Rattle.lt_tag.specs.Conventional.{conventional}
@@ -36,8 +36,3 @@ IsTextRefusal R text (refusals.NotATag fault) = HasFault text fault.kind fault.p
 IsTextRefusal R text (refusals.Invalid fault) = ReadsAs text (λ tag. IsFirstFault R tag fault.kind fault.place)
 IsTextRefusal R text (refusals.ReplacementRepeats variant) = ReadsAs text (λ tag. IsRepeatOf R tag variant)
 IsTextRefusal R text refusals.OutOfMemory = Unit {0}
-
--- the canonical text, or the refusal that is owed
-abbrev pub IsTextAnswer : List EntryParts → List ℕ → Result (List ℕ) TextRefusal → Type 0
-IsTextAnswer R text (Ok canonical) = IsCanonicalTextOf R text canonical
-IsTextAnswer R text (Err refusal) = IsTextRefusal R text refusal

@@ -4,18 +4,19 @@ ghost use Rattle.lt_tag.specs.Parts.{LangTag};
 ghost use Rattle.lt_tag.specs.Values.{IsTagValue, core_of};
 ghost use Rattle.lt_registry.specs.Validity.{IsValid};
 ghost use Rattle.lt_rewrite.specs.Conditions.{HasEndingChain};
-ghost use Rattle.lt_canon.specs.Conditions.{plain, IsValidPlain, IsChecked};
-ghost use Rattle.lt_canon.specs.Answers.{IsCanonicalAnswer};
-ghost use Rattle.lt_canon.specs.OtherForms.{or_same};
+ghost use Rattle.lt_check.specs.Conditions.{plain, IsValidPlain, IsChecked};
+ghost use Rattle.lt_canon.specs.Answers.{IsCanonicalFormOf, RefusesOnlyRepeats};
+ghost use Rattle.lt_canon.specs.Refusals.{NamesFault};
+ghost use Rattle.lt_canon.specs.OtherForms.{IsCanonicalAnswer, or_same};
 ghost use Rattle.lt_canon.specs.Settled.{IsDistinctForm, IsCoreRefusal, IsSettledValue};
 ghost use Rattle.lt_canon.specs.UsualTags.{IsUsual};
 
-use crate::checked::Checked;
 use crate::refusals::Refusal;
 use crate::repeats::{second_in_sources, second_occurrence};
 use crate::usual_tags::{is_core_valued, usual_core};
-use crate::whole_values::whole_value;
+use lt_check::Checked;
 use lt_registry::{Lookup, validate};
+use lt_rewrite::values::whole_value;
 use lt_rewrite::{settle_core, settle_extensions};
 use lt_subtag::Subtag;
 use lt_tag::{Core, Extension, OutOfMemory, Tag, copy_extensions, copy_subtags};
@@ -34,7 +35,9 @@ use std::alloc::Global;
 /// beside what `validate` looks up. Where neither a tag without extensions and private use nor its value
 /// has variants it takes no memory.
 pub fn canonical<L: Lookup>(alloc: Global, checked: &Checked<L>, tag: &Tag) -> Result<Tag, Refusal>
-    ensures { IsCanonicalAnswer (L.listed checked.now) tag.now result }
+    ensures ok { IfOk result (λ form. IsCanonicalFormOf (L.listed checked.now) tag.now form) }
+    ensures repeats { IfErr result (λ refusal. RefusesOnlyRepeats (L.listed checked.now) tag.now refusal) }
+    ensures invalid { IfErr result (λ refusal. NamesFault (L.listed checked.now) tag.now refusal) }
 {
     match other_form(alloc, checked, tag)? {
         Some(form) => Ok(form),

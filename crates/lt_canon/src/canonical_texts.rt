@@ -3,8 +3,8 @@ ghost use Rattle.std.specs.Prelude.{◌≡◌, IfOk, IfErr, OnOk, OnErr};
 ghost use Rattle.lt_canon.specs.Texts.{AppendsCanonicalText, IsCanonicalTextOf, IsTextRefusal};
 
 use crate::canonical_tags::other_form;
-use crate::checked::Checked;
 use crate::refusals::TextRefusal;
+use lt_check::Checked;
 use lt_registry::Lookup;
 use lt_tag::{append_tag, read_tag};
 use std::alloc::Global;

@@ -3,9 +3,9 @@ ghost use Rattle.std.specs.Prelude.{IfOk, IfErr};
 ghost use Rattle.lt_canon.specs.Equivalence.{IsEquivalenceAnswer, IsFirstRefusal};
 
 use crate::canonical_tags::canonical;
-use crate::checked::Checked;
 use crate::laws::confluence;
 use crate::refusals::Refusal;
+use lt_check::Checked;
 use lt_registry::Lookup;
 use lt_tag::{Tag, write_tag};
 use std::alloc::Global;

@@ -1,17 +1,17 @@
 //! Explanations: the steps to a canonical tag, one after another (RFC 5646, 4.5).
-ghost use Rattle.std.specs.Prelude.{IfOk, IfErr, Err};
+ghost use Rattle.std.specs.Prelude.{IfOk, IfErr};
 ghost use Rattle.lt_registry.specs.Validity.{IsProper};
 ghost use Rattle.lt_rewrite.specs.TagSteps.{IsPlain};
-ghost use Rattle.lt_canon.specs.Conditions.{IsChecked};
-ghost use Rattle.lt_canon.specs.Answers.{IsCanonicalAnswer};
+ghost use Rattle.lt_check.specs.Conditions.{IsChecked};
+ghost use Rattle.lt_canon.specs.Refusals.{IsRefusedWith};
 ghost use Rattle.lt_canon.specs.Explaining.{IsExplanation, RestsOnCore, LeadsToRest};
 
 use crate::canonical_tags::canonical;
-use crate::checked::Checked;
 use crate::refusals::Refusal;
 use crate::traces::Trace;
-use crate::whole_values::tag_value;
+use lt_check::Checked;
 use lt_registry::Lookup;
+use lt_rewrite::values::tag_value;
 use lt_rewrite::{Step, StepKind, core_length, explain_core, explain_extensions};
 use lt_tag::{OutOfMemory, Tag, copy_extensions};
 use std::alloc::Global;
@@ -23,7 +23,7 @@ use std::alloc::Global;
 /// on a core; the leftmost SwapFields. It is refused as `canonical` refuses.
 pub fn explain<L: Lookup>(alloc: Global, checked: &Checked<L>, tag: &Tag) -> Result<Trace, Refusal>
     ensures ok { IfOk result (λ trace. IsExplanation (L.listed checked.now) tag.now trace.steps.items trace.last) }
-    ensures err { IfErr result (λ refusal. IsCanonicalAnswer (L.listed checked.now) tag.now (Err refusal)) }
+    ensures err { IfErr result (λ refusal. IsRefusedWith (L.listed checked.now) tag.now refusal) }
 {
     let last = canonical(alloc, checked, tag)?;
     let steps = explain_tag(alloc, checked.table(), tag, Vec::new(alloc))?;

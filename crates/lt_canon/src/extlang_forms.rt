@@ -1,14 +1,14 @@
 //! Extlang forms (RFC 5646, 4.5).
-ghost use Rattle.std.specs.Prelude.{◌≡◌, IfOk, IfErr, Err};
+ghost use Rattle.std.specs.Prelude.{◌≡◌, IfOk, IfErr};
 ghost use Rattle.std.specs.Option.{option_copied};
 ghost use Rattle.lt_registry.specs.Entries.{prefixes};
 ghost use Rattle.lt_registry.specs.declared.entries.Kind.TheVariants as kinds;
-ghost use Rattle.lt_canon.specs.Answers.{IsCanonicalAnswer};
+ghost use Rattle.lt_canon.specs.Refusals.{IsRefusedWith};
 ghost use Rattle.lt_canon.specs.ExtlangForm.{prefix_of, IsExtlangFormOf};
 
 use crate::canonical_tags::canonical;
-use crate::checked::Checked;
 use crate::refusals::Refusal;
+use lt_check::Checked;
 use lt_registry::{Kind, Lookup};
 use lt_subtag::Subtag;
 use lt_tag::{Tag, copy_extensions, copy_subtags};
@@ -24,7 +24,7 @@ pub fn extlang_form<L: Lookup>(
     tag: &Tag,
 ) -> Result<Tag, Refusal>
     ensures form { IfOk result (λ form. IsExtlangFormOf (L.listed checked.now) tag.now form) }
-    ensures refusal { IfErr result (λ refusal. IsCanonicalAnswer (L.listed checked.now) tag.now (Err refusal)) }
+    ensures refusal { IfErr result (λ refusal. IsRefusedWith (L.listed checked.now) tag.now refusal) }
 {
     let table = checked.table();
     let form = canonical(alloc, checked, tag)?;

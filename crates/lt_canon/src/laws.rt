@@ -2,11 +2,15 @@
 //! a law.
 ghost use Rattle.std.specs.Prelude.{List};
 ghost use Rattle.lt_registry.specs.Parts.{EntryParts};
-ghost use Rattle.lt_canon.specs.Conditions.{IsChecked};
-ghost use Rattle.lt_canon.specs.Laws.{HasEndForms, StepsAreConfluent, OneCanonicalTag, CanonicalOrRepeats, RepeatTogether, EquivalenceIsEquality, EquivalenceIsEqualText, CanonicalTwiceIsOnce, CanonicalTextTwiceIsOnce, RepeatsAreNamed, ExtlangFormsLeadBack, TracesReachTheirEnd, TracesHaveOneEnd};
+ghost use Rattle.lt_check.specs.Conditions.{IsChecked};
+ghost use Rattle.lt_canon.specs.Laws.{HasEndForms, StepsAreConfluent, CanonicalOrRepeats, EquivalenceIsEqualText, CanonicalTwiceIsOnce, CanonicalTextTwiceIsOnce};
+ghost use Rattle.lt_canon.specs.Corollaries.{OneCanonicalTag, RepeatTogether, EquivalenceIsEquality};
+ghost use Rattle.lt_canon.specs.RepeatLaws.{RepeatsAreNamed};
+ghost use Rattle.lt_canon.specs.ExtlangLaws.{ExtlangFormsLeadBack};
+ghost use Rattle.lt_canon.specs.TraceLaws.{TracesReachTheirEnd, TracesHaveOneEnd};
 ghost use Rattle.lt_canon.specs.Explaining.{HasOneExplanation};
 
-use crate::checked::Checked;
+use lt_check::Checked;
 use lt_registry::Lookup;
 
 /// What holds of the steps of a registry that passes the check.

@@ -1,20 +1,38 @@
 //! Why a tag or a text has no canonical form.
 ghost use Rattle.std.specs.Prelude.{◌≡◌};
+ghost use Rattle.lt_canon.specs.Names.{refusal_name_of, text_refusal_name_of};
 ghost use Rattle.lt_canon.specs.Refusals.{of_valid, of_valid_fault, no_memory, of_fault, of_refusal, no_text_memory};
 
 use lt_registry::{ValidFault, ValidRefusal};
 use lt_subtag::Subtag;
 use lt_tag::{OutOfMemory, TagFault, TagFaultKind};
+use thiserror::Error;
 
 /// Why a tag has no canonical form.
-#[derive(Debug, Drop)]
+#[derive(Debug, Drop, Error)]
 pub enum Refusal {
     /// The tag is not valid.
+    #[error("{0}: mend the subtag at this place, or take a registry by which it is valid")]
     Invalid(ValidFault),
     /// Steps can repeat a variant; this one stands twice once the core steps are done.
+    #[error("replacements can repeat a variant: take one of the variants out")]
     ReplacementRepeats(Subtag),
     /// No memory was left.
+    #[error("out of memory: free some, and ask again")]
     OutOfMemory,
+}
+
+impl Refusal {
+    /// The refusal's name, as it is printed: for a tag that is not valid that of its fault.
+    pub fn name(&self) -> &'static str
+        ensures { result.now ≡ refusal_name_of self.now }
+    {
+        match self {
+            Refusal::Invalid(fault) => fault.kind.name(),
+            Refusal::ReplacementRepeats(_) => "ReplacementRepeats",
+            Refusal::OutOfMemory => "OutOfMemory",
+        }
+    }
 }
 
 impl From<ValidRefusal> for Refusal {
@@ -45,16 +63,35 @@ impl From<OutOfMemory> for Refusal {
 }
 
 /// Why a text has no canonical text.
-#[derive(Debug, Drop)]
+#[derive(Debug, Drop, Error)]
 pub enum TextRefusal {
-    /// The text is no tag. Want of memory is never told so.
+    /// The text is no tag. Out of memory is never told so.
+    #[error("{0}: mend the text at this subtag, so that it is a language tag")]
     NotATag(TagFault),
     /// The tag is not valid.
+    #[error("{0}: mend the subtag at this place, or take a registry by which it is valid")]
     Invalid(ValidFault),
     /// Steps can repeat a variant; this one stands twice once the core steps are done.
+    #[error("replacements can repeat a variant: take one of the variants out")]
     ReplacementRepeats(Subtag),
     /// No memory was left.
+    #[error("out of memory: free some, and ask again")]
     OutOfMemory,
+}
+
+impl TextRefusal {
+    /// The refusal's name, as it is printed: for a text that is no tag, or a tag that is not valid, that of
+    /// its fault.
+    pub fn name(&self) -> &'static str
+        ensures { result.now ≡ text_refusal_name_of self.now }
+    {
+        match self {
+            TextRefusal::NotATag(fault) => fault.kind.name(),
+            TextRefusal::Invalid(fault) => fault.kind.name(),
+            TextRefusal::ReplacementRepeats(_) => "ReplacementRepeats",
+            TextRefusal::OutOfMemory => "OutOfMemory",
+        }
+    }
 }
 
 impl From<TagFault> for TextRefusal {

@@ -5,12 +5,13 @@ ghost use Rattle.lt_rewrite.specs.TagSteps.{AreEquivalent};
 ghost use Rattle.lt_rewrite.specs.Labels.{IsTrace};
 ghost use Rattle.lt_canon.specs.Traces.{IsValidTrace, IsTraceFault, IsFollowFault, trace_fault_name_of, of_invalid, no_trace_memory};
 
-use crate::checked::Checked;
 use crate::laws::{traces_have_one_end, traces_reach_their_end};
+use lt_check::Checked;
 use lt_registry::{Lookup, ValidFault, ValidRefusal, validate};
 use lt_rewrite::{ApplyFault, Step, apply};
 use lt_tag::{OutOfMemory, Tag, write_tag};
 use std::alloc::Global;
+use thiserror::Error;
 
 /// Steps one after another, and the tag to which they lead.
 #[derive(Debug, Drop)]
@@ -20,15 +21,19 @@ pub struct Trace {
 }
 
 /// Why a trace is not one of a tag.
-#[derive(Clone, Copy, Debug, Drop, PartialEq, Eq)]
+#[derive(Clone, Copy, Debug, Drop, Error, PartialEq, Eq)]
 pub enum TraceFault {
     /// The tag is not valid.
+    #[error("{0}: mend the subtag at this place, or take a registry by which it is valid")]
     Invalid(ValidFault),
     /// This step, counted from 1, is the first that does not lead on to a proper tag.
+    #[error("step {0} does not lead on: mend it, or take the registry for which the trace was made")]
     NoSuchStep(usize),
     /// The steps lead to another tag.
+    #[error("the steps lead to another tag than the last: mend that, or the steps")]
     WrongEnd,
     /// No memory was left.
+    #[error("out of memory: free some, and ask again")]
     OutOfMemory,
 }
 

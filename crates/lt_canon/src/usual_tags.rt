@@ -3,11 +3,11 @@ ghost use Rattle.std.specs.Prelude.{◌≡◌, IfSome};
 ghost use Rattle.std.specs.Option.{option_copied};
 ghost use Rattle.lt_tag.specs.Values.{IsTagValue};
 ghost use Rattle.lt_registry.specs.Entries.{entry};
-ghost use Rattle.lt_canon.specs.Conditions.{plain};
+ghost use Rattle.lt_check.specs.Conditions.{plain};
 ghost use Rattle.lt_canon.specs.UsualTags.{IsUsual, one_valued, part_valued, core_valued};
 
-use crate::record_checks::one_value;
 use lt_registry::{Entry, Kind, Lookup, ValidFault, ValidFaultKind};
+use lt_rewrite::values::one_value;
 use lt_subtag::Subtag;
 use lt_tag::{Core, Tag};
 

@@ -8,7 +8,8 @@ ghost use Rattle.lt_rewrite.specs.CoreSteps.{Ends, EndsIn};
 ghost use Rattle.lt_rewrite.specs.Conditions as conditions;
 ghost use Rattle.lt_rewrite.specs.ChainEnds.{ChainEnds, ChainEndsIn, following};
 
-use lt_registry::{Entry, EntryValue, Kind, Lookup};
+use crate::values::{is_short, one_value, value};
+use lt_registry::{Entry, Kind, Lookup};
 use lt_subtag::Subtag;
 use std::fmt;
 
@@ -34,35 +35,6 @@ impl fmt::Display for Cycle {
 }
 
 impl std::error::Error for Cycle {}
-
-/// The one subtag that an entry gives as its value.
-pub(crate) fn one_value(entry: &Entry) -> Option<&Subtag>
-    ensures value { option_copied result ≡ one_of entry.now.value }
-    ensures form { IfSome result (λ value. has_value_form entry.now.kind value.now ≡ true) }
-{
-    match entry.value() {
-        Some(EntryValue::One(value)) => Some(value),
-        _ => None,
-    }
-}
-
-/// Whether a value of a variant is a language: it has 2 or 3 letters.
-pub(crate) fn is_short(subtag: &Subtag) -> bool
-    ensures { result ≡ is_short subtag.now }
-{
-    subtag.bytes().len() <= 3
-}
-
-/// The value of a subtag under a kind.
-pub(crate) fn value<'a, L: Lookup>(table: &'a L, kind: Kind, subtag: &Subtag) -> Option<&'a Subtag>
-    ensures value { option_copied result ≡ entries.value (L.listed table.now) kind subtag.now }
-    ensures form { IfSome result (λ value. has_value_form kind value.now ≡ true) }
-{
-    match table.entry(kind, subtag) {
-        Some(entry) => one_value(entry),
-        None => None,
-    }
-}
 
 /// The value of an entry that follows in a chain of a kind: that of a variant only where it is a
 /// variant.

@@ -5,9 +5,10 @@ ghost use Rattle.lt_registry.specs.Faults as faults;
 ghost use Rattle.lt_rewrite.specs.Applying.{Answers, IsValueBy, CoreLeads};
 ghost use Rattle.lt_rewrite.specs.declared.steps.StepKind.TheVariants as kinds;
 
-use crate::chain_ends::{is_short, one_value, replacement};
+use crate::chain_ends::replacement;
 use crate::core_settling::first_turn;
 use crate::steps::{Step, StepKind};
+use crate::values::{is_short, one_value};
 use lt_registry::{Kind, Lookup};
 use lt_subtag::Subtag;
 use lt_tag::Core;

@@ -6,12 +6,13 @@ ghost use Rattle.lt_rewrite.specs.Applying.{CoreLeads};
 ghost use Rattle.lt_rewrite.specs.Runs.{rank_of, NoneLeads, NoneOnCore, IsLeftmostOnCore, IsFirstOnCore, AddsOnCore};
 ghost use Rattle.lt_rewrite.specs.declared.steps.StepKind.TheVariants as kinds;
 
-use crate::chain_ends::{next_value, value};
+use crate::chain_ends::next_value;
 use crate::core_applying::{
     apply_to_core, before_region, before_script, before_variants, record_number,
 };
 use crate::core_settling::first_turn;
 use crate::steps::{Step, StepKind};
+use crate::values::value;
 use lt_registry::{Kind, Lookup};
 use lt_tag::{Core, OutOfMemory};
 

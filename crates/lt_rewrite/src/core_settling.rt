@@ -10,8 +10,9 @@ ghost use Rattle.lt_rewrite.specs.Conditions.{HasEndingChain};
 ghost use Rattle.lt_rewrite.specs.Shortcuts.{AreShortcuts};
 ghost use Rattle.lt_rewrite.specs.CoreSettling.{IsFirstTurn, HasNoTurn, HasFinalLanguage, HasFinalScript, HasFinalRegion, HasFinalVariants};
 
-use crate::chain_ends::{Cycle, end_of_chain, is_short, one_value, replacement};
+use crate::chain_ends::{Cycle, end_of_chain, replacement};
 use crate::shortcuts::Shortcuts;
+use crate::values::{is_short, one_value};
 use lt_registry::{Kind, Lookup};
 use lt_subtag::Subtag;
 use lt_tag::Core;

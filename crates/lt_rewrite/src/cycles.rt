@@ -3,7 +3,8 @@ ghost use Rattle.std.specs.Prelude.{◌≡◌, All, MatchBool, MatchOption};
 ghost use Rattle.lt_rewrite.specs.Conditions.{HasEndingChain};
 ghost use Rattle.lt_rewrite.specs.Cycles.{IsFirstCycle, EndsAfterEarlier, place};
 
-use crate::chain_ends::{following, next_value, one_value};
+use crate::chain_ends::{following, next_value};
+use crate::values::one_value;
 use lt_registry::{Entry, Lookup};
 
 /// An order of the records by their numbers.

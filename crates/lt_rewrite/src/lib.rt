@@ -24,6 +24,7 @@ mod shortcuts;
 mod steps;
 mod transform_explaining;
 mod unicode_explaining;
+pub mod values;
 
 pub use apply_faults::ApplyFault;
 pub use applying::apply;

@@ -9,8 +9,9 @@ ghost use Rattle.lt_rewrite.specs.Conditions.{HasEndingChain};
 ghost use Rattle.lt_rewrite.specs.ChainEnds.{ChainEnds, ChainEndsIn};
 ghost use Rattle.lt_rewrite.specs.Shortcuts.{IsOnward, IsShortcut, LeadOn, AreShortcuts};
 
-use crate::chain_ends::{Cycle, following, next_value, one_value, replacement};
+use crate::chain_ends::{Cycle, following, next_value, replacement};
 use crate::core_settling::settle_along;
+use crate::values::one_value;
 use lt_registry::{Entry, Kind, Lookup};
 use lt_subtag::Subtag;
 use lt_tag::Core;

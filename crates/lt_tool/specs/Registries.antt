@@ -11,9 +11,9 @@ use Rattle.lt_registry.specs.ReadRegistry.{ReadsRegistry}
 use Rattle.lt_registry.specs.declared.faults.RecordFaultKind.TheVariants as record_kinds
 use Rattle.lt_registry.specs.declared.faults.RegistryFault.{RegistryFault}
 use Rattle.lt_registry.specs.declared.faults.RegistryFault.TheVariants as faults
-use Rattle.lt_canon.specs.declared.conditions.Condition.{Condition}
-use Rattle.lt_canon.specs.Codes as condition_codes
-use Rattle.lt_canon.specs.Conditions.{IsChecked, IsFinding}
+use Rattle.lt_check.specs.declared.conditions.Condition.{Condition}
+use Rattle.lt_check.specs.Codes as condition_codes
+use Rattle.lt_check.specs.Conditions.{IsChecked, IsFinding}
 use Rattle.lt_tool.specs.Streams.{Stream}
 use Rattle.lt_tool.specs.declared.lines.Answer.{Answer}
 use Rattle.lt_tool.specs.declared.registries.RegistryRefusal.{RegistryRefusal}

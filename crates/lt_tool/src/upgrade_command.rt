@@ -7,10 +7,11 @@ ghost use Rattle.lt_tool.specs.Streams.{stream};
 use crate::lines::Answer;
 use crate::registries::{RegistryRefusal, line_of_refusal, read_registry};
 use crate::status::Status;
-use lt_canon::{Checked, UpgradeFault, upgrade_check};
+use lt_canon::Checked;
 use lt_jar::Device;
 use lt_registry::Lookup;
 use lt_tag::OutOfMemory;
+use lt_upgrade::{UpgradeFault, upgrade_check};
 use std::alloc::Global;
 use std::io::Read;
 

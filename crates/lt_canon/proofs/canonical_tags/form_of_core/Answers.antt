@@ -2,10 +2,10 @@ use Rattle.std.proofs.Common.{◌≡◌, inl, [], sym, ap, ◌∙◌, subst}
 use Rattle.std.proofs.lemmas.Result.{err_from_is_err_and}
 use Rattle.lt_tag.specs.Parts.{LangTag}
 use Rattle.lt_registry.specs.Entries.{whole_value}
-use Rattle.lt_canon.specs.Conditions.{plain}
+use Rattle.lt_check.specs.Conditions.{plain}
 use Rattle.lt_canon.specs.Answers.{IsCanonicalFormOf}
-use Rattle.lt_canon.specs.declared.conditions.Condition.TheVariants as conditions
-use Rattle.lt_canon.proofs.CheckedRegistry.{value_plain}
+use Rattle.lt_check.specs.declared.conditions.Condition.TheVariants as conditions
+use Rattle.lt_check.proofs.CheckedRegistry.{value_plain}
 use Rattle.lt_canon.proofs.CanonicalForms.{core_refused, form_spells_none, core_value_canonical, core_canonical}
 use Rattle.lt_canon.proofs.canonical_tags.form_of_core.Goals as goal
 

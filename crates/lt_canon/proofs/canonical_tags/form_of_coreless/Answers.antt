@@ -1,6 +1,6 @@
 use Rattle.std.proofs.Common.{inl, inr, sym}
 use Rattle.lt_tag.specs.Values.{number_of}
-use Rattle.lt_canon.proofs.CheckedRegistry.{value_plain}
+use Rattle.lt_check.proofs.CheckedRegistry.{value_plain}
 use Rattle.lt_canon.proofs.CanonicalForms.{plain_of_test, none_of_test, value_canonical, coreless_canonical}
 use Rattle.lt_canon.proofs.canonical_tags.form_of_coreless.Goals as goal
 

@@ -9,7 +9,7 @@ use Rattle.lt_rewrite.specs.Rewriting.{IsNormalForm}
 use Rattle.lt_rewrite.specs.Extensions.{ExtensionsStep}
 use Rattle.lt_canon.specs.Answers.{IsCanonicalFormOf}
 use Rattle.lt_canon.specs.Settled.{IsSecondInSources}
-use Rattle.lt_canon.specs.declared.conditions.Condition.TheVariants as conditions
+use Rattle.lt_check.specs.declared.conditions.Condition.TheVariants as conditions
 use Rattle.lt_canon.proofs.CanonicalForms.{transforms_have_parts, core_refused, form_count, form_some, langtag_canonical, source_refused}
 use Rattle.lt_canon.proofs.canonical_tags.form_of_langtag.Goals as goal
 

@@ -2,7 +2,7 @@ use Rattle.std.proofs.Common.{false, sym, ◌∙◌, subst}
 use Rattle.std.proofs.lemmas.Result.{err_from_is_err_and}
 use Rattle.lt_registry.specs.Validity.{IsValid}
 use Rattle.lt_canon.specs.Answers.{IsCanonicalFormOf}
-use Rattle.lt_canon.proofs.CheckedRegistry.{value_plain}
+use Rattle.lt_check.proofs.CheckedRegistry.{value_plain}
 use Rattle.lt_canon.proofs.CanonicalForms.{value_canonical}
 use Rattle.lt_canon.proofs.UsualTags.{usual_refused, usual_valid, usual_plain, usual_canonical}
 use Rattle.lt_canon.proofs.canonical_tags.form_of_usual.Goals as goal

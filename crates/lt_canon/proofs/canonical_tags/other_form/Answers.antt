@@ -1,6 +1,6 @@
 use Rattle.std.proofs.Common.{◌≡◌, [], ◌∙◌, sym, subst}
 use Rattle.lt_canon.specs.Answers.{IsCanonicalFormOf}
-use Rattle.lt_canon.specs.Conditions.{plain}
+use Rattle.lt_check.specs.Conditions.{plain}
 use Rattle.lt_canon.proofs.CanonicalForms.{nothing_of_test, tag_of_parts, valid_parts}
 use Rattle.lt_canon.proofs.canonical_tags.other_form.Goals as goal
 

@@ -7,9 +7,9 @@ use Rattle.lt_rewrite.specs.Labels.{step_at}
 use Rattle.lt_rewrite.specs.Runs.{AddsOnCore}
 use Rattle.lt_rewrite.specs.declared.steps.Step.{Step}
 use Rattle.lt_rewrite.specs.declared.steps.StepKind.TheVariants as steps
-use Rattle.lt_canon.specs.Conditions.{plain}
-use Rattle.lt_canon.specs.declared.conditions.Condition.TheVariants as conditions
-use Rattle.lt_canon.proofs.CheckedRegistry.{value_plain}
+use Rattle.lt_check.specs.Conditions.{plain}
+use Rattle.lt_check.specs.declared.conditions.Condition.TheVariants as conditions
+use Rattle.lt_check.proofs.CheckedRegistry.{value_plain}
 use Rattle.lt_canon.proofs.CanonicalForms.{plain_of_core, plain_has_core}
 use Rattle.lt_canon.proofs.Explained.{rests, whole_at_rest, value_rests_by}
 use Rattle.lt_canon.proofs.explaining.explain_whole.Goals as goal

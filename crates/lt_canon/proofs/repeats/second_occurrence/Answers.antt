@@ -1,6 +1,7 @@
 use Rattle.std.proofs.Common.{sym, subst}
+use Rattle.lt_check.proofs.DistinctTests.{distinct_further}
 use Rattle.lt_canon.specs.Answers.{IsSecondOccurrence}
-use Rattle.lt_canon.proofs.SecondVariants.{second_here, distinct_here}
+use Rattle.lt_canon.proofs.SecondVariants.{second_here}
 use Rattle.lt_canon.proofs.repeats.second_occurrence.Goals as goal
 
 pub returns-then-contains : goal.returns-then-contains
@@ -10,4 +11,4 @@ returns-then-contains c =
 
 pub loop-index-preserved : goal.loop-index-preserved
 loop-index-preserved c =
-    distinct_here c.args.variants.now c.loop-index.index c.index-variants-index.result c.loop-index-test.true c.index-variants-index.is (sym c.if-contains.ensures.value) c.loop-index.invariant
+    distinct_further c.args.variants.now c.loop-index.index c.index-variants-index.result c.loop-index-test.true c.index-variants-index.is (sym c.if-contains.ensures.value) c.loop-index.invariant

@@ -1,7 +1,0 @@
-use Rattle.std.proofs.Common.{◌+◌}
-use Rattle.lt_canon.specs.WholeChecks.{MeetsBelow}
-use Rattle.lt_canon.proofs.checking.find_fault.Given as goal
-
--- all records meet the conditions judged so far
-abbrev pub invariant-loop-condition : goal.invariant-loop-condition
-invariant-loop-condition g l = MeetsBelow (l.condition-index + 1) (g.L.Lookup.listed l.table)

@@ -1,7 +1,0 @@
-use Rattle.std.proofs.Common.{take}
-use Rattle.lt_registry.specs.Validity.{Distinct}
-use Rattle.lt_canon.proofs.cores.are_distinct.Given as goal
-
--- none so far stands twice
-abbrev pub invariant-loop-index : goal.invariant-loop-index
-invariant-loop-index l = Distinct (take l.index l.variants)

@@ -1,5 +1,0 @@
-use Rattle.lt_canon.proofs.RecordChecks.{PlainBefore}
-use Rattle.lt_canon.proofs.record_checks.are_langtags.Given as goal
-
-abbrev pub invariant-loop-prefix : goal.invariant-loop-prefix
-invariant-loop-prefix l = PlainBefore l.prefixes l.prefix-index

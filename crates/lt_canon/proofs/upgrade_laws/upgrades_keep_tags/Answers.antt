@@ -1,5 +1,0 @@
-use Rattle.lt_canon.proofs.UpgradeLaw.{upgrade_keeps}
-use Rattle.lt_canon.proofs.upgrade_laws.upgrades_keep_tags.Goals as goal
-
-pub returns : goal.returns
-returns c = upgrade_keeps

@@ -1,0 +1,118 @@
+//! The check of an upgrade between the sample and the sample with one change.
+use super::answers::has_form;
+use super::sample::{sample, sample_with, sorted_sample};
+use lt_check::Checked;
+use lt_registry::{Lookup, validate};
+use lt_tag::read_tag;
+use lt_upgrade::{UpgradeFault, upgrade_check};
+use std::alloc::Global;
+use std::test::Fail;
+
+/// A table that passes the check. It is handed back where memory is refused.
+pub(super) fn checked<L: Lookup + Drop>(alloc: Global, table: L) -> Result<Checked<L>, Fail> {
+    let answer = Checked::new(alloc, table);
+    match answer.or_else(|rejected| Checked::new(alloc, rejected.table)) {
+        Ok(checked) => Ok(checked),
+        Err(_) => Err(Fail::from("both registries pass")),
+    }
+}
+
+/// What the check of an upgrade finds: nothing, or the code of the condition and the record.
+pub(super) fn fault<A: Lookup + Drop, B: Lookup + Drop>(
+    alloc: Global,
+    older: A,
+    newer: B,
+) -> Result<Option<(&'static str, u32)>, Fail> {
+    let (older, newer) = (checked(alloc, older)?, checked(alloc, newer)?);
+    let answer = match upgrade_check(alloc, &older, &newer) {
+        Err(UpgradeFault::OutOfMemory) => upgrade_check(alloc, &older, &newer),
+        answer => answer,
+    };
+    match answer {
+        Ok(()) => Ok(None),
+        Err(UpgradeFault::Fails { condition, number }) => Ok(Some((condition.code(), number))),
+        Err(UpgradeFault::OutOfMemory) => Err(Fail::from("no memory")),
+    }
+}
+
+/// Records put in the place of one of the sample, an empty one to take it out, and the condition that then
+/// fails at that number. No two ranges together cover an old one, nor does one of another length or kind.
+pub(super) const FAULTS: [(u32, &str, &str); 12] = [
+    (23, "", "U1"),
+    (30, "Type: region\nSubtag: XA..XY\n", "U1"),
+    (
+        30,
+        "Type: region\nSubtag: WA..XN\n%%\nType: region\nSubtag: XB..ZA\n",
+        "U1",
+    ),
+    (19, "Type: language\nSubtag: qa..qz\n", "U1"),
+    (19, "Type: language\nSubtag: qaaa..qtzz\n", "U1"),
+    (26, "Type: language\nSubtag: qaaa..qabx\n", "U1"),
+    (9, "Type: language\nSubtag: iw\n", "U2"),
+    (
+        23,
+        "Type: extlang\nSubtag: yue\nPreferred-Value: yue\nPrefix: ms\n",
+        "U3",
+    ),
+    (
+        34,
+        "Type: variant\nSubtag: arevela\nPreferred-Value: hyw\nPrefix: hy\n",
+        "U4",
+    ),
+    (
+        34,
+        "Type: variant\nSubtag: arevela\nPreferred-Value: hy\nPrefix: hy\nPrefix: en\n",
+        "U4",
+    ),
+    (
+        31,
+        "Type: variant\nSubtag: 1901\nPreferred-Value: de\nPrefix: de\n",
+        "U5",
+    ),
+    (44, "Type: redundant\nTag: sgn-DE\n", "U6"),
+];
+
+/// Records put in the place of one of the sample, or behind the last, after which each condition holds.
+/// The range that covers an old one need not be the first that holds its ends.
+pub(super) const UPGRADES: [(usize, &str); 6] = [
+    (0, ""),
+    (48, "Type: language\nSubtag: fr\n"),
+    (30, "Type: region\nSubtag: WZ..XZ\n"),
+    (
+        30,
+        "Type: region\nSubtag: XA..XB\n%%\nType: region\nSubtag: WB..YA\n%%\nType: region\nSubtag: WC..XY\n",
+    ),
+    (
+        30,
+        "Type: region\nSubtag: XB..ZA\n%%\nType: region\nSubtag: XA..XY\n%%\nType: region\nSubtag: WB..XZ\n",
+    ),
+    (
+        34,
+        "Type: variant\nSubtag: arevela\nPreferred-Value: hy\nPrefix: hy\nPrefix: hy\n",
+    ),
+];
+
+#[test]
+fn names_of_faults(rt: HostRuntime) {
+    assert_eq!(rt; UpgradeFault::OutOfMemory.name(), "OutOfMemory");
+}
+
+/// A language whose value is taken out is its own canonical form.
+#[test]
+fn value_that_is_taken_out(rt: HostRuntime) -> Result<(), Fail> {
+    let newer = sample_with(rt.alloc(), 9, "Type: language\nSubtag: iw\n")?;
+    let newer = checked(rt.alloc(), newer)?;
+    assert!(rt; has_form(rt.alloc(), &newer, "iw", "iw")?);
+    Ok(())
+}
+
+/// A language that is added is valid, as it was not before.
+#[test]
+fn language_that_is_added(rt: HostRuntime) -> Result<(), Fail> {
+    let language = read_tag(rt.alloc(), b"fr")?;
+    let older = sample(rt.alloc())?;
+    let newer = sample_with(rt.alloc(), 48, "Type: language\nSubtag: fr\n")?;
+    assert!(rt; validate(rt.alloc(), &older, &language).is_err());
+    assert!(rt; validate(rt.alloc(), &newer, &language).is_ok());
+    Ok(())
+}

@@ -1,0 +1,15 @@
+pub mod CheckedRegistry
+pub mod Checks
+pub mod Deciding
+pub mod CoreTests
+pub mod WholeRecords
+pub mod WholeVerdicts
+pub mod RegularLists
+pub mod GrandfatheredVerdicts
+pub mod DistinctTests
+pub mod Findings
+pub mod RecordChecks
+pub mod SeenRanges
+pub mod FirstFaults
+pub mod OwnNames
+pub mod Judging

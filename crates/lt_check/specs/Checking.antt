@@ -1,0 +1,35 @@
+-- What a walk over the records finds.
+use Rattle.std.specs.Prelude.{ℕ, ◌≤◌, Bool, true, false, List, Option, Some, None, All}
+use Rattle.lt_registry.specs.Parts.{EntryParts}
+use Rattle.lt_check.specs.Conditions.{Meets, IsAtFault, Passes, IsFinding}
+use Rattle.lt_check.specs.declared.conditions.Condition.{Condition}
+use Rattle.lt_check.specs.declared.conditions.Condition.TheVariants as conditions
+use Rattle.lt_check.specs.declared.rejections.Finding.{Finding}
+use Rattle.lt_check.specs.declared.rejections.RejectedCause.{RejectedCause}
+use Rattle.lt_check.specs.declared.rejections.RejectedCause.TheVariants as causes
+
+-- the lowest record at fault by a condition
+pub record IsFirstAtFault (R : List EntryParts) (condition : Condition) (number : ℕ) : Type 0 where
+  pub fault : IsAtFault R condition number
+  pub first : (other : ℕ) → IsAtFault R condition other → number ≤ other
+
+-- each record meets the condition, or this is the lowest that does not
+abbrev pub IsLowestFault : List EntryParts → Condition → Option ℕ → Type 0
+IsLowestFault R condition None = All (Meets condition R) R
+IsLowestFault R condition (Some number) = IsFirstAtFault R condition number
+
+-- whether a look at one record after another decides the condition
+abbrev pub is_by_record : Condition → Bool
+is_by_record conditions.OwnName = false
+is_by_record conditions.FittingGrandfathered = false
+is_by_record _ = true
+
+-- each record meets each condition, or this is what the check finds
+abbrev pub IsVerdict : List EntryParts → Option Finding → Type 0
+IsVerdict R None = Passes R
+IsVerdict R (Some finding) = IsFinding R finding.condition finding.number
+
+-- what a rejection names is what the check finds; want of memory aside
+abbrev pub IsCause : List EntryParts → RejectedCause → Type 0
+IsCause R (causes.Finding finding) = IsFinding R finding.condition finding.number
+IsCause R causes.OutOfMemory = Unit {0}

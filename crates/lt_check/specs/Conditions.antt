@@ -1,0 +1,96 @@
+-- The twelve conditions on a registry. Each speaks of one record among all; a registry passes if each record meets
+-- each condition.
+use Rattle.std.specs.Prelude.{ℕ, ◌≡◌, ◌≢◌, ◌<◌, ◌≤◌, ◌⊎◌, List, [], Some, None, All, Contains}
+use Rattle.lt_tag.specs.Parts.{CoreParts, TagForm, LangTag}
+use Rattle.lt_registry.specs.Parts.{EntryParts}
+use Rattle.lt_registry.specs.Entries.{tag_of, whole_value, IsRegistry}
+use Rattle.lt_registry.specs.Validity.{IsValid, Distinct}
+use Rattle.lt_registry.specs.declared.entries.Kind.TheVariants as kinds
+use Rattle.lt_registry.specs.declared.entries.EntryName.TheVariants as names
+use Rattle.lt_rewrite.specs.CoreSteps.{values_of, IsCoreNormalForm}
+use Rattle.lt_rewrite.specs.Conditions.{HasOwnName, HasRegisteredValue, HasEndingChain, FitsAsExtlang, HasFittingVariantValue, StandsBesideFinalLanguages, HasLangtagPrefixes, FitsGrandfathered, HasNoRangeValue}
+use Rattle.lt_check.specs.declared.conditions.Condition.{Condition}
+use Rattle.lt_check.specs.declared.conditions.Condition.TheVariants as conditions
+
+-- a langtag without extensions and private use
+abbrev pub plain : CoreParts → TagForm
+plain c = LangTag c [] []
+
+-- of a whole record with a value: its tag and its value
+abbrev pub OfWhole : EntryParts → (TagForm → TagForm → Type 0) → Type 0
+OfWhole e P = (t u : TagForm) → e.name ≡ names.Whole t → tag_of e.value ≡ Some u → P t u
+
+pub record IsValidPlain (R : List EntryParts) (t : TagForm) : Type 0 where
+  pub core : CoreParts
+  pub is : t ≡ plain core
+  pub valid : IsValid R t
+
+-- If a whole record has a value, this is a valid langtag and a core alone; and so is the record's tag, if it is redundant.
+abbrev pub HasValidWhole : List EntryParts → EntryParts → Type 0
+HasValidWhole R e = OfWhole e (λ t u. IsValidPlain R u × (e.kind ≡ kinds.Redundant → IsValidPlain R t))
+
+-- If a whole record has a value, no variant stands twice in the core normal form of this value, and this form is not the
+-- tag of a whole record with a value.
+abbrev pub HasRestingWhole : List EntryParts → EntryParts → Type 0
+HasRestingWhole R e =
+    OfWhole e (λ t u. (c d : CoreParts) → u ≡ plain c → IsCoreNormalForm (values_of R) c d →
+    Distinct d.variants × All (λ (f : EntryParts). f.name ≡ names.Whole (plain d) → tag_of f.value ≡ None) R)
+
+-- Let a tag with a value have a core normal form that is another tag. Then the value has this core normal form too; or
+-- this form has a value as a whole tag, and the two values have one core normal form.
+abbrev pub HasAgreeingWhole : List EntryParts → EntryParts → Type 0
+HasAgreeingWhole R e =
+    OfWhole e (λ t u. (c s p d : CoreParts) → t ≡ plain c → u ≡ plain p → IsCoreNormalForm (values_of R) c s → s ≢ c → IsCoreNormalForm (values_of R) p d →
+    (s ≡ d) ⊎ ((q : CoreParts) × (whole_value R (plain s) ≡ Some (plain q)) × IsCoreNormalForm (values_of R) q d))
+
+-- a record meets a condition
+abbrev pub Meets : Condition → List EntryParts → EntryParts → Type 0
+Meets conditions.OwnName R e = HasOwnName R e
+Meets conditions.RegisteredValue R e = HasRegisteredValue R e
+Meets conditions.EndingChain R e = HasEndingChain R e
+Meets conditions.FittingExtlang R e = FitsAsExtlang R e
+Meets conditions.FittingVariantValue R e = HasFittingVariantValue R e
+Meets conditions.FinalPrefixes R e = StandsBesideFinalLanguages R e
+Meets conditions.LangtagPrefixes R e = HasLangtagPrefixes R e
+Meets conditions.FittingGrandfathered R e = FitsGrandfathered R e
+Meets conditions.ValidWhole R e = HasValidWhole R e
+Meets conditions.RestingWhole R e = HasRestingWhole R e
+Meets conditions.AgreeingWhole R e = HasAgreeingWhole R e
+Meets conditions.NoRangeValue R e = HasNoRangeValue e
+
+-- the conditions are judged in this order
+abbrev pub rank_of : Condition → ℕ
+rank_of conditions.OwnName = 1
+rank_of conditions.RegisteredValue = 2
+rank_of conditions.EndingChain = 3
+rank_of conditions.FittingExtlang = 4
+rank_of conditions.FittingVariantValue = 5
+rank_of conditions.FinalPrefixes = 6
+rank_of conditions.LangtagPrefixes = 7
+rank_of conditions.FittingGrandfathered = 8
+rank_of conditions.ValidWhole = 9
+rank_of conditions.RestingWhole = 10
+rank_of conditions.AgreeingWhole = 11
+rank_of conditions.NoRangeValue = 12
+
+-- each record meets each condition
+abbrev pub Passes : List EntryParts → Type 0
+Passes R = (condition : Condition) → All (Meets condition R) R
+
+-- the registry has its forms and passes the check
+pub record IsChecked (R : List EntryParts) : Type 0 where
+  pub registry : IsRegistry R
+  pub passes : Passes R
+
+-- a record of this number is at fault
+pub record IsAtFault (R : List EntryParts) (condition : Condition) (number : ℕ) : Type 0 where
+  pub entry : EntryParts
+  pub there : Contains R entry
+  pub numbered : entry.number ≡ number
+  pub fails : Meets condition R entry → ⊥
+
+-- the lowest condition that fails, and there the lowest record at fault
+pub record IsFinding (R : List EntryParts) (condition : Condition) (number : ℕ) : Type 0 where
+  pub fault : IsAtFault R condition number
+  pub lower : (other : Condition) → rank_of other < rank_of condition → All (Meets other R) R
+  pub first : (other : ℕ) → IsAtFault R condition other → number ≤ other

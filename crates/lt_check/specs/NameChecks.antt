@@ -1,0 +1,40 @@
+-- The ranges among the names of records.
+use Rattle.std.specs.Prelude.{ℕ, ◌≡◌, ◌↔◌, ◌⊎◌, List, Option, Some, None, Contains, MatchOption}
+use Rattle.lt_registry.specs.Parts.{EntryParts}
+use Rattle.lt_registry.specs.declared.entries.Kind.{Kind}
+use Rattle.lt_registry.specs.declared.entries.Kind.TheVariants as kinds
+use Rattle.lt_registry.specs.declared.entries.EntryName.{EntryName}
+use Rattle.lt_registry.specs.declared.entries.EntryName.TheVariants as names
+use Rattle.lt_rewrite.specs.Conditions.{HasOwnName}
+use Rattle.lt_check.specs.declared.range_names.RangeName.{RangeName}
+
+-- each kind by a number
+abbrev pub kind_number : Kind → ℕ
+kind_number kinds.Language = 0
+kind_number kinds.Extlang = 1
+kind_number kinds.Script = 2
+kind_number kinds.Region = 3
+kind_number kinds.Variant = 4
+kind_number kinds.Grandfathered = 5
+kind_number kinds.Redundant = 6
+
+abbrev pub range_name : Kind → List ℕ → List ℕ → RangeName
+range_name kind first last = record { kind = kind_number kind; first = first; last = last }
+
+abbrev pub range_at : Kind → EntryName → Option RangeName
+range_at kind (names.Range first last) = Some (range_name kind first last)
+range_at kind (names.Single s) = None
+range_at kind (names.Whole t) = None
+
+-- the range that a record names, under its kind
+abbrev pub range_of : EntryParts → Option RangeName
+range_of e = range_at e.kind e.name
+
+-- A range is new where it was not seen, and any other name where no lower record has it.
+abbrev pub IsNew : List EntryParts → List RangeName → EntryParts → Type 0
+IsNew R seen e = MatchOption (range_of e) (HasOwnName R e) (λ name. Contains seen name → ⊥)
+
+-- the range of a record, if it names one, is added to those that were seen
+abbrev pub SeesRange : EntryParts → List RangeName → List RangeName → Type 0
+SeesRange e old new =
+    MatchOption (range_of e) (new ≡ old) (λ range. (name : RangeName) → Contains new name ↔ (Contains old name ⊎ (range ≡ name)))

@@ -1,0 +1,32 @@
+-- What the conditions on whole records ask of cores, where all records meet the conditions judged before.
+use Rattle.std.specs.Prelude.{ℕ, ◌≡◌, ◌≢◌, ◌<◌, ◌⊎◌, List, Some, None, All}
+use Rattle.lt_tag.specs.Parts.{CoreParts, TagForm}
+use Rattle.lt_registry.specs.Parts.{EntryParts}
+use Rattle.lt_registry.specs.Entries.{tag_of, whole_value}
+use Rattle.lt_registry.specs.Validity.{Distinct}
+use Rattle.lt_registry.specs.declared.entries.EntryName.TheVariants as names
+use Rattle.lt_rewrite.specs.CoreSteps.{values_of, IsCoreNormalForm}
+use Rattle.lt_check.specs.Conditions.{plain, Meets, rank_of}
+use Rattle.lt_check.specs.declared.conditions.Condition.{Condition}
+
+-- all records meet each condition of a lower rank
+abbrev pub MeetsBelow : ℕ → List EntryParts → Type 0
+MeetsBelow rank R = (other : Condition) → rank_of other < rank → All (Meets other R) R
+
+-- no whole record of the tag has a value
+abbrev pub HasNoValue : List EntryParts → TagForm → Type 0
+HasNoValue R t = All (λ (f : EntryParts). f.name ≡ names.Whole t → tag_of f.value ≡ None) R
+
+-- the core normal form of a core repeats no variant and has no value
+abbrev pub ComesToRest : List EntryParts → CoreParts → Type 0
+ComesToRest R c = (d : CoreParts) → IsCoreNormalForm (values_of R) c d → Distinct d.variants × HasNoValue R (plain d)
+
+-- a core comes to an end: it is that, or its value comes to it
+abbrev pub ComesTo : List EntryParts → CoreParts → CoreParts → Type 0
+ComesTo R s d =
+    (s ≡ d) ⊎ ((q : CoreParts) × (whole_value R (plain s) ≡ Some (plain q)) × IsCoreNormalForm (values_of R) q d)
+
+-- where a core has a core normal form other than itself, that comes to the core normal form of another core
+abbrev pub ComeTogether : List EntryParts → CoreParts → CoreParts → Type 0
+ComeTogether R c p =
+    (s d : CoreParts) → IsCoreNormalForm (values_of R) c s → s ≢ c → IsCoreNormalForm (values_of R) p d → ComesTo R s d

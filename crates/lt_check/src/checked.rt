@@ -1,0 +1,56 @@
+//! A table of entries that passes the check.
+ghost use Rattle.std.specs.Prelude.{◌≡◌, IfOk, IfErr};
+ghost use Rattle.lt_check.specs.Conditions.{IsChecked, Passes};
+ghost use Rattle.lt_check.specs.Checking.{IsCause};
+
+use crate::checking::find_fault;
+use crate::rejections::{Rejected, RejectedCause};
+use crate::whole_checks::know_entries;
+use lt_registry::Lookup;
+use std::alloc::Global;
+use std::marker::Model;
+
+/// A table of entries that passes the check: each record meets each [`Condition`](crate::Condition).
+#[derive(Drop)]
+pub struct Checked<L: Lookup> {
+    table: L,
+}
+
+impl<L: Lookup> Model for Checked<L> {
+    ghost use Rattle.lt_check.specs.Conditions.{IsChecked};
+
+    ghost Value = { L };
+
+    ghost view = { λ c. c.table };
+
+    ghost invariant = { λ c. IsChecked (L.listed c.table) };
+}
+
+impl<L: Lookup> Checked<L> {
+    /// Checks a table: each record is to meet each of the twelve [conditions](crate::Condition). A table
+    /// that does not pass is handed back with the finding: the first condition that some record does
+    /// not meet, and of those records the lowest number; or because no memory was left. The conditions
+    /// are judged in order, each only where all records meet those before it.
+    pub fn new(alloc: Global, table: L) -> Result<Checked<L>, Rejected<L>>
+        ensures value { IfOk result (λ checked. checked ≡ table) }
+        ensures passes { IfOk result (λ checked. Passes (L.listed table)) }
+        ensures returned { IfErr result (λ rejected. rejected.table ≡ table) }
+        ensures cause { IfErr result (λ rejected. IsCause (L.listed table) rejected.cause) }
+    {
+        know_entries(&table);
+        let cause = match find_fault(alloc, &table) {
+            Ok(None) => return Ok(Checked { table }),
+            Ok(Some(finding)) => RejectedCause::Finding(finding),
+            Err(_) => RejectedCause::OutOfMemory,
+        };
+        Err(Rejected { table, cause })
+    }
+
+    /// The table.
+    pub fn table(&self) -> &L
+        ensures value { result.now ≡ self.now }
+        ensures checked { IsChecked (L.listed self.now) }
+    {
+        &self.table
+    }
+}

@@ -1,0 +1,135 @@
+//! The check of a registry, condition by condition.
+ghost use Rattle.std.specs.Prelude.{◌≡◌, ◌↔◌, true, Contains, IsTrue, IfOk};
+ghost use Rattle.lt_rewrite.specs.Shortcuts.{AreShortcuts};
+ghost use Rattle.lt_check.specs.Conditions.{Meets, rank_of};
+ghost use Rattle.lt_check.specs.WholeChecks.{MeetsBelow};
+ghost use Rattle.lt_check.specs.Checking.{is_by_record, IsLowestFault, IsVerdict};
+
+use crate::conditions::Condition;
+use crate::grandfathered_checks::{fits_grandfathered, validating_records};
+use crate::name_checks::first_taken_name;
+use crate::record_checks::{
+    fits_as_extlang, has_fitting_variant_value, has_langtag_prefixes, has_no_range_value,
+    has_registered_value, stands_beside_final_languages,
+};
+use crate::rejections::Finding;
+use crate::whole_checks::{has_agreeing_whole, has_resting_whole, has_valid_whole};
+use lt_registry::{Entry, Lookup};
+use lt_rewrite::Shortcuts;
+use lt_tag::OutOfMemory;
+use std::alloc::Global;
+
+/// The conditions in the order in which they are judged.
+const IN_ORDER: [Condition; 12] = [
+    Condition::OwnName,
+    Condition::RegisteredValue,
+    Condition::EndingChain,
+    Condition::FittingExtlang,
+    Condition::FittingVariantValue,
+    Condition::FinalPrefixes,
+    Condition::LangtagPrefixes,
+    Condition::FittingGrandfathered,
+    Condition::ValidWhole,
+    Condition::RestingWhole,
+    Condition::AgreeingWhole,
+    Condition::NoRangeValue,
+];
+
+/// Whether a record meets a condition that is decided by a look at one record after another.
+fn meets<L: Lookup>(
+    alloc: Global,
+    table: &L,
+    shortcuts: &Shortcuts,
+    condition: Condition,
+    entry: &Entry,
+) -> Result<bool, OutOfMemory>
+    requires shortcuts { AreShortcuts (L.listed table.now) shortcuts.now }
+    requires by_record { is_by_record condition ≡ true }
+    requires lower { MeetsBelow (rank_of condition) (L.listed table.now) }
+    requires listed { Contains (L.listed table.now) entry.now }
+    ensures { IfOk result (λ meets. IsTrue meets ↔ Meets condition (L.listed table.now) entry.now) }
+{
+    match condition {
+        Condition::RegisteredValue => Ok(has_registered_value(table, entry)),
+        Condition::EndingChain => Ok(shortcuts.has_end(table, entry)),
+        Condition::FittingExtlang => Ok(fits_as_extlang(table, shortcuts, entry)),
+        Condition::FittingVariantValue => Ok(has_fitting_variant_value(table, entry)),
+        Condition::FinalPrefixes => Ok(stands_beside_final_languages(table, entry)),
+        Condition::LangtagPrefixes => Ok(has_langtag_prefixes(entry)),
+        Condition::ValidWhole => Ok(has_valid_whole(alloc, table, entry)),
+        Condition::RestingWhole => has_resting_whole(alloc, table, shortcuts, entry),
+        Condition::AgreeingWhole => has_agreeing_whole(alloc, table, shortcuts, entry),
+        Condition::NoRangeValue => Ok(has_no_range_value(entry)),
+        _ => unreachable!(),
+    }
+}
+
+/// The first record that does not meet a condition that is decided by a look at one record after
+/// another.
+fn first_failing<L: Lookup>(
+    alloc: Global,
+    table: &L,
+    shortcuts: &Shortcuts,
+    condition: Condition,
+) -> Result<Option<u32>, OutOfMemory>
+    requires shortcuts { AreShortcuts (L.listed table.now) shortcuts.now }
+    requires by_record { is_by_record condition ≡ true }
+    requires lower { MeetsBelow (rank_of condition) (L.listed table.now) }
+    ensures { IfOk result (IsLowestFault (L.listed table.now) condition) }
+{
+    for entry in table.entries() {
+        if !meets(alloc, table, shortcuts, condition, entry)? {
+            return Ok(Some(entry.number()));
+        }
+    }
+    Ok(None)
+}
+
+/// The first record whose tag is a grandfathered type and none of the 26, or which makes a regular one
+/// of the 26 valid as a langtag.
+fn first_misfit<L: Lookup>(table: &L) -> Option<u32>
+    ensures { IsLowestFault (L.listed table.now) Condition.FittingGrandfathered result }
+{
+    let validating = validating_records(table);
+    for entry in table.entries() {
+        if !fits_grandfathered(table, &validating, entry) {
+            return Some(entry.number());
+        }
+    }
+    None
+}
+
+/// The lowest record at fault by a condition, where all records meet the conditions before it.
+fn lowest_fault<L: Lookup>(
+    alloc: Global,
+    table: &L,
+    shortcuts: &Shortcuts,
+    condition: Condition,
+) -> Result<Option<u32>, OutOfMemory>
+    requires shortcuts { AreShortcuts (L.listed table.now) shortcuts.now }
+    requires lower { MeetsBelow (rank_of condition) (L.listed table.now) }
+    ensures { IfOk result (IsLowestFault (L.listed table.now) condition) }
+{
+    match condition {
+        Condition::OwnName => first_taken_name(alloc, table),
+        Condition::FittingGrandfathered => Ok(first_misfit(table)),
+        _ => first_failing(alloc, table, shortcuts, condition),
+    }
+}
+
+/// What the check finds: the lowest condition that fails, and there the lowest record at fault.
+/// Nothing where each record meets each condition.
+pub(crate) fn find_fault<L: Lookup>(
+    alloc: Global,
+    table: &L,
+) -> Result<Option<Finding>, OutOfMemory>
+    ensures { IfOk result (IsVerdict (L.listed table.now)) }
+{
+    let shortcuts = Shortcuts::of_table(alloc, table)?;
+    for condition in IN_ORDER {
+        if let Some(number) = lowest_fault(alloc, table, &shortcuts, condition)? {
+            return Ok(Some(Finding { condition, number }));
+        }
+    }
+    Ok(None)
+}

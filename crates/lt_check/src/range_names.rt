@@ -1,0 +1,70 @@
+//! The ranges that records name.
+ghost use Rattle.std.specs.Prelude.{◌≡◌, ◌↔◌, ◌⊎◌, [], Contains, IsTrue, IfOk, OnOk};
+ghost use Rattle.lt_check.specs.NameChecks.{range_name};
+
+use lt_registry::Kind;
+use lt_subtag::Subtag;
+use lt_tag::OutOfMemory;
+use std::alloc::Global;
+use std::collections::BTreeSet;
+use std::marker::Model;
+
+/// A range under a kind.
+#[derive(Drop, PartialEq, Eq, PartialOrd, Ord)]
+pub(crate) struct RangeName {
+    kind: u8,
+    first: Subtag,
+    last: Subtag,
+}
+
+impl RangeName {
+    /// The range from a first to a last subtag.
+    fn new(kind: Kind, first: &Subtag, last: &Subtag) -> RangeName
+        ensures { result ≡ range_name kind first.now last.now }
+    {
+        RangeName {
+            kind: kind as u8,
+            first: first.copy(),
+            last: last.copy(),
+        }
+    }
+}
+
+/// A set of ranges.
+#[derive(Drop)]
+pub(crate) struct RangeNames {
+    names: BTreeSet<RangeName, Global>,
+}
+
+impl Model for RangeNames {
+    ghost use Rattle.std.specs.Prelude.{List};
+    ghost use Rattle.lt_check.specs.declared.range_names.RangeName.{RangeName};
+
+    ghost Value = { List RangeName };
+
+    ghost view = { λ n. n.names.keys };
+}
+
+impl RangeNames {
+    /// No range.
+    pub(crate) fn new(alloc: Global) -> RangeNames
+        ensures { result ≡ [] }
+    {
+        RangeNames {
+            names: BTreeSet::new(alloc),
+        }
+    }
+
+    /// Adds a range; whether it was not there.
+    pub(crate) fn add(
+        &mut self,
+        kind: Kind,
+        first: &Subtag,
+        last: &Subtag,
+    ) -> Result<bool, OutOfMemory>
+        ensures added { IfOk result (λ added. IsTrue added ↔ (Contains self.old (range_name kind first.now last.now) → ⊥)) }
+        ensures names { OnOk result ((name : RangeName) → Contains self.new name ↔ (Contains self.old name ⊎ (range_name kind first.now last.now ≡ name))) }
+    {
+        Ok(self.names.insert(RangeName::new(kind, first, last))?)
+    }
+}

@@ -1,0 +1,156 @@
+//! Whether a record meets a condition that speaks of one subtag after another.
+ghost use Rattle.std.specs.Prelude.{◌≡◌, ◌↔◌, All, IsTrue, List, is_some};
+ghost use Rattle.std.specs.List.{list_all};
+ghost use Rattle.std.specs.Option.{option_copied};
+ghost use Rattle.lt_tag.specs.PlainLangTags.{IsPlainLangTag};
+ghost use Rattle.lt_registry.specs.Parts.{EntryParts};
+ghost use Rattle.lt_registry.specs.Entries.{one_of, language_value};
+ghost use Rattle.lt_registry.specs.Entries as entries;
+ghost use Rattle.lt_rewrite.specs.Conditions.{HasRegisteredValue, FitsAsExtlang, HasFittingVariantValue, StandsBesideFinalLanguages, HasLangtagPrefixes, HasNoRangeValue};
+ghost use Rattle.lt_rewrite.specs.Shortcuts.{AreShortcuts};
+ghost use Rattle.lt_check.specs.RecordChecks.{EndAlike};
+ghost use Rattle.lt_check.specs.RecordChecks as checks;
+
+use lt_registry::{Entry, EntryName, Kind, Lookup, Prefix};
+use lt_rewrite::Shortcuts;
+use lt_rewrite::values::{has_language_value, is_registered, is_short, one_value};
+use lt_subtag::Subtag;
+use lt_tag::is_plain_langtag;
+
+/// Whether a language is registered and has no value.
+fn is_final_language<L: Lookup>(table: &L, language: &Subtag) -> bool
+    ensures { result ≡ checks.is_final (L.listed table.now) language.now }
+{
+    match table.entry(Kind::Language, language) {
+        Some(entry) => one_value(entry).is_none(),
+        None => false,
+    }
+}
+
+/// Whether a Prefix is one subtag, a language without a value.
+fn is_final_prefix<L: Lookup>(table: &L, prefix: &Prefix) -> bool
+    ensures { result ≡ checks.is_final_prefix (L.listed table.now) prefix.now }
+{
+    match prefix.subtags() {
+        [language] => is_final_language(table, language),
+        _ => false,
+    }
+}
+
+/// Whether the chains of two languages come to one end.
+fn end_alike<L: Lookup>(table: &L, shortcuts: &Shortcuts, left: &Subtag, right: &Subtag) -> bool
+    requires { AreShortcuts (L.listed table.now) shortcuts.now }
+    ensures { IsTrue result ↔ EndAlike (L.listed table.now) left.now right.now }
+{
+    let Ok(end) = shortcuts.chain_end(table, Kind::Language, left) else {
+        return false;
+    };
+    match shortcuts.chain_end(table, Kind::Language, right) {
+        Ok(other) => end == other,
+        Err(_) => false,
+    }
+}
+
+/// Whether the value that a language, script or region may have is registered too, as the same kind.
+pub(crate) fn has_registered_value<L: Lookup>(table: &L, entry: &Entry) -> bool
+    ensures { IsTrue result ↔ HasRegisteredValue (L.listed table.now) entry.now }
+{
+    match entry.kind() {
+        Kind::Language | Kind::Script | Kind::Region => match one_value(entry) {
+            Some(value) => is_registered(table, entry.kind(), value),
+            None => true,
+        },
+        _ => true,
+    }
+}
+
+/// Whether an extlang is one subtag with one Prefix of one subtag, a language without a value; and
+/// itself and its replacement are languages whose chains end alike.
+pub(crate) fn fits_as_extlang<L: Lookup>(table: &L, shortcuts: &Shortcuts, entry: &Entry) -> bool
+    requires { AreShortcuts (L.listed table.now) shortcuts.now }
+    ensures { IsTrue result ↔ FitsAsExtlang (L.listed table.now) entry.now }
+{
+    if entry.kind() != Kind::Extlang {
+        return true;
+    }
+    let EntryName::Single(subtag) = entry.name() else {
+        return false;
+    };
+    let [prefix] = entry.prefixes() else {
+        return false;
+    };
+    let replacement = one_value(entry).unwrap_or(subtag);
+    is_final_prefix(table, prefix)
+        && is_registered(table, Kind::Language, subtag)
+        && is_registered(table, Kind::Language, replacement)
+        && end_alike(table, shortcuts, subtag, replacement)
+}
+
+/// Whether the value that a variant may have is registered: one of 2 or 3 letters as a language, a
+/// longer one as a variant, whose own value, if any, is no language.
+pub(crate) fn has_fitting_variant_value<L: Lookup>(table: &L, entry: &Entry) -> bool
+    ensures { IsTrue result ↔ HasFittingVariantValue (L.listed table.now) entry.now }
+{
+    if entry.kind() != Kind::Variant {
+        return true;
+    }
+    match one_value(entry) {
+        Some(value) if is_short(value) => is_registered(table, Kind::Language, value),
+        Some(value) => {
+            is_registered(table, Kind::Variant, value) && !has_language_value(table, value)
+        }
+        None => true,
+    }
+}
+
+/// Whether a variant with a language value has Prefixes, each of one subtag, a language without a
+/// value.
+pub(crate) fn stands_beside_final_languages<L: Lookup>(table: &L, entry: &Entry) -> bool
+    ensures { IsTrue result ↔ StandsBesideFinalLanguages (L.listed table.now) entry.now }
+{
+    match (entry.kind(), one_value(entry)) {
+        (Kind::Variant, Some(value)) if is_short(value) => {
+            !entry.prefixes().is_empty() && have_final_languages(table, entry.prefixes())
+        }
+        _ => true,
+    }
+}
+
+/// Whether each Prefix is one subtag, a language without a value.
+fn have_final_languages<L: Lookup>(table: &L, prefixes: &[Prefix]) -> bool
+    ensures { result ≡ list_all (checks.is_final_prefix (L.listed table.now)) prefixes.now }
+{
+    prefixes.iter().all(|prefix| is_final_prefix(table, prefix))
+}
+
+/// Whether all that a variant names as a Prefix are langtags and cores alone.
+pub(crate) fn has_langtag_prefixes(entry: &Entry) -> bool
+    ensures { (R : List EntryParts) → IsTrue result ↔ HasLangtagPrefixes R entry.now }
+{
+    match entry.kind() {
+        Kind::Variant => are_langtags(entry.prefixes()),
+        _ => true,
+    }
+}
+
+/// Whether each Prefix is a langtag without extensions and private use.
+fn are_langtags(prefixes: &[Prefix]) -> bool
+    ensures { IsTrue result ↔ All IsPlainLangTag prefixes.now }
+{
+    for prefix in prefixes {
+        if !is_plain_langtag(prefix.subtags()) {
+            return false;
+        }
+    }
+    true
+}
+
+/// Whether a range has no value.
+pub(crate) fn has_no_range_value(entry: &Entry) -> bool
+    ensures { IsTrue result ↔ HasNoRangeValue entry.now }
+{
+    match entry.name() {
+        EntryName::Range(_, _) => entry.value().is_none(),
+        _ => true,
+    }
+}

@@ -1,0 +1,45 @@
+//! Why a table is rejected.
+ghost use Rattle.std.specs.Prelude.{◌≡◌};
+ghost use Rattle.lt_check.specs.Codes.{cause_name_of};
+
+use crate::conditions::Condition;
+use thiserror::Error;
+
+/// What the check finds: the first condition that some record does not meet, and of those records the
+/// lowest number.
+#[derive(Clone, Copy, Debug, Drop, Error, PartialEq, Eq)]
+#[error("record {number} does not meet {condition:?}: mend this record, or take another registry")]
+pub struct Finding {
+    pub condition: Condition,
+    pub number: u32,
+}
+
+/// Why a table is rejected.
+#[derive(Clone, Copy, Debug, Drop, Error, PartialEq, Eq)]
+pub enum RejectedCause {
+    /// A record is at fault.
+    #[error("{0}")]
+    Finding(Finding),
+    /// No memory was left.
+    #[error("out of memory: free some, and check again")]
+    OutOfMemory,
+}
+
+impl RejectedCause {
+    /// The cause's name, as it is printed: the code of the condition that fails, or `OutOfMemory`.
+    pub fn name(self) -> &'static str
+        ensures { result.now ≡ cause_name_of self }
+    {
+        match self {
+            RejectedCause::Finding(finding) => finding.condition.code(),
+            RejectedCause::OutOfMemory => "OutOfMemory",
+        }
+    }
+}
+
+/// A table that is handed back, and why.
+#[derive(Debug, Drop)]
+pub struct Rejected<L> {
+    pub table: L,
+    pub cause: RejectedCause,
+}

@@ -1,0 +1,204 @@
+//! The conditions on whole records (RFC 5646, 2.2.8 and 3.1.7).
+ghost use Rattle.std.specs.Prelude.{◌≡◌, ◌↔◌, Some, IsTrue, IfOk, MatchOption, Contains};
+ghost use Rattle.std.specs.Option.{option_copied};
+ghost use Rattle.lt_tag.specs.Parts.{CoreParts};
+ghost use Rattle.lt_tag.specs.Spelling.{spell_core};
+ghost use Rattle.lt_tag.specs.Values.{IsTagValue};
+ghost use Rattle.lt_tag.specs.WellFormed.{IsNotGrandfathered};
+ghost use Rattle.lt_registry.specs.Entries.{tag_of, whole_value, IsRegistry};
+ghost use Rattle.lt_registry.specs.Validity.{IsProperCore};
+ghost use Rattle.lt_registry.specs.declared.entries.EntryName.TheVariants as names;
+ghost use Rattle.lt_rewrite.specs.CoreSteps.{values_of, IsCoreNormalForm};
+ghost use Rattle.lt_rewrite.specs.Shortcuts.{AreShortcuts};
+ghost use Rattle.lt_check.specs.Conditions.{plain, OfWhole, IsValidPlain, Meets};
+ghost use Rattle.lt_check.specs.WholeChecks.{MeetsBelow, ComesToRest, ComeTogether};
+ghost use Rattle.lt_check.specs.declared.conditions.Condition.TheVariants as conditions;
+
+use crate::cores::{are_distinct, same_core};
+use lt_registry::{Entry, Kind, Lookup, validate};
+use lt_rewrite::Shortcuts;
+use lt_rewrite::values::{tag_and_value, whole_value};
+use lt_tag::{Core, OutOfMemory, Tag};
+use std::alloc::Global;
+
+/// The core of a langtag without extensions and private use.
+fn plain_core(tag: &Tag) -> Option<&Core>
+    ensures core { MatchOption result
+        ((c : CoreParts) → tag.now ≡ plain c → ⊥)
+        (λ core. tag.now ≡ plain core.now) }
+    ensures tag { IsTagValue tag.now }
+{
+    if tag.extensions().is_empty() && tag.private().is_empty() {
+        tag.core()
+    } else {
+        None
+    }
+}
+
+/// Whether a tag is a valid langtag without extensions and private use. It takes no memory.
+fn is_valid_plain<L: Lookup>(alloc: Global, table: &L, tag: &Tag) -> bool
+    ensures { IsTrue result ↔ IsValidPlain (L.listed table.now) tag.now }
+{
+    match plain_core(tag) {
+        Some(_) => validate(alloc, table, tag).is_ok(),
+        None => false,
+    }
+}
+
+/// Whether the value of a record, if it is a whole record with a value, and the tag of a redundant
+/// one are valid langtags without extensions and private use. It takes no memory.
+pub(crate) fn has_valid_whole<L: Lookup>(alloc: Global, table: &L, entry: &Entry) -> bool
+    ensures { IsTrue result ↔ Meets conditions.ValidWhole (L.listed table.now) entry.now }
+{
+    match tag_and_value(entry) {
+        Some((tag, value)) => {
+            is_valid_plain(alloc, table, value)
+                && (entry.kind() != Kind::Redundant || is_valid_plain(alloc, table, tag))
+        }
+        None => true,
+    }
+}
+
+/// Looks at the entries, so that their forms and the order of their numbers are known.
+pub(crate) fn know_entries<L: Lookup>(table: &L)
+    ensures { IsRegistry (L.listed table.now) }
+{
+    let _ = table.entries();
+}
+
+/// The core normal form of a proper core. It spells no grandfathered tag.
+fn settled<L: Lookup>(
+    alloc: Global,
+    table: &L,
+    shortcuts: &Shortcuts,
+    core: &Core,
+) -> Result<Core, OutOfMemory>
+    requires shortcuts { AreShortcuts (L.listed table.now) shortcuts.now }
+    requires lower { MeetsBelow 10 (L.listed table.now) }
+    requires proper { IsProperCore (L.listed table.now) core.now }
+    ensures normal { IfOk result (λ form. IsCoreNormalForm (values_of (L.listed table.now)) core.now form) }
+    ensures spelled { IfOk result (λ form. IsNotGrandfathered (spell_core form)) }
+{
+    let mut form = core.copy(alloc)?;
+    shortcuts.settle_core(table, &mut form);
+    // So that its shape is known.
+    let _ = form.language();
+    Ok(form)
+}
+
+/// The value of the whole record of a langtag without extensions and private use.
+fn value_of<L: Lookup>(alloc: Global, table: &L, core: Core) -> Option<&Tag>
+    requires { IsNotGrandfathered (spell_core core) }
+    ensures { option_copied result ≡ whole_value (L.listed table.now) (plain core) }
+{
+    let tag = Tag::from_parts(core, Vec::new(alloc), Vec::new(alloc));
+    whole_value(table, &tag)
+}
+
+/// The core of that value, if the value is a langtag without extensions and private use too.
+fn plain_value_of<L: Lookup>(alloc: Global, table: &L, core: Core) -> Option<&Core>
+    requires { IsNotGrandfathered (spell_core core) }
+    ensures { MatchOption result
+        ((q : CoreParts) → whole_value (L.listed table.now) (plain core) ≡ Some (plain q) → ⊥)
+        (λ q. whole_value (L.listed table.now) (plain core) ≡ Some (plain q.now)) }
+{
+    match value_of(alloc, table, core) {
+        Some(value) => plain_core(value),
+        None => None,
+    }
+}
+
+/// Whether the core normal form of a proper core repeats no variant and has no value.
+fn comes_to_rest<L: Lookup>(
+    alloc: Global,
+    table: &L,
+    shortcuts: &Shortcuts,
+    core: &Core,
+) -> Result<bool, OutOfMemory>
+    requires shortcuts { AreShortcuts (L.listed table.now) shortcuts.now }
+    requires lower { MeetsBelow 10 (L.listed table.now) }
+    requires proper { IsProperCore (L.listed table.now) core.now }
+    ensures { IfOk result (λ rests. IsTrue rests ↔ ComesToRest (L.listed table.now) core.now) }
+{
+    know_entries(table);
+    let form = settled(alloc, table, shortcuts, core)?;
+    if !are_distinct(form.variants()) {
+        return Ok(false);
+    }
+    Ok(value_of(alloc, table, form).is_none())
+}
+
+/// Whether a record is no whole record with a value; or no variant stands twice in the core normal form
+/// of its value, and this form is not the tag of a whole record with a value.
+pub(crate) fn has_resting_whole<L: Lookup>(
+    alloc: Global,
+    table: &L,
+    shortcuts: &Shortcuts,
+    entry: &Entry,
+) -> Result<bool, OutOfMemory>
+    requires shortcuts { AreShortcuts (L.listed table.now) shortcuts.now }
+    requires lower { MeetsBelow 10 (L.listed table.now) }
+    requires listed { Contains (L.listed table.now) entry.now }
+    ensures { IfOk result (λ meets. IsTrue meets ↔ Meets conditions.RestingWhole (L.listed table.now) entry.now) }
+{
+    let Some((_, value)) = tag_and_value(entry) else {
+        return Ok(true);
+    };
+    match plain_core(value) {
+        Some(core) => comes_to_rest(alloc, table, shortcuts, core),
+        None => Ok(true),
+    }
+}
+
+/// Whether the core normal form of a proper core, if it is another, is that of a second core, or has
+/// a value with the same core normal form as the second core.
+fn come_together<L: Lookup>(
+    alloc: Global,
+    table: &L,
+    shortcuts: &Shortcuts,
+    first: &Core,
+    second: &Core,
+) -> Result<bool, OutOfMemory>
+    requires shortcuts { AreShortcuts (L.listed table.now) shortcuts.now }
+    requires lower { MeetsBelow 10 (L.listed table.now) }
+    requires first { IsProperCore (L.listed table.now) first.now }
+    requires second { IsProperCore (L.listed table.now) second.now }
+    ensures { IfOk result (λ together. IsTrue together ↔ ComeTogether (L.listed table.now) first.now second.now) }
+{
+    let form = settled(alloc, table, shortcuts, first)?;
+    if same_core(&form, first) {
+        return Ok(true);
+    }
+    let end = settled(alloc, table, shortcuts, second)?;
+    if same_core(&form, &end) {
+        return Ok(true);
+    }
+    match plain_value_of(alloc, table, form) {
+        Some(next) => Ok(same_core(&settled(alloc, table, shortcuts, next)?, &end)),
+        None => Ok(false),
+    }
+}
+
+/// Whether the tag of a record, if it is a whole record with a value, agrees with its value: where
+/// the tag has a core normal form other than itself, that, or the core normal form of that one's
+/// value, equals the core normal form of the value.
+pub(crate) fn has_agreeing_whole<L: Lookup>(
+    alloc: Global,
+    table: &L,
+    shortcuts: &Shortcuts,
+    entry: &Entry,
+) -> Result<bool, OutOfMemory>
+    requires shortcuts { AreShortcuts (L.listed table.now) shortcuts.now }
+    requires lower { MeetsBelow 10 (L.listed table.now) }
+    requires listed { Contains (L.listed table.now) entry.now }
+    ensures { IfOk result (λ meets. IsTrue meets ↔ Meets conditions.AgreeingWhole (L.listed table.now) entry.now) }
+{
+    know_entries(table);
+    let Some((tag, value)) = tag_and_value(entry) else {
+        return Ok(true);
+    };
+    match (plain_core(tag), plain_core(value)) {
+        (Some(first), Some(second)) => come_together(alloc, table, shortcuts, first, second),
+        _ => Ok(true),
+    }
+}

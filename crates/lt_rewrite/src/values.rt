@@ -1,0 +1,112 @@
+//! What the entries of a table give as values, and which Prefixes they name.
+ghost use Rattle.std.specs.Prelude.{◌≡◌, [], ◌∷◌, Some, true, is_some, IfSome, MatchOption};
+ghost use Rattle.std.specs.Option.{option_copied};
+ghost use Rattle.lt_tag.specs.Parts.{TagForm};
+ghost use Rattle.lt_registry.specs.Entries as entries;
+ghost use Rattle.lt_registry.specs.Entries.{one_of, tag_of, language_value, has_value_form};
+ghost use Rattle.lt_registry.specs.Same.{same_list};
+ghost use Rattle.lt_registry.specs.declared.entries.EntryName.TheVariants as names;
+
+use lt_registry::{Entry, EntryName, EntryValue, Kind, Lookup, Prefix};
+use lt_subtag::Subtag;
+use lt_tag::Tag;
+
+/// The one subtag that an entry gives as its value.
+pub fn one_value(entry: &Entry) -> Option<&Subtag>
+    ensures value { option_copied result ≡ one_of entry.now.value }
+    ensures form { IfSome result (λ value. has_value_form entry.now.kind value.now ≡ true) }
+{
+    match entry.value() {
+        Some(EntryValue::One(value)) => Some(value),
+        _ => None,
+    }
+}
+
+/// The whole tag that an entry gives as its value.
+pub fn tag_value(entry: &Entry) -> Option<&Tag>
+    ensures { option_copied result ≡ tag_of entry.now.value }
+{
+    match entry.value() {
+        Some(EntryValue::Whole(value)) => Some(value),
+        _ => None,
+    }
+}
+
+/// The tag and the value of a whole record that has a value.
+pub fn tag_and_value(entry: &Entry) -> Option<(&Tag, &Tag)>
+    ensures { MatchOption result
+        ((t u : TagForm) → entry.now.name ≡ names.Whole t → tag_of entry.now.value ≡ Some u → ⊥)
+        (λ pair. (entry.now.name ≡ names.Whole pair.0.now) × (tag_of entry.now.value ≡ Some pair.1.now)) }
+{
+    match (entry.name(), entry.value()) {
+        (EntryName::Whole(tag), Some(EntryValue::Whole(value))) => Some((tag, value)),
+        _ => None,
+    }
+}
+
+/// Whether a value of a variant is a language: it has 2 or 3 letters.
+pub fn is_short(subtag: &Subtag) -> bool
+    ensures { result ≡ entries.is_short subtag.now }
+{
+    subtag.bytes().len() <= 3
+}
+
+/// Whether a subtag has an entry under a kind.
+pub fn is_registered<L: Lookup>(table: &L, kind: Kind, subtag: &Subtag) -> bool
+    ensures { result ≡ entries.is_registered (L.listed table.now) kind subtag.now }
+{
+    table.entry(kind, subtag).is_some()
+}
+
+/// The value of a subtag under a kind.
+pub fn value<'a, L: Lookup>(table: &'a L, kind: Kind, subtag: &Subtag) -> Option<&'a Subtag>
+    ensures value { option_copied result ≡ entries.value (L.listed table.now) kind subtag.now }
+    ensures form { IfSome result (λ value. has_value_form kind value.now ≡ true) }
+{
+    match table.entry(kind, subtag) {
+        Some(entry) => one_value(entry),
+        None => None,
+    }
+}
+
+/// The value of a tag as a whole record.
+pub fn whole_value<'a, L: Lookup>(table: &'a L, tag: &Tag) -> Option<&'a Tag>
+    ensures { option_copied result ≡ entries.whole_value (L.listed table.now) tag.now }
+{
+    match table.whole(tag) {
+        Some(entry) => tag_value(entry),
+        None => None,
+    }
+}
+
+/// Whether a variant has a language value.
+pub fn has_language_value<L: Lookup>(table: &L, variant: &Subtag) -> bool
+    ensures { result ≡ is_some (language_value (L.listed table.now) variant.now) }
+{
+    match table.entry(Kind::Variant, variant) {
+        Some(entry) => match one_value(entry) {
+            Some(value) => is_short(value),
+            None => false,
+        },
+        None => false,
+    }
+}
+
+/// Whether a Prefix is the language alone.
+fn is_language_alone(prefix: &Prefix, language: &Subtag) -> bool
+    ensures { result ≡ same_list prefix.now (language.now ∷ []) }
+{
+    match prefix.subtags() {
+        [only] => only == language,
+        _ => false,
+    }
+}
+
+/// Whether the language alone is among Prefixes.
+pub fn lists(prefixes: &[Prefix], language: &Subtag) -> bool
+    ensures { result ≡ entries.lists prefixes.now language.now }
+{
+    prefixes
+        .iter()
+        .any(|prefix| is_language_alone(prefix, language))
+}

@@ -1,0 +1,104 @@
+-- The ranges among entries contain what the entries cover.
+use Rattle.std.proofs.Common.{◌≡◌, ℕ, ◌+◌, ◌<◌, Bool, true, ◌&&◌, ◌||◌, ◌==◌, eqb, List, [], ◌∷◌, ◌++◌, length, take, get_or, Option, Some, None, refl, sym, ap, ◌∙◌, arith, inl, inr}
+use Rattle.std.specs.List.{All, AllByRecursion, list_any, cons_option}
+use Rattle.std.specs.Ordering.{nat_cmp, ordering_then, ordering_reverse, is_le}
+use Rattle.std.specs.Cmp.Lexicographic.{slice_cmp}
+use Rattle.std.specs.declared.cmp.Ordering.{Ordering}
+use Rattle.std.specs.declared.cmp.Ordering.TheVariants.{Less, Equal, Greater}
+use Rattle.std.proofs.lemmas.Bool.{cases_Bool, eq-eqb, ne_eqb}
+use Rattle.std.proofs.lemmas.Cmp.{ranked, by_ranked, nat_cmp_total}
+use Rattle.std.proofs.lemmas.List.Elements.{recursion_from_All}
+use Rattle.lt_registry.specs.Parts.{EntryParts}
+use Rattle.lt_registry.specs.Same.{same_kind}
+use Rattle.lt_registry.specs.Entries.{FitsName, IsEntry, letters_le}
+use Rattle.lt_registry.specs.declared.entries.Kind.{Kind}
+use Rattle.lt_registry.specs.declared.entries.EntryName.{EntryName}
+use Rattle.lt_registry.specs.declared.entries.EntryName.TheVariants as names
+use Rattle.lt_registry.proofs.ListLemmas.{take_turn}
+use Rattle.lt_registry.proofs.OrderLemmas.{at_most, letters_le_is}
+use Rattle.lt_registry.proofs.SortedLemmas.{and_false}
+use Rattle.lt_rewrite.proofs.Entries.{same_kind_is, same_kind_itself}
+use Rattle.lt_check.specs.NameChecks.{kind_number}
+use Rattle.lt_upgrade.specs.UpgradeChecking.{covers, some_covers}
+use Rattle.lt_upgrade.specs.WidestRanges.{range_end, contains, range_row, range_rows, HoldRanges}
+use Rattle.lt_upgrade.specs.declared.widest_ranges.RangeRow.{RangeRow}
+use Rattle.lt_check.proofs.OwnNames.{kinds_same}
+
+-- rows are gathered entry by entry
+
+rows_append : (xs : List EntryParts) (e : EntryParts) → range_rows (xs ++ e ∷ []) ≡ range_rows xs ++ cons_option (range_row e.kind e.name) []
+rows_append [] e = refl
+rows_append (x ∷ xs) e =
+    ap (cons_option (range_row x.kind x.name)) (rows_append xs e) ∙ before (range_row x.kind x.name) (range_rows xs) (cons_option (range_row e.kind e.name) [])
+  where
+    before : (o : Option RangeRow) (ys zs : List RangeRow) → cons_option o (ys ++ zs) ≡ cons_option o ys ++ zs
+    before None ys zs = refl
+    before (Some y) ys zs = refl
+
+pub rows_turn : (R : List EntryParts) (i : ℕ) (e : EntryParts) → i < length R → e ≡ get_or R i e → range_rows (take (i + 1) R) ≡ range_rows (take i R) ++ cons_option (range_row e.kind e.name) []
+rows_turn R i e l is = ap range_rows (take_turn R i e l is) ∙ rows_append (take i R) e
+
+-- a range contains what it covers
+
+both : Ordering → Ordering → Ordering → Ordering → Bool
+both x y p q = is_le (ordering_then x p) && is_le (ordering_then y q)
+
+-- what is compared first has to be equal
+layer : (m n : ℕ) (t : Bool) (p q : Ordering) (r : Bool) → t ≡ eqb m n → (is_le p && is_le q) ≡ r → (is_le (ordering_then (nat_cmp m n) p) && is_le (ordering_then (nat_cmp n m) q)) ≡ (t && r)
+unfolding both
+layer m n t p q r test rest =
+    by_ranked (m < n) (m ≡ n) (n < m) (nat_cmp m n) (ranked m n (nat_cmp m n) refl)
+    (λ o l.
+    ap (λ x. both x (nat_cmp n m) p q) o ∙ ap (λ y. both Less y p q) (nat_cmp_total.antisymm n m ∙ ap ordering_reverse o)
+    ∙ sym (ap (λ b. b && r) (test ∙ ne_eqb m n (λ e. omega (arith, l, e)))))
+    (λ o e.
+    ap (λ x. both x (nat_cmp n m) p q) o ∙ ap (λ y. both Equal y p q) (nat_cmp_total.antisymm n m ∙ ap ordering_reverse o)
+    ∙ rest ∙ sym (ap (λ b. b && r) (test ∙ eq-eqb m n e)))
+    (λ o l. ap (λ x. both x (nat_cmp n m) p q) o ∙ sym (ap (λ b. b && r) (test ∙ ne_eqb m n (λ e. omega (arith, l, e)))))
+
+kinds_compared : (k l : Kind) → same_kind k l ≡ eqb (kind_number k) (kind_number l)
+kinds_compared k l =
+    elim (cases_Bool (same_kind k l)) [
+      | inl same ↦ same ∙ sym (eq-eqb (kind_number k) (kind_number l) (ap kind_number (same_kind_is k l same)))
+      | inr other ↦ other ∙ sym (ne_eqb (kind_number k) (kind_number l) (λ e. let same : same_kind k l ≡ true = ap (same_kind k) (sym (kinds_same k l e)) ∙ same_kind_itself k in cc))
+    ]
+
+letters_compared : (a b : List ℕ) → is_le (slice_cmp nat_cmp a b) ≡ letters_le a b
+letters_compared a b = sym (letters_le_is a b ∙ at_most_is (slice_cmp nat_cmp a b))
+  where
+    at_most_is : (o : Ordering) → at_most o ≡ is_le o
+    at_most_is Less = refl
+    at_most_is Equal = refl
+    at_most_is Greater = refl
+
+range_agrees : (k l : Kind) (c d a b : List ℕ) → length c ≡ length d → length a ≡ length b
+    → contains (range_end l a) (range_end l b) (record { first = range_end k c; last = range_end k d }) ≡ (same_kind k l && covers (names.Range c d) a b)
+range_agrees k l c d a b one other =
+    layer (kind_number k) (kind_number l) (same_kind k l) (ordering_then (nat_cmp (length c) (length a)) (slice_cmp nat_cmp c a)) (ordering_then (nat_cmp (length b) (length d)) (slice_cmp nat_cmp b d)) (covers (names.Range c d) a b)
+    (kinds_compared k l)
+    (ap (λ (o : Ordering). is_le (ordering_then (nat_cmp (length c) (length a)) (slice_cmp nat_cmp c a)) && is_le (ordering_then o (slice_cmp nat_cmp b d))) lengths
+    ∙ layer (length c) (length a) (length c == length a) (slice_cmp nat_cmp c a) (slice_cmp nat_cmp b d) (letters_le c a && letters_le b d) refl letters)
+  where
+    lengths : nat_cmp (length b) (length d) ≡ nat_cmp (length a) (length c)
+    lengths = ap (λ n. nat_cmp n (length d)) (sym other) ∙ ap (nat_cmp (length a)) (sym one)
+
+    letters : (is_le (slice_cmp nat_cmp c a) && is_le (slice_cmp nat_cmp b d)) ≡ (letters_le c a && letters_le b d)
+    letters = ap (λ x. x && is_le (slice_cmp nat_cmp b d)) (letters_compared c a) ∙ ap (λ x. letters_le c a && x) (letters_compared b d)
+
+module _ (kind : Kind) (first last : List ℕ) (one : length first ≡ length last) where
+  abbrev asked : RangeRow → Bool
+  asked = contains (range_end kind first) (range_end kind last)
+
+  name_agrees : (k : Kind) (name : EntryName) (rows : List RangeRow) (rest : Bool) → FitsName k name → list_any asked rows ≡ rest
+      → list_any asked (cons_option (range_row k name) rows) ≡ ((same_kind k kind && covers name first last) || rest)
+  name_agrees k (names.Single s) rows rest fits h = h ∙ sym (ap (λ b. b || rest) (and_false (same_kind k kind)))
+  name_agrees k (names.Range a b) rows rest fits h =
+      ap (λ t. t || list_any asked rows) (range_agrees k kind a b first last fits.one_length one) ∙ ap (λ t. (same_kind k kind && covers (names.Range a b) first last) || t) h
+  name_agrees k (names.Whole t) rows rest fits h = h ∙ sym (ap (λ b. b || rest) (and_false (same_kind k kind)))
+
+  rows_agree : (R : List EntryParts) → AllByRecursion IsEntry R → list_any asked (range_rows R) ≡ some_covers R kind first last
+  rows_agree [] forms = refl
+  rows_agree (e ∷ es) forms = name_agrees e.kind e.name (range_rows es) (some_covers es kind first last) forms.0.name (rows_agree es forms.1)
+
+pub rows_hold : (R : List EntryParts) → All IsEntry R → HoldRanges R (range_rows R)
+rows_hold R forms kind first last one = rows_agree kind first last one R (recursion_from_All IsEntry R forms)

@@ -1,0 +1,12 @@
+pub mod UpgradeValid
+pub mod UpgradeCores
+pub mod UpgradeTags
+pub mod UpgradeRepeats
+pub mod UpgradeLaw
+pub mod UpgradeTests
+pub mod UpgradeFindings
+pub mod UpgradeChecks
+pub mod UpgradeWholes
+pub mod UpgradeFaults
+pub mod WidestRanges
+pub mod CoveredRanges

@@ -1,0 +1,150 @@
+-- An old core step keeps the new core normal form.
+use Rattle.std.proofs.Common.{◌≡◌, ℕ, ◌⊎◌, inl, inr, true, cond, List, [], ◌∷◌, ◌++◌, Option, Some, None, refl, sym, ap, ◌∙◌, subst, map}
+use Rattle.std.specs.Option.{option_map}
+use Rattle.std.specs.List.{AllByRecursion}
+use Rattle.std.proofs.lemmas.Slice.Eq.{bytes_eq-Decides}
+use Rattle.lt_tag.specs.Parts.{CoreParts}
+use Rattle.lt_registry.specs.Parts.{EntryParts}
+use Rattle.lt_registry.specs.Entries.{is_named, holds, one_of, value, value_or, prefixes, lists, language_value, replacement, is_registered}
+use Rattle.lt_registry.specs.Validity.{ExtlangsFit, IsProperCore}
+use Rattle.lt_registry.specs.declared.entries.Kind.{Kind}
+use Rattle.lt_registry.specs.declared.entries.Kind.TheVariants as kinds
+use Rattle.lt_registry.specs.declared.entries.EntryName.{EntryName}
+use Rattle.lt_registry.specs.declared.entries.EntryName.TheVariants as names
+use Rattle.lt_rewrite.specs.CoreSteps.{values_of, CoreStep, by_extlang, by_language, by_script, by_region, by_variant, by_turn}
+use Rattle.lt_rewrite.specs.Conditions.{next_value, HasNoRangeValue}
+use Rattle.lt_rewrite.proofs.Chains.{IsEnd}
+use Rattle.lt_rewrite.proofs.CoreEnds.{end_is, form_of_language}
+use Rattle.lt_rewrite.proofs.CoreForm.{core, form, form_on, step_keeps, none_or, map-append}
+use Rattle.lt_rewrite.proofs.Entries.{entry_of, ValuedEntry, valued, valued_has, settles, variant_value_is, language_value_is, turn_is, prefixes_at}
+use Rattle.lt_rewrite.proofs.Forms.{ExtlangEntry, extlang_entry, replacement_at}
+use Rattle.lt_check.specs.Conditions.{IsChecked}
+use Rattle.lt_upgrade.specs.Upgrade.{SameEnd, KeepsKind, KeepsEnds, IsSameExtlang, IsSameTurn, KeepsTurn, HadTurn, Upgrades}
+use Rattle.lt_check.specs.declared.conditions.Condition.TheVariants as conditions
+use Rattle.lt_upgrade.specs.declared.conditions.UpgradeCondition.TheVariants as upgrades
+use Rattle.lt_check.proofs.Checks.{core_conditions}
+use Rattle.lt_upgrade.proofs.UpgradeValid.{same_extlang}
+
+-- ends
+
+one_end : {f : List ℕ → Option (List ℕ)} {g : List ℕ → List ℕ} → IsEnd f g → (s t : List ℕ) → SameEnd f s t → g s ≡ g t
+one_end E s t h = end_is E s h.end h.left ∙ sym (end_is E t h.end h.right)
+
+-- an entry with a value is a single
+
+has_name : (s : List ℕ) (n : EntryName) → ((a b : List ℕ) → n ≡ names.Range a b → ⊥) → (is_named s n ≡ true) ⊎ (holds s n ≡ true) → n ≡ names.Single s
+has_name s (names.Single t) h (inl e) = ap names.Single ((bytes_eq-Decides t s).0 e)
+has_name s (names.Single t) h (inr e) = cc
+has_name s (names.Range a b) h k = absurd (h a b refl)
+has_name s (names.Whole t) h (inl e) = cc
+has_name s (names.Whole t) h (inr e) = cc
+
+pub valued_single : (R : List EntryParts) → IsChecked R → (k : Kind) (s v : List ℕ) (n : ValuedEntry R k s v) → n.at.name ≡ names.Single s
+valued_single R C k s v n =
+    has_name s n.at.name (λ a b e.
+    let no : HasNoRangeValue n.at = valued_has R k s v HasNoRangeValue (C.passes conditions.NoRangeValue) n in
+    let x : one_of n.at.value ≡ None = ap one_of (no a b e) in
+    let y = n.gives in cc)
+    (entry_of R k s n.at n.found).names
+
+module _ (A B : List EntryParts) (CA : IsChecked A) (CB : IsChecked B) (U : Upgrades A B) where
+  abbrev new_form : CoreParts → CoreParts
+  new_form c = form (values_of B) (settles B (core_conditions B CB.passes)) c
+
+  -- cores that differ in languages with one end
+  language_same : (a b : List ℕ) (sc re : Option (List ℕ)) (vs : List (List ℕ)) → (settles B (core_conditions B CB.passes)).language a ≡ (settles B (core_conditions B CB.passes)).language b → new_form (core a [] sc re vs) ≡ new_form (core b [] sc re vs)
+  language_same a b sc re vs e = form_of_language (values_of B) (settles B (core_conditions B CB.passes)) a b sc re vs e
+
+  same_turn : (v m : List ℕ) → language_value A v ≡ Some m → (n : ValuedEntry A kinds.Variant v m) → IsSameTurn B n.at v m
+  same_turn v m h n =
+      let has : KeepsTurn B n.at = valued_has A kinds.Variant v m (KeepsTurn B) (U upgrades.SameTurn) n in
+      has v m n.of_kind (valued_single A CA kinds.Variant v m n) n.gives (language_value_is A v m h).1
+
+  turn_both : (l v m : List ℕ) → (values_of A).turn l v ≡ Some m → (w : List ℕ) × ((values_of B).turn l v ≡ Some w) × ((settles B (core_conditions B CB.passes)).language m ≡ (settles B (core_conditions B CB.passes)).language w)
+  turn_both l v m h =
+      let t = turn_is A l v m h in
+      let n : ValuedEntry A kinds.Variant v m = valued A kinds.Variant v m (language_value_is A v m t.1).0 in
+      let k : IsSameTurn B n.at v m = same_turn v m t.1 n in
+      let listed : lists (prefixes B kinds.Variant v) l ≡ true = k.prefixes l ∙ ap (λ ps. lists ps l) (sym (prefixes_at A kinds.Variant v n.at n.found)) ∙ t.0 in
+      (k.newer, ap (λ b. cond b (language_value B v) None) listed ∙ k.has, one_end (settles B (core_conditions B CB.passes)).language_end m k.newer k.ends)
+
+  -- what turns by the new registry turns by the old one
+  turn_back : (l u : List ℕ) → is_registered A kinds.Variant u ≡ true → (values_of A).turn l u ≡ None → (values_of B).turn l u ≡ None
+  turn_back l u r h = by (none_or ((values_of B).turn l u))
+    where
+      old : (w : List ℕ) → (values_of B).turn l u ≡ Some w → (x : List ℕ) × (language_value A u ≡ Some x)
+      old w e =
+          let t = turn_is B l u w e in
+          let p = language_value_is B u w t.1 in
+          let n : ValuedEntry B kinds.Variant u w = valued B kinds.Variant u w p.0 in
+          let had : HadTurn A n.at = valued_has B kinds.Variant u w (HadTurn A) (U upgrades.NoNewTurn) n in
+          had u w n.of_kind (valued_single B CB kinds.Variant u w n) n.gives p.1 r
+
+      again : (w : List ℕ) → (values_of B).turn l u ≡ Some w → ⊥
+      again w e =
+          let x = old w e in
+          let n : ValuedEntry A kinds.Variant u x.0 = valued A kinds.Variant u x.0 (language_value_is A u x.0 x.1).0 in
+          let k : IsSameTurn B n.at u x.0 = same_turn u x.0 x.1 n in
+          let listed : lists (prefixes A kinds.Variant u) l ≡ true = ap (λ ps. lists ps l) (prefixes_at A kinds.Variant u n.at n.found) ∙ sym (k.prefixes l) ∙ (turn_is B l u w e).0 in
+          let some : (values_of A).turn l u ≡ Some x.0 = ap (λ b. cond b (language_value A u) None) listed ∙ x.1 in
+          cc
+
+      by : ((values_of B).turn l u ≡ None) ⊎ ((t : List ℕ) × ((values_of B).turn l u ≡ Some t)) → (values_of B).turn l u ≡ None
+      by (inl e) = e
+      by (inr e) = absurd (again e.0 e.1)
+
+  turns_back : (l : List ℕ) (before after : List (List ℕ)) → AllByRecursion (λ v. is_registered A kinds.Variant v ≡ true) (before ++ after) → AllByRecursion (λ u. (values_of A).turn l u ≡ None) before → AllByRecursion (λ u. (values_of B).turn l u ≡ None) before
+  turns_back l [] after r h = tt
+  turns_back l (u ∷ us) after r h = (turn_back l u r.0 h.0, turns_back l us after r.1 h.1)
+
+  value_same : (k : Kind) (s v : List ℕ) → KeepsKind k v → value A k s ≡ Some v → SameEnd (next_value B k) s v
+  value_same k s v keeps h =
+      let n : ValuedEntry A k s v = valued A k s v h in
+      let has : KeepsEnds B n.at = valued_has A k s v (KeepsEnds B) (U upgrades.SameEnds) n in
+      let own : KeepsKind n.at.kind v = subst (λ k. KeepsKind k v) (sym n.of_kind) keeps in
+      subst (λ k. SameEnd (next_value B k) s v) n.of_kind (has s v (valued_single A CA k s v n) n.gives own)
+
+  -- an old core step keeps the new core normal form
+  pub old_core_step : (c d : CoreParts) → IsProperCore A c → CoreStep (values_of A) c d → new_form c ≡ new_form d
+  old_core_step c d P (by_extlang x s) =
+      let S = settles B (core_conditions B CB.passes) in
+      let fit : ExtlangsFit A c.language (x ∷ []) = subst (ExtlangsFit A c.language) s.one P.extlangs in
+      let en : ExtlangEntry A x = extlang_entry A (core_conditions A CA.passes) x fit.0 in
+      let k : IsSameExtlang B en.at x = same_extlang A B (core_conditions A CA.passes) U x en in
+      let ends : S.language (replacement B x) ≡ S.language (replacement A x) =
+      ap S.language (replacement_at B x k.newer k.there) ∙ sym (one_end S.language_end (value_or (one_of en.at.value) x) (value_or (one_of k.newer.value) x) k.ends) ∙ ap S.language (sym (replacement_at A x en.at en.found)) in
+      let mid : CoreParts = core (replacement B x) [] c.script c.region c.variants in
+      step_keeps (values_of B) S c mid (by_extlang x (record { one = s.one; result = refl }))
+      ∙ language_same (replacement B x) (replacement A x) c.script c.region c.variants ends
+      ∙ sym (ap new_form s.result)
+  old_core_step c d P (by_language v s) =
+      let S = settles B (core_conditions B CB.passes) in
+      ap (λ xs. new_form (core c.language xs c.script c.region c.variants)) s.alone
+      ∙ language_same c.language v c.script c.region c.variants (one_end S.language_end c.language v (value_same kinds.Language c.language v tt s.has))
+      ∙ ap (λ xs. new_form (core v xs c.script c.region c.variants)) (sym s.alone)
+      ∙ sym (ap new_form s.result)
+  old_core_step c d P (by_script a v s) =
+      let S = settles B (core_conditions B CB.passes) in
+      ap (λ o. form_on (values_of B) S c.extlangs c.language o (option_map S.region c.region) (map S.variant c.variants)) (ap (option_map S.script) s.there ∙ ap Some (one_end S.script_end a v (value_same kinds.Script a v tt s.has)))
+      ∙ sym (ap new_form s.result)
+  old_core_step c d P (by_region a v s) =
+      let S = settles B (core_conditions B CB.passes) in
+      ap (λ o. form_on (values_of B) S c.extlangs c.language (option_map S.script c.script) o (map S.variant c.variants)) (ap (option_map S.region) s.there ∙ ap Some (one_end S.region_end a v (value_same kinds.Region a v tt s.has)))
+      ∙ sym (ap new_form s.result)
+  old_core_step c d P (by_variant before v w after s) =
+      let S = settles B (core_conditions B CB.passes) in
+      let p = variant_value_is A v w s.has in
+      let e : S.variant v ≡ S.variant w = one_end S.variant_end v w (value_same kinds.Variant v w p.1 p.0) in
+      ap (λ vs. form_on (values_of B) S c.extlangs c.language (option_map S.script c.script) (option_map S.region c.region) vs)
+      (ap (map S.variant) s.there ∙ map-append S.variant before (v ∷ after) ∙ ap (λ u. map S.variant before ++ u ∷ map S.variant after) e ∙ sym (map-append S.variant before (w ∷ after)))
+      ∙ sym (ap new_form s.result)
+  old_core_step c d P (by_turn before v m after s) =
+      let S = settles B (core_conditions B CB.passes) in
+      let k = turn_both c.language v m s.has in
+      let r : AllByRecursion (λ v. is_registered A kinds.Variant v ≡ true) (before ++ v ∷ after) = subst (AllByRecursion (λ v. is_registered A kinds.Variant v ≡ true)) s.there P.variants in
+      let mid : CoreParts = core k.0 c.extlangs c.script c.region (before ++ after) in
+      step_keeps (values_of B) S c mid (by_turn before v k.0 after (record { alone = s.alone; there = s.there; has = k.1; leftmost = turns_back c.language before (v ∷ after) r s.leftmost; result = refl }))
+      ∙ ap (λ xs. new_form (core k.0 xs c.script c.region (before ++ after))) s.alone
+      ∙ language_same k.0 m c.script c.region (before ++ after) (sym k.2)
+      ∙ ap (λ xs. new_form (core m xs c.script c.region (before ++ after))) (sym s.alone)
+      ∙ sym (ap new_form s.result)

@@ -1,0 +1,20 @@
+-- A registry upgrades another, or what the check of an upgrade finds, by tests that compute.
+use Rattle.lt_tag.specs.Parts.{TagForm}
+use Rattle.lt_registry.specs.Parts.{EntryParts}
+use Rattle.lt_registry.specs.Validity.{IsProper}
+use Rattle.lt_rewrite.specs.Rewriting.{Star, done, then}
+use Rattle.lt_rewrite.specs.TagSteps.{TagStep}
+use Rattle.lt_check.specs.Conditions.{IsChecked}
+use Rattle.std.proofs.Common.{◌≡◌, ◌≤◌, ◌<◌, ◌&&◌, ◌||◌, List, [], ◌∷◌, ◌∙◌}
+use Rattle.lt_registry.specs.declared.entries.Kind.TheVariants as kinds
+use Rattle.lt_registry.specs.declared.entries.EntryName.TheVariants as names
+use Rattle.lt_check.specs.declared.conditions.Condition.TheVariants as conditions
+use Rattle.lt_upgrade.specs.declared.conditions.UpgradeCondition.{UpgradeCondition}
+use Rattle.lt_upgrade.specs.declared.conditions.UpgradeCondition.TheVariants as upgrades
+
+abbrev pub all_upgrades : List UpgradeCondition
+all_upgrades = upgrades.StaysRegistered ∷ upgrades.SameEnds ∷ upgrades.SameExtlang ∷ upgrades.SameTurn ∷ upgrades.NoNewTurn ∷ upgrades.SameWhole ∷ []
+
+pub proper_from : (B : List EntryParts) → IsChecked B → {t u : TagForm} → Star (TagStep B) t u → IsProper B u → IsProper B t
+proper_from B C done p = p
+proper_from B C (then s r) p = s.from

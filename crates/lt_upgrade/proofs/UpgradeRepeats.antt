@@ -1,0 +1,184 @@
+-- The variant that a refusal of a newer registry names is one for a tag and for its old canonical form.
+use Rattle.std.proofs.Common.{◌≡◌, ℕ, ◌⊎◌, inl, inr, false, List, [], ◌∷◌, ◌++◌, Option, Some, None, refl, sym, ap, ◌∙◌, subst, arith}
+use Rattle.std.specs.List.{AllByRecursion}
+use Rattle.lt_tag.specs.Parts.{CoreParts, ExtensionParts, TForm, TagForm, LangTag, PrivateUse, Grandfathered}
+use Rattle.lt_registry.specs.Parts.{EntryParts}
+use Rattle.lt_registry.specs.Entries.{whole_value}
+use Rattle.lt_registry.specs.Faults.{HasSource}
+use Rattle.lt_registry.specs.Validity.{IsProperExtension, HasProperParts, IsProperLangTag, RepeatsNoVariant, Distinct}
+use Rattle.lt_rewrite.specs.Rewriting.{Star, done, then}
+use Rattle.lt_rewrite.specs.CoreSteps.{values_of, IsCoreNormalForm}
+use Rattle.lt_rewrite.specs.Orderings.{ListStep, by_swap, by_drop}
+use Rattle.lt_rewrite.specs.Extensions.{singleton_cmp, TransformStep, on_source, on_fields, ExtensionStep, in_unicode, in_transform, ExtensionsStep, inside, among}
+use Rattle.lt_rewrite.specs.TagSteps.{IsPlain, TagChange, on_core, on_extensions, on_whole, TagStep}
+use Rattle.lt_rewrite.proofs.NormalForms.{form_is_normal, normal_is_form}
+use Rattle.lt_rewrite.proofs.PartLists.{all_middle, empty_middle}
+use Rattle.lt_rewrite.proofs.FoundParts.{one_transform}
+use Rattle.lt_check.specs.Conditions.{plain, IsValidPlain, IsChecked}
+use Rattle.lt_canon.specs.Answers.{IsRepeatOfCore, IsRepeatOfSource, HasDistinctForm, IsNamedRepeat}
+use Rattle.lt_upgrade.specs.Upgrade.{MeetInCanonical, KeepsWhole, Upgrades}
+use Rattle.lt_upgrade.specs.declared.conditions.UpgradeCondition.TheVariants as upgrades
+use Rattle.lt_check.proofs.CheckedRegistry.{valued_whole, whole_has, IsGrandfatheredTag, tag_plain}
+use Rattle.lt_canon.proofs.Distinctness.{second_repeats}
+use Rattle.lt_canon.proofs.EndForms.{star_end, rest_is_end}
+use Rattle.lt_canon.proofs.TagForm.{or_value, core_end, cores_formed, value_end, tag_end, end_form}
+use Rattle.lt_upgrade.proofs.UpgradeCores.{old_core_step}
+use Rattle.lt_upgrade.proofs.UpgradeTags.{proper_source}
+
+-- members of lists
+
+abbrev Member : {A : Type 0} → A → List A → Type 0
+Member x [] = ⊥
+Member x (y ∷ ys) = (y ≡ x) ⊎ Member x ys
+
+member_cases : {A : Type 0} (x : A) (xs ys : List A) → Member x (xs ++ ys) → Member x xs ⊎ Member x ys
+member_cases x [] ys m = inr m
+member_cases x (z ∷ zs) ys (inl e) = inl (inl e)
+member_cases x (z ∷ zs) ys (inr m) = elim (member_cases x zs ys m) [ inl k ↦ inl (inr k) | inr k ↦ inr k ]
+
+on_left : {A : Type 0} (x : A) (xs ys : List A) → Member x xs → Member x (xs ++ ys)
+on_left x [] ys m = absurd m
+on_left x (z ∷ zs) ys (inl e) = inl e
+on_left x (z ∷ zs) ys (inr m) = inr (on_left x zs ys m)
+
+on_right : {A : Type 0} (x : A) (xs ys : List A) → Member x ys → Member x (xs ++ ys)
+on_right x [] ys m = m
+on_right x (z ∷ zs) ys m = inr (on_right x zs ys m)
+
+-- a member, and what stands round it
+record Split {A : Type 0} (x : A) (xs : List A) : Type 0 where
+  before : List A
+  after : List A
+  there : xs ≡ before ++ x ∷ after
+
+split_member : {A : Type 0} (x : A) (xs : List A) → Member x xs → Split x xs
+split_member x [] m = absurd m
+split_member x (y ∷ ys) (inl e) = record { before = []; after = ys; there = ap (λ z. z ∷ ys) e }
+split_member x (y ∷ ys) (inr m) = let k = split_member x ys m in record { before = y ∷ k.before; after = k.after; there = ap (λ l. y ∷ l) k.there }
+
+swapped : {A : Type 0} (x a b : A) (after : List A) → Member x (a ∷ b ∷ after) → Member x (b ∷ a ∷ after)
+swapped x a b after (inl e) = inr (inl e)
+swapped x a b after (inr (inl e)) = inl e
+swapped x a b after (inr (inr m)) = inr (inr m)
+
+swap_keeps : (x : ExtensionParts) (es fs : List ExtensionParts) → ListStep false singleton_cmp es fs → Member x es → Member x fs
+swap_keeps x es fs (by_swap before a b after s) m =
+    let k = member_cases x before (a ∷ b ∷ after) (subst (Member x) s.there m) in
+    subst (Member x) (sym s.result) (elim k [ inl n ↦ on_left x before (b ∷ a ∷ after) n | inr n ↦ on_right x before (b ∷ a ∷ after) (swapped x a b after n) ])
+swap_keeps x es fs (by_drop before a between b after o s) m = cc
+
+-- an extension whose source repeats the variant
+record Carries (R : List EntryParts) (v : List ℕ) (e : ExtensionParts) : Type 0 where
+  source : CoreParts
+  has_source : HasSource e source
+  repeat : IsRepeatOfCore R source v
+
+-- one of the extensions does
+record Carrier (R : List EntryParts) (v : List ℕ) (es : List ExtensionParts) : Type 0 where
+  extension : ExtensionParts
+  member : Member extension es
+  carries : Carries R v extension
+
+module _ (A B : List EntryParts) (CA : IsChecked A) (CB : IsChecked B) (U : Upgrades A B) where
+  normal_moves : (c d f : CoreParts) → core_end B CB c ≡ core_end B CB d → IsCoreNormalForm (values_of B) c f → IsCoreNormalForm (values_of B) d f
+  normal_moves c d f e n =
+      subst (λ x. IsCoreNormalForm (values_of B) d x) (sym e ∙ normal_is_form (cores_formed B CB) c f n) (form_is_normal (cores_formed B CB) d)
+
+  repeat_moves : (c d : CoreParts) (v : List ℕ) → core_end B CB c ≡ core_end B CB d → IsRepeatOfCore B c v → IsRepeatOfCore B d v
+  repeat_moves c d v e r = record { form = r.form; normal = normal_moves c d r.form e r.normal; second = r.second }
+
+  distinct_moves : (c d : CoreParts) → core_end B CB c ≡ core_end B CB d → HasDistinctForm B c → HasDistinctForm B d
+  distinct_moves c d e r = record { form = r.form; normal = normal_moves c d r.form e r.normal; distinct = r.distinct }
+
+  carried : (v : List ℕ) (e f : ExtensionParts) → IsProperExtension A e → ExtensionStep A e f → Carries B v e → Carries B v f
+  carried v e f P (in_unicode p q s) k = absurd (omega (arith, k.has_source.transforms, s.is_u))
+  carried v e f P (in_transform p q s) k = by s.step
+    where
+      there : p.source ≡ Some k.source
+      there = ap (λ (z : TForm). z.source) (sym (one_transform e.subtags k.has_source.parts p k.has_source.formed s.from)) ∙ k.has_source.there
+
+      by : TransformStep A p q → Carries B v f
+      by (on_source c d j) =
+          let same : k.source ≡ c = let a = there in let b = j.from in cc in
+          let r : IsRepeatOfCore B c v = subst (λ x. IsRepeatOfCore B x v) same k.repeat in
+          record {
+            source = d;
+            has_source = record { transforms = s.singleton ∙ s.is_t; parts = q; formed = s.to; there = j.to };
+            repeat = repeat_moves c d v (old_core_step A B CA CB U c d (proper_source A e p q c f P s j.from) j.step) r;
+          }
+      by (on_fields a j) =
+          record { source = k.source; has_source = record { transforms = s.singleton ∙ s.is_t; parts = q; formed = s.to; there = a ∙ there }; repeat = k.repeat }
+
+  to_carrier : (v : List ℕ) (es : List ExtensionParts) → IsRepeatOfSource B es v → Carrier B v es
+  to_carrier v es r = record {
+    extension = r.extension;
+    member = subst (Member r.extension) (sym r.there) (on_right r.extension r.before (r.extension ∷ r.after) (inl refl));
+    carries = record { source = r.source; has_source = r.has_source; repeat = r.repeat };
+  }
+
+  from_carrier : (v : List ℕ) (es : List ExtensionParts) → Carrier B v es → IsRepeatOfSource B es v
+  from_carrier v es k =
+      let s = split_member k.extension es k.member in
+      record { before = s.before; extension = k.extension; after = s.after; there = s.there; source = k.carries.source; has_source = k.carries.has_source; repeat = k.carries.repeat }
+
+  carrier_moves : (v : List ℕ) (es fs : List ExtensionParts) → AllByRecursion (IsProperExtension A) es → ExtensionsStep A es fs → Carrier B v es → Carrier B v fs
+  carrier_moves v es fs P (among s) k = record { extension = k.extension; member = swap_keeps k.extension es fs s k.member; carries = k.carries }
+  carrier_moves v es fs P (inside before e f after w s) k = by (member_cases k.extension before (e ∷ after) (subst (Member k.extension) w.there k.member))
+    where
+      proper : IsProperExtension A e
+      proper = all_middle (IsProperExtension A) before e after (subst (AllByRecursion (IsProperExtension A)) w.there P)
+
+      put : (x : ExtensionParts) → Carries B v x → Member x (before ++ f ∷ after) → Carrier B v fs
+      put x c m = record { extension = x; member = subst (Member x) (sym w.result) m; carries = c }
+
+      by : Member k.extension before ⊎ Member k.extension (e ∷ after) → Carrier B v fs
+      by (inl m) = put k.extension k.carries (on_left k.extension before (f ∷ after) m)
+      by (inr (inl q)) = put f (carried v e f proper s (subst (Carries B v) (sym q) k.carries)) (on_right f before (f ∷ after) (inl refl))
+      by (inr (inr m)) = put k.extension k.carries (on_right k.extension before (f ∷ after) (inr m))
+
+  -- a plain core whose end repeats no variant
+  end_distinct : (d : CoreParts) → (o : Option TagForm) → whole_value B (plain d) ≡ o → RepeatsNoVariant (or_value (plain d) (value_end B CB) o) → Distinct d.variants
+  end_distinct d None e h = h.0
+  end_distinct d (Some u) e h = by (tag_plain B CB (plain d) u e)
+    where
+      by : IsGrandfatheredTag (plain d) ⊎ IsValidPlain B (plain d) → Distinct d.variants
+      by (inl g) = let x = g.is in cc
+      by (inr g) = g.valid.distinct.0
+
+  -- the tag of a whole record with a value is refused for no repeat
+  plain_unnamed : (t : TagForm) (v : List ℕ) → IsPlain t → RepeatsNoVariant (tag_end B CB t) → IsNamedRepeat B t v → ⊥
+  plain_unnamed (LangTag c [] []) v p d (inl r) =
+      let one : core_end B CB c ≡ r.form = normal_is_form (cores_formed B CB) c r.form r.normal in
+      let distinct : Distinct (core_end B CB c).variants = end_distinct (core_end B CB c) (whole_value B (plain (core_end B CB c))) refl d in
+      second_repeats r.form.variants v r.second (subst (λ (x : CoreParts). Distinct x.variants) one distinct)
+  plain_unnamed (LangTag c [] []) v p d (inr r) = empty_middle r.1.before r.1.extension r.1.after (sym r.1.there)
+  plain_unnamed (LangTag c [] (q ∷ qs)) v p d r = let a = p.1 in cc
+  plain_unnamed (LangTag c (e ∷ es) ps) v p d r = let a = p.0 in cc
+  plain_unnamed (PrivateUse ps) v p d r = r
+  plain_unnamed (Grandfathered n) v p d r = r
+
+  step_named : (t u : TagForm) (v : List ℕ) → TagStep A t u → IsNamedRepeat B t v → IsNamedRepeat B u v
+  step_named t u v s r = by s.change
+    where
+      by : TagChange A t u → IsNamedRepeat B u v
+      by (on_core c d es ps k) =
+          let P : IsProperLangTag A c es = subst (HasProperParts A) k.from s.from.parts in
+          let e : core_end B CB c ≡ core_end B CB d = old_core_step A B CA CB U c d P.core k.step in
+          let old : IsNamedRepeat B (LangTag c es ps) v = subst (λ x. IsNamedRepeat B x v) k.from r in
+          let new : IsNamedRepeat B (LangTag d es ps) v = elim old [ inl x ↦ inl (repeat_moves c d v e x) | inr x ↦ inr (distinct_moves c d e x.0, x.1) ] in
+          subst (λ x. IsNamedRepeat B x v) (sym k.to) new
+      by (on_extensions c es fs ps k) =
+          let P : IsProperLangTag A c es = subst (HasProperParts A) k.from s.from.parts in
+          let old : IsNamedRepeat B (LangTag c es ps) v = subst (λ x. IsNamedRepeat B x v) k.from r in
+          let new : IsNamedRepeat B (LangTag c fs ps) v = elim old [ inl x ↦ inl x | inr x ↦ inr (x.0, from_carrier v fs (carrier_moves v es fs P.extensions k.step (to_carrier v es x.1))) ] in
+          subst (λ x. IsNamedRepeat B x v) (sym k.to) new
+      by (on_whole k) =
+          let w = valued_whole A t u k.has in
+          let m : MeetInCanonical B t u = whole_has A t u (KeepsWhole B) (U upgrades.SameWhole) w t u w.named w.gives in
+          let end : tag_end B CB t ≡ m.tag = star_end (end_form B CB) m.left ∙ rest_is_end (end_form B CB) m.tag m.canonical.valid.proper m.canonical.at_rest in
+          absurd (plain_unnamed t v k.plain (subst RepeatsNoVariant (sym end) m.canonical.valid.distinct) r)
+
+  -- old steps keep the variant that a new refusal names
+  pub steps_named : {t u : TagForm} (v : List ℕ) → Star (TagStep A) t u → IsNamedRepeat B t v → IsNamedRepeat B u v
+  steps_named v done r = r
+  steps_named v (then {a = a} {b = b} s k) r = steps_named v k (step_named a b v s r)

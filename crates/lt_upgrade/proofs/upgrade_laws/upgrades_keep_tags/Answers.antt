@@ -1,0 +1,5 @@
+use Rattle.lt_upgrade.proofs.UpgradeLaw.{upgrade_keeps}
+use Rattle.lt_upgrade.proofs.upgrade_laws.upgrades_keep_tags.Goals as goal
+
+pub returns : goal.returns
+returns c = upgrade_keeps

@@ -1,0 +1,63 @@
+-- What a walk over the records of two registries finds.
+use Rattle.std.specs.Prelude.{ℕ, ◌<◌, ◌≤◌, ◌==◌, ◌&&◌, Bool, true, false, List, [], ◌∷◌, length, Option, Some, None, All, codes}
+use Rattle.std.specs.List.{list_any}
+use Rattle.lt_registry.specs.Parts.{EntryParts}
+use Rattle.lt_registry.specs.Same.{same_kind}
+use Rattle.lt_registry.specs.declared.entries.Kind.{Kind}
+use Rattle.lt_registry.specs.Entries.{letters_le, lists}
+use Rattle.lt_registry.specs.declared.entries.EntryName.{EntryName}
+use Rattle.lt_registry.specs.declared.entries.EntryName.TheVariants as names
+use Rattle.lt_upgrade.specs.Upgrade.{MeetsUpgrade, records_of, upgrade_rank_of, IsAtUpgradeFault, IsUpgradeFinding}
+use Rattle.lt_upgrade.specs.declared.conditions.UpgradeCondition.{UpgradeCondition}
+use Rattle.lt_upgrade.specs.declared.conditions.UpgradeCondition.TheVariants as upgrades
+use Rattle.lt_upgrade.specs.declared.upgrades.UpgradeFault.{UpgradeFault}
+use Rattle.lt_upgrade.specs.declared.upgrades.UpgradeFault.TheVariants as faults
+
+-- the condition speaks of the records of the newer registry
+abbrev pub is_of_newer : UpgradeCondition → Bool
+is_of_newer upgrades.NoNewTurn = true
+is_of_newer _ = false
+
+-- the lowest record at fault by a condition
+pub record IsFirstAtUpgradeFault (A B : List EntryParts) (condition : UpgradeCondition) (number : ℕ) : Type 0 where
+  pub fault : IsAtUpgradeFault A B condition number
+  pub first : (other : ℕ) → IsAtUpgradeFault A B condition other → number ≤ other
+
+-- each record meets the condition, or this is the lowest that does not
+abbrev pub IsLowestUpgradeFault : List EntryParts → List EntryParts → UpgradeCondition → Option ℕ → Type 0
+IsLowestUpgradeFault A B condition None = All (MeetsUpgrade condition A B) (records_of condition A B)
+IsLowestUpgradeFault A B condition (Some number) = IsFirstAtUpgradeFault A B condition number
+
+-- all records meet each condition of a lower rank
+abbrev pub MeetsUpgradeBelow : ℕ → List EntryParts → List EntryParts → Type 0
+MeetsUpgradeBelow rank A B =
+    (other : UpgradeCondition) → upgrade_rank_of other < rank → All (MeetsUpgrade other A B) (records_of other A B)
+
+-- what a fault names is what the check finds; want of memory aside
+abbrev pub IsUpgradeFault : List EntryParts → List EntryParts → UpgradeFault → Type 0
+IsUpgradeFault A B (faults.Fails condition number) = IsUpgradeFinding A B condition number
+IsUpgradeFault A B faults.OutOfMemory = Unit {0}
+
+abbrev pub no_upgrade_memory : UpgradeFault
+no_upgrade_memory = faults.OutOfMemory
+
+-- the names of the faults
+abbrev pub upgrade_fault_name_of : UpgradeFault → List ℕ
+upgrade_fault_name_of (faults.Fails condition number) = codes "Fails"
+upgrade_fault_name_of faults.OutOfMemory = codes "OutOfMemory"
+
+-- ---- what a look at one record tells
+
+-- the name is a range of the same length that goes from a first to a last at least
+abbrev pub covers : EntryName → List ℕ → List ℕ → Bool
+covers (names.Range low high) first last = (length low == length first) && (letters_le low first && letters_le last high)
+covers _ first last = false
+
+-- a record of the kind names such a range
+abbrev pub some_covers : List EntryParts → Kind → List ℕ → List ℕ → Bool
+some_covers R kind first last = list_any (λ (e : EntryParts). same_kind e.kind kind && covers e.name first last) R
+
+-- a Prefix of one subtag is among others
+abbrev pub is_among : List (List (List ℕ)) → List (List ℕ) → Bool
+is_among others (language ∷ []) = lists others language
+is_among others _ = true

@@ -1,0 +1,50 @@
+-- The ranges among entries, and whether one of them covers another.
+use Rattle.std.specs.Prelude.{ℕ, ◌≡◌, Bool, true, ◌&&◌, List, [], ◌∷◌, length, Option, Some, None}
+use Rattle.std.specs.List.{AllByRecursion, list_any, cons_option}
+use Rattle.std.specs.Ordering.{nat_cmp, ordering_then, is_le}
+use Rattle.std.specs.Cmp.Lexicographic.{slice_cmp}
+use Rattle.std.specs.declared.cmp.Ordering.{Ordering}
+use Rattle.lt_registry.specs.Parts.{EntryParts}
+use Rattle.lt_registry.specs.declared.entries.Kind.{Kind}
+use Rattle.lt_registry.specs.declared.entries.EntryName.{EntryName}
+use Rattle.lt_registry.specs.declared.entries.EntryName.TheVariants as names
+use Rattle.lt_check.specs.NameChecks.{kind_number}
+use Rattle.lt_upgrade.specs.UpgradeChecking.{some_covers}
+use Rattle.lt_upgrade.specs.declared.widest_ranges.RangeEnd.{RangeEnd}
+use Rattle.lt_upgrade.specs.declared.widest_ranges.RangeRow.{RangeRow}
+
+abbrev pub range_end : Kind → List ℕ → RangeEnd
+range_end kind subtag = record { kind = kind_number kind; length = length subtag; subtag = subtag }
+
+-- the order of ends: by the kind, then the length, then the letters
+abbrev pub end_cmp : RangeEnd → RangeEnd → Ordering
+end_cmp a b = ordering_then (nat_cmp a.kind b.kind) (ordering_then (nat_cmp a.length b.length) (slice_cmp nat_cmp a.subtag b.subtag))
+
+-- the end is the other or stands before it
+abbrev pub is_up_to : RangeEnd → RangeEnd → Bool
+is_up_to a b = is_le (end_cmp a b)
+
+-- a range begins no later than a first end, and ends no earlier than a last
+abbrev pub contains : RangeEnd → RangeEnd → RangeRow → Bool
+contains first last row = is_up_to row.first first && is_up_to last row.last
+
+-- the range that a name gives under a kind
+abbrev pub range_row : Kind → EntryName → Option RangeRow
+range_row kind (names.Range first last) = Some (record { first = range_end kind first; last = range_end kind last })
+range_row kind _ = None
+
+-- the ranges of entries in the order of the file
+abbrev pub range_rows : List EntryParts → List RangeRow
+range_rows [] = []
+range_rows (e ∷ es) = cons_option (range_row e.kind e.name) (range_rows es)
+
+-- neither end of a range stands before that of an earlier one
+abbrev pub EndsRise : List RangeRow → Type 0
+EndsRise [] = Unit {0}
+EndsRise (v ∷ rows) = AllByRecursion (λ (w : RangeRow). (is_up_to v.first w.first ≡ true) × (is_up_to v.last w.last ≡ true)) rows × EndsRise rows
+
+-- one of the ranges contains what a record of entries covers, and nothing else
+abbrev pub HoldRanges : List EntryParts → List RangeRow → Type 0
+HoldRanges R rows =
+    (kind : Kind) (first last : List ℕ) → length first ≡ length last →
+    list_any (contains (range_end kind first) (range_end kind last)) rows ≡ some_covers R kind first last

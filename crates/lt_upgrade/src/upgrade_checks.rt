@@ -1,0 +1,256 @@
+//! Whether a record meets a condition on a newer registry beside an older one.
+ghost use Rattle.std.specs.Prelude.{◌≡◌, ◌≢◌, ◌↔◌, List, ℕ, length, IsTrue, IfOk, Contains};
+ghost use Rattle.std.specs.List.{list_all};
+ghost use Rattle.lt_registry.specs.Entries as entries;
+ghost use Rattle.lt_registry.specs.Same.{same_list};
+ghost use Rattle.lt_registry.specs.Validity.{RepeatsNoVariant};
+ghost use Rattle.lt_registry.specs.declared.entries.Kind.TheVariants as kinds;
+ghost use Rattle.lt_rewrite.specs.Conditions.{next_value};
+ghost use Rattle.lt_rewrite.specs.Shortcuts.{AreShortcuts};
+ghost use Rattle.lt_upgrade.specs.Upgrade.{SameEnd, StaysRegistered, KeepsKind, KeepsEnds, IsSameExtlang, KeepsExtlang, IsSameTurn, KeepsTurn, HadTurn, MeetInCanonical, KeepsWhole};
+ghost use Rattle.lt_upgrade.specs.UpgradeChecking as checks;
+ghost use Rattle.lt_upgrade.specs.WidestRanges.{HoldRanges};
+
+use crate::widest_ranges::WidestRanges;
+use lt_canon::{Refusal, equivalent};
+use lt_check::Checked;
+use lt_registry::{Entry, EntryName, Kind, Lookup, Prefix};
+use lt_rewrite::Shortcuts;
+use lt_rewrite::values::{
+    has_language_value, is_registered, is_short, lists, one_value, tag_and_value,
+};
+use lt_subtag::Subtag;
+use lt_tag::{OutOfMemory, Tag};
+use std::alloc::Global;
+
+/// Whether what a record names is registered in the newer registry.
+pub(crate) fn stays_registered<L: Lookup>(newer: &L, ranges: &WidestRanges, entry: &Entry) -> bool
+    requires { HoldRanges (L.listed newer.now) ranges.now }
+    ensures { IsTrue result ↔ StaysRegistered (L.listed newer.now) entry.now }
+{
+    match entry.name() {
+        EntryName::Single(subtag) => is_registered(newer, entry.kind(), subtag),
+        EntryName::Range(first, last) => ranges.cover(entry.kind(), first, last),
+        EntryName::Whole(_) => true,
+    }
+}
+
+/// Whether the chains of two subtags of a kind, not of extlangs, come to one end.
+fn have_same_end<L: Lookup>(
+    table: &L,
+    shortcuts: &Shortcuts,
+    kind: Kind,
+    left: &Subtag,
+    right: &Subtag,
+) -> bool
+    requires shortcuts { AreShortcuts (L.listed table.now) shortcuts.now }
+    requires kind { kind ≢ kinds.Extlang }
+    ensures { IsTrue result ↔ SameEnd (next_value (L.listed table.now) kind) left.now right.now }
+{
+    let Ok(end) = shortcuts.chain_end(table, kind, left) else {
+        return false;
+    };
+    match shortcuts.chain_end(table, kind, right) {
+        Ok(other) => end == other,
+        Err(_) => false,
+    }
+}
+
+/// Whether the value of a record of a kind is a subtag of that kind.
+fn keeps_kind(kind: Kind, value: &Subtag) -> bool
+    ensures { IsTrue result ↔ KeepsKind kind value.now }
+{
+    match kind {
+        Kind::Language | Kind::Script | Kind::Region => true,
+        Kind::Variant => !is_short(value),
+        Kind::Extlang | Kind::Grandfathered | Kind::Redundant => false,
+    }
+}
+
+/// Whether a subtag and its old value come to one end in the newer registry.
+pub(crate) fn keeps_ends<L: Lookup>(newer: &L, shortcuts: &Shortcuts, entry: &Entry) -> bool
+    requires { AreShortcuts (L.listed newer.now) shortcuts.now }
+    ensures { IsTrue result ↔ KeepsEnds (L.listed newer.now) entry.now }
+{
+    match (entry.name(), one_value(entry)) {
+        (EntryName::Single(subtag), Some(value)) if keeps_kind(entry.kind(), value) => {
+            have_same_end(newer, shortcuts, entry.kind(), subtag, value)
+        }
+        _ => true,
+    }
+}
+
+/// Whether two Prefixes are the same.
+fn same_prefix(left: &Prefix, right: &Prefix) -> bool
+    ensures { result ≡ same_list left.now right.now }
+{
+    left.subtags() == right.subtags()
+}
+
+/// Whether two lists of Prefixes, the second of one, are the same.
+fn same_prefixes(left: &[Prefix], right: &[Prefix]) -> bool
+    requires { length right.now ≡ 1 }
+    ensures { IsTrue result ↔ (left.now ≡ right.now) }
+{
+    match (left, right) {
+        ([prefix], [other]) => same_prefix(prefix, other),
+        _ => false,
+    }
+}
+
+/// The value of an extlang, or itself.
+fn replacement<'a>(entry: &'a Entry, subtag: &'a Subtag) -> &'a Subtag
+    ensures { result.now ≡ entries.value_or (entries.one_of entry.now.value) subtag.now }
+{
+    match one_value(entry) {
+        Some(value) => value,
+        None => subtag,
+    }
+}
+
+/// Whether an extlang with one Prefix has that Prefix, and a replacement of the same end, in the newer
+/// registry.
+fn is_same_extlang<L: Lookup>(
+    newer: &L,
+    shortcuts: &Shortcuts,
+    entry: &Entry,
+    subtag: &Subtag,
+) -> bool
+    requires shortcuts { AreShortcuts (L.listed newer.now) shortcuts.now }
+    requires one { length entry.now.prefixes ≡ 1 }
+    ensures { IsTrue result ↔ IsSameExtlang (L.listed newer.now) entry.now subtag.now }
+{
+    let Some(other) = newer.entry(Kind::Extlang, subtag) else {
+        return false;
+    };
+    let (old, new) = (replacement(entry, subtag), replacement(other, subtag));
+    same_prefixes(other.prefixes(), entry.prefixes())
+        && have_same_end(newer, shortcuts, Kind::Language, old, new)
+}
+
+/// Whether an extlang with one Prefix keeps it and the end of its replacement in the newer registry.
+pub(crate) fn keeps_extlang<L: Lookup>(newer: &L, shortcuts: &Shortcuts, entry: &Entry) -> bool
+    requires shortcuts { AreShortcuts (L.listed newer.now) shortcuts.now }
+    requires one { entry.now.kind ≡ kinds.Extlang → length entry.now.prefixes ≡ 1 }
+    ensures { IsTrue result ↔ KeepsExtlang (L.listed newer.now) entry.now }
+{
+    match (entry.kind(), entry.name()) {
+        (Kind::Extlang, EntryName::Single(subtag)) => {
+            is_same_extlang(newer, shortcuts, entry, subtag)
+        }
+        _ => true,
+    }
+}
+
+/// Whether a Prefix, if it is one subtag, is among others.
+fn is_among(prefix: &Prefix, others: &[Prefix]) -> bool
+    ensures { result ≡ checks.is_among others.now prefix.now }
+{
+    match prefix.subtags() {
+        [language] => lists(others, language),
+        _ => true,
+    }
+}
+
+/// Whether each Prefix of one subtag is among others.
+fn are_among(prefixes: &[Prefix], others: &[Prefix]) -> bool
+    ensures { result ≡ list_all (checks.is_among others.now) prefixes.now }
+{
+    prefixes.iter().all(|prefix| is_among(prefix, others))
+}
+
+/// Whether two lists of Prefixes have the same languages.
+fn same_languages(left: &[Prefix], right: &[Prefix]) -> bool
+    ensures { IsTrue result ↔ ((l : List ℕ) → entries.lists left.now l ≡ entries.lists right.now l) }
+{
+    are_among(left, right) && are_among(right, left)
+}
+
+/// Whether a variant with a language value keeps one of the same end, and the set of its Prefixes, in the
+/// newer registry.
+pub(crate) fn keeps_turn<L: Lookup>(newer: &L, shortcuts: &Shortcuts, entry: &Entry) -> bool
+    requires { AreShortcuts (L.listed newer.now) shortcuts.now }
+    ensures { IsTrue result ↔ KeepsTurn (L.listed newer.now) entry.now }
+{
+    match (entry.kind(), entry.name(), one_value(entry)) {
+        (Kind::Variant, EntryName::Single(subtag), Some(value)) if is_short(value) => {
+            turns_alike(newer, shortcuts, entry, subtag, value)
+        }
+        _ => true,
+    }
+}
+
+/// Whether a variant turns into a language of the same end beside the same languages.
+fn turns_alike<L: Lookup>(
+    newer: &L,
+    shortcuts: &Shortcuts,
+    entry: &Entry,
+    subtag: &Subtag,
+    value: &Subtag,
+) -> bool
+    requires { AreShortcuts (L.listed newer.now) shortcuts.now }
+    ensures { IsTrue result ↔ IsSameTurn (L.listed newer.now) entry.now subtag.now value.now }
+{
+    let Some(other) = newer.entry(Kind::Variant, subtag) else {
+        return false;
+    };
+    match one_value(other) {
+        Some(language) if is_short(language) => {
+            same_languages(other.prefixes(), entry.prefixes())
+                && have_same_end(newer, shortcuts, Kind::Language, value, language)
+        }
+        _ => false,
+    }
+}
+
+/// Whether a variant with a language value has one in the older registry, if it is registered there.
+pub(crate) fn had_turn<L: Lookup>(older: &L, entry: &Entry) -> bool
+    ensures { IsTrue result ↔ HadTurn (L.listed older.now) entry.now }
+{
+    match (entry.kind(), entry.name(), one_value(entry)) {
+        (Kind::Variant, EntryName::Single(subtag), Some(value)) if is_short(value) => {
+            !is_registered(older, Kind::Variant, subtag) || has_language_value(older, subtag)
+        }
+        _ => true,
+    }
+}
+
+/// Whether two tags that repeat no variant reach one canonical tag.
+fn meet_in_canonical<L: Lookup>(
+    alloc: Global,
+    newer: &Checked<L>,
+    first: &Tag,
+    second: &Tag,
+) -> Result<bool, OutOfMemory>
+    requires first { RepeatsNoVariant first.now }
+    requires second { RepeatsNoVariant second.now }
+    ensures { IfOk result (λ meet. IsTrue meet ↔ MeetInCanonical (L.listed newer.now) first.now second.now) }
+{
+    let _ = newer.table();
+    let refusal = match equivalent(alloc, newer, first, second) {
+        Ok(answer) => return Ok(answer),
+        Err(refusal) => refusal,
+    };
+    match refusal {
+        Refusal::OutOfMemory => Err(OutOfMemory),
+        _ => Ok(false),
+    }
+}
+
+/// Whether the tag and the value of a record of the older registry, if it is a whole record with a value,
+/// reach one canonical tag by the newer registry.
+pub(crate) fn keeps_whole<A: Lookup, B: Lookup>(
+    alloc: Global,
+    older: &Checked<A>,
+    newer: &Checked<B>,
+    entry: &Entry,
+) -> Result<bool, OutOfMemory>
+    requires { Contains (A.listed older.now) entry.now }
+    ensures { IfOk result (λ meets. IsTrue meets ↔ KeepsWhole (B.listed newer.now) entry.now) }
+{
+    let _ = older.table();
+    match tag_and_value(entry) {
+        Some((tag, value)) => meet_in_canonical(alloc, newer, tag, value),
+        None => Ok(true),
+    }
+}
