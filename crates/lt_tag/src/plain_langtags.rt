@@ -54,28 +54,3 @@ pub fn is_plain_langtag(subtags: &[Subtag]) -> bool
     }
     number_of(subtags).is_none()
 }
-
-#[cfg(test)]
-mod tests {
-    use super::*;
-    use std::alloc::Global;
-    use std::test::Fail;
-
-    fn is_langtag(alloc: Global, texts: &[&[u8]]) -> Result<bool, Fail> {
-        let mut subtags = Vec::new(alloc);
-        for text in texts {
-            subtags.push(Subtag::read(text).map_err(|fault| fault.name())?)?;
-        }
-        Ok(is_plain_langtag(&subtags))
-    }
-
-    #[test]
-    fn lists_of_langtags(rt: HostRuntime) -> Result<(), Fail> {
-        let alloc = rt.alloc();
-        assert!(rt; is_langtag(alloc, &[b"ja", b"latn", b"hepburn"])?);
-        assert!(rt; is_langtag(alloc, &[b"zh", b"min", b"hans"])?);
-        assert!(rt; !is_langtag(alloc, &[b"zh", b"min"])?);
-        assert!(rt; !is_langtag(alloc, &[b"de", b"x", b"a"])?);
-        Ok(())
-    }
-}

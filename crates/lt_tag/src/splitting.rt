@@ -188,6 +188,3 @@ impl<T: Drop> From<AllocFailed<T>> for TransformFault {
         TransformFault::OutOfMemory
     }
 }
-
-#[cfg(test)]
-mod tests;

@@ -1,10 +1,9 @@
-use super::*;
-use crate::tags::Class;
-use crate::words::{has_class, has_words, long_text};
-use std::alloc::AllocError;
+use super::words::{has_class, has_words, long_text};
+use lt_tag::{Class, TagFault, read_tag};
+use std::alloc::{AllocError, Global};
 
 /// Texts with the names and the places of their faults.
-const FAULTS: [(&str, &str, u32); 22] = [
+pub const FAULTS: [(&str, &str, u32); 22] = [
     ("", "EmptySubtag", 1),
     ("en-", "EmptySubtag", 2),
     ("en--us", "EmptySubtag", 2),
@@ -35,16 +34,6 @@ fn has_fault(alloc: Global, text: &[u8], name: &str, place: u32) -> bool {
     match read_tag(alloc, text) {
         Ok(_) => false,
         Err(fault) => fault.kind.name() == name && fault.place == place,
-    }
-}
-
-#[test]
-fn faults(rt: HostRuntime) {
-    for (text, name, place) in &FAULTS {
-        assert!(rt;
-            has_fault(rt.alloc(), text.as_bytes(), name, *place),
-            "{text}"
-        );
     }
 }
 
@@ -107,7 +96,7 @@ fn longer_texts(rt: HostRuntime) -> Result<(), AllocError> {
 }
 
 /// Texts with their classes and the numbers of those that are grandfathered.
-const CLASSES: [(&str, Class, Option<u8>); 10] = [
+const CLASSES: [(&str, Class, Option<u8>); 11] = [
     ("en-gb-OED", Class::Grandfathered, Some(1)),
     ("SGN-be-fr", Class::Grandfathered, Some(15)),
     ("zh-MIN", Class::Grandfathered, Some(24)),
@@ -118,6 +107,8 @@ const CLASSES: [(&str, Class, Option<u8>); 10] = [
     ("sl-rozaj-b-ccc-a-aaa-x-yz-1", Class::LangTag, None),
     ("X-a", Class::PrivateUse, None),
     ("x-ab-c", Class::PrivateUse, None),
+    // It takes no memory.
+    ("ZH-yue-hant-hk", Class::LangTag, None),
 ];
 
 #[test]
@@ -125,13 +116,6 @@ fn classes(rt: HostRuntime) -> Result<(), TagFault> {
     for (text, class, number) in &CLASSES {
         assert!(rt; has_class(rt.alloc(), text, *class, *number)?, "{text}");
     }
-    Ok(())
-}
-
-// It takes no memory.
-#[test]
-fn usual_langtag(rt: HostRuntime) -> Result<(), TagFault> {
-    assert!(rt; has_class(rt.alloc(), "ZH-yue-hant-hk", Class::LangTag, None)?);
     Ok(())
 }
 

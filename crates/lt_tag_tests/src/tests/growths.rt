@@ -1,63 +1,16 @@
-//! What a call does where a growth of memory is refused. `bench/growth.py` runs each test here once for
-//! each growth in it, and refuses that one alone; the gate refuses none. So a call that is not itself
-//! under test is made twice where it is refused.
-use crate::cores::Core;
-use crate::extensions::Extension;
-use crate::faults::{OutOfMemory, TagFault, TagFaultKind, TransformFault};
-use crate::joining::{join_t, join_u};
-use crate::parts::{TParts, UParts};
-use crate::reading::read_tag;
-use crate::splitting::{split_t, split_u};
-use crate::tags::{Class, Tag};
-use crate::words::{put_core, put_each, put_extension, put_field, put_keyword};
-use crate::writing::{append_tag, write_tag};
+//! What a call does where a growth of memory is refused.
+use super::reading::FAULTS;
+use super::words::{put_core, put_each, put_field, put_keyword};
+use super::writing::TEXTS;
 use lt_subtag::Subtag;
+use lt_tag::{
+    Class, Core, Extension, OutOfMemory, TParts, Tag, TagFault, TagFaultKind, TransformFault,
+    UParts, append_tag, join_t, join_u, read_tag, split_t, split_u, write_tag,
+};
+use lt_testing::{answers, mark, shown, twice};
 use std::alloc::{AllocError, Global};
 use std::fmt::Debug;
 use std::test::Fail;
-
-/// What a call answers, which is made again where it was refused.
-fn twice<T, E: Drop, C: Fn() -> Result<T, E>>(call: C) -> Result<T, E>
-    requires { C.IsAlwaysCallable call }
-{
-    match call() {
-        Ok(value) => Ok(value),
-        Err(_) => call(),
-    }
-}
-
-/// A value as text.
-fn shown<T: Debug>(alloc: Global, value: &T) -> Result<String, AllocError> {
-    match format!(in alloc; "{value:?}") {
-        Ok(text) => Ok(text),
-        Err(_) => format!(in alloc; "{value:?}"),
-    }
-}
-
-/// Whether a call gives its answer, and leaves its arguments as they were; and where it tells that a
-/// growth was refused, whether it leaves them as well, and gives its answer when it is made again.
-fn answers<A, T, C, P, R>(
-    alloc: Global,
-    arguments: &A,
-    call: C,
-    is_answer: P,
-    is_refusal: R,
-) -> Result<bool, AllocError>
-where
-    A: Debug,
-    T: Drop,
-    C: Fn() -> T,
-    P: Fn(&T) -> bool,
-    R: Fn(&T) -> bool,
-    requires call { C.IsAlwaysCallable call }
-    requires answer { P.IsAlwaysCallable is_answer }
-    requires refusal { R.IsAlwaysCallable is_refusal }
-{
-    let before = shown(alloc, arguments)?;
-    let answer = call();
-    let is_kept = shown(alloc, arguments)?.as_str() == before.as_str();
-    Ok(is_kept && (is_answer(&answer) || (is_refusal(&answer) && is_answer(&call()))))
-}
 
 /// Whether a call makes of its argument what it should; and where a growth was refused, whether it
 /// leaves it as it was, and then makes the same of it.
@@ -99,26 +52,6 @@ fn tag_of(alloc: Global, text: &str) -> Result<Tag, TagFault> {
 fn has_text(alloc: Global, tag: &Tag, text: &str) -> bool {
     matches!(twice(|| write_tag(alloc, tag)), Ok(written) if written.as_slice() == text.as_bytes())
 }
-
-/// Texts with those of their tags.
-const TEXTS: [(&str, &str); 3] = [
-    ("ZH-yue-hant-hk", "zh-yue-Hant-HK"),
-    ("zh-MIN", "zh-min"),
-    ("X-a", "x-a"),
-];
-
-/// Texts of no tags with the names and the places of their faults.
-const FAULTS: [(&str, &str, u32); 9] = [
-    ("", "EmptySubtag", 1),
-    ("en-", "EmptySubtag", 2),
-    ("en_US", "BadByte", 1),
-    ("en-abcdefghi", "LongSubtag", 2),
-    ("i-foo", "BadLanguage", 1),
-    ("en-a-x-b", "Misplaced", 3),
-    ("sgn-BE-FR-x-a", "Misplaced", 3),
-    ("en-a", "Unfinished", 3),
-    ("x", "Unfinished", 2),
-];
 
 /// Whether reading a text answers as it should.
 fn is_read<P: Fn(&Result<Tag, TagFault>) -> bool>(
@@ -187,16 +120,9 @@ fn is_appended(alloc: Global, tag: &Tag, text: &str) -> Result<bool, AllocError>
 fn tags_are_written(rt: HostRuntime) -> Result<(), Fail> {
     for (text, written) in &TEXTS {
         let tag = tag_of(rt.alloc(), text)?;
-        assert!(rt; is_written(rt.alloc(), &tag, written)?, "{text}");
-    }
-    Ok(())
-}
-
-#[test]
-fn tags_are_appended(rt: HostRuntime) -> Result<(), Fail> {
-    for (text, written) in &TEXTS {
-        let tag = tag_of(rt.alloc(), text)?;
-        assert!(rt; is_appended(rt.alloc(), &tag, written)?, "{text}");
+        let is_right = is_written(rt.alloc(), &tag, written)?
+            && is_appended(rt.alloc(), &tag, written)?;
+        assert!(rt; is_right, "{text}");
     }
     Ok(())
 }
@@ -226,25 +152,34 @@ where
     )
 }
 
-#[test]
-fn tags_are_copied(rt: HostRuntime) -> Result<(), Fail> {
-    let alloc = rt.alloc();
-    for text in &["en-Latn-a-bb", "de-1901-x-a", "x-a", "i-lux"] {
-        let tag = tag_of(alloc, text)?;
-        assert!(rt; is_copied(alloc, &tag, || tag.copy(alloc))?, "{text}");
+/// Whether a tag, its core and its extensions are copied.
+fn tag_is_copied(alloc: Global, tag: &Tag) -> Result<bool, AllocError> {
+    for extension in tag.extensions() {
+        if !is_copied(alloc, extension, || extension.copy(alloc))? {
+            return Ok(false);
+        }
     }
-    Ok(())
+    if let Some(core) = tag.core()
+        && !is_copied(alloc, core, || core.copy(alloc))?
+    {
+        return Ok(false);
+    }
+    is_copied(alloc, tag, || tag.copy(alloc))
 }
 
 #[test]
-fn cores_are_copied(rt: HostRuntime) -> Result<(), Fail> {
-    let alloc = rt.alloc();
-    for text in &["en-Latn-a-bb", "de-1901-x-a"] {
-        let tag = tag_of(alloc, text)?;
-        let Some(core) = tag.core() else {
-            return Err(Fail::from("no core"));
-        };
-        assert!(rt; is_copied(alloc, core, || core.copy(alloc))?, "{text}");
+fn tags_are_copied(rt: HostRuntime) -> Result<(), Fail> {
+    for text in &["de-1901-x-a", "x-a", "i-lux"] {
+        assert!(rt;
+            tag_is_copied(rt.alloc(), &tag_of(rt.alloc(), text)?)?,
+            "{text}"
+        );
+    }
+    for (text, _) in &TEXTS {
+        assert!(rt;
+            tag_is_copied(rt.alloc(), &tag_of(rt.alloc(), text)?)?,
+            "{text}"
+        );
     }
     Ok(())
 }
@@ -288,7 +223,7 @@ fn transform_words(alloc: Global, parts: &TParts) -> Result<Vec<u8>, OutOfMemory
 }
 
 /// Texts with the words of the parts of their `u` extension.
-const UNICODE: [(&str, &str); 3] = [
+const UNICODE: [(&str, &str); 4] = [
     (
         "en-u-foo-bar-nu-latn-ca-buddhist",
         " attribute foo attribute bar key nu type latn key ca type buddhist",
@@ -298,6 +233,7 @@ const UNICODE: [(&str, &str); 3] = [
         " attribute bar attribute foo key ca type buddhist key nu type latn",
     ),
     ("en-u-11", " key 11"),
+    ("en-u-foo-nu-latn", " attribute foo key nu type latn"),
 ];
 
 /// Whether a `u` extension is split into parts of these words.
@@ -323,10 +259,7 @@ fn unicode_is_joined(alloc: Global, extension: &Extension) -> Result<bool, Fail>
     if extension.singleton() != b'u' {
         return Ok(false);
     }
-    let parts = match split_u(alloc, extension) {
-        Ok(parts) => parts,
-        Err(_) => split_u(alloc, extension)?,
-    };
+    let parts = twice(|| split_u(alloc, extension))?;
     let whole = shown(alloc, extension)?;
     Ok(answers(
         alloc,
@@ -335,28 +268,6 @@ fn unicode_is_joined(alloc: Global, extension: &Extension) -> Result<bool, Fail>
         |answer| is_shown(alloc, answer, whole.as_str()),
         |answer| is_refused(answer),
     )?)
-}
-
-#[test]
-fn unicode_extensions_are_split(rt: HostRuntime) -> Result<(), Fail> {
-    for (text, words) in &UNICODE {
-        let tag = tag_of(rt.alloc(), text)?;
-        let extension = extension_of(&tag)?;
-        assert!(rt; unicode_is_split(rt.alloc(), extension, words)?, "{text}");
-    }
-    Ok(())
-}
-
-#[test]
-fn unicode_parts_are_joined(rt: HostRuntime) -> Result<(), Fail> {
-    for (text, _) in &UNICODE {
-        let tag = tag_of(rt.alloc(), text)?;
-        assert!(rt;
-            unicode_is_joined(rt.alloc(), extension_of(&tag)?)?,
-            "{text}"
-        );
-    }
-    Ok(())
 }
 
 /// Whether the parts of a `u` extension are copied.
@@ -368,8 +279,21 @@ fn unicode_is_copied(alloc: Global, extension: &Extension) -> Result<bool, Fail>
     Ok(is_copied(alloc, &parts, || parts.copy(alloc))?)
 }
 
+#[test]
+fn unicode_extensions(rt: HostRuntime) -> Result<(), Fail> {
+    for (text, words) in &UNICODE {
+        let tag = tag_of(rt.alloc(), text)?;
+        let extension = extension_of(&tag)?;
+        let is_right = unicode_is_split(rt.alloc(), extension, words)?
+            && unicode_is_joined(rt.alloc(), extension)?
+            && unicode_is_copied(rt.alloc(), extension)?;
+        assert!(rt; is_right, "{text}");
+    }
+    Ok(())
+}
+
 /// Texts with the words of the parts of their `t` extension.
-const TRANSFORMS: [(&str, &str); 3] = [
+const TRANSFORMS: [(&str, &str); 6] = [
     (
         "en-t-zh-yue-m0-names-a0-xyz",
         " language zh extlang yue separator m0 value names separator a0 value xyz",
@@ -382,6 +306,27 @@ const TRANSFORMS: [(&str, &str); 3] = [
         "en-t-de-latn-de-1901",
         " language de script latn region de variant 1901",
     ),
+    (
+        "en-t-de-latn-at-1901-rozaj",
+        " language de script latn region at variant 1901 variant rozaj",
+    ),
+    (
+        "en-t-m0-aaa-M0-bbb",
+        " separator m0 value aaa separator m0 value bbb",
+    ),
+    ("en-t-de-m0-names", " language de separator m0 value names"),
+];
+
+/// Texts whose first extension, a `t`, has no parts.
+const NO_PARTS: [&str; 8] = [
+    "en-t-m0",
+    "en-t-zh-yue-m0",
+    "en-t-m0-a0-aaa",
+    "en-t-de-m0-xx",
+    "en-t-m0-t-de",
+    "en-t-1994-m0-aaa",
+    "en-t-de-at-latn",
+    "en-t-m0-aaa-de",
 ];
 
 /// Whether splitting a `t` extension answers as it should.
@@ -412,25 +357,16 @@ fn has_transform_words(alloc: Global, parts: &TParts, words: &str) -> bool {
     }
 }
 
-#[test]
-fn transforms_are_split(rt: HostRuntime) -> Result<(), Fail> {
-    let alloc = rt.alloc();
-    for (text, words) in &TRANSFORMS {
-        let tag = tag_of(alloc, text)?;
-        let is_split = transform_answers(alloc, extension_of(&tag)?, |answer| match answer {
-            Ok(parts) => has_transform_words(alloc, parts, words),
-            Err(_) => false,
-        })?;
-        assert!(rt; is_split, "{text}");
-    }
-    for text in &["en-t-m0", "en-t-zh-yue-m0"] {
-        let tag = tag_of(alloc, text)?;
-        let is_refused = transform_answers(alloc, extension_of(&tag)?, |answer| {
-            matches!(answer, Err(TransformFault::BadTransform))
-        })?;
-        assert!(rt; is_refused, "{text}");
-    }
-    Ok(())
+/// Whether a `t` extension is split into parts of these words.
+fn transform_is_split(
+    alloc: Global,
+    extension: &Extension,
+    words: &str,
+) -> Result<bool, AllocError> {
+    transform_answers(alloc, extension, |answer| match answer {
+        Ok(parts) => has_transform_words(alloc, parts, words),
+        Err(_) => false,
+    })
 }
 
 /// Whether the parts of a `t` extension are joined to it.
@@ -438,10 +374,7 @@ fn transform_is_joined(alloc: Global, extension: &Extension) -> Result<bool, Fai
     if extension.singleton() != b't' {
         return Ok(false);
     }
-    let parts = match split_t(alloc, extension) {
-        Ok(parts) => parts,
-        Err(_) => split_t(alloc, extension)?,
-    };
+    let parts = twice(|| split_t(alloc, extension))?;
     let whole = shown(alloc, extension)?;
     Ok(answers(
         alloc,
@@ -450,18 +383,6 @@ fn transform_is_joined(alloc: Global, extension: &Extension) -> Result<bool, Fai
         |answer| is_shown(alloc, answer, whole.as_str()),
         |answer| is_refused(answer),
     )?)
-}
-
-#[test]
-fn transform_parts_are_joined(rt: HostRuntime) -> Result<(), Fail> {
-    for (text, _) in &TRANSFORMS {
-        let tag = tag_of(rt.alloc(), text)?;
-        assert!(rt;
-            transform_is_joined(rt.alloc(), extension_of(&tag)?)?,
-            "{text}"
-        );
-    }
-    Ok(())
 }
 
 /// Whether the parts of a `t` extension are copied.
@@ -474,28 +395,31 @@ fn transform_is_copied(alloc: Global, extension: &Extension) -> Result<bool, Fai
 }
 
 #[test]
-fn parts_are_copied(rt: HostRuntime) -> Result<(), Fail> {
-    for (text, _) in &UNICODE {
+fn transforms(rt: HostRuntime) -> Result<(), Fail> {
+    for (text, words) in &TRANSFORMS {
         let tag = tag_of(rt.alloc(), text)?;
-        assert!(rt;
-            unicode_is_copied(rt.alloc(), extension_of(&tag)?)?,
-            "{text}"
-        );
-    }
-    for (text, _) in &TRANSFORMS {
-        let tag = tag_of(rt.alloc(), text)?;
-        assert!(rt;
-            transform_is_copied(rt.alloc(), extension_of(&tag)?)?,
-            "{text}"
-        );
+        let extension = extension_of(&tag)?;
+        let is_right = transform_is_split(rt.alloc(), extension, words)?
+            && transform_is_joined(rt.alloc(), extension)?
+            && transform_is_copied(rt.alloc(), extension)?;
+        assert!(rt; is_right, "{text}");
     }
     Ok(())
 }
 
-/// Marks where calls begin that take no memory: `bench/growth.py` refuses this growth, which is larger
-/// than any other, and each one behind it.
-fn mark(alloc: Global) {
-    let _ = Vec::<u8>::with_capacity(alloc, 1 << 36);
+#[test]
+fn transforms_without_parts(rt: HostRuntime) -> Result<(), Fail> {
+    for text in &NO_PARTS {
+        let tag = tag_of(rt.alloc(), text)?;
+        let Some(extension) = tag.extensions().first() else {
+            return Err(Fail::from("no extension"));
+        };
+        let is_refused = transform_answers(rt.alloc(), extension, |answer| {
+            matches!(answer, Err(TransformFault::BadTransform))
+        })?;
+        assert!(rt; is_refused, "{text}");
+    }
+    Ok(())
 }
 
 /// Puts another language and extlang in the place of a core's.

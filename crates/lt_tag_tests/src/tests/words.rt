@@ -1,23 +1,20 @@
-//! Tags and their parts in words, for tests.
-use crate::copies::{copy_extensions, copy_subtags};
-use crate::cores::Core;
-use crate::extensions::Extension;
-use crate::faults::{OutOfMemory, TagFault};
-use crate::parts::{Field, Keyword};
-use crate::reading::read_tag;
-use crate::tags::{Class, Tag};
+//! Tags and their parts in words.
 use lt_subtag::Subtag;
+use lt_tag::{
+    Class, Core, Extension, Field, Keyword, OutOfMemory, Tag, TagFault, copy_extensions,
+    copy_subtags, read_tag,
+};
 use std::alloc::{AllocError, Global};
 
 /// Adds a label and a subtag at the end.
-pub(crate) fn put(words: &mut Vec<u8>, label: &str, subtag: &Subtag) -> Result<(), OutOfMemory> {
+pub(super) fn put(words: &mut Vec<u8>, label: &str, subtag: &Subtag) -> Result<(), OutOfMemory> {
     words.extend_from_slice(label.as_bytes())?;
     words.extend_from_slice(subtag.bytes())?;
     Ok(())
 }
 
 /// Adds subtags at the end, each behind the label.
-pub(crate) fn put_each(
+pub(super) fn put_each(
     words: &mut Vec<u8>,
     label: &str,
     subtags: &[Subtag],
@@ -41,7 +38,7 @@ fn put_option(
 }
 
 /// Adds a core at the end.
-pub(crate) fn put_core(words: &mut Vec<u8>, core: &Core) -> Result<(), OutOfMemory> {
+pub(super) fn put_core(words: &mut Vec<u8>, core: &Core) -> Result<(), OutOfMemory> {
     put(words, " language ", core.language())?;
     put_each(words, " extlang ", core.extlangs())?;
     put_option(words, " script ", core.script())?;
@@ -50,7 +47,7 @@ pub(crate) fn put_core(words: &mut Vec<u8>, core: &Core) -> Result<(), OutOfMemo
 }
 
 /// Adds a copy of a core at the end, if there is one.
-pub(crate) fn put_copied_core(
+pub(super) fn put_copied_core(
     words: &mut Vec<u8>,
     alloc: Global,
     core: Option<&Core>,
@@ -62,20 +59,20 @@ pub(crate) fn put_copied_core(
 }
 
 /// Adds an extension at the end.
-pub(crate) fn put_extension(words: &mut Vec<u8>, extension: &Extension) -> Result<(), OutOfMemory> {
+pub(super) fn put_extension(words: &mut Vec<u8>, extension: &Extension) -> Result<(), OutOfMemory> {
     words.extend_from_slice(b" extension ")?;
     words.push(extension.singleton())?;
     put_each(words, " ", extension.subtags())
 }
 
 /// Adds a keyword at the end.
-pub(crate) fn put_keyword(words: &mut Vec<u8>, keyword: &Keyword) -> Result<(), OutOfMemory> {
+pub(super) fn put_keyword(words: &mut Vec<u8>, keyword: &Keyword) -> Result<(), OutOfMemory> {
     put(words, " key ", &keyword.key)?;
     put_each(words, " type ", &keyword.types)
 }
 
 /// Adds a field at the end.
-pub(crate) fn put_field(words: &mut Vec<u8>, field: &Field) -> Result<(), OutOfMemory> {
+pub(super) fn put_field(words: &mut Vec<u8>, field: &Field) -> Result<(), OutOfMemory> {
     put(words, " separator ", &field.separator)?;
     put_each(words, " value ", &field.values)
 }
@@ -100,7 +97,7 @@ fn put_tag(words: &mut Vec<u8>, alloc: Global, tag: &Tag) -> Result<(), OutOfMem
 }
 
 /// Whether copies of the parts of a text's tag have these words.
-pub(crate) fn has_words(alloc: Global, text: &str, words: &str) -> Result<bool, TagFault> {
+pub(super) fn has_words(alloc: Global, text: &str, words: &str) -> Result<bool, TagFault> {
     let tag = read_tag(alloc, text.as_bytes())?;
     let mut found = Vec::new(alloc);
     put_tag(&mut found, alloc, &tag)?;
@@ -108,7 +105,7 @@ pub(crate) fn has_words(alloc: Global, text: &str, words: &str) -> Result<bool, 
 }
 
 /// Whether a text's tag is of a class, and has a number if it is grandfathered.
-pub(crate) fn has_class(
+pub(super) fn has_class(
     alloc: Global,
     text: &str,
     class: Class,
@@ -119,7 +116,7 @@ pub(crate) fn has_class(
 }
 
 /// A text of one piece, 113 others of eight letters, and a last one.
-pub(crate) fn long_text(alloc: Global, first: &str, last: &str) -> Result<Vec<u8>, AllocError> {
+pub(super) fn long_text(alloc: Global, first: &str, last: &str) -> Result<Vec<u8>, AllocError> {
     let mut text = Vec::from_slice(alloc, first.as_bytes())?;
     for _ in 0..113 {
         text.extend_from_slice(b"-aaaaaaaa")?;

@@ -1,0 +1,53 @@
+use lt_subtag::Subtag;
+use lt_tag::{Core, OutOfMemory, Tag, TagFault, copy_subtags, read_tag, write_tag};
+use std::alloc::Global;
+
+/// Whether a core and one subtag of private use give the tag of this text.
+fn gives_with_private(
+    alloc: Global,
+    core: &Core,
+    private: &[Subtag],
+    text: &str,
+) -> Result<bool, OutOfMemory> {
+    let copy = core.copy(alloc)?;
+    let private = copy_subtags(alloc, private)?;
+    if private.len() != 1 {
+        return Ok(false);
+    }
+    let tag = Tag::from_parts(copy, Vec::new(alloc), private);
+    Ok(write_tag(alloc, &tag)?.as_slice() == text.as_bytes())
+}
+
+/// Whether a core that spells no grandfathered tag gives the tag of this text.
+fn gives(alloc: Global, core: &Core, text: &str) -> Result<bool, OutOfMemory> {
+    let copy = core.copy(alloc)?;
+    if copy.literal().is_some() {
+        return Ok(false);
+    }
+    let tag = Tag::from_parts(copy, Vec::new(alloc), Vec::new(alloc));
+    Ok(write_tag(alloc, &tag)?.as_slice() == text.as_bytes())
+}
+
+/// Whether the core and the private use of a tag give it again.
+fn is_given(alloc: Global, tag: &Tag, text: &str) -> Result<bool, OutOfMemory> {
+    let Some(core) = tag.core() else {
+        return Ok(false);
+    };
+    if tag.private().is_empty() {
+        return gives(alloc, core, text);
+    }
+    gives_with_private(alloc, core, tag.private(), text)
+}
+
+/// Whether the core and the private use of a text's tag give it again.
+fn is_given_again(alloc: Global, text: &str) -> Result<bool, TagFault> {
+    Ok(is_given(alloc, &read_tag(alloc, text.as_bytes())?, text)?)
+}
+
+#[test]
+fn parts_give_a_tag(rt: HostRuntime) -> Result<(), TagFault> {
+    for text in &["zh-min-x-a", "zh-cmn"] {
+        assert!(rt; is_given_again(rt.alloc(), text)?, "{text}");
+    }
+    Ok(())
+}
