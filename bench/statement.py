@@ -5,7 +5,7 @@ Usage: bench/statement.py [--most N] [--list] [--docs]
 
 It starts at the clauses of README's table (HEADLINE below) and follows each name: definitions in crates/*/specs/**/*.antt, and
 in crates/*/src the enums, structs, views (`impl Model`) and traits that they speak of. Of a type with a view the view counts,
-and not the private fields; what a variant of an enum holds is followed only if a definition looks at it. What std defines is not
+and not the private fields, nor an invariant on these alone; what a variant of an enum holds is followed only if a definition looks at it. What std defines is not
 counted. A line counts unless it is blank, a comment, a `use`, an attribute or a closing bracket alone.
 
 It prints each file with the lines reached, and their sum. With --list it prints each definition too. It ends with 1 if a
@@ -38,6 +38,16 @@ def is_counted(line):
     if not text or text.startswith(("--", "//", "use ", "ghost use ", "#[", "#![")):
         return False
     return re.search(r"\w", text) is not None
+
+
+def without_private_invariant(model):
+    """A view without an invariant over fields that it doesn't show, which is of the type's own code alone."""
+    view = re.search(r"ghost view = \{(.*)\};", model.text())
+    invariant = re.search(r"ghost invariant = \{(.*)\};", model.text())
+    fields = [set(re.findall(r"(?<![\w.])[a-z]\.(\w+)", match.group(1))) for match in (view, invariant) if match]
+    if len(fields) == 2 and fields[1] - fields[0]:
+        model.lines = [line for line in model.lines if "ghost invariant" not in line]
+    return model
 
 
 def is_enum(item):
@@ -308,7 +318,7 @@ class Tree:
         sources = self.sources.get(crate, [])
         models = [source for source in sources if name in source.models]
         for source in models:
-            self.reach(source.models[name], source)
+            self.reach(without_private_invariant(source.models[name]), source)
             self.reach_fields(source.models[name], source.types.get(name), source)
         for source in sources:
             if name in source.types and not models:
