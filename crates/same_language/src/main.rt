@@ -1,0 +1,15 @@
+//! Are these two tags one language by this registry?
+#![tactic(auto)]
+
+use bcp47::{Registry, Tag};
+
+fn main(rt: HostRuntime) -> anyhow::Result<()> {
+    let registry = Registry::from_bytes(rt.alloc(), &std::fs::read(&rt, "registry.txt")?)?;
+    let first = Tag::read(rt.alloc(), b"zh-cmn-Hans")?;
+    let second = Tag::read(rt.alloc(), b"cmn-hans")?;
+    match registry.equivalent(rt.alloc(), &first, &second) {
+        Ok(same) => println!(rt; "{same}")?,
+        Err(refusal) => println!(rt; "{refusal:?}")?,
+    }
+    Ok(())
+}
