@@ -35,12 +35,6 @@ fn shown(alloc: Global, jar: &Jar) -> Result<String, AllocError> {
     Ok(text)
 }
 
-/// Whether a text has these records, as `shown` gives them.
-fn has_records(alloc: Global, text: &[u8], records: &str) -> Result<bool, Fail> {
-    let jar = read_jar(alloc, text)?;
-    Ok(shown(alloc, &jar)?.as_str() == records)
-}
-
 /// Texts with their records.
 const TEXTS: [(&str, &str); 6] = [
     ("", ""),
@@ -50,17 +44,6 @@ const TEXTS: [(&str, &str); 6] = [
     ("A : b:c\n%%\t", "A=b:c"),
     ("A:b\r\n%%\r\nC-9:\r\n d\r", "A=b|C-9=d"),
 ];
-
-#[test]
-fn texts_with_records(rt: HostRuntime) -> Result<(), Fail> {
-    for (text, records) in &TEXTS {
-        assert!(rt;
-            has_records(rt.alloc(), text.as_bytes(), records)?,
-            "{text}"
-        );
-    }
-    Ok(())
-}
 
 /// Whether a text has the fault of this name at this line.
 fn has_fault(alloc: Global, text: &[u8], name: &str, line: u64) -> bool {
@@ -83,13 +66,6 @@ const FAULTS: [(&[u8], &str, u64); 5] = [
     (b": b", "BadLine", 1),
 ];
 
-#[test]
-fn texts_with_faults(rt: HostRuntime) {
-    for (text, name, line) in &FAULTS {
-        assert!(rt; has_fault(rt.alloc(), text, name, *line), "{name}");
-    }
-}
-
 /// A field `Comments` whose body has so many letters, with this end behind its line.
 fn long_line(alloc: Global, letters: usize, end: &str) -> Result<Vec<u8>, AllocError> {
     let mut text = Vec::from_slice(alloc, b"Comments: ")?;
@@ -111,28 +87,14 @@ fn is_one_field(jar: &Jar, bytes: usize) -> bool {
     }
 }
 
-/// Whether the line of so many letters and this end is read.
-fn reads_long(alloc: Global, letters: usize, end: &str) -> Result<bool, Fail> {
-    let text = long_line(alloc, letters, end)?;
-    let jar = read_jar(alloc, &text)?;
-    Ok(is_one_field(&jar, letters))
-}
-
-/// Whether the line of so many letters and this end is too long.
-fn is_too_long(alloc: Global, letters: usize, end: &str) -> Result<bool, AllocError> {
-    let text = long_line(alloc, letters, end)?;
-    Ok(has_fault(alloc, &text, "LineTooLong", 1))
-}
-
-/// The carriage return counts, and the line feed does not.
-#[test]
-fn longest_line(rt: HostRuntime) -> Result<(), Fail> {
-    assert!(rt; reads_long(rt.alloc(), 65_526, "")?);
-    assert!(rt; is_too_long(rt.alloc(), 65_527, "")?);
-    assert!(rt; reads_long(rt.alloc(), 65_525, "\r\n")?);
-    assert!(rt; is_too_long(rt.alloc(), 65_526, "\r\n")?);
-    Ok(())
-}
+/// How many letters lines have, their end, and whether they are read: the carriage return counts, and the
+/// line feed does not.
+const LONG_LINES: [(usize, &str, bool); 4] = [
+    (65_526, "", true),
+    (65_527, "", false),
+    (65_525, "\r\n", true),
+    (65_526, "\r\n", false),
+];
 
 /// The text of so many records.
 fn many_records(alloc: Global, records: usize) -> Result<Vec<u8>, AllocError> {
@@ -169,20 +131,5 @@ fn sample_is_read(rt: HostRuntime) -> Result<(), Fail> {
     let jar = read_jar(rt.alloc(), text.as_bytes())?;
     assert!(rt; jar.records().len() == 47);
     assert!(rt; has_fields(rt.alloc(), &jar, 0, "File-Date=2024-01-01")?);
-    Ok(())
-}
-
-/// The sample with carriage returns has no end of its last line.
-#[test]
-fn sample_with_returns_is_read(rt: HostRuntime) -> Result<(), Fail> {
-    let text = returned_text(rt.alloc())?;
-    let Some(text) = text.as_bytes().strip_suffix(b"\r\n") else {
-        return Err(Fail::from("no end of the last line"));
-    };
-    let jar = read_jar(rt.alloc(), text)?;
-    assert!(rt; jar.records().len() == 47);
-    let sixth = "Type=language;Subtag=he;Description=Modern Hebrew";
-    assert!(rt; has_fields(rt.alloc(), &jar, 5, sixth)?);
-    assert!(rt; has_fields(rt.alloc(), &jar, 46, "Type=redundant;Tag=zh-Hans")?);
     Ok(())
 }

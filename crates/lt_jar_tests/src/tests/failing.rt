@@ -1,5 +1,5 @@
 //! Readers that end, and readers that fail.
-use super::one_by_one::lent;
+use super::one_by_one::lent_text;
 use lt_jar::{Device, Pieces};
 use lt_testing::sample_text;
 use std::alloc::Global;
@@ -25,38 +25,47 @@ pub fn told<R: Read>(alloc: Global, device: &mut Device<R>, calls: usize) -> Res
     Ok(text)
 }
 
-/// After the end there is none, and after a fault it is told again.
+/// Texts and what calls answer: after the end there is none, and after a fault it is told again.
+const ENDS: [(&[u8], usize, &str); 3] = [
+    (b"A: b\n%%\n", 3, "record;none;none;"),
+    (
+        b"A: b\n%%\n\nabc\nA: b",
+        4,
+        "record;BadLine 4;Failed 4;Failed 4;",
+    ),
+    (
+        b"Type: language\nSubtag: en\n%%\n  x",
+        3,
+        "record;LeadingContinuation 4;Failed 4;",
+    ),
+];
+
 #[test]
 fn ends_stay(rt: HostRuntime) -> Result<(), Fail> {
-    let mut device = Device::new(Pieces::once(b"A: b\n%%\n", 3));
-    let ended = told(rt.alloc(), &mut device, 3)?;
-    assert!(rt; ended.as_str() == "record;none;none;");
-    let mut device = Device::new(Pieces::once(b"A: b\n%%\n\nabc\nA: b", 3));
-    let failed = told(rt.alloc(), &mut device, 4)?;
-    assert!(rt; failed.as_str() == "record;BadLine 4;Failed 4;Failed 4;");
-    let mut device = Device::new(Pieces::once(b"Type: language\nSubtag: en\n%%\n  x", 3));
-    let failed = told(rt.alloc(), &mut device, 3)?;
-    assert!(rt; failed.as_str() == "record;LeadingContinuation 4;Failed 4;");
+    for (text, calls, answers) in &ENDS {
+        let mut device = Device::new(Pieces::once(text, 3));
+        assert!(rt; told(rt.alloc(), &mut device, *calls)?.as_str() == *answers);
+    }
     Ok(())
 }
 
-/// Whether a reader that fails at this call is told with this line, and then that it failed.
-fn fails_at_line(alloc: Global, text: &[u8], call: u64, line: u64) -> Result<bool, Fail> {
-    let mut device = Device::new(Pieces::once(text, 5).failing_at(call));
-    let (_, fault) = lent(alloc, &mut device)?;
-    let told = match fault {
-        Some(fault) => fault.kind.name() == "Read" && fault.line == line,
-        None => false,
-    };
-    Ok(told && device.failures() == 1)
+/// Whether a reader that fails at this call is told with the line of the same number.
+fn fails_at_line(alloc: Global, call: u64) -> Result<bool, Fail> {
+    let mut device = Device::new(Pieces::once(b"A: b\n%%\nC: d\n", 5).failing_at(call));
+    let failed = format!(in alloc; "!Read {call}")?;
+    Ok(
+        lent_text(alloc, &mut device)?
+            .as_str()
+            .ends_with(failed.as_str())
+            && device.failures() == 1,
+    )
 }
 
 #[test]
 fn readers_that_fail(rt: HostRuntime) -> Result<(), Fail> {
-    assert!(rt; fails_at_line(rt.alloc(), b"A: b\n%%\nC: d\n", 1, 1)?);
-    assert!(rt; fails_at_line(rt.alloc(), b"A: b\n%%\nC: d\n", 2, 2)?);
-    assert!(rt; fails_at_line(rt.alloc(), b"A: b\n%%\nC: d\n", 3, 3)?);
-    assert!(rt; fails_at_line(rt.alloc(), b"A: b\n%%\nC: d\n", 4, 4)?);
+    for call in &[1, 2, 3, 4u64] {
+        assert!(rt; fails_at_line(rt.alloc(), *call)?, "{call}");
+    }
     Ok(())
 }
 

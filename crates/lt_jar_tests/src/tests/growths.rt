@@ -1,5 +1,6 @@
 //! What a call does where a growth of memory is refused.
-use super::{FAULTS, TEXTS, has_fields, is_one_field, long_line, shown as records_of};
+use super::one_by_one::SIZES;
+use super::{FAULTS, LONG_LINES, TEXTS, has_fields, is_one_field, long_line, shown as records_of};
 use lt_jar::{Device, Jar, JarFault, JarFaultKind, JarReader, Pieces, RecordRef, read_jar};
 use lt_testing::{answers, mark, returned_text, twice};
 use std::alloc::{AllocError, Global};
@@ -51,30 +52,40 @@ fn records_are_read(rt: HostRuntime) -> Result<(), Fail> {
     Ok(())
 }
 
+/// Whether a line of so many letters and this end is read, or is too long.
+fn is_long_line(
+    alloc: Global,
+    letters: usize,
+    end: &str,
+    is_read_whole: bool,
+) -> Result<bool, Fail> {
+    let text = twice(|| long_line(alloc, letters, end))?;
+    Ok(is_read(alloc, &text, |answer| match answer {
+        Ok(jar) => is_read_whole && is_one_field(jar, letters),
+        Err(fault) => {
+            !is_read_whole && fault.kind == JarFaultKind::LineTooLong && fault.line == 1
+        }
+    })?)
+}
+
 #[test]
-fn the_longest_line_is_read(rt: HostRuntime) -> Result<(), Fail> {
-    let alloc = rt.alloc();
-    let longest = twice(|| long_line(alloc, 65_526, ""))?;
-    assert!(rt;
-        is_read(alloc, &longest, |answer| match answer {
-            Ok(jar) => is_one_field(jar, 65_526),
-            Err(_) => false,
-        })?
-    );
-    let longer = twice(|| long_line(alloc, 65_527, ""))?;
-    assert!(rt;
-        is_read(alloc, &longer, |answer| match answer {
-            Ok(_) => false,
-            Err(fault) => fault.kind == JarFaultKind::LineTooLong && fault.line == 1,
-        })?
-    );
+fn the_longest_lines_are_read(rt: HostRuntime) -> Result<(), Fail> {
+    for (letters, end, is_read_whole) in &LONG_LINES {
+        assert!(rt;
+            is_long_line(rt.alloc(), *letters, end, *is_read_whole)?,
+            "{letters}"
+        );
+    }
     Ok(())
 }
 
 /// Whether a jar is that of the sample with carriage returns.
 fn is_sample(alloc: Global, jar: &Jar) -> bool {
     let sixth = "Type=language;Subtag=he;Description=Modern Hebrew";
-    jar.records().len() == 47 && matches!(twice(|| has_fields(alloc, jar, 5, sixth)), Ok(true))
+    let last = "Type=redundant;Tag=zh-Hans";
+    jar.records().len() == 47
+        && matches!(twice(|| has_fields(alloc, jar, 5, sixth)), Ok(true))
+        && matches!(twice(|| has_fields(alloc, jar, 46, last)), Ok(true))
 }
 
 #[test]
@@ -184,57 +195,47 @@ fn is_read_in_pieces(
     }
 }
 
-/// Whether a device lends a record and then nothing. Where no reader is made, it is as it was, and
-/// lends the same to another.
-fn is_lent<R: Read>(alloc: Global, device: &mut Device<R>, fields: Fields) -> bool {
+/// Whether a device lends a record, and then this fault or nothing. Where no reader is made, it is as it
+/// was, and lends the same to another.
+fn is_lent<R: Read>(
+    alloc: Global,
+    device: &mut Device<R>,
+    fields: Fields,
+    end: Option<JarFault>,
+) -> bool {
     match device.records(alloc) {
-        Ok(mut reader) => return reading(&mut reader, fields, None) != Outcome::Wrong,
+        Ok(mut reader) => return reading(&mut reader, fields, end) != Outcome::Wrong,
         Err(refusal) if is_unmade(refusal) => {}
         Err(_) => return false,
     }
     match device.records(alloc) {
-        Ok(mut reader) => reading(&mut reader, fields, None) == Outcome::Right,
+        Ok(mut reader) => reading(&mut reader, fields, end) == Outcome::Right,
         Err(_) => false,
     }
 }
 
-/// The sizes of the pieces in which a text is given.
-const SIZES: [usize; 3] = [1, 7, 1_000_000];
+/// Texts of one record with its fields, and the fault after it.
+const ONE_RECORD: [(&[u8], Fields, Option<JarFault>); 2] = [
+    (b"A:\n  b \n\tc", &[("A", "b c")], None),
+    (
+        b"Type: language\nSubtag: en\n%%\n  x",
+        &[("Type", "language"), ("Subtag", "en")],
+        Some(JarFault {
+            kind: JarFaultKind::LeadingContinuation,
+            line: 4,
+        }),
+    ),
+];
 
 #[test]
 fn records_are_lent(rt: HostRuntime) {
-    let text = b"A:\n  b \n\tc";
     for size in &SIZES {
-        let mut device = Device::new(Pieces::once(text, *size));
-        assert!(rt; is_lent(rt.alloc(), &mut device, &[("A", "b c")]), "{size}");
-    }
-}
-
-#[test]
-fn records_are_lent_in_pieces(rt: HostRuntime) {
-    for size in &SIZES {
-        let is_right = is_read_in_pieces(
-            rt.alloc(),
-            b"A:\n  b \n\tc",
-            *size,
-            &[("A", "b c")],
-            None,
-        );
-        assert!(rt; is_right, "{size}");
-    }
-}
-
-#[test]
-fn records_are_lent_before_a_fault(rt: HostRuntime) {
-    let text = b"Type: language\nSubtag: en\n%%\n  x";
-    let fields: Fields = &[("Type", "language"), ("Subtag", "en")];
-    let fault = JarFault {
-        kind: JarFaultKind::LeadingContinuation,
-        line: 4,
-    };
-    for size in &SIZES {
-        let is_right = is_read_in_pieces(rt.alloc(), text, *size, fields, Some(fault));
-        assert!(rt; is_right, "{size}");
+        for (text, fields, end) in &ONE_RECORD {
+            let mut device = Device::new(Pieces::once(text, *size));
+            let is_right = is_read_in_pieces(rt.alloc(), text, *size, fields, *end)
+                && is_lent(rt.alloc(), &mut device, fields, *end);
+            assert!(rt; is_right, "{size}");
+        }
     }
 }
 
