@@ -6,3 +6,4 @@ pub mod TextLemmas
 pub mod TakenLemmas
 pub mod PieceLemmas
 pub mod RunLemmas
+pub mod RecentLemmas

@@ -1,8 +1,11 @@
 -- Lines that are ended, and what is owed for them.
-use Rattle.std.proofs.Common.{◌≡◌, ◌≤◌, ◌<◌, ◌+◌, ◌++◌, ◌∷◌, ◌∙◌, ℕ, List, [], Bool, true, false, length, sym, ap, refl, arith, append_assoc, append-nil, length-append, suc, cond, take, drop, get_or, ◌-◌, add-one, take-append-drop}
+use Rattle.std.proofs.Common.{◌≡◌, ◌≢◌, ◌≤◌, ◌<◌, ◌+◌, ◌++◌, ◌∷◌, ◌∙◌, ℕ, List, [], Bool, true, false, length, sym, ap, refl, arith, append_assoc, append-nil, length-append, suc, cond, take, drop, get_or, ◌-◌, add-one, take-append-drop}
 use Rattle.std.specs.List.{AllByRecursion, concat, count_by}
 use Rattle.std.proofs.Math.Seq.{drop-cons}
-use Rattle.std.proofs.lemmas.List.{take_rest}
+use Rattle.std.proofs.lemmas.Bool.{eq-eqb}
+use Rattle.std.proofs.lemmas.List.{take_rest, length-take-le, get_or-take}
+use Rattle.std.proofs.lemmas.List.Elements.{All-from_get_or}
+use Rattle.memchr.specs.Find.{Nowhere, Passes, is_byte}
 use Rattle.std.proofs.lemmas.List.Folds.{concat-append}
 use Rattle.std.proofs.lemmas.List.Sums.{sum_by-append}
 use Rattle.lt_jar.proofs.CutLemmas.{lines_of-ended}
@@ -67,3 +70,10 @@ split_at text i below end =
     let next : drop (suc i) text ≡ drop (i + 1) text = ap (λ n. drop n text) (sym (add-one i)) in
     let back : drop i text ≡ 10 ∷ drop (i + 1) text = drop-cons text i 0 below ∙ ap (λ b. b ∷ drop (suc i) text) end ∙ ap (λ l. 10 ∷ l) next in
     sym (take-append-drop i text) ∙ ap (λ l. take i text ++ l) (back ∙ ap (λ l. 10 ∷ l) (sym (take_rest text (i + 1))))
+
+-- the bytes before the first line feed
+pub front_line : (text : List ℕ) (i : ℕ) → i ≤ length text → Nowhere (Passes (is_byte 10) text) 0 i → IsOneLine (take i text)
+front_line text i le none =
+    let long = length-take-le i text le in
+    All-from_get_or (λ byte. byte ≢ 10) (take i text) 0
+    (λ k inside e. none k (omega arith) (omega (arith, inside, long)) (eq-eqb (get_or text k 0) 10 (sym (get_or-take i text k 0 (omega (arith, inside, long))) ∙ e)))

@@ -101,11 +101,11 @@ turn_fails R contents piece front rest written old mid new before between last f
 -- the rest of the piece is kept
 pub turn_kept : {W : Type 0} (R : List EntryParts) (contents : W → Option (List ℕ)) (piece rest : List ℕ) (old now mid : Answering) (before after : Device W)
     → (t : PieceTurn R contents piece rest old now before after) → IsOneLine rest → mid.kept.items ≡ now.kept.items ++ take (longest_kept - length now.kept.items) rest
-    → mid.owed.items ≡ now.owed.items → mid.counts ≡ now.counts
+    → mid.owed.items ≡ now.owed.items → mid.counts ≡ now.counts → mid.recent ≡ now.recent
     → (bytes out : List ℕ) → IsTaken R bytes out old → IsTaken R (bytes ++ piece) (out ++ t.written) mid
-turn_kept R contents piece rest old now mid before after t one kept owed counts = λ bytes out old_taken.
+turn_kept R contents piece rest old now mid before after t one kept owed counts recent = λ bytes out old_taken.
     subst (λ (l : List ℕ). IsTaken R l (out ++ t.written) mid) (sym (joined bytes t.front rest piece t.split))
-    (taken_part R (bytes ++ t.front) (out ++ t.written) rest now mid (t.taken bytes out old_taken) one kept owed counts)
+    (taken_part R (bytes ++ t.front) (out ++ t.written) rest now mid (t.taken bytes out old_taken) one kept owed counts recent)
 
 -- the last write over the piece
 pub turn_last : {W : Type 0} (R : List EntryParts) (contents : W → Option (List ℕ)) (piece written : List ℕ) (old mid new : Answering) (before between last : Device W) (r : Result (Unit {0}) ToolFault)

@@ -6,6 +6,7 @@ use Rattle.lt_jar.specs.Devices.{HasFailed, after_reads, failures_of, inner_of, 
 use Rattle.lt_jar.specs.Lines.{lines_of}
 use Rattle.lt_jar.specs.Sources.{most_reads}
 use Rattle.lt_jar.specs.declared.devices.Device.{Device}
+use Rattle.lt_recent.specs.Recent.{IsBlank}
 use Rattle.lt_registry.specs.Parts.{EntryParts}
 use Rattle.lt_lines.specs.Answering.{FinishesLines, HasRoom, IsStop, IsTaken, TakesPiece}
 use Rattle.lt_lines.specs.Owed.{AreOwed, IsBegun, IsOwed, IsOwedToLastFeed}
@@ -15,6 +16,7 @@ use Rattle.lt_lines.specs.declared.faults.ToolFault.{ToolFault}
 use Rattle.lt_lines.specs.declared.faults.ToolFault.TheVariants as faults
 use Rattle.lt_lines.specs.declared.runs.Counts.{Counts}
 use Rattle.lt_lines.proofs.DeviceLemmas.{failed_from}
+use Rattle.lt_lines.proofs.RecentLemmas.{blank_recent}
 use Rattle.lt_lines.proofs.TakenLemmas.{begun_nothing, taken_room}
 use Rattle.std.proofs.Math.Seq.{take-append_seam}
 
@@ -43,8 +45,8 @@ pub record ReadsPiece {I : Type 0} (remaining : I → Option (List ℕ)) (before
   pub calls : reads_of after ≡ one_more (reads_of before)
   pub failures : failures_of after ≡ failures_of before
 
-nothing_taken : (R : List EntryParts) (state : Answering) → state.kept.items ≡ [] → state.owed.items ≡ [] → state.counts.lines ≡ 0 → state.counts.refused ≡ 0 → IsTaken R [] [] state
-nothing_taken R state kept owed lines refused = record {
+nothing_taken : (R : List EntryParts) (state : Answering) → state.kept.items ≡ [] → state.owed.items ≡ [] → state.counts.lines ≡ 0 → state.counts.refused ≡ 0 → IsBlank state.recent → IsTaken R [] [] state
+nothing_taken R state kept owed lines refused blank = record {
   lines = [];
   last = [];
   cut = refl;
@@ -56,16 +58,17 @@ nothing_taken R state kept owed lines refused = record {
   all = owed;
   count = lines;
   refused = refused;
+  recent = blank_recent R state.recent blank;
 }
 
 pub run_first : {I O : Type 0} (R : List EntryParts) (remaining : I → Option (List ℕ)) (contents : O → Option (List ℕ)) (input : Device I) (output : Device O) (state : Answering)
-    → state.kept.items ≡ [] → state.owed.items ≡ [] → state.counts.lines ≡ 0 → state.counts.refused ≡ 0 → RunTurn R remaining contents input input output output state 0
-run_first R remaining contents input output state kept owed lines refused = record {
+    → state.kept.items ≡ [] → state.owed.items ≡ [] → state.counts.lines ≡ 0 → state.counts.refused ≡ 0 → IsBlank state.recent → RunTurn R remaining contents input input output output state 0
+run_first R remaining contents input output state kept owed lines refused blank = record {
   read = [];
   written = [];
   consumes = Consumes-nil _;
   appends = Appends-nil _;
-  taken = nothing_taken R state kept owed lines refused;
+  taken = nothing_taken R state kept owed lines refused blank;
   emptied = owed;
   calls = refl;
   some = omega arith;

@@ -11,7 +11,7 @@ use Rattle.std.proofs.lemmas.List.{take-append-le}
 use Rattle.lt_jar.proofs.CutLemmas.{lines_of-last, lines_of-ended}
 use Rattle.lt_jar.specs.Lines.{content_of, lines_of}
 use Rattle.lt_registry.specs.Parts.{EntryParts}
-use Rattle.lt_lines.specs.Answering.{IsAnswered, IsTaken, KeepsLine, longest_kept, one_if}
+use Rattle.lt_lines.specs.Answering.{AreRecent, IsAnswered, IsTaken, KeepsLine, longest_kept, one_if}
 use Rattle.lt_lines.specs.Owed.{AreOwed, IsBegun, IsOneLine, IsOwed, IsOwedFor, ended, is_refusal}
 use Rattle.lt_lines.specs.DeviceOutput.{IsFrontOf}
 use Rattle.lt_lines.specs.declared.answering.Answering.{Answering}
@@ -53,8 +53,8 @@ nothing_kept kept (byte ∷ last) is none = absurd (omega (arith, ap length (sym
 pub taken_line : (R : List EntryParts) (bytes out part line : List ℕ) (old new : Answering) (refused : Bool) → IsTaken R bytes out old → IsOneLine part
     → ((last : List ℕ) → old.kept.items ≡ take longest_kept last → IsOwedFor R (content_of (last ++ part)) line)
     → new.owed.items ≡ old.owed.items ++ line → refused ≡ is_refusal line → new.kept.items ≡ [] → new.counts.lines ≡ old.counts.lines + 1
-    → new.counts.refused ≡ old.counts.refused + one_if refused → IsTaken R (bytes ++ (part ++ 10 ∷ [])) out new
-taken_line R bytes out part line old new refused t one owed_for grown refused_is none lines refusals =
+    → new.counts.refused ≡ old.counts.refused + one_if refused → AreRecent R new.recent → IsTaken R (bytes ++ (part ++ 10 ∷ [])) out new
+taken_line R bytes out part line old new refused t one owed_for grown refused_is none lines refusals recent =
     let whole = t.last ++ part in
     let split : (t.last ++ (part ++ 10 ∷ [])) ≡ whole ++ 10 ∷ [] = sym (append_assoc t.last part (10 ∷ [])) in
     record {
@@ -70,13 +70,14 @@ taken_line R bytes out part line old new refused t one owed_for grown refused_is
       all = ap (λ (l : List ℕ). out ++ l) grown ∙ sym (append_assoc out old.owed.items line) ∙ ap (λ (l : List ℕ). l ++ line) t.all ∙ sym (concat-last t.owed line);
       count = lines ∙ ap (λ (n : ℕ). n + 1) t.count ∙ sym (length-last t.owed line);
       refused = refusals ∙ ap (λ (n : ℕ). n + one_if refused) t.refused ∙ ap (λ (b : Bool). count_by is_refusal t.owed + one_if b) refused_is ∙ sym (count-last t.owed line);
+      recent = recent;
     }
 
 -- a line went on
 pub taken_part : (R : List EntryParts) (bytes out part : List ℕ) (old new : Answering) → IsTaken R bytes out old → IsOneLine part
     → new.kept.items ≡ old.kept.items ++ take (longest_kept - length old.kept.items) part → new.owed.items ≡ old.owed.items → new.counts ≡ old.counts
-    → IsTaken R (bytes ++ part) out new
-taken_part R bytes out part old new t one kept owed counts = record {
+    → new.recent ≡ old.recent → IsTaken R (bytes ++ part) out new
+taken_part R bytes out part old new t one kept owed counts recent = record {
   lines = t.lines;
   last = t.last ++ part;
   cut = ap (λ (l : List ℕ). l ++ part) t.cut ∙ append_assoc (ended t.lines) t.last part;
@@ -88,6 +89,7 @@ taken_part R bytes out part old new t one kept owed counts = record {
   all = ap (λ (l : List ℕ). out ++ l) owed ∙ t.all;
   count = ap (λ (c : Counts). c.lines) counts ∙ t.count;
   refused = ap (λ (c : Counts). c.refused) counts ∙ t.refused;
+  recent = subst (AreRecent R) (sym recent) t.recent;
 }
 
 -- some of what is owed was written
@@ -105,6 +107,7 @@ taken_write R bytes out part old new t same wrote = record {
   all = append_assoc out part new.owed.items ∙ ap (λ (l : List ℕ). out ++ l) (sym wrote) ∙ t.all;
   count = ap (λ (c : Counts). c.lines) same.counts ∙ t.count;
   refused = ap (λ (c : Counts). c.refused) same.counts ∙ t.refused;
+  recent = subst (AreRecent R) (sym same.recent) t.recent;
 }
 
 -- a front of what is owed was written, whatever follows

@@ -1,15 +1,16 @@
 -- How lines that come in pieces are answered.
-use Rattle.std.specs.Prelude.{◌≡◌, ◌<◌, ◌≤◌, ◌+◌, ◌^◌, ◌⊎◌, ℕ, Bool, true, false, List, [], ◌∷◌, ◌++◌, length, take, Option, MatchOption, Result, IfErr, IfOk}
+use Rattle.std.specs.Prelude.{◌≡◌, ◌<◌, ◌≤◌, ◌+◌, ◌^◌, ◌⊎◌, ℕ, Bool, true, false, List, [], ◌∷◌, ◌++◌, length, take, Option, Some, None, MatchOption, Result, IfErr, IfOk}
 use Rattle.std.specs.Borrow.{Bor}
-use Rattle.std.specs.List.{AllByRecursion, concat, count_by}
+use Rattle.std.specs.List.{All, AllByRecursion, concat, count_by}
 use Rattle.std.specs.Io.KnownBytes.{Appends}
 use Rattle.lt_jar.specs.Devices.{HasFailed, failures_of, inner_of}
-use Rattle.lt_jar.specs.Lines.{lines_of}
+use Rattle.lt_jar.specs.Lines.{content_of, lines_of}
 use Rattle.lt_jar.specs.declared.devices.Device.{Device}
 use Rattle.lt_registry.specs.Parts.{EntryParts}
 use Rattle.lt_canon.specs.declared.refusals.TextRefusal.{TextRefusal}
 use Rattle.lt_lines.specs.Owed.{IsRefusalLine, AreOwed, IsBegun, IsOneLine, IsOwed, IsOwedFor, ended, is_refusal}
 use Rattle.lt_lines.specs.DeviceOutput.{IsFrontOf}
+use Rattle.lt_recent.specs.declared.Kept.{Kept}
 use Rattle.lt_lines.specs.declared.answering.Answering.{Answering}
 use Rattle.lt_lines.specs.declared.runs.Counts.{Counts}
 use Rattle.lt_lines.specs.declared.faults.ToolFault.{ToolFault}
@@ -46,6 +47,15 @@ pub record AppendsOwed (R : List EntryParts) (P : List ℕ → Type 0) (old new 
   pub refused_is : refused ≡ is_refusal line
   pub owed_for : (text : List ℕ) → P text → IsOwedFor R text line
 
+-- the answer that a place has for a line is owed for the line
+abbrev pub IsRecent : List EntryParts → Option Kept → Type 0
+IsRecent R None = Unit {0}
+IsRecent R (Some kept) = IsOwedFor R (content_of kept.line) kept.answer × (kept.refused ≡ is_refusal kept.answer)
+
+-- each answer that was given lately is owed for its line
+pub record AreRecent (R : List EntryParts) (table : List (Option Kept)) : Type 0 where
+  pub each : All (IsRecent R) table
+
 -- These bytes were taken: their lines are answered, and the answers written or still kept.
 pub record IsTaken (R : List EntryParts) (bytes written : List ℕ) (state : Answering) : Type 0 where
   pub lines : List (List ℕ)
@@ -59,6 +69,7 @@ pub record IsTaken (R : List EntryParts) (bytes written : List ℕ) (state : Ans
   pub all : written ++ state.owed.items ≡ concat owed
   pub count : state.counts.lines ≡ length owed
   pub refused : state.counts.refused ≡ count_by is_refusal owed
+  pub recent : AreRecent R state.recent
 
 -- what is owed for these bytes is written or still kept
 pub record IsAnswered (R : List EntryParts) (bytes written : List ℕ) (state : Answering) : Type 0 where
@@ -73,10 +84,11 @@ pub record HasRoom (state : Answering) (lines : ℕ) : Type 0 where
   pub room : state.counts.lines + lines < 2 ^ 64
   pub refused : state.counts.refused ≤ state.counts.lines
 
--- what is kept of the line, and the counts, are the same
+-- what is kept of the line, the counts and the answers given lately are the same
 pub record KeepsLine (old new : Answering) : Type 0 where
   pub kept : new.kept.items ≡ old.kept.items
   pub counts : new.counts ≡ old.counts
+  pub recent : new.recent ≡ old.recent
 
 -- some of the lines that are owed were written
 pub record WritesOwed {W : Type 0} (contents : W → Option (List ℕ)) (old new : Answering) (before after : Device W)

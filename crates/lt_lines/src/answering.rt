@@ -1,17 +1,21 @@
 //! Answering lines that come in pieces.
 ghost use Rattle.std.specs.Prelude.{◌≡◌, ◌<◌, ◌≤◌, ◌+◌, ◌-◌, ◌++◌, ◌∷◌, ◌^◌, List, ℕ, [], IfOk, OnOk, length, take, vec_len};
 ghost use Rattle.lt_jar.specs.Lines.{content_of};
+ghost use Rattle.lt_recent.specs.Recent.{IsBlank};
 ghost use Rattle.lt_lines.specs.Owed.{IsOneLine, IsOwedFor};
 ghost use Rattle.lt_lines.specs.Answering as spec;
 
 use crate::answer_lines::append_answer;
 use crate::device_output::write_text;
 use crate::faults::ToolFault;
+use crate::recent_answers::append_again;
 use crate::runs::Counts;
 use lt_canon::Checked;
 use lt_jar::Device;
+use lt_recent::Recent;
 use lt_registry::Lookup;
 use lt_tag::OutOfMemory;
+use memchr::memchr;
 use std::alloc::{AllocError, Global};
 use std::io::Write;
 
@@ -30,18 +34,18 @@ pub(crate) struct Answering {
     /// Lines that are owed and not yet written.
     owed: Vec<u8>,
     counts: Counts,
+    /// Answers that were given lately.
+    recent: Recent,
 }
 
 /// What stands before the first line feed and behind it, if there is one.
 fn split_line(bytes: &[u8]) -> Option<(&[u8], &[u8])>
     ensures { spec.SplitsLine bytes.now result }
 {
-    for (i, byte) in bytes.iter().enumerate() {
-        if *byte == b'\n' {
-            return Some((&bytes[..i], &bytes[i + 1..]));
-        }
+    match memchr(b'\n', bytes) {
+        Some(index) => Some((&bytes[..index], &bytes[index + 1..])),
+        None => None,
     }
-    None
 }
 
 /// Keeps more of a line, as far as it is needed.
@@ -57,15 +61,17 @@ fn append_line<L: Lookup>(
     lines: &mut Vec<u8>,
     alloc: Global,
     checked: &Checked<L>,
+    recent: &mut Recent,
     kept: &mut Vec<u8>,
     part: &[u8],
 ) -> Result<bool, OutOfMemory>
-    ensures { IfOk result (spec.AppendsOwed (L.listed checked.now)
+    ensures owed { IfOk result (λ refused. spec.AreRecent (L.listed checked.now) recent.old → spec.AppendsOwed (L.listed checked.now)
         (λ text. (last : List ℕ) × (kept.old.items ≡ take spec.longest_kept last) × (text ≡ content_of (last ++ part.now)))
-        lines.old.items lines.new.items) }
+        lines.old.items lines.new.items refused) }
+    ensures recent { OnOk result (spec.AreRecent (L.listed checked.now) recent.old → spec.AreRecent (L.listed checked.now) recent.new) }
 {
     if kept.is_empty() {
-        return append_answer(lines, alloc, checked, part);
+        return append_again(lines, alloc, checked, recent, part);
     }
     keep(kept, part)?;
     append_answer(lines, alloc, checked, kept)
@@ -76,6 +82,7 @@ impl Answering {
     pub(crate) fn new(alloc: Global) -> Answering
         ensures items { (result.kept.items ≡ []) × (result.owed.items ≡ []) }
         ensures counts { (result.counts.lines ≡ 0) × (result.counts.refused ≡ 0) }
+        ensures recent { IsBlank result.recent }
     {
         Answering {
             kept: Vec::new(alloc),
@@ -84,6 +91,7 @@ impl Answering {
                 lines: 0,
                 refused: 0,
             },
+            recent: Recent::new(alloc),
         }
     }
 
@@ -100,7 +108,14 @@ impl Answering {
         ensures kept { OnOk result (self.new.kept.items ≡ []) }
         ensures counted { OnOk result ((self.new.counts.lines ≡ self.old.counts.lines + 1) × (self.new.counts.refused ≤ self.new.counts.lines)) }
     {
-        let refused = append_line(&mut self.owed, alloc, checked, &mut self.kept, part)?;
+        let refused = append_line(
+            &mut self.owed,
+            alloc,
+            checked,
+            &mut self.recent,
+            &mut self.kept,
+            part,
+        )?;
         self.counts.count(refused);
         self.kept.clear();
         Ok(())

@@ -5,6 +5,7 @@ mod answer_lines;
 mod answering;
 mod device_output;
 mod faults;
+mod recent_answers;
 mod runs;
 
 pub use answer_lines::append_refusal;

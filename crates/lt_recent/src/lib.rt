@@ -13,8 +13,8 @@ pub use short_texts::ShortText;
 use std::alloc::{AllocError, Global};
 use std::marker::Model;
 
-/// How many places the table has. Each takes some 90 bytes.
-const PLACES: usize = 4096;
+/// How many places the table has. Each takes 96 bytes.
+const PLACES: usize = 8192;
 
 /// An answer, the line that it was given to, and whether it is a refusal.
 #[derive(Drop)]

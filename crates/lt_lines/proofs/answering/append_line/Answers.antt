@@ -18,22 +18,22 @@ for_more R P Q old new more refused a = record {
   owed_for = λ text q. more text a.line q a.owed_for;
 }
 
-pub returns-then-is_empty : goal.returns-then-is_empty
-returns-then-is_empty g c =
+pub returns-then-is_empty-clause-owed : goal.returns-then-is_empty-clause-owed
+returns-then-is_empty-clause-owed g c =
     let R = g.L.Lookup.listed c.args.checked.now in
     let part = c.args.part.now in
     let none = no_items c.args.kept.now.items (vec_len c.args.kept.now) c.args.kept.now.ok.0 (sym c.is_empty.ensures ∙ c.if-is_empty.true) in
-    IfOk-weaker c.append_answer.result _ _ (for_more R _ _ _ _ (λ text line q owed.
-    owed text (q.2 ∙ ap (λ (l : List ℕ). content_of (l ++ part)) (nothing_kept c.args.kept.now.items q.0 q.1 none)))) c.append_answer.ensures
+    IfOk-weaker c.append_again.result _ _ (λ refused owes recent. for_more R _ _ _ _ (λ text line q owed.
+    owed text (q.2 ∙ ap (λ (l : List ℕ). content_of (l ++ part)) (nothing_kept c.args.kept.now.items q.0 q.1 none))) refused (owes recent)) c.append_again.ensures.owed
 
-pub returns : goal.returns
-returns g c =
+pub returns-clause-owed : goal.returns-clause-owed
+returns-clause-owed g c =
     let R = g.L.Lookup.listed c.args.checked.now in
     let part = c.args.part.now in
     let old = c.args.kept.now in
     let kept : c.keep.new.kept.items ≡ old.items ++ take (longest_kept - length old.items) part =
     c.in_ok-keep.ensures ∙ ap (λ (n : ℕ). old.items ++ take (longest_kept - n) part) old.ok.0 in
-    IfOk-weaker c.append_answer-2.result _ _ (for_more R _ _ _ _ (λ text line q owed.
+    IfOk-weaker c.append_answer.result _ _ (λ refused owes recent. for_more R _ _ _ _ (λ text line q owed.
     let front = kept_more c.args.kept.now.items q.0 part c.keep.new.kept.items q.1 kept in
     subst (λ (l : List ℕ). IsOwedFor R l line) (sym q.2) (owed_for_front R (q.0 ++ part) line
-    (owed (content_of (take longest_kept (q.0 ++ part))) (ap content_of (sym front ∙ sym c.deref.ensures.value)))))) c.append_answer-2.ensures
+    (owed (content_of (take longest_kept (q.0 ++ part))) (ap content_of (sym front ∙ sym c.deref.ensures.value))))) refused owes) c.append_answer.ensures

@@ -13,7 +13,7 @@ pub loop-turn-init : goal.loop-turn-init
 loop-turn-init g c =
     let new = c.new-answering.ensures in
     record {
-      turn = run_first (g.L.Lookup.listed c.args.checked.now) g.R.Read.remaining g.W.Write.contents c.args.input.now c.args.output.now c.new-answering.result new.items.0 new.items.1 new.counts.0 new.counts.1;
+      turn = run_first (g.L.Lookup.listed c.args.checked.now) g.R.Read.remaining g.W.Write.contents c.args.input.now c.args.output.now c.new-answering.result new.items.0 new.items.1 new.counts.0 new.counts.1 new.recent;
       buffer = sym c.in_ok-buffer.buffer.ok.0 ∙ c.in_ok-buffer.ensures.len;
     }
 

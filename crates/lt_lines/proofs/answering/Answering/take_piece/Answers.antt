@@ -32,7 +32,7 @@ pub returns-in_err-keep : goal.returns-in_err-keep
 returns-in_err-keep g c =
     let R = g.L.Lookup.listed c.args.checked.now in
     let p = err_from_is_err_and c.from_residual-in_err-keep.result c.from_residual-in_err-keep.ensures.1 in
-    let new : Answering = record { kept = c.keep.new.kept; owed = c.loop-line.self.owed; counts = c.loop-line.self.counts } in
+    let new : Answering = record { kept = c.keep.new.kept; owed = c.loop-line.self.owed; counts = c.loop-line.self.counts; recent = c.loop-line.self.recent } in
     rw (p.1, p.2) (turn_lacks R g.W.Write.contents c.args.piece.now c.loop-line.rest.now c.args.self.now c.loop-line.self new c.args.output.now c.loop-line.output c.loop-line.invariant)
 
 pub returns : goal.returns
@@ -40,10 +40,10 @@ returns g c =
     let R = g.L.Lookup.listed c.args.checked.now in
     let turn = c.loop-line.invariant in
     let now = c.loop-line.self in
-    let mid : Answering = record { kept = c.keep.new.kept; owed = now.owed; counts = now.counts } in
+    let mid : Answering = record { kept = c.keep.new.kept; owed = now.owed; counts = now.counts; recent = now.recent } in
     let rest = c.loop-line.rest.now in
     let one : IsOneLine rest = c.in_default.ensures in
     let kept : c.keep.new.kept.items ≡ now.kept.items ++ take (longest_kept - length now.kept.items) rest =
     c.in_ok-keep.ensures ∙ ap (λ (n : ℕ). now.kept.items ++ take (longest_kept - n) rest) now.kept.ok.0 in
     turn_last R g.W.Write.contents c.args.piece.now turn.written c.args.self.now mid c.write.new.self c.args.output.now c.loop-line.output c.write.new.output c.write.result turn.appends turn.failures
-    (turn_kept R g.W.Write.contents c.args.piece.now rest c.args.self.now now mid c.args.output.now c.loop-line.output turn one kept refl refl) c.write.ensures.writes c.write.ensures.emptied
+    (turn_kept R g.W.Write.contents c.args.piece.now rest c.args.self.now now mid c.args.output.now c.loop-line.output turn one kept refl refl refl) c.write.ensures.writes c.write.ensures.emptied

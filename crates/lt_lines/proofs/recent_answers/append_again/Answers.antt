@@ -1,0 +1,13 @@
+use Rattle.std.proofs.Common.{◌≡◌, ◌∙◌, length, drop, ap}
+use Rattle.std.proofs.lemmas.List.{take_rest}
+use Rattle.lt_lines.proofs.RecentLemmas.{put_answer}
+use Rattle.lt_lines.proofs.recent_answers.append_again.Goals as goal
+
+pub returns-clause-recent : goal.returns-clause-recent
+returns-clause-recent g c = λ recent.
+    let R = g.L.Lookup.listed c.args.checked.now in
+    let old = c.args.lines.now.items in
+    let new = c.append_answer.new.lines.items in
+    let start : c.len-start.result ≡ length old = c.len-start.ensures ∙ c.args.lines.now.ok.0 in
+    put_answer R c.args.recent.now c.put.new.self c.args.line.now old new _ c.in_ok-refused.refused c.put.ensures
+    (take_rest c.deref.result.now c.len-start.result ∙ ap (drop c.len-start.result) c.deref.ensures.value ∙ ap (λ n. drop n new) start) c.in_ok-refused.ensures recent
