@@ -4,6 +4,7 @@ ghost use Rattle.lt_tag.specs.Parts.{LangTag};
 ghost use Rattle.lt_tag.specs.Values.{IsTagValue, core_of};
 ghost use Rattle.lt_registry.specs.Validity.{IsValid};
 ghost use Rattle.lt_rewrite.specs.Conditions.{HasEndingChain};
+ghost use Rattle.lt_rewrite.specs.Shortcuts.{AreShortcuts};
 ghost use Rattle.lt_check.specs.Conditions.{plain, IsValidPlain, IsChecked};
 ghost use Rattle.lt_canon.specs.Answers.{IsCanonicalFormOf, RefusesOnlyRepeats};
 ghost use Rattle.lt_canon.specs.Refusals.{NamesFault};
@@ -16,8 +17,8 @@ use crate::repeats::{second_in_sources, second_occurrence};
 use crate::usual_tags::{is_core_valued, usual_core};
 use lt_check::Checked;
 use lt_registry::{Lookup, validate};
+use lt_rewrite::Shortcuts;
 use lt_rewrite::values::whole_value;
-use lt_rewrite::{settle_core, settle_extensions};
 use lt_subtag::Subtag;
 use lt_tag::{Core, Extension, OutOfMemory, Tag, copy_extensions, copy_subtags};
 use std::alloc::Global;
@@ -54,23 +55,30 @@ pub(crate) fn other_form<L: Lookup>(
     ensures { IsCanonicalAnswer (L.listed checked.now) tag.now (or_same tag.now result) }
 {
     let table = checked.table();
+    let shortcuts = checked.shortcuts();
     if let Some(core) = usual_core(tag) {
-        return form_of_usual(alloc, table, tag, core);
+        return form_of_usual(alloc, table, shortcuts, tag, core);
     }
     validate(alloc, table, tag)?;
     let Some(core) = tag.core() else {
-        return form_of_coreless(alloc, table, tag);
+        return form_of_coreless(alloc, table, shortcuts, tag);
     };
     let (extensions, private) = (tag.extensions(), tag.private());
     if extensions.is_empty() && private.is_empty() {
-        return Ok(Some(form_of_core(alloc, table, core)?));
+        return Ok(Some(form_of_core(alloc, table, shortcuts, core)?));
     }
-    let form = form_of_langtag(alloc, table, core, extensions, private)?;
+    let form = form_of_langtag(alloc, table, shortcuts, core, extensions, private)?;
     Ok(Some(form))
 }
 
 /// The canonical form of a valid grandfathered or private use tag, or none where that is the tag itself.
-fn form_of_coreless<L: Lookup>(alloc: Global, table: &L, tag: &Tag) -> Result<Option<Tag>, Refusal>
+fn form_of_coreless<L: Lookup>(
+    alloc: Global,
+    table: &L,
+    shortcuts: &Shortcuts,
+    tag: &Tag,
+) -> Result<Option<Tag>, Refusal>
+    requires shortcuts { AreShortcuts (L.listed table.now) shortcuts.now }
     requires checked { IsChecked (L.listed table.now) }
     requires valid { IsValid (L.listed table.now) tag.now }
     requires coreless { core_of tag.now ≡ None }
@@ -80,7 +88,7 @@ fn form_of_coreless<L: Lookup>(alloc: Global, table: &L, tag: &Tag) -> Result<Op
         return Ok(None);
     }
     match whole_value(table, tag) {
-        Some(value) => Ok(Some(settled_value(alloc, table, value)?)),
+        Some(value) => Ok(Some(settled_value(alloc, table, shortcuts, value)?)),
         None => Ok(None),
     }
 }
@@ -90,9 +98,11 @@ fn form_of_coreless<L: Lookup>(alloc: Global, table: &L, tag: &Tag) -> Result<Op
 fn form_of_usual<L: Lookup>(
     alloc: Global,
     table: &L,
+    shortcuts: &Shortcuts,
     tag: &Tag,
     core: &Core,
 ) -> Result<Option<Tag>, Refusal>
+    requires shortcuts { AreShortcuts (L.listed table.now) shortcuts.now }
     requires checked { IsChecked (L.listed table.now) }
     requires tag { IsTagValue tag.now }
     requires usual { IsUsual core.now }
@@ -100,24 +110,30 @@ fn form_of_usual<L: Lookup>(
     ensures { IsCanonicalAnswer (L.listed table.now) tag.now (or_same tag.now result) }
 {
     if is_core_valued(table, core)? {
-        return Ok(Some(form_of_core(alloc, table, core)?));
+        return Ok(Some(form_of_core(alloc, table, shortcuts, core)?));
     }
     match whole_value(table, tag) {
-        Some(value) => Ok(Some(settled_value(alloc, table, value)?)),
+        Some(value) => Ok(Some(settled_value(alloc, table, shortcuts, value)?)),
         None => Ok(None),
     }
 }
 
 /// The canonical form of the valid langtag of a core alone.
-fn form_of_core<L: Lookup>(alloc: Global, table: &L, core: &Core) -> Result<Tag, Refusal>
+fn form_of_core<L: Lookup>(
+    alloc: Global,
+    table: &L,
+    shortcuts: &Shortcuts,
+    core: &Core,
+) -> Result<Tag, Refusal>
+    requires shortcuts { AreShortcuts (L.listed table.now) shortcuts.now }
     requires checked { IsChecked (L.listed table.now) }
     requires valid { IsValid (L.listed table.now) (plain core.now) }
     ensures { IsCanonicalAnswer (L.listed table.now) (plain core.now) result }
 {
-    let settled = settled_core(alloc, table, core)?;
+    let settled = settled_core(alloc, table, shortcuts, core)?;
     let tag = Tag::from_parts(settled, Vec::new(alloc), Vec::new(alloc));
     match whole_value(table, &tag) {
-        Some(value) => Ok(settled_value(alloc, table, value)?),
+        Some(value) => Ok(settled_value(alloc, table, shortcuts, value)?),
         None => Ok(tag),
     }
 }
@@ -127,18 +143,20 @@ fn form_of_core<L: Lookup>(alloc: Global, table: &L, core: &Core) -> Result<Tag,
 fn form_of_langtag<L: Lookup>(
     alloc: Global,
     table: &L,
+    shortcuts: &Shortcuts,
     core: &Core,
     extensions: &[Extension],
     private: &[Subtag],
 ) -> Result<Tag, Refusal>
+    requires shortcuts { AreShortcuts (L.listed table.now) shortcuts.now }
     requires checked { IsChecked (L.listed table.now) }
     requires valid { IsValid (L.listed table.now) (LangTag core.now extensions.now private.now) }
     requires some { 0 < length extensions.now + length private.now }
     ensures { IsCanonicalAnswer (L.listed table.now) (LangTag core.now extensions.now private.now) result }
 {
-    let settled = settled_core(alloc, table, core)?;
+    let settled = settled_core(alloc, table, shortcuts, core)?;
     let mut others = copy_extensions(alloc, extensions)?;
-    settle_extensions(alloc, table, &mut others)?;
+    shortcuts.settle_extensions(alloc, table, &mut others)?;
     if let Some(variant) = second_in_sources(alloc, &others)? {
         return Err(Refusal::ReplacementRepeats(variant));
     }
@@ -146,13 +164,19 @@ fn form_of_langtag<L: Lookup>(
 }
 
 /// A core in its core normal form, unless a variant stands twice there.
-fn settled_core<L: Lookup>(alloc: Global, table: &L, core: &Core) -> Result<Core, Refusal>
-    requires { All (HasEndingChain (L.listed table.now)) (L.listed table.now) }
+fn settled_core<L: Lookup>(
+    alloc: Global,
+    table: &L,
+    shortcuts: &Shortcuts,
+    core: &Core,
+) -> Result<Core, Refusal>
+    requires shortcuts { AreShortcuts (L.listed table.now) shortcuts.now }
+    requires chains { All (HasEndingChain (L.listed table.now)) (L.listed table.now) }
     ensures form { IfOk result (λ form. IsDistinctForm (L.listed table.now) core.now form) }
     ensures refusal { IfErr result (λ refusal. IsCoreRefusal (L.listed table.now) core.now refusal) }
 {
     let mut settled = core.copy(alloc)?;
-    settle_core(table, &mut settled);
+    shortcuts.settle_core(table, &mut settled);
     match second_occurrence(settled.variants()) {
         Some(variant) => Err(Refusal::ReplacementRepeats(variant)),
         None => Ok(settled),
@@ -160,7 +184,13 @@ fn settled_core<L: Lookup>(alloc: Global, table: &L, core: &Core) -> Result<Core
 }
 
 /// The value of a whole record with its core in core normal form.
-fn settled_value<L: Lookup>(alloc: Global, table: &L, value: &Tag) -> Result<Tag, OutOfMemory>
+fn settled_value<L: Lookup>(
+    alloc: Global,
+    table: &L,
+    shortcuts: &Shortcuts,
+    value: &Tag,
+) -> Result<Tag, OutOfMemory>
+    requires shortcuts { AreShortcuts (L.listed table.now) shortcuts.now }
     requires checked { IsChecked (L.listed table.now) }
     requires plain { IsValidPlain (L.listed table.now) value.now }
     ensures { IfOk result (λ settled. IsSettledValue (L.listed table.now) value.now settled) }
@@ -169,6 +199,6 @@ fn settled_value<L: Lookup>(alloc: Global, table: &L, value: &Tag) -> Result<Tag
         return value.copy(alloc);
     };
     let mut settled = core.copy(alloc)?;
-    settle_core(table, &mut settled);
+    shortcuts.settle_core(table, &mut settled);
     Ok(Tag::from_parts(settled, Vec::new(alloc), Vec::new(alloc)))
 }

@@ -1,7 +1,8 @@
 -- What a walk over the records finds.
 use Rattle.std.specs.Prelude.{ℕ, ◌≤◌, Bool, true, false, List, Option, Some, None, All}
 use Rattle.lt_registry.specs.Parts.{EntryParts}
-use Rattle.lt_check.specs.Conditions.{Meets, IsAtFault, Passes, IsFinding}
+use Rattle.lt_rewrite.specs.Shortcuts.{AreShortcuts}
+use Rattle.lt_check.specs.Conditions.{Meets, IsAtFault, Passes, IsFinding, IsChecked}
 use Rattle.lt_check.specs.declared.conditions.Condition.{Condition}
 use Rattle.lt_check.specs.declared.conditions.Condition.TheVariants as conditions
 use Rattle.lt_check.specs.declared.rejections.Finding.{Finding}
@@ -33,3 +34,8 @@ IsVerdict R (Some finding) = IsFinding R finding.condition finding.number
 abbrev pub IsCause : List EntryParts → RejectedCause → Type 0
 IsCause R (causes.Finding finding) = IsFinding R finding.condition finding.number
 IsCause R causes.OutOfMemory = Unit {0}
+
+-- a table that passes the check, and shortcuts along its chains
+pub record IsCheckedAlong (R : List EntryParts) (shortcuts : List ℕ) : Type 0 where
+  pub checked : IsChecked R
+  pub shortcuts : AreShortcuts R shortcuts

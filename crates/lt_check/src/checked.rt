@@ -1,5 +1,6 @@
 //! A table of entries that passes the check.
 ghost use Rattle.std.specs.Prelude.{◌≡◌, IfOk, IfErr};
+ghost use Rattle.lt_rewrite.specs.Shortcuts.{AreShortcuts};
 ghost use Rattle.lt_check.specs.Conditions.{IsChecked, Passes};
 ghost use Rattle.lt_check.specs.Checking.{IsCause};
 
@@ -7,6 +8,7 @@ use crate::checking::find_fault;
 use crate::rejections::{Rejected, RejectedCause};
 use crate::whole_checks::know_entries;
 use lt_registry::Lookup;
+use lt_rewrite::Shortcuts;
 use std::alloc::Global;
 use std::marker::Model;
 
@@ -14,16 +16,17 @@ use std::marker::Model;
 #[derive(Drop)]
 pub struct Checked<L: Lookup> {
     table: L,
+    shortcuts: Shortcuts,
 }
 
 impl<L: Lookup> Model for Checked<L> {
-    ghost use Rattle.lt_check.specs.Conditions.{IsChecked};
+    ghost use Rattle.lt_check.specs.Checking.{IsCheckedAlong};
 
     ghost Value = { L };
 
     ghost view = { λ c. c.table };
 
-    ghost invariant = { λ c. IsChecked (L.listed c.table) };
+    ghost invariant = { λ c. IsCheckedAlong (L.listed c.table) c.shortcuts };
 }
 
 impl<L: Lookup> Checked<L> {
@@ -38,8 +41,14 @@ impl<L: Lookup> Checked<L> {
         ensures cause { IfErr result (λ rejected. IsCause (L.listed table) rejected.cause) }
     {
         know_entries(&table);
-        let cause = match find_fault(alloc, &table) {
-            Ok(None) => return Ok(Checked { table }),
+        let Ok(shortcuts) = Shortcuts::of_table(alloc, &table) else {
+            return Err(Rejected {
+                table,
+                cause: RejectedCause::OutOfMemory,
+            });
+        };
+        let cause = match find_fault(alloc, &table, &shortcuts) {
+            Ok(None) => return Ok(Checked { table, shortcuts }),
             Ok(Some(finding)) => RejectedCause::Finding(finding),
             Err(_) => RejectedCause::OutOfMemory,
         };
@@ -52,5 +61,12 @@ impl<L: Lookup> Checked<L> {
         ensures checked { IsChecked (L.listed self.now) }
     {
         &self.table
+    }
+
+    /// Shortcuts to the ends of the table's chains of values.
+    pub fn shortcuts(&self) -> &Shortcuts
+        ensures { AreShortcuts (L.listed self.now) result.now }
+    {
+        &self.shortcuts
     }
 }

@@ -122,12 +122,13 @@ fn lowest_fault<L: Lookup>(
 pub(crate) fn find_fault<L: Lookup>(
     alloc: Global,
     table: &L,
+    shortcuts: &Shortcuts,
 ) -> Result<Option<Finding>, OutOfMemory>
+    requires { AreShortcuts (L.listed table.now) shortcuts.now }
     ensures { IfOk result (IsVerdict (L.listed table.now)) }
 {
-    let shortcuts = Shortcuts::of_table(alloc, table)?;
     for condition in IN_ORDER {
-        if let Some(number) = lowest_fault(alloc, table, &shortcuts, condition)? {
+        if let Some(number) = lowest_fault(alloc, table, shortcuts, condition)? {
             return Ok(Some(Finding { condition, number }));
         }
     }

@@ -1,14 +1,16 @@
 //! The normal forms of `u` and `t` extensions (RFC 5646, 4.5; RFC 6067; RFC 6497).
-ghost use Rattle.std.specs.Prelude.{◌≡◌, ◌≤◌, List, All, IsOk, map, length};
+ghost use Rattle.std.specs.Prelude.{◌≡◌, ◌≤◌, List, All, IfSome, IsOk, map, length};
 ghost use Rattle.lt_tag.specs.Extensions.{spell_u, IsU, spell_t, IsT};
 ghost use Rattle.lt_rewrite.specs.Rewriting.{IsNormalForm};
 ghost use Rattle.lt_registry.specs.Entries.{IsRegistry};
 ghost use Rattle.lt_rewrite.specs.Extensions.{UnicodeStep, TransformStep};
 ghost use Rattle.lt_rewrite.specs.Conditions.{HasEndingChain};
 ghost use Rattle.lt_rewrite.specs.ExtensionSettling.{untrue};
+ghost use Rattle.lt_rewrite.specs.Shortcuts.{AreShortcuts};
 
-use crate::core_settling::settle_core;
+use crate::core_settling::settle_along;
 use crate::part_ordering::put_in_order;
+use crate::shortcuts::Shortcuts;
 use lt_registry::Lookup;
 use lt_tag::{Keyword, OutOfMemory, TParts, UParts};
 use std::alloc::Global;
@@ -49,6 +51,25 @@ pub fn settle_u(_alloc: Global, parts: &mut UParts) -> Result<(), OutOfMemory>
     Ok(())
 }
 
+/// Puts the parts of a `t` extension into their normal form, by shortcuts along the chains if there are some.
+pub(crate) fn settle_transform<L: Lookup>(
+    table: &L,
+    shortcuts: Option<&Shortcuts>,
+    parts: &mut TParts,
+)
+    requires chains { All (HasEndingChain (L.listed table.now)) (L.listed table.now) }
+    requires shortcuts { IfSome shortcuts (λ s. AreShortcuts (L.listed table.now) s.now) }
+    ensures settled { IsNormalForm (TransformStep (L.listed table.now)) parts.old parts.new }
+    ensures shaped { IsT parts.old → IsT parts.new }
+    ensures few { length (spell_t parts.new) ≤ length (spell_t parts.old) }
+{
+    recall_forms(table);
+    put_in_order(&mut parts.fields, false);
+    if let Some(source) = &mut parts.source {
+        settle_along(table, shortcuts, source);
+    }
+}
+
 /// Puts the parts of a `t` extension into their normal form: the source is put into its core normal
 /// form, and the fields into the order of their separators, where those of one separator keep their
 /// order. The values of a field keep theirs. What could be joined before can be joined again. The
@@ -61,10 +82,6 @@ pub fn settle_t<L: Lookup>(_alloc: Global, table: &L, parts: &mut TParts) -> Res
     ensures few { length (spell_t parts.new) ≤ length (spell_t parts.old) }
     ensures ok { IsOk result }
 {
-    recall_forms(table);
-    put_in_order(&mut parts.fields, false);
-    if let Some(source) = &mut parts.source {
-        settle_core(table, source);
-    }
+    settle_transform(table, None, parts);
     Ok(())
 }

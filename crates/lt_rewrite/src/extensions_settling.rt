@@ -9,9 +9,11 @@ ghost use Rattle.lt_rewrite.specs.Rewriting.{IsNormalForm};
 ghost use Rattle.lt_rewrite.specs.Extensions.{ExtensionsStep};
 ghost use Rattle.lt_rewrite.specs.Conditions.{HasEndingChain};
 ghost use Rattle.lt_rewrite.specs.ExtensionsSettling.{Settles, placed};
+ghost use Rattle.lt_rewrite.specs.Shortcuts.{AreShortcuts};
 
-use crate::extension_settling::{recall_forms, settle_t, settle_u};
+use crate::extension_settling::{recall_forms, settle_transform, settle_u};
 use crate::part_ordering::put_in_order;
+use crate::shortcuts::Shortcuts;
 use lt_registry::Lookup;
 use lt_tag::{Extension, OutOfMemory, TransformFault, join_t, join_u, split_t, split_u};
 use std::alloc::Global;
@@ -44,8 +46,10 @@ fn settled_unicode(
 fn settled_transform<L: Lookup>(
     alloc: Global,
     table: &L,
+    shortcuts: Option<&Shortcuts>,
     extensions: &[Extension],
 ) -> Result<Option<(usize, Extension)>, OutOfMemory>
+    requires shortcuts { IfSome shortcuts (λ s. AreShortcuts (L.listed table.now) s.now) }
     requires chains { All (HasEndingChain (L.listed table.now)) (L.listed table.now) }
     requires transforms { AllByRecursion (λ (e : ExtensionParts). e.singleton ≡ transform → (p : TForm) × IsTransform e.subtags p) extensions.now }
     ensures { IfOk result (Settles (L.listed table.now) transform extensions.now) }
@@ -59,7 +63,7 @@ fn settled_transform<L: Lookup>(
         Err(TransformFault::BadTransform) => unreachable!(),
     };
     recall_forms(table);
-    settle_t(alloc, table, &mut parts)?;
+    settle_transform(table, shortcuts, &mut parts);
     Ok(Some((place, join_t(alloc, &parts)?)))
 }
 
@@ -71,6 +75,28 @@ pub(crate) fn put_back(extensions: &mut Vec<Extension>, settled: Option<(usize, 
     if let Some((place, extension)) = settled {
         extensions[place] = extension;
     }
+}
+
+/// Puts a list of extensions into its normal form, by shortcuts along the chains if there are some.
+pub(crate) fn settle_all<L: Lookup>(
+    alloc: Global,
+    table: &L,
+    shortcuts: Option<&Shortcuts>,
+    extensions: &mut Vec<Extension>,
+) -> Result<(), OutOfMemory>
+    requires shortcuts { IfSome shortcuts (λ s. AreShortcuts (L.listed table.now) s.now) }
+    requires chains { All (HasEndingChain (L.listed table.now)) (L.listed table.now) }
+    requires singletons { Distinct (map (λ (e : ExtensionParts). e.singleton) extensions.old.items) }
+    requires transforms { AllByRecursion (λ (e : ExtensionParts). e.singleton ≡ transform → (p : TForm) × IsTransform e.subtags p) extensions.old.items }
+    ensures ok { IfOk result (λ _. IsNormalForm (ExtensionsStep (L.listed table.now)) extensions.old.items extensions.new.items) }
+    ensures err { OnErr result (extensions.new ≡ extensions.old) }
+{
+    let unicode = settled_unicode(alloc, extensions)?;
+    let transform = settled_transform(alloc, table, shortcuts, extensions)?;
+    put_back(extensions, unicode);
+    put_back(extensions, transform);
+    put_in_order(extensions, false);
+    Ok(())
 }
 
 /// Puts a list of extensions into its normal form: the `u` and the `t` extension come to theirs, and
@@ -89,10 +115,5 @@ pub fn settle_extensions<L: Lookup>(
     ensures ok { IfOk result (λ _. IsNormalForm (ExtensionsStep (L.listed table.now)) extensions.old.items extensions.new.items) }
     ensures err { OnErr result (extensions.new ≡ extensions.old) }
 {
-    let unicode = settled_unicode(alloc, extensions)?;
-    let transform = settled_transform(alloc, table, extensions)?;
-    put_back(extensions, unicode);
-    put_back(extensions, transform);
-    put_in_order(extensions, false);
-    Ok(())
+    settle_all(alloc, table, None, extensions)
 }

@@ -1,6 +1,11 @@
 //! Shortcuts along the chains of values of a table's records (RFC 5646, 3.1.7).
-ghost use Rattle.std.specs.Prelude.{◌≡◌, ◌+◌, ◌≤◌, ◌<◌, true, Some, ℕ, List, All, IfOk, OnErr, Contains, length, IsTrue, ◌↔◌};
-ghost use Rattle.std.specs.List.{slice_get};
+ghost use Rattle.std.specs.Prelude.{◌≡◌, ◌+◌, ◌≤◌, ◌<◌, true, Some, ℕ, List, All, IfOk, OnErr, Contains, length, map, IsTrue, ◌↔◌};
+ghost use Rattle.std.specs.List.{slice_get, AllByRecursion};
+ghost use Rattle.lt_tag.specs.Parts.{ExtensionParts, TForm};
+ghost use Rattle.lt_tag.specs.Extensions.{transform, IsTransform};
+ghost use Rattle.lt_registry.specs.Validity.{Distinct};
+ghost use Rattle.lt_rewrite.specs.Rewriting.{IsNormalForm};
+ghost use Rattle.lt_rewrite.specs.Extensions.{ExtensionsStep};
 ghost use Rattle.lt_registry.specs.Parts.{EntryParts};
 ghost use Rattle.lt_registry.specs.Entries.{NumbersRise, has_form};
 ghost use Rattle.lt_rewrite.specs.CoreSteps.{values_of, Ends, EndsIn, IsCoreNormalForm};
@@ -11,10 +16,11 @@ ghost use Rattle.lt_rewrite.specs.Shortcuts.{IsOnward, IsShortcut, LeadOn, AreSh
 
 use crate::chain_ends::{Cycle, following, next_value, replacement};
 use crate::core_settling::settle_along;
+use crate::extensions_settling::settle_all;
 use crate::values::one_value;
 use lt_registry::{Entry, Kind, Lookup};
 use lt_subtag::Subtag;
-use lt_tag::Core;
+use lt_tag::{Core, Extension, OutOfMemory};
 use std::alloc::{AllocError, Global};
 use std::marker::Model;
 
@@ -126,6 +132,25 @@ impl Shortcuts {
         ensures { IsCoreNormalForm (values_of (L.listed table.now)) core.old core.new }
     {
         settle_along(table, Some(self), core);
+    }
+
+    /// Puts a list of extensions into its normal form as
+    /// [`settle_extensions`](crate::settle_extensions) does, by the shortcuts of the table: each
+    /// singleton stands once, a `t` extension has the form of one, and the chains of the registry end.
+    pub fn settle_extensions<L: Lookup>(
+        &self,
+        alloc: Global,
+        table: &L,
+        extensions: &mut Vec<Extension>,
+    ) -> Result<(), OutOfMemory>
+        requires shortcuts { AreShortcuts (L.listed table.now) self.now }
+        requires chains { All (HasEndingChain (L.listed table.now)) (L.listed table.now) }
+        requires singletons { Distinct (map (λ (e : ExtensionParts). e.singleton) extensions.old.items) }
+        requires transforms { AllByRecursion (λ (e : ExtensionParts). e.singleton ≡ transform → (p : TForm) × IsTransform e.subtags p) extensions.old.items }
+        ensures ok { IfOk result (λ _. IsNormalForm (ExtensionsStep (L.listed table.now)) extensions.old.items extensions.new.items) }
+        ensures err { OnErr result (extensions.new ≡ extensions.old) }
+    {
+        settle_all(alloc, table, Some(self), extensions)
     }
 }
 

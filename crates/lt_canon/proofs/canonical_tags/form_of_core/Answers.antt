@@ -9,8 +9,8 @@ use Rattle.lt_check.proofs.CheckedRegistry.{value_plain}
 use Rattle.lt_canon.proofs.CanonicalForms.{core_refused, form_spells_none, core_value_canonical, core_canonical}
 use Rattle.lt_canon.proofs.canonical_tags.form_of_core.Goals as goal
 
-pub settled_core-requires : goal.settled_core-requires
-settled_core-requires g c = c.requires.checked.passes conditions.EndingChain
+pub settled_core-requires-clause-chains : goal.settled_core-requires-clause-chains
+settled_core-requires-clause-chains g c = c.requires.checked.passes conditions.EndingChain
 
 pub returns-in_err-settled : goal.returns-in_err-settled
 returns-in_err-settled g c =

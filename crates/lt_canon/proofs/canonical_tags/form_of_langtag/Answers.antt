@@ -13,8 +13,8 @@ use Rattle.lt_check.specs.declared.conditions.Condition.TheVariants as condition
 use Rattle.lt_canon.proofs.CanonicalForms.{transforms_have_parts, core_refused, form_count, form_some, langtag_canonical, source_refused}
 use Rattle.lt_canon.proofs.canonical_tags.form_of_langtag.Goals as goal
 
-pub settled_core-requires : goal.settled_core-requires
-settled_core-requires g c = c.requires.checked.passes conditions.EndingChain
+pub settled_core-requires-clause-chains : goal.settled_core-requires-clause-chains
+settled_core-requires-clause-chains g c = c.requires.checked.passes conditions.EndingChain
 
 pub returns-in_err-settled : goal.returns-in_err-settled
 returns-in_err-settled g c =

@@ -6,8 +6,8 @@ use Rattle.lt_check.specs.declared.conditions.Condition.TheVariants as condition
 use Rattle.lt_canon.proofs.CanonicalForms.{plain_of_core, form_spells_none}
 use Rattle.lt_canon.proofs.canonical_tags.settled_value.Goals as goal
 
-pub settle_core-requires : goal.settle_core-requires
-settle_core-requires g c = c.requires.checked.passes conditions.EndingChain
+pub settle_core-requires-clause-chains : goal.settle_core-requires-clause-chains
+settle_core-requires-clause-chains g c = c.requires.checked.passes conditions.EndingChain
 
 pub from_parts-requires-clause-not_grandfathered :
     goal.from_parts-requires-clause-not_grandfathered

@@ -30,5 +30,5 @@ returns g c =
       from = e;
       there = c.index-extensions-place.is;
       of_singleton = found.of_singleton;
-      normal = subst (IsNormalForm (ExtensionStep R) e) (sym c.in_ok-join_t.ensures) (transform_settled R c.recall_forms.ensures e c.in-Ok.parts c.settle_t.new.parts found.of_singleton c.in-Ok.ensures.parts c.settle_t.ensures.settled);
+      normal = subst (IsNormalForm (ExtensionStep R) e) (sym c.in_ok-join_t.ensures) (transform_settled R c.recall_forms.ensures e c.in-Ok.parts c.settle_transform.new.parts found.of_singleton c.in-Ok.ensures.parts c.settle_transform.ensures.settled);
     }

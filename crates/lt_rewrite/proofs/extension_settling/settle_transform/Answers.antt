@@ -5,8 +5,8 @@ use Rattle.lt_rewrite.specs.Rewriting.{IsNormalForm}
 use Rattle.lt_rewrite.specs.Orderings.{ListStep}
 use Rattle.lt_rewrite.specs.Extensions.{separator_cmp, TransformStep}
 use Rattle.lt_rewrite.proofs.ExtensionSettled.{SourceSettles, transform_settles, transform_kept, transform_no_more}
-use Rattle.lt_rewrite.proofs.extension_settling.settle_t.Goals as goal
-use Rattle.lt_rewrite.proofs.extension_settling.settle_t.Goals.{in-Some, in_default}
+use Rattle.lt_rewrite.proofs.extension_settling.settle_transform.Goals as goal
+use Rattle.lt_rewrite.proofs.extension_settling.settle_transform.Goals.{in-Some, in_default}
 
 pub returns-clause-settled : goal.returns-clause-settled
 returns-clause-settled g c =
@@ -18,8 +18,8 @@ returns-clause-settled g c =
     elim c.match-parts.branch [
       | in-Some w ↦
           subst (IsNormalForm (TransformStep R) p) (sym (ap the_view w.parts-inside-is))
-          (transform_settles R p (record { source = Some w.settle_core.new.core; fields = c.put_in_order.new.parts.items })
-          (subst (λ (o : Option CoreParts). SourceSettles R o (Some w.settle_core.new.core)) (sym w.in-Some.is ∙ source) w.settle_core.ensures) fields)
+          (transform_settles R p (record { source = Some w.settle_along.new.core; fields = c.put_in_order.new.parts.items })
+          (subst (λ (o : Option CoreParts). SourceSettles R o (Some w.settle_along.new.core)) (sym w.in-Some.is ∙ source) w.settle_along.ensures) fields)
       | in_default w ↦
           subst (IsNormalForm (TransformStep R) p) (sym (ap the_view w.parts-inside-is))
           (transform_settles R p (record { source = c.parts.inside.source; fields = c.put_in_order.new.parts.items })
