@@ -36,6 +36,6 @@ IsCause R (causes.Finding finding) = IsFinding R finding.condition finding.numbe
 IsCause R causes.OutOfMemory = Unit {0}
 
 -- a table that passes the check, and shortcuts along its chains
-pub record IsCheckedAlong (R : List EntryParts) (shortcuts : List ℕ) : Type 0 where
+pub record IsCheckedAlong (R : List EntryParts) (places : List ℕ) : Type 0 where
   pub checked : IsChecked R
-  pub shortcuts : AreShortcuts R shortcuts
+  pub shortcuts : AreShortcuts R places
