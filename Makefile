@@ -2,7 +2,7 @@
 
 PREFIX ?= /usr/local
 
-.PHONY: all test statement bench growth install clean
+.PHONY: all test statement bench hostile growth install clean
 
 # Proves each crate that changed, and builds the program: `rt run` proves, builds and runs it.
 all:
@@ -10,9 +10,13 @@ all:
 	mkdir -p build
 	cp crates/langtag/out/langtag build/langtag
 
-# Proves everything from nothing, and runs each test.
+# Proves everything from nothing, and runs each test; then the program on real files and streams, and README's commands.
 test:
 	rt ci
+	mkdir -p build
+	cp crates/langtag/out/langtag build/langtag
+	tests/program.sh
+	tests/fresh.sh
 
 # Counts what has to be believed: the definitions that the headline reaches. It needs no toolchain.
 statement:
@@ -21,6 +25,10 @@ statement:
 # Measures the program that `make` built, over a registry of IANA's size; it takes some seconds.
 bench:
 	bench/run.sh
+
+# Measures the program on registries and lines that are made against it; it takes some minutes.
+hostile:
+	bench/hostile.py build/langtag
 
 # Refuses each growth of memory in turn, in the tests that are meant for it and in the program. `rt test` proves the tests
 # of a crate, where they changed, and leaves them in out/.
