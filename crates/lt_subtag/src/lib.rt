@@ -1,16 +1,18 @@
 //! Subtags of BCP 47 language tags: 1 to 8 letters or digits, whose case doesn't matter.
 #![tactic(auto)]
 
-ghost use Rattle.std.specs.Prelude.{◌≡◌, ◌≤◌, ◌<◌, [], ◌∷◌, ◌++◌, true, length, take, drop};
+ghost use Rattle.std.specs.Prelude.{◌≡◌, ◌≤◌, ◌<◌, [], ◌∷◌, ◌++◌, true, length, take, drop, Err};
 ghost use Rattle.std.specs.List.{list_all};
 ghost use Rattle.std.specs.Char.{is_ascii_alphanumeric};
-ghost use Rattle.lt_subtag.specs.Bytes.{is_subtag, folded, upper};
+ghost use Rattle.lt_subtag.specs.Bytes.{is_subtag, upper};
 ghost use Rattle.lt_subtag.specs.Shapes as shapes;
 ghost use Rattle.lt_subtag.specs.Reading.{subtag_of};
 ghost use Rattle.lt_subtag.specs.Reading as reading;
 
+mod lanes;
 pub mod laws;
 
+use crate::lanes::fold;
 use arrayvec::ArrayVec;
 use std::marker::Model;
 
@@ -89,15 +91,13 @@ impl Subtag {
         if bytes.is_empty() {
             return Err(SubtagFault::Empty);
         }
-        if !is_alphanumeric(bytes) {
-            return Err(SubtagFault::BadByte);
-        }
         if bytes.len() > 8 {
-            return Err(SubtagFault::TooLong);
+            return Err(long_fault(bytes));
         }
-        Ok(Subtag {
-            letters: lower_case(bytes),
-        })
+        match fold(bytes) {
+            Some(letters) => Ok(Subtag { letters }),
+            None => Err(SubtagFault::BadByte),
+        }
     }
 
     /// The lower-case bytes, 1 to 8 of them.
@@ -149,7 +149,7 @@ impl Subtag {
     pub fn is_extlang(&self) -> bool
         ensures { result ≡ shapes.is_extlang self.now }
     {
-        is_alphabetic(self.letters.as_slice()) && self.letters.len() == 3
+        self.letters.len() == 3 && is_alphabetic(self.letters.as_slice())
     }
 
     /// Whether it has the form of a script: 4 letters (RFC 5646, 2.2.3).
@@ -157,7 +157,7 @@ impl Subtag {
     pub fn is_script(&self) -> bool
         ensures { result ≡ shapes.is_script self.now }
     {
-        is_alphabetic(self.letters.as_slice()) && self.letters.len() == 4
+        self.letters.len() == 4 && is_alphabetic(self.letters.as_slice())
     }
 
     /// Whether it has the form of a region: 2 letters or 3 digits (RFC 5646, 2.2.4).
@@ -166,7 +166,7 @@ impl Subtag {
         ensures { result ≡ shapes.is_region self.now }
     {
         let bytes = self.letters.as_slice();
-        is_alphabetic(bytes) && bytes.len() == 2 || is_numeric(bytes) && bytes.len() == 3
+        bytes.len() == 2 && is_alphabetic(bytes) || bytes.len() == 3 && is_numeric(bytes)
     }
 
     /// Whether it has the form of a variant: 5 or more letters or digits, or 4 of which the first is a
@@ -231,16 +231,16 @@ fn is_numeric(bytes: &[u8]) -> bool
     bytes.iter().all(|byte| byte.is_ascii_digit())
 }
 
-/// The bytes with their letters in lower case.
-fn lower_case(bytes: &[u8]) -> ArrayVec<u8, 8>
-    requires { length bytes.now ≤ 8 }
-    ensures { result.items ≡ folded bytes.now }
+/// The fault of a piece of more than 8 bytes.
+fn long_fault(bytes: &[u8]) -> SubtagFault
+    requires { 8 < length bytes.now }
+    ensures { Err result ≡ subtag_of bytes.now }
 {
-    let mut letters = ArrayVec::new();
-    for byte in bytes {
-        letters.push(byte.to_ascii_lowercase());
+    if is_alphanumeric(bytes) {
+        SubtagFault::TooLong
+    } else {
+        SubtagFault::BadByte
     }
-    letters
 }
 
 /// The bytes with the first so many in upper case.

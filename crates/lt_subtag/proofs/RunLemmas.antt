@@ -1,0 +1,39 @@
+-- What the run of letters and digits at the front says of a piece.
+use Rattle.std.proofs.Common.{◌≡◌, ℕ, ◌<◌, ◌≤◌, ◌-◌, Bool, true, false, List, length, take, get_or, replicate, refl, sym, ap, ◌∙◌, subst, arith}
+use Rattle.std.specs.List.{list_all, prefix_len}
+use Rattle.std.specs.Char.{is_ascii_alphanumeric, to_ascii_lowercase}
+use Rattle.std.proofs.lemmas.List.{length-take-le, length-append, length-replicate, get_or-take, get_or_append_left, take-take, take_at, take-map}
+use Rattle.std.proofs.lemmas.List.Folds.{list_all_at}
+use Rattle.std.proofs.lemmas.List.Sums.{list_all-from_AllPass, prefix_len_passes, prefix_len_stops, prefix_len-le-length}
+use Rattle.std.proofs.lemmas.List.Elements.{All-from_get_or}
+use Rattle.lt_subtag.specs.Bytes.{folded}
+use Rattle.lt_subtag.specs.Lanes.{padded}
+
+-- each byte of a run passes
+pub run_passes : (p : ℕ → Bool) (v : List ℕ) (n : ℕ) → n ≤ prefix_len p v → list_all p (take n v) ≡ true
+run_passes p v n le =
+    let long = length-take-le n v (omega (arith, prefix_len-le-length p v)) in
+    list_all-from_AllPass p (take n v)
+    (All-from_get_or (λ x. p x ≡ true) (take n v) 0
+    (λ k inside. subst (λ x. p x ≡ true) (sym (get_or-take n v k 0 (omega arith))) (prefix_len_passes p v k 0 (omega arith))))
+
+length_padded : (s : List ℕ) → length s ≤ 8 → length (padded s) ≡ 8
+length_padded s few = length-append s (replicate (8 - length s) 0) ∙ omega (arith, length-replicate {A = ℕ} (8 - length s) 0)
+
+pub front_padded : (s : List ℕ) → length s ≤ 8 → take (length s) (take 8 (padded s)) ≡ s
+front_padded s few = take-take (length s) 8 (padded s) few ∙ take_at s (replicate (8 - length s) 0) (length s) refl
+
+pub padded_passes : (s : List ℕ) (r : ℕ) → length s ≤ 8 → r ≡ prefix_len is_ascii_alphanumeric (take 8 (padded s)) → length s ≤ r → list_all is_ascii_alphanumeric s ≡ true
+padded_passes s r few is le =
+    subst (λ xs. list_all is_ascii_alphanumeric xs ≡ true) (front_padded s few) (run_passes is_ascii_alphanumeric (take 8 (padded s)) (length s) (omega arith))
+
+pub padded_fails : (s : List ℕ) (r : ℕ) → length s ≤ 8 → r ≡ prefix_len is_ascii_alphanumeric (take 8 (padded s)) → r < length s → list_all is_ascii_alphanumeric s ≡ false
+padded_fails s r few is lt =
+    let v = take 8 (padded s) in
+    let long = length-take-le 8 (padded s) (omega (arith, length_padded s few)) in
+    let stop = subst (λ k. is_ascii_alphanumeric (get_or v k 0) ≡ false) (sym is) (prefix_len_stops is_ascii_alphanumeric v 0 (omega arith)) in
+    let at = get_or-take 8 (padded s) r 0 (omega arith) ∙ get_or_append_left s (replicate (8 - length s) 0) 0 r lt in
+    list_all_at is_ascii_alphanumeric s r 0 lt (subst (λ x. is_ascii_alphanumeric x ≡ false) at stop)
+
+pub fold_padded : (s : List ℕ) → length s ≤ 8 → take (length s) (folded (take 8 (padded s))) ≡ folded s
+fold_padded s few = take-map to_ascii_lowercase (length s) (take 8 (padded s)) ∙ ap folded (front_padded s few)

@@ -1,0 +1,72 @@
+//! Up to eight bytes of a text, looked at all at once.
+ghost use Rattle.std.specs.Prelude.{◌≡◌, ◌≤◌, ◌<◌, true, false, length, take, IfSome, IfNone};
+ghost use Rattle.std.specs.List.{list_all, prefix_len};
+ghost use Rattle.std.specs.Char.{is_ascii_alphanumeric};
+ghost use Rattle.lt_subtag.specs.Bytes.{folded};
+ghost use Rattle.lt_subtag.specs.Lanes.{padded, first_set};
+
+use arrayvec::ArrayVec;
+use std::simd::prelude::*;
+
+/// The lowest bit that is set, or this many lanes.
+#[inline(always)]
+fn first_set(mask: u64, lanes: usize) -> usize
+    ensures { result ≡ first_set mask lanes }
+{
+    if mask == 0 {
+        lanes
+    } else {
+        mask.trailing_zeros() as usize
+    }
+}
+
+/// The bytes, and then zeros up to eight.
+#[inline(always)]
+fn pad(bytes: &[u8]) -> [u8; 8]
+    requires { length bytes.now ≤ 8 }
+    ensures { result ≡ padded bytes.now }
+{
+    let mut letters = [0; 8];
+    letters[..bytes.len()].copy_from_slice(bytes);
+    letters
+}
+
+/// How many of the first eight bytes are letters and digits before another comes.
+#[inline(always)]
+fn run_of_8(text: &[u8]) -> usize
+    requires { 8 ≤ length text.now }
+    ensures { result ≡ prefix_len is_ascii_alphanumeric (take 8 text.now) }
+{
+    let v = u8x8::from_slice(text);
+    let no_letter = ((v | u8x8::splat(0x20)) - u8x8::splat(b'a')).simd_ge(u8x8::splat(26));
+    let no_digit = (v - u8x8::splat(b'0')).simd_ge(u8x8::splat(10));
+    first_set((no_letter & no_digit).to_bitmask(), 8)
+}
+
+/// The first eight bytes with their letters in lower case.
+#[inline(always)]
+fn fold_8(text: &[u8]) -> [u8; 8]
+    requires { 8 ≤ length text.now }
+    ensures { result ≡ folded (take 8 text.now) }
+{
+    let v = u8x8::from_slice(text);
+    let no_capital = (v - u8x8::splat(b'A')).simd_ge(u8x8::splat(26));
+    no_capital.select(v, v | u8x8::splat(0x20)).to_array()
+}
+
+/// The bytes in lower case, exactly if they are letters and digits alone.
+#[inline(always)]
+pub(crate) fn fold(bytes: &[u8]) -> Option<ArrayVec<u8, 8>>
+    requires { length bytes.now ≤ 8 }
+    ensures good { IfSome result (λ letters. list_all is_ascii_alphanumeric bytes.now ≡ true) }
+    ensures folded { IfSome result (λ letters. letters.items ≡ folded bytes.now) }
+    ensures bad { IfNone result (list_all is_ascii_alphanumeric bytes.now ≡ false) }
+{
+    let padded = pad(bytes);
+    if run_of_8(&padded) < bytes.len() {
+        return None;
+    }
+    let mut letters = ArrayVec::from(fold_8(&padded));
+    letters.truncate(bytes.len());
+    Some(letters)
+}
