@@ -26,6 +26,19 @@ lines_of-last (byte ∷ next ∷ line) one some =
     let tail = All-tail IsNoEnd byte (next ∷ line) one in
     begins byte (next ∷ line) (All-head IsNoEnd byte (next ∷ line) one) ∙ ap (begin_first byte) (lines_of-last (next ∷ line) tail (omega arith))
 
+-- what begins the first line goes on with the bytes that follow
+pub first_goes_on : (byte : ℕ) (line more : List ℕ) → IsOneLine (byte ∷ line)
+    → (front : List ℕ) × (after : List (List ℕ)) × (lines_of ((byte ∷ line) ++ more) ≡ ((byte ∷ line) ++ front) ∷ after)
+first_goes_on byte [] more one = by_lines (lines_of more) refl
+  where
+    by_lines : (lines : List (List ℕ)) → lines_of more ≡ lines
+        → (front : List ℕ) × (after : List (List ℕ)) × (lines_of (byte ∷ more) ≡ (byte ∷ front) ∷ after)
+    by_lines [] is = ([], [], begins byte more (All-head IsNoEnd byte [] one) ∙ ap (begin_first byte) is)
+    by_lines (front ∷ after) is = (front, after, begins byte more (All-head IsNoEnd byte [] one) ∙ ap (begin_first byte) is)
+first_goes_on byte (next ∷ line) more one =
+    let rest = first_goes_on next line more (All-tail IsNoEnd byte (next ∷ line) one) in
+    (rest.0, rest.1, begins byte ((next ∷ line) ++ more) (All-head IsNoEnd byte (next ∷ line) one) ∙ ap (begin_first byte) rest.2)
+
 pub whole_line : (text : List ℕ) (i : ℕ) → i ≡ length text → IsOneLine (take i text) → IsOneLine text
 whole_line text i all one = subst IsOneLine (ap (λ n. take n text) all ∙ take-length text) one
 

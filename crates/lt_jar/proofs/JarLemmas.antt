@@ -8,7 +8,7 @@ use Rattle.lt_jar.specs.Records.{Field, HasRecords, IsWithin}
 use Rattle.lt_jar.specs.Faults.{IsReached, IsTheFault}
 use Rattle.lt_jar.specs.Lending.{CutsRecord, IsSound}
 use Rattle.lt_jar.specs.Reading.{going_on, rest_of, steps, take_line}
-use Rattle.lt_jar.specs.Pieces.{Finishes, StopsAt, StopsAtLast, TakesAll, TakesRecord, fields_in, last_line}
+use Rattle.lt_jar.specs.Pieces.{Finishes, RefusesFirst, StopsAt, StopsAtLast, TakesAll, TakesRecord, fields_in, last_line}
 use Rattle.lt_jar.specs.Views.{IsFaultOf, IsSaid}
 use Rattle.lt_jar.specs.declared.engine.Engine.{Engine}
 use Rattle.lt_jar.specs.declared.faults.JarFaultKind.{JarFaultKind}
@@ -128,7 +128,8 @@ pub text_stops : (text rest : List ℕ) (records : List (List Field)) (now new :
 text_stops text rest records now new kind turn stops =
     let ran = ap (λ f. steps now.ended (going_on f) stops.lines) (sym turn.fields) ∙ stops.ran in
     let bytes = ap (λ l. l ++ rest) (sym turn.empty) ∙ stops.bytes in
-    said_of text rest records now kind new.line stops.lines stops.tail stops.wrong stops.after stops.fields turn stops.each bytes stops.cut ran stops.said stops.line
+    let first = subst (λ t. RefusesFirst now.ended stops.fields t kind) (append-nil stops.tail) (stops.refused []) in
+    said_of text rest records now kind new.line stops.lines stops.tail first.line first.after stops.fields turn stops.each bytes first.cut ran first.said stops.line
 
 -- all lines are read but the last, which nothing ends
 pub record TextTaken (text rest : List ℕ) (records : List (List Field)) (now mid : Engine) : Type 0 where

@@ -1,6 +1,6 @@
 -- What was lent since the start is that of the bytes that were read since the start.
-use Rattle.std.proofs.Common.{◌≡◌, ◌∙◌, ◌++◌, ◌∷◌, ℕ, List, [], Option, sym, ap, subst, append_assoc, length, ◌+◌, arith, length-append}
-use Rattle.lt_jar.specs.Lines.{whole_lines}
+use Rattle.std.proofs.Common.{◌≡◌, ◌∙◌, ◌++◌, ◌∷◌, inl, inr, ℕ, List, [], Option, sym, ap, subst, append_assoc, length, ◌+◌, arith, length-append}
+use Rattle.lt_jar.specs.Lines.{HoldsOfWhole, whole_lines}
 use Rattle.lt_jar.specs.Records.{Field, HasRecords, IsWithin}
 use Rattle.lt_jar.specs.Faults.{Fault, IsReached, IsTheFault}
 use Rattle.lt_jar.specs.Lending.{BreaksOff, CutsRecord, IsCutShort, IsSound}
@@ -62,13 +62,25 @@ lent_last {bytes} {read} {records} {more} {old} lent lends =
 line_number : (kept now lines number : ℕ) → now + 1 ≡ kept + number → kept ≡ lines + 1 → lines + number ≡ now
 line_number kept now lines number line at = omega (arith, line, at)
 
--- The fault of a call is that of the whole text.
-pub lent_fault : {bytes : List ℕ} {records : List (List Field)} {old : JarSource} {fault : Fault} {number : ℕ} (read : List ℕ) (new : JarSource) → HasLent bytes records old
+-- The fault of what a call read is that of all that was read.
+fault_so_far : {bytes : List ℕ} {records : List (List Field)} {old : JarSource} {fault : Fault} {number : ℕ} (read : List ℕ) (new : JarSource) → HasLent bytes records old
     → IsTheFault (lent_by old) (kept_in old ++ read) fault number → line_of_kept new + 1 ≡ line_of_kept old + number → IsTheFault 0 (bytes ++ read) fault (line_of_kept new)
-lent_fault {bytes} {records} {old} {fault} {number} read new lent is line =
+fault_so_far {bytes} {records} {old} {fault} {number} read new lent is line =
     let rest = kept_in old ++ read in
     let there = fault_on lent.lines records rest fault number (front_of lent) (subst (λ n. IsTheFault n rest fault number) lent.counted is) in
     subst (IsTheFault 0 (bytes ++ read) fault) (line_number _ _ _ number line lent.line) (subst (λ t. IsTheFault 0 t fault (length lent.lines + number)) (sym (text_is read lent)) there)
+
+-- The fault of a call is that of the whole text.
+pub lent_fault : {bytes : List ℕ} {records : List (List Field)} {old : JarSource} {fault : Fault} {number : ℕ} {ended : Type 0} (read : List ℕ) (new : JarSource) → HasLent bytes records old
+    → HoldsOfWhole (λ text. IsTheFault (lent_by old) text fault number) ended (kept_in old ++ read) → line_of_kept new + 1 ≡ line_of_kept old + number
+    → HoldsOfWhole (λ text. IsTheFault 0 text fault (line_of_kept new)) ended (bytes ++ read)
+lent_fault {bytes} {records} {old} {fault} {number} {ended} read new lent is line =
+    elim is [
+      | inl each ↦ inl (λ more.
+          let there = subst (λ t. IsTheFault (lent_by old) t fault number) (append_assoc (kept_in old) read more) (each more) in
+          subst (λ t. IsTheFault 0 t fault (line_of_kept new)) (sym (append_assoc bytes read more)) (fault_so_far (read ++ more) new lent there line))
+      | inr over ↦ inr (over.0, fault_so_far read new lent over.1 line)
+    ]
 
 -- A line that a call reached is one of the whole text.
 pub lent_reached : {bytes : List ℕ} {records : List (List Field)} {old : JarSource} {number : ℕ} (read : List ℕ) (new : JarSource) → HasLent bytes records old → IsReached (lent_by old) (kept_in old ++ read) number
@@ -94,6 +106,7 @@ lent_cut {bytes} {records} {old} {number} read new lent cut line =
       each = each-append lent.lines cut.lines lent.each cut.each;
       rest = cut.rest;
       one = cut.one;
+      short = cut.short;
       bytes = text_is read lent ∙ ap (λ l. whole_lines lent.lines ++ l) cut.bytes ∙ sym (append_assoc (whole_lines lent.lines) (whole_lines cut.lines) cut.rest) ∙ ap (λ l. l ++ cut.rest) (sym all);
       sound = subst (IsSound 0) (sym all) (sound_on lent.lines records (whole_lines cut.lines) (front_of lent) sound);
       counted = omega (arith, line, lent.line, cut.counted, length-append lent.lines cut.lines);

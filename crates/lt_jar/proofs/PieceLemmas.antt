@@ -1,5 +1,5 @@
 -- What the turns over a piece keep, and how they end.
-use Rattle.std.proofs.Common.{◌≡◌, ◌≢◌, ◌==◌, ◌↔◌, Bool, true, false, not, ◌≤◌, ◌+◌, ◌++◌, ◌∷◌, ◌∙◌, ℕ, List, [], Result, Ok, Err, length, sym, ap, refl, subst, arith, append_assoc, append-nil, add-zero, length-append}
+use Rattle.std.proofs.Common.{◌≡◌, ◌≢◌, ◌==◌, ◌↔◌, ◌⊎◌, inl, inr, Bool, true, false, not, ◌≤◌, ◌<◌, ◌+◌, ◌++◌, ◌∷◌, ◌∙◌, ℕ, List, [], Result, Ok, Err, length, sym, ap, refl, subst, arith, append_assoc, append-nil, add-zero, length-append}
 use Rattle.std.specs.List.{AllByRecursion}
 use Rattle.std.proofs.lemmas.Bool.{eqb-true, eqb-false}
 use Rattle.std.proofs.lemmas.List.{nil_from_length}
@@ -7,16 +7,18 @@ use Rattle.std.proofs.lemmas.Grind.{flat_map-append}
 use Rattle.std.proofs.lemmas.List.Elements.{All-append, All-nil}
 use Rattle.lt_jar.specs.Lines.{IsOneLine, lines_of, whole_lines}
 use Rattle.lt_jar.specs.Records.{Field}
-use Rattle.lt_jar.specs.Faults.{Fault}
+use Rattle.lt_jar.specs.Limits.{longest_line}
+use Rattle.lt_jar.specs.Faults.{Fault, LineTooLong}
 use Rattle.lt_jar.specs.Reading.{Ends, Going, GoesOn, Taken, finished, going_on, rest_of, on_going, on_taken, steps, take_line}
-use Rattle.lt_jar.specs.Pieces.{Finishes, GoesOver, StopsAt, last_line, TakesAll, TakesRecord, fields_in}
-use Rattle.lt_jar.specs.Views.{IsSaid, taken_in}
+use Rattle.lt_jar.specs.Pieces.{Finishes, GoesOver, RefusesFirst, StopsAt, last_line, TakesAll, TakesRecord, fields_in}
+use Rattle.lt_jar.specs.Views.{IsSaid, fault_in, taken_in}
 use Rattle.lt_jar.specs.declared.engine.Engine.{Engine}
 use Rattle.lt_jar.specs.declared.faults.JarFaultKind.{JarFaultKind}
+use Rattle.lt_jar.specs.declared.faults.JarFaultKind.TheVariants as kinds
 use Rattle.lt_jar.specs.declared.drafts.Progress.{Progress}
 use Rattle.lt_jar.specs.declared.drafts.Progress.TheVariants as progress
-use Rattle.lt_jar.proofs.CutLemmas.{lines_of-ended, lines_of-last}
-use Rattle.lt_jar.proofs.TakeLemmas.{line_ends}
+use Rattle.lt_jar.proofs.CutLemmas.{first_goes_on, lines_of-ended, lines_of-last}
+use Rattle.lt_jar.proofs.TakeLemmas.{line_ends, take_line-too_long}
 
 abbrev pub IsNoFeed : ℕ → Type 0
 IsNoFeed byte = byte ≢ 10
@@ -144,31 +146,48 @@ turn_ends old now new piece rest line after turn cut one said same ended counted
     }
 
 -- a line of the piece stops it
-pub turn_stops : (old now new : Engine) (piece rest wrong tail : List ℕ) (after : List (List ℕ)) (kind : JarFaultKind) → PieceTurn old now piece rest → tail ≡ now.partial.items ++ rest → lines_of tail ≡ wrong ∷ after
-    → IsSaid kind (take_line now.ended (fields_in now) wrong) → new.ended ≡ now.ended → new.line ≡ now.line → IsOneLine new.partial.items → StopsAt old new piece kind
-turn_stops old now new piece rest wrong tail after kind turn is cut said ended counted begun = record {
+pub turn_stops : (old now new : Engine) (piece rest : List ℕ) (kind : JarFaultKind) → PieceTurn old now piece rest → ((more : List ℕ) → RefusesFirst now.ended (fields_in now) ((now.partial.items ++ rest) ++ more) kind)
+    → new.ended ≡ now.ended → new.line ≡ now.line → IsOneLine new.partial.items → StopsAt old new piece kind
+turn_stops old now new piece rest kind turn refused ended counted begun = record {
   lines = turn.lines;
   each = turn.over.each;
   fields = fields_in now;
   ran = turn.over.ran;
-  tail = tail;
-  wrong = wrong;
-  after = after;
-  cut = cut;
-  said = subst (λ n. IsSaid kind (take_line n (fields_in now) wrong)) turn.over.ended said;
-  bytes = turn.bytes ∙ ap (λ l. whole_lines turn.lines ++ l) (sym is);
+  tail = now.partial.items ++ rest;
+  refused = λ more. subst (λ n. RefusesFirst n (fields_in now) ((now.partial.items ++ rest) ++ more) kind) turn.over.ended (refused more);
+  bytes = turn.bytes;
   room = omega (arith, counted, turn.room);
   line = counted ∙ turn.over.line;
   ended = ended ∙ turn.over.ended;
   begun = begun;
 }
 
--- the first line of what is left, where its line feed is there
-pub first_line : (partial line rest after : List ℕ) → IsOneLine partial → IsOneLine line → rest ≡ line ++ 10 ∷ after → lines_of (partial ++ rest) ≡ (partial ++ line) ∷ lines_of after
-first_line partial line rest after begun one cut =
-    ap lines_of (ap (λ l. partial ++ l) cut ∙ sym (append_assoc partial line (10 ∷ after))) ∙ lines_of-ended (partial ++ line) after (All-append IsNoFeed partial line begun one)
+-- the first line of what is left is refused, whose line feed is there
+pub first_refused : (ended : ℕ) (fields : List Field) (partial line rest after more : List ℕ) (kind : JarFaultKind) → IsOneLine partial → IsOneLine line → rest ≡ line ++ 10 ∷ after
+    → IsSaid kind (take_line ended fields (partial ++ line)) → RefusesFirst ended fields ((partial ++ rest) ++ more) kind
+first_refused ended fields partial line rest after more kind begun one cut said = record {
+  line = partial ++ line;
+  after = lines_of (after ++ more);
+  cut = ap (λ l. lines_of ((partial ++ l) ++ more)) cut ∙ ap (λ l. lines_of (l ++ more)) (sym (append_assoc partial line (10 ∷ after)))
+      ∙ ap lines_of (append_assoc (partial ++ line) (10 ∷ after) more) ∙ lines_of-ended (partial ++ line) (after ++ more) (All-append IsNoFeed partial line begun one);
+  said = said;
+}
 
--- and where it is not
+-- and one whose line feed is not there: it is too long, or memory ran out
+pub unended_refused : (ended : ℕ) (fields : List Field) (line more : List ℕ) (kind : JarFaultKind) → IsOneLine line → line ≢ [] → (kind ≡ kinds.OutOfMemory) ⊎ ((kind ≡ kinds.LineTooLong) × (longest_line < length line))
+    → RefusesFirst ended fields (line ++ more) kind
+unended_refused ended fields [] more kind one some why = absurd (some refl)
+unended_refused ended fields (byte ∷ line) more kind one some why =
+    let first = first_goes_on byte line more one in
+    record { line = (byte ∷ line) ++ first.0; after = first.1; cut = first.2; said = said_by first.0 why }
+  where
+    said_by : (front : List ℕ) → (kind ≡ kinds.OutOfMemory) ⊎ ((kind ≡ kinds.LineTooLong) × (longest_line < length (byte ∷ line))) → IsSaid kind (take_line ended fields ((byte ∷ line) ++ front))
+    said_by front (inl memory) = inl memory
+    said_by front (inr long) =
+        let sum = length-append (byte ∷ line) front in
+        inr (LineTooLong, ap fault_in long.0, take_line-too_long ended fields ((byte ∷ line) ++ front) (omega (arith, long.1, sum)))
+
+-- a line that is all of the text
 pub only_line : (partial rest : List ℕ) → IsOneLine partial → IsOneLine rest → partial ++ rest ≢ [] → lines_of (partial ++ rest) ≡ (partial ++ rest) ∷ []
 only_line partial rest begun one some = last_of (partial ++ rest) (All-append IsNoFeed partial rest begun one) some
   where

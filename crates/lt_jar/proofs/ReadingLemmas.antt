@@ -3,7 +3,7 @@ use Rattle.std.proofs.Common.{◌≡◌, ◌≢◌, false, ◌≤◌, ◌+◌, �
 use Rattle.std.specs.List.{AllByRecursion, filter, flat_map}
 use Rattle.lt_jar.specs.Lines.{IsOneLine, lines_of, whole_lines}
 use Rattle.lt_jar.specs.LineKinds.{Separator}
-use Rattle.lt_jar.specs.Limits.{most_records}
+use Rattle.lt_jar.specs.Limits.{longest_line, most_records}
 use Rattle.lt_jar.specs.Records.{Field, Written, has_field, lines_of_ended, record_of, shown}
 use Rattle.lt_jar.specs.Faults.{Fault, IsReached, IsTheFault, begun}
 use Rattle.lt_jar.specs.Reading.{Ends, Going, finished, going_on, start, step, steps, take_line}
@@ -132,13 +132,14 @@ cuts_record earlier text lines last rest fields few each one bytes ran ends =
       sound = lines_sound earlier (lines ++ last ∷ []) (ended_with fields) few all (ran_end earlier lines last fields ran ends);
     }
 
-pub cut_short : (earlier : ℕ) (text : List ℕ) (lines : List (List ℕ)) (rest : List ℕ) (fields : List Field) → earlier ≤ most_records → AllByRecursion IsOneLine lines → IsOneLine rest
+pub cut_short : (earlier : ℕ) (text : List ℕ) (lines : List (List ℕ)) (rest : List ℕ) (fields : List Field) → earlier ≤ most_records → AllByRecursion IsOneLine lines → IsOneLine rest → length rest ≤ longest_line
     → text ≡ whole_lines lines ++ rest → steps earlier (going_on []) lines ≡ going_on fields → IsCutShort earlier text (length lines + 1)
-cut_short earlier text lines rest fields few each one bytes ran = record {
+cut_short earlier text lines rest fields few each one short bytes ran = record {
   lines = lines;
   each = each;
   rest = rest;
   one = one;
+  short = short;
   bytes = bytes;
   fields = fields;
   gathers = lines_gather earlier lines fields few each ran;

@@ -5,13 +5,14 @@ use Rattle.std.proofs.KnownBytes.{Consumes-nil, Consumes-trans}
 use Rattle.std.proofs.Math.Seq.{drop-append_seam}
 use Rattle.std.proofs.lemmas.List.{drop-drop, drop-take, length-take-le}
 use Rattle.std.proofs.lemmas.List.Elements.{All-nil}
-use Rattle.lt_jar.specs.Devices.{HasFailed, after_reads, failures_of, greatest_count, one_more, reads_of}
-use Rattle.lt_jar.specs.Lines.{IsOneLine, lines_of, whole_lines}
+use Rattle.std.specs.Io.KnownBytes.{IsAtEnd}
+use Rattle.lt_jar.specs.Devices.{HasFailed, after_reads, failures_of, greatest_count, inner_of, one_more, reads_of}
+use Rattle.lt_jar.specs.Lines.{HoldsOfWhole, IsOneLine, lines_of, whole_lines}
 use Rattle.lt_jar.specs.Limits.{most_records}
 use Rattle.lt_jar.specs.Records.{Field, HasRecords}
-use Rattle.lt_jar.specs.Faults.{Fault}
+use Rattle.lt_jar.specs.Faults.{Fault, IsTheFault}
 use Rattle.lt_jar.specs.Reading.{Ends, Taken, finished, going_on, rest_of, steps, take_line}
-use Rattle.lt_jar.specs.Pieces.{StopsAt, StopsAtLast, TakesAll, TakesRecord, fields_in, last_line}
+use Rattle.lt_jar.specs.Pieces.{RefusesFirst, StopsAt, StopsAtLast, TakesAll, TakesRecord, fields_in, last_line}
 use Rattle.lt_jar.specs.Sources.{EndsAs, Fills, Finished, Finishes, HasRoom, IsRead, LastGave, LendsLast, ReadsRecord, Stops, kept_in, lent_by, line_of_kept, most_reads, record_in, unread_in}
 use Rattle.lt_jar.specs.Views.{IsSaid, fault_in}
 use Rattle.lt_jar.specs.declared.devices.Device.{Device}
@@ -46,7 +47,7 @@ pub turn_begins : {R : Type 0} (remaining : R → Option (List ℕ)) (old now : 
 turn_begins remaining old now device none kept line lent turns bounded status = record {
   read = [];
   reads = 0;
-  is_read = record { consumes = Consumes-nil _; calls = refl; turns = omega (arith, turns); bounded = omega (arith, turns, bounded) };
+  is_read = record { consumes = Consumes-nil _; calls = refl; each = omega arith; turns = omega (arith, turns); bounded = omega (arith, turns, bounded) };
   gave_bytes = omega arith;
   last_gave = λ gave some. gave (omega (arith, some, turns));
   failures = refl;
@@ -79,7 +80,7 @@ turn_taken remaining old now new before after turn takes empty turns status =
     record {
       read = turn.read;
       reads = turn.reads;
-      is_read = record { consumes = turn.is_read.consumes; calls = turn.is_read.calls; turns = turns ∙ turn.is_read.turns; bounded = omega (arith, turns, turn.is_read.bounded) };
+      is_read = record { consumes = turn.is_read.consumes; calls = turn.is_read.calls; each = turn.is_read.each; turns = turns ∙ turn.is_read.turns; bounded = omega (arith, turns, turn.is_read.bounded) };
       gave_bytes = turn.gave_bytes;
       last_gave = λ gave some. turn.last_gave gave (omega (arith, some, turns));
       failures = turn.failures;
@@ -103,6 +104,7 @@ pub more_read : {R : Type 0} (remaining : R → Option (List ℕ)) (old now new 
 more_read remaining old now new before between after read more reads others first next = record {
   consumes = Consumes-trans _ _ _ _ _ first.consumes next.consumes;
   calls = next.calls ∙ ap (λ n. after_reads n others) first.calls ∙ after_more (reads_of before) reads others;
+  each = omega (arith, first.each, next.each, length-append read more);
   turns = omega (arith, first.turns, next.turns);
   bounded = next.bounded;
 }
@@ -184,7 +186,7 @@ turn_lends remaining old now mid new before after turn few takes mid_turns mid_s
     record {
       read = turn.read;
       reads = turn.reads;
-      is_read = record { consumes = turn.is_read.consumes; calls = turn.is_read.calls; turns = same_turns ∙ turn.is_read.turns; bounded = omega (arith, same_turns, turn.is_read.bounded) };
+      is_read = record { consumes = turn.is_read.consumes; calls = turn.is_read.calls; each = turn.is_read.each; turns = same_turns ∙ turn.is_read.turns; bounded = omega (arith, same_turns, turn.is_read.bounded) };
       ends = (
         lent ∙ ap (λ n. n + 1) (takes.ended ∙ turn.lent),
         inl (record {
@@ -223,22 +225,41 @@ turns_failed e = cc
 none_some : (fault : Fault) → (let o : Option Fault = None in o) ≡ Some fault → ⊥
 none_some fault e = cc
 
+-- what holds of the whole text holds of the bytes that are read
+holds_here : (P : List ℕ → Type 0) (ended : Type 0) (bytes : List ℕ) → HoldsOfWhole P ended bytes → P bytes
+holds_here P ended bytes (inl each) = subst P (append-nil bytes) (each [])
+holds_here P ended bytes (inr over) = over.1
+
+-- the first line behind these lines is wrong
+fault_told : (earlier : ℕ) (text : List ℕ) (lines : List (List ℕ)) (tail : List ℕ) (fields : List Field) (kind : JarFaultKind) (fault : Fault) → earlier ≤ most_records → AllByRecursion IsOneLine lines
+    → text ≡ whole_lines lines ++ tail → steps earlier (going_on []) lines ≡ going_on fields → fault_in kind ≡ Some fault → RefusesFirst earlier fields tail kind → IsTheFault earlier text fault (length lines + 1)
+fault_told earlier text lines tail fields kind fault few each bytes ran is first =
+    fault_behind earlier text lines tail first.line first.after fields fault few each bytes first.cut ran (said_fault kind (take_line earlier fields first.line) fault first.said is)
+
 -- the first line behind these lines is wrong, or memory ran out at it
-stops_said : {R : Type 0} (old new : JarSource) (before after : Device R) (read : List ℕ) (reads : ℕ) (kind : JarFaultKind) (lines : List (List ℕ)) (tail wrong : List ℕ) (others : List (List ℕ)) (fields : List Field)
-    → lent_by old ≤ most_records → AllByRecursion IsOneLine lines → kept_in old ++ read ≡ whole_lines lines ++ tail → lines_of tail ≡ wrong ∷ others → steps (lent_by old) (going_on []) lines ≡ going_on fields
-    → IsSaid kind (take_line (lent_by old) fields wrong) → line_of_kept new ≡ line_of_kept old + length lines → Stops old new before after read reads kind
-stops_said old new before after read reads kind lines tail wrong others fields few each bytes cut ran said line = record {
-  format = λ fault is. (
-    length lines + 1,
-    fault_behind (lent_by old) (kept_in old ++ read) lines tail wrong others fields fault few each bytes cut ran (said_fault kind (take_line (lent_by old) fields wrong) fault said is),
-    omega (arith, line),
-    record { lines = lines; each = each; rest = tail; bytes = bytes; fields = fields; gathers = lines_gather (lent_by old) lines fields few each ran; counted = refl },
-  );
-  memory = λ is. (length lines + 1, reached_behind (lent_by old) (kept_in old ++ read) lines tail wrong others fields few each bytes cut ran, omega (arith, line));
-  device = λ is. absurd (said_no_other kind (take_line (lent_by old) fields wrong) said (ap fault_in is) (λ m. read_memory (sym is ∙ m)));
-  all_made = λ is. absurd (said_no_other kind (take_line (lent_by old) fields wrong) said (ap fault_in is) (λ m. turns_memory (sym is ∙ m)));
-  first = λ is. said_no_other kind (take_line (lent_by old) fields wrong) said (ap fault_in is) (λ m. failed_memory (sym is ∙ m));
-}
+stops_said : {R : Type 0} (remaining : R → Option (List ℕ)) (old new : JarSource) (before after : Device R) (read : List ℕ) (reads : ℕ) (kind : JarFaultKind) (lines : List (List ℕ)) (tail : List ℕ) (fields : List Field)
+    → lent_by old ≤ most_records → AllByRecursion IsOneLine lines → kept_in old ++ read ≡ whole_lines lines ++ tail → steps (lent_by old) (going_on []) lines ≡ going_on fields
+    → HoldsOfWhole (λ text. RefusesFirst (lent_by old) fields text kind) (IsAtEnd (remaining (inner_of after))) tail → line_of_kept new ≡ line_of_kept old + length lines → Stops remaining old new before after read reads kind
+stops_said remaining old new before after read reads kind lines tail fields few each bytes ran refused line =
+    let text = kept_in old ++ read in
+    let first = holds_here (λ t. RefusesFirst (lent_by old) fields t kind) _ tail refused in
+    let other = said_no_other kind (take_line (lent_by old) fields first.line) first.said in
+    record {
+      format = λ fault is. (
+        length lines + 1,
+        elim refused [
+          | inl front ↦ inl (λ more.
+              fault_told (lent_by old) (text ++ more) lines (tail ++ more) fields kind fault few each (ap (λ l. l ++ more) bytes ∙ append_assoc (whole_lines lines) tail more) ran is (front more))
+          | inr over ↦ inr (over.0, fault_told (lent_by old) text lines tail fields kind fault few each bytes ran is over.1)
+        ],
+        omega (arith, line),
+        record { lines = lines; each = each; rest = tail; bytes = bytes; fields = fields; gathers = lines_gather (lent_by old) lines fields few each ran; counted = refl },
+      );
+      memory = λ is. (length lines + 1, reached_behind (lent_by old) text lines tail first.line first.after fields few each bytes first.cut ran, omega (arith, line));
+      device = λ is. absurd (other (ap fault_in is) (λ m. read_memory (sym is ∙ m)));
+      all_made = λ is. absurd (other (ap fault_in is) (λ m. turns_memory (sym is ∙ m)));
+      first = λ is. other (ap fault_in is) (λ m. failed_memory (sym is ∙ m));
+    }
 
 pub turn_stops : {R : Type 0} (remaining : R → Option (List ℕ)) (old now new : JarSource) (before after : Device R) (kind : JarFaultKind) → SourceTurn remaining old now before after → lent_by old ≤ most_records
     → StopsAt now.engine new.engine (unread_in now) kind → new.turns ≡ now.turns → ReadsRecord remaining old new before after (Err kind)
@@ -247,12 +268,12 @@ turn_stops remaining old now new before after kind turn few stops turns =
     record {
       read = turn.read;
       reads = turn.reads;
-      is_read = record { consumes = turn.is_read.consumes; calls = turn.is_read.calls; turns = turns ∙ turn.is_read.turns; bounded = omega (arith, turns, turn.is_read.bounded) };
-      ends = stops_said old new before after turn.read turn.reads kind lines stops.tail stops.wrong stops.after stops.fields few
+      is_read = record { consumes = turn.is_read.consumes; calls = turn.is_read.calls; each = turn.is_read.each; turns = turns ∙ turn.is_read.turns; bounded = omega (arith, turns, turn.is_read.bounded) };
+      ends = stops_said remaining old new before after turn.read turn.reads kind lines stops.tail stops.fields few
           (each-append turn.lines stops.lines turn.each stops.each)
-          (joined (kept_in old ++ turn.read) (kept_in now) stops.tail turn.lines stops.lines turn.bytes stops.bytes) stops.cut
+          (joined (kept_in old ++ turn.read) (kept_in now) stops.tail turn.lines stops.lines turn.bytes stops.bytes)
           (ran_on (lent_by old) turn.lines stops.lines (record_in now) (going_on stops.fields) turn.ran (ap (λ n. steps n (going_on (record_in now)) stops.lines) (sym turn.lent) ∙ stops.ran))
-          (subst (λ n. IsSaid kind (take_line n stops.fields stops.wrong)) turn.lent stops.said)
+          (inl (λ more. subst (λ n. RefusesFirst n stops.fields (stops.tail ++ more) kind) turn.lent (stops.refused more)))
           (omega (arith, stops.line, turn.line, length-append turn.lines stops.lines));
       rises = λ more. absurd (omega (arith, more, turn.failures));
       works = λ other. turn.failures;
@@ -275,7 +296,7 @@ pub turn_failed : {R : Type 0} (remaining : R → Option (List ℕ)) (old now ne
     → now.start ≡ now.end → IsOneLine now.engine.partial.items → Fills remaining now new between after (Err kind) → new.engine ≡ now.engine → ReadsRecord remaining old new before after (Err kind)
 turn_failed remaining old now new before between after kind turn few empty one fills engine =
     let text = text_is remaining old now before between fills.read turn empty fills.fills.0 in
-    let short = cut_short (lent_by old) (kept_in old ++ (turn.read ++ fills.read)) turn.lines now.engine.partial.items (record_in now) few turn.each one text turn.ran in
+    let short = cut_short (lent_by old) (kept_in old ++ (turn.read ++ fills.read)) turn.lines now.engine.partial.items (record_in now) few turn.each one (omega (arith, now.engine.short, now.engine.partial.ok.0)) text turn.ran in
     let line : line_of_kept new + 1 ≡ line_of_kept old + (length turn.lines + 1) = omega (arith, ap (λ (e : Engine). e.line) engine, turn.line) in
     let long = length-append turn.read fills.read in
     let none = ap length fills.fills.0 in
@@ -367,7 +388,7 @@ turn_finishes {R} remaining old now mid new before between after some turn few e
     }
   where
     turns_kept : IsRead remaining old mid before after (turn.read ++ fills.read) (turn.reads + fills.reads) → IsRead remaining old new before after (turn.read ++ fills.read) (turn.reads + fills.reads)
-    turns_kept r = record { consumes = r.consumes; calls = r.calls; turns = fin.turns ∙ r.turns; bounded = omega (arith, fin.turns, r.bounded) }
+    turns_kept r = record { consumes = r.consumes; calls = r.calls; each = r.each; turns = fin.turns ∙ r.turns; bounded = omega (arith, fin.turns, r.bounded) }
 
     by_some : (b : Bool) → some ≡ b → ((records : List (List Field)) → finished fin.going ≡ records → LendsLast remaining old new after (turn.read ++ fills.read) records) → lent_by mid ≡ lent_by old
         → EndsAs remaining old new before after (turn.read ++ fills.read) (turn.reads + fills.reads) (Ok b)
@@ -392,9 +413,10 @@ turn_stops_last remaining old now mid new before between after kind turn few emp
     record {
       read = turn.read ++ fills.read;
       reads = turn.reads + fills.reads;
-      is_read = record { consumes = r.consumes; calls = r.calls; turns = turns ∙ r.turns; bounded = omega (arith, turns, r.bounded) };
-      ends = stops_said old new before after (turn.read ++ fills.read) (turn.reads + fills.reads) kind turn.lines partial partial [] (record_in now) few turn.each text
-          (only_line [] partial (All-nil IsNoFeed) one some) turn.ran said (stops.line ∙ ap (λ (e : Engine). e.line) engine ∙ turn.line);
+      is_read = record { consumes = r.consumes; calls = r.calls; each = r.each; turns = turns ∙ r.turns; bounded = omega (arith, turns, r.bounded) };
+      ends = stops_said remaining old new before after (turn.read ++ fills.read) (turn.reads + fills.reads) kind turn.lines partial (record_in now) few turn.each text turn.ran
+          (inr (fills.fills.2, record { line = partial; after = []; cut = only_line [] partial (All-nil IsNoFeed) one some; said = said }))
+          (stops.line ∙ ap (λ (e : Engine). e.line) engine ∙ turn.line);
       rises = λ rise. absurd (omega (arith, rise, turn.failures, fills.fills.3));
       works = λ other. fills.fills.3 ∙ turn.failures;
     }

@@ -1,8 +1,9 @@
 -- The records of a text one by one.
-use Rattle.std.specs.Prelude.{◌≡◌, ◌≢◌, ◌+◌, ℕ, List, [], ◌∷◌, ◌++◌, length, map}
+use Rattle.std.specs.Prelude.{◌≡◌, ◌≢◌, ◌≤◌, ◌+◌, ℕ, List, [], ◌∷◌, ◌++◌, length, map}
 use Rattle.std.specs.List.{AllByRecursion, filter, flat_map}
 use Rattle.lt_jar.specs.Lines.{IsOneLine, whole_lines}
 use Rattle.lt_jar.specs.LineKinds.{Line, Separator, line_of}
+use Rattle.lt_jar.specs.Limits.{longest_line}
 use Rattle.lt_jar.specs.Records.{Field, Written, has_field, lines_of_ended, lines_of_group, record_of, shown}
 use Rattle.lt_jar.specs.Faults.{Fault, IsWrongAt}
 
@@ -44,12 +45,13 @@ pub record EndsNoneAbove (text : List ℕ) (number : ℕ) : Type 0 where
   pub gathers : Gathers lines fields
   pub counted : number ≡ length lines + 1
 
--- whole lines, which end no record and with which nothing is wrong, and the line that is being read, which has this number among them
+-- whole lines, which end no record and with which nothing is wrong, and the line that is being read, which is not too long so far and has this number among them
 pub record IsCutShort (earlier : ℕ) (text : List ℕ) (number : ℕ) : Type 0 where
   pub lines : List (List ℕ)
   pub each : AllByRecursion IsOneLine lines
   pub rest : List ℕ
   pub one : IsOneLine rest
+  pub short : length rest ≤ longest_line
   pub bytes : text ≡ whole_lines lines ++ rest
   pub fields : List Field
   pub gathers : Gathers lines fields
@@ -62,7 +64,7 @@ pub record AreEnded (lines : List (List ℕ)) (records : List (List Field)) : Ty
   pub lines_are : shown lines ≡ flat_map lines_of_ended groups
   pub records_are : records ≡ map record_of (filter has_field groups)
 
--- whole lines, with which nothing is wrong, and the line that is being read, which has this number among them
+-- whole lines, with which nothing is wrong, and the line that is being read, which is not too long so far and has this number among them
 pub record BreaksOff (earlier : ℕ) (text : List ℕ) (number : ℕ) : Type 0 where
   pub ended : List (List ℕ)
   pub records : List (List Field)
@@ -73,6 +75,7 @@ pub record BreaksOff (earlier : ℕ) (text : List ℕ) (number : ℕ) : Type 0 w
   pub each : AllByRecursion IsOneLine (ended ++ more)
   pub rest : List ℕ
   pub one : IsOneLine rest
+  pub short : length rest ≤ longest_line
   pub bytes : text ≡ whole_lines (ended ++ more) ++ rest
   pub sound : IsSound earlier (whole_lines (ended ++ more))
   pub counted : number ≡ length (ended ++ more) + 1

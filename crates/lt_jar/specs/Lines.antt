@@ -1,5 +1,5 @@
 -- The lines of a text.
-use Rattle.std.specs.Prelude.{◌≢◌, ℕ, List, [], ◌∷◌, ◌++◌, ◌==◌, if◌then◌else◌}
+use Rattle.std.specs.Prelude.{◌≢◌, ℕ, List, [], ◌∷◌, ◌++◌, ◌==◌, ◌⊎◌, if◌then◌else◌}
 use Rattle.std.specs.List.{All, flat_map}
 use Rattle.std.specs.Io.BufRead.{strip_last}
 
@@ -20,6 +20,10 @@ content_of line = strip_last 13 line
 -- no line feed
 abbrev pub IsOneLine : List ℕ → Type 0
 IsOneLine text = All (λ byte. byte ≢ 10) text
+
+-- it holds of the whole text, of which these bytes are read: whatever bytes follow them, or of these where the text has ended
+abbrev pub HoldsOfWhole : (List ℕ → Type 0) → Type 0 → List ℕ → Type 0
+HoldsOfWhole P ended bytes = ((more : List ℕ) → P (bytes ++ more)) ⊎ (ended × P bytes)
 
 -- the lines, each with the line feed that ends it
 abbrev pub whole_lines : List (List ℕ) → List ℕ

@@ -1,12 +1,14 @@
 -- What is done with a piece of a text.
-use Rattle.std.specs.Prelude.{◌≡◌, ◌≢◌, ◌≤◌, ◌+◌, ℕ, Bool, true, false, List, [], ◌∷◌, ◌++◌, length, Option, Some, None, Result, Ok, Err, MatchOption}
+use Rattle.std.specs.Prelude.{◌≡◌, ◌≢◌, ◌≤◌, ◌<◌, ◌+◌, ◌⊎◌, ℕ, Bool, true, false, List, [], ◌∷◌, ◌++◌, length, Option, Some, None, Result, Ok, Err, MatchOption}
 use Rattle.std.specs.Borrow.{Bor}
 use Rattle.std.specs.List.{AllByRecursion}
 use Rattle.lt_jar.specs.Lines.{IsOneLine, lines_of, whole_lines}
+use Rattle.lt_jar.specs.Limits.{longest_line}
 use Rattle.lt_jar.specs.Records.{Field}
 use Rattle.lt_jar.specs.Reading.{Ends, Going, finished, going_on, rest_of, steps, take_line}
 use Rattle.lt_jar.specs.Views.{IsSaid}
 use Rattle.lt_jar.specs.declared.faults.JarFaultKind.{JarFaultKind}
+use Rattle.lt_jar.specs.declared.faults.JarFaultKind.TheVariants as kinds
 use Rattle.lt_jar.specs.declared.drafts.Progress.{Progress}
 use Rattle.lt_jar.specs.declared.engine.Engine.{Engine}
 
@@ -53,17 +55,21 @@ pub record TakesRecord (old new : Engine) (piece rest : List ℕ) : Type 0 where
   pub split : piece ≡ front ++ rest
   pub room : new.line + length rest ≤ old.line + length piece
 
--- the line behind these lines is wrong, or memory ran out at it
+-- the first line of the text is wrong, or memory ran out at it
+pub record RefusesFirst (ended : ℕ) (fields : List Field) (text : List ℕ) (kind : JarFaultKind) : Type 0 where
+  pub line : List ℕ
+  pub after : List (List ℕ)
+  pub cut : lines_of text ≡ line ∷ after
+  pub said : IsSaid kind (take_line ended fields line)
+
+-- the line behind these lines is wrong whatever bytes follow, or memory ran out at it
 pub record StopsAt (old new : Engine) (piece : List ℕ) (kind : JarFaultKind) : Type 0 where
   pub lines : List (List ℕ)
   pub each : AllByRecursion IsOneLine lines
   pub fields : List Field
   pub ran : steps old.ended (going_on (fields_in old)) lines ≡ going_on fields
   pub tail : List ℕ
-  pub wrong : List ℕ
-  pub after : List (List ℕ)
-  pub cut : lines_of tail ≡ wrong ∷ after
-  pub said : IsSaid kind (take_line old.ended fields wrong)
+  pub refused : (more : List ℕ) → RefusesFirst old.ended fields (tail ++ more) kind
   pub bytes : old.partial.items ++ piece ≡ whole_lines lines ++ tail
   pub room : new.line ≤ old.line + length piece
   pub line : new.line ≡ old.line + length lines
@@ -76,10 +82,12 @@ TakesPiece old new piece (Ok None) = TakesAll old new piece
 TakesPiece old new piece (Ok (Some rest)) = TakesRecord old new piece rest.now
 TakesPiece old new piece (Err kind) = StopsAt old new piece kind
 
--- bytes without a line feed went behind those of the line that goes on; a line that is too long stops it
+-- bytes without a line feed went behind those of the line that goes on. Of a line whose end is not read it is told alone that it is too long, or that memory ran out.
 abbrev pub KeepsBytes : Engine → Engine → List ℕ → Result (Unit {0}) JarFaultKind → Type 0
 KeepsBytes old new rest (Ok x) = new.partial.items ≡ old.partial.items ++ rest
-KeepsBytes old new rest (Err kind) = ((fields : List Field) → IsSaid kind (take_line old.ended fields (old.partial.items ++ rest))) × (old.partial.items ++ rest ≢ []) × (new.partial.items ≡ old.partial.items)
+KeepsBytes old new rest (Err kind) =
+    ((kind ≡ kinds.OutOfMemory) ⊎ ((kind ≡ kinds.LineTooLong) × (longest_line < length (old.partial.items ++ rest))))
+    × (old.partial.items ++ rest ≢ []) × (new.partial.items ≡ old.partial.items)
 
 -- the text ends: what is kept was the last line, if it is anything
 abbrev pub last_line : List ℕ → List (List ℕ)

@@ -2,7 +2,7 @@
 use Rattle.std.specs.Prelude.{◌≡◌, ◌≢◌, ◌<◌, ◌≤◌, ◌+◌, ◌-◌, ◌*◌, ◌⊎◌, ℕ, Bool, true, false, List, [], ◌∷◌, ◌++◌, length, take, drop, Option, Some, Result, Ok, Err}
 use Rattle.std.specs.Io.KnownBytes.{Consumes, IsAtEnd}
 use Rattle.lt_jar.specs.Devices.{HasFailed, after_reads, failures_of, inner_of, last_given_of, reads_of}
-use Rattle.lt_jar.specs.Lines.{lines_of}
+use Rattle.lt_jar.specs.Lines.{HoldsOfWhole, lines_of}
 use Rattle.lt_jar.specs.Records.{Field, HasRecords}
 use Rattle.lt_jar.specs.Faults as faults
 use Rattle.lt_jar.specs.Lending.{CutsRecord, EndsNoneAbove, IsCutShort, IsSound}
@@ -52,10 +52,11 @@ pub record IsFresh (s : JarSource) : Type 0 where
 abbrev pub LastGave : {R : Type 0} → JarSource → Device R → Type 0
 LastGave s device = 0 < s.turns → 0 < last_given_of device
 
--- so many reads were made, which gave these bytes
+-- so many reads were made, which gave these bytes, at most 65,536 each
 pub record IsRead {R : Type 0} (remaining : R → Option (List ℕ)) (old new : JarSource) (before after : Device R) (read : List ℕ) (reads : ℕ) : Type 0 where
   pub consumes : Consumes (remaining (inner_of before)) (remaining (inner_of after)) read
   pub calls : reads_of after ≡ after_reads (reads_of before) reads
+  pub each : length read ≤ 65536 * reads
   pub turns : new.turns ≡ old.turns + reads
   pub bounded : new.turns ≤ most_reads
 
@@ -118,9 +119,9 @@ pub record LendsLast {R : Type 0} (remaining : R → Option (List ℕ)) (old new
   pub status : new.status ≡ state.Ended
 
 -- why no record came, and the line that was being read
-pub record Stops {R : Type 0} (old new : JarSource) (before after : Device R) (read : List ℕ) (reads : ℕ) (kind : JarFaultKind) : Type 0 where
+pub record Stops {R : Type 0} (remaining : R → Option (List ℕ)) (old new : JarSource) (before after : Device R) (read : List ℕ) (reads : ℕ) (kind : JarFaultKind) : Type 0 where
   pub format : (fault : faults.Fault) → fault_in kind ≡ Some fault
-      → (number : ℕ) × faults.IsTheFault (lent_by old) (kept_in old ++ read) fault number × (line_of_kept new + 1 ≡ line_of_kept old + number)
+      → (number : ℕ) × HoldsOfWhole (λ text. faults.IsTheFault (lent_by old) text fault number) (IsAtEnd (remaining (inner_of after))) (kept_in old ++ read) × (line_of_kept new + 1 ≡ line_of_kept old + number)
       × EndsNoneAbove (kept_in old ++ read) number
   pub memory : kind ≡ kinds.OutOfMemory → (number : ℕ) × faults.IsReached (lent_by old) (kept_in old ++ read) number × (line_of_kept new + 1 ≡ line_of_kept old + number)
   pub device : kind ≡ kinds.Read → HasFailed before after × ((number : ℕ) × IsCutShort (lent_by old) (kept_in old ++ read) number × (line_of_kept new + 1 ≡ line_of_kept old + number))
@@ -132,7 +133,7 @@ abbrev pub EndsAs : {R : Type 0} → (R → Option (List ℕ)) → (old new : Ja
 EndsAs remaining old new before after read reads (Ok true) =
     (lent_by new ≡ lent_by old + 1) × (LendsEnded old new before after read reads ⊎ LendsLast remaining old new after read (record_in new ∷ []))
 EndsAs remaining old new before after read reads (Ok false) = (lent_by new ≡ lent_by old) × LendsLast remaining old new after read []
-EndsAs remaining old new before after read reads (Err kind) = Stops old new before after read reads kind
+EndsAs remaining old new before after read reads (Err kind) = Stops remaining old new before after read reads kind
 
 -- what a call did that went on reading
 pub record ReadsRecord {R : Type 0} (remaining : R → Option (List ℕ)) (old new : JarSource) (before after : Device R) (result : Result Bool JarFaultKind) : Type 0 where

@@ -1,9 +1,5 @@
 //! The engine that reads records from pieces of a text.
-ghost use Rattle.std.specs.Prelude.{◌≡◌, ◌<◌, ◌≤◌, ◌+◌, ◌++◌, ◌^◌, [], length};
-ghost use Rattle.lt_jar.specs.Lines.{IsOneLine};
-ghost use Rattle.lt_jar.specs.Pieces.{EndsLine, FinishesOr, KeepsBytes, TakesPiece, fields_in};
-ghost use Rattle.lt_jar.specs.Reading as reading;
-ghost use Rattle.lt_jar.specs.Views.{IsTaken};
+ghost use Rattle.std.specs.Prelude.{◌≤◌, vec_len};
 
 use crate::drafts::{Draft, LONGEST_LINE, Progress};
 use crate::faults::JarFaultKind;
@@ -14,7 +10,7 @@ use std::alloc::Global;
 /// What is read so far of a line and of a record.
 #[derive(Drop)]
 pub(crate) struct Engine {
-    /// The bytes so far of the line that is being read.
+    /// The bytes so far of the line that is being read: at most those of the longest line.
     partial: Vec<u8>,
     /// The fields so far of the record that is being read.
     draft: Draft,
@@ -22,9 +18,16 @@ pub(crate) struct Engine {
     ended: usize,
     /// The number of the line.
     line: u64,
+    ghost short: { vec_len partial ≤ 65536 },
 }
 
 impl Engine {
+    ghost use Rattle.std.specs.Prelude.{◌≡◌, ◌<◌, ◌+◌, ◌++◌, ◌^◌, [], length};
+    ghost use Rattle.lt_jar.specs.Lines.{IsOneLine};
+    ghost use Rattle.lt_jar.specs.Pieces.{EndsLine, FinishesOr, KeepsBytes, TakesPiece, fields_in};
+    ghost use Rattle.lt_jar.specs.Reading as reading;
+    ghost use Rattle.lt_jar.specs.Views.{IsTaken};
+
     /// Nothing read so far.
     pub(crate) fn new(alloc: Global) -> Engine
         ensures empty { (result.partial.items ≡ []) × (fields_in result ≡ []) }

@@ -69,7 +69,19 @@ clean_on rs r n l clean k m h = by_order (cases_lt m n)
 refusal_on : (rs : List (List Field)) (r : List Field) (fault : RecordFault) → IsRecordRefusal rs fault → IsRecordRefusal (rs ++ r ∷ []) fault
 refusal_on rs r fault (inl memory) =
     let at = memory.1 in
-    inl (memory.0, record { from = at.from; to = omega (arith, at.to, length_more rs r); clean = clean_on rs r fault.number (omega (arith, at.to)) at.clean })
+    let within : fault.number ≤ length rs + 1 = omega (arith, at.numbered, ap length at.there, length-append at.before (at.here ∷ at.after)) in
+    inl (
+      memory.0,
+      record {
+        before = at.before;
+        here = at.here;
+        after = at.after ++ r ∷ [];
+        there = ap (λ zs. zs ++ r ∷ []) at.there ∙ append_assoc at.before (at.here ∷ at.after) (r ∷ []);
+        numbered = at.numbered;
+        judged = at.judged;
+        clean = clean_on rs r fault.number within at.clean;
+      },
+    )
 refusal_on rs r fault (inr first) =
     let low = fault_within rs fault.kind fault.number first.fault in
     inr (record {

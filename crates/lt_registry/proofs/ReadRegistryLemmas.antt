@@ -3,6 +3,7 @@ use Rattle.std.proofs.Common.{◌≡◌, ◌≢◌, ℕ, ◌+◌, ◌<◌, ◌�
 use Rattle.std.specs.Io.KnownBytes.{IsAtEnd}
 use Rattle.std.proofs.KnownBytes.{Consumes-nil}
 use Rattle.lt_jar.specs.Devices.{HasFailed, failures_of, greatest_count, inner_of}
+use Rattle.lt_jar.specs.Lines.{HoldsOfWhole}
 use Rattle.lt_jar.specs.Records.{Field, HasRecords}
 use Rattle.lt_jar.specs.Faults.{Fault, IsReached, IsTheFault}
 use Rattle.lt_jar.specs.Lending.{BreaksOff, IsSound}
@@ -53,7 +54,7 @@ read_none remaining s device d fresh entries number fault = record {
   reads = 0;
   records = [];
   none = fresh.turns;
-  is_read = record { consumes = Consumes-nil _; calls = refl; turns = omega arith; bounded = omega (arith, fresh.turns) };
+  is_read = record { consumes = Consumes-nil _; calls = refl; each = omega arith; turns = omega arith; bounded = omega (arith, fresh.turns) };
   failures = refl;
   lent = fresh.lent;
   draft = draft_none d entries number fault;
@@ -151,6 +152,7 @@ whole_reads remaining first new before after d result none whole answers = recor
   consumes = whole.3.consumes;
   calls = whole.3.calls;
   bounded = omega (arith, whole.3.turns, whole.3.bounded, none);
+  each = whole.3.each;
   answers = answers;
   rises = λ more. absurd (omega (arith, more, whole.4.works));
 }
@@ -199,12 +201,14 @@ read_stops {R} remaining first old new before now after d fault so advances = by
     kind_of : (k l : JarFaultKind) → (let r : Result Bool JarFaultKind = Err k in r) ≡ Err l → k ≡ l
     kind_of k l e = cc
 
-    refusal : (lent : HasLent so.bytes so.records old) → so.reads ≤ length so.bytes → LastGave old now → (r : ReadsRecord remaining old new now after (Err fault.kind)) → IsJarRefusal before after (so.bytes ++ r.read) (so.reads + r.reads) fault
+    refusal : (lent : HasLent so.bytes so.records old) → so.reads ≤ length so.bytes → LastGave old now → (r : ReadsRecord remaining old new now after (Err fault.kind)) → IsJarRefusal remaining before after (so.bytes ++ r.read) (so.reads + r.reads) fault
     refusal lent gave last r =
         let stops = r.ends in
         let text = so.bytes ++ r.read in
         record {
-          format = λ kind is. let there = stops.format kind is in subst (IsTheFault 0 text kind) (sym line) (lent_fault r.read new lent there.1 there.2);
+          format = λ kind is.
+              let there = stops.format kind is in
+              subst (λ n. HoldsOfWhole (λ t. IsTheFault 0 t kind n) (IsAtEnd (remaining (inner_of after))) text) (sym line) (lent_fault r.read new lent there.1 there.2);
           memory = λ is. let there = stops.memory is in inl (subst (IsReached 0 text) (sym line) (lent_reached r.read new lent there.1 there.2));
           device = λ is.
               let there = stops.device is in
@@ -229,6 +233,7 @@ read_stops {R} remaining first old new before now after d fault so advances = by
           consumes = all.consumes;
           calls = all.calls;
           bounded = omega (arith, all.turns, all.bounded, so.none);
+          each = all.each;
           answers = refusal goes.1 goes.2 goes.3 r;
           rises = λ more. kind_of fault.kind jars.Read (r.rises (omega (arith, more, so.failures)));
         }
@@ -244,6 +249,7 @@ read_refused {R} remaining before after fault same memory line =
       consumes = Consumes-nil _;
       calls = refl;
       bounded = omega arith;
+      each = omega arith;
       answers = record {
         format = λ kind is. absurd (none_some kind (ap fault_in (sym memory) ∙ is));
         memory = λ is. inr (refl, refl, line);

@@ -9,7 +9,7 @@ use Rattle.lt_jar.specs.Records.{Field}
 use Rattle.lt_registry.specs.Parts.{EntryParts}
 use Rattle.lt_registry.specs.Entries.{IsEntry, NumbersRise, IsRegistry}
 use Rattle.lt_registry.specs.Records.{is_header_at, EntriesFrom, HasEntries, IsEntryOf, HasRecordFault, HasFaultAt, IsFirstRecordFault, record_rank}
-use Rattle.lt_registry.specs.RecordRefusals.{IsRefused, IsRecordRefusal, no_room}
+use Rattle.lt_registry.specs.RecordRefusals.{IsRefused, IsRecordRefusal}
 use Rattle.lt_registry.specs.declared.faults.RecordFaultKind.{RecordFaultKind}
 use Rattle.lt_registry.specs.declared.faults.RecordFaultKind.TheVariants as faults
 use Rattle.lt_registry.proofs.ListLemmas.{drop_turn, take_turn}
@@ -132,23 +132,32 @@ made_more records i r es e l is head of fits made =
 pub made_all : (records : List (List Field)) (i : ℕ) (es : List EntryParts) → length records ≤ i → Made records i es → HasEntries records es × IsRegistry es
 made_all records i es l made = (subst (λ zs. EntriesFrom 1 zs es) (take_all i records l) made.entries, record { rising = made.rising; forms = made.forms })
 
-pub made_lacks : (records : List (List Field)) (i : ℕ) (es : List EntryParts) → i < length records → Made records i es → IsRecordRefusal records (no_room (i + 1))
-made_lacks records i es l made =
-    inl (refl, record { from = omega arith; to = omega (arith, l); clean = λ k m h. let past = made.clean k m h in omega (arith, past) })
+-- the record at a place, among the others
+split_at_record : (records : List (List Field)) (i : ℕ) (r : List Field) → i < length records → r ≡ get_or records i r → records ≡ take i records ++ r ∷ drop (i + 1) records
+split_at_record records i r l is = sym (ap (λ rs. take i records ++ rs) (sym (drop_turn records i r l is)) ∙ take-append-drop i records)
 
 pub made_refused : (records : List (List Field)) (i : ℕ) (r : List Field) (es : List EntryParts) (kind : RecordFaultKind) → i < length records → r ≡ get_or records i r → is_header_at (i + 1) r ≡ false → IsRefused r kind → Made records i es → IsRecordRefusal records (record { kind = kind; number = i + 1 })
 made_refused records i r es kind l is head (inl memory) made =
-    inl (memory, record { from = omega arith; to = omega (arith, l); clean = λ k m h. let past = made.clean k m h in omega (arith, past) })
+    let long = length_front records i l in
+    inl (
+      memory,
+      record {
+        before = take i records;
+        here = r;
+        after = drop (i + 1) records;
+        there = split_at_record records i r l is;
+        numbered = omega (arith, long);
+        judged = head;
+        clean = λ k m h. let past = made.clean k m h in omega (arith, past);
+      },
+    )
 made_refused records i r es kind l is head (inr first) made =
     let long = length_front records i l in
     inr (record {
-      fault = record { before = take i records; here = r; after = drop (i + 1) records; there = whole records i r l is; numbered = omega (arith, long); judged = head; fault = first.there };
+      fault = record { before = take i records; here = r; after = drop (i + 1) records; there = split_at_record records i r l is; numbered = omega (arith, long); judged = head; fault = first.there };
       lowest = λ k m h. let past = made.clean k m h in omega (arith, past);
       earliest = λ k h. first.earliest k (subst (λ z. HasRecordFault z k) (same_record records i r k (i + 1) h refl is) h.fault);
     })
-  where
-    whole : (xs : List (List Field)) (j : ℕ) (x : List Field) → j < length xs → x ≡ get_or xs j x → xs ≡ take j xs ++ x ∷ drop (j + 1) xs
-    whole xs j x lt e = sym (ap (λ zs. take j xs ++ zs) (sym (drop_turn xs j x lt e)) ∙ take-append-drop j xs)
 
 -- laws: records give one list of entries, or have one first fault, and not both
 

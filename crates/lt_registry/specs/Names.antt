@@ -4,6 +4,9 @@ use Rattle.lt_registry.specs.declared.faults.ValidFaultKind.{ValidFaultKind}
 use Rattle.lt_registry.specs.declared.faults.ValidFaultKind.TheVariants as faults
 use Rattle.lt_registry.specs.declared.faults.RecordFaultKind.{RecordFaultKind}
 use Rattle.lt_registry.specs.declared.faults.RecordFaultKind.TheVariants as records
+use Rattle.lt_registry.specs.declared.faults.RegistryFault.{RegistryFault}
+use Rattle.lt_registry.specs.declared.faults.RegistryFault.TheVariants as refusals
+use Rattle.lt_jar.specs.Names as jars
 
 abbrev pub name_of : ValidFaultKind → List ℕ
 name_of faults.UnknownLanguage = codes "UnknownLanguage"
@@ -28,3 +31,8 @@ record_name_of records.BadTag = codes "BadTag"
 record_name_of records.BadPreferred = codes "BadPreferred"
 record_name_of records.BadPrefix = codes "BadPrefix"
 record_name_of records.OutOfMemory = codes "OutOfMemory"
+
+-- that of the fault of the file or of the record
+abbrev pub registry_name_of : RegistryFault → List ℕ
+registry_name_of (refusals.Jar fault) = jars.name_of fault.kind
+registry_name_of (refusals.Record fault) = record_name_of fault.kind

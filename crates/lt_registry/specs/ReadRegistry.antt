@@ -1,8 +1,9 @@
 -- What reading a registry from a device answers: what the records of the bytes that were read give, or why they were
 -- not read to the end.
-use Rattle.std.specs.Prelude.{◌≡◌, ◌≢◌, ◌≤◌, ◌<◌, ◌⊎◌, ℕ, List, [], length, Option, Some, Result, Ok, Err}
+use Rattle.std.specs.Prelude.{◌≡◌, ◌≢◌, ◌≤◌, ◌<◌, ◌*◌, ◌⊎◌, ℕ, List, [], length, Option, Some, Result, Ok, Err}
 use Rattle.std.specs.Io.KnownBytes.{Consumes, IsAtEnd}
 use Rattle.lt_jar.specs.Devices.{HasFailed, after_reads, failures_of, inner_of, last_given_of, reads_of}
+use Rattle.lt_jar.specs.Lines.{HoldsOfWhole}
 use Rattle.lt_jar.specs.Records.{Field, HasRecords, IsWithin}
 use Rattle.lt_jar.specs.Faults.{Fault, IsReached, IsTheFault}
 use Rattle.lt_jar.specs.Lending.{BreaksOff}
@@ -25,8 +26,8 @@ pub record IsReadWhole {R : Type 0} (remaining : R → Option (List ℕ)) (befor
   pub works : failures_of after ≡ failures_of before
 
 -- why the bytes that so many reads gave are no jar, or are not all
-pub record IsJarRefusal {R : Type 0} (before after : Device R) (bytes : List ℕ) (reads : ℕ) (fault : JarFault) : Type 0 where
-  pub format : (kind : Fault) → fault_in fault.kind ≡ Some kind → IsTheFault 0 bytes kind fault.line
+pub record IsJarRefusal {R : Type 0} (remaining : R → Option (List ℕ)) (before after : Device R) (bytes : List ℕ) (reads : ℕ) (fault : JarFault) : Type 0 where
+  pub format : (kind : Fault) → fault_in fault.kind ≡ Some kind → HoldsOfWhole (λ text. IsTheFault 0 text kind fault.line) (IsAtEnd (remaining (inner_of after))) bytes
   pub memory : fault.kind ≡ jars.OutOfMemory → IsReached 0 bytes fault.line ⊎ ((reads ≡ 0) × (bytes ≡ []) × (fault.line ≡ 1))
   pub device : fault.kind ≡ jars.Read → HasFailed before after × BreaksOff 0 bytes fault.line
   pub all_made : fault.kind ≡ jars.TooManyTurns → (reads ≡ most_reads) × (reads ≤ length bytes) × (0 < last_given_of after) × BreaksOff 0 bytes fault.line
@@ -38,7 +39,7 @@ AnswersAs remaining before after bytes reads (Ok registry) =
     (records : List (List Field)) × IsReadWhole remaining before after bytes records × HasEntries records registry
 AnswersAs remaining before after bytes reads (Err (faults.Record fault)) =
     (records : List (List Field)) × IsReadWhole remaining before after bytes records × IsRecordRefusal records fault
-AnswersAs remaining before after bytes reads (Err (faults.Jar fault)) = IsJarRefusal before after bytes reads fault
+AnswersAs remaining before after bytes reads (Err (faults.Jar fault)) = IsJarRefusal remaining before after bytes reads fault
 
 -- the answer is that a read failed
 abbrev pub IsReadFailure : Result (List EntryParts) RegistryFault → Type 0
@@ -46,12 +47,13 @@ IsReadFailure (Ok registry) = ⊥
 IsReadFailure (Err (faults.Record fault)) = ⊥
 IsReadFailure (Err (faults.Jar fault)) = fault.kind ≡ jars.Read
 
--- So many reads gave these bytes, and the answer is theirs. The device fails only where it is told.
+-- So many reads gave these bytes, at most 65,536 each, and the answer is theirs. The device fails only where it is told.
 pub record ReadsRegistry {R : Type 0} (remaining : R → Option (List ℕ)) (before after : Device R) (result : Result (List EntryParts) RegistryFault) : Type 0 where
   pub bytes : List ℕ
   pub reads : ℕ
   pub consumes : Consumes (remaining (inner_of before)) (remaining (inner_of after)) bytes
   pub calls : reads_of after ≡ after_reads (reads_of before) reads
   pub bounded : reads ≤ most_reads
+  pub each : length bytes ≤ 65536 * reads
   pub answers : AnswersAs remaining before after bytes reads result
   pub rises : failures_of before < failures_of after → IsReadFailure result

@@ -255,8 +255,12 @@ pub record IsFirstRecordFault (records : List (List Field)) (kind : RecordFaultK
   pub lowest : (other : RecordFaultKind) (elsewhere : ℕ) → HasFaultAt records other elsewhere → number ≤ elsewhere
   pub earliest : (other : RecordFaultKind) → HasFaultAt records other number → record_rank kind ≤ record_rank other
 
--- a record below which no record has a fault
+-- the record of this number is not the header, and no record below it has a fault
 pub record IsReached (records : List (List Field)) (number : ℕ) : Type 0 where
-  pub from : 1 ≤ number
-  pub to : number ≤ length records
+  pub before : List (List Field)
+  pub here : List Field
+  pub after : List (List Field)
+  pub there : records ≡ before ++ here ∷ after
+  pub numbered : number ≡ length before + 1
+  pub judged : is_header_at number here ≡ false
   pub clean : (other : RecordFaultKind) (elsewhere : ℕ) → HasFaultAt records other elsewhere → number ≤ elsewhere

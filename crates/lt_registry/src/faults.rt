@@ -1,6 +1,6 @@
 //! Why a tag is not valid, and why a record gives no entry.
 ghost use Rattle.std.specs.Prelude.{◌≡◌};
-ghost use Rattle.lt_registry.specs.Names.{name_of, record_name_of};
+ghost use Rattle.lt_registry.specs.Names.{name_of, record_name_of, registry_name_of};
 
 use lt_jar::JarFault;
 use lt_tag::OutOfMemory;
@@ -164,6 +164,18 @@ pub enum RegistryFault {
     /// A record gives no entry.
     #[error("{0}")]
     Record(RecordFault),
+}
+
+impl RegistryFault {
+    /// The name of the fault that it holds.
+    pub fn name(self) -> &'static str
+        ensures { result.now ≡ registry_name_of self }
+    {
+        match self {
+            RegistryFault::Jar(JarFault { kind, line: _ }) => kind.name(),
+            RegistryFault::Record(RecordFault { kind, number: _ }) => kind.name(),
+        }
+    }
 }
 
 impl From<JarFault> for RegistryFault {

@@ -1,7 +1,5 @@
 use Rattle.std.proofs.Common.{◌<◌, ◌++◌, arith, inr, refl, ap, length, length-append}
-use Rattle.lt_jar.specs.Faults as faults
 use Rattle.lt_jar.specs.Limits.{longest_line}
-use Rattle.lt_jar.proofs.TakeLemmas.{take_line-too_long}
 use Rattle.lt_jar.proofs.engine.Engine.keep.Goals as goal
 
 pub returns-then-part-saturating_sub-clause-kept : goal.returns-then-part-saturating_sub-clause-kept
@@ -10,4 +8,4 @@ returns-then-part-saturating_sub-clause-kept c =
     let part = c.args.part.now in
     let sum = length-append partial.items part in
     let long : longest_line < length (partial.items ++ part) = omega (arith, sum, partial.ok.0, c.saturating_sub.ensures, c.if-part-saturating_sub.true, c.len.ensures) in
-    (λ fields. inr (faults.LineTooLong, refl, take_line-too_long c.args.self.now.ended fields (partial.items ++ part) long), λ none. omega (arith, long, ap length none), refl)
+    (inr (refl, long), λ none. omega (arith, long, ap length none), refl)

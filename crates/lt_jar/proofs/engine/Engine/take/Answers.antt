@@ -1,12 +1,13 @@
-use Rattle.std.proofs.Common.{◌≡◌, ◌∙◌, ◌++◌, ◌∷◌, [], refl, ap, sym, subst}
+use Rattle.std.proofs.Common.{◌≡◌, ◌∙◌, ◌++◌, ◌∷◌, ap, sym, subst}
 use Rattle.std.proofs.lemmas.Result.{err_from_is_err_and}
-use Rattle.lt_jar.specs.Lines.{IsOneLine, lines_of}
+use Rattle.std.proofs.lemmas.List.Elements.{All-append}
+use Rattle.lt_jar.specs.Lines.{IsOneLine}
 use Rattle.lt_jar.specs.Pieces.{fields_in}
 use Rattle.lt_jar.specs.Views.{taken_in}
 use Rattle.std.proofs.Common.{Result, Ok}
 use Rattle.lt_jar.specs.Faults.{Fault}
 use Rattle.lt_jar.specs.Reading.{Taken}
-use Rattle.lt_jar.proofs.PieceLemmas.{first_line, only_line, turn_all, turn_ends, turn_first, turn_next, turn_stops}
+use Rattle.lt_jar.proofs.PieceLemmas.{IsNoFeed, first_refused, unended_refused, turn_all, turn_ends, turn_first, turn_next, turn_stops}
 use Rattle.lt_jar.proofs.TakeLemmas.{line_ends}
 use Rattle.lt_jar.proofs.engine.Engine.take.Goals as goal
 
@@ -20,8 +21,9 @@ returns-in_err-end_line c =
     let rest = c.loop-line.rest.now in
     let split : IsOneLine line × (rest ≡ line ++ 10 ∷ after) = c.in-Some.ensures in
     let counted = c.in_err-end_line.ensures.counted turn.over.begun in
-    rw (p.1, p.2) (turn_stops c.args.self.now now c.end_line.new.self c.args.piece.now rest (now.partial.items ++ line) (now.partial.items ++ rest) (lines_of after) c.in_err-end_line.field-0.0 turn refl
-    (first_line now.partial.items line rest after turn.over.begun split.0 split.1) c.in_err-end_line.ensures.taken c.in_err-end_line.ensures.ended counted.0 counted.1)
+    rw (p.1, p.2) (turn_stops c.args.self.now now c.end_line.new.self c.args.piece.now rest c.in_err-end_line.field-0.0 turn
+    (λ more. first_refused now.ended (fields_in now) now.partial.items line rest after more c.in_err-end_line.field-0.0 turn.over.begun split.0 split.1 c.in_err-end_line.ensures.taken)
+    c.in_err-end_line.ensures.ended counted.0 counted.1)
 
 pub loop-line-preserved : goal.loop-line-preserved
 loop-line-preserved c =
@@ -58,8 +60,9 @@ returns-in_err-keep c =
     let kept = c.in_err-keep.ensures.kept in
     let same = c.in_err-keep.ensures.same in
     let begun : IsOneLine c.keep.new.self.partial.items = subst IsOneLine (sym kept.2) turn.over.begun in
-    rw (p.1, p.2) (turn_stops c.args.self.now now c.keep.new.self c.args.piece.now rest (now.partial.items ++ rest) (now.partial.items ++ rest) [] c.in_err-keep.field-0.0 turn refl
-    (only_line now.partial.items rest turn.over.begun one kept.1) (kept.0 (fields_in now)) same.1 same.2 begun)
+    rw (p.1, p.2) (turn_stops c.args.self.now now c.keep.new.self c.args.piece.now rest c.in_err-keep.field-0.0 turn
+    (λ more. unended_refused now.ended (fields_in now) (now.partial.items ++ rest) more c.in_err-keep.field-0.0 (All-append IsNoFeed now.partial.items rest turn.over.begun one) kept.1 kept.0)
+    same.1 same.2 begun)
 
 pub returns : goal.returns
 returns c =
