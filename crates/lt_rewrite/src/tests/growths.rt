@@ -87,7 +87,7 @@ fn shortcuts_tell_chains_without_end(rt: HostRuntime) -> Result<(), Fail> {
     let table = sample_with_cycle(rt.alloc())?;
     let shortcuts = twice(|| Shortcuts::of_table(rt.alloc(), &table))?;
     for entry in table.entries() {
-        let is_on_cycle = entry.number() == 6 || entry.number() > 46;
+        let is_on_cycle = entry.number() == 6 || entry.number() == 9;
         assert!(rt;
             shortcuts.has_end(&table, entry) != is_on_cycle,
             "{}",
