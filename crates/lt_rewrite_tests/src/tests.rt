@@ -2,7 +2,6 @@ mod applying;
 mod core_explaining;
 mod extensions_explaining;
 mod growths;
-mod sample;
 mod shortcuts;
 
 ghost use Rattle.std.specs.Prelude.{◌≡◌, List, All, IfOk, OnOk, map};
@@ -13,15 +12,18 @@ ghost use Rattle.lt_registry.specs.Faults.{HasNoFault};
 ghost use Rattle.lt_registry.specs.Validity.{Distinct};
 ghost use Rattle.lt_rewrite.specs.Conditions.{HasEndingChain};
 
-use super::*;
-use growths::twice;
 use lt_registry::{Kind, ListTable, ValidRefusal, validate};
+use lt_rewrite::{
+    Cycle, StepKind, chain_end, core_length, first_cycle, settle_core, settle_extensions, settle_t,
+    settle_u,
+};
 use lt_subtag::Subtag;
 use lt_tag::{
     Core, Extension, OutOfMemory, Tag, TagFault, copy_extensions, join_t, join_u, read_tag,
     split_t, split_u,
 };
-use sample::{sample, sample_with_cycle};
+use lt_test_tables::{sample, sample_with};
+use lt_testing::twice;
 use std::alloc::Global;
 use std::test::Fail;
 
@@ -295,6 +297,15 @@ fn is_endless(table: &ListTable, text: &str) -> bool {
         Ok(subtag) => chain_end(table, Kind::Language, &subtag).is_err(),
         Err(_) => false,
     }
+}
+
+/// The table of the sample in which the value of `he` is `iw`, whose value is `he`.
+fn sample_with_cycle(alloc: Global) -> Result<ListTable, Fail> {
+    sample_with(
+        alloc,
+        6,
+        "Type: language\nSubtag: he\nPreferred-Value: iw\n",
+    )
 }
 
 #[test]

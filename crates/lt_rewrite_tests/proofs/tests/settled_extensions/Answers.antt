@@ -5,8 +5,8 @@ use Rattle.lt_tag.specs.Extensions.{transform, IsTransform}
 use Rattle.lt_registry.specs.Parts.{EntryParts}
 use Rattle.lt_registry.specs.Validity.{Distinct, IsValid}
 use Rattle.lt_registry.proofs.ValidityLaws.{valid_law}
-use Rattle.lt_rewrite.proofs.ValidExtensions.{can_settle}
-use Rattle.lt_rewrite.proofs.tests.settled_extensions.Goals as goal
+use Rattle.lt_rewrite_tests.proofs.ValidExtensions.{can_settle}
+use Rattle.lt_rewrite_tests.proofs.tests.settled_extensions.Goals as goal
 
 pub settle-requires-clause-singletons : goal.settle-requires-clause-singletons
 settle-requires-clause-singletons c =

@@ -6,8 +6,8 @@ use Rattle.lt_tag.specs.Extensions.{transform, IsTransform}
 use Rattle.lt_registry.specs.Parts.{EntryParts}
 use Rattle.lt_registry.specs.Validity.{Distinct, IsValid}
 use Rattle.lt_registry.proofs.ValidityLaws.{valid_law}
-use Rattle.lt_rewrite.proofs.ValidExtensions.{can_settle, few_in_tag}
-use Rattle.lt_rewrite.proofs.tests.extensions_explaining.explained_tag.Goals as goal
+use Rattle.lt_rewrite_tests.proofs.ValidExtensions.{can_settle, few_in_tag}
+use Rattle.lt_rewrite_tests.proofs.tests.extensions_explaining.explained_tag.Goals as goal
 
 pub explain_extensions-requires-clause-singletons : goal.explain_extensions-requires-clause-singletons
 explain_extensions-requires-clause-singletons c =

@@ -2,11 +2,11 @@ ghost use Rattle.std.specs.Prelude.{◌↔◌, IsTrue, IfOk};
 ghost use Rattle.lt_registry.specs.Validity.{IsProper};
 ghost use Rattle.lt_registry.specs.Faults.{RepeatsAtMost};
 
-use super::growths::twice;
-use super::sample::sorted_sample;
-use crate::{ApplyFault, Step, StepKind, apply};
 use lt_registry::{Lookup, proper};
+use lt_rewrite::{ApplyFault, Step, StepKind, apply};
 use lt_tag::{OutOfMemory, Tag, read_tag, write_tag};
+use lt_test_tables::sorted_sample;
+use lt_testing::twice;
 use std::alloc::Global;
 use std::process::Abort;
 use std::test::Fail;

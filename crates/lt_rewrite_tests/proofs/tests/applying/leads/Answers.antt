@@ -2,7 +2,7 @@ use Rattle.std.proofs.Common.{List}
 use Rattle.lt_registry.specs.Parts.{EntryParts}
 use Rattle.lt_tag.specs.Parts.{TagForm}
 use Rattle.lt_registry.proofs.ValidityLaws.{proper_law}
-use Rattle.lt_rewrite.proofs.tests.applying.leads.Goals as goal
+use Rattle.lt_rewrite_tests.proofs.tests.applying.leads.Goals as goal
 
 pub applied-answer-requires : goal.applied-answer-requires
 applied-answer-requires g c =

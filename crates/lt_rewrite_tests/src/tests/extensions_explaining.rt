@@ -2,11 +2,11 @@ ghost use Rattle.std.specs.Prelude.{All};
 ghost use Rattle.lt_registry.specs.Faults.{HasNoFault};
 ghost use Rattle.lt_rewrite.specs.Conditions.{HasEndingChain};
 
-use super::growths::twice;
 use super::judge;
-use crate::{Step, StepKind, explain_extensions, first_cycle};
 use lt_registry::ListTable;
+use lt_rewrite::{Step, StepKind, explain_extensions, first_cycle};
 use lt_tag::{OutOfMemory, Tag, copy_extensions, read_tag};
+use lt_testing::twice;
 use std::alloc::Global;
 use std::test::Fail;
 

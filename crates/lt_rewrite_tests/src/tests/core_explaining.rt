@@ -1,6 +1,6 @@
 use super::core_of;
-use crate::{Step, StepKind, explain_core, first_cycle};
 use lt_registry::ListTable;
+use lt_rewrite::{Step, StepKind, explain_core, first_cycle};
 use std::alloc::Global;
 use std::test::Fail;
 

@@ -2,26 +2,16 @@
 //! `bench/growth.py` runs it once for each growth, and refuses that one alone.
 use super::applying::steps_lead;
 use super::core_explaining::are_steps;
-use super::sample::{sample, sample_with_cycle};
 use super::shortcuts::chain_ends_in;
 use super::{
     CHAINS, EXTENSIONS, LISTS, core_explaining, extension_settles_to, extensions_explaining,
-    list_settles_to,
+    list_settles_to, sample_with_cycle,
 };
-use crate::Shortcuts;
 use lt_registry::Lookup;
+use lt_rewrite::Shortcuts;
+use lt_test_tables::sample;
+use lt_testing::twice;
 use std::test::Fail;
-
-/// What a call answers, made again where it is refused. No run refuses more than one growth.
-pub fn twice<T, E: Drop, F: Fn() -> Result<T, E> + Drop>(call: F) -> Result<T, E>
-    requires { F.IsAlwaysCallable call }
-    ensures { F.post call result }
-{
-    match call() {
-        Ok(value) => Ok(value),
-        Err(_) => call(),
-    }
-}
 
 #[test]
 fn parts_of_extensions_are_settled(rt: HostRuntime) -> Result<(), Fail> {

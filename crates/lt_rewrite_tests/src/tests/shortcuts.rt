@@ -1,10 +1,10 @@
-use super::growths::twice;
-use super::sample::sample;
 use super::{CORES, core_of, same_core};
-use crate::{Shortcuts, first_cycle};
 use lt_registry::{Kind, ListTable};
+use lt_rewrite::{Shortcuts, first_cycle};
 use lt_subtag::Subtag;
 use lt_tag::Core;
+use lt_test_tables::sample;
+use lt_testing::twice;
 use std::alloc::Global;
 use std::test::Fail;
 

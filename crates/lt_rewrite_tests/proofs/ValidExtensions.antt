@@ -8,7 +8,7 @@ use Rattle.lt_tag.specs.Values.{extensions_of, FitsCounts}
 use Rattle.lt_registry.specs.Parts.{EntryParts}
 use Rattle.lt_registry.specs.Validity.{Distinct, IsProperExtension, HasProperParts}
 use Rattle.lt_rewrite.proofs.PartLists.{all_both}
-use Rattle.lt_rewrite.proofs.TagLeading.{fits, few_subtags}
+use Rattle.lt_rewrite.proofs.StepLaws.{fits, few_subtags}
 
 pub record CanSettle (es : List ExtensionParts) : Type 0 where
   pub singletons : Distinct (map (λ (e : ExtensionParts). e.singleton) es)
