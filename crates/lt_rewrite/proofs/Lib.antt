@@ -12,7 +12,6 @@ pub mod CoreLaws
 pub mod ExtensionLaws
 pub mod ProperTags
 pub mod StepLaws
-
 -- What this crate alone uses.
 mod Numbers
 mod Sorting

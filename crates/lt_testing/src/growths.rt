@@ -26,12 +26,7 @@ pub fn is_shown<T: Debug>(alloc: Global, value: &T, words: &str) -> bool {
 }
 
 /// What a call answers, made again where a growth was refused and its arguments are what they were.
-pub fn answered<A, T, E, C, R>(
-    alloc: Global,
-    arguments: &A,
-    call: C,
-    is_refusal: R,
-) -> Result<T, E>
+pub fn answered<A, T, E, C, R>(alloc: Global, arguments: &A, call: C, is_refusal: R) -> Result<T, E>
 where
     A: Debug,
     E: Drop,
