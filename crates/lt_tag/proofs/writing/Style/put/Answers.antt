@@ -1,4 +1,4 @@
-use Rattle.std.proofs.Common.{Bool, ap, refl}
+use Rattle.std.proofs.Common.{Bool, ap}
 use Rattle.std.specs.Prelude.{if◌then◌else◌}
 use Rattle.std.proofs.lemmas.Result.{IfOk-weaker}
 use Rattle.lt_tag.specs.Conventional.{shown}
@@ -13,14 +13,14 @@ pub returns-then-style-clause-put : goal.returns-then-style-clause-put
 returns-then-style-clause-put g c =
     let e = ap (λ (b : Bool). if b then c.args.subtag.now else shown c.args.subtag.now) c.if-style.true in
     IfOk-weaker c.add-then-style.result _ _
-      (λ u took. prints_next _ _ _ _ c.args.self.now c.after.result c.args.subtag.now c.args.subtag.now c.after.ensures c.if-not-style.false e
-        c.in_ok-add.ensures.took took)
-      c.add-then-style.ensures.took
+    (λ u took. prints_next _ _ _ _ c.args.self.now c.after.result c.args.subtag.now c.args.subtag.now c.after.ensures c.if-not-style.false e
+    c.in_ok-add.ensures.took took)
+    c.add-then-style.ensures.took
 
 pub returns-else-style-clause-put : goal.returns-else-style-clause-put
 returns-else-style-clause-put g c =
     let e = ap (λ (b : Bool). if b then c.args.subtag.now else shown c.args.subtag.now) c.if-style.false in
     IfOk-weaker c.put_shown.result _ _
-      (λ u took. prints_next _ _ _ _ c.args.self.now c.after.result c.args.subtag.now (shown c.args.subtag.now) c.after.ensures c.if-not-style.false e
-        c.in_ok-add.ensures.took took)
-      c.put_shown.ensures.put
+    (λ u took. prints_next _ _ _ _ c.args.self.now c.after.result c.args.subtag.now (shown c.args.subtag.now) c.after.ensures c.if-not-style.false e
+    c.in_ok-add.ensures.took took)
+    c.put_shown.ensures.put

@@ -12,7 +12,7 @@ same_parts a b c d e = rw (a, b, c, d, e) refl
 pub returns-clause-put : goal.returns-clause-put
 returns-clause-put g c =
     IfOk-weaker c.put_all-2.result _ _ (λ u last.
-      prints_as (same_parts (c.bytes.ensures.same ∙ c.language.ensures.value) c.extlangs.ensures.value c.script.ensures.value c.region.ensures.value c.variants.ensures.value)
-        (prints_append c.in_ok-put.ensures.put (prints_append c.in_ok-put_all.ensures.put
-          (prints_append c.in_ok-put_option.ensures.put (prints_append c.in_ok-put_option-2.ensures.put last)))))
-      c.put_all-2.ensures.put
+    prints_as (same_parts (c.bytes.ensures.same ∙ c.language.ensures.value) c.extlangs.ensures.value c.script.ensures.value c.region.ensures.value c.variants.ensures.value)
+    (prints_append c.in_ok-put.ensures.put (prints_append c.in_ok-put_all.ensures.put
+    (prints_append c.in_ok-put_option.ensures.put (prints_append c.in_ok-put_option-2.ensures.put last)))))
+    c.put_all-2.ensures.put

@@ -1,4 +1,4 @@
-use Rattle.std.proofs.Common.{◌≡◌, ◌++◌, ◌∷◌, ℕ, List, [], refl}
+use Rattle.std.proofs.Common.{refl}
 use Rattle.std.proofs.lemmas.Result.{IfOk-weaker}
 use Rattle.lt_tag.proofs.PrintingLemmas.{prints_append, prints_as}
 use Rattle.lt_tag.proofs.writing.Style.put_extension.Goals as goal

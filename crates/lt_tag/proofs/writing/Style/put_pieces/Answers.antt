@@ -18,10 +18,11 @@ loop-others-preserved g c =
     let piece = c.cut.result.0.now in
     let found = left c.loop-others.rest.now c.cut.result.0.now c.cut.result.1 c.cut.ensures.pieces ∙ ap (λ (o : Option (Bor (List ℕ))). piece ∷ pieces_left o) c.in-Some.is in
     record {
-      put =
-        (before.0 ++ piece ∷ [],
-          append_assoc before.0 (piece ∷ []) (pieces c.in-Some.others.now) ∙ ap (λ (l : List (List ℕ)). before.0 ++ l) (sym found) ∙ before.1,
-          prints_append before.2 c.in_ok-put.ensures.put);
+      put = (
+        before.0 ++ piece ∷ [],
+        append_assoc before.0 (piece ∷ []) (pieces c.in-Some.others.now) ∙ ap (λ (l : List (List ℕ)). before.0 ++ l) (sym found) ∙ before.1,
+        prints_append before.2 c.in_ok-put.ensures.put,
+      );
       kept = kept_trans _ _ _ c.loop-others.invariant.kept c.put.ensures.kept;
     }
 

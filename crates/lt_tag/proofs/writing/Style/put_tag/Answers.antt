@@ -1,4 +1,4 @@
-use Rattle.std.proofs.Common.{◌≡◌, ◌-◌, ◌++◌, ℕ, [], ◌∷◌, List, refl, sym, ap, ◌∙◌, arith}
+use Rattle.std.proofs.Common.{◌≡◌, ◌-◌, ◌++◌, ℕ, [], ◌∷◌, refl, sym, ap, ◌∙◌, arith}
 use Rattle.std.specs.Prelude.{Some, slice_index_or}
 use Rattle.std.proofs.lemmas.Result.{IfOk-weaker}
 use Rattle.lt_tag.specs.Parts.{TagForm, LangTag, PrivateUse, Grandfathered}
@@ -23,8 +23,8 @@ spelled (Grandfathered own) number e =
 pub returns-in-Some-clause-put : goal.returns-in-Some-clause-put
 returns-in-Some-clause-put g c =
     IfOk-weaker c.put_pieces.result _ _
-      (λ u last. prints_as (ap pieces c.text_of.ensures ∙ spelled c.args.tag.now c.in-Some.number (sym c.in-Some.is ∙ c.grandfathered.ensures.value)) last)
-      c.put_pieces.ensures.put
+    (λ u last. prints_as (ap pieces c.text_of.ensures ∙ spelled c.args.tag.now c.in-Some.number (sym c.in-Some.is ∙ c.grandfathered.ensures.value)) last)
+    c.put_pieces.ensures.put
 
 -- another spells its parts
 parts_spelled : (form : TagForm) → IsTagValue form → ((number : ℕ) → number_of form ≡ Some number → ⊥)
@@ -37,6 +37,6 @@ parts_spelled (Grandfathered number) value other = absurd (other number refl)
 pub returns-clause-put : goal.returns-clause-put
 returns-clause-put g c =
     IfOk-weaker c.put_private.result _ _
-      (λ u last. prints_as (rw (c.core.ensures.value, c.extensions.ensures.value, c.private.ensures.value) (parts_spelled c.args.tag.now c.core.ensures.tag (λ number e. c.in_default.not-Some number (c.grandfathered.ensures.value ∙ e))))
-        (prints_append c.in_ok-put_optional_core.ensures.put (prints_append c.in_ok-put_extensions.ensures.put last)))
-      c.put_private.ensures.put
+    (λ u last. prints_as (rw (c.core.ensures.value, c.extensions.ensures.value, c.private.ensures.value) (parts_spelled c.args.tag.now c.core.ensures.tag (λ number e. c.in_default.not-Some number (c.grandfathered.ensures.value ∙ e))))
+    (prints_append c.in_ok-put_optional_core.ensures.put (prints_append c.in_ok-put_extensions.ensures.put last)))
+    c.put_private.ensures.put
