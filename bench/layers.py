@@ -5,8 +5,8 @@ Usage: bench/layers.py [--list]
 
 A crate's specs and contracts are for every crate above. Of its lemmas those are lent whose modules are declared
 `pub mod` in crates/NAME/proofs/Lib.antt; a `mod` is the crate's own, and can change behind the others. The check of a
-crate refuses to import a module that is not lent. This reads the same of the text, without a toolchain, and sees
-besides that no module is lent to nobody.
+crate crate refuses to import a module that is not lent. This reads the same of the text, without a toolchain, and sees
+besides that a crate which parts what it lends from its own, by the comment OWN below, lends no module to nobody.
 
 Prints a line for each fault, or with --list each crate with what it lends and to whom; and last the numbers. Ends
 with 1 if there is a fault.
@@ -18,6 +18,7 @@ from pathlib import Path
 
 ROOT = Path(__file__).resolve().parent.parent
 MODULE = re.compile(r"^(pub )?mod (\S+)", re.M)
+OWN = "-- What this crate alone uses."
 IMPORT = re.compile(r"\bRattle\.(\w+)\.proofs\.(\w+)")
 
 
@@ -27,6 +28,12 @@ def declared(crate):
     if not lib.exists():
         return {}
     return {name: bool(lent) for lent, name in MODULE.findall(lib.read_text(encoding="utf-8"))}
+
+
+def parts_its_own(crate):
+    """Whether the crate parts what it lends from its own."""
+    lib = crate / "proofs" / "Lib.antt"
+    return lib.exists() and OWN in lib.read_text(encoding="utf-8").splitlines()
 
 
 def imports(crate):
@@ -51,8 +58,9 @@ def main():
                 faults.append("%s: %s lends no %s" % (path, owner, module))
     for name, own in modules.items():
         lent = [module for module, is_lent in own.items() if is_lent]
-        faults += ["crates/%s/proofs/Lib.antt: %s is lent to nobody" % (name, module)
-                   for module in lent if (name, module) not in users]
+        if parts_its_own(crates[name]):
+            faults += ["crates/%s/proofs/Lib.antt: %s is lent to nobody" % (name, module)
+                       for module in lent if (name, module) not in users]
         if "--list" in sys.argv[1:] and lent:
             print("%s: %s" % (name, "; ".join("%s to %s" % (module, ", ".join(sorted(users.get((name, module), []))))
                                               for module in lent)))

@@ -32,7 +32,6 @@ mod OrderingLaw
 mod SameCuts
 mod OneStep
 mod Repeats
-mod SortedLists
 mod OrderingRows
 mod ChainWalks
 mod PlacedParts
