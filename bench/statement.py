@@ -26,8 +26,7 @@ HEADLINE = [
     ("new", ["value", "passes", "cause"], "Checked"),
     ("canonical", ["ok", "repeats"]),
     ("canonical_text", ["written"]),
-    ("equivalent", ["answer"]),
-    ("confluence", ["canonical", "twice", "text_twice", "equal_texts"]),
+    ("confluence", ["canonical", "text_twice", "equal_texts"]),
 ]
 
 SEPARATORS = re.compile(r"[\s(){}\[\],;]+")

@@ -4,7 +4,7 @@ ghost use Rattle.lt_registry.specs.Faults as validity;
 ghost use Rattle.lt_rewrite.specs.TagSteps.{AreEquivalent};
 ghost use Rattle.lt_check.specs.Conditions.{IsChecked};
 ghost use Rattle.lt_canon.specs.Answers.{IsCanonicalFormOf, RefusesOnlyRepeats};
-ghost use Rattle.lt_canon.specs.Refusals.{NamesFault, IsRefusedWith};
+ghost use Rattle.lt_canon.specs.Refusals.{NamesFault, NamesRepeat, IsRefusedWith};
 ghost use Rattle.lt_canon.specs.Equivalence.{IsEquivalenceAnswer, IsFirstRefusal};
 ghost use Rattle.lt_canon.specs.Explaining.{IsExplanation};
 ghost use Rattle.lt_canon.specs.ExtlangForm.{IsExtlangFormOf};
@@ -130,6 +130,7 @@ impl Registry {
         ensures ok { IfOk result (λ form. IsCanonicalFormOf self.now tag.now form) }
         ensures repeats { IfErr result (λ refusal. RefusesOnlyRepeats self.now tag.now refusal) }
         ensures invalid { IfErr result (λ refusal. NamesFault self.now tag.now refusal) }
+        ensures named { IfErr result (λ refusal. NamesRepeat self.now tag.now refusal) }
     {
         lt_canon::canonical(alloc, &self.checked, tag)
     }

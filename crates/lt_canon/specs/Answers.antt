@@ -58,8 +58,8 @@ pub record IsRepeatOf (R : List EntryParts) (t : TagForm) (v : List ℕ) : Type 
   pub repeats : CanRepeat R t
   pub named : IsNamedRepeat R t v
 
--- A valid tag is refused only where steps can repeat a variant, and this is named. Where no memory was left nothing is said.
+-- A valid tag is refused only where steps can repeat a variant. Where memory runs out nothing is said.
 abbrev pub RefusesOnlyRepeats : List EntryParts → TagForm → Refusal → Type 0
 RefusesOnlyRepeats R t (refusals.Invalid fault) = IsValid R t → ⊥
-RefusesOnlyRepeats R t (refusals.ReplacementRepeats v) = IsRepeatOf R t v
+RefusesOnlyRepeats R t (refusals.ReplacementRepeats v) = IsValid R t × CanRepeat R t
 RefusesOnlyRepeats R t refusals.OutOfMemory = Unit {0}

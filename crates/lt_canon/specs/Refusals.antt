@@ -9,7 +9,7 @@ use Rattle.lt_registry.specs.Faults.{IsFirstFault}
 use Rattle.lt_registry.specs.declared.faults.ValidFault.{ValidFault}
 use Rattle.lt_registry.specs.declared.faults.ValidRefusal.{ValidRefusal}
 use Rattle.lt_registry.specs.declared.faults.ValidRefusal.TheVariants as checks
-use Rattle.lt_canon.specs.Answers.{IsRepeatOf}
+use Rattle.lt_canon.specs.Answers.{IsNamedRepeat, IsRepeatOf}
 use Rattle.lt_canon.specs.declared.refusals.Refusal.{Refusal}
 use Rattle.lt_canon.specs.declared.refusals.Refusal.TheVariants as refusals
 use Rattle.lt_canon.specs.declared.refusals.TextRefusal.{TextRefusal}
@@ -20,6 +20,12 @@ abbrev pub NamesFault : List EntryParts → TagForm → Refusal → Type 0
 NamesFault R t (refusals.Invalid fault) = IsFirstFault R t fault.kind fault.place
 NamesFault R t (refusals.ReplacementRepeats v) = Unit {0}
 NamesFault R t refusals.OutOfMemory = Unit {0}
+
+-- The variant is named where the refusal is that steps can repeat one. Of any other this says nothing.
+abbrev pub NamesRepeat : List EntryParts → TagForm → Refusal → Type 0
+NamesRepeat R t (refusals.Invalid fault) = Unit {0}
+NamesRepeat R t (refusals.ReplacementRepeats v) = IsNamedRepeat R t v
+NamesRepeat R t refusals.OutOfMemory = Unit {0}
 
 -- the refusal that is owed: the fault, or the variant that is named; nothing is owed where no memory was left
 abbrev pub IsRefusedWith : List EntryParts → TagForm → Refusal → Type 0

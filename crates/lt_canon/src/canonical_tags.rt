@@ -7,7 +7,7 @@ ghost use Rattle.lt_rewrite.specs.Conditions.{HasEndingChain};
 ghost use Rattle.lt_rewrite.specs.Shortcuts.{AreShortcuts};
 ghost use Rattle.lt_check.specs.Conditions.{plain, IsValidPlain, IsChecked};
 ghost use Rattle.lt_canon.specs.Answers.{IsCanonicalFormOf, RefusesOnlyRepeats};
-ghost use Rattle.lt_canon.specs.Refusals.{NamesFault};
+ghost use Rattle.lt_canon.specs.Refusals.{NamesFault, NamesRepeat};
 ghost use Rattle.lt_canon.specs.OtherForms.{IsCanonicalAnswer, or_same};
 ghost use Rattle.lt_canon.specs.Settled.{IsDistinctForm, IsCoreRefusal, IsSettledValue};
 ghost use Rattle.lt_canon.specs.UsualTags.{IsUsual};
@@ -39,6 +39,7 @@ pub fn canonical<L: Lookup>(alloc: Global, checked: &Checked<L>, tag: &Tag) -> R
     ensures ok { IfOk result (λ form. IsCanonicalFormOf (L.listed checked.now) tag.now form) }
     ensures repeats { IfErr result (λ refusal. RefusesOnlyRepeats (L.listed checked.now) tag.now refusal) }
     ensures invalid { IfErr result (λ refusal. NamesFault (L.listed checked.now) tag.now refusal) }
+    ensures named { IfErr result (λ refusal. NamesRepeat (L.listed checked.now) tag.now refusal) }
 {
     match other_form(alloc, checked, tag)? {
         Some(form) => Ok(form),

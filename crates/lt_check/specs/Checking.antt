@@ -30,10 +30,15 @@ abbrev pub IsVerdict : List EntryParts → Option Finding → Type 0
 IsVerdict R None = Passes R
 IsVerdict R (Some finding) = IsFinding R finding.condition finding.number
 
--- what a rejection names is what the check finds; want of memory aside
+-- A rejection names a condition, and a record that does not meet it. Where memory runs out nothing is said.
 abbrev pub IsCause : List EntryParts → RejectedCause → Type 0
-IsCause R (causes.Finding finding) = IsFinding R finding.condition finding.number
+IsCause R (causes.Finding finding) = IsAtFault R finding.condition finding.number
 IsCause R causes.OutOfMemory = Unit {0}
+
+-- It is the first condition that fails, and there the lowest record. Where memory runs out nothing is said.
+abbrev pub IsFirstCause : List EntryParts → RejectedCause → Type 0
+IsFirstCause R (causes.Finding finding) = IsFinding R finding.condition finding.number
+IsFirstCause R causes.OutOfMemory = Unit {0}
 
 -- a table that passes the check, and shortcuts along its chains
 pub record IsCheckedAlong (R : List EntryParts) (places : List ℕ) : Type 0 where

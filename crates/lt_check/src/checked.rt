@@ -2,7 +2,7 @@
 ghost use Rattle.std.specs.Prelude.{◌≡◌, IfOk, IfErr};
 ghost use Rattle.lt_rewrite.specs.Shortcuts.{AreShortcuts};
 ghost use Rattle.lt_check.specs.Conditions.{IsChecked, Passes};
-ghost use Rattle.lt_check.specs.Checking.{IsCause};
+ghost use Rattle.lt_check.specs.Checking.{IsCause, IsFirstCause};
 
 use crate::checking::find_fault;
 use crate::rejections::{Rejected, RejectedCause};
@@ -39,6 +39,7 @@ impl<L: Lookup> Checked<L> {
         ensures passes { IfOk result (λ checked. Passes (L.listed table)) }
         ensures returned { IfErr result (λ rejected. rejected.table ≡ table) }
         ensures cause { IfErr result (λ rejected. IsCause (L.listed table) rejected.cause) }
+        ensures first { IfErr result (λ rejected. IsFirstCause (L.listed table) rejected.cause) }
     {
         know_entries(&table);
         let Ok(shortcuts) = Shortcuts::of_table(alloc, &table) else {

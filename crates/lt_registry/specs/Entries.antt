@@ -22,8 +22,7 @@ has_form kinds.Extlang s = is_extlang s
 has_form kinds.Script s = is_script s
 has_form kinds.Region s = is_region s
 has_form kinds.Variant s = is_variant s
-has_form kinds.Grandfathered s = false
-has_form kinds.Redundant s = false
+has_form _ s = false
 
 -- the types of whole records (RFC 5646, 2.2.8)
 abbrev pub is_whole_kind : Kind → Bool
@@ -57,16 +56,12 @@ FitsName kind (names.Single s) = has_form kind s ≡ true
 FitsName kind (names.Range a b) = IsRange kind a b
 FitsName kind (names.Whole t) = (is_whole_kind kind ≡ true) × IsTagValue t
 
--- The value of a language or extlang is a language, that of a script or region is one, that of a variant a variant or
--- a language of 2 or 3 letters (RFC 5646, 3.1.7).
+-- The value of an extlang is a language, that of a variant a variant or a language of 2 or 3 letters, and any other has
+-- the form of its kind (RFC 5646, 3.1.7).
 abbrev pub has_value_form : Kind → List ℕ → Bool
-has_value_form kinds.Language s = is_language s
 has_value_form kinds.Extlang s = is_language s
-has_value_form kinds.Script s = is_script s
-has_value_form kinds.Region s = is_region s
 has_value_form kinds.Variant s = is_variant s || (is_language s && is_short s)
-has_value_form kinds.Grandfathered s = false
-has_value_form kinds.Redundant s = false
+has_value_form kind s = has_form kind s
 
 -- a preferred value has the form that its record's type asks for (RFC 5646, 3.1.7)
 abbrev pub FitsValue : Kind → EntryValue → Type 0

@@ -1,6 +1,6 @@
 -- What the steps on cores need of a registry: conditions on a record among all. A registry meets a condition if
 -- each of its records does.
-use Rattle.std.specs.Prelude.{ℕ, ◌≡◌, ◌≢◌, ◌<◌, ◌⊎◌, Bool, true, false, List, [], ◌∷◌, Option, Some, None, All, Contains}
+use Rattle.std.specs.Prelude.{ℕ, ◌≡◌, ◌≢◌, ◌<◌, ◌⊎◌, Bool, true, false, if◌then◌else◌, List, [], ◌∷◌, Option, Some, None, All, Contains}
 use Rattle.std.specs.List.{AllByRecursion}
 use Rattle.lt_tag.specs.Parts.{CoreParts, TagForm, Grandfathered}
 use Rattle.lt_tag.specs.Spelling.{spell_core, IsCore}
@@ -38,13 +38,8 @@ HasRegisteredValue R e =
 
 -- the value that follows in a chain: after a variant only a variant, and none after an extlang (RFC 5646, 3.1.7)
 abbrev pub next_value : List EntryParts → Kind → List ℕ → Option (List ℕ)
-next_value R kinds.Language s = value R kinds.Language s
-next_value R kinds.Extlang s = None
-next_value R kinds.Script s = value R kinds.Script s
-next_value R kinds.Region s = value R kinds.Region s
 next_value R kinds.Variant s = variant_value R s
-next_value R kinds.Grandfathered s = None
-next_value R kinds.Redundant s = None
+next_value R kind s = if keeps_kind kind then value R kind s else None
 
 -- If a language, script, region or variant has a value, the chain of values that begins with this value ends (C3; RFC
 -- 5646, 3.1.7).

@@ -1,8 +1,10 @@
 -- A text that has a fault has no tag, and one fault alone.
-use Rattle.std.proofs.Common.{◌≡◌, ℕ, ◌≤◌, ◌<◌, ◌+◌, ◌-◌, List, [], length, refl, sym, ap, subst, arith, inl, inr}
+use Rattle.std.proofs.Common.{◌≡◌, ℕ, ◌≤◌, ◌<◌, ◌+◌, ◌-◌, List, [], length, refl, sym, ap, subst, ◌∙◌, arith, inl, inr}
 use Rattle.std.specs.Prelude.{Result, Ok, Err, IsOk, slice_index_or}
 use Rattle.std.proofs.lemmas.List.{take_all}
 use Rattle.std.proofs.lemmas.Bool.{cases_order}
+use Rattle.std.specs.List.{list_all}
+use Rattle.lt_subtag.specs.Bytes.{is_subtag}
 use Rattle.lt_subtag.specs.Reading.{subtag_of}
 use Rattle.lt_subtag.specs.declared.SubtagFault.{SubtagFault}
 use Rattle.lt_subtag.specs.declared.SubtagFault.TheVariants as subtag_faults
@@ -14,6 +16,8 @@ use Rattle.lt_tag.specs.Listing.{kind_of}
 use Rattle.lt_tag.specs.WellFormed.{spell, IsTag, IsWellFormed, Begins, IsFirstMisplaced}
 use Rattle.lt_tag.specs.Faults.{IsFault, IsFirstBadPiece, HasList, HasBadList, HasFault, HasTag, longest_text}
 use Rattle.lt_tag.proofs.DraftResults.{Begins-take}
+use Rattle.lt_tag.proofs.LetterLemmas.{to_HasList}
+use Rattle.lt_tag.proofs.ShapeLemmas.{tag_subtags}
 
 -- why a list is no tag's
 data ListCause (list : List (List ℕ)) : TagFaultKind → ℕ → Type 0 where
@@ -55,9 +59,12 @@ good_or_bad text fault place l b =
     let ok = l (place - 1) (omega (arith, b.first, b.within)) in
     bad_ok (subtag_of (slice_index_or (pieces text) (place - 1) [])) fault here ok
 
+tag_listed : (text : List ℕ) (tag : TagForm) → HasTag text tag → HasList text
+tag_listed text tag t = to_HasList text (ap (list_all is_subtag) (sym t.spelled) ∙ tag_subtags tag t.tag)
+
 cause_excludes_tag : (text : List ℕ) (kind : TagFaultKind) (place : ℕ) (tag : TagForm) → Cause text kind place → HasTag text tag → ⊥
 cause_excludes_tag text kind place tag (long n) t = omega (arith, t.short)
-cause_excludes_tag text kind place tag (piece fault at n b) t = good_or_bad text fault at t.listed b
+cause_excludes_tag text kind place tag (piece fault at n b) t = good_or_bad text fault at (tag_listed text tag t) b
 cause_excludes_tag text kind place tag (bad l _) t = l.bad (tag_formed tag (list_of text) t.tag t.spelled)
 
 pub fault_excludes_tag : (text : List ℕ) (kind : TagFaultKind) (place : ℕ) (tag : TagForm) → HasFault text kind place → HasTag text tag → ⊥

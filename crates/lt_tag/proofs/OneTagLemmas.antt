@@ -208,7 +208,7 @@ text_of_tag tag k = (to_HasList (conventional (spell tag)) (ap (list_all is_subt
 pub read_again : (tag : TagForm) → IsTag tag → length (conventional (spell tag)) ≤ longest_text → HasTag (conventional (spell tag)) tag
 read_again tag k short =
     let text = text_of_tag tag k in
-    record { short = short; listed = text.0; tag = k; spelled = sym text.1 }
+    record { short = short; tag = k; spelled = sym text.1 }
 
 pub same_text : (a b : TagForm) → IsTag a → IsTag b → (conventional (spell a) ≡ conventional (spell b)) ↔ (a ≡ b)
 same_text a b h k = (

@@ -102,7 +102,7 @@ module _ (text : List ℕ) (list : List (List ℕ)) (short : length text ≤ lon
           let d = draft_is list draft h in
           let f = finished_is draft form d.0 (sym e) in
           let same : spell form ≡ list = f.1 ∙ d.1 in
-          inl (form, record { short = short; listed = l.0; tag = shaped_tag form f.0 (subst (λ (z : List (List ℕ)). IsNotGrandfathered z) (sym same) other); spelled = same ∙ l.1 })
+          inl (form, record { short = short; tag = shaped_tag form f.0 (subst (λ (z : List (List ℕ)). IsNotGrandfathered z) (sym same) other); spelled = same ∙ l.1 })
       go None e =
           let u = unfinished list draft h (sym e) in
           let l = text_list text list all in
@@ -145,7 +145,7 @@ by_list : (text : List ℕ) (list : List (List ℕ)) → length text ≤ longest
 by_list text list short all =
     let l = text_list text list all in
     elim (number_or_none list) [
-      | inl found ↦ inl (Grandfathered found.0, record { short = short; listed = l.0; tag = (found.1.first, found.1.last); spelled = sym found.1.same ∙ l.1 })
+      | inl found ↦ inl (Grandfathered found.0, record { short = short; tag = (found.1.first, found.1.last); spelled = sym found.1.same ∙ l.1 })
       | inr other ↦ by_machine text list short all other (omega (arith, ap length l.1, length-map (pieces text) folded, some_pieces text))
     ]
 

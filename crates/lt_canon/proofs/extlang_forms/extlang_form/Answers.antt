@@ -15,7 +15,7 @@ pub returns-in_err-form-clause-refusal : goal.returns-in_err-form-clause-refusal
 returns-in_err-form-clause-refusal g c =
     let p = err_from_is_err_and c.from_residual.result c.from_residual.ensures.1 in
     let h = c.in_err-form.ensures {u = tt} in
-    rw (p.1, p.2) (refused (g.L.Lookup.listed c.args.checked.now) c.args.tag.now c.in_err-form.field-0.0 h.invalid h.repeats)
+    rw (p.1, p.2) (refused (g.L.Lookup.listed c.args.checked.now) c.args.tag.now c.in_err-form.field-0.0 h.invalid h.repeats h.named)
 
 pub returns-in_default-clause-form : goal.returns-in_default-clause-form
 returns-in_default-clause-form g c =
