@@ -29,7 +29,7 @@ $as_root install -m 644 "$here/bcp47.control" "$here/bcp47--1.0.sql" "$shared" |
 cd "$folder" || exit 1
 as_user "$tools/initdb" -D "$folder/data" -A trust -E UTF8 --locale C > initdb.log 2>&1 || { cat initdb.log && exit 1; }
 as_user "$tools/pg_ctl" -D "$folder/data" -w -l "$folder/log" \
-    -o "-k $folder -c listen_addresses= -c bcp47.registry=$folder/registry -c fsync=off" start > start.log 2>&1 || { cat start.log log && exit 1; }
+    -o "-k $folder -c listen_addresses= -c session_preload_libraries=bcp47 -c bcp47.registry=$folder/registry -c fsync=off" start > start.log 2>&1 || { cat start.log log && exit 1; }
 ask() { as_user psql -h "$folder" -d postgres -v ON_ERROR_STOP=1 -X -q -A -t -P null=NULL "$@"; }
 got=$(
     ask -c 'CREATE EXTENSION bcp47'
@@ -60,9 +60,9 @@ ask -c "SELECT coalesce(bcp47_canonical(tag), '! ' || bcp47_fault(coalesce(tag, 
 cmp "$folder/wanted" "$folder/answers" || exit 1
 [ "$(ask -c "SET enable_seqscan = off" -c "SELECT count(*) FROM books WHERE bcp47_canonical(tag) = 'yue'")" = "$(grep -cx yue wanted)" ] || exit 1
 plan=$(ask -c 'SET max_parallel_workers_per_gather = 4; SET parallel_setup_cost = 0; SET parallel_tuple_cost = 0; SET min_parallel_table_scan_size = 0' \
-    -c 'EXPLAIN (COSTS OFF) SELECT max(bcp47_canonical(tag)) FROM books')
+    -c 'EXPLAIN (COSTS OFF) SELECT count(bcp47_fault(tag)) FROM books')
 case $plan in *Gather*) ;; *) echo "no parallel plan: $plan" && exit 1 ;; esac
 ask -c 'SET max_parallel_workers_per_gather = 4; SET parallel_setup_cost = 0; SET parallel_tuple_cost = 0; SET min_parallel_table_scan_size = 0' \
-    -c 'SELECT max(bcp47_canonical(tag)) IS NOT NULL FROM books' > parallel || exit 1
+    -c 'SELECT count(bcp47_fault(tag)) > 0 FROM books' > parallel || exit 1
 grep -qx t parallel || exit 1
 echo "PostgreSQL: 200,000 rows loaded and indexed in $(((ended - begun) / 1000000)) ms"

@@ -5,7 +5,7 @@ for _ in 1 2 3 4 5; do cat "$1/tags"; done > "$1/catalogue"
 wanted=$(grep -cx 'yue' "$1/wanted")
 begun=$(date +%s%N)
 got=$(sqlite3 "$1/catalogue.db" ".load $1/bcp47" "SELECT bcp47_load('$2');" "CREATE TABLE books (tag TEXT);" ".mode ascii" \
-    ".separator \"\\x1f\" \"\\n\"" ".import $1/catalogue books" ".mode list" \
+    '.separator "\037" "\n"' ".import $1/catalogue books" ".mode list" \
     "CREATE INDEX by_canonical ON books (bcp47_canonical(tag));" "SELECT count(*) FROM books;" \
     "SELECT count(*) FROM books WHERE bcp47_canonical(tag) = 'yue';" | tr '\n' ' ')
 ended=$(date +%s%N)

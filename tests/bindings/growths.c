@@ -85,7 +85,7 @@ int main(int count, char **words) {
         CHECK(!bcp47_canonical(&registry, (const uint8_t *)"zh-yue", 6, buffer, sizeof buffer).status);
         CHECK(!bcp47_extlang(&registry, (const uint8_t *)"yue", 3, buffer, sizeof buffer).status);
         CHECK(!bcp47_classify(&registry, (const uint8_t *)"EN-us", 5, buffer, sizeof buffer).status);
-        CHECK(!bcp47_validate(&registry, (const uint8_t *)"en-us", 5).status);
+        CHECK(!bcp47_validate(&registry, (const uint8_t *)"en-gb", 5).status);
     }
     CHECK(growths == 0);
     bcp47_close(&registry);

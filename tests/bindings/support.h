@@ -4,7 +4,9 @@
 #include <stdlib.h>
 #include <string.h>
 
-static int failures = 0;
+#define UNUSED __attribute__((unused))
+
+static UNUSED int failures = 0;
 
 #define CHECK(condition)                                                          \
     do {                                                                          \
@@ -13,8 +15,6 @@ static int failures = 0;
             failures++;                                                           \
         }                                                                         \
     } while (0)
-
-#define UNUSED __attribute__((unused))
 
 static UNUSED uint8_t *read_all(const char *path, size_t *length) {
     FILE *file = fopen(path, "rb");
