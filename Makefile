@@ -28,9 +28,11 @@ test:
 	tests/fresh.sh
 	tests/bindings.sh
 
-# Counts what has to be believed: the definitions that the headline reaches. It needs no toolchain.
+# Counts what has to be believed: the definitions that the headline reaches; and checks which lemmas the crates lend.
+# It needs no toolchain.
 statement:
 	bench/statement.py --docs
+	bench/layers.py
 
 # Measures the program that `make` built, over a registry of IANA's size; it takes some seconds.
 bench:
@@ -43,7 +45,7 @@ hostile:
 # Refuses each growth of memory in turn, in the tests that are meant for it and in the program. `rt test` proves the tests
 # of a crate, where they changed, and leaves them in out/.
 growth: all
-	set -e; for crate in lt_tag_tests lt_jar_tests lt_registry_tests lt_rewrite lt_canon_tests lt_tool; do (cd crates/$$crate && rt test); done
+	set -e; for crate in lt_tag_tests lt_jar_tests lt_registry_tests lt_rewrite_tests lt_canon_tests lt_tool; do (cd crates/$$crate && rt test); done
 	bench/growth.py
 
 install: all lib

@@ -1,11 +1,14 @@
 #!/usr/bin/env python3
-"""Hostile registries, each by its number of records: long chains, cycles, equal names, ranges, whole records,
-Prefixes, fields and folded lines. The same come out each time. `hostile.py` measures the program on them.
+"""Hostile registries, each by a count: at 100,000 less one a registry has the most records that there may be, or some 10
+MB. Each is as dear as it can be for something that `check` or `upgrade` does: for how lines are read, for a condition,
+or for how a look-up is made. The same come out each time. `hostile.py` measures the program on them.
 """
 
 import random
 
 LETTERS = "abcdefghijklmnopqrstuvwxyz"
+# So many variants of 4 characters behind a language of 3 make a tag of 1,023 bytes.
+MOST_VARIANTS = 204
 
 
 def name(number, length):
@@ -17,6 +20,11 @@ def name(number, length):
     return "".join(reversed(letters))
 
 
+def short_variant(number):
+    """A variant of 4 characters for a number below 175,760."""
+    return str(number // 26 ** 3) + name(number % 26 ** 3, 3)
+
+
 def record(kind, subtag, value="", prefixes=()):
     label = "Tag" if kind in ("grandfathered", "redundant") else "Subtag"
     lines = ["Type: " + kind, label + ": " + subtag, "Added: 2009-07-29"]
@@ -25,18 +33,18 @@ def record(kind, subtag, value="", prefixes=()):
     return "\n".join(lines + ["Prefix: " + prefix for prefix in prefixes])
 
 
-def chain(order):
-    """Languages, each the value of the one before it; the last has none."""
-    names = [name(number, 5) for number in range(len(order))]
-    records = [record("language", one, other) for one, other in zip(names, names[1:])]
-    records.append(record("language", names[-1]))
-    return [records[place] for place in order]
-
-
 def mixed(count):
     order = list(range(count))
     random.Random(20260103).shuffle(order)
     return order
+
+
+def chain(order, kind="language", length=5):
+    """Subtags of a kind, each the value of the one before it; the last has none."""
+    names = [name(number, length) for number in range(len(order))]
+    records = [record(kind, one, other) for one, other in zip(names, names[1:])]
+    records.append(record(kind, names[-1]))
+    return [records[place] for place in order]
 
 
 def cycle(order):
@@ -52,12 +60,26 @@ def then_cycle(order):
     return chain(order) + [record("language", "yyyya", "yyyyb"), record("language", "yyyyb", "yyyya")]
 
 
+def chains_of_each_kind(count):
+    """Chains of languages, of scripts and of variants, and the longest of regions."""
+    regions = [name(n, 2).upper() for n in range(26 ** 2)] + [str(n).zfill(3) for n in range(1000)]
+    regions = regions[:max(2, min(len(regions), count // 4))]
+    records = [record("region", one, other) for one, other in zip(regions, regions[1:])] + [record("region", regions[-1])]
+    third = (count - len(records)) // 3
+    return records + chain(mixed(third)) + chain(mixed(third), "script", 4) + chain(mixed(third), "variant", 8)
+
+
 def languages(count):
     return [record("language", name(number, 5)) for number in range(count)]
 
 
 def duplicates(count):
     return [record("language", "aaaaa")] * count
+
+
+def last_duplicate(count):
+    """Languages, of which the last has the name of the first."""
+    return languages(count - 1) + [record("language", name(0, 5))]
 
 
 def ranges(count):
@@ -73,6 +95,16 @@ def nested_ranges(count):
 def overlapping_ranges(count):
     """Ranges each of which begins within the one before it and ends behind it."""
     return [record("language", name(2 * n, 5) + ".." + name(2 * n + 3, 5)) for n in range(count)]
+
+
+def mixed_ranges(count):
+    """Ranges with any two ends, in any order."""
+    choose = random.Random(20260103)
+    records = []
+    for _ in range(count):
+        first, last = sorted(choose.randrange(26 ** 5) for _ in range(2))
+        records.append(record("language", name(first, 5) + ".." + name(last, 5)))
+    return records
 
 
 def duplicate_ranges(count):
@@ -108,7 +140,7 @@ def one_language(count):
     half = (count - 1) // 2
     variants = [record("variant", name(n, 8)) for n in range(half)]
     tags = [record("redundant", "de-" + name(n, 8)) for n in range(count - 1 - half)]
-    return [record("language", "de")] + variants + tags[:half] + tags[half:]
+    return [record("language", "de")] + variants + tags
 
 
 def wholes_of_a_chain(count):
@@ -158,104 +190,205 @@ def extlangs_of_a_chain(count):
 
 
 def variants(count):
-    """Variants with a Prefix each, a language with a value for each of the rest."""
+    """Variants with a Prefix each."""
     return [record("language", "de")] + [record("variant", name(n, 8), "", ["de"]) for n in range(count - 1)]
 
 
 def variants_to_languages(count):
     """Variants with a language as value and a Prefix each."""
     head = [record("language", "de"), record("language", "fr")]
-    return head + [record("variant", name(n, 8), "fr", ["de"]) for n in range(count - 2)]
+    return head + [record("variant", name(n, 5), "fr", ["de"]) for n in range(count - 2)]
 
 
-def prefixes(count):
-    """A variant with very many Prefixes."""
-    many = ["de"] * (count // 2)
-    return [record("language", "de"), record("language", "fr"), record("variant", "rozaj", "fr", many)]
+# Languages by a range, so that a search by ranges follows that by names.
+BY_RANGE = [record("language", "aaaaa..zzzzz"), record("language", "fr")]
+
+
+def prefixes(count, order):
+    """A variant with a language value and seven Prefixes for each record that there might be."""
+    return BY_RANGE + [record("variant", "rozaj", "fr", [name(n, 5) for n in order(7 * count)])]
+
+
+def equal_prefixes(count):
+    """A variant with a language value and very many equal Prefixes."""
+    return [record("language", "de"), record("language", "fr"), record("variant", "rozaj", "fr", ["de"] * (9 * count))]
+
+
+def prefixes_of_variants(count):
+    """Variants with a language value and 100 Prefixes each."""
+    return BY_RANGE + [
+        record("variant", name(n, 8), "fr", [name(100 * n + m, 5) for m in range(100)]) for n in range(count // 15)
+    ]
+
+
+def long_prefixes(count):
+    """Variants with a Prefix that fills its line."""
+    tail = "".join("-" + short_variant(n) for n in range(13000))
+    return [record("variant", name(n, 8), "", ["de" + tail]) for n in range(count // 650)]
 
 
 def prefixes_and_tags(count):
-    """A variant with a language value and five Prefixes for each redundant tag with that variant, of which none has a
+    """A variant with a language value and thirty Prefixes for each redundant tag with that variant, of which none has a
     language among them."""
     tags = count // 6
-    languages = [record("language", name(n, 4)) for n in range(tags)] + [record("language", "fr")]
-    listed = [name(n, 5) for n in range(count - tags)]
-    head = [record("language", "aaaaa..zzzzz"), record("variant", "rozaj", "fr", listed)]
-    return languages + head + [record("redundant", name(n, 4) + "-rozaj") for n in range(tags)]
-
-
-def replaced_in_turn(count, others=60):
-    """112 variants, each with the language before it as Prefix and the next as value, and Prefixes beside; and tags that
-    have them all."""
-    languages = [record("language", name(n, 3)) for n in range(113)] + [record("language", "aaaaa..zzzzz")]
-    tail = "".join("-" + name(n, 8) for n in range(112))
-    variants = [
-        record("variant", name(n, 8), name(n + 1, 3), [name(n, 3)] + [name(m, 5) for m in range(count * others // 10000)])
-        for n in range(112)
-    ]
-    tags = min(200, count // 100)
-    return languages + variants + [record("redundant", name(0, 3) + tail + "-" + str(1000 + n)) for n in range(tags)] + [
-        record("variant", str(1000 + n)) for n in range(tags)
+    names = [record("language", name(n, 4)) for n in range(tags)] + BY_RANGE
+    listed = [name(n, 5) for n in range(5 * count)]
+    return names + [record("variant", "rozaj", "fr", listed)] + [
+        record("redundant", name(n, 4) + "-rozaj", name(n, 4)) for n in range(tags)
     ]
 
 
-def prefixes_reversed(count, order=1):
-    """A variant with a language value and very many Prefixes, in one order or the other."""
-    listed = [name(n, 5) for n in range(count)][::order]
-    return [record("language", "aaaaa..zzzzz"), record("language", "fr"), record("variant", "rozaj", "fr", listed)]
-
-
-def variant_chain(count):
-    """A chain of variants."""
-    names = [name(n, 8) for n in range(count)]
-    return [record("language", "de")] + [record("variant", a, b) for a, b in zip(names, names[1:])] + [
-        record("variant", names[-1])
+def in_turn(count, others):
+    """Languages, and as many variants as a tag may have: each has the language before it as Prefix, the next as value,
+    and so many Prefixes besides."""
+    beside = [name(n, 5) for n in range(others)]
+    heads = [record("language", name(n, 3)) for n in range(MOST_VARIANTS + 1)] + BY_RANGE
+    heads += [record("language", "aaaa..zzzz"), record("region", "AA")]
+    return heads + [
+        record("variant", short_variant(n), name(n + 1, 3), [name(n, 3)] + beside) for n in range(MOST_VARIANTS)
     ]
+
+
+def turning(first=0):
+    """A tag whose variants turn in turn, the last of those that are left each time."""
+    return name(first, 3) + "".join("-" + short_variant(n) for n in reversed(range(first, MOST_VARIANTS)))
+
+
+def turns_in_values(count, others):
+    """Redundant tags whose values have all those variants."""
+    records = in_turn(count, others)
+    left = max(1, (100 * count - 14 * others * MOST_VARIANTS) // 1120)
+    return records + [record("redundant", name(n, 4) + "-AA", turning()) for n in range(left)]
+
+
+def turns_in_both(count):
+    """Redundant tags with those variants, whose values have them too: all but one."""
+    beside = [name(n, 8) for n in range(count // 22)]
+    heads = in_turn(count, 0) + [record("variant", one) for one in beside]
+    first, second = turning(2), turning(3)
+    return heads + [record("redundant", first + "-" + one, second + "-" + one) for one in beside]
+
+
+def registered_variants():
+    return [record("language", "aaa"), record("language", "aaaa..zzzz"), record("region", "AA")] + [
+        record("variant", short_variant(n)) for n in range(2000)
+    ]
+
+
+def long_values(count):
+    """Redundant tags whose values have as many variants as a tag may have, and none is replaced."""
+    records = registered_variants()
+    tail = "aaa" + "".join("-" + short_variant(n) for n in range(MOST_VARIANTS))
+    return records + [record("redundant", name(n, 4) + "-AA", tail) for n in range(count // 11)]
+
+
+def long_tags(count):
+    """Redundant tags of the greatest length, which differ in their last subtags alone, with those as values."""
+    records = registered_variants()
+    tail = "aaa" + "".join("-" + short_variant(n) for n in range(MOST_VARIANTS - 2))
+    last = [f"-{short_variant(300 + n // 1000)}-{short_variant(400 + n % 1000)}" for n in range(count // 11)]
+    return records + [record("redundant", tail + one, "aaa" + one) for one in last]
+
+
+def long_tags_alone(count):
+    """Redundant tags of the greatest length without values, in falling order."""
+    tail = "aaa" + "".join("-" + short_variant(n) for n in range(MOST_VARIANTS - 1))
+    return [record("redundant", tail + "-" + short_variant(300 + n)) for n in reversed(range(count // 11))]
+
+
+def chains_in_values(count):
+    """Chains of variants, and redundant tags whose values have the first of each."""
+    length = count // 4 // MOST_VARIANTS
+    records = registered_variants()[:3]
+    for n in range(MOST_VARIANTS):
+        names = [short_variant(n)] + [name(n * length + m, 8) for m in range(length)]
+        records += [record("variant", one, other) for one, other in zip(names, names[1:])] + [record("variant", names[-1])]
+    tail = "aaa" + "".join("-" + short_variant(n) for n in range(MOST_VARIANTS))
+    return records + [record("redundant", name(n, 4) + "-AA", tail) for n in range(count // 15)]
 
 
 def fields(count):
     """A record with very many fields that nothing reads."""
-    return ["Type: language\nSubtag: de\n" + "\n".join("a:b" for _ in range(10 * count))]
+    return ["Type: language\nSubtag: de\n" + "\n".join(["a:"] * (33 * count))]
+
+
+def unread_prefixes(count):
+    """A language with very many Prefixes, which no language has."""
+    return ["Type: language\nSubtag: de\n" + "\n".join(["Prefix:a"] * (11 * count))]
 
 
 def folded(count):
-    """A record with a field of very many lines, within what a field may hold, and others like it."""
+    """Records with a field of very many lines."""
     text = "Type: language\nSubtag: {}\nComments: a" + "\n b" * 1000
-    return [text.format(name(n, 5)) for n in range(count // 500)]
+    return [text.format(name(n, 5)) for n in range(count // 30)]
 
 
-def scripts(count):
-    """Scripts and regions, each the value of one before it."""
-    half = min(count // 2, 26 ** 4 - 1)
-    names = [name(n, 4) for n in range(half)]
-    return [record("script", a, b) for a, b in zip(names, names[1:])] + [record("script", names[-1])]
+def folded_field(count):
+    """A field of very many lines."""
+    return ["Type: language\nSubtag: de\nComments: a" + "\n b" * (33 * count)]
+
+
+def folded_subtag(count):
+    """A Subtag that begins behind very many lines of one space and a full stop."""
+    return ["Type: language\nSubtag: a" + "\n ." * (33 * count)]
+
+
+def blank_lines(count):
+    return ["Type: language\nSubtag: de" + "\n" * (100 * count)]
+
+
+def separators(count):
+    return ["Type: language\nSubtag: de" + "\n%%" * (33 * count)]
+
+
+def long_lines(count):
+    """Comments that fill their lines, with letters of two bytes."""
+    line = "Comments: " + "\u00e9" * 32763
+    return ["Type: language\nSubtag: de" + ("\n" + line) * (count // 655)]
 
 
 REGISTRIES = {
-    "prefixes-and-tags": prefixes_and_tags,
-    "replaced-in-turn": replaced_in_turn,
-    "prefixes-rising": prefixes_reversed,
-    "prefixes-falling": lambda count: prefixes_reversed(count, -1),
-    "variant-chain": variant_chain,
+    "blank-lines": blank_lines,
+    "separators": separators,
+    "long-lines": long_lines,
     "fields": fields,
+    "unread-prefixes": unread_prefixes,
     "folded-lines": folded,
-    "script-chain": scripts,
+    "folded-field": folded_field,
+    "folded-subtag": folded_subtag,
+    "languages": languages,
+    "duplicates": duplicates,
+    "last-duplicate": last_duplicate,
+    "ranges": ranges,
+    "nested-ranges": nested_ranges,
+    "overlapping-ranges": overlapping_ranges,
+    "mixed-ranges": mixed_ranges,
+    "duplicate-ranges": duplicate_ranges,
+    "ranges-and-values": ranges_and_values,
     "chain-rising": lambda count: chain(range(count)),
     "chain-falling": lambda count: chain(range(count - 1, -1, -1)),
     "chain-mixed": lambda count: chain(mixed(count)),
+    "script-chain": lambda count: chain(range(count), "script", 4),
+    "variant-chain": lambda count: chain(range(count), "variant", 8),
+    "chains-of-each-kind": chains_of_each_kind,
     "cycle-rising": lambda count: cycle(range(count)),
     "cycle-falling": lambda count: cycle(range(count - 1, -1, -1)),
     "cycle-mixed": lambda count: cycle(mixed(count)),
     "chain-rising-then-cycle": lambda count: then_cycle(range(count - 2)),
     "chain-falling-then-cycle": lambda count: then_cycle(range(count - 3, -1, -1)),
     "chain-mixed-then-cycle": lambda count: then_cycle(mixed(count - 2)),
-    "languages": languages,
-    "duplicates": duplicates,
-    "ranges": ranges,
-    "nested-ranges": nested_ranges,
-    "overlapping-ranges": overlapping_ranges,
-    "duplicate-ranges": duplicate_ranges,
-    "ranges-and-values": ranges_and_values,
+    "extlangs": extlangs,
+    "extlangs-of-a-chain": extlangs_of_a_chain,
+    "variants": variants,
+    "variants-to-languages": variants_to_languages,
+    "prefixes-rising": lambda count: prefixes(count, range),
+    "prefixes-falling": lambda count: prefixes(count, lambda most: reversed(range(most))),
+    "prefixes-mixed": lambda count: prefixes(count, mixed),
+    "equal-prefixes": equal_prefixes,
+    "prefixes-of-variants": prefixes_of_variants,
+    "long-prefixes": long_prefixes,
+    "prefixes-and-tags": prefixes_and_tags,
+    "grandfathered": grandfathered,
     "redundant": redundant,
     "redundant-values": lambda count: redundant(count, "aaaaa"),
     "duplicate-tags": duplicate_tags,
@@ -263,15 +396,36 @@ REGISTRIES = {
     "whole-chain": whole_chain,
     "wholes-of-a-chain": wholes_of_a_chain,
     "turns-of-a-chain": turns_of_a_chain,
-    "grandfathered": grandfathered,
-    "extlangs": extlangs,
-    "extlangs-of-a-chain": extlangs_of_a_chain,
-    "variants": variants,
-    "variants-to-languages": variants_to_languages,
-    "prefixes": prefixes,
+    "long-tags-alone": long_tags_alone,
+    "long-tags": long_tags,
+    "long-values": long_values,
+    "chains-in-values": chains_in_values,
+    "turns-in-values": lambda count: turns_in_values(count, 0),
+    "turns-in-values-100": lambda count: turns_in_values(count, count // 1000),
+    "turns-in-values-1000": lambda count: turns_in_values(count, count // 100),
+    "turns-in-both": turns_in_both,
 }
 
 
 def text_of(title, count):
-    """The registry of a title with so many records."""
+    """The registry of a title by a count."""
     return "File-Date: 2026-01-01\n" + "".join("%%\n" + one + "\n" for one in REGISTRIES[title](count))
+
+
+def fault_of(title, count):
+    """What is wrong with a registry, by its own rules: too many records, bytes or bytes of a line."""
+    text = text_of(title, count)
+    lines = text.split("\n")
+    most = max(len(line.encode()) for line in lines)
+    records = sum(line == "%%" for line in lines)
+    return [what for what, is_so in (
+        (f"{len(text.encode())} bytes", len(text.encode()) > 10_500_000),
+        (f"a line of {most} bytes", most > 65536),
+        (f"{records} records", records > 99999 and title != "separators"),
+    ) if is_so]
+
+
+if __name__ == "__main__":
+    for each in REGISTRIES:
+        size = len(text_of(each, 99999).encode())
+        print(f"{each:26}{size:10}  {fault_of(each, 99999)}")

@@ -29,7 +29,8 @@ use Rattle.lt_canon.specs.Laws.{EquivalenceIsEqualText, CanonicalTwiceIsOnce, Ca
 use Rattle.lt_check.proofs.Checks.{core_conditions}
 use Rattle.lt_canon.proofs.TagRepeats.{form_is_end}
 use Rattle.lt_canon.proofs.ExtlangForms.{no_extlang, forms_lead_back}
-use Rattle.lt_canon.proofs.TagProper.{proper_parts, core_spells_none}
+use Rattle.lt_rewrite.proofs.ProperTags.{proper_parts}
+use Rattle.lt_canon.proofs.TagProper.{core_spells_none}
 use Rattle.lt_canon.proofs.CanonicalForms.{langtag_of}
 use Rattle.lt_canon.proofs.Answering.{canonical_form}
 

@@ -30,7 +30,8 @@ use Rattle.lt_canon.specs.declared.refusals.Refusal.{Refusal}
 use Rattle.lt_canon.specs.declared.refusals.Refusal.TheVariants as refusals
 use Rattle.lt_canon.proofs.Distinctness.{second_repeats}
 use Rattle.lt_canon.proofs.EndForms.{star_proper}
-use Rattle.lt_canon.proofs.TagProper.{proper_parts, core_spells_none}
+use Rattle.lt_rewrite.proofs.ProperTags.{proper_parts}
+use Rattle.lt_canon.proofs.TagProper.{core_spells_none}
 use Rattle.lt_canon.proofs.TagForm.{core_end, cores_formed, cores_reached, cores_proper, extensions_reached, resting, end_form, extensions_step_to}
 use Rattle.lt_canon.proofs.SourceRepeats.{source_repeats, named_source}
 use Rattle.lt_canon.proofs.Answering.{canonical_form, named_repeat, langtag_ends, core_ends, value_ends, core_value_ends, grandfathered_ends, private_use_ends}

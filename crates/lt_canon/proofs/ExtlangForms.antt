@@ -7,25 +7,28 @@ use Rattle.lt_subtag.specs.Shapes.{is_language, is_extlang}
 use Rattle.lt_tag.specs.Parts.{CoreParts, ExtensionParts, LangTag, PrivateUse, Grandfathered}
 use Rattle.lt_tag.specs.Spelling.{IsCore}
 use Rattle.lt_registry.specs.Parts.{EntryParts}
-use Rattle.lt_registry.specs.Entries.{one_of, value_or, entry, prefixes, prefixes_of, lists, replacement, is_short}
+use Rattle.lt_registry.specs.Entries.{one_of, value, value_or, entry, prefixes, prefixes_of, lists, replacement, is_short}
 use Rattle.lt_registry.specs.Validity.{ExtlangsFit, IsProperCore, IsProper, IsValid}
 use Rattle.lt_registry.specs.declared.entries.Kind.TheVariants as kinds
 use Rattle.lt_rewrite.specs.Rewriting.{Rests, done}
-use Rattle.lt_rewrite.specs.CoreSteps.{values_of, CoreStep, by_extlang}
+use Rattle.lt_rewrite.specs.CoreSteps.{values_of, CoreStep, by_extlang, by_language, EndsIn}
 use Rattle.lt_rewrite.specs.Laws.{IsProperValue}
 use Rattle.lt_rewrite.specs.TagSteps.{TagStep, IsReached, IsCanonical, on_core}
-use Rattle.lt_rewrite.proofs.CoreForm.{core}
-use Rattle.lt_rewrite.proofs.Entries.{settles, prefixes_at}
+use Rattle.lt_rewrite.proofs.Entries.{prefixes_at}
 use Rattle.lt_rewrite.proofs.Forms.{ExtlangEntry, extlang_entry, replacement_at}
 use Rattle.lt_rewrite.proofs.NameForms.{language_form, extlang_form}
-use Rattle.lt_rewrite.proofs.CoreEnds.{end_is, form_of_language}
+use Rattle.lt_rewrite.proofs.CoreLaws.{one_end_one_form}
+use Rattle.lt_rewrite.proofs.ProperTags.{proper_parts, proper_langtag}
 use Rattle.lt_check.specs.Conditions.{IsChecked}
 use Rattle.lt_canon.specs.ExtlangForm.{prefix_of, behind, extlang_core}
 use Rattle.lt_canon.specs.ExtlangLaws.{LeadsBack, ExtlangFormsLeadBack}
 use Rattle.lt_check.proofs.Checks.{core_conditions}
 use Rattle.lt_canon.proofs.EndForms.{rest_is_end}
-use Rattle.lt_canon.proofs.TagProper.{proper_parts, proper_langtag, core_spells_none, step_of_change}
-use Rattle.lt_canon.proofs.TagForm.{core_end, lang_end, tag_end, tag_reached, end_form}
+use Rattle.lt_canon.proofs.TagProper.{core_spells_none, step_of_change}
+use Rattle.lt_canon.proofs.TagForm.{core_end, cores_formed, lang_end, tag_end, tag_reached, end_form}
+
+abbrev core : List ℕ → List (List ℕ) → Option (List ℕ) → Option (List ℕ) → List (List ℕ) → CoreParts
+core l xs sc re vs = record { language = l; extlangs = xs; script = sc; region = re; variants = vs }
 
 module _ (R : List EntryParts) (C : IsChecked R) where
   -- the Prefix in front
@@ -107,14 +110,14 @@ module _ (R : List EntryParts) (C : IsChecked R) where
 
   front_end : (d : CoreParts) → d.extlangs ≡ [] → (f : IsFronted d) → core_end R C (front_core d f) ≡ core_end R C d
   front_end d none f =
-      let S = settles R (core_conditions R C.passes) in
       let l : List ℕ = d.language in
       let x = f.extlang in
+      let at : List ℕ → CoreParts = λ u. core u [] d.script d.region d.variants in
       let back : value_or (one_of x.at.value) x.fits.subtag ≡ replacement R l = ap (value_or (one_of x.at.value)) x.same ∙ sym (replacement_at R l x.at x.found) in
-      let ends : S.language (replacement R l) ≡ S.language l =
-      ap S.language (sym back) ∙ end_is S.language_end (value_or (one_of x.at.value) x.fits.subtag) x.fits.end x.fits.replacement_ends
-      ∙ sym (end_is S.language_end x.fits.subtag x.fits.end x.fits.ends) ∙ ap S.language x.same in
-      form_of_language (values_of R) S (replacement R l) l d.script d.region d.variants ends
+      let Q : List ℕ → Type 0 = λ u. EndsIn (value R kinds.Language) u x.fits.end in
+      (cores_formed R C).kept (front_core d f) (at (replacement R l)) (by_extlang l (record { one = refl; result = refl }))
+      ∙ one_end_one_form R (core_conditions R C.passes) (value R kinds.Language) at (λ s t e. by_language t (record { alone = refl; has = e; result = refl }))
+      (replacement R l) l x.fits.end (subst Q back x.fits.replacement_ends) (subst Q x.same x.fits.ends)
       ∙ ap (λ xs. core_end R C (core l xs d.script d.region d.variants)) (sym none)
 
   lead_back_at : (d : CoreParts) (es : List ExtensionParts) (ps : List (List ℕ)) → IsCanonical R (LangTag d es ps) → Front d → LeadsBack R (LangTag d es ps)

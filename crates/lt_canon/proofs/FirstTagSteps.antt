@@ -19,7 +19,7 @@ use Rattle.lt_rewrite.specs.Runs.{rank_of, kind_rank, extension_rank, IsNoLater,
 use Rattle.lt_rewrite.specs.declared.steps.Step.{Step}
 use Rattle.lt_rewrite.specs.declared.steps.StepKind.{StepKind}
 use Rattle.lt_rewrite.specs.declared.steps.StepKind.TheVariants as steps
-use Rattle.lt_rewrite.proofs.OneStep.{core_high}
+use Rattle.lt_rewrite.proofs.StepLaws.{core_high}
 use Rattle.lt_check.specs.Conditions.{IsChecked}
 use Rattle.lt_canon.specs.Explaining.{rank_in}
 use Rattle.lt_canon.proofs.TagProper.{core_step_tag, extensions_step_tag}

@@ -1,21 +1,23 @@
-pub mod AppendedTexts
+-- What the crates above may use.
 pub mod EndForms
-pub mod TagProper
 pub mod TagForm
-pub mod TagRest
-pub mod TagLaws
 pub mod Distinctness
-pub mod SecondVariants
 pub mod TagRepeats
-pub mod NamedRepeats
-pub mod ExtlangForms
-pub mod Answering
-pub mod SourceRepeats
-pub mod CanonicalForms
-pub mod AnswerLaws
-pub mod OneExplanation
-pub mod Tracing
-pub mod FirstTagSteps
-pub mod Explained
-pub mod UsualTags
-pub mod Refused
+-- What this crate alone uses.
+mod AppendedTexts
+mod TagProper
+mod TagRest
+mod TagLaws
+mod SecondVariants
+mod NamedRepeats
+mod ExtlangForms
+mod Answering
+mod SourceRepeats
+mod CanonicalForms
+mod AnswerLaws
+mod OneExplanation
+mod Tracing
+mod FirstTagSteps
+mod Explained
+mod UsualTags
+mod Refused

@@ -13,18 +13,16 @@ use Rattle.lt_registry.specs.Faults.{HasSource}
 use Rattle.lt_rewrite.specs.Extensions.{singleton_cmp}
 use Rattle.lt_rewrite.specs.TagSteps.{CanRepeat}
 use Rattle.lt_rewrite.proofs.NormalForms.{star_keeps, normal_is_form}
-use Rattle.lt_rewrite.proofs.Sorting.{sorted_reached}
 use Rattle.lt_rewrite.proofs.PartLists.{all_step}
-use Rattle.lt_rewrite.proofs.TransformForms.{t_form}
-use Rattle.lt_rewrite.proofs.FoundParts.{one_transform}
-use Rattle.lt_rewrite.proofs.ExtensionForms.{singleton_total}
+use Rattle.lt_rewrite.proofs.ExtensionLaws.{one_transform, extensions_ordered, normal_parts, normal_singleton}
 use Rattle.lt_check.specs.Conditions.{plain, IsChecked}
 use Rattle.lt_canon.specs.Answers.{IsSecondOccurrence, IsRepeatOfCore, IsRepeatOfSource, HasDistinctForm, IsNamedRepeat}
 use Rattle.lt_canon.specs.RepeatLaws.{RepeatsAreNamed}
+use Rattle.lt_check.proofs.Checks.{core_conditions}
 use Rattle.lt_check.proofs.CheckedRegistry.{value_plain}
 use Rattle.lt_canon.proofs.Distinctness.{Decided, decide_distinct, second, one_second, second_repeats, distinct_apart, Aligned, same, shorter, longer, align}
 use Rattle.lt_canon.proofs.TagForm.{or_value, core_end, cores_formed, core_normal, extension_end, value_end, lang_end, resting}
-use Rattle.lt_canon.proofs.TagRepeats.{end_parts, repeats_at_end}
+use Rattle.lt_canon.proofs.TagRepeats.{repeats_at_end}
 
 abbrev HasDistinctVariants : CoreParts → Type 0
 HasDistinctVariants c = Distinct c.variants
@@ -85,7 +83,9 @@ module _ (R : List EntryParts) (C : IsChecked R) where
   -- the source of an extension repeats none at its end, or the extension is at fault
   end_source : (e : ExtensionParts) (p : TForm) → e.singleton ≡ transform → IsTransform e.subtags p → IfSome (option_map (core_end R C) p.source) HasDistinctVariants → HasDistinctSource (extension_end R C e)
   end_source e p s k d = λ _ q j.
-      subst (λ (z : TForm). IfSome z.source HasDistinctVariants) (one_transform (extension_end R C e).subtags (t_form R (core_end R C) (cores_formed R C) p) q (end_parts R C e p s k) j) d
+      let n = normal_parts R C.registry (core_conditions R C.passes) e p s k in
+      let Q : Option CoreParts → Type 0 = λ o. IfSome o HasDistinctVariants in
+      subst (λ (z : TForm). IfSome z.source HasDistinctVariants) (one_transform (extension_end R C e).subtags n.parts q n.formed j) (subst Q (sym n.source) d)
 
   abbrev DistinctOrRepeating : ExtensionParts → Type 0
   DistinctOrRepeating e = HasDistinctSource (extension_end R C e) ⊎ IsRepeating R C e
@@ -107,7 +107,7 @@ module _ (R : List EntryParts) (C : IsChecked R) where
     where
       by : (e.singleton ≡ transform) ⊎ (e.singleton ≡ transform → ⊥) → DistinctOrRepeating e
       by (inl s) = let m = P s in source_at e m.0 s m.1 m.0.source refl
-      by (inr n) = inl (λ s. absurd (n s))
+      by (inr n) = inl (λ s. absurd (n (sym (normal_singleton R C.registry (core_conditions R C.passes) e) ∙ s)))
 
   abbrev AllOrRepeating : List ExtensionParts → Type 0
   AllOrRepeating es = AllByRecursion HasDistinctSource (map (extension_end R C) es) ⊎ HasRepeating R C es
@@ -124,7 +124,7 @@ module _ (R : List EntryParts) (C : IsChecked R) where
   end_distinct : (d : CoreParts) (es : List ExtensionParts) (ps : List (List ℕ)) → Distinct d.variants → AllByRecursion HasDistinctSource (map (extension_end R C) es) → RepeatsNoVariant (lang_end R C d es ps)
   end_distinct d [] [] h k = whole_distinct_at (plain d) (h, tt) (whole_value R (plain d)) refl
   end_distinct d [] (p ∷ ps) h k = (h, tt)
-  end_distinct d (e ∷ es) ps h k = (h, star_keeps (AllByRecursion HasDistinctSource) (λ x y s. all_step HasDistinctSource x y s) (sorted_reached false singleton_cmp singleton_total (map (extension_end R C) (e ∷ es))) k)
+  end_distinct d (e ∷ es) ps h k = (h, star_keeps (AllByRecursion HasDistinctSource) (λ x y s. all_step HasDistinctSource x y s) (extensions_ordered R C.registry (core_conditions R C.passes) (e ∷ es)) k)
 
   -- a core whose end repeats a variant
   core_repeats : (c : CoreParts) → (Distinct (core_end R C c).variants → ⊥) → (v : List ℕ) × IsRepeatOfCore R c v

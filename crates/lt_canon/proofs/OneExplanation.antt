@@ -11,7 +11,7 @@ use Rattle.lt_rewrite.specs.Runs.{rank_of, IsNoLater, IsFirst, IsRun}
 use Rattle.lt_rewrite.specs.declared.steps.Step.{Step}
 use Rattle.lt_rewrite.specs.declared.steps.StepKind.{StepKind}
 use Rattle.lt_rewrite.specs.declared.steps.StepKind.TheVariants as steps
-use Rattle.lt_rewrite.proofs.OneStep.{steps_determined}
+use Rattle.lt_rewrite.proofs.StepLaws.{steps_determined}
 use Rattle.lt_canon.specs.Explaining.{is_of_source, rank_in, HasOneExplanation}
 
 -- the kind of a rank, which is one of a step on a source from 14 to 19

@@ -12,17 +12,14 @@ use Rattle.lt_registry.proofs.ListLemmas.{whole_turn, take_turn}
 use Rattle.lt_rewrite.specs.Rewriting.{IsNormalForm}
 use Rattle.lt_rewrite.specs.Extensions.{singleton_cmp, ExtensionsStep}
 use Rattle.lt_rewrite.proofs.NormalForms.{star_keeps, normal_is_form}
-use Rattle.lt_rewrite.proofs.Sorting.{sorted_reached}
-use Rattle.lt_rewrite.proofs.PartLists.{all_step, all_middle}
-use Rattle.lt_rewrite.proofs.TransformForms.{t_form, if_some_is}
-use Rattle.lt_rewrite.proofs.FoundParts.{one_transform}
-use Rattle.lt_rewrite.proofs.ExtensionForms.{singleton_total}
+use Rattle.lt_rewrite.proofs.PartLists.{all_step, all_middle, if_some_is}
+use Rattle.lt_rewrite.proofs.ExtensionLaws.{one_transform, extensions_ordered, normal_parts, normal_singleton}
 use Rattle.lt_check.specs.Conditions.{IsChecked}
 use Rattle.lt_canon.specs.Answers.{IsSecondOccurrence, IsRepeatOfCore, IsRepeatOfSource}
 use Rattle.lt_canon.specs.Settled.{IsSecondInSource, IsSecondInSources}
 use Rattle.lt_canon.proofs.Distinctness.{second_repeats}
 use Rattle.lt_canon.proofs.TagForm.{core_end, cores_formed, core_normal, extension_end, extensions_end, extensions_end_formed}
-use Rattle.lt_canon.proofs.TagRepeats.{end_parts}
+use Rattle.lt_check.proofs.Checks.{core_conditions}
 
 abbrev HasDistinctVariants : CoreParts → Type 0
 HasDistinctVariants c = Distinct c.variants
@@ -86,7 +83,7 @@ module _ (R : List EntryParts) (C : IsChecked R) where
       let P : ExtensionParts → Type 0 = IsEndAmong R C es in
       let form : extensions_end R C es ≡ fs = normal_is_form (extensions_end_formed R C) es fs n in
       let all : AllByRecursion P (extensions_end R C es) =
-      star_keeps (AllByRecursion P) (λ x y s. all_step P x y s) (sorted_reached false singleton_cmp singleton_total (map (extension_end R C) es)) (each_end [] es) in
+      star_keeps (AllByRecursion P) (λ x y s. all_step P x y s) (extensions_ordered R C.registry (core_conditions R C.passes) es) (each_end [] es) in
       all_middle P before f after (subst (AllByRecursion P) (form ∙ there) all)
 
   comes_at : (e : ExtensionParts) (p : TForm) → e.singleton ≡ transform → IsTransform e.subtags p → (o : Option CoreParts) → p.source ≡ o → (source : CoreParts) → option_map (core_end R C) o ≡ Some source → ComesToSource R C e source
@@ -95,12 +92,12 @@ module _ (R : List EntryParts) (C : IsChecked R) where
 
   comes_to : (e f : ExtensionParts) (source : CoreParts) → IsProperExtension R e → extension_end R C e ≡ f → HasSource f source → ComesToSource R C e source
   comes_to e f source P ends k =
-      let single : e.singleton ≡ transform = ap (λ (x : ExtensionParts). x.singleton) ends ∙ k.transforms in
+      let single : e.singleton ≡ transform = sym (normal_singleton R C.registry (core_conditions R C.passes) e) ∙ ap (λ (x : ExtensionParts). x.singleton) ends ∙ k.transforms in
       let m = P single in
-      let form : TForm = t_form R (core_end R C) (cores_formed R C) m.0 in
-      let parts : IsTransform f.subtags form = subst (λ (x : ExtensionParts). IsTransform x.subtags form) ends (end_parts R C e m.0 single m.1) in
-      let same : form ≡ k.parts = one_transform f.subtags form k.parts parts k.formed in
-      comes_at e m.0 single m.1 m.0.source refl source (ap (λ (p : TForm). p.source) same ∙ k.there)
+      let n = normal_parts R C.registry (core_conditions R C.passes) e m.0 single m.1 in
+      let parts : IsTransform f.subtags n.parts = subst (λ (x : ExtensionParts). IsTransform x.subtags n.parts) ends n.formed in
+      let same : n.parts ≡ k.parts = one_transform f.subtags n.parts k.parts parts k.formed in
+      comes_at e m.0 single m.1 m.0.source refl source (sym n.source ∙ ap (λ (p : TForm). p.source) same ∙ k.there)
 
   repeat_of_core : (c source : CoreParts) (v : List ℕ) → core_end R C c ≡ source → IsSecondOccurrence source.variants v → IsRepeatOfCore R c v
   repeat_of_core c source v e k =

@@ -14,10 +14,9 @@ use Rattle.lt_rewrite.specs.TagSteps.{IsPlain, TagChange, on_core, on_extensions
 use Rattle.lt_rewrite.proofs.Stars.{star_trans}
 use Rattle.lt_rewrite.proofs.NormalForms.{IsFormOf, star_map_while, star_keeps, form_is_normal, normal_is_form}
 use Rattle.lt_rewrite.proofs.Same.{same_core-Decides}
-use Rattle.lt_rewrite.proofs.Proper.{step_shaped}
-use Rattle.lt_rewrite.proofs.CoreShapes.{core_form, core_formed}
+use Rattle.lt_rewrite.proofs.CoreLaws.{normal_core, cores_formed as normal_cores}
 use Rattle.lt_rewrite.proofs.PartLists.{empty_middle, step_some}
-use Rattle.lt_rewrite.proofs.ExtensionForms.{extension_form, extensions_form, extensions_formed}
+use Rattle.lt_rewrite.proofs.ExtensionLaws.{normal_extension, normal_extensions, extensions_formed}
 use Rattle.lt_check.specs.Conditions.{plain, HasRestingWhole, HasAgreeingWhole, IsChecked}
 use Rattle.lt_check.specs.declared.conditions.Condition.TheVariants as conditions
 use Rattle.lt_canon.proofs.EndForms.{IsEndForm}
@@ -50,19 +49,19 @@ same_or_not c d = by (same_core c d) refl
 
 module _ (R : List EntryParts) (C : IsChecked R) where
   abbrev pub core_end : CoreParts → CoreParts
-  core_end = core_form R (core_conditions R C.passes)
+  core_end = normal_core R (core_conditions R C.passes)
 
   pub cores_formed : IsFormOf (CoreStep (values_of R)) core_end
-  cores_formed = core_formed R (core_conditions R C.passes)
+  cores_formed = normal_cores R (core_conditions R C.passes)
 
   abbrev pub extension_end : ExtensionParts → ExtensionParts
-  extension_end = extension_form R core_end cores_formed (step_shaped R C.registry)
+  extension_end = normal_extension R C.registry (core_conditions R C.passes)
 
   abbrev pub extensions_end : List ExtensionParts → List ExtensionParts
-  extensions_end = extensions_form R core_end cores_formed (step_shaped R C.registry)
+  extensions_end = normal_extensions R C.registry (core_conditions R C.passes)
 
   pub extensions_end_formed : IsFormOf (ExtensionsStep R) extensions_end
-  extensions_end_formed = extensions_formed R core_end cores_formed (step_shaped R C.registry)
+  extensions_end_formed = extensions_formed R C.registry (core_conditions R C.passes)
 
   abbrev pub value_end : TagForm → TagForm
   value_end (LangTag c es ps) = LangTag (core_end c) es ps

@@ -1,5 +1,5 @@
 -- Repeats of whole tags, and the laws of canonical tags.
-use Rattle.std.proofs.Common.{◌≡◌, ℕ, ◌⊎◌, inl, inr, false, List, [], ◌∷◌, Option, Some, None, refl, sym, ap, ◌∙◌, subst, map, Ordering, Less, Equal, Greater, IfSome, arith}
+use Rattle.std.proofs.Common.{◌≡◌, ℕ, ◌⊎◌, inl, inr, false, List, [], ◌∷◌, ◌++◌, Option, Some, None, refl, sym, ap, ◌∙◌, subst, map, Ordering, IfSome, arith}
 use Rattle.std.specs.Prelude.{option_map}
 use Rattle.std.specs.List.{AllByRecursion}
 use Rattle.std.proofs.lemmas.Bool.{cases_eq}
@@ -9,17 +9,15 @@ use Rattle.lt_tag.proofs.TagLemmas.{AllByRecursion-weaker}
 use Rattle.lt_registry.specs.Parts.{EntryParts}
 use Rattle.lt_registry.specs.Entries.{whole_value}
 use Rattle.lt_registry.specs.Validity.{Distinct, IsProperExtension, IsProper, HasDistinctSource, RepeatsNoVariant, IsValid}
-use Rattle.lt_rewrite.specs.Rewriting.{Star}
+use Rattle.lt_rewrite.specs.Rewriting.{Star, done, then}
+use Rattle.lt_rewrite.specs.Orderings.{ListStep, by_swap, by_drop}
+use Rattle.lt_rewrite.specs.Conditions.{MeetsCoreConditions}
 use Rattle.lt_rewrite.specs.Extensions.{singleton_cmp, TransformStep, on_source, on_fields, ExtensionStep, in_unicode, in_transform, ExtensionsStep, inside, among}
 use Rattle.lt_rewrite.specs.TagSteps.{TagChange, on_core, on_extensions, on_whole, TagStep, CanRepeat}
 use Rattle.lt_rewrite.proofs.NormalForms.{star_keeps}
-use Rattle.lt_rewrite.proofs.Sorting.{place_at, place, sorted}
-use Rattle.lt_rewrite.proofs.PartLists.{all_both, all_step, all_middle, all_replaced, all_unmapped}
-use Rattle.lt_rewrite.proofs.TransformForms.{t_form, if_some_is, is_if_some}
-use Rattle.lt_rewrite.proofs.FoundParts.{one_transform}
-use Rattle.lt_rewrite.proofs.Proper.{step_shaped}
-use Rattle.lt_rewrite.proofs.ExtensionForms.{transform_form, t_form_is}
-use Rattle.lt_rewrite.proofs.Repeats.{TurnsOnce, turning, distinct_filter, turns_once_kept, form_distinct}
+use Rattle.lt_rewrite.proofs.PartLists.{all_both, all_step, all_middle, all_replaced, all_unmapped, if_some_is, is_if_some}
+use Rattle.lt_rewrite.proofs.CoreLaws.{TurnsOnce, turns_once, turns_once_kept, form_distinct}
+use Rattle.lt_rewrite.proofs.ExtensionLaws.{one_transform, extensions_ordered, normal_parts, normal_singleton}
 use Rattle.lt_check.specs.Conditions.{plain, IsValidPlain, IsChecked}
 use Rattle.lt_canon.specs.Laws.{RepeatsWithoutForm, CanonicalOrRepeats}
 use Rattle.lt_canon.specs.Corollaries.{RepeatTogether, EquivalenceIsEquality}
@@ -35,19 +33,16 @@ if_some_weaker : {A : Type 0} (P Q : A → Type 0) → ((a : A) → P a → Q a)
 if_some_weaker P Q h None a = tt
 if_some_weaker P Q h (Some x) a = h x a
 
-unplace_at : {A : Type 0} (P : A → Type 0) (x y : A) (ys placed : List A) → (AllByRecursion P placed → P x × AllByRecursion P ys) → (p : Ordering) → AllByRecursion P (place_at false p x y ys placed) → P x × AllByRecursion P (y ∷ ys)
-unplace_at P x y ys placed ih Less h = let r = ih h.1 in (r.0, (h.0, r.1))
-unplace_at P x y ys placed ih Equal h = (h.0, h.1)
-unplace_at P x y ys placed ih Greater h = (h.0, h.1)
+all_swap : {A : Type 0} (P : A → Type 0) (before : List A) (a b : A) (after : List A) → AllByRecursion P (before ++ a ∷ b ∷ after) → AllByRecursion P (before ++ b ∷ a ∷ after)
+all_swap P [] a b after h = (h.1.0, (h.0, h.1.1))
+all_swap P (u ∷ us) a b after h = (h.0, all_swap P us a b after h.1)
 
-unplace : {A : Type 0} (P : A → Type 0) (cmp : A → A → Ordering) (x : A) (ys : List A) → AllByRecursion P (place false cmp x ys) → P x × AllByRecursion P ys
-unplace P cmp x [] h = (h.0, tt)
-unplace P cmp x (y ∷ ys) h = unplace_at P x y ys (place false cmp x ys) (unplace P cmp x ys) (cmp y x) h
-
--- what each part has in order, each part has
-unsorted : {A : Type 0} (P : A → Type 0) (cmp : A → A → Ordering) (xs : List A) → AllByRecursion P (sorted false cmp xs) → AllByRecursion P xs
-unsorted P cmp [] h = tt
-unsorted P cmp (x ∷ xs) h = let r = unplace P cmp x (sorted false cmp xs) h in (r.0, unsorted P cmp xs r.1)
+-- what each part has in another order, each part has
+unordered : {A : Type 0} (P : A → Type 0) (cmp : A → A → Ordering) {xs ys : List A} → Star (ListStep false cmp) xs ys → AllByRecursion P ys → AllByRecursion P xs
+unordered P cmp done h = h
+unordered P cmp (then (by_swap before a b after s) r) h =
+    subst (AllByRecursion P) (sym s.there) (all_swap P before b a after (subst (AllByRecursion P) s.result (unordered P cmp r h)))
+unordered P cmp (then (by_drop before a between b after o s) r) h = cc
 
 abbrev HasDistinctVariants : CoreParts → Type 0
 HasDistinctVariants c = Distinct c.variants
@@ -62,13 +57,13 @@ TurnsOnceTag R (LangTag c es ps) = TurnsOnce R c × AllByRecursion (TurnsOnceExt
 TurnsOnceTag R (PrivateUse ps) = Unit {0}
 TurnsOnceTag R (Grandfathered n) = Unit {0}
 
-distinct_once : (R : List EntryParts) (t : TagForm) → RepeatsNoVariant t → TurnsOnceTag R t
-distinct_once R (LangTag c es ps) h = (
-  distinct_filter (turning R) c.variants h.0,
-  AllByRecursion-weaker HasDistinctSource (TurnsOnceExtension R) (λ e d s p k. if_some_weaker HasDistinctVariants (TurnsOnce R) (λ c x. distinct_filter (turning R) c.variants x) p.source (d s p k)) es h.1,
+distinct_once : (R : List EntryParts) → MeetsCoreConditions R → (t : TagForm) → RepeatsNoVariant t → TurnsOnceTag R t
+distinct_once R C (LangTag c es ps) h = (
+  turns_once R C c h.0,
+  AllByRecursion-weaker HasDistinctSource (TurnsOnceExtension R) (λ e d s p k. if_some_weaker HasDistinctVariants (TurnsOnce R) (turns_once R C) p.source (d s p k)) es h.1,
 )
-distinct_once R (PrivateUse ps) h = tt
-distinct_once R (Grandfathered n) h = tt
+distinct_once R C (PrivateUse ps) h = tt
+distinct_once R C (Grandfathered n) h = tt
 
 module _ (R : List EntryParts) (C : IsChecked R) where
   transform_once : (p q : TForm) → TransformStep R p q → IfSome p.source (TurnsOnce R) → IfSome q.source (TurnsOnce R)
@@ -96,7 +91,7 @@ module _ (R : List EntryParts) (C : IsChecked R) where
   change_once t u (on_whole s) h =
       let v = value_plain R C t u s.has in
       let d : RepeatsNoVariant (plain v.core) = subst RepeatsNoVariant v.is v.valid.distinct in
-      subst (TurnsOnceTag R) (sym v.is) (distinct_filter (turning R) v.core.variants d.0, tt)
+      subst (TurnsOnceTag R) (sym v.is) (turns_once R (core_conditions R C.passes) v.core d.0, tt)
 
   star_once : {t u : TagForm} → Star (TagStep R) t u → TurnsOnceTag R t → TurnsOnceTag R u
   star_once r h = star_keeps (TurnsOnceTag R) (λ a b s k. change_once a b s.change k) r h
@@ -114,16 +109,11 @@ module _ (R : List EntryParts) (C : IsChecked R) where
   source_distinct None h k = tt
   source_distinct (Some c) h k = form_distinct R (core_conditions R C.passes) c h k
 
-  -- the parts of the end of a t extension
-  pub end_parts : (e : ExtensionParts) (p : TForm) → e.singleton ≡ transform → IsTransform e.subtags p → IsTransform (extension_end R C e).subtags (t_form R (core_end R C) (cores_formed R C) p)
-  end_parts e p s q =
-      let form : TForm = t_form R (core_end R C) (cores_formed R C) p in
-      let is = transform_form R (core_end R C) (cores_formed R C) (step_shaped R C.registry) e p s q in
-      let parts = t_form_is R (core_end R C) (cores_formed R C) (step_shaped R C.registry) e.subtags p q in
-      subst (λ l. IsTransform l form) (ap (λ (x : ExtensionParts). x.subtags) (sym is)) parts
-
   extension_distinct : (e : ExtensionParts) → TurnsOnceExtension R e → HasDistinctSource (extension_end R C e) → HasDistinctSource e
-  extension_distinct e h k = λ s p q. source_distinct p.source (h s p q) (k s (t_form R (core_end R C) (cores_formed R C) p) (end_parts e p s q))
+  extension_distinct e h k = λ s p q.
+      let n = normal_parts R C.registry (core_conditions R C.passes) e p s q in
+      let Q : Option CoreParts → Type 0 = λ o. IfSome o HasDistinctVariants in
+      source_distinct p.source (h s p q) (subst Q n.source (k (normal_singleton R C.registry (core_conditions R C.passes) e ∙ s) n.parts n.formed))
 
   lang_distinct : (c : CoreParts) (es : List ExtensionParts) (ps : List (List ℕ)) → TurnsOnce R c → AllByRecursion (TurnsOnceExtension R) es → RepeatsNoVariant (lang_end R C (core_end R C c) es ps) → Distinct c.variants × AllByRecursion HasDistinctSource es
   lang_distinct c [] [] h k d = (form_distinct R (core_conditions R C.passes) c h (whole_distinct (core_end R C c) (whole_value R (plain (core_end R C c))) refl d), tt)
@@ -131,7 +121,7 @@ module _ (R : List EntryParts) (C : IsChecked R) where
   lang_distinct c (e ∷ es) ps h k d = (
     form_distinct R (core_conditions R C.passes) c h d.0,
     all_both (TurnsOnceExtension R) (λ e. HasDistinctSource (extension_end R C e)) HasDistinctSource extension_distinct (e ∷ es) k
-        (all_unmapped HasDistinctSource (extension_end R C) (e ∷ es) (unsorted HasDistinctSource singleton_cmp (map (extension_end R C) (e ∷ es)) d.1)),
+        (all_unmapped HasDistinctSource (extension_end R C) (e ∷ es) (unordered HasDistinctSource singleton_cmp (extensions_ordered R C.registry (core_conditions R C.passes) (e ∷ es)) d.1)),
   )
 
   -- where the end form repeats no variant, the tag repeats none
@@ -143,7 +133,7 @@ module _ (R : List EntryParts) (C : IsChecked R) where
   -- from a valid tag a repeat is reached only if its end form has one
   pub repeats_at_end : (t : TagForm) → IsValid R t → CanRepeat R t → RepeatsNoVariant (tag_end R C t) → ⊥
   repeats_at_end t V r d =
-      let once : TurnsOnceTag R r.tag = star_once r.reached (distinct_once R t V.distinct) in
+      let once : TurnsOnceTag R r.tag = star_once r.reached (distinct_once R (core_conditions R C.passes) t V.distinct) in
       let same : tag_end R C t ≡ tag_end R C r.tag = star_end (end_form R C) r.reached in
       r.repeats (end_distinct r.tag once (subst RepeatsNoVariant same d))
 

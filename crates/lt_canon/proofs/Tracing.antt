@@ -18,7 +18,7 @@ use Rattle.lt_rewrite.specs.ApplyFaults.{IsApplyFault}
 use Rattle.lt_rewrite.specs.declared.steps.Step.{Step}
 use Rattle.lt_rewrite.specs.declared.apply_faults.ApplyFault.{ApplyFault}
 use Rattle.lt_rewrite.specs.declared.apply_faults.ApplyFault.TheVariants as apply_faults
-use Rattle.lt_rewrite.proofs.OneStep.{steps_determined}
+use Rattle.lt_rewrite.proofs.StepLaws.{steps_determined}
 use Rattle.lt_canon.specs.TraceLaws.{TracesHaveOneEnd}
 use Rattle.lt_canon.specs.Traces.{IsValidTrace, IsMisstep, IsTraceFault, IsFollowFault, of_invalid, no_trace_memory}
 use Rattle.lt_canon.specs.declared.traces.TraceFault.{TraceFault}

@@ -21,7 +21,7 @@ use Rattle.lt_registry.proofs.TagFaultLemmas.{tag_core_first}
 use Rattle.lt_rewrite.specs.Rewriting.{done}
 use Rattle.lt_rewrite.specs.CoreSteps.{values_of}
 use Rattle.lt_rewrite.specs.TagSteps.{IsPlain}
-use Rattle.lt_rewrite.proofs.CoreRest.{AtRest, rests}
+use Rattle.lt_rewrite.proofs.CoreLaws.{AtRest, rests}
 use Rattle.lt_check.specs.Conditions.{plain, IsChecked}
 use Rattle.lt_canon.specs.Answers.{IsCanonicalFormOf}
 use Rattle.lt_canon.specs.Settled.{IsDistinctForm}

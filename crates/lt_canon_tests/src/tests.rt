@@ -3,13 +3,12 @@ mod explanations;
 mod growths;
 mod hostile;
 mod refusals;
-mod sample;
 mod traces;
 mod upgrades;
 
-use growths::{is_shown, shown};
 use lt_check::{Checked, RejectedCause};
 use lt_registry::ListTable;
+use lt_testing::{is_shown, shown};
 use std::alloc::Global;
 use std::test::Fail;
 

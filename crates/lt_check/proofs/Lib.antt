@@ -1,15 +1,17 @@
+-- What the crates above may use.
 pub mod CheckedRegistry
 pub mod Checks
 pub mod Deciding
-pub mod CoreTests
-pub mod WholeRecords
-pub mod WholeVerdicts
-pub mod RegularLists
-pub mod GrandfatheredVerdicts
 pub mod DistinctTests
-pub mod Findings
 pub mod RecordChecks
-pub mod SeenRanges
 pub mod FirstFaults
 pub mod OwnNames
-pub mod Judging
+-- What this crate alone uses.
+mod CoreTests
+mod WholeRecords
+mod WholeVerdicts
+mod RegularLists
+mod GrandfatheredVerdicts
+mod Findings
+mod SeenRanges
+mod Judging

@@ -16,10 +16,10 @@ use Rattle.lt_registry.specs.declared.entries.EntryName.TheVariants as names
 use Rattle.lt_rewrite.specs.Rewriting.{Star}
 use Rattle.lt_rewrite.specs.CoreSteps.{values_of, CoreStep, IsCoreNormalForm}
 use Rattle.lt_rewrite.specs.Conditions.{HasOwnName, FitsGrandfathered, MeetsCoreConditions}
-use Rattle.lt_rewrite.proofs.CoreLaw.{one_normal_form}
+use Rattle.lt_rewrite.proofs.CoreLaws.{one_normal_form}
 use Rattle.lt_rewrite.proofs.Entries.{find_has}
 use Rattle.lt_rewrite.proofs.NormalForms.{star_keeps}
-use Rattle.lt_rewrite.proofs.Proper.{step_proper, proper_not_grandfathered}
+use Rattle.lt_rewrite.proofs.ProperTags.{step_proper, proper_not_grandfathered}
 use Rattle.lt_check.specs.Conditions.{plain, IsValidPlain, HasValidWhole}
 use Rattle.lt_check.specs.WholeChecks.{MeetsBelow, HasNoValue}
 use Rattle.lt_check.specs.declared.conditions.Condition.TheVariants as conditions

@@ -68,7 +68,7 @@ joined all kept rest lines more is next =
 nothing_unread : (s : JarSource) → s.start ≡ s.end → unread_in s ≡ []
 nothing_unread s same =
     let none : s.end - s.start ≡ 0 = omega (arith, same) in
-    ap (λ n. take n (drop s.start s.buffer.items)) none
+    ap (λ n. take n (drop s.start s.buffer)) none
 
 -- all that was read is handed on
 pub turn_taken : {R : Type 0} (remaining : R → Option (List ℕ)) (old now new : JarSource) (before after : Device R) → SourceTurn remaining old now before after

@@ -22,7 +22,7 @@ most_reads = 10000000
 
 -- the bytes that were read and not yet handed on
 abbrev pub unread_in : JarSource → List ℕ
-unread_in s = take (s.end - s.start) (drop s.start s.buffer.items)
+unread_in s = take (s.end - s.start) (drop s.start s.buffer)
 
 -- the bytes that were read and not yet used
 abbrev pub kept_in : JarSource → List ℕ

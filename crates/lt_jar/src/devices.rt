@@ -4,6 +4,7 @@ ghost use Rattle.std.specs.Io.{ReadsAtMost, WritesAtMost};
 ghost use Rattle.std.specs.Io.KnownBytes.{Keeps, ReadConsumes, WriteAppends};
 ghost use Rattle.lt_jar.specs.Devices.{HasFailed, failures_after_read, failures_after_write, failures_of, given_by, inner_of, last_given_of, one_more, reads_of};
 
+use crate::calls::{Reads, Writes};
 use std::io::{self, Read, Write};
 
 /// A reader or a writer that is read and written through this value alone, and how often it failed.
@@ -42,14 +43,15 @@ impl<T> Device<T> {
     }
 }
 
-impl<R: Read> Read for Device<R> {
+impl<R: Reads> Read for Device<R> {
     ghost remaining = { λ device. R.remaining (inner_of device) };
 
-    /// What the reader answers.
+    /// What one call of the reader with this slice answers.
     fn read(&mut self, buf: &mut [u8]) -> io::Result<usize>
         ensures bound { ReadsAtMost result buf.new }
         ensures bytes { ReadConsumes (R.remaining (inner_of self.old)) (R.remaining (inner_of self.new))
             result buf.new }
+        ensures passes { R.gives (inner_of self.old) buf.old result (inner_of self.new) buf.new }
         ensures counts { failures_of self.new ≡ failures_after_read result (failures_of self.old) }
         ensures works { OnOk result (failures_of self.new ≡ failures_of self.old) }
         ensures fails { OnErr result (HasFailed self.old self.new) }
@@ -57,7 +59,7 @@ impl<R: Read> Read for Device<R> {
         ensures last { last_given_of self.new ≡ given_by result }
     {
         count_up(&mut self.reads);
-        match self.inner.read(buf) {
+        match self.inner.read_once(buf) {
             Ok(count) => {
                 self.last_given = count;
                 Ok(count)
@@ -71,14 +73,15 @@ impl<R: Read> Read for Device<R> {
     }
 }
 
-impl<W: Write> Write for Device<W> {
+impl<W: Writes> Write for Device<W> {
     ghost contents = { λ device. W.contents (inner_of device) };
 
-    /// What the writer answers.
+    /// What one call of the writer with this slice answers.
     fn write(&mut self, buf: &[u8]) -> io::Result<usize>
         ensures bound { WritesAtMost result buf.now }
         ensures bytes { WriteAppends (W.contents (inner_of self.old)) (W.contents (inner_of self.new))
             result buf.now }
+        ensures passes { W.takes (inner_of self.old) buf.now result (inner_of self.new) }
         ensures counts { failures_of self.new
             ≡ failures_after_write result buf.now (failures_of self.old) }
         ensures works { IfOk result (λ count. 0 < count → failures_of self.new ≡ failures_of self.old) }
@@ -87,7 +90,7 @@ impl<W: Write> Write for Device<W> {
         ensures reads { reads_of self.new ≡ reads_of self.old }
         ensures last { last_given_of self.new ≡ last_given_of self.old }
     {
-        match self.inner.write(buf) {
+        match self.inner.write_once(buf) {
             Ok(count) => {
                 if count == 0 && !buf.is_empty() {
                     count_up(&mut self.failures);
@@ -101,14 +104,15 @@ impl<W: Write> Write for Device<W> {
         }
     }
 
-    /// What the writer answers.
+    /// What one call of the writer's `flush` answers.
     fn flush(&mut self) -> io::Result<()>
         ensures bytes { Keeps (W.contents (inner_of self.old)) (W.contents (inner_of self.new)) }
+        ensures passes { W.flushes (inner_of self.old) result (inner_of self.new) }
         ensures counts { failures_of self.new ≡ failures_of self.old }
         ensures reads { reads_of self.new ≡ reads_of self.old }
         ensures last { last_given_of self.new ≡ last_given_of self.old }
     {
-        self.inner.flush()
+        self.inner.flush_once()
     }
 }
 

@@ -1,6 +1,7 @@
 //! The record-jar format, in which the IANA Language Subtag Registry is kept (RFC 5646, 3.1.1).
 #![tactic(auto)]
 
+mod calls;
 mod devices;
 mod drafts;
 mod engine;

@@ -55,61 +55,28 @@ pub struct JarReader<'d, R, S = JarSource> {
     alloc: Global,
 }
 
-impl<R: Read> Device<R> {
-    ghost use Rattle.std.specs.Prelude.{◌≡◌, IfErr, IfOk};
-    ghost use Rattle.std.specs.Borrow.{sem, RestsIfErr};
-    ghost use Rattle.lt_jar.specs.contracts.devices.Device.{the_row};
-    ghost use Rattle.lt_jar.specs.Sources.{IsFresh};
-    ghost use Rattle.lt_jar.specs.declared.faults.JarFaultKind.TheVariants as kinds;
-
-    /// A reader of the records that the device gives. It is refused for want of memory alone, and
-    /// then the device is as it was.
-    pub fn records(&mut self, alloc: Global) -> Result<JarReader<'_, R, JarSource>, JarFault>
-        ensures* refused { sem 𝓛 (RestsIfErr (the_row R.row) self.entry (λ reader. reader.device.ghost_name) result (λ last. last ≡ self.old)) }
-        ensures same_reference { IfOk result (λ reader. reader.device.ghost_name ≡ self.entry.ghost_name) }
-        ensures same { IfOk result (λ reader. reader.device.now ≡ self.old) }
-        ensures fresh { IfOk result (λ reader. IsFresh reader.source) }
-        ensures memory { IfErr result (λ fault. (fault.kind ≡ kinds.OutOfMemory) × (fault.line ≡ 1)) }
-    {
-        let source = JarSource::new(alloc).map_err(|kind| JarFault { kind, line: 1 })?;
-        Ok(JarReader::over(alloc, self, source))
-    }
-}
-
 impl<'d, R: Read> JarReader<'d, R, JarSource> {
-    ghost use Rattle.std.specs.Prelude.{◌≡◌, IfErr, IfOk};
+    ghost use Rattle.std.specs.Prelude.{◌≡◌, IsOk, IfOk};
     ghost use Rattle.std.specs.Borrow.{sem};
     ghost use Rattle.lt_jar.specs.Lent.{LendsAs};
     ghost use Rattle.lt_jar.specs.Sources.{IsFresh};
-    ghost use Rattle.lt_jar.specs.declared.faults.JarFaultKind.TheVariants as kinds;
 
-    /// A reader at the start of what the device gives. It is refused for want of memory alone.
+    /// A reader at the start of what the device gives. It takes no memory, so it is never refused,
+    /// and the device is as it was.
     pub fn new(
         alloc: Global,
         device: &'d mut Device<R>,
     ) -> Result<JarReader<'d, R, JarSource>, JarFault>
+        ensures ok { IsOk result }
         ensures same_reference { IfOk result (λ reader. reader.device.ghost_name ≡ device.entry.ghost_name) }
         ensures same { IfOk result (λ reader. reader.device.now ≡ device.old) }
         ensures fresh { IfOk result (λ reader. IsFresh reader.source) }
-        ensures memory { IfErr result (λ fault. (fault.kind ≡ kinds.OutOfMemory) × (fault.line ≡ 1)) }
     {
-        device.records(alloc)
-    }
-
-    fn over(
-        alloc: Global,
-        device: &'d mut Device<R>,
-        source: JarSource,
-    ) -> JarReader<'d, R, JarSource>
-        ensures same_reference { result.device.ghost_name ≡ device.entry.ghost_name }
-        ensures same { result.device.now ≡ device.old }
-        ensures source { result.source ≡ source }
-    {
-        JarReader {
+        Ok(JarReader {
             device,
-            source,
+            source: JarSource::new(alloc),
             alloc,
-        }
+        })
     }
 
     /// The next record, until the next call. After the last there is none.

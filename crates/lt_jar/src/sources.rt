@@ -1,5 +1,5 @@
 //! The records of a reader, one by one.
-ghost use Rattle.std.specs.Prelude.{◌≡◌, ◌≤◌, ◌+◌, ◌-◌, ◌*◌, vec_len};
+ghost use Rattle.std.specs.Prelude.{◌≡◌, ◌≤◌, ◌+◌, ◌-◌, ◌*◌, length, take, drop};
 ghost use Rattle.lt_jar.specs.Lines.{IsOneLine};
 
 use crate::devices::Device;
@@ -13,7 +13,7 @@ use std::io::Read;
 const MOST_READS: u32 = 10_000_000;
 
 /// The most bytes that a read is asked for.
-const PIECE: usize = 65_536;
+const PIECE: usize = 8_192;
 
 /// Whether there may be more.
 #[derive(Clone, Copy)]
@@ -27,12 +27,12 @@ pub(crate) enum Status {
 #[derive(Drop)]
 pub struct JarSource {
     engine: Engine,
-    buffer: Vec<u8>,
+    buffer: [u8; PIECE],
     start: usize,
     end: usize,
     turns: u32,
     status: Status,
-    ghost placed: { (start ≤ end) × (end ≤ vec_len buffer) × (vec_len buffer ≡ 65536) },
+    ghost placed: { (start ≤ end) × (end ≤ 8192) },
     ghost bounded: { (turns ≤ 10000000) × (engine.line + (end - start) ≤ 1 + 65536 * turns) },
     ghost begun: { IsOneLine engine.partial.items },
     ghost few: { engine.ended ≤ 100000 },
@@ -46,18 +46,17 @@ impl JarSource {
     ghost use Rattle.lt_jar.specs.declared.sources.Status.TheVariants as state;
 
     /// Nothing read so far.
-    pub(crate) fn new(alloc: Global) -> Result<JarSource, JarFaultKind>
-        ensures fresh { IfOk result IsFresh }
-        ensures memory { IfErr result (λ kind. kind ≡ kinds.OutOfMemory) }
+    pub(crate) fn new(alloc: Global) -> JarSource
+        ensures { IsFresh result }
     {
-        Ok(JarSource {
+        JarSource {
             engine: Engine::new(alloc),
-            buffer: vec![in alloc; 0u8; PIECE]?,
+            buffer: [0; PIECE],
             start: 0,
             end: 0,
             turns: 0,
             status: Status::Open,
-        })
+        }
     }
 
     /// Hands on what was read, up to the end of a record, and tells whether one ended.
@@ -65,7 +64,7 @@ impl JarSource {
         ensures takes { TakesUnread self.old self.new result }
         ensures same { (self.new.turns ≡ self.old.turns) × (self.new.status ≡ self.old.status) }
     {
-        let piece = &self.buffer[self.start..self.end];
+        let piece = between(&self.buffer, self.start, self.end);
         match self.engine.take(alloc, piece) {
             Ok(Some(rest)) => {
                 self.start = self.end - rest.len();
@@ -174,4 +173,13 @@ impl JarSource {
     {
         self.engine.fields()
     }
+}
+
+/// The bytes of a buffer between two places.
+fn between(buffer: &[u8; PIECE], start: usize, end: usize) -> &[u8]
+    requires { (start ≤ end) × (end ≤ 8192) }
+    ensures bytes { result.now ≡ take (end - start) (drop start buffer.now) }
+    ensures room { end ≤ length buffer.now }
+{
+    &buffer[start..end]
 }

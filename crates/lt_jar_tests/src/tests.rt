@@ -4,6 +4,7 @@ mod endless;
 mod failing;
 mod growths;
 mod one_by_one;
+mod passing;
 
 use lt_jar::{Jar, JarField, read_jar};
 use lt_testing::{returned_text, sample_text};

@@ -5,11 +5,10 @@ use Rattle.std.proofs.KnownBytes.{Consumes-nil}
 use Rattle.lt_jar.specs.Devices.{HasFailed, failures_of, greatest_count, inner_of}
 use Rattle.lt_jar.specs.Lines.{HoldsOfWhole}
 use Rattle.lt_jar.specs.Records.{Field, HasRecords}
-use Rattle.lt_jar.specs.Faults.{Fault, IsReached, IsTheFault}
+use Rattle.lt_jar.specs.Faults.{IsReached, IsTheFault}
 use Rattle.lt_jar.specs.Lending.{BreaksOff, IsSound}
 use Rattle.lt_jar.specs.LentSoFar.{HasLent}
 use Rattle.lt_jar.specs.Sources.{Advances, IsFresh, IsRead, LastGave, LendsEnded, LendsLast, ReadsRecord, lent_by, line_of_kept, record_in}
-use Rattle.lt_jar.specs.Views.{fault_in}
 use Rattle.lt_jar.specs.declared.devices.Device.{Device}
 use Rattle.lt_jar.specs.declared.faults.JarFault.{JarFault}
 use Rattle.lt_jar.specs.declared.faults.JarFaultKind.{JarFaultKind}
@@ -209,7 +208,7 @@ read_stops {R} remaining first old new before now after d fault so advances = by
           format = λ kind is.
               let there = stops.format kind is in
               subst (λ n. HoldsOfWhole (λ t. IsTheFault 0 t kind n) (IsAtEnd (remaining (inner_of after))) text) (sym line) (lent_fault r.read new lent there.1 there.2);
-          memory = λ is. let there = stops.memory is in inl (subst (IsReached 0 text) (sym line) (lent_reached r.read new lent there.1 there.2));
+          memory = λ is. let there = stops.memory is in subst (IsReached 0 text) (sym line) (lent_reached r.read new lent there.1 there.2);
           device = λ is.
               let there = stops.device is in
               (failed_from before now after so.failures there.0, subst (BreaksOff 0 text) (sym line) (lent_cut r.read new lent there.1.1 there.1.2));
@@ -238,36 +237,3 @@ read_stops {R} remaining first old new before now after d fault so advances = by
           rises = λ more. kind_of fault.kind jars.Read (r.rises (omega (arith, more, so.failures)));
         }
     by_stand (inr ended) = absurd (let over = (advances.over ended.0).0 in cc)
-
--- there was no memory for a reader, and the device is as it was
-pub read_refused : {R : Type 0} (remaining : R → Option (List ℕ)) (before after : Device R) (fault : JarFault) → after ≡ before → fault.kind ≡ jars.OutOfMemory → fault.line ≡ 1
-    → ReadsRegistry remaining before after (Err (faults.Jar fault))
-read_refused {R} remaining before after fault same memory line =
-    subst (λ (z : Device R). ReadsRegistry remaining before z (Err (faults.Jar fault))) (sym same) (record {
-      bytes = [];
-      reads = 0;
-      consumes = Consumes-nil _;
-      calls = refl;
-      bounded = omega arith;
-      each = omega arith;
-      answers = record {
-        format = λ kind is. absurd (none_some kind (ap fault_in (sym memory) ∙ is));
-        memory = λ is. inr (refl, refl, line);
-        device = λ is. absurd (memory_read (sym memory ∙ is));
-        all_made = λ is. absurd (memory_turns (sym memory ∙ is));
-        first = λ is. memory_failed (sym memory ∙ is);
-      };
-      rises = λ more. absurd (omega (arith, more));
-    })
-  where
-    none_some : (kind : Fault) → (let o : Option Fault = None in o) ≡ Some kind → ⊥
-    none_some kind e = cc
-
-    memory_read : jars.OutOfMemory ≡ jars.Read → ⊥
-    memory_read e = cc
-
-    memory_turns : jars.OutOfMemory ≡ jars.TooManyTurns → ⊥
-    memory_turns e = cc
-
-    memory_failed : jars.OutOfMemory ≡ jars.Failed → ⊥
-    memory_failed e = cc

@@ -1,6 +1,6 @@
 -- What reading a registry from a device answers: what the records of the bytes that were read give, or why they were
 -- not read to the end.
-use Rattle.std.specs.Prelude.{◌≡◌, ◌≢◌, ◌≤◌, ◌<◌, ◌*◌, ◌⊎◌, ℕ, List, [], length, Option, Some, Result, Ok, Err}
+use Rattle.std.specs.Prelude.{◌≡◌, ◌≢◌, ◌≤◌, ◌<◌, ◌*◌, ℕ, List, length, Option, Some, Result, Ok, Err}
 use Rattle.std.specs.Io.KnownBytes.{Consumes, IsAtEnd}
 use Rattle.lt_jar.specs.Devices.{HasFailed, after_reads, failures_of, inner_of, last_given_of, reads_of}
 use Rattle.lt_jar.specs.Lines.{HoldsOfWhole}
@@ -28,7 +28,7 @@ pub record IsReadWhole {R : Type 0} (remaining : R → Option (List ℕ)) (befor
 -- why the bytes that so many reads gave are no jar, or are not all
 pub record IsJarRefusal {R : Type 0} (remaining : R → Option (List ℕ)) (before after : Device R) (bytes : List ℕ) (reads : ℕ) (fault : JarFault) : Type 0 where
   pub format : (kind : Fault) → fault_in fault.kind ≡ Some kind → HoldsOfWhole (λ text. IsTheFault 0 text kind fault.line) (IsAtEnd (remaining (inner_of after))) bytes
-  pub memory : fault.kind ≡ jars.OutOfMemory → IsReached 0 bytes fault.line ⊎ ((reads ≡ 0) × (bytes ≡ []) × (fault.line ≡ 1))
+  pub memory : fault.kind ≡ jars.OutOfMemory → IsReached 0 bytes fault.line
   pub device : fault.kind ≡ jars.Read → HasFailed before after × BreaksOff 0 bytes fault.line
   pub all_made : fault.kind ≡ jars.TooManyTurns → (reads ≡ most_reads) × (reads ≤ length bytes) × (0 < last_given_of after) × BreaksOff 0 bytes fault.line
   pub first : fault.kind ≢ jars.Failed

@@ -1,5 +1,5 @@
 -- Why records give no entries; want of memory aside.
-use Rattle.std.specs.Prelude.{ℕ, ◌≡◌, ◌⊎◌, List}
+use Rattle.std.specs.Prelude.{◌≡◌, ◌⊎◌, List}
 use Rattle.lt_jar.specs.Records.{Field}
 use Rattle.lt_registry.specs.Records.{IsFirstOfRecord, IsFirstRecordFault, IsReached}
 use Rattle.lt_registry.specs.declared.faults.RecordFault.{RecordFault}

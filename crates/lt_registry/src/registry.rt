@@ -8,7 +8,7 @@ ghost use Rattle.lt_registry.specs.RecordRefusals.{IsRecordRefusal};
 use crate::drafts::{Draft, add_record};
 use crate::entries::Entry;
 use crate::faults::{RecordFault, RegistryFault};
-use lt_jar::{Device, Record};
+use lt_jar::{Device, JarReader, Record};
 use std::alloc::Global;
 use std::io::Read;
 use std::marker::Model;
@@ -52,7 +52,7 @@ impl Registry {
     pub fn read<R: Read>(alloc: Global, device: &mut Device<R>) -> Result<Registry, RegistryFault>
         ensures { ReadsRegistry R.remaining device.old device.new result }
     {
-        let mut reader = device.records(alloc)?;
+        let mut reader = JarReader::new(alloc, device)?;
         let mut draft = Draft::new(alloc);
         'records: while draft.take_next(alloc, &mut reader)? {}
         Ok(Registry {

@@ -14,7 +14,7 @@ use Rattle.lt_rewrite.specs.CoreSettling.{HasFinalLanguage, HasFinalScript, HasF
 use Rattle.lt_rewrite.proofs.Stars.{star_trans}
 use Rattle.lt_rewrite.proofs.CoreReach.{chain}
 use Rattle.lt_rewrite.proofs.CoreRest.{rests}
-use Rattle.lt_rewrite.proofs.TransformForms.{if_some_is}
+use Rattle.lt_rewrite.proofs.PartLists.{if_some_is}
 
 -- one subtag is led to the end of its chain
 along : (V : Values) (f : List ℕ → Option (List ℕ)) (at : List ℕ → CoreParts) → ((s t : List ℕ) → f s ≡ Some t → CoreStep V (at s) (at t)) → (s e : List ℕ) → EndsIn f s e → Star (CoreStep V) (at s) (at e)

@@ -1,4 +1,4 @@
--- What the conditions say of entries, and so of the ends of chains.
+-- What the conditions say of entries.
 use Rattle.std.proofs.Common.{◌≡◌, ℕ, suc, ◌⊎◌, inl, inr, Bool, true, false, cond, ◌&&◌, List, [], ◌∷◌, Option, Some, None, refl, sym, ap, ◌∙◌, subst, All, bytes_eq, find}
 use Rattle.std.specs.List.{AllByRecursion}
 use Rattle.std.specs.Option.{option_and_then}
@@ -13,8 +13,7 @@ use Rattle.lt_registry.specs.declared.entries.Kind.{Kind}
 use Rattle.lt_registry.specs.declared.entries.Kind.TheVariants as kinds
 use Rattle.lt_rewrite.specs.CoreSteps.{values_of, Ends}
 use Rattle.lt_rewrite.specs.Conditions.{next_value, HasEndingChain, HasFittingVariantValue, StandsBesideFinalLanguages, IsFinalLanguage, MeetsCoreConditions}
-use Rattle.lt_rewrite.proofs.Chains.{chase_next, end_at, end_at-is_end}
-use Rattle.lt_rewrite.proofs.CoreForm.{Settles}
+use Rattle.lt_rewrite.proofs.Chains.{chase_next}
 
 pub same_kind_is : (a b : Kind) → same_kind a b ≡ true → a ≡ b
 same_kind_is kinds.Language kinds.Language h = refl
@@ -141,10 +140,6 @@ chains_end R h k s =
 pub turn_is : (R : List EntryParts) (l v m : List ℕ) → (values_of R).turn l v ≡ Some m → (lists (prefixes R kinds.Variant v) l ≡ true) × (language_value R v ≡ Some m)
 turn_is R l v m e = some_when (lists (prefixes R kinds.Variant v) l) (language_value R v) m e
 
-cond_none : {A : Type 0} (b : Bool) (o : Option A) → o ≡ None → cond b o None ≡ None
-cond_none true o e = e
-cond_none false o e = refl
-
 language_none_at : (o : Option (List ℕ)) (w : List ℕ) → o ≡ Some w → is_short w ≡ false → option_and_then (λ u. cond (is_short u) (Some u) None) o ≡ None
 language_none_at o w e h = ap (option_and_then (λ (u : List ℕ). cond (is_short u) (Some u) None)) e ∙ ap (λ (b : Bool). cond b (Some w) None) h
 
@@ -201,25 +196,3 @@ pub no_language : (R : List EntryParts) → MeetsCoreConditions R → (v w : Lis
 no_language R C v w e =
     let p = variant_value_is R v w e in
     (language_none_at (value R kinds.Variant v) w p.0 p.1, (variant_value_fits R C v w e).1)
-
-not_turning : (R : List EntryParts) → MeetsCoreConditions R → (v w : List ℕ) → variant_value R v ≡ Some w → (l : List ℕ) → ((values_of R).turn l v ≡ None) × ((values_of R).turn l w ≡ None)
-not_turning R C v w e l =
-    let p = no_language R C v w e in
-    (cond_none (lists (prefixes R kinds.Variant v) l) (language_value R v) p.0, cond_none (lists (prefixes R kinds.Variant w) l) (language_value R w) p.1)
-
--- the ends of the chains under the conditions
-pub settles : (R : List EntryParts) → MeetsCoreConditions R → Settles (values_of R)
-settles R C =
-    let E = chains_end R C.chains in
-    record {
-      language = end_at (value R kinds.Language) (E kinds.Language);
-      script = end_at (value R kinds.Script) (E kinds.Script);
-      region = end_at (value R kinds.Region) (E kinds.Region);
-      variant = end_at (variant_value R) (E kinds.Variant);
-      language_end = end_at-is_end (value R kinds.Language) (E kinds.Language);
-      script_end = end_at-is_end (value R kinds.Script) (E kinds.Script);
-      region_end = end_at-is_end (value R kinds.Region) (E kinds.Region);
-      variant_end = end_at-is_end (variant_value R) (E kinds.Variant);
-      turns_at_rest = λ l v m e. (turns_final R C l v m e).final;
-      replaced = not_turning R C;
-    }

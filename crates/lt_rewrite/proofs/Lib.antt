@@ -1,61 +1,63 @@
+-- What the crates above may use.
 pub mod Stars
 pub mod NormalForms
-pub mod Numbers
-pub mod Sorting
 pub mod PartLists
-pub mod PartSteps
-pub mod UnicodeForms
-pub mod CoreLengths
-pub mod TransformForms
-pub mod FoundParts
-pub mod ExtensionForms
 pub mod Chains
-pub mod CoreForm
-pub mod CoreRest
-pub mod CoreReach
 pub mod Entries
-pub mod ChainLength
-pub mod CoreLaw
 pub mod Forms
-pub mod Proper
-pub mod CoreShapes
-pub mod ExtensionShapes
-pub mod OrderingLaw
-pub mod Same
-pub mod SameCuts
-pub mod OneStep
-pub mod Repeats
-pub mod CoreEnds
 pub mod NameForms
-pub mod SortedLists
-pub mod OrderingRows
-pub mod ChainWalks
-pub mod PlacedParts
-pub mod ValueForms
-pub mod CoreSettled
-pub mod ExtensionSettled
-pub mod ExtensionsSettled
-pub mod CoreLeading
-pub mod CycleWalks
-pub mod Cuts
-pub mod PartLeading
-pub mod PartCounts
-pub mod UnicodeLeading
-pub mod TransformLeading
-pub mod ExtensionLeading
-pub mod TagLeading
-pub mod CoreWeights
-pub mod CoreFirst
+pub mod Same
 pub mod FirstSteps
-pub mod ExtensionRuns
-pub mod ExtensionsExplained
-pub mod RunLifts
-pub mod ListRests
-pub mod UnicodeFirst
-pub mod UnicodeRuns
-pub mod TrueRuns
-pub mod Inversions
-pub mod FirstParts
-pub mod ValidExtensions
-pub mod TransformFirst
-pub mod ShortWalks
+pub mod CoreLaws
+pub mod ExtensionLaws
+pub mod ProperTags
+pub mod StepLaws
+-- What this crate alone uses.
+mod Numbers
+mod Sorting
+mod PartSteps
+mod UnicodeForms
+mod CoreLengths
+mod TransformForms
+mod FoundParts
+mod ExtensionForms
+mod CoreForm
+mod CoreRest
+mod CoreReach
+mod ChainLength
+mod Proper
+mod ExtensionShapes
+mod CoreSettles
+mod OrderingLaw
+mod SameCuts
+mod OneStep
+mod Repeats
+mod OrderingRows
+mod ChainWalks
+mod PlacedParts
+mod ValueForms
+mod CoreSettled
+mod ExtensionSettled
+mod ExtensionsSettled
+mod CoreLeading
+mod CycleWalks
+mod Cuts
+mod PartLeading
+mod PartCounts
+mod UnicodeLeading
+mod TransformLeading
+mod ExtensionLeading
+mod TagLeading
+mod CoreWeights
+mod CoreFirst
+mod ExtensionRuns
+mod ExtensionsExplained
+mod RunLifts
+mod ListRests
+mod UnicodeFirst
+mod UnicodeRuns
+mod TrueRuns
+mod Inversions
+mod FirstParts
+mod TransformFirst
+mod ShortWalks

@@ -6,7 +6,7 @@ use Rattle.lt_rewrite.specs.Conditions.{MeetsCoreConditions}
 use Rattle.lt_rewrite.specs.OrderingLaws.{HasOneForm, UnicodeHasOneForm, TransformHasOneForm, ExtensionsHaveOneForm}
 use Rattle.lt_rewrite.proofs.NormalForms.{IsFormOf, form_is_normal, normal_is_form}
 use Rattle.lt_rewrite.proofs.Proper.{step_shaped}
-use Rattle.lt_rewrite.proofs.CoreShapes.{core_form, core_formed}
+use Rattle.lt_rewrite.proofs.CoreLaws.{normal_core, cores_formed}
 use Rattle.lt_rewrite.proofs.UnicodeForms.{u_formed, u_shaped}
 use Rattle.lt_rewrite.proofs.TransformForms.{t_formed, t_shaped}
 use Rattle.lt_rewrite.proofs.ExtensionForms.{extensions_formed}
@@ -20,12 +20,12 @@ unicode_has_one_form = record { one = one_form u_formed; shaped = u_shaped }
 
 pub transform_has_one_form : (R : List EntryParts) → IsRegistry R → MeetsCoreConditions R → TransformHasOneForm R
 transform_has_one_form R G C = record {
-  one = one_form (t_formed R (core_form R C) (core_formed R C));
+  one = one_form (t_formed R (normal_core R C) (cores_formed R C));
   shaped = t_shaped R (step_shaped R G);
 }
 
 pub extensions_have_one_form : (R : List EntryParts) → IsRegistry R → MeetsCoreConditions R → ExtensionsHaveOneForm R
 extensions_have_one_form R G C = record {
-  one = one_form (extensions_formed R (core_form R C) (core_formed R C) (step_shaped R G));
+  one = one_form (extensions_formed R (normal_core R C) (cores_formed R C) (step_shaped R G));
   shaped = extensions_step_values R;
 }

@@ -1,5 +1,5 @@
 -- What the steps on lists of parts keep.
-use Rattle.std.proofs.Common.{◌≡◌, ◌≢◌, ℕ, ◌≤◌, ◌<◌, ◌+◌, Bool, true, List, [], ◌∷◌, ◌++◌, refl, sym, ap, ◌∙◌, subst, Ordering, length, arith}
+use Rattle.std.proofs.Common.{◌≡◌, ◌≢◌, ℕ, ◌≤◌, ◌<◌, ◌+◌, Bool, true, List, [], ◌∷◌, ◌++◌, Option, Some, None, refl, sym, ap, ◌∙◌, subst, Ordering, length, arith, IfSome}
 use Rattle.std.specs.Prelude.{flat_map, map}
 use Rattle.std.specs.List.{list_all, AllByRecursion}
 use Rattle.std.proofs.lemmas.Bool.{and_parts, and_from}
@@ -132,3 +132,13 @@ step_some xs ys (by_drop before a between b after o s) e = empty_middle before a
 pub some_long : {A : Type 0} (xs : List A) → xs ≢ [] → 0 < length xs
 some_long [] h = absurd (h refl)
 some_long (x ∷ xs) h = omega arith
+
+-- what holds of what may be there
+
+pub if_some_is : {A : Type 0} (P : A → Type 0) (o : Option A) (a : A) → o ≡ Some a → IfSome o P → P a
+if_some_is P None a e h = cc
+if_some_is P (Some b) a e h = let same : b ≡ a = cc in subst P same h
+
+pub is_if_some : {A : Type 0} (P : A → Type 0) (o : Option A) (a : A) → o ≡ Some a → P a → IfSome o P
+is_if_some P None a e h = cc
+is_if_some P (Some b) a e h = let same : a ≡ b = cc in subst P same h

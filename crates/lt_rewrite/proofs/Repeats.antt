@@ -14,7 +14,8 @@ use Rattle.lt_rewrite.specs.Conditions.{MeetsCoreConditions}
 use Rattle.lt_rewrite.proofs.Chains.{end_same, end_keeps}
 use Rattle.lt_rewrite.proofs.CoreForm.{pick, settled, form_on, form}
 use Rattle.lt_rewrite.proofs.CoreReach.{Picked, picked}
-use Rattle.lt_rewrite.proofs.Entries.{settles, no_language, turn_is}
+use Rattle.lt_rewrite.proofs.CoreSettles.{settles}
+use Rattle.lt_rewrite.proofs.Entries.{no_language, turn_is}
 use Rattle.lt_rewrite.proofs.PartLists.{all_without, all_unmapped}
 
 -- lists

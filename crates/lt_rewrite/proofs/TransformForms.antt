@@ -15,7 +15,7 @@ use Rattle.lt_rewrite.specs.Extensions.{separator_cmp, TransformStep, on_source,
 use Rattle.lt_rewrite.proofs.Stars.{star_trans}
 use Rattle.lt_rewrite.proofs.NormalForms.{IsFormOf, star_map}
 use Rattle.lt_rewrite.proofs.Sorting.{sorted, list_step_keeps, sorted_reached, sorting_is_form}
-use Rattle.lt_rewrite.proofs.PartLists.{all_step, step_some, spelled_step}
+use Rattle.lt_rewrite.proofs.PartLists.{all_step, step_some, spelled_step, if_some_is, is_if_some}
 use Rattle.lt_rewrite.proofs.CoreLengths.{core_step_no_longer, spelled_no_longer}
 use Rattle.lt_rewrite.proofs.UnicodeForms.{text_total}
 
@@ -24,14 +24,6 @@ separator_total = on_total (λ (f : FieldParts). f.separator) text_total
 
 abbrev with_parts : Option CoreParts → List FieldParts → TForm
 with_parts source fields = record { source = source; fields = fields }
-
-pub if_some_is : {A : Type 0} (P : A → Type 0) (o : Option A) (a : A) → o ≡ Some a → IfSome o P → P a
-if_some_is P None a e h = cc
-if_some_is P (Some b) a e h = let same : b ≡ a = cc in subst P same h
-
-pub is_if_some : {A : Type 0} (P : A → Type 0) (o : Option A) (a : A) → o ≡ Some a → P a → IfSome o P
-is_if_some P None a e h = cc
-is_if_some P (Some b) a e h = let same : a ≡ b = cc in subst P same h
 
 module _ (R : List EntryParts) (core_form : CoreParts → CoreParts) (K : IsFormOf (CoreStep (values_of R)) core_form) where
   abbrev pub t_form : TForm → TForm

@@ -1,13 +1,14 @@
 -- The laws of steps, over a list of entries.
 use Rattle.std.specs.Prelude.{ℕ, ◌≡◌, List, None, length}
-use Rattle.lt_tag.specs.Parts.{CoreParts, TagForm}
+use Rattle.lt_tag.specs.Parts.{CoreParts, ExtensionParts, TagForm, LangTag}
 use Rattle.lt_tag.specs.Spelling.{spell_core}
 use Rattle.lt_tag.specs.Values.{IsCoreValue}
 use Rattle.lt_tag.specs.WellFormed.{IsNotGrandfathered}
 use Rattle.lt_registry.specs.Parts.{EntryParts}
-use Rattle.lt_registry.specs.Validity.{IsProperCore}
+use Rattle.lt_registry.specs.Validity.{IsProperCore, IsProper}
 use Rattle.lt_registry.specs.declared.entries.Kind.{Kind}
 use Rattle.lt_rewrite.specs.CoreSteps.{values_of, CoreStep, IsCoreNormalForm, chase, Ends}
+use Rattle.lt_rewrite.specs.Extensions.{ExtensionsStep}
 use Rattle.lt_rewrite.specs.Conditions.{next_value}
 use Rattle.lt_rewrite.specs.Labels.{LeadsBy}
 use Rattle.lt_rewrite.specs.declared.steps.Step.{Step}
@@ -33,6 +34,14 @@ pub record IsProperValue (R : List EntryParts) (c : CoreParts) : Type 0 where
 -- a core step leads from a proper core to a proper core
 abbrev pub StepsKeepProper : List EntryParts → Type 0
 StepsKeepProper R = (c d : CoreParts) → IsProperValue R c → CoreStep (values_of R) c d → IsProperValue R d
+
+-- A core step on the core of a proper tag leads to a proper tag, and so does a step on its extensions, such as a core
+-- step on a source (RFC 5646, 4.5).
+pub record StepsKeepTagsProper (R : List EntryParts) : Type 0 where
+  pub core : (c d : CoreParts) (es : List ExtensionParts) (ps : List (List ℕ)) → CoreStep (values_of R) c d →
+      IsProper R (LangTag c es ps) → IsProper R (LangTag d es ps)
+  pub extensions : (c : CoreParts) (es fs : List ExtensionParts) (ps : List (List ℕ)) → ExtensionsStep R es fs →
+      IsProper R (LangTag c es ps) → IsProper R (LangTag c fs ps)
 
 -- a proper core spells no grandfathered tag
 abbrev pub ProperCoresSpellNone : List EntryParts → Type 0

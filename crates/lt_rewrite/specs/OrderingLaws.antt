@@ -1,14 +1,12 @@
 -- The laws of the steps on u and t extensions and on lists of extensions.
-use Rattle.std.specs.Prelude.{◌≡◌, false, List}
+use Rattle.std.specs.Prelude.{◌≡◌, List}
 use Rattle.std.specs.List.{AllByRecursion}
-use Rattle.std.specs.List.Sorted.{IsSorted, IsStable}
-use Rattle.lt_tag.specs.Parts.{UForm, FieldParts, TForm, ExtensionParts}
+use Rattle.lt_tag.specs.Parts.{UForm, TForm, ExtensionParts}
 use Rattle.lt_tag.specs.Extensions.{IsU, IsT}
 use Rattle.lt_tag.specs.Values.{IsExtensionValue}
 use Rattle.lt_registry.specs.Parts.{EntryParts}
 use Rattle.lt_rewrite.specs.Rewriting.{IsNormalForm}
-use Rattle.lt_rewrite.specs.Orderings.{ListStep}
-use Rattle.lt_rewrite.specs.Extensions.{separator_cmp, singleton_cmp, UnicodeStep, TransformStep, ExtensionsStep}
+use Rattle.lt_rewrite.specs.Extensions.{UnicodeStep, TransformStep, ExtensionsStep}
 
 -- steps lead to one normal form and to no other
 pub record HasOneForm {A : Type 0} (Step : A → A → Type 0) (a : A) : Type 0 where
@@ -30,12 +28,3 @@ pub record TransformHasOneForm (R : List EntryParts) : Type 0 where
 pub record ExtensionsHaveOneForm (R : List EntryParts) : Type 0 where
   pub one : (es : List ExtensionParts) → HasOneForm (ExtensionsStep R) es
   pub shaped : (es fs : List ExtensionParts) → ExtensionsStep R es fs → AllByRecursion IsExtensionValue es → AllByRecursion IsExtensionValue fs
-
--- A stable sort gives the normal form of the steps by which neighbours change places.
-abbrev pub SortedFieldsAreNormal : Type 0
-SortedFieldsAreNormal =
-    (fs gs : List FieldParts) → IsSorted separator_cmp gs → IsStable separator_cmp fs gs → IsNormalForm (ListStep false separator_cmp) fs gs
-
-abbrev pub SortedExtensionsAreNormal : Type 0
-SortedExtensionsAreNormal =
-    (es fs : List ExtensionParts) → IsSorted singleton_cmp fs → IsStable singleton_cmp es fs → IsNormalForm (ListStep false singleton_cmp) es fs

@@ -3,7 +3,7 @@ ghost use Rattle.std.specs.Prelude.{List, All};
 ghost use Rattle.lt_registry.specs.Parts.{EntryParts};
 ghost use Rattle.lt_registry.specs.Entries.{IsRegistry};
 ghost use Rattle.lt_rewrite.specs.Conditions.{HasEndingChain, FitsGrandfathered, MeetsCoreConditions};
-ghost use Rattle.lt_rewrite.specs.Laws.{HasOneNormalForm, StepsKeepNormalForm, StepsKeepProper, ProperCoresSpellNone, EndingChainsAreShort, ChainsEnd, StepsAreDetermined};
+ghost use Rattle.lt_rewrite.specs.Laws.{HasOneNormalForm, StepsKeepNormalForm, StepsKeepProper, StepsKeepTagsProper, ProperCoresSpellNone, EndingChainsAreShort, ChainsEnd, StepsAreDetermined};
 
 /// A chain of values that comes to an end has done so after as many values as there are records;
 /// and each comes to an end where the chains from all records do.
@@ -19,10 +19,12 @@ pub fn one_core_normal_form()
     ensures kept { (R : List EntryParts) → MeetsCoreConditions R → StepsKeepNormalForm R }
 {}
 
-/// A core step on a proper core gives a proper core; and no proper core spells a grandfathered tag
-/// where the registry makes none of them valid.
+/// A core step on a proper core gives a proper core. Where the registry makes no grandfathered tag valid as a langtag,
+/// no proper core spells one; and a core step on a proper tag gives a proper tag, on its core or on a source, as does
+/// any step on its extensions.
 pub fn core_steps_stay_proper()
     ensures proper { (R : List EntryParts) → IsRegistry R → MeetsCoreConditions R → StepsKeepProper R }
+    ensures tags { (R : List EntryParts) → IsRegistry R → MeetsCoreConditions R → All (FitsGrandfathered R) R → StepsKeepTagsProper R }
     ensures spelled { (R : List EntryParts) → All (FitsGrandfathered R) R → ProperCoresSpellNone R }
 {}
 

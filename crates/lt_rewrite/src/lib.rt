@@ -38,6 +38,3 @@ pub use extensions_settling::settle_extensions;
 pub use field_applying::core_length;
 pub use shortcuts::Shortcuts;
 pub use steps::{Step, StepKind};
-
-#[cfg(test)]
-mod tests;

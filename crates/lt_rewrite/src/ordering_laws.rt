@@ -3,7 +3,7 @@ ghost use Rattle.std.specs.Prelude.{List};
 ghost use Rattle.lt_registry.specs.Parts.{EntryParts};
 ghost use Rattle.lt_registry.specs.Entries.{IsRegistry};
 ghost use Rattle.lt_rewrite.specs.Conditions.{MeetsCoreConditions};
-ghost use Rattle.lt_rewrite.specs.OrderingLaws.{UnicodeHasOneForm, TransformHasOneForm, ExtensionsHaveOneForm, SortedFieldsAreNormal, SortedExtensionsAreNormal};
+ghost use Rattle.lt_rewrite.specs.OrderingLaws.{UnicodeHasOneForm, TransformHasOneForm, ExtensionsHaveOneForm};
 
 /// The parts of a `u` extension have one normal form.
 pub fn one_form_of_unicode()
@@ -18,10 +18,4 @@ pub fn one_form_of_transform()
 /// Under the conditions on core steps a list of extensions has one normal form.
 pub fn one_form_of_extensions()
     ensures { (R : List EntryParts) → IsRegistry R → MeetsCoreConditions R → ExtensionsHaveOneForm R }
-{}
-
-/// A stable sort of fields, or of extensions, does what the steps do that only exchange neighbours.
-pub fn stable_sorts_are_normal()
-    ensures fields { SortedFieldsAreNormal }
-    ensures extensions { SortedExtensionsAreNormal }
 {}

@@ -1,7 +1,8 @@
 //! Subtags of BCP 47 language tags: 1 to 8 letters or digits, whose case doesn't matter.
 #![tactic(auto)]
 
-ghost use Rattle.std.specs.Prelude.{◌≡◌, ◌≤◌, ◌<◌, [], ◌∷◌, ◌++◌, true, length, take, drop, Err};
+ghost use Rattle.std.specs.Prelude.{◌≡◌, ◌≤◌, ◌<◌, [], ◌∷◌, ◌++◌, true, length, take, drop, Err, Some};
+ghost use Rattle.std.specs.Fmt.{styled_text};
 ghost use Rattle.std.specs.List.{list_all};
 ghost use Rattle.std.specs.Char.{is_ascii_alphanumeric};
 ghost use Rattle.lt_subtag.specs.Bytes.{is_subtag, upper};
@@ -14,10 +15,12 @@ pub mod laws;
 
 use crate::lanes::fold;
 use arrayvec::ArrayVec;
+use std::error::Error;
+use std::fmt;
 use std::marker::Model;
 
 /// Why a piece of a text is no subtag.
-#[derive(Clone, Copy, Debug, PartialEq, Eq)]
+#[derive(Clone, Copy, Debug, Drop, PartialEq, Eq)]
 pub enum SubtagFault {
     /// It has no byte.
     Empty,
@@ -39,6 +42,16 @@ impl SubtagFault {
         }
     }
 }
+
+impl fmt::Display for SubtagFault {
+    ghost output = { λ fault. Some (reading.name_of fault) };
+
+    fn fmt<W: fmt::Write>(&self, f: &mut fmt::Formatter<W>) -> fmt::Result {
+        f.write_str(self.name())
+    }
+}
+
+impl Error for SubtagFault {}
 
 /// How the letters of a subtag are shown (RFC 5646, 2.1.1).
 #[derive(Clone, Copy, Debug, PartialEq, Eq)]
@@ -78,6 +91,18 @@ impl Default for Subtag {
         let mut letters = ArrayVec::new();
         letters.push(b'x');
         Subtag { letters }
+    }
+}
+
+impl fmt::Display for Subtag {
+    ghost output = { λ subtag. Some subtag };
+
+    ghost styled_output = { λ subtag spec. Some (styled_text spec subtag) };
+
+    /// Its lower-case bytes.
+    fn fmt<W: fmt::Write>(&self, f: &mut fmt::Formatter<W>) -> fmt::Result {
+        let text = str::from_utf8(self.bytes()).map_err(|_| fmt::Error)?;
+        f.pad(text)
     }
 }
 

@@ -1,4 +1,5 @@
 mod cores;
+mod displays;
 mod growths;
 mod plain_langtags;
 mod reading;

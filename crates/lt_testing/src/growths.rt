@@ -20,6 +20,32 @@ pub fn shown<T: Debug>(alloc: Global, value: &T) -> Result<String, AllocError> {
     twice(|| format!(in alloc; "{value:?}"))
 }
 
+/// Whether a value is shown in these words.
+pub fn is_shown<T: Debug>(alloc: Global, value: &T, words: &str) -> bool {
+    matches!(shown(alloc, value), Ok(found) if found.as_str() == words)
+}
+
+/// What a call answers, made again where a growth was refused and its arguments are what they were.
+pub fn answered<A, T, E, C, R>(alloc: Global, arguments: &A, call: C, is_refusal: R) -> Result<T, E>
+where
+    A: Debug,
+    E: Drop,
+    C: Fn() -> Result<T, E>,
+    R: Fn(&E) -> bool,
+    requires call { C.IsAlwaysCallable call }
+    requires refusal { R.IsAlwaysCallable is_refusal }
+{
+    let Ok(before) = shown(alloc, arguments) else {
+        return call();
+    };
+    match call() {
+        Err(refusal) if is_refusal(&refusal) && is_shown(alloc, arguments, before.as_str()) => {
+            call()
+        }
+        answer => answer,
+    }
+}
+
 /// Whether a call gives its answer, and leaves its arguments as they were; and where it tells that a
 /// growth was refused, whether it leaves them as well, and gives its answer when it is made again.
 pub fn answers<A, T, C, P, R>(

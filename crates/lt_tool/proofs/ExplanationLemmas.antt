@@ -9,7 +9,7 @@ use Rattle.lt_rewrite.specs.Labels.{LeadsBy, IsTrace}
 use Rattle.lt_rewrite.specs.declared.steps.Step.{Step}
 use Rattle.lt_rewrite.specs.declared.apply_faults.ApplyFault.{ApplyFault}
 use Rattle.lt_rewrite.specs.declared.apply_faults.ApplyFault.TheVariants as faults
-use Rattle.lt_rewrite.proofs.OneStep.{steps_determined}
+use Rattle.lt_rewrite.proofs.StepLaws.{steps_determined}
 use Rattle.lt_tool.specs.Explanations.{AppendsSteps, AreStepLines, step_line}
 
 -- the rest of the trace leads on from here, and its lines complete those that were appended

@@ -1,12 +1,13 @@
-pub mod UpgradeValid
-pub mod UpgradeCores
-pub mod UpgradeTags
-pub mod UpgradeRepeats
-pub mod UpgradeLaw
-pub mod UpgradeTests
-pub mod UpgradeFindings
-pub mod UpgradeChecks
-pub mod UpgradeWholes
-pub mod UpgradeFaults
-pub mod WidestRanges
-pub mod CoveredRanges
+-- What this crate alone uses.
+mod UpgradeValid
+mod UpgradeCores
+mod UpgradeTags
+mod UpgradeRepeats
+mod UpgradeLaw
+mod UpgradeTests
+mod UpgradeFindings
+mod UpgradeChecks
+mod UpgradeWholes
+mod UpgradeFaults
+mod WidestRanges
+mod CoveredRanges

@@ -1,11 +1,10 @@
 -- An old core step keeps the new core normal form.
-use Rattle.std.proofs.Common.{◌≡◌, ℕ, ◌⊎◌, inl, inr, true, cond, List, [], ◌∷◌, ◌++◌, Option, Some, None, refl, sym, ap, ◌∙◌, subst, map}
-use Rattle.std.specs.Option.{option_map}
+use Rattle.std.proofs.Common.{◌≡◌, ℕ, ◌⊎◌, inl, inr, true, cond, List, [], ◌∷◌, ◌++◌, Option, Some, None, refl, sym, ap, ◌∙◌, subst}
 use Rattle.std.specs.List.{AllByRecursion}
 use Rattle.std.proofs.lemmas.Slice.Eq.{bytes_eq-Decides}
 use Rattle.lt_tag.specs.Parts.{CoreParts}
 use Rattle.lt_registry.specs.Parts.{EntryParts}
-use Rattle.lt_registry.specs.Entries.{is_named, holds, one_of, value, value_or, prefixes, lists, language_value, replacement, is_registered}
+use Rattle.lt_registry.specs.Entries.{is_named, holds, one_of, value, value_or, prefixes, lists, variant_value, language_value, replacement, is_registered}
 use Rattle.lt_registry.specs.Validity.{ExtlangsFit, IsProperCore}
 use Rattle.lt_registry.specs.declared.entries.Kind.{Kind}
 use Rattle.lt_registry.specs.declared.entries.Kind.TheVariants as kinds
@@ -13,10 +12,8 @@ use Rattle.lt_registry.specs.declared.entries.EntryName.{EntryName}
 use Rattle.lt_registry.specs.declared.entries.EntryName.TheVariants as names
 use Rattle.lt_rewrite.specs.CoreSteps.{values_of, CoreStep, by_extlang, by_language, by_script, by_region, by_variant, by_turn}
 use Rattle.lt_rewrite.specs.Conditions.{next_value, HasNoRangeValue}
-use Rattle.lt_rewrite.proofs.Chains.{IsEnd}
-use Rattle.lt_rewrite.proofs.CoreEnds.{end_is, form_of_language}
-use Rattle.lt_rewrite.proofs.CoreForm.{core, form, form_on, step_keeps, none_or, map-append}
-use Rattle.lt_rewrite.proofs.Entries.{entry_of, ValuedEntry, valued, valued_has, settles, variant_value_is, language_value_is, turn_is, prefixes_at}
+use Rattle.lt_rewrite.proofs.CoreLaws.{normal_core, cores_formed, one_end_one_form}
+use Rattle.lt_rewrite.proofs.Entries.{entry_of, ValuedEntry, valued, valued_has, variant_value_is, language_value_is, turn_is, prefixes_at}
 use Rattle.lt_rewrite.proofs.Forms.{ExtlangEntry, extlang_entry, replacement_at}
 use Rattle.lt_check.specs.Conditions.{IsChecked}
 use Rattle.lt_upgrade.specs.Upgrade.{SameEnd, KeepsKind, KeepsEnds, IsSameExtlang, IsSameTurn, KeepsTurn, HadTurn, Upgrades}
@@ -24,11 +21,6 @@ use Rattle.lt_check.specs.declared.conditions.Condition.TheVariants as condition
 use Rattle.lt_upgrade.specs.declared.conditions.UpgradeCondition.TheVariants as upgrades
 use Rattle.lt_check.proofs.Checks.{core_conditions}
 use Rattle.lt_upgrade.proofs.UpgradeValid.{same_extlang}
-
--- ends
-
-one_end : {f : List ℕ → Option (List ℕ)} {g : List ℕ → List ℕ} → IsEnd f g → (s t : List ℕ) → SameEnd f s t → g s ≡ g t
-one_end E s t h = end_is E s h.end h.left ∙ sym (end_is E t h.end h.right)
 
 -- an entry with a value is a single
 
@@ -49,28 +41,34 @@ valued_single R C k s v n =
 
 module _ (A B : List EntryParts) (CA : IsChecked A) (CB : IsChecked B) (U : Upgrades A B) where
   abbrev new_form : CoreParts → CoreParts
-  new_form c = form (values_of B) (settles B (core_conditions B CB.passes)) c
+  new_form c = normal_core B (core_conditions B CB.passes) c
 
-  -- cores that differ in languages with one end
-  language_same : (a b : List ℕ) (sc re : Option (List ℕ)) (vs : List (List ℕ)) → (settles B (core_conditions B CB.passes)).language a ≡ (settles B (core_conditions B CB.passes)).language b → new_form (core a [] sc re vs) ≡ new_form (core b [] sc re vs)
-  language_same a b sc re vs e = form_of_language (values_of B) (settles B (core_conditions B CB.passes)) a b sc re vs e
+  new_step : (c d : CoreParts) → CoreStep (values_of B) c d → new_form c ≡ new_form d
+  new_step = (cores_formed B (core_conditions B CB.passes)).kept
+
+  -- cores that differ in a subtag, of which the chains have one end
+  one_end : (f : List ℕ → Option (List ℕ)) (at : List ℕ → CoreParts) → ((s t : List ℕ) → f s ≡ Some t → CoreStep (values_of B) (at s) (at t)) → (s t : List ℕ) → SameEnd f s t → new_form (at s) ≡ new_form (at t)
+  one_end f at step s t h = one_end_one_form B (core_conditions B CB.passes) f at step s t h.end h.left h.right
+
+  language_same : (c : CoreParts) (a b : List ℕ) → SameEnd (value B kinds.Language) a b → c.extlangs ≡ [] → new_form (record c { language = a }) ≡ new_form (record c { language = b })
+  language_same c a b h alone = one_end (value B kinds.Language) (λ u. record c { language = u }) (λ s t e. by_language t (record { alone = alone; has = e; result = refl })) a b h
 
   same_turn : (v m : List ℕ) → language_value A v ≡ Some m → (n : ValuedEntry A kinds.Variant v m) → IsSameTurn B n.at v m
   same_turn v m h n =
       let has : KeepsTurn B n.at = valued_has A kinds.Variant v m (KeepsTurn B) (U upgrades.SameTurn) n in
       has v m n.of_kind (valued_single A CA kinds.Variant v m n) n.gives (language_value_is A v m h).1
 
-  turn_both : (l v m : List ℕ) → (values_of A).turn l v ≡ Some m → (w : List ℕ) × ((values_of B).turn l v ≡ Some w) × ((settles B (core_conditions B CB.passes)).language m ≡ (settles B (core_conditions B CB.passes)).language w)
+  turn_both : (l v m : List ℕ) → (values_of A).turn l v ≡ Some m → (w : List ℕ) × ((values_of B).turn l v ≡ Some w) × SameEnd (value B kinds.Language) m w
   turn_both l v m h =
       let t = turn_is A l v m h in
       let n : ValuedEntry A kinds.Variant v m = valued A kinds.Variant v m (language_value_is A v m t.1).0 in
       let k : IsSameTurn B n.at v m = same_turn v m t.1 n in
       let listed : lists (prefixes B kinds.Variant v) l ≡ true = k.prefixes l ∙ ap (λ ps. lists ps l) (sym (prefixes_at A kinds.Variant v n.at n.found)) ∙ t.0 in
-      (k.newer, ap (λ b. cond b (language_value B v) None) listed ∙ k.has, one_end (settles B (core_conditions B CB.passes)).language_end m k.newer k.ends)
+      (k.newer, ap (λ b. cond b (language_value B v) None) listed ∙ k.has, k.ends)
 
   -- what turns by the new registry turns by the old one
   turn_back : (l u : List ℕ) → is_registered A kinds.Variant u ≡ true → (values_of A).turn l u ≡ None → (values_of B).turn l u ≡ None
-  turn_back l u r h = by (none_or ((values_of B).turn l u))
+  turn_back l u r h = by ((values_of B).turn l u) refl
     where
       old : (w : List ℕ) → (values_of B).turn l u ≡ Some w → (x : List ℕ) × (language_value A u ≡ Some x)
       old w e =
@@ -89,9 +87,9 @@ module _ (A B : List EntryParts) (CA : IsChecked A) (CB : IsChecked B) (U : Upgr
           let some : (values_of A).turn l u ≡ Some x.0 = ap (λ b. cond b (language_value A u) None) listed ∙ x.1 in
           cc
 
-      by : ((values_of B).turn l u ≡ None) ⊎ ((t : List ℕ) × ((values_of B).turn l u ≡ Some t)) → (values_of B).turn l u ≡ None
-      by (inl e) = e
-      by (inr e) = absurd (again e.0 e.1)
+      by : (o : Option (List ℕ)) → (values_of B).turn l u ≡ o → (values_of B).turn l u ≡ None
+      by None e = e
+      by (Some w) e = absurd (again w e)
 
   turns_back : (l : List ℕ) (before after : List (List ℕ)) → AllByRecursion (λ v. is_registered A kinds.Variant v ≡ true) (before ++ after) → AllByRecursion (λ u. (values_of A).turn l u ≡ None) before → AllByRecursion (λ u. (values_of B).turn l u ≡ None) before
   turns_back l [] after r h = tt
@@ -107,44 +105,36 @@ module _ (A B : List EntryParts) (CA : IsChecked A) (CB : IsChecked B) (U : Upgr
   -- an old core step keeps the new core normal form
   pub old_core_step : (c d : CoreParts) → IsProperCore A c → CoreStep (values_of A) c d → new_form c ≡ new_form d
   old_core_step c d P (by_extlang x s) =
-      let S = settles B (core_conditions B CB.passes) in
       let fit : ExtlangsFit A c.language (x ∷ []) = subst (ExtlangsFit A c.language) s.one P.extlangs in
       let en : ExtlangEntry A x = extlang_entry A (core_conditions A CA.passes) x fit.0 in
       let k : IsSameExtlang B en.at x = same_extlang A B (core_conditions A CA.passes) U x en in
-      let ends : S.language (replacement B x) ≡ S.language (replacement A x) =
-      ap S.language (replacement_at B x k.newer k.there) ∙ sym (one_end S.language_end (value_or (one_of en.at.value) x) (value_or (one_of k.newer.value) x) k.ends) ∙ ap S.language (sym (replacement_at A x en.at en.found)) in
-      let mid : CoreParts = core (replacement B x) [] c.script c.region c.variants in
-      step_keeps (values_of B) S c mid (by_extlang x (record { one = s.one; result = refl }))
-      ∙ language_same (replacement B x) (replacement A x) c.script c.region c.variants ends
+      let to : replacement A x ≡ value_or (one_of en.at.value) x = replacement_at A x en.at en.found in
+      let from : replacement B x ≡ value_or (one_of k.newer.value) x = replacement_at B x k.newer k.there in
+      let mid : CoreParts = record c { language = replacement B x; extlangs = [] } in
+      new_step c mid (by_extlang x (record { one = s.one; result = refl }))
+      ∙ ap (λ u. new_form (record c { language = u; extlangs = [] })) from
+      ∙ sym (language_same (record c { extlangs = [] }) (value_or (one_of en.at.value) x) (value_or (one_of k.newer.value) x) k.ends refl)
+      ∙ ap (λ u. new_form (record c { language = u; extlangs = [] })) (sym to)
       ∙ sym (ap new_form s.result)
   old_core_step c d P (by_language v s) =
-      let S = settles B (core_conditions B CB.passes) in
-      ap (λ xs. new_form (core c.language xs c.script c.region c.variants)) s.alone
-      ∙ language_same c.language v c.script c.region c.variants (one_end S.language_end c.language v (value_same kinds.Language c.language v tt s.has))
-      ∙ ap (λ xs. new_form (core v xs c.script c.region c.variants)) (sym s.alone)
-      ∙ sym (ap new_form s.result)
+      language_same c c.language v (value_same kinds.Language c.language v tt s.has) s.alone ∙ sym (ap new_form s.result)
   old_core_step c d P (by_script a v s) =
-      let S = settles B (core_conditions B CB.passes) in
-      ap (λ o. form_on (values_of B) S c.extlangs c.language o (option_map S.region c.region) (map S.variant c.variants)) (ap (option_map S.script) s.there ∙ ap Some (one_end S.script_end a v (value_same kinds.Script a v tt s.has)))
+      ap (λ o. new_form (record c { script = o })) s.there
+      ∙ one_end (value B kinds.Script) (λ u. record c { script = Some u }) (λ s t e. by_script s t (record { there = refl; has = e; result = refl })) a v (value_same kinds.Script a v tt s.has)
       ∙ sym (ap new_form s.result)
   old_core_step c d P (by_region a v s) =
-      let S = settles B (core_conditions B CB.passes) in
-      ap (λ o. form_on (values_of B) S c.extlangs c.language (option_map S.script c.script) o (map S.variant c.variants)) (ap (option_map S.region) s.there ∙ ap Some (one_end S.region_end a v (value_same kinds.Region a v tt s.has)))
+      ap (λ o. new_form (record c { region = o })) s.there
+      ∙ one_end (value B kinds.Region) (λ u. record c { region = Some u }) (λ s t e. by_region s t (record { there = refl; has = e; result = refl })) a v (value_same kinds.Region a v tt s.has)
       ∙ sym (ap new_form s.result)
   old_core_step c d P (by_variant before v w after s) =
-      let S = settles B (core_conditions B CB.passes) in
       let p = variant_value_is A v w s.has in
-      let e : S.variant v ≡ S.variant w = one_end S.variant_end v w (value_same kinds.Variant v w p.1 p.0) in
-      ap (λ vs. form_on (values_of B) S c.extlangs c.language (option_map S.script c.script) (option_map S.region c.region) vs)
-      (ap (map S.variant) s.there ∙ map-append S.variant before (v ∷ after) ∙ ap (λ u. map S.variant before ++ u ∷ map S.variant after) e ∙ sym (map-append S.variant before (w ∷ after)))
+      ap (λ vs. new_form (record c { variants = vs })) s.there
+      ∙ one_end (variant_value B) (λ u. record c { variants = before ++ u ∷ after }) (λ s t e. by_variant before s t after (record { there = refl; has = e; result = refl })) v w (value_same kinds.Variant v w p.1 p.0)
       ∙ sym (ap new_form s.result)
   old_core_step c d P (by_turn before v m after s) =
-      let S = settles B (core_conditions B CB.passes) in
       let k = turn_both c.language v m s.has in
       let r : AllByRecursion (λ v. is_registered A kinds.Variant v ≡ true) (before ++ v ∷ after) = subst (AllByRecursion (λ v. is_registered A kinds.Variant v ≡ true)) s.there P.variants in
-      let mid : CoreParts = core k.0 c.extlangs c.script c.region (before ++ after) in
-      step_keeps (values_of B) S c mid (by_turn before v k.0 after (record { alone = s.alone; there = s.there; has = k.1; leftmost = turns_back c.language before (v ∷ after) r s.leftmost; result = refl }))
-      ∙ ap (λ xs. new_form (core k.0 xs c.script c.region (before ++ after))) s.alone
-      ∙ language_same k.0 m c.script c.region (before ++ after) (sym k.2)
-      ∙ ap (λ xs. new_form (core m xs c.script c.region (before ++ after))) (sym s.alone)
+      let left : CoreParts = record c { variants = before ++ after } in
+      new_step c (record left { language = k.0 }) (by_turn before v k.0 after (record { alone = s.alone; there = s.there; has = k.1; leftmost = turns_back c.language before (v ∷ after) r s.leftmost; result = refl }))
+      ∙ sym (language_same left m k.0 k.2 s.alone)
       ∙ sym (ap new_form s.result)

@@ -5,10 +5,7 @@ use Rattle.lt_registry.specs.Validity.{IsProper}
 use Rattle.lt_rewrite.specs.Rewriting.{Star, done, then}
 use Rattle.lt_rewrite.specs.TagSteps.{TagStep}
 use Rattle.lt_check.specs.Conditions.{IsChecked}
-use Rattle.std.proofs.Common.{◌≡◌, ◌≤◌, ◌<◌, ◌&&◌, ◌||◌, List, [], ◌∷◌, ◌∙◌}
-use Rattle.lt_registry.specs.declared.entries.Kind.TheVariants as kinds
-use Rattle.lt_registry.specs.declared.entries.EntryName.TheVariants as names
-use Rattle.lt_check.specs.declared.conditions.Condition.TheVariants as conditions
+use Rattle.std.proofs.Common.{List, [], ◌∷◌}
 use Rattle.lt_upgrade.specs.declared.conditions.UpgradeCondition.{UpgradeCondition}
 use Rattle.lt_upgrade.specs.declared.conditions.UpgradeCondition.TheVariants as upgrades
 

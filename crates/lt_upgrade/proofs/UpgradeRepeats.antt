@@ -13,7 +13,8 @@ use Rattle.lt_rewrite.specs.Extensions.{singleton_cmp, TransformStep, on_source,
 use Rattle.lt_rewrite.specs.TagSteps.{IsPlain, TagChange, on_core, on_extensions, on_whole, TagStep}
 use Rattle.lt_rewrite.proofs.NormalForms.{form_is_normal, normal_is_form}
 use Rattle.lt_rewrite.proofs.PartLists.{all_middle, empty_middle}
-use Rattle.lt_rewrite.proofs.FoundParts.{one_transform}
+use Rattle.lt_rewrite.proofs.ExtensionLaws.{one_transform}
+use Rattle.lt_rewrite.proofs.ProperTags.{source_proper}
 use Rattle.lt_check.specs.Conditions.{plain, IsValidPlain, IsChecked}
 use Rattle.lt_canon.specs.Answers.{IsRepeatOfCore, IsRepeatOfSource, HasDistinctForm, IsNamedRepeat}
 use Rattle.lt_upgrade.specs.Upgrade.{MeetInCanonical, KeepsWhole, Upgrades}
@@ -23,7 +24,6 @@ use Rattle.lt_canon.proofs.Distinctness.{second_repeats}
 use Rattle.lt_canon.proofs.EndForms.{star_end, rest_is_end}
 use Rattle.lt_canon.proofs.TagForm.{or_value, core_end, cores_formed, value_end, tag_end, end_form}
 use Rattle.lt_upgrade.proofs.UpgradeCores.{old_core_step}
-use Rattle.lt_upgrade.proofs.UpgradeTags.{proper_source}
 
 -- members of lists
 
@@ -104,7 +104,7 @@ module _ (A B : List EntryParts) (CA : IsChecked A) (CB : IsChecked B) (U : Upgr
           record {
             source = d;
             has_source = record { transforms = s.singleton ∙ s.is_t; parts = q; formed = s.to; there = j.to };
-            repeat = repeat_moves c d v (old_core_step A B CA CB U c d (proper_source A e p q c f P s j.from) j.step) r;
+            repeat = repeat_moves c d v (old_core_step A B CA CB U c d (source_proper A e p c P s.is_t s.from j.from) j.step) r;
           }
       by (on_fields a j) =
           record { source = k.source; has_source = record { transforms = s.singleton ∙ s.is_t; parts = q; formed = s.to; there = a ∙ there }; repeat = k.repeat }

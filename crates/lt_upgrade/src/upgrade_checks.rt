@@ -16,9 +16,7 @@ use lt_canon::{Refusal, equivalent};
 use lt_check::Checked;
 use lt_registry::{Entry, EntryName, Kind, Lookup, Prefix};
 use lt_rewrite::Shortcuts;
-use lt_rewrite::values::{
-    has_language_value, is_registered, is_short, lists, one_value, tag_and_value,
-};
+use lt_rewrite::values::{has_language_value, is_registered, is_short, one_value, tag_and_value};
 use lt_subtag::Subtag;
 use lt_tag::{OutOfMemory, Tag};
 use std::alloc::Global;
@@ -142,28 +140,28 @@ pub(crate) fn keeps_extlang<L: Lookup>(newer: &L, shortcuts: &Shortcuts, entry: 
     }
 }
 
-/// Whether a Prefix, if it is one subtag, is among others.
-fn is_among(prefix: &Prefix, others: &[Prefix]) -> bool
-    ensures { result ≡ checks.is_among others.now prefix.now }
+/// Whether a Prefix, if it is one subtag, is among those of a record.
+fn is_among(prefix: &Prefix, entry: &Entry) -> bool
+    ensures { result ≡ checks.is_among entry.now.prefixes prefix.now }
 {
     match prefix.subtags() {
-        [language] => lists(others, language),
+        [language] => entry.has_prefix(language),
         _ => true,
     }
 }
 
-/// Whether each Prefix of one subtag is among others.
-fn are_among(prefixes: &[Prefix], others: &[Prefix]) -> bool
-    ensures { result ≡ list_all (checks.is_among others.now) prefixes.now }
+/// Whether each Prefix of one subtag is among those of a record.
+fn are_among(prefixes: &[Prefix], entry: &Entry) -> bool
+    ensures { result ≡ list_all (checks.is_among entry.now.prefixes) prefixes.now }
 {
-    prefixes.iter().all(|prefix| is_among(prefix, others))
+    prefixes.iter().all(|prefix| is_among(prefix, entry))
 }
 
-/// Whether two lists of Prefixes have the same languages.
-fn same_languages(left: &[Prefix], right: &[Prefix]) -> bool
-    ensures { IsTrue result ↔ ((l : List ℕ) → entries.lists left.now l ≡ entries.lists right.now l) }
+/// Whether the Prefixes of two records have the same languages.
+fn same_languages(left: &Entry, right: &Entry) -> bool
+    ensures { IsTrue result ↔ ((l : List ℕ) → entries.lists left.now.prefixes l ≡ entries.lists right.now.prefixes l) }
 {
-    are_among(left, right) && are_among(right, left)
+    are_among(left.prefixes(), right) && are_among(right.prefixes(), left)
 }
 
 /// Whether a variant with a language value keeps one of the same end, and the set of its Prefixes, in the
@@ -196,7 +194,7 @@ fn turns_alike<L: Lookup>(
     };
     match one_value(other) {
         Some(language) if is_short(language) => {
-            same_languages(other.prefixes(), entry.prefixes())
+            same_languages(other, entry)
                 && have_same_end(newer, shortcuts, Kind::Language, value, language)
         }
         _ => false,

@@ -186,9 +186,10 @@ pub fn upgrade_check<A: Lookup, B: Lookup>(
 {
     upgrades_keep_tags();
     let _ = older.table();
-    let shortcuts = Shortcuts::of_table(alloc, newer.table())?;
+    let _ = newer.table();
+    let shortcuts = newer.shortcuts();
     for condition in IN_ORDER {
-        if let Some(number) = lowest_fault(alloc, older, newer, &shortcuts, condition)? {
+        if let Some(number) = lowest_fault(alloc, older, newer, shortcuts, condition)? {
             return Err(UpgradeFault::Fails { condition, number });
         }
     }

@@ -1,7 +1,5 @@
 //! The answers by the tables of the sample.
 use super::explanations::explanations;
-use super::growths::{answered, twice};
-use super::sample::sorted_sample;
 use super::traces::traces;
 use lt_canon::laws::confluence;
 use lt_canon::{
@@ -11,6 +9,8 @@ use lt_canon::{
 use lt_check::Checked;
 use lt_registry::Lookup;
 use lt_tag::{OutOfMemory, Tag, read_tag, write_tag};
+use lt_test_tables::sorted_sample;
+use lt_testing::{answered, twice};
 use std::alloc::{AllocError, Global};
 use std::process::Abort;
 use std::test::Fail;

@@ -2,12 +2,12 @@ ghost use Rattle.std.specs.Prelude.{◌↔◌, IsTrue, IfOk};
 ghost use Rattle.lt_registry.specs.Validity.{IsProper};
 ghost use Rattle.lt_registry.specs.Faults.{RepeatsAtMost};
 
-use super::growths::{answered, twice};
 use lt_canon::{Refusal, Trace, explain};
 use lt_check::Checked;
 use lt_registry::{Lookup, proper};
 use lt_rewrite::{ApplyFault, Step, StepKind, apply};
 use lt_tag::{OutOfMemory, Tag, read_tag, write_tag};
+use lt_testing::{answered, twice};
 use std::alloc::Global;
 use std::process::Abort;
 use std::test::Fail;

@@ -5,63 +5,14 @@ use super::answers::{
     texts_with_faults, the_longest_text,
 };
 use super::explanations::explanations;
-use super::sample::{sample, sample_with, sorted_sample};
 use super::traces::traces;
 use super::upgrades::{FAULTS, UPGRADES, checked, fault};
 use super::{CHANGES, finding};
 use lt_check::Checked;
 use lt_registry::ListTable;
-use std::alloc::{AllocError, Global};
-use std::fmt::Debug;
+use lt_test_tables::{sample, sample_with, sorted_sample};
+use std::alloc::Global;
 use std::test::Fail;
-
-/// What a call answers, made again where it is refused. No run refuses more than one growth.
-pub fn twice<T, E: Drop, C: Fn() -> Result<T, E>>(call: C) -> Result<T, E>
-    requires { C.IsAlwaysCallable call }
-    ensures { C.post call result }
-{
-    match call() {
-        Ok(value) => Ok(value),
-        Err(_) => call(),
-    }
-}
-
-/// A value in words.
-pub fn shown<T: Debug>(alloc: Global, value: &T) -> Result<String, AllocError> {
-    twice(|| format!(in alloc; "{value:?}"))
-}
-
-/// Whether a value is shown so.
-pub fn is_shown<T: Debug>(alloc: Global, value: &T, words: &str) -> bool {
-    matches!(shown(alloc, value), Ok(found) if found.as_str() == words)
-}
-
-/// What a call answers, made again where a growth was refused and its arguments are what they were.
-pub fn answered<A, T, E, C, R>(
-    alloc: Global,
-    arguments: &A,
-    call: C,
-    is_want_of_memory: R,
-) -> Result<T, E>
-where
-    A: Debug,
-    E: Drop,
-    C: Fn() -> Result<T, E>,
-    R: Fn(&E) -> bool,
-    requires call { C.IsAlwaysCallable call }
-    requires want { R.IsAlwaysCallable is_want_of_memory }
-{
-    let Ok(before) = shown(alloc, arguments) else {
-        return call();
-    };
-    match call() {
-        Err(refusal)
-            if is_want_of_memory(&refusal) && is_shown(alloc, arguments, before.as_str()) => {
-            call()
-        }
-        answer => answer,
-    }
-}
 
 /// The sample, which passes the check.
 fn checked_sample(alloc: Global) -> Result<Checked<ListTable>, Fail> {

@@ -2,21 +2,11 @@
 use super::finding;
 use lt_canon::canonical;
 use lt_check::Checked;
-use lt_jar::read_jar;
-use lt_registry::{ListTable, Lookup, Registry, SortedTable};
+use lt_registry::{ListTable, Lookup};
 use lt_tag::{read_tag, write_tag};
+use lt_test_tables::{registry_of, sorted};
 use std::alloc::{AllocError, Global};
 use std::test::Fail;
-
-/// The entries of a registry's text.
-fn registry_of(alloc: Global, text: &str) -> Result<Registry, Fail> {
-    let jar = read_jar(alloc, text.as_bytes())?;
-    let records = jar.records();
-    if records.len() > 100_000 {
-        return Err(Fail::from("too many records"));
-    }
-    Ok(Registry::from_records(alloc, records)?)
-}
 
 /// A variant that is its own value.
 const CIRCLE: &str = "Type: variant\nSubtag: abcde\nPreferred-Value: abcde";
@@ -82,9 +72,7 @@ fn leads_to<L: Lookup>(
 #[test]
 fn a_long_chain_is_followed(rt: HostRuntime) -> Result<(), Fail> {
     let registry = registry_of(rt.alloc(), &chain_text(rt.alloc())?)?;
-    let Ok(table) = SortedTable::new(rt.alloc(), registry) else {
-        return Err(Fail::from("no memory for the table"));
-    };
+    let table = sorted(rt.alloc(), registry)?;
     assert!(rt; table.entries().len() == 2_000);
     match Checked::new(rt.alloc(), table) {
         Ok(checked) => assert!(rt; leads_to(rt.alloc(), &checked, "xaaaa", "xbjjj")?),

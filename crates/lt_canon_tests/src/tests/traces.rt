@@ -1,9 +1,9 @@
-use super::growths::{answered, twice};
 use lt_canon::{Trace, TraceFault, verify};
 use lt_check::Checked;
 use lt_registry::{Lookup, ValidFault, ValidFaultKind};
 use lt_rewrite::{Step, StepKind};
 use lt_tag::{TagFault, read_tag};
+use lt_testing::{answered, twice};
 use std::alloc::Global;
 use std::process::Abort;
 use std::test::Fail;

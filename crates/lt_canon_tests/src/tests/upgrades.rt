@@ -1,9 +1,9 @@
 //! The check of an upgrade between the sample and the sample with one change.
 use super::answers::has_form;
-use super::sample::{sample, sample_with, sorted_sample};
 use lt_check::Checked;
 use lt_registry::{Lookup, validate};
 use lt_tag::read_tag;
+use lt_test_tables::{sample, sample_with};
 use lt_upgrade::{UpgradeFault, upgrade_check};
 use std::alloc::Global;
 use std::test::Fail;

@@ -1,6 +1,6 @@
 //! Readers that end, and readers that fail.
 use super::one_by_one::lent_text;
-use lt_jar::{Device, Pieces};
+use lt_jar::{Device, JarReader, Pieces};
 use lt_testing::sample_text;
 use std::alloc::Global;
 use std::io::Read;
@@ -8,7 +8,7 @@ use std::test::Fail;
 
 /// What so many calls answer.
 pub fn told<R: Read>(alloc: Global, device: &mut Device<R>, calls: usize) -> Result<String, Fail> {
-    let Ok(mut reader) = device.records(alloc) else {
+    let Ok(mut reader) = JarReader::new(alloc, device) else {
         return Err(Fail::from("no reader"));
     };
     let mut text = String::new(alloc);

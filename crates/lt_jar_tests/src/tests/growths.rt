@@ -158,12 +158,7 @@ fn reading<R: Read>(
     }
 }
 
-/// Whether a reader was refused because a growth was.
-fn is_unmade(refusal: JarFault) -> bool {
-    refusal.kind == JarFaultKind::OutOfMemory && refusal.line == 1
-}
-
-/// What a new reader does.
+/// What a new reader does, which is never refused.
 fn reading_of<R: Read>(
     alloc: Global,
     device: &mut Device<R>,
@@ -172,7 +167,6 @@ fn reading_of<R: Read>(
 ) -> Outcome {
     match JarReader::new(alloc, device) {
         Ok(mut reader) => reading(&mut reader, fields, end),
-        Err(refusal) if is_unmade(refusal) => Outcome::Refused,
         Err(_) => Outcome::Wrong,
     }
 }
@@ -195,25 +189,6 @@ fn is_read_in_pieces(
     }
 }
 
-/// Whether a device lends a record, and then this fault or nothing. Where no reader is made, it is as it
-/// was, and lends the same to another.
-fn is_lent<R: Read>(
-    alloc: Global,
-    device: &mut Device<R>,
-    fields: Fields,
-    end: Option<JarFault>,
-) -> bool {
-    match device.records(alloc) {
-        Ok(mut reader) => return reading(&mut reader, fields, end) != Outcome::Wrong,
-        Err(refusal) if is_unmade(refusal) => {}
-        Err(_) => return false,
-    }
-    match device.records(alloc) {
-        Ok(mut reader) => reading(&mut reader, fields, end) == Outcome::Right,
-        Err(_) => false,
-    }
-}
-
 /// Texts of one record with its fields, and the fault after it.
 const ONE_RECORD: [(&[u8], Fields, Option<JarFault>); 2] = [
     (b"A:\n  b \n\tc", &[("A", "b c")], None),
@@ -231,10 +206,10 @@ const ONE_RECORD: [(&[u8], Fields, Option<JarFault>); 2] = [
 fn records_are_lent(rt: HostRuntime) {
     for size in &SIZES {
         for (text, fields, end) in &ONE_RECORD {
-            let mut device = Device::new(Pieces::once(text, *size));
-            let is_right = is_read_in_pieces(rt.alloc(), text, *size, fields, *end)
-                && is_lent(rt.alloc(), &mut device, fields, *end);
-            assert!(rt; is_right, "{size}");
+            assert!(rt;
+                is_read_in_pieces(rt.alloc(), text, *size, fields, *end),
+                "{size}"
+            );
         }
     }
 }
@@ -250,7 +225,7 @@ fn is_small(record: RecordRef<'_>) -> bool {
 #[test]
 fn a_record_without_growth(rt: HostRuntime) -> Result<(), Fail> {
     let mut device = Device::new(b"A: b\n".as_slice());
-    let mut reader = device.records(rt.alloc())?;
+    let mut reader = JarReader::new(rt.alloc(), &mut device)?;
     let Some(record) = reader.next()? else {
         return Err(Fail::from("no record"));
     };

@@ -187,7 +187,7 @@ fn lends_fields<R: Read>(
     device: &mut Device<R>,
     fields: &str,
 ) -> Result<bool, AllocError> {
-    let Ok(mut reader) = device.records(alloc) else {
+    let Ok(mut reader) = JarReader::new(alloc, device) else {
         return Ok(false);
     };
     let Ok(Some(record)) = reader.next() else {

@@ -8,11 +8,12 @@ use Rattle.lt_registry.specs.Validity.{IsProper}
 use Rattle.lt_rewrite.specs.Applying.{CoreLeads}
 use Rattle.lt_rewrite.specs.Runs.{NoneLeads, AddsOnCore}
 use Rattle.lt_rewrite.specs.declared.steps.Step.{Step}
-use Rattle.lt_rewrite.proofs.TagLeading.{fits, few_subtags}
+use Rattle.lt_rewrite.proofs.StepLaws.{fits, few_subtags}
 use Rattle.lt_check.specs.Conditions.{plain}
 use Rattle.lt_canon.specs.Explaining.{LeadsToRest}
 use Rattle.lt_check.specs.declared.conditions.Condition.TheVariants as conditions
-use Rattle.lt_canon.proofs.TagProper.{proper_parts, core_spells_none}
+use Rattle.lt_rewrite.proofs.ProperTags.{proper_parts}
+use Rattle.lt_canon.proofs.TagProper.{core_spells_none}
 use Rattle.lt_canon.proofs.CanonicalForms.{none_of_test, nothing_of_test}
 use Rattle.lt_canon.proofs.Explained.{if_ok, some_of_test, plain_made, first_adds, plain_explained, langtag_explained, coreless_explained, transforms_of}
 use Rattle.lt_canon.proofs.explaining.explain_tag.Goals.{else-is_empty-via-then-is_empty+else-is_empty-2, else-is_empty-via-else-is_empty}

@@ -1,4 +1,4 @@
-use Rattle.std.proofs.Common.{◌≡◌, true, length, take, ap, ◌∙◌, arith}
+use Rattle.std.proofs.Common.{length, take, ap, ◌∙◌, arith}
 use Rattle.std.specs.List.{prefix_len}
 use Rattle.std.specs.Char.{is_ascii_alphanumeric}
 use Rattle.lt_subtag.specs.Bytes.{folded}

@@ -1,9 +1,19 @@
-use Rattle.std.proofs.Common.{sym, ◌∙◌}
+use Rattle.std.proofs.Common.{sym, ap, ◌∙◌}
+use Rattle.std.specs.List.{list_all}
+use Rattle.lt_upgrade.specs.UpgradeChecking.{is_among}
 use Rattle.lt_upgrade.proofs.UpgradeChecks.{languages_compared, languages_apart}
 use Rattle.lt_upgrade.proofs.upgrade_checks.same_languages.Goals as goal
 
 pub returns-then-are_among : goal.returns-then-are_among
-returns-then-are_among c = languages_compared c.args.left.now c.args.right.now c.are_among-then-are_among.result (sym c.are_among.ensures ∙ c.if-are_among.true) c.are_among-then-are_among.ensures
+returns-then-are_among c =
+    let left = c.args.left.now.prefixes in
+    let right = c.args.right.now.prefixes in
+    languages_compared left right c.are_among-then-are_among.result
+    (ap (list_all (is_among right)) (sym c.prefixes.ensures.value) ∙ sym c.are_among.ensures ∙ c.if-are_among.true)
+    (c.are_among-then-are_among.ensures ∙ ap (list_all (is_among left)) c.prefixes-then-are_among.ensures.value)
 
 pub returns-else-are_among : goal.returns-else-are_among
-returns-else-are_among c = languages_apart c.args.left.now c.args.right.now c.are_among.result c.are_among.ensures c.if-are_among.false
+returns-else-are_among c =
+    let left = c.args.left.now.prefixes in
+    let right = c.args.right.now.prefixes in
+    languages_apart left right c.are_among.result (c.are_among.ensures ∙ ap (list_all (is_among right)) c.prefixes.ensures.value) c.if-are_among.false

@@ -1,5 +1,4 @@
-use Rattle.std.proofs.Common.{ℕ, List, sym, ap, ◌∙◌}
-use Rattle.lt_registry.specs.Entries.{lists}
+use Rattle.std.proofs.Common.{sym, ◌∙◌}
 use Rattle.lt_upgrade.proofs.UpgradeChecks.{turn_compared}
 use Rattle.lt_upgrade.proofs.upgrade_checks.turns_alike.Goals as goal
 
@@ -9,5 +8,5 @@ returns-then-same_languages g c =
     let language = c.in-Some-one_value.language.now in
     turn_compared (g.L.Lookup.listed c.args.newer.now) c.args.entry.now other c.args.subtag.now c.args.value.now language c.have_same_end.result (sym c.in-Some.ensures) (sym c.in-Some-one_value.ensures.value)
     (sym c.is_short.ensures ∙ c.if-is_short.true)
-    (λ (l : List ℕ). ap (λ (ps : List (List (List ℕ))). lists ps l) (sym c.prefixes.ensures.value) ∙ c.same_languages.ensures.0 c.if-same_languages.true l ∙ ap (λ (ps : List (List (List ℕ))). lists ps l) c.prefixes-in-Some-one_value.ensures.value)
+    (c.same_languages.ensures.0 c.if-same_languages.true)
     c.have_same_end.ensures

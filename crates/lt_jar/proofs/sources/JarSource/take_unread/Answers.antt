@@ -1,4 +1,4 @@
-use Rattle.std.proofs.Common.{◌≤◌, ◌-◌, Ok, take, drop, sym, ap, subst}
+use Rattle.std.proofs.Common.{Ok, sym, subst}
 use Rattle.lt_jar.specs.Pieces.{TakesPiece, TakesRecord}
 use Rattle.lt_jar.specs.Sources.{unread_in}
 use Rattle.lt_jar.proofs.SourceLemmas.{unread_rest}
@@ -9,9 +9,9 @@ returns-in-Ok-Some-clause-takes c =
     let old = c.args.self.now in
     let new = c.take.new.self in
     let rest = c.in-Ok-Some.rest.now in
-    let piece = take (old.end - old.start) (drop old.start c.deref.result.now) in
-    let ensures : TakesRecord old.engine new piece rest = subst (λ o. TakesPiece old.engine new piece (Ok o)) c.in-Ok-Some.field-0-is c.in-Ok-Some.ensures in
-    let piece_is = ap (λ l. take (old.end - old.start) (drop old.start l)) c.deref.ensures.value in
-    let takes = subst (λ l. TakesRecord old.engine new l rest) piece_is ensures in
-    let same = unread_rest old.buffer.items old.start old.end takes.front rest old.placed.0 (subst (λ n. old.end ≤ n) old.buffer.ok.0 old.placed.1) takes.split in
+    let piece = c.between-piece.ensures in
+    let ensures : TakesRecord old.engine new c.between-piece.result.now rest =
+    subst (λ o. TakesPiece old.engine new c.between-piece.result.now (Ok o)) c.in-Ok-Some.field-0-is c.in-Ok-Some.ensures in
+    let takes = subst (λ l. TakesRecord old.engine new l rest) piece.bytes ensures in
+    let same = unread_rest old.buffer old.start old.end takes.front rest old.placed.0 piece.room takes.split in
     subst (λ l. TakesRecord old.engine new (unread_in old) l) (sym same) takes

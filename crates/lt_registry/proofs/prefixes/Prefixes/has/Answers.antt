@@ -1,6 +1,4 @@
-use Rattle.std.proofs.Common.{◌≡◌, ◌∙◌, ap, subst}
-use Rattle.std.specs.Ordering.{nat_cmp}
-use Rattle.std.specs.List.Sorted.{IsBinarySearchResult}
+use Rattle.std.proofs.Common.{◌∙◌}
 use Rattle.lt_registry.proofs.PrefixLemmas.{lists_found}
 use Rattle.lt_registry.proofs.prefixes.Prefixes.has.Goals as goal
 

@@ -2,14 +2,8 @@ use Rattle.std.proofs.Common.{◌∙◌, refl, sym, ap, Ok, true, false, rules}
 use Rattle.std.proofs.lemmas.Result.{err_from_is_err_and}
 use Rattle.lt_jar.specs.Sources.{Advances}
 use Rattle.lt_registry.specs.AddedRecords.{finished}
-use Rattle.lt_registry.proofs.ReadRegistryLemmas.{read_more, read_none, read_refused, read_stops, read_whole, reads_entries, reads_fault}
+use Rattle.lt_registry.proofs.ReadRegistryLemmas.{read_more, read_none, read_stops, read_whole, reads_entries, reads_fault}
 use Rattle.lt_registry.proofs.registry.Registry.read.Goals as goal
-
-pub returns-in_err-reader : goal.returns-in_err-reader
-returns-in_err-reader g c =
-    let p = err_from_is_err_and c.from_residual.result c.from_residual.ensures.1 in
-    let memory = c.in_err-reader.ensures.memory in
-    rw (p.1, p.2) (read_refused g.R.Read.remaining c.args.device.now c.records-2.follows.lender-at-none c.in_err-reader.field-0.0 (rw c.in_err-reader.was at c.records-2.follows.holds-at-none) memory.0 memory.1)
 
 pub records-init : goal.records-init
 records-init g c =

@@ -1,15 +1,15 @@
-use Rattle.std.proofs.Common.{◌≡◌, length}
-use Rattle.std.specs.Prelude.{fold}
+use Rattle.std.proofs.Common.{◌≡◌, ◌++◌, List, ℕ, length}
 use Rattle.lt_tag.specs.Lists.{pieces}
-use Rattle.lt_tag.specs.Printing.{printed, printed_with, IsKept}
+use Rattle.lt_tag.specs.Keeping.{IsKept}
+use Rattle.lt_tag.specs.Printing.{Prints}
 use Rattle.lt_tag.proofs.writing.Style.put_pieces.Given as goal
 
--- what is left gives the whole
+-- what is left follows what stands in the text
 abbrev pub invariant-loop-others : goal.invariant-loop-others
-invariant-loop-others l = record {
-  put : fold printed_with (printed l.text.items l.self) (pieces l.rest) ≡ fold printed_with (printed l.initial.text.items l.initial.self) (pieces l.bytes);
-  kept : IsKept l.initial.text.items l.text.items;
+invariant-loop-others g l = record {
+  put : (front : List (List ℕ)) × (front ++ pieces l.rest ≡ pieces l.bytes) × Prints g.S.Sink.took l.initial.text l.initial.self front l.text l.self;
+  kept : IsKept (g.S.Sink.held l.initial.text) (g.S.Sink.held l.text);
 }
 
 abbrev pub decreases-loop-others : goal.decreases-loop-others
-decreases-loop-others l = length l.rest
+decreases-loop-others g l = length l.rest

@@ -1,0 +1,55 @@
+use super::core_of;
+use lt_registry::ListTable;
+use lt_rewrite::{Step, StepKind, explain_core, first_cycle};
+use std::alloc::Global;
+use std::test::Fail;
+
+/// A tag, and the kinds, places and records of the steps on its core.
+type Row = (&'static str, &'static [(StepKind, u32, u32)]);
+
+pub(super) const ROWS: [Row; 5] = [
+    (
+        "zh-yue-DD",
+        &[(StepKind::Extlang, 2, 23), (StepKind::Region, 2, 27)],
+    ),
+    (
+        "iw-arevela-heploc",
+        &[(StepKind::Language, 1, 9), (StepKind::Variant, 3, 37)],
+    ),
+    (
+        "hy-arevela-arevmda",
+        &[
+            (StepKind::VariantLanguage, 2, 34),
+            (StepKind::VariantLanguage, 2, 35),
+        ],
+    ),
+    (
+        "hy-heploc-arevmda",
+        &[
+            (StepKind::Variant, 2, 37),
+            (StepKind::VariantLanguage, 3, 35),
+        ],
+    ),
+    ("sgn-DE", &[]),
+];
+
+/// The steps on a tag's core. Where memory is refused, they are taken again.
+pub(super) fn explained(alloc: Global, table: &ListTable, text: &str) -> Result<Vec<Step>, Fail> {
+    if first_cycle(table).is_some() {
+        return Err(Fail::from("a cycle"));
+    }
+    let core = core_of(alloc, text)?;
+    let answer = explain_core(table, core, 0, Vec::new(alloc));
+    let (_core, steps) = match answer {
+        Ok(explained) => explained,
+        Err(_) => explain_core(table, core_of(alloc, text)?, 0, Vec::new(alloc))?,
+    };
+    Ok(steps)
+}
+
+/// Whether steps have these kinds, places and records.
+pub(super) fn are_steps(steps: &[Step], wanted: &[(StepKind, u32, u32)]) -> bool {
+    steps.len() == wanted.len()
+        && steps.iter().zip(wanted).all(|(step, other)| (step.kind, step.place, step.number)
+            == *other)
+}

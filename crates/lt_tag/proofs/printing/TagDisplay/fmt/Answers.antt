@@ -1,0 +1,7 @@
+use Rattle.lt_tag.specs.WellFormed.{spell}
+use Rattle.lt_tag.proofs.PrintingLemmas.{displays}
+use Rattle.lt_tag.proofs.printing.TagDisplay.fmt.Goals as goal
+
+pub returns-clause-writes : goal.returns-clause-writes
+returns-clause-writes g c =
+    displays g.W.Write.write_str_gives c.put_tag.new.self (spell c.args.self.now) c.put_tag.result c.new.ensures c.put_tag.ensures.put

@@ -1,0 +1,49 @@
+//! What the text of a tag is printed to: a vector of bytes, or the formatter of a `Display`.
+ghost use Rattle.std.specs.Prelude.{◌≡◌, ℕ, List, [], ◌++◌, OnOk};
+ghost use Rattle.std.specs.Fmt.{HasWritten, IsPlainFormatter};
+ghost use Rattle.lt_tag.specs.Keeping.{IsKept};
+
+use crate::faults::OutOfMemory;
+use std::fmt;
+
+/// What takes a text, some bytes at a time.
+pub(crate) trait Sink {
+    /// Why bytes were not taken.
+    type Refusal: Drop;
+
+    /// Relates the sink before it took bytes, those bytes, and the sink after it.
+    ghost took: { Self → List ℕ → Self → Type 0 };
+
+    /// The bytes that it is known to hold.
+    ghost held: { Self → List ℕ };
+
+    /// Takes bytes, after those before. What it held it holds still, also where it refuses them.
+    fn add(&mut self, bytes: &[u8]) -> Result<(), Self::Refusal>
+        ensures took { OnOk result (took self.old bytes.now self.new) }
+        ensures kept { IsKept (held self.old) (held self.new) };
+}
+
+impl Sink for Vec<u8> {
+    type Refusal = OutOfMemory;
+
+    ghost took = { λ old bytes new. new.items ≡ old.items ++ bytes };
+
+    ghost held = { λ text. text.items };
+
+    fn add(&mut self, bytes: &[u8]) -> Result<(), OutOfMemory> {
+        Ok(self.extend_from_slice(bytes)?)
+    }
+}
+
+impl<W: fmt::Write> Sink for fmt::Formatter<W> {
+    type Refusal = fmt::Error;
+
+    ghost took = { λ old bytes new. IsPlainFormatter old → HasWritten W.write_str_gives old bytes new };
+
+    ghost held = { λ _. [] };
+
+    fn add(&mut self, bytes: &[u8]) -> fmt::Result {
+        let text = str::from_utf8(bytes).map_err(|_| fmt::Error)?;
+        self.write_str(text)
+    }
+}
