@@ -67,10 +67,12 @@ pub record IsClassified (text before after : List ℕ) (o : Outcome) : Type 0 wh
   pub tag : TagForm
   pub read : HasTag text tag
   pub delivered :
-      IsDelivered (record { status = 0; detail = class (class_of tag); place = 0 }) (conventional (spell tag)) before after o
+      IsDelivered (record { status = 0; detail = class (class_of tag); place = 0 }) (conventional (spell tag)) before
+      after o
 
 abbrev pub Classifies : List ℕ → List ℕ → List ℕ → Outcome → Type 0
-Classifies text before after o = IsClassified text before after o ⊎ IsRefusedAsOwed (IsReadingRefusal text) before after o
+Classifies text before after o =
+    IsClassified text before after o ⊎ IsRefusedAsOwed (IsReadingRefusal text) before after o
 
 -- the tag is valid, or the refusal is told; no text goes with either
 abbrev pub Validates : List EntryParts → List ℕ → Outcome → Type 0
