@@ -28,11 +28,11 @@ test:
 	tests/fresh.sh
 	tests/bindings.sh
 
-# Counts what has to be believed: the definitions that the headline reaches; and checks which lemmas the crates lend.
+# Checks which lemmas the crates lend, and counts what has to be believed: the definitions that the headline reaches.
 # It needs no toolchain.
 statement:
-	bench/statement.py --docs
 	bench/layers.py
+	bench/statement.py --docs
 
 # Measures the program that `make` built, over a registry of IANA's size; it takes some seconds.
 bench:
