@@ -2,13 +2,22 @@
 
 PREFIX ?= /usr/local
 
-.PHONY: all test statement bench hostile growth install clean
+.PHONY: all lib sqlite test statement bench hostile growth install clean
 
 # Proves each crate that changed, and builds the program: `rt run` proves, builds and runs it.
 all:
 	cd crates/langtag && rt run -- --help > /dev/null
 	mkdir -p build
 	cp crates/langtag/out/langtag build/langtag
+
+# Proves and builds the library for C: build/libbcp47.a and build/libbcp47.so.1.
+lib:
+	cd crates/bcp47_c && rt lib > /dev/null
+	bindings/c/build.sh
+
+# Builds the extension of SQLite: build/bcp47.so.
+sqlite: lib
+	gcc -O2 -fPIC -shared -Wall -Ibindings/c -o build/bcp47.so bindings/sqlite/bcp47_sqlite.c build/libbcp47.a
 
 # Proves everything from nothing, and runs each test; then the program on real files and streams, and README's commands.
 test:
@@ -17,6 +26,7 @@ test:
 	cp crates/langtag/out/langtag build/langtag
 	tests/program.sh
 	tests/fresh.sh
+	tests/bindings.sh
 
 # Checks which lemmas the crates lend, and counts what has to be believed: the definitions that the headline reaches.
 # It needs no toolchain.
@@ -38,9 +48,15 @@ growth: all
 	set -e; for crate in lt_tag_tests lt_jar_tests lt_registry_tests lt_rewrite_tests lt_canon_tests lt_tool; do (cd crates/$$crate && rt test); done
 	bench/growth.py
 
-install: all
+install: all lib
 	install -d $(DESTDIR)$(PREFIX)/bin
 	install -m 755 build/langtag $(DESTDIR)$(PREFIX)/bin/langtag
+	install -d $(DESTDIR)$(PREFIX)/include $(DESTDIR)$(PREFIX)/lib/pkgconfig
+	install -m 644 bindings/c/bcp47.h $(DESTDIR)$(PREFIX)/include/bcp47.h
+	install -m 644 build/libbcp47.a $(DESTDIR)$(PREFIX)/lib/libbcp47.a
+	install -m 755 build/libbcp47.so.1 $(DESTDIR)$(PREFIX)/lib/libbcp47.so.1
+	ln -sf libbcp47.so.1 $(DESTDIR)$(PREFIX)/lib/libbcp47.so
+	sed 's#@PREFIX@#$(PREFIX)#' bindings/c/bcp47.pc.in > $(DESTDIR)$(PREFIX)/lib/pkgconfig/bcp47.pc
 	install -d $(DESTDIR)$(PREFIX)/share/man/man1
 	install -m 644 docs/langtag.1 $(DESTDIR)$(PREFIX)/share/man/man1/langtag.1
 

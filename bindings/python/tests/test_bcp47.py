@@ -1,0 +1,128 @@
+"""Tests of the package, and of docs/PYTHON.md's example. Arguments: the sample registry, IANA's registry."""
+import gc
+import sys
+import threading
+import unittest
+from pathlib import Path
+
+import bcp47
+
+SAMPLE, IANA = sys.argv[1:3]
+
+
+class Examples(unittest.TestCase):
+    def test_of_the_page(self):
+        with bcp47.Registry.from_file(SAMPLE) as registry:
+            self.assertEqual(registry.canonical("zh-yue"), "yue")
+            self.assertTrue(registry.equivalent("zh-yue", "YUE"))
+            self.assertEqual(registry.canonical_many(["I-KLINGON", "iw"]), ["tlh", "he"])
+            with self.assertRaises(bcp47.RefusedTag) as raised:
+                registry.canonical("en_US")
+            self.assertEqual((str(raised.exception), raised.exception.fault, raised.exception.place), ("BadByte 1", "BadByte", 1))
+            self.assertEqual(registry.explain("sgn-dd"),
+                             ((bcp47.Step("Region", 2, 27), bcp47.Step("Whole", 1, 44)), "gsg"))
+
+
+class Calls(unittest.TestCase):
+    def setUp(self):
+        self.registry = bcp47.Registry.from_file(SAMPLE)
+
+    def tearDown(self):
+        self.registry.close()
+
+    def test_others(self):
+        self.assertEqual(self.registry.extlang("yue"), "zh-yue")
+        self.assertIsNone(self.registry.validate("zh-yue"))
+        self.assertFalse(self.registry.equivalent("zh-yue", "zh"))
+        self.assertEqual(self.registry.explain("en"), ((), "en"))
+        self.assertRaises(bcp47.RefusedTag, self.registry.validate, "xx")
+        self.assertRaises(bcp47.RefusedTag, self.registry.equivalent, "en", "xx")
+        self.assertRaises(bcp47.RefusedTag, self.registry.explain, "")
+
+    def test_tags(self):
+        tag = bcp47.Tag("ZH-yue-hANT-hk")
+        self.assertEqual((str(tag), tag.kind, repr(tag)), ("zh-yue-Hant-HK", "langtag", "Tag('zh-yue-Hant-HK')"))
+        self.assertEqual(tag, bcp47.Tag("zh-yue-hant-hk"))
+        self.assertEqual(hash(tag), hash(bcp47.Tag("zh-yue-hant-hk")))
+        self.assertNotEqual(tag, bcp47.Tag("yue"))
+        self.assertNotEqual(tag, "zh-yue-Hant-HK")
+        self.assertEqual(bcp47.Tag("X-own").kind, "privateuse")
+        self.assertEqual(bcp47.Tag("i-klingon").kind, "grandfathered")
+        self.assertEqual(self.registry.canonical(bcp47.Tag("iw")), "he")
+        self.assertRaises(bcp47.RefusedTag, bcp47.Tag, "e")
+
+    def test_many(self):
+        answers = self.registry.canonical_many(["zh-yue", "en_US", bcp47.Tag("iw"), ""])
+        self.assertEqual([str(answer) for answer in answers], ["yue", "BadByte 1", "he", "EmptySubtag 1"])
+        self.assertEqual(self.registry.canonical_many([]), [])
+
+    def test_long_texts(self):
+        private = "x-" + "-".join(["abcdefgh"] * 113)
+        self.assertEqual(self.registry.canonical("en-" + private), "en-" + private)
+        with self.assertRaises(bcp47.RefusedTag) as raised:
+            self.registry.canonical("a" * 100000)
+        self.assertEqual(str(raised.exception), "TooLong 0")
+
+    def test_wrong_words(self):
+        for wrong in (None, 1, b"en", ["en"]):
+            self.assertRaises(TypeError, self.registry.canonical, wrong)
+            self.assertRaises(TypeError, self.registry.canonical_many, [wrong])
+            self.assertRaises(TypeError, bcp47.Tag, wrong)
+        self.assertRaises(UnicodeEncodeError, self.registry.canonical, "en-\udc80")
+        self.assertRaises(bcp47.RefusedTag, self.registry.canonical, "é")
+        self.assertRaises(bcp47.RefusedTag, self.registry.canonical, "en\0")
+        self.assertRaises(TypeError, self.registry.upgrade_check, "registry")
+        self.assertRaises(TypeError, bcp47.Registry)
+
+    def test_closed(self):
+        with self.registry as registry:
+            pass
+        registry.close()
+        for call in (registry.canonical, registry.extlang, registry.validate, registry.explain):
+            self.assertRaises(ValueError, call, "en")
+        self.assertRaises(ValueError, registry.canonical_many, ["en"])
+        self.assertRaises(ValueError, registry.equivalent, "en", "en")
+        self.assertRaises(ValueError, registry.__enter__)
+
+    def test_refused_registries(self):
+        for text, line in (
+            (b"no registry\n", "jar BadLine line 1"),
+            (b"%%\nType: language\nSubtag: en\n%%\nType: tongue\nSubtag: fr\n", "record 2 UnknownType"),
+            (b"\xff", "jar NotUtf8 line 1"),
+        ):
+            with self.assertRaises(bcp47.RefusedRegistry) as raised:
+                bcp47.Registry.from_bytes(text)
+            self.assertEqual(str(raised.exception), line)
+        self.assertRaises(TypeError, bcp47.Registry.from_bytes, "text")
+        self.assertRaises(OSError, bcp47.Registry.from_file, "/no/such/file")
+        gc.collect()
+
+    def test_upgrades(self):
+        self.assertIsNone(self.registry.upgrade_check(self.registry))
+        self.assertIsNone(self.registry.upgrade_check(bcp47.Registry.from_file(SAMPLE)))
+        with self.assertRaises(bcp47.RefusedUpgrade) as raised:
+            self.registry.upgrade_check(bcp47.Registry.from_bytes(b"File-Date: 2000-01-01\n"))
+        self.assertEqual(raised.exception.fault, "U1")
+
+    def test_threads(self):
+        wrong = []
+
+        def ask():
+            for _ in range(2000):
+                if self.registry.canonical("zh-yue") != "yue":
+                    wrong.append(1)
+
+        threads = [threading.Thread(target=ask) for _ in range(8)]
+        for thread in threads:
+            thread.start()
+        for thread in threads:
+            thread.join()
+        self.assertEqual(wrong, [])
+
+    def test_iana(self):
+        with bcp47.Registry.from_bytes(Path(IANA).read_bytes()) as registry:
+            self.assertEqual(registry.canonical("cmn-Hans"), "cmn-Hans")
+
+
+if __name__ == "__main__":
+    unittest.main(argv=sys.argv[:1])

@@ -1,0 +1,36 @@
+#!/bin/bash
+# Tests of the functions in SQLite, and docs/SQL.md's first example. Arguments: the folder of bcp47.so, the sample registry.
+got=$(sqlite3 :memory: ".load $1/bcp47" "SELECT bcp47_canonical('en');" 2>&1)
+case $got in *"no registry is loaded"*) ;; *) echo "not loaded: $got" && exit 1 ;; esac
+got=$(sqlite3 :memory: ".load $1/bcp47" "SELECT bcp47_load('/no/such/file');" 2>&1)
+case $got in *"the file can't be read"*) ;; *) echo "no file: $got" && exit 1 ;; esac
+printf 'no registry\n' > "$1/other"
+got=$(sqlite3 :memory: ".load $1/bcp47" "SELECT bcp47_load('$1/other');" 2>&1)
+case $got in *"jar BadLine line 1"*) ;; *) echo "refused: $got" && exit 1 ;; esac
+got=$(sqlite3 :memory: ".load $1/bcp47" "SELECT bcp47_load('$2');" \
+    "SELECT bcp47_canonical('zh-yue'), bcp47_equal('zh-yue', 'YUE'), bcp47_fault('en_US');" \
+    ".nullvalue NULL" \
+    "SELECT bcp47_canonical('en_US'), bcp47_fault('zh-yue'), bcp47_equal('en', 'en_US'), bcp47_equal('en', 'zh');" \
+    "SELECT bcp47_canonical(NULL), bcp47_fault(NULL), bcp47_equal(NULL, 'en'), bcp47_equal('en', NULL);" \
+    "SELECT bcp47_canonical(''), bcp47_fault(''), bcp47_fault(x'ff'), bcp47_fault(1);" \
+    "SELECT length(bcp47_canonical('en-x-' || substr(replace(hex(zeroblob(700)), '00', 'abcdefgh-'), 1, 1007)));" \
+    "SELECT 'zh-yue' = 'YUE' COLLATE BCP47, 'zh' = 'YUE' COLLATE BCP47;" \
+    "CREATE TABLE books (tag TEXT); INSERT INTO books VALUES ('zh-yue'), ('en_US'), ('YUE'), ('iw'), ('he'), ('');" \
+    "CREATE INDEX by_canonical ON books (bcp47_canonical(tag)); CREATE INDEX by_tag ON books (tag COLLATE BCP47);" \
+    "SELECT group_concat(tag, ' ') FROM (SELECT tag FROM books ORDER BY tag COLLATE BCP47, rowid);" \
+    "SELECT count(*) FROM books WHERE bcp47_canonical(tag) = 'he';" \
+    "EXPLAIN QUERY PLAN SELECT * FROM books WHERE bcp47_canonical(tag) = 'he';" 2>&1)
+wanted='1
+yue|1|BadByte 1
+NULL|NULL|NULL|0
+NULL|NULL|NULL|NULL
+NULL|EmptySubtag 1|BadByte 1|BadLanguage 1
+1012
+1|0
+iw he zh-yue YUE  en_US
+2
+QUERY PLAN
+`--SEARCH books USING INDEX by_canonical (<expr>=?)'
+[ "$got" = "$wanted" ] && exit 0
+diff <(echo "$wanted") <(echo "$got")
+exit 1

@@ -1,0 +1,5 @@
+-- The registry that is held.
+use Rattle.bcp47_c.proofs.handle.take.Given as goal
+
+abbrev pub ghost-into_block : goal.ghost-into_block
+ghost-into_block g a = g.registry

@@ -1,0 +1,113 @@
+-- How each call ends.
+use Rattle.std.specs.Prelude.{ℕ, ◌≡◌, ◌⊎◌, if◌then◌else◌, Bool, List, [], Some, None, Ok, Err}
+use Rattle.lt_tag.specs.Classes.{class_of}
+use Rattle.lt_tag.specs.Conventional.{conventional}
+use Rattle.lt_tag.specs.Faults.{HasTag}
+use Rattle.lt_tag.specs.Parts.{TagForm}
+use Rattle.lt_tag.specs.WellFormed.{spell}
+use Rattle.lt_registry.specs.Parts.{EntryParts}
+use Rattle.lt_upgrade.specs.Laws.{UpgradeKeepsTags}
+use Rattle.lt_upgrade.specs.Upgrade.{Upgrades}
+use Rattle.lt_upgrade.specs.UpgradeChecking.{IsUpgradeFault}
+use Rattle.lt_upgrade.specs.declared.upgrades.UpgradeFault.{UpgradeFault}
+use Rattle.lt_upgrade.specs.declared.upgrades.UpgradeFault.TheVariants as upgrade_faults
+use Rattle.bcp47.specs.Errors.{error_text}
+use Rattle.bcp47.specs.Promise.{ReadsBytes}
+use Rattle.bcp47.specs.declared.errors.RegistryError.{RegistryError}
+use Rattle.bcp47.specs.declared.errors.RegistryError.TheVariants as errors
+use Rattle.bcp47_c.specs.Handles.{Held}
+use Rattle.bcp47_c.specs.Numbers.{class, condition, file_fault, record_fault, upgrade_condition}
+use Rattle.bcp47_c.specs.Outcomes.{ended, outcome, IsDelivered, IsRefusedAsOwed}
+use Rattle.bcp47_c.specs.Texts.{IsEqualityOf, IsPairRefusal, IsReadingRefusal, IsValidityRefusal, IsValidText}
+use Rattle.bcp47_c.specs.declared.outcomes.Outcome.{Outcome}
+use Rattle.bcp47_c.specs.declared.outcomes.Said.{Said}
+
+-- ---- opening and sharing
+
+-- what is said of bytes that are no registry
+abbrev pub error_said : RegistryError → Said
+error_said (errors.Jar fault) = record { status = 7; detail = file_fault fault.kind; place = fault.line }
+error_said (errors.Record fault) = record { status = 8; detail = record_fault fault.kind; place = fault.number }
+error_said (errors.Check finding) = record { status = 9; detail = condition finding.condition; place = finding.number }
+error_said errors.OutOfMemory = ended 4
+
+-- the registry that the bytes are is held
+pub record IsOpened (held : Held) (bytes before after : List ℕ) (o : Outcome) : Type 0 where
+  pub registry : List EntryParts
+  pub holds : held ≡ Some registry
+  pub read : ReadsBytes bytes (Ok registry)
+  pub delivered : IsDelivered (ended 0) [] before after o
+
+-- an error is told, and the line is written that the program prints
+abbrev pub IsTold : RegistryError → List ℕ → List ℕ → Outcome → Type 0
+IsTold error before after o = IsDelivered (error_said error) (error_text error) before after o
+
+-- an error is told, or that no memory was left to tell it
+abbrev pub IsRefusedRegistry : RegistryError → List ℕ → List ℕ → Outcome → Type 0
+IsRefusedRegistry error before after o = IsTold error before after o ⊎ IsTold errors.OutOfMemory before after o
+
+-- or nothing is, and the line is written that the program prints
+pub record IsNotOpened (held : Held) (bytes before after : List ℕ) (o : Outcome) : Type 0 where
+  pub holds : held ≡ None
+  pub error : RegistryError
+  pub read : ReadsBytes bytes (Err error)
+  pub told : IsTold error before after o
+
+abbrev pub Opens : Held → List ℕ → List ℕ → List ℕ → Outcome → Type 0
+Opens held bytes before after o = IsOpened held bytes before after o ⊎ IsNotOpened held bytes before after o
+
+-- another handle holds the same registry, or no memory was left for it
+abbrev pub Shares : List EntryParts → Held → ℕ → Type 0
+Shares registry held status = ((status ≡ 0) × (held ≡ Some registry)) ⊎ ((status ≡ 4) × (held ≡ None))
+
+-- ---- tags
+
+-- the text of the tag in conventional case is written, and its class told (RFC 5646, 2.1)
+pub record IsClassified (text before after : List ℕ) (o : Outcome) : Type 0 where
+  pub tag : TagForm
+  pub read : HasTag text tag
+  pub delivered :
+      IsDelivered (record { status = 0; detail = class (class_of tag); place = 0 }) (conventional (spell tag)) before
+      after o
+
+abbrev pub Classifies : List ℕ → List ℕ → List ℕ → Outcome → Type 0
+Classifies text before after o =
+    IsClassified text before after o ⊎ IsRefusedAsOwed (IsReadingRefusal text) before after o
+
+-- the tag is valid, or the refusal is told; no text goes with either
+abbrev pub Validates : List EntryParts → List ℕ → Outcome → Type 0
+Validates R text o =
+    (IsValidText R text × (o ≡ outcome (ended 0) 0)) ⊎ IsRefusedAsOwed (IsValidityRefusal R text) [] [] o
+
+-- the status tells whether the tags are equivalent
+pub record IsCompared (R : List EntryParts) (first second before after : List ℕ) (o : Outcome) : Type 0 where
+  pub answer : Bool
+  pub is_answer : IsEqualityOf R first second answer
+  pub delivered : IsDelivered (ended (if answer then 0 else 6)) [] before after o
+
+abbrev pub Compares : List EntryParts → List ℕ → List ℕ → List ℕ → List ℕ → Outcome → Type 0
+Compares R first second before after o =
+    IsCompared R first second before after o ⊎ IsRefusedAsOwed (IsPairRefusal R first second) before after o
+
+-- ---- upgrades
+
+-- what is said of a registry that is no upgrade
+abbrev pub upgrade_said : UpgradeFault → Said
+upgrade_said (upgrade_faults.Fails failing number) =
+    record { status = 10; detail = upgrade_condition failing; place = number }
+upgrade_said upgrade_faults.OutOfMemory = ended 4
+
+-- the newer registry upgrades the older one, so that tags keep what they mean
+pub record IsUpgrade (older newer : List EntryParts) (o : Outcome) : Type 0 where
+  pub upgrades : Upgrades older newer
+  pub keeps : UpgradeKeepsTags older newer
+  pub told : o ≡ outcome (ended 0) 0
+
+-- or it does not, and the fault is told
+pub record IsNoUpgrade (older newer : List EntryParts) (o : Outcome) : Type 0 where
+  pub fault : UpgradeFault
+  pub owed : IsUpgradeFault older newer fault
+  pub told : o ≡ outcome (upgrade_said fault) 0
+
+abbrev pub ChecksUpgrade : List EntryParts → List EntryParts → Outcome → Type 0
+ChecksUpgrade older newer o = IsUpgrade older newer o ⊎ IsNoUpgrade older newer o

@@ -1,0 +1,22 @@
+-- What a handle owns: nothing, or what a box of its registry does.
+use base.Fml.{Fml, ftrue}
+use base.Stored.{Coded}
+use denote.RawPtr.{Ptr}
+use Rattle.std.specs.Coded.{coded_option}
+use Rattle.std.specs.Prelude.{Option, Some, None}
+use Rattle.std.specs.Box.Ownership.{box_owns}
+use Rattle.std.specs.Global.{Global}
+use Rattle.std_heap.specs.contracts.GlobalAllocator.TheImpl.{ghosts}
+use Rattle.bcp47_c.specs.contracts.opened.Opened.{the_row}
+
+-- the registry that is held, if one is
+abbrev pub Held : Type 0
+Held = Option the_row.Denot
+
+-- what is owned for it
+abbrev pub held_owns : Global → Ptr → Held → Fml
+held_owns alloc place (Some registry) = box_owns (ghosts.dealloc_token alloc) the_row place registry
+held_owns alloc place None = ftrue
+
+abbrev pub held_coded : Coded Held
+held_coded = coded_option the_row.coded

@@ -1,0 +1,23 @@
+-- The names of statuses and faults, each at its number.
+use Rattle.std.specs.Prelude.{ℕ, List, [], ◌∷◌, codes}
+
+unfoldable pub status_names : List (List ℕ)
+status_names =
+    codes "Done" ∷ codes "NotATag" ∷ codes "Invalid" ∷ codes "ReplacementRepeats" ∷ codes "OutOfMemory" ∷
+    codes "BufferTooSmall" ∷ codes "Different" ∷ codes "BadFile" ∷ codes "BadRecord" ∷ codes "Rejected" ∷
+    codes "NoUpgrade" ∷ []
+
+-- those of no fault, of a text, a tag, the bytes of a registry, a record, the check and an upgrade
+unfoldable pub fault_names : List (List ℕ)
+fault_names =
+    codes "None" ∷ codes "TooLong" ∷ codes "EmptySubtag" ∷ codes "BadByte" ∷ codes "LongSubtag" ∷
+    codes "BadLanguage" ∷ codes "Misplaced" ∷ codes "Unfinished" ∷ codes "UnknownLanguage" ∷
+    codes "UnknownExtlang" ∷ codes "ExtlangPrefix" ∷ codes "TooManyExtlangs" ∷ codes "UnknownScript" ∷
+    codes "UnknownRegion" ∷ codes "UnknownVariant" ∷ codes "DuplicateVariant" ∷ codes "DuplicateSingleton" ∷
+    codes "BadTransform" ∷ codes "LineTooLong" ∷ codes "NotUtf8" ∷ codes "LeadingContinuation" ∷
+    codes "BadLine" ∷ codes "TooManyRecords" ∷ codes "Read" ∷ codes "TooManyTurns" ∷ codes "Failed" ∷
+    codes "RepeatedField" ∷ codes "MissingType" ∷ codes "UnknownType" ∷ codes "MissingName" ∷
+    codes "BadRange" ∷ codes "BadSubtag" ∷ codes "BadTag" ∷ codes "BadPreferred" ∷ codes "BadPrefix" ∷
+    codes "C1" ∷ codes "C2" ∷ codes "C3" ∷ codes "C4" ∷ codes "C5" ∷ codes "C6" ∷ codes "C7" ∷ codes "C8" ∷
+    codes "C9" ∷ codes "C10" ∷ codes "C11" ∷ codes "C12" ∷ codes "U1" ∷ codes "U2" ∷ codes "U3" ∷ codes "U4" ∷
+    codes "U5" ∷ codes "U6" ∷ []

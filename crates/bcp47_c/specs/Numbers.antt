@@ -1,0 +1,95 @@
+-- The numbers of faults, as C sees them; 0 is none, and stands beside the status for want of memory.
+use Rattle.std.specs.Prelude.{ℕ}
+use Rattle.lt_tag.specs.declared.faults.TagFaultKind.{TagFaultKind}
+use Rattle.lt_tag.specs.declared.faults.TagFaultKind.TheVariants as tag_kinds
+use Rattle.lt_registry.specs.declared.faults.ValidFaultKind.{ValidFaultKind}
+use Rattle.lt_registry.specs.declared.faults.ValidFaultKind.TheVariants as valid_kinds
+use Rattle.lt_jar.specs.declared.faults.JarFaultKind.{JarFaultKind}
+use Rattle.lt_jar.specs.declared.faults.JarFaultKind.TheVariants as file_kinds
+use Rattle.lt_registry.specs.declared.faults.RecordFaultKind.{RecordFaultKind}
+use Rattle.lt_registry.specs.declared.faults.RecordFaultKind.TheVariants as record_kinds
+use Rattle.lt_check.specs.declared.conditions.Condition.{Condition}
+use Rattle.lt_check.specs.declared.conditions.Condition.TheVariants as conditions
+use Rattle.lt_upgrade.specs.declared.conditions.UpgradeCondition.{UpgradeCondition}
+use Rattle.lt_upgrade.specs.declared.conditions.UpgradeCondition.TheVariants as upgrades
+use Rattle.lt_tag.specs.declared.tags.Class.{Class}
+use Rattle.lt_tag.specs.declared.tags.Class.TheVariants as classes
+
+-- of a text
+abbrev pub tag_fault : TagFaultKind → ℕ
+tag_fault tag_kinds.TooLong = 1
+tag_fault tag_kinds.EmptySubtag = 2
+tag_fault tag_kinds.BadByte = 3
+tag_fault tag_kinds.LongSubtag = 4
+tag_fault tag_kinds.BadLanguage = 5
+tag_fault tag_kinds.Misplaced = 6
+tag_fault tag_kinds.Unfinished = 7
+tag_fault tag_kinds.OutOfMemory = 0
+
+-- of a tag
+abbrev pub valid_fault : ValidFaultKind → ℕ
+valid_fault valid_kinds.UnknownLanguage = 8
+valid_fault valid_kinds.UnknownExtlang = 9
+valid_fault valid_kinds.ExtlangPrefix = 10
+valid_fault valid_kinds.TooManyExtlangs = 11
+valid_fault valid_kinds.UnknownScript = 12
+valid_fault valid_kinds.UnknownRegion = 13
+valid_fault valid_kinds.UnknownVariant = 14
+valid_fault valid_kinds.DuplicateVariant = 15
+valid_fault valid_kinds.DuplicateSingleton = 16
+valid_fault valid_kinds.BadTransform = 17
+
+-- of the bytes of a registry
+abbrev pub file_fault : JarFaultKind → ℕ
+file_fault file_kinds.LineTooLong = 18
+file_fault file_kinds.NotUtf8 = 19
+file_fault file_kinds.LeadingContinuation = 20
+file_fault file_kinds.BadLine = 21
+file_fault file_kinds.TooManyRecords = 22
+file_fault file_kinds.Read = 23
+file_fault file_kinds.TooManyTurns = 24
+file_fault file_kinds.Failed = 25
+file_fault file_kinds.OutOfMemory = 0
+
+-- of a record
+abbrev pub record_fault : RecordFaultKind → ℕ
+record_fault record_kinds.RepeatedField = 26
+record_fault record_kinds.MissingType = 27
+record_fault record_kinds.UnknownType = 28
+record_fault record_kinds.MissingName = 29
+record_fault record_kinds.BadRange = 30
+record_fault record_kinds.BadSubtag = 31
+record_fault record_kinds.BadTag = 32
+record_fault record_kinds.BadPreferred = 33
+record_fault record_kinds.BadPrefix = 34
+record_fault record_kinds.OutOfMemory = 0
+
+-- the conditions of the check, C1 to C12
+abbrev pub condition : Condition → ℕ
+condition conditions.OwnName = 35
+condition conditions.RegisteredValue = 36
+condition conditions.EndingChain = 37
+condition conditions.FittingExtlang = 38
+condition conditions.FittingVariantValue = 39
+condition conditions.FinalPrefixes = 40
+condition conditions.LangtagPrefixes = 41
+condition conditions.FittingGrandfathered = 42
+condition conditions.ValidWhole = 43
+condition conditions.RestingWhole = 44
+condition conditions.AgreeingWhole = 45
+condition conditions.NoRangeValue = 46
+
+-- the conditions on an upgrade, U1 to U6
+abbrev pub upgrade_condition : UpgradeCondition → ℕ
+upgrade_condition upgrades.StaysRegistered = 47
+upgrade_condition upgrades.SameEnds = 48
+upgrade_condition upgrades.SameExtlang = 49
+upgrade_condition upgrades.SameTurn = 50
+upgrade_condition upgrades.NoNewTurn = 51
+upgrade_condition upgrades.SameWhole = 52
+
+-- the three kinds of tag (RFC 5646, 2.1)
+abbrev pub class : Class → ℕ
+class classes.LangTag = 1
+class classes.PrivateUse = 2
+class classes.Grandfathered = 3

@@ -1,0 +1,59 @@
+//! Why bytes are no registry, and a registry is no upgrade.
+ghost use Rattle.std.specs.Prelude.{◌≡◌};
+ghost use Rattle.bcp47_c.specs.Ends as spec;
+
+use crate::numbers::{
+    BAD_FILE, BAD_RECORD, NO_UPGRADE, OUT_OF_MEMORY, REJECTED, condition, file_fault, record_fault,
+    upgrade_condition,
+};
+use crate::outcomes::{Outcome, Said, deliver, ended};
+use bcp47::{RegistryError, UpgradeFault};
+use std::alloc::Global;
+
+/// What is said of bytes that are no registry.
+fn error_said(error: RegistryError) -> Said
+    ensures { result ≡ spec.error_said error }
+{
+    match error {
+        RegistryError::Jar(fault) => Said {
+            status: BAD_FILE,
+            detail: file_fault(fault.kind),
+            place: fault.line,
+        },
+        RegistryError::Record(fault) => Said {
+            status: BAD_RECORD,
+            detail: record_fault(fault.kind),
+            place: u64::from(fault.number),
+        },
+        RegistryError::Check(finding) => Said {
+            status: REJECTED,
+            detail: condition(finding.condition),
+            place: u64::from(finding.number),
+        },
+        RegistryError::OutOfMemory => ended(OUT_OF_MEMORY),
+    }
+}
+
+/// Writes the line that the program prints for an error, or that no memory was left for it.
+pub(crate) fn refuse_registry(alloc: Global, error: RegistryError, buffer: &mut [u8]) -> Outcome
+    ensures { spec.IsRefusedRegistry error buffer.old buffer.new result }
+{
+    match format!(in alloc; "{error}") {
+        Ok(line) => deliver(error_said(error), line.as_bytes(), buffer),
+        Err(_) => deliver(ended(OUT_OF_MEMORY), b"OutOfMemory", buffer),
+    }
+}
+
+/// What is said of a registry that is no upgrade.
+pub(crate) fn upgrade_said(fault: UpgradeFault) -> Said
+    ensures { result ≡ spec.upgrade_said fault }
+{
+    match fault {
+        UpgradeFault::Fails { condition, number } => Said {
+            status: NO_UPGRADE,
+            detail: upgrade_condition(condition),
+            place: u64::from(number),
+        },
+        UpgradeFault::OutOfMemory => ended(OUT_OF_MEMORY),
+    }
+}

@@ -1,0 +1,82 @@
+//! What C holds.
+ghost use Rattle.std.specs.Prelude.{◌≡◌, List, Some, None};
+ghost use Rattle.lt_registry.specs.Parts.{EntryParts};
+ghost use Rattle.bcp47_c.specs.Handles.{Held, held_owns, held_coded};
+
+use crate::blocks::Block;
+use crate::opened::Opened;
+use std::alloc::Global;
+use std::marker::Model;
+use std::mem::replace;
+use std::ptr::null_mut;
+
+/// What C holds: a registry, or nothing, as bytes do that are all zero. A contract sees its entries.
+#[repr(C)]
+pub struct Handle {
+    place: *mut u8,
+    alloc: Global,
+    pub ghost held: { Held } by { held_coded },
+}
+
+impl Model for Handle {
+    ghost also_owns = { λ h. held_owns h.alloc h.place h.held };
+}
+
+impl Handle {
+    /// A handle that holds nothing.
+    fn empty(place: *mut u8, alloc: Global) -> Handle
+        ensures { result.held ≡ None }
+    {
+        Handle { place, alloc }
+    }
+
+    /// A handle that holds the registry of a block.
+    fn of_block(block: Block<Opened, Global>) -> Handle
+        ensures { result.held ≡ Some block.value }
+    {
+        let Block { place, alloc } = block;
+        Handle {
+            place: place as *mut u8,
+            alloc,
+        }
+    }
+
+    /// The block of the registry that a handle holds.
+    fn into_block(self) -> Block<Opened, Global>
+        ghost registry: { List EntryParts }
+        requires { self.held ≡ Some registry }
+        ensures { result.value ≡ registry }
+    {
+        let Handle { place, alloc } = self;
+        Block {
+            place: place as *mut Opened,
+            alloc,
+        }
+    }
+}
+
+/// Takes the registry that a handle holds out of it.
+pub(crate) fn take(alloc: Global, handle: &mut Handle) -> Box<Opened>
+    ghost registry: { List EntryParts }
+    requires { handle.old.held ≡ Some registry }
+    ensures value { result.value ≡ registry }
+    ensures empty { handle.new.held ≡ None }
+{
+    let nowhere: *mut u8 = null_mut();
+    replace(handle, Handle::empty(nowhere, alloc))
+        .into_block()
+        .into_box()
+}
+
+/// Puts a registry in a handle, in place of what it held.
+pub(crate) fn put(handle: &mut Handle, opened: Box<Opened>)
+    ensures { handle.new.held ≡ Some opened.value }
+{
+    *handle = Handle::of_block(Block::of(opened));
+}
+
+impl Drop for Handle {
+    fn drop(self) {
+        let Handle { place: _, alloc: _ } = self;
+    }
+}

@@ -1,0 +1,95 @@
+//! The names of statuses and faults.
+ghost use Rattle.std.specs.Prelude.{◌≡◌, ◌≤◌, [], slice_index_or};
+ghost use Rattle.bcp47_c.specs.Names.{fault_names, status_names};
+
+/// The greatest number of a status.
+pub(crate) const LAST_STATUS: u8 = 10;
+
+/// The greatest number of a fault.
+pub(crate) const LAST_FAULT: u8 = 52;
+
+/// The name of a status.
+#[tactic(auto, unfolding(crate::specs::Names::status_names))]
+pub(crate) fn status_name(status: u8) -> &'static str
+    requires { status ≤ 10 }
+    ensures { result.now ≡ slice_index_or status_names status [] }
+{
+    match status {
+        0 => "Done",
+        1 => "NotATag",
+        2 => "Invalid",
+        3 => "ReplacementRepeats",
+        4 => "OutOfMemory",
+        5 => "BufferTooSmall",
+        6 => "Different",
+        7 => "BadFile",
+        8 => "BadRecord",
+        9 => "Rejected",
+        10 => "NoUpgrade",
+        _ => unreachable!(),
+    }
+}
+
+/// The name of a fault, as the program prints it.
+#[tactic(auto, unfolding(crate::specs::Names::fault_names))]
+pub(crate) fn fault_name(fault: u8) -> &'static str
+    requires { fault ≤ 52 }
+    ensures { result.now ≡ slice_index_or fault_names fault [] }
+{
+    match fault {
+        0 => "None",
+        1 => "TooLong",
+        2 => "EmptySubtag",
+        3 => "BadByte",
+        4 => "LongSubtag",
+        5 => "BadLanguage",
+        6 => "Misplaced",
+        7 => "Unfinished",
+        8 => "UnknownLanguage",
+        9 => "UnknownExtlang",
+        10 => "ExtlangPrefix",
+        11 => "TooManyExtlangs",
+        12 => "UnknownScript",
+        13 => "UnknownRegion",
+        14 => "UnknownVariant",
+        15 => "DuplicateVariant",
+        16 => "DuplicateSingleton",
+        17 => "BadTransform",
+        18 => "LineTooLong",
+        19 => "NotUtf8",
+        20 => "LeadingContinuation",
+        21 => "BadLine",
+        22 => "TooManyRecords",
+        23 => "Read",
+        24 => "TooManyTurns",
+        25 => "Failed",
+        26 => "RepeatedField",
+        27 => "MissingType",
+        28 => "UnknownType",
+        29 => "MissingName",
+        30 => "BadRange",
+        31 => "BadSubtag",
+        32 => "BadTag",
+        33 => "BadPreferred",
+        34 => "BadPrefix",
+        35 => "C1",
+        36 => "C2",
+        37 => "C3",
+        38 => "C4",
+        39 => "C5",
+        40 => "C6",
+        41 => "C7",
+        42 => "C8",
+        43 => "C9",
+        44 => "C10",
+        45 => "C11",
+        46 => "C12",
+        47 => "U1",
+        48 => "U2",
+        49 => "U3",
+        50 => "U4",
+        51 => "U5",
+        52 => "U6",
+        _ => unreachable!(),
+    }
+}

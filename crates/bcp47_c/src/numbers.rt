@@ -1,0 +1,144 @@
+//! The numbers of statuses and faults.
+ghost use Rattle.std.specs.Prelude.{◌≡◌};
+ghost use Rattle.bcp47_c.specs.Numbers as numbers;
+
+use bcp47::{
+    Class, Condition, JarFaultKind, RecordFaultKind, TagFaultKind, UpgradeCondition, ValidFaultKind,
+};
+
+/// What was asked is done.
+pub(crate) const DONE: u8 = 0;
+/// The text is no tag.
+pub(crate) const NOT_A_TAG: u8 = 1;
+/// The tag is not valid.
+pub(crate) const INVALID: u8 = 2;
+/// Replacements can repeat a variant.
+pub(crate) const REPLACEMENT_REPEATS: u8 = 3;
+/// No memory was left.
+pub(crate) const OUT_OF_MEMORY: u8 = 4;
+/// The text does not fit the buffer.
+pub(crate) const BUFFER_TOO_SMALL: u8 = 5;
+/// The two tags are not equivalent.
+pub(crate) const DIFFERENT: u8 = 6;
+/// The bytes are not in the format of a registry.
+pub(crate) const BAD_FILE: u8 = 7;
+/// A record gives no entry.
+pub(crate) const BAD_RECORD: u8 = 8;
+/// The entries do not pass the check.
+pub(crate) const REJECTED: u8 = 9;
+/// The newer registry is no upgrade.
+pub(crate) const NO_UPGRADE: u8 = 10;
+
+/// The number of a fault of a text.
+pub(crate) fn tag_fault(kind: TagFaultKind) -> u8
+    ensures { result ≡ numbers.tag_fault kind }
+{
+    match kind {
+        TagFaultKind::TooLong => 1,
+        TagFaultKind::EmptySubtag => 2,
+        TagFaultKind::BadByte => 3,
+        TagFaultKind::LongSubtag => 4,
+        TagFaultKind::BadLanguage => 5,
+        TagFaultKind::Misplaced => 6,
+        TagFaultKind::Unfinished => 7,
+        TagFaultKind::OutOfMemory => 0,
+    }
+}
+
+/// The number of a fault of a tag.
+pub(crate) fn valid_fault(kind: ValidFaultKind) -> u8
+    ensures { result ≡ numbers.valid_fault kind }
+{
+    match kind {
+        ValidFaultKind::UnknownLanguage => 8,
+        ValidFaultKind::UnknownExtlang => 9,
+        ValidFaultKind::ExtlangPrefix => 10,
+        ValidFaultKind::TooManyExtlangs => 11,
+        ValidFaultKind::UnknownScript => 12,
+        ValidFaultKind::UnknownRegion => 13,
+        ValidFaultKind::UnknownVariant => 14,
+        ValidFaultKind::DuplicateVariant => 15,
+        ValidFaultKind::DuplicateSingleton => 16,
+        ValidFaultKind::BadTransform => 17,
+    }
+}
+
+/// The number of a fault of the bytes of a registry.
+pub(crate) fn file_fault(kind: JarFaultKind) -> u8
+    ensures { result ≡ numbers.file_fault kind }
+{
+    match kind {
+        JarFaultKind::LineTooLong => 18,
+        JarFaultKind::NotUtf8 => 19,
+        JarFaultKind::LeadingContinuation => 20,
+        JarFaultKind::BadLine => 21,
+        JarFaultKind::TooManyRecords => 22,
+        JarFaultKind::Read => 23,
+        JarFaultKind::TooManyTurns => 24,
+        JarFaultKind::Failed => 25,
+        JarFaultKind::OutOfMemory => 0,
+    }
+}
+
+/// The number of a fault of a record.
+pub(crate) fn record_fault(kind: RecordFaultKind) -> u8
+    ensures { result ≡ numbers.record_fault kind }
+{
+    match kind {
+        RecordFaultKind::RepeatedField => 26,
+        RecordFaultKind::MissingType => 27,
+        RecordFaultKind::UnknownType => 28,
+        RecordFaultKind::MissingName => 29,
+        RecordFaultKind::BadRange => 30,
+        RecordFaultKind::BadSubtag => 31,
+        RecordFaultKind::BadTag => 32,
+        RecordFaultKind::BadPreferred => 33,
+        RecordFaultKind::BadPrefix => 34,
+        RecordFaultKind::OutOfMemory => 0,
+    }
+}
+
+/// The number of a condition of the check.
+pub(crate) fn condition(condition: Condition) -> u8
+    ensures { result ≡ numbers.condition condition }
+{
+    match condition {
+        Condition::OwnName => 35,
+        Condition::RegisteredValue => 36,
+        Condition::EndingChain => 37,
+        Condition::FittingExtlang => 38,
+        Condition::FittingVariantValue => 39,
+        Condition::FinalPrefixes => 40,
+        Condition::LangtagPrefixes => 41,
+        Condition::FittingGrandfathered => 42,
+        Condition::ValidWhole => 43,
+        Condition::RestingWhole => 44,
+        Condition::AgreeingWhole => 45,
+        Condition::NoRangeValue => 46,
+    }
+}
+
+/// The number of a condition on an upgrade.
+pub(crate) fn upgrade_condition(condition: UpgradeCondition) -> u8
+    ensures { result ≡ numbers.upgrade_condition condition }
+{
+    match condition {
+        UpgradeCondition::StaysRegistered => 47,
+        UpgradeCondition::SameEnds => 48,
+        UpgradeCondition::SameExtlang => 49,
+        UpgradeCondition::SameTurn => 50,
+        UpgradeCondition::NoNewTurn => 51,
+        UpgradeCondition::SameWhole => 52,
+    }
+}
+
+/// The number of a class.
+pub(crate) fn class(class: Class) -> u8
+    ensures { result ≡ numbers.class class }
+{
+    match class {
+        Class::LangTag => 1,
+        Class::PrivateUse => 2,
+        Class::Grandfathered => 3,
+    }
+}

@@ -1,0 +1,163 @@
+//! What a handle holds.
+ghost use Rattle.std.specs.Prelude.{◌≡◌, IfOk, IfErr, Ok, Err};
+ghost use Rattle.lt_canon.specs.Texts.{IsCanonicalTextOf, IsTextRefusal};
+ghost use Rattle.bcp47.specs.Promise.{ReadsBytes};
+ghost use Rattle.bcp47_c.specs.Ends.{ChecksUpgrade, Classifies, Compares, Validates};
+ghost use Rattle.bcp47_c.specs.Explanations.{IsExplanationTextOf};
+ghost use Rattle.bcp47_c.specs.Outcomes.{Answers};
+ghost use Rattle.bcp47_c.specs.Texts.{IsExtlangTextOf};
+
+use crate::errors::upgrade_said;
+use crate::explanations::write_explanation;
+use crate::numbers::{DIFFERENT, DONE, class};
+use crate::outcomes::{Outcome, Said, deliver, ended, refuse};
+use crate::texts::{equality, validity, write_extlang};
+use bcp47::{OutOfMemory, Registry, RegistryError, Tag, TextRefusal, append_tag};
+use std::alloc::Global;
+use std::marker::Model;
+use std::sync::Arc;
+
+/// The bytes of texts for which a handle has room from the first.
+const TEXT_ROOM: usize = 1024;
+
+/// A registry, which other handles may hold too, and room for the text of one call after another.
+#[derive(Drop)]
+pub(crate) struct Opened {
+    registry: Arc<Registry>,
+    texts: Vec<u8>,
+}
+
+impl Model for Opened {
+    ghost use Rattle.std.specs.Prelude.{List};
+    ghost use Rattle.lt_registry.specs.Parts.{EntryParts};
+
+    ghost Value = { List EntryParts };
+
+    ghost view = { λ o. o.registry.value };
+}
+
+impl Opened {
+    /// What a handle holds for a registry.
+    fn hold(alloc: Global, registry: Arc<Registry>) -> Result<Box<Opened>, OutOfMemory>
+        ensures { IfOk result (λ opened. opened.value ≡ registry.value) }
+    {
+        let texts = Vec::with_capacity(alloc, TEXT_ROOM)?;
+        Ok(Box::new(alloc, Opened { registry, texts })?)
+    }
+
+    /// The registry whose text the bytes are.
+    pub(crate) fn read(alloc: Global, bytes: &[u8]) -> Result<Box<Opened>, RegistryError>
+        ensures read { IfOk result (λ opened. ReadsBytes bytes.now (Ok opened.value)) }
+        ensures error { IfErr result (λ error. ReadsBytes bytes.now (Err error)) }
+    {
+        let registry = Registry::from_bytes(alloc, bytes)?;
+        let Ok(shared) = Arc::new(alloc, registry) else {
+            return Err(RegistryError::OutOfMemory);
+        };
+        match Opened::hold(alloc, shared) {
+            Ok(opened) => Ok(opened),
+            Err(_) => Err(RegistryError::OutOfMemory),
+        }
+    }
+
+    /// The same registry for another handle.
+    pub(crate) fn share(&self, alloc: Global) -> Result<Box<Opened>, OutOfMemory>
+        ensures { IfOk result (λ opened. opened.value ≡ self.now) }
+    {
+        Opened::hold(alloc, Arc::try_clone(&self.registry)?)
+    }
+
+    /// Writes the canonical text of the tag that a text is read as.
+    pub(crate) fn canonical(&mut self, alloc: Global, text: &[u8], buffer: &mut [u8]) -> Outcome
+        ensures kept { self.new ≡ self.old }
+        ensures answer { Answers (IsCanonicalTextOf self.old text.now) (IsTextRefusal self.old text.now) buffer.old buffer.new result }
+    {
+        self.texts.clear();
+        match self
+            .registry
+            .append_canonical_text(alloc, text, &mut self.texts)
+        {
+            Ok(()) => deliver(ended(DONE), &self.texts, buffer),
+            Err(refusal) => refuse(&refusal, buffer),
+        }
+    }
+
+    /// Writes the text of the extlang form of the tag that a text is read as.
+    pub(crate) fn extlang(&mut self, alloc: Global, text: &[u8], buffer: &mut [u8]) -> Outcome
+        ensures kept { self.new ≡ self.old }
+        ensures answer { Answers (IsExtlangTextOf self.old text.now) (IsTextRefusal self.old text.now) buffer.old buffer.new result }
+    {
+        if let Err(refusal) = write_extlang(alloc, &self.registry, text, &mut self.texts) {
+            return refuse(&refusal, buffer);
+        }
+        deliver(ended(DONE), &self.texts, buffer)
+    }
+
+    /// Writes the text, in conventional case, of the tag that a text is read as, and tells its class.
+    pub(crate) fn classify(&mut self, alloc: Global, text: &[u8], buffer: &mut [u8]) -> Outcome
+        ensures kept { self.new ≡ self.old }
+        ensures answer { Classifies text.now buffer.old buffer.new result }
+    {
+        let tag = match Tag::read(alloc, text) {
+            Ok(tag) => tag,
+            Err(fault) => return refuse(&TextRefusal::from(fault), buffer),
+        };
+        self.texts.clear();
+        if append_tag(&mut self.texts, &tag).is_err() {
+            return refuse(&TextRefusal::OutOfMemory, buffer);
+        }
+        let said = Said {
+            status: DONE,
+            detail: class(tag.class()),
+            place: 0,
+        };
+        deliver(said, &self.texts, buffer)
+    }
+
+    /// Tells whether the tag that a text is read as is valid.
+    pub(crate) fn validate(&self, alloc: Global, text: &[u8]) -> Outcome
+        ensures { Validates self.now text.now result }
+    {
+        match validity(alloc, &self.registry, text) {
+            Ok(()) => deliver(ended(DONE), &[], &mut []),
+            Err(refusal) => refuse(&refusal, &mut []),
+        }
+    }
+
+    /// Tells whether the tags that two texts are read as are equivalent.
+    pub(crate) fn equal(
+        &self,
+        alloc: Global,
+        first: &[u8],
+        second: &[u8],
+        buffer: &mut [u8],
+    ) -> Outcome
+        ensures { Compares self.now first.now second.now buffer.old buffer.new result }
+    {
+        match equality(alloc, &self.registry, first, second) {
+            Ok(true) => deliver(ended(DONE), &[], buffer),
+            Ok(false) => deliver(ended(DIFFERENT), &[], buffer),
+            Err(refusal) => refuse(&refusal, buffer),
+        }
+    }
+    /// Writes the explanation of the canonical form of the tag that a text is read as.
+    pub(crate) fn explain(&mut self, alloc: Global, text: &[u8], buffer: &mut [u8]) -> Outcome
+        ensures kept { self.new ≡ self.old }
+        ensures answer { Answers (IsExplanationTextOf self.old text.now) (IsTextRefusal self.old text.now) buffer.old buffer.new result }
+    {
+        if let Err(refusal) = write_explanation(alloc, &self.registry, text, &mut self.texts) {
+            return refuse(&refusal, buffer);
+        }
+        deliver(ended(DONE), &self.texts, buffer)
+    }
+
+    /// Tells whether a newer registry upgrades this one.
+    pub(crate) fn upgrade_check(&self, alloc: Global, newer: &Opened) -> Outcome
+        ensures { ChecksUpgrade self.now newer.now result }
+    {
+        match self.registry.upgrade_check(alloc, &newer.registry) {
+            Ok(()) => deliver(ended(DONE), &[], &mut []),
+            Err(fault) => deliver(upgrade_said(fault), &[], &mut []),
+        }
+    }
+}

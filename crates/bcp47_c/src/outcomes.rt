@@ -1,0 +1,102 @@
+//! What a call answers, and how it writes a text into a buffer.
+ghost use Rattle.std.specs.Prelude.{◌≡◌};
+ghost use Rattle.bcp47_c.specs.Outcomes as spec;
+ghost use Rattle.bcp47_c.specs.Outcomes.{IsDelivered, IsRefused};
+
+use crate::numbers::{
+    BUFFER_TOO_SMALL, INVALID, NOT_A_TAG, OUT_OF_MEMORY, REPLACEMENT_REPEATS, tag_fault,
+    valid_fault,
+};
+use bcp47::TextRefusal;
+
+/// What a call answers beside the text that it writes.
+#[repr(C)]
+#[derive(Clone, Copy, Drop)]
+pub struct Outcome {
+    /// How the call ended.
+    pub status: u8,
+    /// The number of the fault, or of the class of a tag.
+    pub detail: u8,
+    /// The place of the fault: a subtag, a line, a record or a step, each counted from 1.
+    pub place: u64,
+    /// The bytes of the text.
+    pub length: usize,
+}
+
+/// What is said of a call's end.
+#[derive(Clone, Copy, Drop)]
+pub(crate) struct Said {
+    pub(crate) status: u8,
+    pub(crate) detail: u8,
+    pub(crate) place: u64,
+}
+
+/// A status alone.
+pub(crate) fn ended(status: u8) -> Said
+    ensures { result ≡ spec.ended status }
+{
+    Said {
+        status,
+        detail: 0,
+        place: 0,
+    }
+}
+
+/// Writes a text to the front of a buffer, where it fits.
+pub(crate) fn deliver(said: Said, text: &[u8], buffer: &mut [u8]) -> Outcome
+    ensures { IsDelivered said text.now buffer.old buffer.new result }
+{
+    let length = text.len();
+    if length > buffer.len() {
+        return Outcome {
+            status: BUFFER_TOO_SMALL,
+            detail: 0,
+            place: 0,
+            length,
+        };
+    }
+    buffer[..length].copy_from_slice(text);
+    Outcome {
+        status: said.status,
+        detail: said.detail,
+        place: said.place,
+        length,
+    }
+}
+
+/// What is said of a refusal.
+fn refusal_said(refusal: &TextRefusal) -> Said
+    ensures { result ≡ spec.refusal_said refusal.now }
+{
+    match refusal {
+        TextRefusal::NotATag(fault) => Said {
+            status: NOT_A_TAG,
+            detail: tag_fault(fault.kind),
+            place: u64::from(fault.place),
+        },
+        TextRefusal::Invalid(fault) => Said {
+            status: INVALID,
+            detail: valid_fault(fault.kind),
+            place: u64::from(fault.place),
+        },
+        TextRefusal::ReplacementRepeats(_) => ended(REPLACEMENT_REPEATS),
+        TextRefusal::OutOfMemory => ended(OUT_OF_MEMORY),
+    }
+}
+
+/// The text that goes with a refusal: the variant that can be repeated.
+fn refusal_text(refusal: &TextRefusal) -> &[u8]
+    ensures { result.now ≡ spec.refusal_text refusal.now }
+{
+    match refusal {
+        TextRefusal::ReplacementRepeats(variant) => variant.bytes(),
+        _ => &[],
+    }
+}
+
+/// Answers a refusal.
+pub(crate) fn refuse(refusal: &TextRefusal, buffer: &mut [u8]) -> Outcome
+    ensures { IsRefused refusal.now buffer.old buffer.new result }
+{
+    deliver(refusal_said(refusal), refusal_text(refusal), buffer)
+}

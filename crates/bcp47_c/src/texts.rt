@@ -1,0 +1,51 @@
+//! What a registry says of texts.
+ghost use Rattle.std.specs.Prelude.{◌≡◌, IfOk, IfErr, OnOk};
+ghost use Rattle.lt_canon.specs.Texts.{IsTextRefusal};
+ghost use Rattle.bcp47_c.specs.Texts.{IsEqualityOf, IsExtlangTextOf, IsPairRefusal, IsValidityRefusal, IsValidText};
+
+use bcp47::{Refusal, Registry, Tag, TextRefusal, append_tag};
+use std::alloc::Global;
+
+/// Makes a text that of the extlang form of the tag that another is read as.
+pub(crate) fn write_extlang(
+    alloc: Global,
+    registry: &Registry,
+    text: &[u8],
+    extlang: &mut Vec<u8>,
+) -> Result<(), TextRefusal>
+    ensures written { OnOk result (IsExtlangTextOf registry.now text.now extlang.new.items) }
+    ensures refusal { IfErr result (λ refusal. IsTextRefusal registry.now text.now refusal) }
+{
+    let tag = Tag::read(alloc, text)?;
+    let form = registry.extlang_form(alloc, &tag)?;
+    extlang.clear();
+    append_tag(extlang, &form)?;
+    Ok(())
+}
+
+/// Whether the tag that a text is read as is valid.
+pub(crate) fn validity(alloc: Global, registry: &Registry, text: &[u8]) -> Result<(), TextRefusal>
+    ensures valid { OnOk result (IsValidText registry.now text.now) }
+    ensures refusal { IfErr result (λ refusal. IsValidityRefusal registry.now text.now refusal) }
+{
+    let tag = Tag::read(alloc, text)?;
+    match registry.validate(alloc, &tag) {
+        Ok(()) => Ok(()),
+        Err(refused) => Err(TextRefusal::from(Refusal::from(refused))),
+    }
+}
+
+/// Whether the tags that two texts are read as are equivalent.
+pub(crate) fn equality(
+    alloc: Global,
+    registry: &Registry,
+    first: &[u8],
+    second: &[u8],
+) -> Result<bool, TextRefusal>
+    ensures answer { IfOk result (IsEqualityOf registry.now first.now second.now) }
+    ensures refusal { IfErr result (λ refusal. IsPairRefusal registry.now first.now second.now refusal) }
+{
+    let tag = Tag::read(alloc, first)?;
+    let other = Tag::read(alloc, second)?;
+    Ok(registry.equivalent(alloc, &tag, &other)?)
+}

@@ -1,0 +1,15 @@
+#!/bin/bash
+# Installs what the tests of the bindings need of Debian, where it is not there: as root, or by sudo.
+wanted="gcc binutils valgrind libsqlite3-dev sqlite3 python3 python3-pip python3-icu libicu-dev pkg-config postgresql
+    postgresql-server-dev-15"
+missing=
+for package in $wanted; do
+    dpkg-query -W -f '${Status}' "$package" 2> /dev/null | grep -q 'ok installed' || missing="$missing $package"
+done
+[ -z "$missing" ] && exit 0
+as_root=
+[ "$(id -u)" = 0 ] || as_root=sudo
+# A cluster that Debian would start is not wanted: the tests make a server of their own.
+$as_root apt-get update -q > /dev/null
+# shellcheck disable=SC2086
+$as_root env DEBIAN_FRONTEND=noninteractive apt-get install -q -y --no-install-recommends $missing > /dev/null
