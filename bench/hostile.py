@@ -1,12 +1,13 @@
 #!/usr/bin/env python3
-"""Measures the program on registries and lines that are made against it.
+"""Measures the program on registries and tags that are made against it.
 
-Usage: hostile.py PROGRAM [--records N] [--only WORD] [--seconds S]
+Usage: hostile.py PROGRAM [--count N] [--only WORD] [--seconds S]
 
-For each registry of `hostile_registries.py`, with N, 2N and 4N records (25,000, 50,000 and 100,000 less one): processor
-time and memory of `check`, and of `upgrade` to itself and to the registry after it. Then the time of a line of `canon`
-for the longest tags, over some of them. The last line tells how many figures are past a limit: 2 seconds or 300 MB for a
-registry, 1 millisecond for a line, or more than 2.6 times the time for twice the records. Ends with 1 if any is.
+For each registry of `hostile_registries.py`, by the counts N, 2N and 4N less one (25,000, 50,000 and 99,999): processor
+time and memory of `check`, and of `upgrade` to itself and to the registry after it. Then the time of a tag of about 1,024
+bytes: of a line of `canon`, where no two lines are equal, and of `explain`, `equal` and `extlang` beside the same command
+with a short tag. The last line tells how many figures are past a limit: 2 seconds or 300 MB for a registry, 1 millisecond
+for a tag, or more than 2.6 times the time for twice the count. Ends with 1 if any is.
 """
 
 import argparse
@@ -17,7 +18,7 @@ import sys
 import tempfile
 import time
 
-from hostile_registries import REGISTRIES, name, text_of
+from hostile_registries import MOST_VARIANTS, REGISTRIES, name, short_variant, turning
 
 MOST_SECONDS = 2.0
 MOST_MEGABYTES = 300
@@ -25,6 +26,10 @@ MOST_RATIO = 2.6
 MOST_MILLISECONDS = 1.0
 # A shorter time says little of how it grows.
 LEAST_SECONDS = 0.2
+LINES = 200
+RUNS = 9
+# By registries of this count, what a command takes is told apart from what its start takes.
+FEW = 20
 
 
 def run(words, given, seconds):
@@ -33,16 +38,17 @@ def run(words, given, seconds):
         source.write(given)
         source.seek(0)
         process = subprocess.Popen(words, stdin=source, stdout=output, stderr=subprocess.STDOUT)
-        ends = time.monotonic() + seconds
         while True:
             done, status, used = os.wait4(process.pid, os.WNOHANG)
             if done:
                 break
-            if time.monotonic() > ends:
+            with open(f"/proc/{process.pid}/stat", encoding="ascii") as file:
+                ticks = sum(map(int, file.read().rsplit(")", 1)[1].split()[11:13]))
+            if ticks / os.sysconf("SC_CLK_TCK") > seconds:
                 process.kill()
-                os.wait4(process.pid, 0)
+                _, _, used = os.wait4(process.pid, 0)
                 process.returncode = 0
-                return None, seconds, 0, "no answer"
+                return None, seconds, used.ru_maxrss / 1024, "no answer"
             time.sleep(0.005)
         process.returncode = os.waitstatus_to_exitcode(status)
         output.seek(0)
@@ -50,74 +56,129 @@ def run(words, given, seconds):
         return process.returncode, used.ru_utime + used.ru_stime, used.ru_maxrss / 1024, lines[-1][:40]
 
 
+def path_of(folder, title, count):
+    """The file of a registry, which is written once; by another process, since a run's memory is no less than its parent's."""
+    path = os.path.join(folder, f"{title}-{count}")
+    if not os.path.exists(path):
+        maker = os.path.join(os.path.dirname(os.path.abspath(__file__)), "hostile_registries.py")
+        with open(path, "wb") as file:
+            subprocess.run([sys.executable, maker, title, str(count)], stdout=file, check=True)
+    return path
+
+
+def one_row(options, folder, command, title, other):
+    """The times of a command by the three counts, the greatest memory and the last answer."""
+    times, memory, answer = [], 0, ""
+    for count in (options.count, 2 * options.count, 4 * options.count - 1):
+        one = path_of(folder, title, count)
+        words = {
+            "check": ["check", one],
+            "itself": ["upgrade", one, one],
+            "next": ["upgrade", one, path_of(folder, other, count)],
+        }[command]
+        status, seconds, used, answer = run([options.program] + words, b"", options.seconds)
+        times.append(seconds)
+        memory = max(memory, used)
+        if status is None or status not in (0, 2):
+            answer = answer or f"status {status}"
+            break
+    return times, memory, answer
+
+
 def registries(options, folder, found):
     """The table of `check` and `upgrade`."""
-    sizes = [options.records, 2 * options.records, 4 * options.records - 1]
-    titles = [title for title in REGISTRIES if options.only in title]
-    print(f"{'registry':28}{'command':10}{'MB':>6}" + "".join(f"{f'{n} s':>14}" for n in sizes) + f"{'ratio':>7}{'MB used':>9}  answer")
-    for place, title in enumerate(titles):
-        other = titles[(place + 1) % len(titles)]
+    every = list(REGISTRIES)
+    print(f"{'registry':26}{'command':8}{'MB':>6}{'n s':>8}{'2n s':>8}{'4n s':>8}{'ratio':>7}{'MB used':>9}  answer")
+    for place, title in enumerate(every):
+        if options.only not in title:
+            continue
+        other = every[(place + 1) % len(every)]
         for command in ("check", "itself", "next"):
-            times, memory, answer = [], 0, ""
-            for size in sizes:
-                names = []
-                for wanted in (title, other) if command == "next" else (title,):
-                    path = os.path.join(folder, f"{wanted}-{size}")
-                    if not os.path.exists(path):
-                        with open(path, "w", encoding="ascii") as file:
-                            file.write(text_of(wanted, size))
-                    names.append(path)
-                words = ["check", names[0]] if command == "check" else ["upgrade", names[0], names[-1]]
-                status, seconds, used, answer = run([options.program] + words, b"", options.seconds)
-                times.append(seconds)
-                memory = max(memory, used)
-                if status is None or status > 2:
-                    found.append(f"{title} {command}: {answer or status}")
-                    break
+            times, memory, answer = one_row(options, folder, command, title, other)
             ratio = max((b / a for a, b in zip(times, times[1:]) if a >= LEAST_SECONDS), default=0)
-            size = os.path.getsize(os.path.join(folder, f"{title}-{sizes[len(times) - 1]}")) / 1e6
-            print(f"{title:28}{command:10}{size:6.1f}" + "".join(f"{t:14.2f}" for t in times + [0] * (3 - len(times))) + f"{ratio:7.1f}{memory:9.0f}  {answer}", flush=True)
+            size = os.path.getsize(path_of(folder, title, 4 * options.count - 1)) / 1e6
+            print(f"{title:26}{command:8}{size:6.1f}" + "".join(f"{t:8.2f}" for t in times) + "        " * (3 - len(times))
+                  + f"{ratio:7.1f}{memory:9.0f}  {answer}", flush=True)
             for passed, what in (
                 (times[-1] > MOST_SECONDS, f"{times[-1]:.1f} s"),
                 (memory > MOST_MEGABYTES, f"{memory:.0f} MB"),
                 (ratio > MOST_RATIO, f"{ratio:.1f} times"),
+                (len(times) < 3, answer),
             ):
                 if passed:
                     found.append(f"{title} {command}: {what}")
+        for each in os.listdir(folder):
+            if each.rsplit("-", 1)[0] != other:
+                os.remove(os.path.join(folder, each))
 
 
-def lines(options, folder, found):
-    """The table of lines."""
-    tail = "".join("-" + name(n, 8) for n in range(112))
-    long = {
-        "chain-rising": "aaaaa",
-        "variant-chain": "de" + "".join("-" + name(n, 8) for n in range(112)),
-        "replaced-in-turn": name(0, 3) + tail,
-        "languages": "aaaaa" + "-u" + "-aa-bbb" * 140,
-        "ranges": "aaaaa-a-" + "-".join(["aa"] * 330),
-        "redundant": "aaaaa-t-aaaaa" + "".join(f"-{chr(97 + n // 10)}{n % 10}-xxx" for n in range(140)),
+def long_tags():
+    """Tags of about 1,024 bytes, each by a registry's title and count, and by what is put into it to make it another."""
+    chained = "aaa" + "".join("-" + short_variant(n) for n in range(MOST_VARIANTS - 2))
+    few = FEW
+    return {
+        "first of a chain": ("chain-rising", 99999, "aaaaa-x{}", ""),
+        "variants, each first of a chain": ("chains-in-values", 99999, chained + "-x{}", ""),
+        "variants that turn in turn": ("turns-in-values", few, turning(2) + "-x{}", ""),
+        "the same, 100 Prefixes": ("turns-in-values-100", 99999, turning(2) + "-x{}", ""),
+        "the same, 1,000 Prefixes": ("turns-in-values-1000", 99999, turning(2) + "-x{}", ""),
+        "the same in a t extension": ("turns-in-values", few, "aaa-t-" + turning(4) + "-x{}", ""),
+        "variants that stay": ("long-values", few, chained + "-x{}", ""),
+        "keywords of one key": ("long-values", few, "aaa-u" + "-aa" * 335 + "-x{}", ""),
+        "keywords in falling order": ("long-values", few, "aaa-u" + "".join(
+            f"-{chr(122 - n // 26)}{chr(122 - n % 26)}" for n in range(335)) + "-x{}", ""),
+        "attributes in falling order": ("long-values", few, "aaa-u" + "".join("-" + name(17575 - n, 3) for n in range(250)) + "-x{}", ""),
+        "types of a keyword": ("long-values", few, "aaa-u-aa" + "-aaa" * 250 + "-x{}", ""),
+        "extensions in falling order": ("long-values", few, "aaa" + "".join(
+            f"-{s}" + "-aaaaaaaa" * 3 for s in "zywvtsrqponmlkjihgfedcba9876543210" if s not in "tu") + "-x{}", ""),
+        "subtags of an extension": ("long-values", few, "aaa-a" + "-aa" * 335 + "-x{}", ""),
+        "fields in falling order": ("long-values", few, "aaa-t" + "".join(
+            f"-{chr(122 - n // 10)}{9 - n % 10}-aaa" for n in range(140)) + "-x{}", ""),
+        "private use": ("long-values", few, "x" + "-a" * 505 + "-{}", ""),
+        "whole tags with values": ("long-tags", 99999, "aaa" + "".join(
+            "-" + short_variant(n) for n in range(MOST_VARIANTS - 2)) + "-0alo-0ap{}", "whole"),
     }
-    print(f"\n{'registry':28}{'bytes of the line':>18}{'ms a line':>12}  answer")
-    for title, line in long.items():
+
+
+def lines_of(tag, by):
+    """Lines that differ, of a tag with a place for three characters or, of a whole tag, for one letter."""
+    if by == "whole":
+        return [tag.format(letter) for letter in "klmnopqrstuvwxyz"]
+    return [tag.format(("-" if "x-" not in tag[:2] else "") + name(n, 3)) for n in range(LINES)]
+
+
+def least(options, words):
+    """The least of some runs."""
+    return min(run([options.program] + words, b"", options.seconds)[1] for _ in range(RUNS))
+
+
+def tags(options, folder, found):
+    """The table of tags."""
+    print(f"\n{'tag':34}{'bytes':>6}{'canon ms':>10}{'explain':>10}{'equal':>10}{'extlang':>10}  answer")
+    for title, (registry, count, tag, by) in long_tags().items():
         if options.only not in title:
             continue
-        path = os.path.join(folder, f"{title}-line")
-        with open(path, "w", encoding="ascii") as file:
-            file.write(text_of(title, 4 * options.records - 1))
-        count = 200
-        words = [options.program, "canon", path]
-        first = run(words, b"", options.seconds)
-        answer = run(words, (line + "\n").encode() * count, options.seconds)
-        milliseconds = 1000 * (answer[1] - first[1]) / count
-        print(f"{title:28}{len(line):18}{milliseconds:12.3f}  {answer[3]}", flush=True)
-        if answer[0] is None or milliseconds > MOST_MILLISECONDS:
-            found.append(f"a line over {title}: {milliseconds:.2f} ms")
+        path = path_of(folder, registry, count)
+        lines = lines_of(tag, by)
+        many = LINES // len(lines) * lines
+        start = least(options, ["canon", path])
+        given = "".join(line + "\n" for line in many).encode()
+        runs = [run([options.program, "canon", path], given, options.seconds) for _ in range(3)]
+        figures = [1000 * (min(it[1] for it in runs) - start) / len(many)]
+        first, last = lines[0], lines[-1]
+        for words in (["explain", path, first], ["equal", path, first, last], ["extlang", path, first]):
+            short = words[:2] + ["aaa"] * (len(words) - 2)
+            figures.append(1000 * (least(options, words) - least(options, short)) if count == FEW else float("nan"))
+        print(f"{title:34}{len(first):6}" + "".join(f"{it:10.3f}" for it in figures) + f"  {runs[0][3]}", flush=True)
+        for what, figure in zip(("canon", "explain", "equal", "extlang"), figures):
+            if figure > MOST_MILLISECONDS:
+                found.append(f"{what} of {title}: {figure:.2f} ms")
 
 
 def main():
     parser = argparse.ArgumentParser()
     parser.add_argument("program")
-    parser.add_argument("--records", type=int, default=25000)
+    parser.add_argument("--count", type=int, default=25000)
     parser.add_argument("--only", default="")
     parser.add_argument("--seconds", type=float, default=30)
     options = parser.parse_args()
@@ -125,7 +186,7 @@ def main():
     found = []
     with tempfile.TemporaryDirectory() as folder:
         registries(options, folder, found)
-        lines(options, folder, found)
+        tags(options, folder, found)
     for one in found:
         print("past a limit: " + one)
     print(f"{len(found)} past a limit")

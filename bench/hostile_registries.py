@@ -2,9 +2,12 @@
 """Hostile registries, each by a count: at 100,000 less one a registry has the most records that there may be, or some 10
 MB. Each is as dear as it can be for something that `check` or `upgrade` does: for how lines are read, for a condition,
 or for how a look-up is made. The same come out each time. `hostile.py` measures the program on them.
+
+Usage: hostile_registries.py TITLE COUNT
 """
 
 import random
+import sys
 
 LETTERS = "abcdefghijklmnopqrstuvwxyz"
 # So many variants of 4 characters behind a language of 3 make a tag of 1,023 bytes.
@@ -412,20 +415,5 @@ def text_of(title, count):
     return "File-Date: 2026-01-01\n" + "".join("%%\n" + one + "\n" for one in REGISTRIES[title](count))
 
 
-def fault_of(title, count):
-    """What is wrong with a registry, by its own rules: too many records, bytes or bytes of a line."""
-    text = text_of(title, count)
-    lines = text.split("\n")
-    most = max(len(line.encode()) for line in lines)
-    records = sum(line == "%%" for line in lines)
-    return [what for what, is_so in (
-        (f"{len(text.encode())} bytes", len(text.encode()) > 10_500_000),
-        (f"a line of {most} bytes", most > 65536),
-        (f"{records} records", records > 99999 and title != "separators"),
-    ) if is_so]
-
-
 if __name__ == "__main__":
-    for each in REGISTRIES:
-        size = len(text_of(each, 99999).encode())
-        print(f"{each:26}{size:10}  {fault_of(each, 99999)}")
+    sys.stdout.buffer.write(text_of(sys.argv[1], int(sys.argv[2])).encode())
