@@ -1,10 +1,10 @@
 //! The commands that read a registry: `check` and `canon`.
 use super::sample::{FOLDED, push_record, sample_text};
 use super::{NO_FILE, prints, read};
-use crate::{ToolFault, perform, run_lines};
 use lt_canon::Checked;
 use lt_jar::{Device, Pieces, read_jar};
 use lt_registry::{Registry, SortedTable};
+use lt_tool::{LineForm, ToolFault, perform, run_lines};
 use std::alloc::{AllocError, Global};
 use std::io::{self, ErrorKind, Write};
 use std::test::Fail;
@@ -124,7 +124,13 @@ fn answers(
 ) -> bool {
     let mut output = Vec::new(alloc);
     let mut input = Device::new(reader);
-    let ends = match run_lines(alloc, checked, &mut input, &mut Device::new(&mut output)) {
+    let ends = match run_lines(
+        alloc,
+        checked,
+        LineForm::Tag,
+        &mut input,
+        &mut Device::new(&mut output),
+    ) {
         Ok(counts) => at_end && counts.lines == 4 && counts.refused == 2,
         Err(fault) => !at_end && fault == ToolFault::Read,
     };
@@ -183,7 +189,13 @@ fn stops(alloc: Global, checked: &Checked<SortedTable>, calls_left: usize, owed:
         taken: &mut taken,
         calls_left,
     });
-    let end = run_lines(alloc, checked, &mut Device::new(LINES), &mut output);
+    let end = run_lines(
+        alloc,
+        checked,
+        LineForm::Tag,
+        &mut Device::new(LINES),
+        &mut output,
+    );
     matches!(end, Err(ToolFault::Write)) && taken.as_slice() == owed.as_bytes()
 }
 

@@ -4,10 +4,10 @@
 use super::registries::{LINES, OWED, checked};
 use super::sample::sample_text;
 use super::{command_line, read};
-use crate::{Command, Counts, ToolFault, WordsFault, perform, read_words, run_lines};
 use lt_canon::Checked;
 use lt_jar::Device;
 use lt_registry::SortedTable;
+use lt_tool::{Command, Counts, LineForm, ToolFault, WordsFault, perform, read_words, run_lines};
 use std::alloc::{AllocError, Global};
 use std::fmt::Debug;
 use std::io::Cursor;
@@ -84,7 +84,13 @@ fn sample(alloc: Global) -> Result<Checked<SortedTable>, Fail> {
 fn run(alloc: Global, checked: &Checked<SortedTable>) -> (Result<Counts, ToolFault>, Page) {
     let mut page = empty_page();
     let mut output = Device::new(&mut page);
-    let end = run_lines(alloc, checked, &mut Device::new(LINES), &mut output);
+    let end = run_lines(
+        alloc,
+        checked,
+        LineForm::Tag,
+        &mut Device::new(LINES),
+        &mut output,
+    );
     (end, page)
 }
 
@@ -101,6 +107,40 @@ fn lines_are_answered(rt: HostRuntime) -> Result<(), Fail> {
         },
         |(end, page)| {
             matches!(end, Err(ToolFault::OutOfMemory)) && OWED.as_bytes().starts_with(text_of(page))
+        },
+    );
+    assert!(rt; is_answered?);
+    Ok(())
+}
+
+/// Rows, and what is owed for them by their second fields.
+const ROWS: &[u8] = b"1\tzh-yue\tx\r\n2\tfr\n3\n4\tsgn-dd";
+
+const OWED_ROWS: &str = "1\tyue\tx\t\r\n2\tfr\tUnknownLanguage 1\n3\tNoColumn\n4\tgsg\t\n";
+
+/// How a run over the rows ends, and what it wrote.
+fn run_rows(alloc: Global, checked: &Checked<SortedTable>) -> (Result<Counts, ToolFault>, Page) {
+    let mut page = empty_page();
+    let mut output = Device::new(&mut page);
+    let mut input = Device::new(ROWS);
+    let end = run_lines(alloc, checked, LineForm::Row(1), &mut input, &mut output);
+    (end, page)
+}
+
+#[test]
+fn rows_are_answered(rt: HostRuntime) -> Result<(), Fail> {
+    let checked = sample(rt.alloc())?;
+    let is_answered = answers(
+        rt.alloc(),
+        checked.table(),
+        || run_rows(rt.alloc(), &checked),
+        |(end, page)| {
+            matches!(end, Ok(counts) if counts.lines == 4 && counts.refused == 2)
+                && text_of(page) == OWED_ROWS.as_bytes()
+        },
+        |(end, page)| {
+            matches!(end, Err(ToolFault::OutOfMemory))
+                && OWED_ROWS.as_bytes().starts_with(text_of(page))
         },
     );
     assert!(rt; is_answered?);

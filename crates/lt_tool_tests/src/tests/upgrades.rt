@@ -1,8 +1,8 @@
 //! The command on two registries: `upgrade`.
 use super::read;
 use super::sample::{changed_text, push_record, sample_text};
-use crate::{Command, WordsFault, perform};
 use lt_jar::{Device, Pieces};
+use lt_tool::{Command, WordsFault, perform};
 use std::alloc::Global;
 use std::io;
 use std::test::Fail;

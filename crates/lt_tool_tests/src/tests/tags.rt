@@ -1,7 +1,7 @@
 //! The commands on one or two tags: `extlang` and `equal`.
 use super::sample::sample_text;
 use super::{prints, read};
-use crate::{Command, WordsFault};
+use lt_tool::{Command, WordsFault};
 use std::test::Fail;
 
 /// Two tags, what `equal` prints of them, and its status.

@@ -3,12 +3,13 @@ mod growths;
 mod hostile;
 mod program;
 mod registries;
+mod rows;
 mod sample;
 mod tags;
 mod upgrades;
 
-use crate::{Command, Status, ToolFault, WordsFault, perform, read_words, report, report_file};
 use lt_jar::Device;
+use lt_tool::{Command, Status, ToolFault, WordsFault, perform, read_words, report, report_file};
 use std::alloc::{AllocError, Global};
 use std::io::{self, ErrorKind, Write};
 use std::test::Fail;
@@ -59,7 +60,7 @@ const USAGES: [&[&str]; 9] = [
     &["classify", "-x"],
     &["upgrade", "registry"],
     &["help", "unknown"],
-    &["--version"],
+    &["classify", "--version"],
 ];
 
 /// Whether the words name no command, and a text says why.
@@ -82,7 +83,10 @@ const HELPS: [(&[&str], &str); 6] = [
     (&["help"], "Usage: langtag <COMMAND>"),
     (&["help", "classify"], "Usage: langtag classify <TAG>"),
     (&["classify", "--help"], "Usage: langtag classify <TAG>"),
-    (&["canon", "--help"], "Status: 0 done; 1 a tag was refused"),
+    (
+        &["canon", "--help"],
+        "  1  a tag was refused, or the tags are different\n",
+    ),
 ];
 
 /// Whether the words ask for help that has this line.
@@ -97,11 +101,23 @@ fn words_that_ask_for_help(rt: HostRuntime) {
     }
 }
 
+/// Whether the words ask for the version.
+fn is_version(read: &Result<Command, WordsFault>) -> bool {
+    matches!(read, Err(WordsFault::Version(text)) if text.as_str().starts_with("langtag 1."))
+}
+
+#[test]
+fn words_that_ask_for_the_version(rt: HostRuntime) {
+    assert!(rt; is_version(&read(rt.alloc(), &["--version"])));
+    assert!(rt; is_version(&read(rt.alloc(), &["-V"])));
+}
+
 /// Words, and the file that their command names first.
-const FILES: [(&[&str], Option<&str>); 7] = [
+const FILES: [(&[&str], Option<&str>); 8] = [
     (&["classify", "en"], None),
     (&["check", "registry"], Some("registry")),
     (&["canon", "registry"], Some("registry")),
+    (&["tsv", "registry", "1"], Some("registry")),
     (&["extlang", "registry", "en"], Some("registry")),
     (&["equal", "registry", "en", "fr"], Some("registry")),
     (&["explain", "registry", "en"], Some("registry")),
@@ -128,6 +144,7 @@ fn reads_input(read: &Result<Command, WordsFault>) -> bool {
 #[test]
 fn commands_that_read_the_input(rt: HostRuntime) {
     assert!(rt; reads_input(&read(rt.alloc(), &["canon", "registry"])));
+    assert!(rt; reads_input(&read(rt.alloc(), &["tsv", "registry", "1"])));
     assert!(rt; !reads_input(&read(rt.alloc(), &["check", "registry"])));
 }
 

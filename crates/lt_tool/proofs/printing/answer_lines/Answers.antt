@@ -1,7 +1,7 @@
 use Rattle.std.proofs.Common.{inl, inr, refl}
 use Rattle.lt_tool.specs.Registries.{RefusesRegistry}
 use Rattle.lt_tool.proofs.AnswerLemmas.{printed_answer, read_more, refused_answer}
-use Rattle.lt_tool.proofs.printing.canon.Goals as goal
+use Rattle.lt_tool.proofs.printing.answer_lines.Goals as goal
 
 pub returns-in-Ok : goal.returns-in-Ok
 returns-in-Ok g c = read_more _ _ _ c.in-Ok.ensures (λ reading holds. inr (record {

@@ -1,7 +1,7 @@
 //! The whole program, over files that are texts.
 use super::command_line;
-use crate::{Status, run_program};
 use lt_jar::{Device, Pieces};
+use lt_tool::{Status, run_program};
 use std::alloc::Global;
 use std::io::{self, ErrorKind};
 

@@ -2,10 +2,10 @@
 use super::registries::{LINES, OWED, checked, prints_of_reader};
 use super::sample::sample_text;
 use super::{NO_FILE, long_text, read};
-use crate::{Command, Counts, ToolFault, perform, run_lines};
 use lt_canon::Checked;
 use lt_jar::{Device, Pieces, Takes};
 use lt_registry::SortedTable;
+use lt_tool::{Command, Counts, LineForm, ToolFault, perform, run_lines};
 use std::alloc::{AllocError, Global};
 use std::io::{Read, Write};
 use std::test::Fail;
@@ -25,6 +25,7 @@ fn a_line_without_end(rt: HostRuntime) -> Result<(), Fail> {
     let end = run_lines(
         rt.alloc(),
         &checked,
+        LineForm::Tag,
         &mut Device::new(Pieces::for_ever(b"a", 1)),
         &mut Device::new(&mut output),
     );
@@ -53,6 +54,7 @@ fn a_line_that_is_too_long(rt: HostRuntime) -> Result<(), Fail> {
     let end = run_lines(
         rt.alloc(),
         &checked,
+        LineForm::Tag,
         &mut Device::new(lines.as_bytes()),
         &mut Device::new(&mut output),
     );
@@ -73,7 +75,13 @@ fn run_into(
     writer: &mut Takes,
 ) -> Result<Counts, ToolFault> {
     let mut output = Device::new(writer);
-    run_lines(alloc, checked, &mut Device::new(LINES), &mut output)
+    run_lines(
+        alloc,
+        checked,
+        LineForm::Tag,
+        &mut Device::new(LINES),
+        &mut output,
+    )
 }
 
 /// Whether `canon` over a reader and a writer fails, and says this to the errors.
@@ -182,7 +190,13 @@ fn stops_at_read(
     let reader = || Pieces::once(LINES, 4).failing_at(call);
     let mut written = Vec::new(alloc);
     let mut output = Device::new(&mut written);
-    let end = run_lines(alloc, checked, &mut Device::new(reader()), &mut output);
+    let end = run_lines(
+        alloc,
+        checked,
+        LineForm::Tag,
+        &mut Device::new(reader()),
+        &mut output,
+    );
     let mut printed = Vec::new(alloc);
     matches!(end, Err(ToolFault::Read))
         && written.as_slice() == owed.as_bytes()
