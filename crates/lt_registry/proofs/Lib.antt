@@ -13,7 +13,6 @@ pub mod RangeLemmas
 pub mod ReadRegistryLemmas
 pub mod RecordLaws
 pub mod RegistryLemmas
-pub mod SameLemmas
 pub mod ScanLemmas
 pub mod SortedLemmas
 pub mod SpanLemmas

@@ -17,7 +17,7 @@ use Rattle.lt_registry.specs.Parts.{EntryParts}
 use Rattle.lt_registry.specs.Same.{same_kind, same_core, same_tag}
 use Rattle.lt_registry.specs.Entries.{has_form, is_whole_kind, FitsName, IsEntry, is_named, holds, is_whole, entry, whole}
 use Rattle.lt_registry.specs.Sorted.{number, single_number, single_row, place_of, tag_in, tag_at, language_number, whole_row, whole_key, key_cmp, IsSingles, IsWholes, index_of}
-use Rattle.lt_registry.specs.TagOrder.{tag_cmp}
+use Rattle.lt_tag.specs.Order.{tag_cmp}
 use Rattle.lt_registry.specs.declared.entries.Kind.{Kind}
 use Rattle.lt_registry.specs.declared.entries.Kind.TheVariants as kinds
 use Rattle.lt_registry.specs.declared.entries.EntryName.{EntryName}

@@ -13,42 +13,10 @@ use Rattle.std.proofs.lemmas.List.{drop_all}
 use Rattle.lt_tag.specs.Parts.{CoreParts, ExtensionParts, TagForm, LangTag, PrivateUse, Grandfathered}
 use Rattle.lt_tag.specs.Values.{core_of, extensions_of, private_of, number_of}
 use Rattle.lt_registry.specs.Same.{same_list, same_option, same_core, same_extension, same_tag}
-use Rattle.lt_registry.specs.TagOrder.{subtag_cmp, list_cmp, core_cmp, extension_cmp, tag_cmp}
-use Rattle.lt_registry.proofs.ListLemmas.{drop_turn}
-
--- a comparison of lists from the left
-
-pub compared_more : {A : Type 0} (R : A → A → Ordering) (xs ys : List A) (i : ℕ) (x y : A) → i < length xs → x ≡ get_or xs i x → i < length ys → y ≡ get_or ys i y → slice_cmp R (drop i xs) (drop i ys) ≡ ordering_then (R x y) (slice_cmp R (drop (i + 1) xs) (drop (i + 1) ys))
-compared_more R xs ys i x y l is m are =
-    ap (λ zs. slice_cmp R zs (drop i ys)) (drop_turn xs i x l is) ∙ ap (λ zs. slice_cmp R (x ∷ drop (i + 1) xs) zs) (drop_turn ys i y m are)
-
--- nothing is left of the first list
-length_decides : {A : Type 0} (R : A → A → Ordering) (m n : ℕ) (zs : List A) → m + length zs ≡ n → slice_cmp R [] zs ≡ nat_cmp m n
-length_decides R m n [] e = let same : m ≡ n = omega arith in rw same (grind (arith, nat_tests))
-length_decides R m n (z ∷ zs) e = let less : m < n = omega arith in grind (arith, nat_tests)
-
-pub compared_all : {A : Type 0} (R : A → A → Ordering) (xs ys : List A) (i : ℕ) → length xs ≤ i → i ≤ length xs → i ≤ length ys → slice_cmp R (drop i xs) (drop i ys) ≡ nat_cmp (length xs) (length ys)
-compared_all R xs ys i l m n =
-    let long = length-drop i ys in
-    ap (λ zs. slice_cmp R zs (drop i ys)) (drop_all i xs l) ∙ length_decides R (length xs) (length ys) (drop i ys) (omega arith)
+use Rattle.lt_tag.specs.OrderLaws.{tag_total}
+use Rattle.lt_tag.specs.Order.{subtag_cmp, list_cmp, core_cmp, extension_cmp, tag_cmp}
 
 -- total
-
-core_total : IsTotalOrder core_cmp
-core_total =
-    then_total (on_total (λ (c : CoreParts). c.language) nat_list_cmp_total)
-    (then_total (on_total (λ (c : CoreParts). c.extlangs) (lists_total nat_list_cmp_total))
-    (then_total (on_total (λ (c : CoreParts). c.script) (options_total nat_list_cmp_total))
-    (then_total (on_total (λ (c : CoreParts). c.region) (options_total nat_list_cmp_total)) (on_total (λ (c : CoreParts). c.variants) (lists_total nat_list_cmp_total)))))
-
-extension_total : IsTotalOrder extension_cmp
-extension_total = then_total (on_total (λ (e : ExtensionParts). e.singleton) nat_cmp_total) (on_total (λ (e : ExtensionParts). e.subtags) (lists_total nat_list_cmp_total))
-
-pub tag_total : IsTotalOrder tag_cmp
-tag_total =
-    then_total (on_total core_of (options_total core_total))
-    (then_total (on_total extensions_of (lists_total extension_total))
-    (then_total (on_total private_of (lists_total nat_list_cmp_total)) (on_total number_of (options_total nat_cmp_total))))
 
 pub optional_tag_total : IsTotalOrder (option_cmp tag_cmp)
 optional_tag_total = options_total tag_total

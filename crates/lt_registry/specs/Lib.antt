@@ -11,5 +11,4 @@ pub mod RecordSteps
 pub mod AddedRecords
 pub mod Prefixes
 pub mod ReadRegistry
-pub mod TagOrder
 pub mod Sorted

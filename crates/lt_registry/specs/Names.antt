@@ -2,6 +2,8 @@
 use Rattle.std.specs.Prelude.{ℕ, List, codes}
 use Rattle.lt_registry.specs.declared.faults.ValidFaultKind.{ValidFaultKind}
 use Rattle.lt_registry.specs.declared.faults.ValidFaultKind.TheVariants as faults
+use Rattle.lt_registry.specs.declared.faults.ValidRefusal.{ValidRefusal}
+use Rattle.lt_registry.specs.declared.faults.ValidRefusal.TheVariants as valid_refusals
 use Rattle.lt_registry.specs.declared.faults.RecordFaultKind.{RecordFaultKind}
 use Rattle.lt_registry.specs.declared.faults.RecordFaultKind.TheVariants as records
 use Rattle.lt_registry.specs.declared.faults.RegistryFault.{RegistryFault}
@@ -19,6 +21,10 @@ name_of faults.UnknownVariant = codes "UnknownVariant"
 name_of faults.DuplicateVariant = codes "DuplicateVariant"
 name_of faults.DuplicateSingleton = codes "DuplicateSingleton"
 name_of faults.BadTransform = codes "BadTransform"
+
+abbrev pub refusal_name_of : ValidRefusal → List ℕ
+refusal_name_of (valid_refusals.Fault fault) = name_of fault.kind
+refusal_name_of valid_refusals.OutOfMemory = codes "OutOfMemory"
 
 abbrev pub record_name_of : RecordFaultKind → List ℕ
 record_name_of records.RepeatedField = codes "RepeatedField"

@@ -1,6 +1,6 @@
 //! Why a tag is not valid, and why a record gives no entry.
 ghost use Rattle.std.specs.Prelude.{◌≡◌};
-ghost use Rattle.lt_registry.specs.Names.{name_of, record_name_of, registry_name_of};
+ghost use Rattle.lt_registry.specs.Names.{name_of, refusal_name_of, record_name_of, registry_name_of};
 
 use lt_jar::JarFault;
 use lt_tag::OutOfMemory;
@@ -67,6 +67,18 @@ pub enum ValidRefusal {
     Fault(ValidFault),
     #[error("OutOfMemory")]
     OutOfMemory,
+}
+
+impl ValidRefusal {
+    /// The name of the fault's kind, or `OutOfMemory`.
+    pub fn name(self) -> &'static str
+        ensures { result.now ≡ refusal_name_of self }
+    {
+        match self {
+            ValidRefusal::Fault(fault) => fault.kind.name(),
+            ValidRefusal::OutOfMemory => "OutOfMemory",
+        }
+    }
 }
 
 impl From<ValidFault> for ValidRefusal {

@@ -12,7 +12,6 @@ use crate::indexes::entry_at;
 use crate::names::is_alphabetic;
 use crate::ranges::{place_in, range_rows, stretches};
 use crate::rows::{Row, Stretch};
-use crate::same::same_kind;
 use crate::subtag_numbers::{number_of, rank_of};
 use lt_subtag::Subtag;
 use std::alloc::{AllocError, Global};
@@ -160,7 +159,7 @@ fn single_row(entry: &Entry, kind: Kind, place: usize) -> Option<Row>
     ensures { result ≡ sorted.single_row kind place entry.now }
 {
     match entry.name() {
-        EntryName::Single(subtag) if same_kind(entry.kind(), kind) => Some(Row {
+        EntryName::Single(subtag) if entry.kind() == kind => Some(Row {
             number: number_of(subtag),
             place,
         }),

@@ -17,10 +17,8 @@ mod ranges;
 mod records;
 mod registry;
 mod rows;
-mod same;
 mod sorted_table;
 mod subtag_numbers;
-mod tag_order;
 mod validity;
 mod whole_index;
 

@@ -9,7 +9,6 @@ use crate::entries::{Entry, EntryName, Kind};
 use crate::lookup::Lookup;
 use crate::names::holds;
 use crate::registry::Registry;
-use crate::same::{same_kind, same_tag};
 use lt_subtag::Subtag;
 use lt_tag::Tag;
 use std::marker::Model;
@@ -62,14 +61,14 @@ impl Lookup for ListTable {
 fn single<'a>(entries: &'a [Entry], kind: Kind, subtag: &Subtag) -> Option<&'a Entry>
     ensures { option_copied result ≡ find (λ (e : EntryParts). same.same_kind e.kind kind && forms.is_named subtag.now e.name) entries.now }
 {
-    entries.iter().find(|entry| same_kind(entry.kind(), kind) && is_named(entry.name(), subtag))
+    entries.iter().find(|entry| entry.kind() == kind && is_named(entry.name(), subtag))
 }
 
 /// The first range of a kind that holds a subtag.
 fn range<'a>(entries: &'a [Entry], kind: Kind, subtag: &Subtag) -> Option<&'a Entry>
     ensures { option_copied result ≡ find (λ (e : EntryParts). same.same_kind e.kind kind && forms.holds subtag.now e.name) entries.now }
 {
-    entries.iter().find(|entry| same_kind(entry.kind(), kind) && holds(entry.name(), subtag))
+    entries.iter().find(|entry| entry.kind() == kind && holds(entry.name(), subtag))
 }
 
 fn is_named(name: &EntryName, subtag: &Subtag) -> bool
@@ -81,11 +80,12 @@ fn is_named(name: &EntryName, subtag: &Subtag) -> bool
     }
 }
 
+#[tactic(auto, using(crate::proofs::TagOrderLemmas::tags_equal))]
 fn is_whole(name: &EntryName, tag: &Tag) -> bool
     ensures { result ≡ forms.is_whole tag.now name.now }
 {
     match name {
-        EntryName::Whole(whole) => same_tag(whole, tag),
+        EntryName::Whole(whole) => whole == tag,
         _ => false,
     }
 }

@@ -11,7 +11,6 @@ ghost use Rattle.lt_registry.specs.Checking.{Counted, TellsOrLacks};
 use crate::entries::{Entry, Kind};
 use crate::faults::{ValidFault, ValidFaultKind, ValidRefusal};
 use crate::lookup::Lookup;
-use crate::same::same_list;
 use lt_subtag::Subtag;
 use lt_tag::{Core, Extension, OutOfMemory, Tag, TransformFault, split_t};
 use std::alloc::Global;

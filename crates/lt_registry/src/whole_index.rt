@@ -2,7 +2,7 @@
 ghost use Rattle.std.specs.Prelude.{◌≡◌, length, IfOk, Some};
 ghost use Rattle.std.specs.Ordering.{is_eq};
 ghost use Rattle.std.specs.Option.{option_copied, option_cmp};
-ghost use Rattle.lt_registry.specs.TagOrder.{tag_cmp};
+ghost use Rattle.lt_tag.specs.Order.{tag_cmp};
 ghost use Rattle.lt_registry.specs.Entries as forms;
 ghost use Rattle.lt_registry.specs.Sorted as sorted;
 
@@ -10,7 +10,6 @@ use crate::entries::{Entry, EntryName};
 use crate::indexes::entry_at;
 use crate::rows::Row;
 use crate::subtag_numbers::number_of;
-use crate::tag_order::compare_tags;
 use lt_tag::Tag;
 use std::alloc::{AllocError, Global};
 use std::cmp::Ordering;
@@ -127,14 +126,9 @@ fn compare_with(entries: &[Entry], row: Row, number: u64, tag: &Tag) -> Ordering
     ))
 }
 
-/// No tag stands before any.
+/// No tag comes before any.
 fn compare_optional_tags(left: Option<&Tag>, right: Option<&Tag>) -> Ordering
     ensures { result ≡ option_cmp tag_cmp (option_copied left.entry) (option_copied right.entry) }
 {
-    match (left, right) {
-        (None, None) => Ordering::Equal,
-        (None, Some(_)) => Ordering::Less,
-        (Some(_), None) => Ordering::Greater,
-        (Some(one), Some(other)) => compare_tags(one, other),
-    }
+    left.cmp(&right)
 }
