@@ -2,7 +2,7 @@
 
 PREFIX ?= /usr/local
 
-.PHONY: all lib sqlite test statement bench hostile growth install clean
+.PHONY: all lib sqlite test statement bench hostile growth install deb clean
 
 # Proves each crate that changed, and builds the program: `rt run` proves, builds and runs it.
 all:
@@ -45,20 +45,22 @@ hostile:
 # Refuses each growth of memory in turn, in the tests that are meant for it and in the program. `rt test` proves the tests
 # of a crate, where they changed, and leaves them in out/.
 growth: all
-	set -e; for crate in lt_tag_tests lt_jar_tests lt_registry_tests lt_rewrite_tests lt_canon_tests lt_tool; do (cd crates/$$crate && rt test); done
+	set -e; for crate in lt_tag_tests lt_jar_tests lt_registry_tests lt_rewrite_tests lt_canon_tests lt_tool_tests; do (cd crates/$$crate && rt test); done
 	bench/growth.py
 
+# The program, its manual and pages, and the library for C.
 install: all lib
-	install -d $(DESTDIR)$(PREFIX)/bin
-	install -m 755 build/langtag $(DESTDIR)$(PREFIX)/bin/langtag
+	packaging/install.sh $(DESTDIR)$(PREFIX)
 	install -d $(DESTDIR)$(PREFIX)/include $(DESTDIR)$(PREFIX)/lib/pkgconfig
 	install -m 644 bindings/c/bcp47.h $(DESTDIR)$(PREFIX)/include/bcp47.h
 	install -m 644 build/libbcp47.a $(DESTDIR)$(PREFIX)/lib/libbcp47.a
 	install -m 755 build/libbcp47.so.1 $(DESTDIR)$(PREFIX)/lib/libbcp47.so.1
 	ln -sf libbcp47.so.1 $(DESTDIR)$(PREFIX)/lib/libbcp47.so
 	sed 's#@PREFIX@#$(PREFIX)#' bindings/c/bcp47.pc.in > $(DESTDIR)$(PREFIX)/lib/pkgconfig/bcp47.pc
-	install -d $(DESTDIR)$(PREFIX)/share/man/man1
-	install -m 644 docs/langtag.1 $(DESTDIR)$(PREFIX)/share/man/man1/langtag.1
+
+# Builds the package build/langtag_VERSION_ARCHITECTURE.deb of Debian, which needs dpkg-deb.
+deb: all
+	packaging/deb.sh build
 
 clean:
 	rm -rf build crates/*/out

@@ -21,7 +21,7 @@ import tempfile
 from pathlib import Path
 
 ROOT = Path(__file__).resolve().parent.parent
-CRATES = ["lt_tag_tests", "lt_jar_tests", "lt_registry_tests", "lt_rewrite_tests", "lt_canon_tests", "lt_tool"]
+CRATES = ["lt_tag_tests", "lt_jar_tests", "lt_registry_tests", "lt_rewrite_tests", "lt_canon_tests", "lt_tool_tests"]
 PROGRAM = ROOT / "build" / "langtag"
 SECONDS = 60
 NONE = "_without_growth"
@@ -64,6 +64,7 @@ COMMANDS = [
     (["classify", "en-Latn-a-bb"], b""),
     (["check", SAMPLE], b""),
     (["canon", SAMPLE], LINES),
+    (["tsv", SAMPLE, "2"], b"1\tzh-yue\tx\r\n2\tfr\n3\n4\tsgn-dd"),
     (["extlang", SAMPLE, "cmn-hans"], b""),
     (["equal", SAMPLE, "YUE", "zh-yue"], b""),
     (["explain", SAMPLE, "sgn-dd"], b""),

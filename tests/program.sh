@@ -64,6 +64,35 @@ printf 'zh-yue\nDE\n' > lines
 "$program" canon "$sample" < lines > out 2> err; is canon 0 'yue\nde\n' ''
 "$program" canon other < lines > out 2> err; is 'canon: the registry is refused' 2 'jar BadLine line 1\n' ''
 
+# rows with tabs between their fields, by their second fields
+printf '1\tzh-yue\tbook\r\n2\ten_US\n3\n' > rows
+"$program" tsv "$sample" 2 < rows > out 2> err; is 'tsv refuses two' 1 '1\tyue\tbook\t\r\n2\ten_US\tBadByte 1\n3\tNoColumn\n' ''
+printf '1\tDE' | "$program" tsv "$sample" 2 > out 2> err; is tsv 0 '1\tde\t\n' ''
+"$program" tsv other 2 < rows > out 2> err; is 'tsv: the registry is refused' 2 'jar BadLine line 1\n' ''
+"$program" tsv "$sample" 2 < rows > /dev/full 2> err; cat /dev/null > out; is 'tsv: full output' 4 '' '! Write\n'
+"$program" tsv "$sample" 2 <&- > out 2> err; is 'tsv: closed input' 4 '' '! Read\n'
+head -c 3000000 /dev/zero | tr '\0' 'a' > long
+printf '\tde\n' >> long
+"$program" tsv "$sample" 2 < long > out 2> err; ended=$?
+tail -c 5 out > end; mv end out
+(exit "$ended"); is 'tsv: a long row' 0 '\tde\t\n' ''
+for column in 0 two -1; do
+    "$program" tsv "$sample" "$column" < rows > out 2> usage; ended=$?
+    head -c 7 usage > err
+    (exit "$ended"); is "tsv: the column $column" 3 '' 'error: '
+done
+
+# the registry from the standard input, where that isn't read otherwise
+"$program" check - < "$sample" > out 2> err; is 'check -' 0 'ok 46\n' ''
+cat "$sample" | "$program" check - > out 2> err; is 'check -, from a pipe' 0 'ok 46\n' ''
+"$program" extlang - cmn-hans < "$sample" > out 2> err; is 'extlang -' 0 'zh-cmn-Hans\n' ''
+"$program" equal - YUE zh-yue < "$sample" > out 2> err; is 'equal -' 0 'equal\n' ''
+"$program" explain - sgn-dd < "$sample" > out 2> err; is 'explain -' 0 'Region 2 27 sgn-DE\nWhole 1 44 gsg\n= gsg\n' ''
+"$program" upgrade old - < new > out 2> err; is 'upgrade old -' 2 'upgrade U1 record 3\n' ''
+"$program" upgrade - old < new > out 2> err; is 'upgrade - old' 0 'ok\n' ''
+"$program" canon - < lines > out 2> err; is 'canon -: no such file' 4 '' '! File\n'
+"$program" check - <&- > out 2> err; is 'check -: closed input' 4 '' '! File\n'
+
 # a line is answered before the next is there
 mkfifo to from
 "$program" canon "$sample" < to > from 2> err &
@@ -103,6 +132,10 @@ run check .; is 'check: a folder' 4 'jar Read line 1\n' ''
 "$program" --help < empty > help 2> err; ended=$?
 grep '^Usage: ' help > out
 (exit "$ended"); is help 0 'Usage: langtag <COMMAND>\n' ''
+"$program" --version < empty > version 2> err; ended=$?
+head -c 10 version > out
+(exit "$ended"); is version 0 'langtag 1.' ''
+"$program" -V < empty > out 2> err; is 'version, short' 0 "$(cat version)\n" ''
 "$program" upgrade old < empty > out 2> usage; ended=$?
 head -c 7 usage > err
 (exit "$ended"); is usage 3 '' 'error: '

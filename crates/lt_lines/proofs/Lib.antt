@@ -1,6 +1,8 @@
 -- Lemmas on answers to lines.
 pub mod WrittenLemmas
 pub mod DeviceLemmas
+pub mod SplittingLemmas
+pub mod RowLemmas
 pub mod OwedLemmas
 pub mod TextLemmas
 pub mod TakenLemmas

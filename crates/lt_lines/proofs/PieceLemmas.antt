@@ -4,9 +4,8 @@ use Rattle.std.specs.Io.KnownBytes.{Appends}
 use Rattle.std.proofs.KnownBytes.{Appends-nil, Appends-trans}
 use Rattle.lt_jar.specs.Devices.{failures_of, inner_of}
 use Rattle.lt_jar.specs.declared.devices.Device.{Device}
-use Rattle.lt_registry.specs.Parts.{EntryParts}
-use Rattle.lt_lines.specs.Answering.{IsTaken, TakesPiece, WritesOwed, longest_kept}
-use Rattle.lt_lines.specs.Owed.{IsOneLine}
+use Rattle.lt_lines.specs.Answering.{IsTaken, TakesPiece, WritesOwed, part_kept}
+use Rattle.lt_lines.specs.Owed.{IsOneLine, Terms}
 use Rattle.lt_lines.specs.declared.answering.Answering.{Answering}
 use Rattle.lt_lines.specs.declared.runs.Counts.{Counts}
 use Rattle.lt_lines.specs.declared.faults.ToolFault.{ToolFault}
@@ -15,13 +14,13 @@ use Rattle.lt_lines.proofs.DeviceLemmas.{failed_from}
 use Rattle.lt_lines.proofs.TakenLemmas.{begun_front, begun_nothing, taken_part, taken_write}
 
 -- so far the front of the piece was taken
-pub record PieceTurn {W : Type 0} (R : List EntryParts) (contents : W → Option (List ℕ)) (piece rest : List ℕ) (old now : Answering) (before after : Device W) : Type 0 where
+pub record PieceTurn {W : Type 0} (T : Terms) (contents : W → Option (List ℕ)) (piece rest : List ℕ) (old now : Answering) (before after : Device W) : Type 0 where
   pub front : List ℕ
   pub split : piece ≡ front ++ rest
   pub written : List ℕ
   pub appends : Appends (contents (inner_of before)) (contents (inner_of after)) written
   pub failures : failures_of after ≡ failures_of before
-  pub taken : (bytes out : List ℕ) → IsTaken R bytes out old → IsTaken R (bytes ++ front) (out ++ written) now
+  pub taken : (bytes out : List ℕ) → IsTaken T bytes out old → IsTaken T (bytes ++ front) (out ++ written) now
   pub room : now.counts.lines + length rest ≤ old.counts.lines + length piece
   pub refused : now.counts.refused ≤ now.counts.lines
 
@@ -29,26 +28,26 @@ pub record PieceTurn {W : Type 0} (R : List EntryParts) (contents : W → Option
 joined : (bytes front rest piece : List ℕ) → piece ≡ front ++ rest → bytes ++ piece ≡ (bytes ++ front) ++ rest
 joined bytes front rest piece split = ap (λ (l : List ℕ). bytes ++ l) split ∙ sym (append_assoc bytes front rest)
 
-pub turn_first : {W : Type 0} (R : List EntryParts) (contents : W → Option (List ℕ)) (piece : List ℕ) (old : Answering) (before : Device W) → old.counts.refused ≤ old.counts.lines
-    → PieceTurn R contents piece piece old old before before
-turn_first R contents piece old before refused = record {
+pub turn_first : {W : Type 0} (T : Terms) (contents : W → Option (List ℕ)) (piece : List ℕ) (old : Answering) (before : Device W) → old.counts.refused ≤ old.counts.lines
+    → PieceTurn T contents piece piece old old before before
+turn_first T contents piece old before refused = record {
   front = [];
   split = refl;
   written = [];
   appends = Appends-nil _;
   failures = refl;
-  taken = λ bytes out t. subst (λ (l : List ℕ). IsTaken R l (out ++ []) old) (sym (append-nil bytes)) (subst (λ (l : List ℕ). IsTaken R bytes l old) (sym (append-nil out)) t);
+  taken = λ bytes out t. subst (λ (l : List ℕ). IsTaken T l (out ++ []) old) (sym (append-nil bytes)) (subst (λ (l : List ℕ). IsTaken T bytes l old) (sym (append-nil out)) t);
   room = omega arith;
   refused = refused;
 }
 
 -- a line of the piece was answered, and some of what is owed was written
-pub turn_next : {W : Type 0} (R : List EntryParts) (contents : W → Option (List ℕ)) (piece rest line after : List ℕ) (old now mid new : Answering) (before between last : Device W)
-    → PieceTurn R contents piece rest old now before between → rest ≡ line ++ 10 ∷ after → IsOneLine line
-    → ((bytes out : List ℕ) → IsOneLine line → IsTaken R bytes out now → IsTaken R (bytes ++ (line ++ 10 ∷ [])) out mid)
+pub turn_next : {W : Type 0} (T : Terms) (contents : W → Option (List ℕ)) (piece rest line after : List ℕ) (old now mid new : Answering) (before between last : Device W)
+    → PieceTurn T contents piece rest old now before between → rest ≡ line ++ 10 ∷ after → IsOneLine line
+    → ((bytes out : List ℕ) → IsOneLine line → IsTaken T bytes out now → IsTaken T (bytes ++ (line ++ 10 ∷ [])) out mid)
     → mid.counts.lines ≡ now.counts.lines + 1 → mid.counts.refused ≤ mid.counts.lines
-    → WritesOwed contents mid new between last (Ok tt) → PieceTurn R contents piece after old new before last
-turn_next R contents piece rest line after old now mid new before between last t split one answered counted refused w =
+    → WritesOwed contents mid new between last (Ok tt) → PieceTurn T contents piece after old new before last
+turn_next T contents piece rest line after old now mid new before between last t split one answered counted refused w =
     let lines : new.counts.lines ≡ mid.counts.lines = ap (λ (c : Counts). c.lines) w.same.counts in
     let refusals : new.counts.refused ≡ mid.counts.refused = ap (λ (c : Counts). c.refused) w.same.counts in
     record {
@@ -60,81 +59,81 @@ turn_next R contents piece rest line after old now mid new before between last t
       taken = λ bytes out old_taken.
           let now_taken = t.taken bytes out old_taken in
           let mid_taken = answered (bytes ++ t.front) (out ++ t.written) one now_taken in
-          let new_taken = taken_write R ((bytes ++ t.front) ++ (line ++ 10 ∷ [])) (out ++ t.written) w.written mid new mid_taken w.same w.done.0 in
-          subst (λ (l : List ℕ). IsTaken R l (out ++ (t.written ++ w.written)) new) (append_assoc bytes t.front (line ++ 10 ∷ []))
-          (subst (λ (l : List ℕ). IsTaken R ((bytes ++ t.front) ++ (line ++ 10 ∷ [])) l new) (append_assoc out t.written w.written) new_taken);
+          let new_taken = taken_write T ((bytes ++ t.front) ++ (line ++ 10 ∷ [])) (out ++ t.written) w.written mid new mid_taken w.same w.done.0 in
+          subst (λ (l : List ℕ). IsTaken T l (out ++ (t.written ++ w.written)) new) (append_assoc bytes t.front (line ++ 10 ∷ []))
+          (subst (λ (l : List ℕ). IsTaken T ((bytes ++ t.front) ++ (line ++ 10 ∷ [])) l new) (append_assoc out t.written w.written) new_taken);
       room = let long = ap length split ∙ length-append line (10 ∷ after) in omega (arith, t.room, lines, counted, long);
       refused = omega (arith, lines, refusals, refused);
     }
 
 -- no memory was left
-pub turn_lacks : {W : Type 0} (R : List EntryParts) (contents : W → Option (List ℕ)) (piece rest : List ℕ) (old now new : Answering) (before after : Device W)
-    → PieceTurn R contents piece rest old now before after → TakesPiece R contents piece old new before after (Err faults.OutOfMemory)
-turn_lacks R contents piece rest old now new before after t = record {
+pub turn_lacks : {W : Type 0} (T : Terms) (contents : W → Option (List ℕ)) (piece rest : List ℕ) (old now new : Answering) (before after : Device W)
+    → PieceTurn T contents piece rest old now before after → TakesPiece T contents piece old new before after (Err faults.OutOfMemory)
+turn_lacks T contents piece rest old now new before after t = record {
   written = t.written;
   appends = t.appends;
   done = tt;
   stopped = (
     inr (refl, t.failures),
     λ bytes out old_taken.
-        begun_nothing R (bytes ++ t.front) (out ++ t.written) rest (bytes ++ piece) now (t.taken bytes out old_taken) (joined bytes t.front rest piece t.split),
+        begun_nothing T (bytes ++ t.front) (out ++ t.written) rest (bytes ++ piece) now (t.taken bytes out old_taken) (joined bytes t.front rest piece t.split),
   );
 }
 
 -- a write failed
-pub turn_fails : {W : Type 0} (R : List EntryParts) (contents : W → Option (List ℕ)) (piece front rest written : List ℕ) (old mid new : Answering) (before between last : Device W) (f : ToolFault)
+pub turn_fails : {W : Type 0} (T : Terms) (contents : W → Option (List ℕ)) (piece front rest written : List ℕ) (old mid new : Answering) (before between last : Device W) (f : ToolFault)
     → piece ≡ front ++ rest → Appends (contents (inner_of before)) (contents (inner_of between)) written → failures_of between ≡ failures_of before
-    → ((bytes out : List ℕ) → IsTaken R bytes out old → IsTaken R (bytes ++ front) (out ++ written) mid)
-    → WritesOwed contents mid new between last (Err f) → TakesPiece R contents piece old new before last (Err f)
-turn_fails R contents piece front rest written old mid new before between last f split appends failures taken w = record {
+    → ((bytes out : List ℕ) → IsTaken T bytes out old → IsTaken T (bytes ++ front) (out ++ written) mid)
+    → WritesOwed contents mid new between last (Err f) → TakesPiece T contents piece old new before last (Err f)
+turn_fails T contents piece front rest written old mid new before between last f split appends failures taken w = record {
   written = written ++ w.written;
   appends = Appends-trans _ _ _ _ _ appends w.appends;
   done = tt;
   stopped = (
     inl (w.stopped.0, failed_from before between last failures w.stopped.1),
     λ bytes out old_taken.
-        begun_front R (bytes ++ front) (out ++ written) w.written rest (bytes ++ piece) (out ++ (written ++ w.written)) mid (taken bytes out old_taken) w.stopped.2
+        begun_front T (bytes ++ front) (out ++ written) w.written rest (bytes ++ piece) (out ++ (written ++ w.written)) mid (taken bytes out old_taken) w.stopped.2
         (joined bytes front rest piece split) (sym (append_assoc out written w.written)),
   );
 }
 
 -- the rest of the piece is kept
-pub turn_kept : {W : Type 0} (R : List EntryParts) (contents : W → Option (List ℕ)) (piece rest : List ℕ) (old now mid : Answering) (before after : Device W)
-    → (t : PieceTurn R contents piece rest old now before after) → IsOneLine rest → mid.kept.items ≡ now.kept.items ++ take (longest_kept - length now.kept.items) rest
+pub turn_kept : {W : Type 0} (T : Terms) (contents : W → Option (List ℕ)) (piece rest : List ℕ) (old now mid : Answering) (before after : Device W)
+    → (t : PieceTurn T contents piece rest old now before after) → IsOneLine rest → mid.kept.items ≡ now.kept.items ++ part_kept T.form (length now.kept.items) rest
     → mid.owed.items ≡ now.owed.items → mid.counts ≡ now.counts → mid.recent ≡ now.recent
-    → (bytes out : List ℕ) → IsTaken R bytes out old → IsTaken R (bytes ++ piece) (out ++ t.written) mid
-turn_kept R contents piece rest old now mid before after t one kept owed counts recent = λ bytes out old_taken.
-    subst (λ (l : List ℕ). IsTaken R l (out ++ t.written) mid) (sym (joined bytes t.front rest piece t.split))
-    (taken_part R (bytes ++ t.front) (out ++ t.written) rest now mid (t.taken bytes out old_taken) one kept owed counts recent)
+    → (bytes out : List ℕ) → IsTaken T bytes out old → IsTaken T (bytes ++ piece) (out ++ t.written) mid
+turn_kept T contents piece rest old now mid before after t one kept owed counts recent = λ bytes out old_taken.
+    subst (λ (l : List ℕ). IsTaken T l (out ++ t.written) mid) (sym (joined bytes t.front rest piece t.split))
+    (taken_part T (bytes ++ t.front) (out ++ t.written) rest now mid (t.taken bytes out old_taken) one kept owed counts recent)
 
 -- the last write over the piece
-pub turn_last : {W : Type 0} (R : List EntryParts) (contents : W → Option (List ℕ)) (piece written : List ℕ) (old mid new : Answering) (before between last : Device W) (r : Result (Unit {0}) ToolFault)
+pub turn_last : {W : Type 0} (T : Terms) (contents : W → Option (List ℕ)) (piece written : List ℕ) (old mid new : Answering) (before between last : Device W) (r : Result (Unit {0}) ToolFault)
     → Appends (contents (inner_of before)) (contents (inner_of between)) written → failures_of between ≡ failures_of before
-    → ((bytes out : List ℕ) → IsTaken R bytes out old → IsTaken R (bytes ++ piece) (out ++ written) mid)
-    → WritesOwed contents mid new between last r → OnOk r (new.owed.items ≡ []) → TakesPiece R contents piece old new before last r
-turn_last R contents piece written old mid new before between last (Ok u) appends failures taken w none = record {
+    → ((bytes out : List ℕ) → IsTaken T bytes out old → IsTaken T (bytes ++ piece) (out ++ written) mid)
+    → WritesOwed contents mid new between last r → OnOk r (new.owed.items ≡ []) → TakesPiece T contents piece old new before last r
+turn_last T contents piece written old mid new before between last (Ok u) appends failures taken w none = record {
   written = written ++ w.written;
   appends = Appends-trans _ _ _ _ _ appends w.appends;
   done = (
     w.done.1 ∙ failures,
     none,
     λ bytes out old_taken.
-        subst (λ (l : List ℕ). IsTaken R (bytes ++ piece) l new) (append_assoc out written w.written)
-        (taken_write R (bytes ++ piece) (out ++ written) w.written mid new (taken bytes out old_taken) w.same w.done.0),
+        subst (λ (l : List ℕ). IsTaken T (bytes ++ piece) l new) (append_assoc out written w.written)
+        (taken_write T (bytes ++ piece) (out ++ written) w.written mid new (taken bytes out old_taken) w.same w.done.0),
   );
   stopped = tt;
 }
-turn_last R contents piece written old mid new before between last (Err f) appends failures taken w none =
-    turn_fails R contents piece piece [] written old mid new before between last f (sym (append-nil piece)) appends failures taken w
+turn_last T contents piece written old mid new before between last (Err f) appends failures taken w none =
+    turn_fails T contents piece piece [] written old mid new before between last f (sym (append-nil piece)) appends failures taken w
 
 -- a line of the piece was answered, and a write failed
-pub turn_breaks : {W : Type 0} (R : List EntryParts) (contents : W → Option (List ℕ)) (piece rest line after : List ℕ) (old now mid new : Answering) (before between last : Device W) (f : ToolFault)
-    → PieceTurn R contents piece rest old now before between → rest ≡ line ++ 10 ∷ after → IsOneLine line
-    → ((bytes out : List ℕ) → IsOneLine line → IsTaken R bytes out now → IsTaken R (bytes ++ (line ++ 10 ∷ [])) out mid)
-    → WritesOwed contents mid new between last (Err f) → TakesPiece R contents piece old new before last (Err f)
-turn_breaks R contents piece rest line after old now mid new before between last f t split one answered w =
-    turn_fails R contents piece (t.front ++ (line ++ 10 ∷ [])) after t.written old mid new before between last f
+pub turn_breaks : {W : Type 0} (T : Terms) (contents : W → Option (List ℕ)) (piece rest line after : List ℕ) (old now mid new : Answering) (before between last : Device W) (f : ToolFault)
+    → PieceTurn T contents piece rest old now before between → rest ≡ line ++ 10 ∷ after → IsOneLine line
+    → ((bytes out : List ℕ) → IsOneLine line → IsTaken T bytes out now → IsTaken T (bytes ++ (line ++ 10 ∷ [])) out mid)
+    → WritesOwed contents mid new between last (Err f) → TakesPiece T contents piece old new before last (Err f)
+turn_breaks T contents piece rest line after old now mid new before between last f t split one answered w =
+    turn_fails T contents piece (t.front ++ (line ++ 10 ∷ [])) after t.written old mid new before between last f
     (t.split ∙ ap (λ (l : List ℕ). t.front ++ l) (split ∙ sym (append_assoc line (10 ∷ []) after)) ∙ sym (append_assoc t.front (line ++ 10 ∷ []) after)) t.appends t.failures
-    (λ bytes out old_taken. subst (λ (l : List ℕ). IsTaken R l (out ++ t.written) mid) (append_assoc bytes t.front (line ++ 10 ∷ []))
+    (λ bytes out old_taken. subst (λ (l : List ℕ). IsTaken T l (out ++ t.written) mid) (append_assoc bytes t.front (line ++ 10 ∷ []))
     (answered (bytes ++ t.front) (out ++ t.written) one (t.taken bytes out old_taken)))
     w

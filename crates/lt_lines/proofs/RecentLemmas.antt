@@ -4,40 +4,60 @@ use Rattle.std.specs.List.{All}
 use Rattle.std.proofs.lemmas.List.Elements.{All-contains, All-set}
 use Rattle.std.proofs.lemmas.List.{take_all}
 use Rattle.std.proofs.Math.Seq.{drop-append_seam}
-use Rattle.lt_jar.specs.Lines.{content_of}
 use Rattle.lt_registry.specs.Parts.{EntryParts}
+use Rattle.lt_canon.specs.Texts.{AppendsCanonicalText}
 use Rattle.lt_recent.specs.Recent.{Holds, IsBlank, PutsIn, kept}
 use Rattle.lt_recent.specs.declared.Kept.{Kept}
-use Rattle.lt_lines.specs.Answering.{AppendsOwed, AreRecent, IsRecent}
-use Rattle.lt_lines.specs.Owed.{IsOwedFor, is_refusal}
+use Rattle.lt_lines.specs.Answering.{AppendsTextReply, AreRecent, IsRecent, IsRight}
+use Rattle.lt_lines.specs.Owed.{Terms, terms}
+use Rattle.lt_lines.specs.declared.forms.LineForm.TheVariants as forms
 
--- a table that holds nothing holds no wrong answer
-pub blank_recent : (R : List EntryParts) (table : List (Option Kept)) → IsBlank table → AreRecent R table
-blank_recent R table blank = record { each = λ k d lt. subst (IsRecent R) (sym (blank k d lt)) tt }
+-- a table that holds nothing holds nothing wrong
+pub blank_recent : (T : Terms) (table : List (Option Kept)) → IsBlank table → AreRecent T table
+blank_recent T table blank = record { each = λ k d lt. subst (IsRecent T) (sym (blank k d lt)) tt }
 
--- an answer that the table has for a line is owed for it
-pub recent_owed : (R : List EntryParts) (table : List (Option Kept)) (line answer old new : List ℕ) (refused : Bool) → AreRecent R table
-    → Holds table (take (length line) line) answer refused → new ≡ old ++ answer → AppendsOwed R (λ text. text ≡ content_of line) old new refused
-recent_owed R table line answer old new refused recent held grown =
-    let front : take (length line) line ≡ line = take_all (length line) line (omega arith) in
-    let is : IsRecent R (kept line answer refused) = All-contains (IsRecent R) table (kept line answer refused) recent.each (subst (λ (l : List ℕ). Holds table l answer refused) front held) in
-    record {
-      line = answer;
-      grown = grown;
-      refused_is = is.1;
-      owed_for = λ text e. subst (λ (l : List ℕ). IsOwedFor R l answer) (sym e) is.0;
-    }
+-- what the table has for a text is right
+recent_right : (T : Terms) (table : List (Option Kept)) (text answer : List ℕ) (refused : Bool) → AreRecent T table
+    → Holds table (take (length text) text) answer refused → IsRecent T (kept text answer refused)
+recent_right T table text answer refused recent held =
+    let whole : take (length text) text ≡ text = take_all (length text) text (omega arith) in
+    All-contains (IsRecent T) table (kept text answer refused) recent.each (subst (λ (l : List ℕ). Holds table l answer refused) whole held)
 
--- an answer that is owed may be put
-pub put_recent : (R : List EntryParts) (old new : List (Option Kept)) (line answer : List ℕ) (refused : Bool) → PutsIn old new line answer refused
-    → IsOwedFor R (content_of line) answer → refused ≡ is_refusal answer → AreRecent R old → AreRecent R new
-put_recent R old new line answer refused (inl same) owed is recent = subst (AreRecent R) (sym same) recent
-put_recent R old new line answer refused (inr put) owed is recent =
-    record { each = subst (All (IsRecent R)) (sym put.1) (All-set (IsRecent R) old put.0 (kept line answer refused) (owed, is) recent.each) }
+-- an answer that the table has for a text is owed for it
+pub recent_owed : (R : List EntryParts) (table : List (Option Kept)) (text answer old new : List ℕ) (refused : Bool) → AreRecent (terms R forms.Tag) table
+    → Holds table (take (length text) text) answer refused → new ≡ old ++ answer → AppendsTextReply R text old new refused
+recent_owed R table text answer old new refused recent held grown = record {
+  bytes = answer;
+  grown = grown;
+  owed = recent_right (terms R forms.Tag) table text answer refused recent held;
+}
 
--- the answer that was appended for a line may be put
-pub put_answer : (R : List EntryParts) (before after : List (Option Kept)) (line old new answer : List ℕ) (refused : Bool) → PutsIn before after line answer refused
-    → answer ≡ drop (length old) new → AppendsOwed R (λ text. text ≡ content_of line) old new refused → AreRecent R before → AreRecent R after
-put_answer R before after line old new answer refused puts rest a recent =
-    let same : answer ≡ a.line = rest ∙ ap (drop (length old)) a.grown ∙ drop-append_seam old a.line in
-    put_recent R before after line a.line refused (subst (λ (l : List ℕ). PutsIn before after line l refused) same puts) (a.owed_for (content_of line) refl) a.refused_is recent
+-- a canonical text that the table has for a field is its own
+pub recent_field : (R : List EntryParts) (before : ℕ) (table : List (Option Kept)) (text answer old new : List ℕ) (refused : Bool) → AreRecent (terms R (forms.Row before)) table
+    → Holds table (take (length text) text) answer refused → new ≡ old ++ answer → AppendsCanonicalText R text old new
+recent_field R before table text answer old new refused recent held grown = record {
+  canonical = answer;
+  grown = grown;
+  is_canonical = recent_right (terms R (forms.Row before)) table text answer refused recent held;
+}
+
+-- what is right may be put
+put_recent : (T : Terms) (old new : List (Option Kept)) (text answer : List ℕ) (refused : Bool) → PutsIn old new text answer refused
+    → IsRecent T (kept text answer refused) → AreRecent T old → AreRecent T new
+put_recent T old new text answer refused (inl same) right recent = subst (AreRecent T) (sym same) recent
+put_recent T old new text answer refused (inr put) right recent =
+    record { each = subst (All (IsRecent T)) (sym put.1) (All-set (IsRecent T) old put.0 (kept text answer refused) right recent.each) }
+
+-- the answer that was appended for a text may be put
+pub put_answer : (R : List EntryParts) (before after : List (Option Kept)) (text old new answer : List ℕ) (refused : Bool) → PutsIn before after text answer refused
+    → answer ≡ drop (length old) new → AppendsTextReply R text old new refused → AreRecent (terms R forms.Tag) before → AreRecent (terms R forms.Tag) after
+put_answer R before after text old new answer refused puts rest a recent =
+    let same : answer ≡ a.bytes = rest ∙ ap (drop (length old)) a.grown ∙ drop-append_seam old a.bytes in
+    put_recent (terms R forms.Tag) before after text a.bytes refused (subst (λ (l : List ℕ). PutsIn before after text l refused) same puts) a.owed recent
+
+-- the canonical text that was appended for a field may be put
+pub put_field : (R : List EntryParts) (count : ℕ) (before after : List (Option Kept)) (text old new answer : List ℕ) → PutsIn before after text answer false
+    → answer ≡ drop (length old) new → AppendsCanonicalText R text old new → AreRecent (terms R (forms.Row count)) before → AreRecent (terms R (forms.Row count)) after
+put_field R count before after text old new answer puts rest a recent =
+    let same : answer ≡ a.canonical = rest ∙ ap (drop (length old)) a.grown ∙ drop-append_seam old a.canonical in
+    put_recent (terms R (forms.Row count)) before after text a.canonical false (subst (λ (l : List ℕ). PutsIn before after text l false) same puts) a.is_canonical recent

@@ -7,9 +7,8 @@ use Rattle.lt_jar.specs.Lines.{lines_of}
 use Rattle.lt_jar.specs.Sources.{most_reads}
 use Rattle.lt_jar.specs.declared.devices.Device.{Device}
 use Rattle.lt_recent.specs.Recent.{IsBlank}
-use Rattle.lt_registry.specs.Parts.{EntryParts}
 use Rattle.lt_lines.specs.Answering.{FinishesLines, HasRoom, IsStop, IsTaken, TakesPiece}
-use Rattle.lt_lines.specs.Owed.{AreOwed, IsBegun, IsOwed, IsOwedToLastFeed}
+use Rattle.lt_lines.specs.Owed.{AreReplies, IsBegun, IsOwed, IsOwedToLastFeed, Terms}
 use Rattle.lt_lines.specs.Running.{EndsAs, HasRead, RunsLines}
 use Rattle.lt_lines.specs.declared.answering.Answering.{Answering}
 use Rattle.lt_lines.specs.declared.faults.ToolFault.{ToolFault}
@@ -17,20 +16,20 @@ use Rattle.lt_lines.specs.declared.faults.ToolFault.TheVariants as faults
 use Rattle.lt_lines.specs.declared.runs.Counts.{Counts}
 use Rattle.lt_lines.proofs.DeviceLemmas.{failed_from}
 use Rattle.lt_lines.proofs.RecentLemmas.{blank_recent}
-use Rattle.lt_lines.proofs.TakenLemmas.{begun_nothing, taken_room}
+use Rattle.lt_lines.proofs.TakenLemmas.{begun_nothing, kept_none, taken_room}
 use Rattle.std.proofs.Math.Seq.{take-append_seam}
 
 after_more_reads : (count reads : ℕ) → after_reads count (reads + 1) ≡ one_more (after_reads count reads)
 after_more_reads count reads = ap (after_reads count) (add-one reads)
 
 -- so far this was read and answered
-pub record RunTurn {I O : Type 0} (R : List EntryParts) (remaining : I → Option (List ℕ)) (contents : O → Option (List ℕ))
+pub record RunTurn {I O : Type 0} (T : Terms) (remaining : I → Option (List ℕ)) (contents : O → Option (List ℕ))
     (input input' : Device I) (output output' : Device O) (state : Answering) (turn : ℕ) : Type 0 where
   pub read : List ℕ
   pub written : List ℕ
   pub consumes : Consumes (remaining (inner_of input)) (remaining (inner_of input')) read
   pub appends : Appends (contents (inner_of output)) (contents (inner_of output')) written
-  pub taken : IsTaken R read written state
+  pub taken : IsTaken T read written state
   pub emptied : state.owed.items ≡ []
   pub calls : HasRead input input' turn
   pub some : turn ≤ length read
@@ -45,30 +44,30 @@ pub record ReadsPiece {I : Type 0} (remaining : I → Option (List ℕ)) (before
   pub calls : reads_of after ≡ one_more (reads_of before)
   pub failures : failures_of after ≡ failures_of before
 
-nothing_taken : (R : List EntryParts) (state : Answering) → state.kept.items ≡ [] → state.owed.items ≡ [] → state.counts.lines ≡ 0 → state.counts.refused ≡ 0 → IsBlank state.recent → IsTaken R [] [] state
-nothing_taken R state kept owed lines refused blank = record {
+nothing_taken : (T : Terms) (state : Answering) → state.kept.items ≡ [] → state.owed.items ≡ [] → state.counts.lines ≡ 0 → state.counts.refused ≡ 0 → IsBlank state.recent → IsTaken T [] [] state
+nothing_taken T state kept owed lines refused blank = record {
   lines = [];
   last = [];
   cut = refl;
   each_one = tt;
   last_one = λ k d lt. absurd (omega (arith, lt));
-  kept = kept;
+  kept = kept ∙ sym (kept_none T.form);
   owed = [];
   each = tt;
   all = owed;
   count = lines;
   refused = refused;
-  recent = blank_recent R state.recent blank;
+  recent = blank_recent T state.recent blank;
 }
 
-pub run_first : {I O : Type 0} (R : List EntryParts) (remaining : I → Option (List ℕ)) (contents : O → Option (List ℕ)) (input : Device I) (output : Device O) (state : Answering)
-    → state.kept.items ≡ [] → state.owed.items ≡ [] → state.counts.lines ≡ 0 → state.counts.refused ≡ 0 → IsBlank state.recent → RunTurn R remaining contents input input output output state 0
-run_first R remaining contents input output state kept owed lines refused blank = record {
+pub run_first : {I O : Type 0} (T : Terms) (remaining : I → Option (List ℕ)) (contents : O → Option (List ℕ)) (input : Device I) (output : Device O) (state : Answering)
+    → state.kept.items ≡ [] → state.owed.items ≡ [] → state.counts.lines ≡ 0 → state.counts.refused ≡ 0 → IsBlank state.recent → RunTurn T remaining contents input input output output state 0
+run_first T remaining contents input output state kept owed lines refused blank = record {
   read = [];
   written = [];
   consumes = Consumes-nil _;
   appends = Appends-nil _;
-  taken = nothing_taken R state kept owed lines refused blank;
+  taken = nothing_taken T state kept owed lines refused blank;
   emptied = owed;
   calls = refl;
   some = omega arith;
@@ -83,10 +82,10 @@ read_more : {I : Type 0} (input before after : Device I) (turn : ℕ) → HasRea
 read_more input before after turn has more = more ∙ ap one_more has ∙ sym (after_more_reads (reads_of input) turn)
 
 -- a piece was read and taken
-pub run_next : {I O : Type 0} (R : List EntryParts) (remaining : I → Option (List ℕ)) (contents : O → Option (List ℕ)) (input before after : Device I) (output between last : Device O)
-    (state new : Answering) (turn : ℕ) (piece : List ℕ) → RunTurn R remaining contents input before output between state turn → ReadsPiece remaining before after piece
-    → 0 < length piece → length piece ≤ 65536 → 0 < last_given_of after → TakesPiece R contents piece state new between last (Ok tt) → RunTurn R remaining contents input after output last new (turn + 1)
-run_next R remaining contents input before after output between last state new turn piece t r some short gave takes = record {
+pub run_next : {I O : Type 0} (T : Terms) (remaining : I → Option (List ℕ)) (contents : O → Option (List ℕ)) (input before after : Device I) (output between last : Device O)
+    (state new : Answering) (turn : ℕ) (piece : List ℕ) → RunTurn T remaining contents input before output between state turn → ReadsPiece remaining before after piece
+    → 0 < length piece → length piece ≤ 65536 → 0 < last_given_of after → TakesPiece T contents piece state new between last (Ok tt) → RunTurn T remaining contents input after output last new (turn + 1)
+run_next T remaining contents input before after output between last state new turn piece t r some short gave takes = record {
   read = t.read ++ piece;
   written = t.written ++ takes.written;
   consumes = Consumes-trans _ _ _ _ _ t.consumes r.consumes;
@@ -102,9 +101,9 @@ run_next R remaining contents input before after output between last state new t
 }
 
 -- no memory was left for the pieces
-pub run_lacks : {I O : Type 0} (R : List EntryParts) (remaining : I → Option (List ℕ)) (contents : O → Option (List ℕ)) (input : Device I) (output : Device O)
-    → RunsLines R remaining contents input input output output (Err faults.OutOfMemory)
-run_lacks R remaining contents input output = record {
+pub run_lacks : {I O : Type 0} (T : Terms) (remaining : I → Option (List ℕ)) (contents : O → Option (List ℕ)) (input : Device I) (output : Device O)
+    → RunsLines T remaining contents input input output output (Err faults.OutOfMemory)
+run_lacks T remaining contents input output = record {
   read = [];
   written = [];
   reads = 0;
@@ -118,8 +117,8 @@ run_lacks R remaining contents input output = record {
   write_rises = λ lt. absurd (omega (arith, lt));
 }
 
-owed_to_last_feed : (R : List EntryParts) (read written : List ℕ) (state : Answering) → IsTaken R read written state → state.owed.items ≡ [] → IsOwedToLastFeed R read written
-owed_to_last_feed R read written state t none = record {
+owed_to_last_feed : (T : Terms) (read written : List ℕ) (state : Answering) → IsTaken T read written state → state.owed.items ≡ [] → IsOwedToLastFeed T read written
+owed_to_last_feed T read written state t none = record {
   lines = t.lines;
   last = t.last;
   cut = t.cut;
@@ -131,48 +130,48 @@ owed_to_last_feed R read written state t none = record {
 }
 
 -- a read failed
-pub run_failed : {I O : Type 0} (R : List EntryParts) (remaining : I → Option (List ℕ)) (contents : O → Option (List ℕ)) (input before after : Device I) (output last : Device O)
-    (state : Answering) (turn : ℕ) → RunTurn R remaining contents input before output last state turn → turn < most_reads → Keeps (remaining (inner_of before)) (remaining (inner_of after))
-    → reads_of after ≡ one_more (reads_of before) → HasFailed before after → RunsLines R remaining contents input after output last (Err faults.Read)
-run_failed R remaining contents input before after output last state turn t few kept more failed = record {
+pub run_failed : {I O : Type 0} (T : Terms) (remaining : I → Option (List ℕ)) (contents : O → Option (List ℕ)) (input before after : Device I) (output last : Device O)
+    (state : Answering) (turn : ℕ) → RunTurn T remaining contents input before output last state turn → turn < most_reads → Keeps (remaining (inner_of before)) (remaining (inner_of after))
+    → reads_of after ≡ one_more (reads_of before) → HasFailed before after → RunsLines T remaining contents input after output last (Err faults.Read)
+run_failed T remaining contents input before after output last state turn t few kept more failed = record {
   read = t.read;
   written = t.written;
   reads = turn + 1;
   consumes = Consumes-kept _ _ _ _ t.consumes kept;
   appends = t.appends;
-  begun = begun_nothing R t.read t.written [] t.read state t.taken (sym (append-nil t.read));
+  begun = begun_nothing T t.read t.written [] t.read state t.taken (sym (append-nil t.read));
   calls = read_more input before after turn t.calls more;
   bounded = omega (arith, few);
-  ends = record { failed = failed_from input before after t.read_failures failed; owed = owed_to_last_feed R t.read t.written state t.taken t.emptied };
+  ends = record { failed = failed_from input before after t.read_failures failed; owed = owed_to_last_feed T t.read t.written state t.taken t.emptied };
   read_rises = λ lt. refl;
   write_rises = λ lt. absurd (omega (arith, lt, t.write_failures));
 }
 
 -- all reads were made
-pub run_turns : {I O : Type 0} (R : List EntryParts) (remaining : I → Option (List ℕ)) (contents : O → Option (List ℕ)) (input after : Device I) (output last : Device O)
-    (state : Answering) (turn : ℕ) → RunTurn R remaining contents input after output last state turn → turn ≡ most_reads
-    → RunsLines R remaining contents input after output last (Err faults.TooManyTurns)
-run_turns R remaining contents input after output last state turn t all = record {
+pub run_turns : {I O : Type 0} (T : Terms) (remaining : I → Option (List ℕ)) (contents : O → Option (List ℕ)) (input after : Device I) (output last : Device O)
+    (state : Answering) (turn : ℕ) → RunTurn T remaining contents input after output last state turn → turn ≡ most_reads
+    → RunsLines T remaining contents input after output last (Err faults.TooManyTurns)
+run_turns T remaining contents input after output last state turn t all = record {
   read = t.read;
   written = t.written;
   reads = turn;
   consumes = t.consumes;
   appends = t.appends;
-  begun = begun_nothing R t.read t.written [] t.read state t.taken (sym (append-nil t.read));
+  begun = begun_nothing T t.read t.written [] t.read state t.taken (sym (append-nil t.read));
   calls = t.calls;
   bounded = omega (arith, all);
-  ends = record { all_made = all; gave_bytes = omega (arith, all, t.some); last_gave = t.last_gave (omega (arith, all)); owed = owed_to_last_feed R t.read t.written state t.taken t.emptied };
+  ends = record { all_made = all; gave_bytes = omega (arith, all, t.some); last_gave = t.last_gave (omega (arith, all)); owed = owed_to_last_feed T t.read t.written state t.taken t.emptied };
   read_rises = λ lt. absurd (omega (arith, lt, t.read_failures));
   write_rises = λ lt. absurd (omega (arith, lt, t.write_failures));
 }
 
 -- how a run ends whose lines could not all be answered or written
-stopped_ends : {I O : Type 0} (R : List EntryParts) (remaining : I → Option (List ℕ)) (input after : Device I) (output between last : Device O) (reads : ℕ) (read written : List ℕ) (f : ToolFault)
-    → failures_of between ≡ failures_of output → IsStop between last f → EndsAs R remaining input after output last reads read written (Err f)
-stopped_ends R remaining input after output between last reads read written f same (inl wrote) =
-    subst (λ (e : ToolFault). EndsAs R remaining input after output last reads read written (Err e)) (sym wrote.0) (failed_from output between last same wrote.1)
-stopped_ends R remaining input after output between last reads read written f same (inr lacks) =
-    subst (λ (e : ToolFault). EndsAs R remaining input after output last reads read written (Err e)) (sym lacks.0) tt
+stopped_ends : {I O : Type 0} (T : Terms) (remaining : I → Option (List ℕ)) (input after : Device I) (output between last : Device O) (reads : ℕ) (read written : List ℕ) (f : ToolFault)
+    → failures_of between ≡ failures_of output → IsStop between last f → EndsAs T remaining input after output last reads read written (Err f)
+stopped_ends T remaining input after output between last reads read written f same (inl wrote) =
+    subst (λ (e : ToolFault). EndsAs T remaining input after output last reads read written (Err e)) (sym wrote.0) (failed_from output between last same wrote.1)
+stopped_ends T remaining input after output between last reads read written f same (inr lacks) =
+    subst (λ (e : ToolFault). EndsAs T remaining input after output last reads read written (Err e)) (sym lacks.0) tt
 
 stopped_rises : {O : Type 0} (output between last : Device O) (f : ToolFault) → failures_of between ≡ failures_of output → IsStop between last f
     → failures_of output < failures_of last → (let r : Result Counts ToolFault = Err f in r) ≡ Err faults.Write
@@ -180,29 +179,29 @@ stopped_rises output between last f same (inl wrote) lt = ap (λ (e : ToolFault)
 stopped_rises output between last f same (inr lacks) lt = absurd (omega (arith, lt, same, lacks.1))
 
 -- a run over lines that could not all be answered or written
-pub run_stopped : {I O : Type 0} (R : List EntryParts) (remaining : I → Option (List ℕ)) (contents : O → Option (List ℕ)) (input before after : Device I) (output between last : Device O)
-    (state : Answering) (turn : ℕ) (piece all part : List ℕ) (f : ToolFault) → (t : RunTurn R remaining contents input before output between state turn) → turn < most_reads → ReadsPiece remaining before after piece
-    → all ≡ t.read ++ piece → Appends (contents (inner_of between)) (contents (inner_of last)) part → IsStop between last f → IsBegun R all (t.written ++ part)
-    → RunsLines R remaining contents input after output last (Err f)
-run_stopped R remaining contents input before after output between last state turn piece all part f t few r all_is appends stop begun = record {
+pub run_stopped : {I O : Type 0} (T : Terms) (remaining : I → Option (List ℕ)) (contents : O → Option (List ℕ)) (input before after : Device I) (output between last : Device O)
+    (state : Answering) (turn : ℕ) (piece all part : List ℕ) (f : ToolFault) → (t : RunTurn T remaining contents input before output between state turn) → turn < most_reads → ReadsPiece remaining before after piece
+    → all ≡ t.read ++ piece → Appends (contents (inner_of between)) (contents (inner_of last)) part → IsStop between last f → IsBegun T all (t.written ++ part)
+    → RunsLines T remaining contents input after output last (Err f)
+run_stopped T remaining contents input before after output between last state turn piece all part f t few r all_is appends stop begun = record {
   read = t.read ++ piece;
   written = t.written ++ part;
   reads = turn + 1;
   consumes = Consumes-trans _ _ _ _ _ t.consumes r.consumes;
   appends = Appends-trans _ _ _ _ _ t.appends appends;
-  begun = subst (λ (l : List ℕ). IsBegun R l (t.written ++ part)) all_is begun;
+  begun = subst (λ (l : List ℕ). IsBegun T l (t.written ++ part)) all_is begun;
   calls = read_more input before after turn t.calls r.calls;
   bounded = omega (arith, few);
-  ends = stopped_ends R remaining input after output between last (turn + 1) (t.read ++ piece) (t.written ++ part) f t.write_failures stop;
+  ends = stopped_ends T remaining input after output between last (turn + 1) (t.read ++ piece) (t.written ++ part) f t.write_failures stop;
   read_rises = λ lt. absurd (omega (arith, lt, r.failures, t.read_failures));
   write_rises = stopped_rises output between last f t.write_failures stop;
 }
 
 -- the reader was at its end
-pub run_finished : {I O : Type 0} (R : List EntryParts) (remaining : I → Option (List ℕ)) (contents : O → Option (List ℕ)) (input before after : Device I) (output between last : Device O)
-    (state : Answering) (turn : ℕ) (piece : List ℕ) (r : Result Counts ToolFault) → RunTurn R remaining contents input before output between state turn → turn < most_reads → ReadsPiece remaining before after piece
-    → piece ≡ [] → IsAtEnd (remaining (inner_of after)) → FinishesLines R contents state between last r → RunsLines R remaining contents input after output last r
-run_finished R remaining contents input before after output between last state turn piece (Ok counts) t few r none end finish =
+pub run_finished : {I O : Type 0} (T : Terms) (remaining : I → Option (List ℕ)) (contents : O → Option (List ℕ)) (input before after : Device I) (output between last : Device O)
+    (state : Answering) (turn : ℕ) (piece : List ℕ) (r : Result Counts ToolFault) → RunTurn T remaining contents input before output between state turn → turn < most_reads → ReadsPiece remaining before after piece
+    → piece ≡ [] → IsAtEnd (remaining (inner_of after)) → FinishesLines T contents state between last r → RunsLines T remaining contents input after output last r
+run_finished T remaining contents input before after output between last state turn piece (Ok counts) t few r none end finish =
     let all : t.read ++ piece ≡ t.read = ap (λ (l : List ℕ). t.read ++ l) none ∙ append-nil t.read in
     let owed = finish.done.1 t.read t.written t.taken in
     record {
@@ -211,24 +210,24 @@ run_finished R remaining contents input before after output between last state t
       reads = turn + 1;
       consumes = Consumes-trans _ _ _ _ _ t.consumes r.consumes;
       appends = Appends-trans _ _ _ _ _ t.appends finish.appends;
-      begun = record { lines = lines_of (t.read ++ piece); others = []; cut = sym (append-nil (lines_of (t.read ++ piece))); owed = owed.owed; each = subst (λ (l : List ℕ). AreOwed R (lines_of l) owed.owed) (sym all) owed.each; rest = []; front = sym owed.all ∙ sym (append-nil _) };
+      begun = record { lines = lines_of (t.read ++ piece); others = []; cut = sym (append-nil (lines_of (t.read ++ piece))); owed = owed.owed; each = subst (λ (l : List ℕ). AreReplies T (lines_of l) owed.owed) (sym all) owed.each; rest = []; front = sym owed.all ∙ sym (append-nil _) };
       calls = read_more input before after turn t.calls r.calls;
       bounded = omega (arith, few);
-      ends = record { end = end; owed = subst (λ (l : List ℕ). IsOwed R l (t.written ++ finish.written) counts) (sym all) owed };
+      ends = record { end = end; owed = subst (λ (l : List ℕ). IsOwed T l (t.written ++ finish.written) counts) (sym all) owed };
       read_rises = λ lt. absurd (omega (arith, lt, r.failures, t.read_failures));
       write_rises = λ lt. absurd (omega (arith, lt, finish.done.0, t.write_failures));
     }
-run_finished R remaining contents input before after output between last state turn piece (Err f) t few r none end finish =
+run_finished T remaining contents input before after output between last state turn piece (Err f) t few r none end finish =
     let all : t.read ≡ t.read ++ piece = sym (append-nil t.read) ∙ ap (λ (l : List ℕ). t.read ++ l) (sym none) in
-    run_stopped R remaining contents input before after output between last state turn piece t.read finish.written f t few r all finish.appends finish.stopped.0 (finish.stopped.1 t.read t.written t.taken)
+    run_stopped T remaining contents input before after output between last state turn piece t.read finish.written f t few r all finish.appends finish.stopped.0 (finish.stopped.1 t.read t.written t.taken)
 
 -- the pieces' buffer after a read
 pub refilled : (count : ℕ) (items buffer : List ℕ) → count ≡ length items → length buffer ≡ length items → take count (buffer ++ drop (length buffer) items) ≡ buffer
 refilled count items buffer is same = ap (λ (n : ℕ). take n (buffer ++ drop (length buffer) items)) (is ∙ sym same) ∙ take-append_seam buffer (drop (length buffer) items)
 
 -- the counts have room for the lines of a piece
-pub run_room : {I O : Type 0} (R : List EntryParts) (remaining : I → Option (List ℕ)) (contents : O → Option (List ℕ)) (input before : Device I) (output between : Device O)
-    (state : Answering) (turn lines : ℕ) → RunTurn R remaining contents input before output between state turn → turn < most_reads → lines ≤ 65536 → HasRoom state lines
-run_room R remaining contents input before output between state turn lines t few short =
-    let room = taken_room R t.read t.written state t.taken in
+pub run_room : {I O : Type 0} (T : Terms) (remaining : I → Option (List ℕ)) (contents : O → Option (List ℕ)) (input before : Device I) (output between : Device O)
+    (state : Answering) (turn lines : ℕ) → RunTurn T remaining contents input before output between state turn → turn < most_reads → lines ≤ 65536 → HasRoom state lines
+run_room T remaining contents input before output between state turn lines t few short =
+    let room = taken_room T t.read t.written state t.taken in
     record { room = omega (arith, room.0, t.most, few, short); refused = room.1 }

@@ -17,8 +17,11 @@ use Rattle.lt_registry.specs.Parts.{EntryParts}
 use Rattle.lt_canon.specs.Texts.{IsCanonicalTextOf, IsTextRefusal}
 use Rattle.lt_canon.specs.declared.refusals.TextRefusal.{TextRefusal}
 use Rattle.lt_canon.specs.declared.refusals.TextRefusal.TheVariants as refusals
-use Rattle.lt_lines.specs.Answering.{longest_kept}
-use Rattle.lt_lines.specs.Owed.{IsOwedFor, IsRefusalLine, is_refusal}
+use Rattle.lt_lines.specs.Answering.{kept_of, longest_kept}
+use Rattle.lt_lines.specs.Refusals.{IsRefusalLine}
+use Rattle.lt_lines.specs.Owed.{AnswersText, IsReplyIn, IsTextReply, RefusesText, Reply, is_refusal}
+use Rattle.lt_lines.specs.declared.forms.LineForm.{LineForm}
+use Rattle.lt_lines.specs.declared.forms.LineForm.TheVariants as forms
 
 -- ---- long texts
 
@@ -44,13 +47,20 @@ long_refusal R text other (refusals.ReplacementRepeats variant) long longer f = 
 long_refusal R text other refusals.OutOfMemory long longer f = tt
 
 -- what is owed for a long text is owed for any other
-pub owed_for_long : (R : List EntryParts) (text other line : List ℕ) → longest_text < length text → longest_text < length other → IsOwedFor R text line → IsOwedFor R other line
-owed_for_long R text other line long longer (inl a) = absurd (omega (arith, a.is_canonical.read.short))
-owed_for_long R text other line long longer (inr r) = inr (record {
-  refusal = r.refusal;
-  is_refusal = long_refusal R text other r.refusal long longer r.is_refusal;
-  line_is = r.line_is;
-})
+reply_for_long : (R : List EntryParts) (text other : List ℕ) (r : Reply) → longest_text < length text → longest_text < length other → IsTextReply R text r → IsTextReply R other r
+reply_for_long R text other r long longer is = record { owed = by_cases is.owed; marked = is.marked }
+  where
+    by_cases : (AnswersText R text r.bytes × (r.refused ≡ false)) ⊎ (RefusesText R text r.bytes × (r.refused ≡ true))
+        → (AnswersText R other r.bytes × (r.refused ≡ false)) ⊎ (RefusesText R other r.bytes × (r.refused ≡ true))
+    by_cases (inl a) = absurd (omega (arith, a.0.is_canonical.read.short))
+    by_cases (inr a) = inr (
+      record {
+        refusal = a.0.refusal;
+        is_refusal = long_refusal R text other a.0.refusal long longer a.0.is_refusal;
+        line_is = a.0.line_is;
+      },
+      a.1,
+    )
 
 -- a line has at most one byte more than its text
 content-length : (line : List ℕ) → length line ≤ length (content_of line) + 1
@@ -60,17 +70,22 @@ content-length line = by_test (ends_with_byte 13 line)
     by_test true = let n = length-take-le (length line - 1) line (omega arith) in omega (arith, n)
     by_test false = omega arith
 
--- what is owed for the front of a line, as far as it is kept, is owed for the line
-pub owed_for_front : (R : List EntryParts) (line answer : List ℕ) → IsOwedFor R (content_of (take longest_kept line)) answer → IsOwedFor R (content_of line) answer
-owed_for_front R line answer owed = by_length (leb_tells (length line) longest_kept)
+-- what is owed for the front of a tag, as far as it is kept, is owed for the tag
+reply_for_front : (R : List EntryParts) (line : List ℕ) (r : Reply) → IsTextReply R (content_of (take longest_kept line)) r → IsTextReply R (content_of line) r
+reply_for_front R line r owed = by_length (leb_tells (length line) longest_kept)
   where
-    by_length : ((leb (length line) longest_kept ≡ true) × (length line ≤ longest_kept)) ⊎ ((leb (length line) longest_kept ≡ false) × (longest_kept < length line)) → IsOwedFor R (content_of line) answer
-    by_length (inl short) = subst (λ (l : List ℕ). IsOwedFor R (content_of l) answer) (take_all longest_kept line short.1) owed
+    by_length : ((leb (length line) longest_kept ≡ true) × (length line ≤ longest_kept)) ⊎ ((leb (length line) longest_kept ≡ false) × (longest_kept < length line)) → IsTextReply R (content_of line) r
+    by_length (inl short) = subst (λ (l : List ℕ). IsTextReply R (content_of l) r) (take_all longest_kept line short.1) owed
     by_length (inr long) =
         let kept = length-take-le longest_kept line (omega (arith, long.1)) in
         let front = content-length (take longest_kept line) in
         let whole = content-length line in
-        owed_for_long R (content_of (take longest_kept line)) (content_of line) answer (omega (arith, kept, front)) (omega (arith, whole, long.1)) owed
+        reply_for_long R (content_of (take longest_kept line)) (content_of line) r (omega (arith, kept, front)) (omega (arith, whole, long.1)) owed
+
+-- what is owed for the front of a line, as far as it is kept, is owed for the line
+pub reply_for_kept : (R : List EntryParts) (form : LineForm) (line : List ℕ) (r : Reply) → IsReplyIn R form (kept_of form line) r → IsReplyIn R form line r
+reply_for_kept R forms.Tag line r owed = reply_for_front R line r owed
+reply_for_kept R (forms.Row before) line r owed = owed
 
 -- ---- refusals
 
@@ -110,7 +125,4 @@ canonical_answers R text canonical h =
 
 -- a refusal is one
 pub refusal_refuses : (refusal : TextRefusal) (line : List ℕ) → IsRefusalLine refusal line → is_refusal line ≡ true
-refusal_refuses (refusals.NotATag fault) line e = ap is_refusal e
-refusal_refuses (refusals.Invalid fault) line e = ap is_refusal e
-refusal_refuses (refusals.ReplacementRepeats variant) line e = ap is_refusal e
-refusal_refuses refusals.OutOfMemory line e = absurd e
+refusal_refuses refusal line e = ap is_refusal e.line_is

@@ -1,22 +1,25 @@
 -- How lines that come in pieces are answered.
-use Rattle.std.specs.Prelude.{◌≡◌, ◌<◌, ◌≤◌, ◌+◌, ◌^◌, ◌⊎◌, ℕ, Bool, true, false, List, [], ◌∷◌, ◌++◌, length, take, Option, Some, None, MatchOption, Result, IfErr, IfOk}
-use Rattle.std.specs.Borrow.{Bor}
-use Rattle.std.specs.List.{All, AllByRecursion, concat, count_by}
+use Rattle.std.specs.Prelude.{◌≡◌, ◌<◌, ◌≤◌, ◌+◌, ◌-◌, ◌^◌, ◌⊎◌, ℕ, Bool, true, false, List, [], ◌++◌, length, take, Option, Some, None, Result, IfErr, IfOk}
+use Rattle.std.specs.List.{All, AllByRecursion}
 use Rattle.std.specs.Io.KnownBytes.{Appends}
 use Rattle.lt_jar.specs.Devices.{HasFailed, failures_of, inner_of}
-use Rattle.lt_jar.specs.Lines.{content_of, lines_of}
+use Rattle.lt_jar.specs.Lines.{lines_of}
 use Rattle.lt_jar.specs.declared.devices.Device.{Device}
 use Rattle.lt_registry.specs.Parts.{EntryParts}
+use Rattle.lt_canon.specs.Texts.{AppendsCanonicalText, IsCanonicalTextOf, IsTextRefusal}
 use Rattle.lt_canon.specs.declared.refusals.TextRefusal.{TextRefusal}
-use Rattle.lt_lines.specs.Owed.{IsRefusalLine, AreOwed, IsBegun, IsOneLine, IsOwed, IsOwedFor, ended, is_refusal}
+use Rattle.lt_lines.specs.Refusals.{IsTold}
+use Rattle.lt_lines.specs.Owed.{AreReplies, IsBegun, IsOneLine, IsOwed, IsReplyTo, IsTextReply, Reply, Terms, bytes_in, ended, refused_in, reply, row_line}
 use Rattle.lt_lines.specs.DeviceOutput.{IsFrontOf}
 use Rattle.lt_recent.specs.declared.Kept.{Kept}
 use Rattle.lt_lines.specs.declared.answering.Answering.{Answering}
+use Rattle.lt_lines.specs.declared.forms.LineForm.{LineForm}
+use Rattle.lt_lines.specs.declared.forms.LineForm.TheVariants as forms
 use Rattle.lt_lines.specs.declared.runs.Counts.{Counts}
 use Rattle.lt_lines.specs.declared.faults.ToolFault.{ToolFault}
 use Rattle.lt_lines.specs.declared.faults.ToolFault.TheVariants as faults
 
--- a longer line is too long, whatever follows: 1,025 bytes and a carriage return
+-- a longer tag is too long, whatever follows: 1,025 bytes and a carriage return
 abbrev pub longest_kept : ℕ
 longest_kept = 1026
 
@@ -29,55 +32,80 @@ abbrev pub one_if : Bool → ℕ
 one_if true = 1
 one_if false = 0
 
--- what stands before the first line feed and behind it
-abbrev pub SplitsLine : List ℕ → Option (Bor (List ℕ) × Bor (List ℕ)) → Type 0
-SplitsLine bytes parts = MatchOption parts (IsOneLine bytes)
-    (λ p. IsOneLine p.0.now × (bytes ≡ p.0.now ++ 10 ∷ p.1.now))
+-- the front of a line that is kept while it goes on: all of a row, and no more of a tag than says that it is too long
+abbrev pub kept_of : LineForm → List ℕ → List ℕ
+kept_of forms.Tag line = take longest_kept line
+kept_of (forms.Row before) line = line
 
--- the line of a refusal was appended
-pub record AppendsRefusal (refusal : TextRefusal) (old new : List ℕ) : Type 0 where
-  pub line : List ℕ
-  pub grown : new ≡ old ++ line
-  pub line_is : IsRefusalLine refusal line
+-- the part of more bytes of a line that is kept behind so many
+abbrev pub part_kept : LineForm → ℕ → List ℕ → List ℕ
+part_kept forms.Tag count part = take (longest_kept - count) part
+part_kept (forms.Row before) count part = part
 
--- one line more stands among those that are owed, which is owed for each text of which P holds
-pub record AppendsOwed (R : List EntryParts) (P : List ℕ → Type 0) (old new : List ℕ) (refused : Bool) : Type 0 where
-  pub line : List ℕ
-  pub grown : new ≡ old ++ line
-  pub refused_is : refused ≡ is_refusal line
-  pub owed_for : (text : List ℕ) → P text → IsOwedFor R text line
+-- one answer more stands among those that are owed: that to a text
+pub record AppendsTextReply (R : List EntryParts) (text old new : List ℕ) (refused : Bool) : Type 0 where
+  pub bytes : List ℕ
+  pub grown : new ≡ old ++ bytes
+  pub owed : IsTextReply R text (reply bytes refused)
 
--- the answer that a place has for a line is owed for the line
-abbrev pub IsRecent : List EntryParts → Option Kept → Type 0
-IsRecent R None = Unit {0}
-IsRecent R (Some kept) = IsOwedFor R (content_of kept.line) kept.answer × (kept.refused ≡ is_refusal kept.answer)
+-- that to a line
+pub record AppendsReply (T : Terms) (line old new : List ℕ) (refused : Bool) : Type 0 where
+  pub bytes : List ℕ
+  pub grown : new ≡ old ++ bytes
+  pub owed : IsReplyTo T line (reply bytes refused)
 
--- each answer that was given lately is owed for its line
-pub record AreRecent (R : List EntryParts) (table : List (Option Kept)) : Type 0 where
-  pub each : All (IsRecent R) table
+-- that to a line of which this is kept, and which goes on so
+pub record AppendsLine (T : Terms) (kept part old new : List ℕ) (refused : Bool) : Type 0 where
+  pub bytes : List ℕ
+  pub grown : new ≡ old ++ bytes
+  pub owed : (last : List ℕ) → kept ≡ kept_of T.form last → IsReplyTo T (last ++ part) (reply bytes refused)
+
+-- the canonical text of a field was appended, or the field is refused
+abbrev pub FieldReply : List EntryParts → List ℕ → (old new : List ℕ) → Option TextRefusal → Type 0
+FieldReply R field old new None = AppendsCanonicalText R field old new
+FieldReply R field old new (Some refusal) = IsTextRefusal R field refusal × (new ≡ old)
+
+-- a field that is refused was appended, with what follows it in its row and what is told of it
+pub record EndsRefused (refusal : TextRefusal) (field after line old new : List ℕ) : Type 0 where
+  pub told : List ℕ
+  pub is_told : IsTold refusal told
+  pub grown : new ≡ old ++ row_line (field ++ after) told line
+
+-- what a place has for a text is right: the answer to a tag, and the canonical text of a field
+abbrev pub IsRight : List EntryParts → LineForm → Kept → Type 0
+IsRight R forms.Tag kept = IsTextReply R kept.line (reply kept.answer kept.refused)
+IsRight R (forms.Row before) kept = IsCanonicalTextOf R kept.line kept.answer
+
+abbrev pub IsRecent : Terms → Option Kept → Type 0
+IsRecent T None = Unit {0}
+IsRecent T (Some kept) = IsRight T.entries T.form kept
+
+-- each answer that was given lately is right
+pub record AreRecent (T : Terms) (table : List (Option Kept)) : Type 0 where
+  pub each : All (IsRecent T) table
 
 -- These bytes were taken: their lines are answered, and the answers written or still kept.
-pub record IsTaken (R : List EntryParts) (bytes written : List ℕ) (state : Answering) : Type 0 where
+pub record IsTaken (T : Terms) (bytes written : List ℕ) (state : Answering) : Type 0 where
   pub lines : List (List ℕ)
   pub last : List ℕ
   pub cut : bytes ≡ ended lines ++ last
   pub each_one : AllByRecursion IsOneLine lines
   pub last_one : IsOneLine last
-  pub kept : state.kept.items ≡ take longest_kept last
-  pub owed : List (List ℕ)
-  pub each : AreOwed R lines owed
-  pub all : written ++ state.owed.items ≡ concat owed
+  pub kept : state.kept.items ≡ kept_of T.form last
+  pub owed : List Reply
+  pub each : AreReplies T lines owed
+  pub all : written ++ state.owed.items ≡ bytes_in owed
   pub count : state.counts.lines ≡ length owed
-  pub refused : state.counts.refused ≡ count_by is_refusal owed
-  pub recent : AreRecent R state.recent
+  pub refused : state.counts.refused ≡ refused_in owed
+  pub recent : AreRecent T state.recent
 
 -- what is owed for these bytes is written or still kept
-pub record IsAnswered (R : List EntryParts) (bytes written : List ℕ) (state : Answering) : Type 0 where
-  pub owed : List (List ℕ)
-  pub each : AreOwed R (lines_of bytes) owed
-  pub all : written ++ state.owed.items ≡ concat owed
+pub record IsAnswered (T : Terms) (bytes written : List ℕ) (state : Answering) : Type 0 where
+  pub owed : List Reply
+  pub each : AreReplies T (lines_of bytes) owed
+  pub all : written ++ state.owed.items ≡ bytes_in owed
   pub count : state.counts.lines ≡ length owed
-  pub refused : state.counts.refused ≡ count_by is_refusal owed
+  pub refused : state.counts.refused ≡ refused_in owed
 
 -- the counts have room for so many lines more
 pub record HasRoom (state : Answering) (lines : ℕ) : Type 0 where
@@ -105,21 +133,21 @@ IsStop before after f = ((f ≡ faults.Write) × HasFailed before after)
     ⊎ ((f ≡ faults.OutOfMemory) × (failures_of after ≡ failures_of before))
 
 -- a piece of the reader's bytes was taken, and what is owed so far was written
-pub record TakesPiece {W : Type 0} (R : List EntryParts) (contents : W → Option (List ℕ)) (piece : List ℕ)
+pub record TakesPiece {W : Type 0} (T : Terms) (contents : W → Option (List ℕ)) (piece : List ℕ)
     (old new : Answering) (before after : Device W) (result : Result (Unit {0}) ToolFault) : Type 0 where
   pub written : List ℕ
   pub appends : Appends (contents (inner_of before)) (contents (inner_of after)) written
   pub done : IfOk result (λ _. (failures_of after ≡ failures_of before) × (new.owed.items ≡ [])
-      × ((bytes out : List ℕ) → IsTaken R bytes out old → IsTaken R (bytes ++ piece) (out ++ written) new))
+      × ((bytes out : List ℕ) → IsTaken T bytes out old → IsTaken T (bytes ++ piece) (out ++ written) new))
   pub stopped : IfErr result (λ f. IsStop before after f
-      × ((bytes out : List ℕ) → IsTaken R bytes out old → IsBegun R (bytes ++ piece) (out ++ written)))
+      × ((bytes out : List ℕ) → IsTaken T bytes out old → IsBegun T (bytes ++ piece) (out ++ written)))
 
 -- a last line that no line feed ends was answered too, and what is owed was written
-pub record FinishesLines {W : Type 0} (R : List EntryParts) (contents : W → Option (List ℕ)) (old : Answering)
+pub record FinishesLines {W : Type 0} (T : Terms) (contents : W → Option (List ℕ)) (old : Answering)
     (before after : Device W) (result : Result Counts ToolFault) : Type 0 where
   pub written : List ℕ
   pub appends : Appends (contents (inner_of before)) (contents (inner_of after)) written
   pub done : IfOk result (λ counts. (failures_of after ≡ failures_of before)
-      × ((bytes out : List ℕ) → IsTaken R bytes out old → IsOwed R bytes (out ++ written) counts))
+      × ((bytes out : List ℕ) → IsTaken T bytes out old → IsOwed T bytes (out ++ written) counts))
   pub stopped : IfErr result (λ f. IsStop before after f
-      × ((bytes out : List ℕ) → IsTaken R bytes out old → IsBegun R bytes (out ++ written)))
+      × ((bytes out : List ℕ) → IsTaken T bytes out old → IsBegun T bytes (out ++ written)))

@@ -1,6 +1,9 @@
 -- What the contracts of a run over lines cite.
 pub mod Faults
 pub mod DeviceOutput
+pub mod Splitting
+pub mod Refusals
+pub mod Rows
 pub mod Owed
 pub mod Answering
 pub mod Running

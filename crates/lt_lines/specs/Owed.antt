@@ -1,30 +1,34 @@
--- What is owed for the bytes of a reader: one line for each of its lines.
-use Rattle.std.specs.Prelude.{◌≡◌, ◌≢◌, ◌⊎◌, ◌==◌, ◌&&◌, ℕ, Bool, false, List, [], ◌∷◌, ◌++◌, length, codes}
-use Rattle.std.specs.Fmt.{decimal}
-use Rattle.std.specs.List.{All, AllByRecursion, concat, count_by}
-use Rattle.lt_tag.specs.Names as tag_names
+-- What is owed for the bytes of a reader: an answer to each of its lines.
+use Rattle.std.specs.Prelude.{◌≡◌, ◌≢◌, ◌⊎◌, ◌==◌, ◌&&◌, ℕ, Bool, true, false, List, [], ◌∷◌, ◌++◌, if◌then◌else◌, length, codes}
+use Rattle.std.specs.List.{All, AllByRecursion, count_by}
+use Rattle.std.specs.Io.BufRead.{ends_with_byte}
 use Rattle.lt_jar.specs.Lines.{content_of, lines_of}
-use Rattle.lt_registry.specs.Names as valid_names
 use Rattle.lt_registry.specs.Parts.{EntryParts}
 use Rattle.lt_canon.specs.Texts.{IsCanonicalTextOf, IsTextRefusal}
 use Rattle.lt_canon.specs.declared.refusals.TextRefusal.{TextRefusal}
-use Rattle.lt_canon.specs.declared.refusals.TextRefusal.TheVariants as refusals
+use Rattle.lt_lines.specs.Refusals.{IsRefusalLine, IsTold}
+use Rattle.lt_lines.specs.Rows.{HasFewer, HasField}
+use Rattle.lt_lines.specs.declared.forms.LineForm.{LineForm}
+use Rattle.lt_lines.specs.declared.forms.LineForm.TheVariants as forms
 use Rattle.lt_lines.specs.declared.runs.Counts.{Counts}
 
--- the name of a fault and its place, ended by a line feed
-abbrev pub refusal_line : List ℕ → ℕ → List ℕ
-refusal_line name place = codes "! " ++ name ++ 32 ∷ [] ++ decimal place ++ 10 ∷ []
+-- by what lines are answered: the entries of a registry, and what a line is
+pub record Terms : Type 0 where
+  pub entries : List EntryParts
+  pub form : LineForm
 
--- the variant that steps can repeat, ended by a line feed
-abbrev pub repeat_line : List ℕ → List ℕ
-repeat_line variant = codes "! ReplacementRepeats " ++ variant ++ 10 ∷ []
+abbrev pub terms : List EntryParts → LineForm → Terms
+terms entries form = record { entries = entries; form = form }
 
--- the line for a refusal; want of memory has none
-abbrev pub IsRefusalLine : TextRefusal → List ℕ → Type 0
-IsRefusalLine (refusals.NotATag fault) line = line ≡ refusal_line (tag_names.name_of fault.kind) fault.place
-IsRefusalLine (refusals.Invalid fault) line = line ≡ refusal_line (valid_names.name_of fault.kind) fault.place
-IsRefusalLine (refusals.ReplacementRepeats variant) line = line ≡ repeat_line variant
-IsRefusalLine refusals.OutOfMemory line = ⊥
+-- an answer: its bytes, and whether it refuses what it answers
+pub record Reply : Type 0 where
+  pub bytes : List ℕ
+  pub refused : Bool
+
+abbrev pub reply : List ℕ → Bool → Reply
+reply bytes refused = record { bytes = bytes; refused = refused }
+
+-- ---- a line that is a tag
 
 -- the text has this canonical text, and this is its line
 pub record AnswersText (R : List EntryParts) (text line : List ℕ) : Type 0 where
@@ -38,22 +42,85 @@ pub record RefusesText (R : List EntryParts) (text line : List ℕ) : Type 0 whe
   pub is_refusal : IsTextRefusal R text refusal
   pub line_is : IsRefusalLine refusal line
 
--- the line that is owed for a text; want of memory aside
-abbrev pub IsOwedFor : List EntryParts → List ℕ → List ℕ → Type 0
-IsOwedFor R text line = AnswersText R text line ⊎ RefusesText R text line
-
--- a line is owed for each line, in order; a carriage return that ends a line is no part of its text
-abbrev pub AreOwed : List EntryParts → List (List ℕ) → List (List ℕ) → Type 0
-AreOwed R [] [] = Unit {0}
-AreOwed R [] (owed ∷ more) = ⊥
-AreOwed R (line ∷ lines) [] = ⊥
-AreOwed R (line ∷ lines) (owed ∷ more) = IsOwedFor R (content_of line) owed × AreOwed R lines more
-
 -- a line that says why a text is refused
 abbrev pub is_refusal : List ℕ → Bool
 is_refusal [] = false
 is_refusal (a ∷ []) = false
 is_refusal (a ∷ b ∷ rest) = (a == 33) && (b == 32)
+
+-- the answer that is owed for a text, and that its first bytes say whether it is a refusal; want of memory aside
+pub record IsTextReply (R : List EntryParts) (text : List ℕ) (r : Reply) : Type 0 where
+  pub owed : (AnswersText R text r.bytes × (r.refused ≡ false)) ⊎ (RefusesText R text r.bytes × (r.refused ≡ true))
+  pub marked : r.refused ≡ is_refusal r.bytes
+
+-- ---- a line that is a row
+
+-- what ends a line: its carriage return, if it has one, and a line feed
+abbrev pub end_of : List ℕ → List ℕ
+end_of line = if ends_with_byte 13 line then 13 ∷ 10 ∷ [] else 10 ∷ []
+
+-- a row with one field more, ended as the line is
+abbrev pub row_line : List ℕ → List ℕ → List ℕ → List ℕ
+row_line row last line = row ++ 9 ∷ last ++ end_of line
+
+-- the field has a canonical text, which stands in its place, and the last field is empty
+pub record AnswersRow (R : List EntryParts) (before : ℕ) (line bytes : List ℕ) : Type 0 where
+  pub front : List ℕ
+  pub field : List ℕ
+  pub after : List ℕ
+  pub at : HasField before (content_of line) front field after
+  pub canonical : List ℕ
+  pub is_canonical : IsCanonicalTextOf R field canonical
+  pub line_is : bytes ≡ row_line (front ++ canonical ++ after) [] line
+
+-- the field is refused, and the last field says why
+pub record RefusesRow (R : List EntryParts) (before : ℕ) (line bytes : List ℕ) : Type 0 where
+  pub front : List ℕ
+  pub field : List ℕ
+  pub after : List ℕ
+  pub at : HasField before (content_of line) front field after
+  pub refusal : TextRefusal
+  pub is_refusal : IsTextRefusal R field refusal
+  pub told : List ℕ
+  pub is_told : IsTold refusal told
+  pub line_is : bytes ≡ row_line (content_of line) told line
+
+-- there is no such field, and the last field says so
+pub record LacksField (before : ℕ) (line bytes : List ℕ) : Type 0 where
+  pub fewer : HasFewer before (content_of line)
+  pub line_is : bytes ≡ row_line (content_of line) (codes "NoColumn") line
+
+-- the line that is owed for a row; want of memory aside
+abbrev pub IsRowReply : List EntryParts → ℕ → List ℕ → Reply → Type 0
+IsRowReply R before line r =
+    (AnswersRow R before line r.bytes × (r.refused ≡ false))
+    ⊎ ((RefusesRow R before line r.bytes ⊎ LacksField before line r.bytes) × (r.refused ≡ true))
+
+-- ---- lines
+
+-- what is owed for a line; a carriage return that ends a tag is no part of it
+abbrev pub IsReplyIn : List EntryParts → LineForm → List ℕ → Reply → Type 0
+IsReplyIn R forms.Tag line r = IsTextReply R (content_of line) r
+IsReplyIn R (forms.Row before) line r = IsRowReply R before line r
+
+abbrev pub IsReplyTo : Terms → List ℕ → Reply → Type 0
+IsReplyTo T line r = IsReplyIn T.entries T.form line r
+
+-- an answer is owed for each line, in order
+abbrev pub AreReplies : Terms → List (List ℕ) → List Reply → Type 0
+AreReplies T [] [] = Unit {0}
+AreReplies T [] (r ∷ more) = ⊥
+AreReplies T (line ∷ lines) [] = ⊥
+AreReplies T (line ∷ lines) (r ∷ more) = IsReplyTo T line r × AreReplies T lines more
+
+-- the bytes of answers
+abbrev pub bytes_in : List Reply → List ℕ
+bytes_in [] = []
+bytes_in (r ∷ replies) = r.bytes ++ bytes_in replies
+
+-- how many of them refuse what they answer
+abbrev pub refused_in : List Reply → ℕ
+refused_in replies = count_by (λ r. r.refused) replies
 
 -- no line feed
 abbrev pub IsOneLine : List ℕ → Type 0
@@ -65,30 +132,30 @@ ended [] = []
 ended (line ∷ lines) = line ++ 10 ∷ ended lines
 
 -- all that is owed for the bytes was written, and counted
-pub record IsOwed (R : List EntryParts) (bytes written : List ℕ) (counts : Counts) : Type 0 where
-  pub owed : List (List ℕ)
-  pub each : AreOwed R (lines_of bytes) owed
-  pub all : written ≡ concat owed
+pub record IsOwed (T : Terms) (bytes written : List ℕ) (counts : Counts) : Type 0 where
+  pub owed : List Reply
+  pub each : AreReplies T (lines_of bytes) owed
+  pub all : written ≡ bytes_in owed
   pub lines : counts.lines ≡ length owed
-  pub refused : counts.refused ≡ count_by is_refusal owed
+  pub refused : counts.refused ≡ refused_in owed
 
 -- what was written is what is owed for the bytes up to their last line feed
-pub record IsOwedToLastFeed (R : List EntryParts) (bytes written : List ℕ) : Type 0 where
+pub record IsOwedToLastFeed (T : Terms) (bytes written : List ℕ) : Type 0 where
   pub lines : List (List ℕ)
   pub last : List ℕ
   pub cut : bytes ≡ ended lines ++ last
   pub each_one : AllByRecursion IsOneLine lines
   pub last_one : IsOneLine last
-  pub owed : List (List ℕ)
-  pub each : AreOwed R lines owed
-  pub all : written ≡ concat owed
+  pub owed : List Reply
+  pub each : AreReplies T lines owed
+  pub all : written ≡ bytes_in owed
 
 -- what was written is a front of what is owed for the first lines of the bytes
-pub record IsBegun (R : List EntryParts) (bytes written : List ℕ) : Type 0 where
+pub record IsBegun (T : Terms) (bytes written : List ℕ) : Type 0 where
   pub lines : List (List ℕ)
   pub others : List (List ℕ)
   pub cut : lines_of bytes ≡ lines ++ others
-  pub owed : List (List ℕ)
-  pub each : AreOwed R lines owed
+  pub owed : List Reply
+  pub each : AreReplies T lines owed
   pub rest : List ℕ
-  pub front : concat owed ≡ written ++ rest
+  pub front : bytes_in owed ≡ written ++ rest

@@ -4,8 +4,7 @@ use Rattle.std.specs.Io.KnownBytes.{Appends, Consumes, IsAtEnd}
 use Rattle.lt_jar.specs.Devices.{HasFailed, after_reads, failures_of, inner_of, last_given_of, reads_of}
 use Rattle.lt_jar.specs.Sources.{most_reads}
 use Rattle.lt_jar.specs.declared.devices.Device.{Device}
-use Rattle.lt_registry.specs.Parts.{EntryParts}
-use Rattle.lt_lines.specs.Owed.{IsBegun, IsOwed, IsOwedToLastFeed}
+use Rattle.lt_lines.specs.Owed.{IsBegun, IsOwed, IsOwedToLastFeed, Terms}
 use Rattle.lt_lines.specs.declared.faults.ToolFault.{ToolFault}
 use Rattle.lt_lines.specs.declared.faults.ToolFault.TheVariants as faults
 use Rattle.lt_lines.specs.declared.runs.Counts.{Counts}
@@ -15,43 +14,43 @@ abbrev pub HasRead : {T : Type 0} → Device T → Device T → ℕ → Type 0
 HasRead before after reads = reads_of after ≡ after_reads (reads_of before) reads
 
 -- the reader was read to its end, and all that is owed was written
-pub record IsDone {I : Type 0} (R : List EntryParts) (remaining : I → Option (List ℕ)) (input' : Device I)
+pub record IsDone {I : Type 0} (T : Terms) (remaining : I → Option (List ℕ)) (input' : Device I)
     (read written : List ℕ) (counts : Counts) : Type 0 where
   pub end : IsAtEnd (remaining (inner_of input'))
-  pub owed : IsOwed R read written counts
+  pub owed : IsOwed T read written counts
 
 -- the reader failed, and what is owed up to the last line feed was written
-pub record IsStoppedByRead {I : Type 0} (R : List EntryParts) (input input' : Device I) (read written : List ℕ) : Type 0 where
+pub record IsStoppedByRead {I : Type 0} (T : Terms) (input input' : Device I) (read written : List ℕ) : Type 0 where
   pub failed : HasFailed input input'
-  pub owed : IsOwedToLastFeed R read written
+  pub owed : IsOwedToLastFeed T read written
 
 -- the most reads were made, the last of them gave bytes, and what is owed up to the last line feed was written
-pub record IsStoppedByTurns {I : Type 0} (R : List EntryParts) (input' : Device I) (reads : ℕ) (read written : List ℕ) : Type 0 where
+pub record IsStoppedByTurns {I : Type 0} (T : Terms) (input' : Device I) (reads : ℕ) (read written : List ℕ) : Type 0 where
   pub all_made : reads ≡ most_reads
   pub gave_bytes : most_reads ≤ length read
   pub last_gave : 0 < last_given_of input'
-  pub owed : IsOwedToLastFeed R read written
+  pub owed : IsOwedToLastFeed T read written
 
 -- how the run ended
-abbrev pub EndsAs : {I O : Type 0} → List EntryParts → (I → Option (List ℕ)) → (input input' : Device I) → (output output' : Device O)
+abbrev pub EndsAs : {I O : Type 0} → Terms → (I → Option (List ℕ)) → (input input' : Device I) → (output output' : Device O)
     → ℕ → (read written : List ℕ) → Result Counts ToolFault → Type 0
-EndsAs R remaining input input' output output' reads read written (Ok counts) = IsDone R remaining input' read written counts
-EndsAs R remaining input input' output output' reads read written (Err faults.Read) = IsStoppedByRead R input input' read written
-EndsAs R remaining input input' output output' reads read written (Err faults.TooManyTurns) = IsStoppedByTurns R input' reads read written
-EndsAs R remaining input input' output output' reads read written (Err faults.Write) = HasFailed output output'
-EndsAs R remaining input input' output output' reads read written (Err faults.OutOfMemory) = Unit {0}
+EndsAs T remaining input input' output output' reads read written (Ok counts) = IsDone T remaining input' read written counts
+EndsAs T remaining input input' output output' reads read written (Err faults.Read) = IsStoppedByRead T input input' read written
+EndsAs T remaining input input' output output' reads read written (Err faults.TooManyTurns) = IsStoppedByTurns T input' reads read written
+EndsAs T remaining input input' output output' reads read written (Err faults.Write) = HasFailed output output'
+EndsAs T remaining input input' output output' reads read written (Err faults.OutOfMemory) = Unit {0}
 
 -- A run over the lines of a reader. Whatever ended it, what was written is a front of what is owed.
-pub record RunsLines {I O : Type 0} (R : List EntryParts) (remaining : I → Option (List ℕ)) (contents : O → Option (List ℕ))
+pub record RunsLines {I O : Type 0} (T : Terms) (remaining : I → Option (List ℕ)) (contents : O → Option (List ℕ))
     (input input' : Device I) (output output' : Device O) (result : Result Counts ToolFault) : Type 0 where
   pub read : List ℕ
   pub written : List ℕ
   pub reads : ℕ
   pub consumes : Consumes (remaining (inner_of input)) (remaining (inner_of input')) read
   pub appends : Appends (contents (inner_of output)) (contents (inner_of output')) written
-  pub begun : IsBegun R read written
+  pub begun : IsBegun T read written
   pub calls : HasRead input input' reads
   pub bounded : reads ≤ most_reads
-  pub ends : EndsAs R remaining input input' output output' reads read written result
+  pub ends : EndsAs T remaining input input' output output' reads read written result
   pub read_rises : failures_of input < failures_of input' → result ≡ Err faults.Read
   pub write_rises : failures_of output < failures_of output' → result ≡ Err faults.Write

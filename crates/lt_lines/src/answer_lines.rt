@@ -1,36 +1,35 @@
 //! The line that is owed for a text.
-ghost use Rattle.std.specs.Prelude.{◌≡◌, ◌++◌, IfOk, OnOk, string_bytes};
+ghost use Rattle.std.specs.Prelude.{◌≡◌, ◌++◌, IfOk, OnOk};
+ghost use Rattle.std.specs.Fmt.{decimal};
 ghost use Rattle.lt_jar.specs.Lines.{content_of};
-ghost use Rattle.lt_lines.specs.Answering.{AppendsOwed, AppendsRefusal};
-ghost use Rattle.lt_lines.specs.Owed.{refusal_line, repeat_line};
+ghost use Rattle.lt_lines.specs.Answering.{AppendsTextReply};
+ghost use Rattle.lt_lines.specs.Refusals.{AppendsRefusal, AppendsTold};
 
 use itoa::Buffer;
 use lt_canon::{Checked, TextRefusal, append_canonical_text};
 use lt_registry::Lookup;
-use lt_subtag::Subtag;
 use lt_tag::OutOfMemory;
 use std::alloc::{AllocError, Global};
 
-/// Appends the line of a fault: its name and its place.
-fn append_fault(lines: &mut Vec<u8>, name: &str, place: u32) -> Result<(), AllocError>
-    ensures { OnOk result (lines.new.items ≡ lines.old.items ++ refusal_line name.now place) }
+/// Appends a number.
+fn append_number(lines: &mut Vec<u8>, number: u32) -> Result<(), AllocError>
+    ensures { OnOk result (lines.new.items ≡ lines.old.items ++ decimal number) }
 {
-    let mut digits = Buffer::new();
-    lines.extend_from_slice(b"! ")?;
-    lines.extend_from_slice(name.as_bytes())?;
-    lines.push(b' ')?;
-    lines.extend_from_slice(digits.format(place).as_bytes())?;
-    lines.push(b'\n')?;
-    Ok(())
+    lines.extend_from_slice(Buffer::new().format(number).as_bytes())
 }
 
-/// Appends the line of a variant that steps can repeat.
-fn append_repeat(lines: &mut Vec<u8>, variant: &Subtag) -> Result<(), AllocError>
-    ensures { OnOk result (lines.new.items ≡ lines.old.items ++ repeat_line variant.now) }
+/// Appends the name of a refusal, a space, and the place of the fault or the variant that steps can repeat.
+pub(crate) fn append_told(lines: &mut Vec<u8>, refusal: &TextRefusal) -> Result<(), OutOfMemory>
+    ensures { OnOk result (AppendsTold refusal.now lines.old.items lines.new.items) }
 {
-    lines.extend_from_slice(b"! ReplacementRepeats ")?;
-    lines.extend_from_slice(variant.bytes())?;
-    lines.push(b'\n')?;
+    lines.extend_from_slice(refusal.name().as_bytes())?;
+    lines.push(b' ')?;
+    match refusal {
+        TextRefusal::NotATag(fault) => append_number(lines, fault.place)?,
+        TextRefusal::Invalid(fault) => append_number(lines, fault.place)?,
+        TextRefusal::ReplacementRepeats(variant) => lines.extend_from_slice(variant.bytes())?,
+        TextRefusal::OutOfMemory => return Err(OutOfMemory),
+    }
     Ok(())
 }
 
@@ -38,17 +37,14 @@ fn append_repeat(lines: &mut Vec<u8>, variant: &Subtag) -> Result<(), AllocError
 pub fn append_refusal(lines: &mut Vec<u8>, refusal: &TextRefusal) -> Result<(), OutOfMemory>
     ensures { OnOk result (AppendsRefusal refusal.now lines.old.items lines.new.items) }
 {
-    match refusal {
-        TextRefusal::NotATag(fault) => append_fault(lines, fault.kind.name(), fault.place)?,
-        TextRefusal::Invalid(fault) => append_fault(lines, fault.kind.name(), fault.place)?,
-        TextRefusal::ReplacementRepeats(variant) => append_repeat(lines, variant)?,
-        TextRefusal::OutOfMemory => return Err(OutOfMemory),
-    }
+    lines.extend_from_slice(b"! ")?;
+    append_told(lines, refusal)?;
+    lines.push(b'\n')?;
     Ok(())
 }
 
 /// The line without the carriage return that may end it.
-fn without_return(line: &[u8]) -> &[u8]
+pub(crate) fn without_return(line: &[u8]) -> &[u8]
     ensures { result.now ≡ content_of line.now }
 {
     match line.last() {
@@ -57,16 +53,16 @@ fn without_return(line: &[u8]) -> &[u8]
     }
 }
 
-/// Appends what is owed for a line, and tells whether its text was refused.
+/// Appends what is owed for a text, and tells whether it was refused.
 pub(crate) fn append_answer<L: Lookup>(
     lines: &mut Vec<u8>,
     alloc: Global,
     checked: &Checked<L>,
-    line: &[u8],
+    text: &[u8],
 ) -> Result<bool, OutOfMemory>
-    ensures { IfOk result (AppendsOwed (L.listed checked.now) (λ text. text ≡ content_of line.now) lines.old.items lines.new.items) }
+    ensures { IfOk result (AppendsTextReply (L.listed checked.now) text.now lines.old.items lines.new.items) }
 {
-    match append_canonical_text(alloc, checked, without_return(line), lines) {
+    match append_canonical_text(alloc, checked, text, lines) {
         Ok(()) => {
             lines.push(b'\n')?;
             Ok(false)

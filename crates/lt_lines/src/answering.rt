@@ -1,26 +1,27 @@
 //! Answering lines that come in pieces.
-ghost use Rattle.std.specs.Prelude.{◌≡◌, ◌<◌, ◌≤◌, ◌+◌, ◌-◌, ◌++◌, ◌∷◌, ◌^◌, List, ℕ, [], IfOk, OnOk, length, take, vec_len};
-ghost use Rattle.lt_jar.specs.Lines.{content_of};
+ghost use Rattle.std.specs.Prelude.{◌≡◌, ◌<◌, ◌≤◌, ◌+◌, ◌++◌, ◌∷◌, ◌^◌, List, ℕ, [], IfOk, OnOk, length, vec_len};
 ghost use Rattle.lt_recent.specs.Recent.{IsBlank};
-ghost use Rattle.lt_lines.specs.Owed.{IsOneLine, IsOwedFor};
+ghost use Rattle.lt_lines.specs.Owed.{IsOneLine, terms};
 ghost use Rattle.lt_lines.specs.Answering as spec;
 
-use crate::answer_lines::append_answer;
+use crate::answer_lines::without_return;
+use crate::answer_rows::append_row;
 use crate::device_output::write_text;
 use crate::faults::ToolFault;
+use crate::forms::LineForm;
 use crate::recent_answers::append_again;
 use crate::runs::Counts;
+use crate::splitting::split_first;
 use lt_canon::Checked;
 use lt_jar::Device;
 use lt_recent::Recent;
 use lt_registry::Lookup;
 use lt_tag::OutOfMemory;
-use memchr::memchr;
 use std::alloc::{AllocError, Global};
 use std::io::Write;
 
-/// The most bytes that are kept of a line. A longer line is too long, whatever follows: 1,025 bytes and a carriage
-/// return.
+/// The most bytes that are kept of a line that is a tag. A longer one is too long, whatever follows: 1,025 bytes and a
+/// carriage return.
 const LONGEST_KEPT: usize = 1026;
 
 /// Lines are written once so many bytes of them are owed, if no read comes before.
@@ -38,43 +39,57 @@ pub(crate) struct Answering {
     recent: Recent,
 }
 
-/// What stands before the first line feed and behind it, if there is one.
-fn split_line(bytes: &[u8]) -> Option<(&[u8], &[u8])>
-    ensures { spec.SplitsLine bytes.now result }
+/// Keeps more of a line, as far as it is needed.
+fn keep(form: LineForm, kept: &mut Vec<u8>, part: &[u8]) -> Result<(), AllocError>
+    ensures { OnOk result (kept.new.items ≡ kept.old.items ++ spec.part_kept form (vec_len kept.old) part.now) }
 {
-    match memchr(b'\n', bytes) {
-        Some(index) => Some((&bytes[..index], &bytes[index + 1..])),
-        None => None,
+    match form {
+        LineForm::Tag => {
+            let room = LONGEST_KEPT.saturating_sub(kept.len());
+            kept.extend_from_slice(&part[..part.len().min(room)])
+        }
+        LineForm::Row(_) => kept.extend_from_slice(part),
     }
 }
 
-/// Keeps more of a line, as far as it is needed.
-fn keep(kept: &mut Vec<u8>, part: &[u8]) -> Result<(), AllocError>
-    ensures { OnOk result (kept.new.items ≡ kept.old.items ++ take (spec.longest_kept - vec_len kept.old) part.now) }
+/// Appends what is owed for a line, and tells whether it was refused.
+fn append_reply<L: Lookup>(
+    lines: &mut Vec<u8>,
+    alloc: Global,
+    checked: &Checked<L>,
+    form: LineForm,
+    recent: &mut Recent,
+    line: &[u8],
+) -> Result<bool, OutOfMemory>
+    ensures owed { IfOk result (λ refused. spec.AreRecent (terms (L.listed checked.now) form) recent.old
+        → spec.AppendsReply (terms (L.listed checked.now) form) line.now lines.old.items lines.new.items refused) }
+    ensures recent { OnOk result (spec.AreRecent (terms (L.listed checked.now) form) recent.old → spec.AreRecent (terms (L.listed checked.now) form) recent.new) }
 {
-    let room = LONGEST_KEPT.saturating_sub(kept.len());
-    kept.extend_from_slice(&part[..part.len().min(room)])
+    match form {
+        LineForm::Tag => append_again(lines, alloc, checked, recent, without_return(line)),
+        LineForm::Row(before) => append_row(lines, alloc, checked, before, recent, line),
+    }
 }
 
-/// Appends what is owed for the line that is kept and goes on so, and tells whether its text was refused.
+/// Appends what is owed for the line that is kept and goes on so, and tells whether it was refused.
 fn append_line<L: Lookup>(
     lines: &mut Vec<u8>,
     alloc: Global,
     checked: &Checked<L>,
+    form: LineForm,
     recent: &mut Recent,
     kept: &mut Vec<u8>,
     part: &[u8],
 ) -> Result<bool, OutOfMemory>
-    ensures owed { IfOk result (λ refused. spec.AreRecent (L.listed checked.now) recent.old → spec.AppendsOwed (L.listed checked.now)
-        (λ text. (last : List ℕ) × (kept.old.items ≡ take spec.longest_kept last) × (text ≡ content_of (last ++ part.now)))
-        lines.old.items lines.new.items refused) }
-    ensures recent { OnOk result (spec.AreRecent (L.listed checked.now) recent.old → spec.AreRecent (L.listed checked.now) recent.new) }
+    ensures owed { IfOk result (λ refused. spec.AreRecent (terms (L.listed checked.now) form) recent.old
+        → spec.AppendsLine (terms (L.listed checked.now) form) kept.old.items part.now lines.old.items lines.new.items refused) }
+    ensures recent { OnOk result (spec.AreRecent (terms (L.listed checked.now) form) recent.old → spec.AreRecent (terms (L.listed checked.now) form) recent.new) }
 {
     if kept.is_empty() {
-        return append_again(lines, alloc, checked, recent, part);
+        return append_reply(lines, alloc, checked, form, recent, part);
     }
-    keep(kept, part)?;
-    append_answer(lines, alloc, checked, kept)
+    keep(form, kept, part)?;
+    append_reply(lines, alloc, checked, form, recent, kept)
 }
 
 impl Answering {
@@ -100,11 +115,12 @@ impl Answering {
         &mut self,
         alloc: Global,
         checked: &Checked<L>,
+        form: LineForm,
         part: &[u8],
     ) -> Result<(), OutOfMemory>
         requires { spec.HasRoom self.old 1 }
-        ensures taken { OnOk result ((bytes out : List ℕ) → IsOneLine part.now → spec.IsTaken (L.listed checked.now) bytes out self.old
-            → spec.IsTaken (L.listed checked.now) (bytes ++ (part.now ++ 10 ∷ [])) out self.new) }
+        ensures taken { OnOk result ((bytes out : List ℕ) → IsOneLine part.now → spec.IsTaken (terms (L.listed checked.now) form) bytes out self.old
+            → spec.IsTaken (terms (L.listed checked.now) form) (bytes ++ (part.now ++ 10 ∷ [])) out self.new) }
         ensures kept { OnOk result (self.new.kept.items ≡ []) }
         ensures counted { OnOk result ((self.new.counts.lines ≡ self.old.counts.lines + 1) × (self.new.counts.refused ≤ self.new.counts.lines)) }
     {
@@ -112,6 +128,7 @@ impl Answering {
             &mut self.owed,
             alloc,
             checked,
+            form,
             &mut self.recent,
             &mut self.kept,
             part,
@@ -147,19 +164,20 @@ impl Answering {
         &mut self,
         alloc: Global,
         checked: &Checked<L>,
+        form: LineForm,
         piece: &[u8],
         output: &mut Device<W>,
     ) -> Result<(), ToolFault>
         requires { spec.HasRoom self.old (length piece.now) }
-        ensures { spec.TakesPiece (L.listed checked.now) W.contents piece.now self.old self.new output.old output.new result }
+        ensures { spec.TakesPiece (terms (L.listed checked.now) form) W.contents piece.now self.old self.new output.old output.new result }
     {
         let mut rest = piece;
-        while let Some((line, after)) = split_line(rest) {
-            self.end_line(alloc, checked, line)?;
+        while let Some((line, after)) = split_first(b'\n', rest) {
+            self.end_line(alloc, checked, form, line)?;
             self.write_much(output)?;
             rest = after;
         }
-        keep(&mut self.kept, rest)?;
+        keep(form, &mut self.kept, rest)?;
         self.write(output)
     }
 
@@ -168,15 +186,16 @@ impl Answering {
         &mut self,
         alloc: Global,
         checked: &Checked<L>,
+        form: LineForm,
     ) -> Result<(), OutOfMemory>
         requires { spec.HasRoom self.old 1 }
-        ensures { OnOk result ((bytes out : List ℕ) → spec.IsTaken (L.listed checked.now) bytes out self.old
-            → spec.IsAnswered (L.listed checked.now) bytes out self.new) }
+        ensures { OnOk result ((bytes out : List ℕ) → spec.IsTaken (terms (L.listed checked.now) form) bytes out self.old
+            → spec.IsAnswered (terms (L.listed checked.now) form) bytes out self.new) }
     {
         if self.kept.is_empty() {
             return Ok(());
         }
-        self.end_line(alloc, checked, &[])
+        self.end_line(alloc, checked, form, &[])
     }
 
     /// Ends the lines, and writes what is owed.
@@ -184,12 +203,13 @@ impl Answering {
         &mut self,
         alloc: Global,
         checked: &Checked<L>,
+        form: LineForm,
         output: &mut Device<W>,
     ) -> Result<Counts, ToolFault>
         requires { spec.HasRoom self.old 1 }
-        ensures { spec.FinishesLines (L.listed checked.now) W.contents self.old output.old output.new result }
+        ensures { spec.FinishesLines (terms (L.listed checked.now) form) W.contents self.old output.old output.new result }
     {
-        self.end_last(alloc, checked)?;
+        self.end_last(alloc, checked, form)?;
         self.write(output)?;
         Ok(self.counts)
     }

@@ -1,14 +1,20 @@
-//! Answers to the lines of a reader: the canonical text of each, or why it is refused.
+//! Answers to the lines of a reader, each a tag or a row with a tag in one field: the canonical text, or why it is refused.
 #![tactic(auto)]
 
 mod answer_lines;
+mod answer_rows;
 mod answering;
 mod device_output;
 mod faults;
+mod forms;
 mod recent_answers;
+mod rows;
 mod runs;
+mod splitting;
 
 pub use answer_lines::append_refusal;
 pub use device_output::write_text;
 pub use faults::ToolFault;
+pub use forms::LineForm;
 pub use runs::{Counts, run_lines};
+pub use splitting::split_first;

@@ -1,34 +1,66 @@
 //! Answers that were given lately, which are given again.
-ghost use Rattle.std.specs.Prelude.{◌≡◌, IfOk, OnOk};
-ghost use Rattle.lt_jar.specs.Lines.{content_of};
-ghost use Rattle.lt_lines.specs.Answering.{AppendsOwed, AreRecent};
+ghost use Rattle.std.specs.Prelude.{IfOk, OnOk};
+ghost use Rattle.lt_lines.specs.Answering.{AppendsTextReply, AreRecent, FieldReply};
+ghost use Rattle.lt_lines.specs.Owed.{terms};
 
 use crate::answer_lines::append_answer;
-use lt_canon::Checked;
+use crate::forms::LineForm;
+use lt_canon::{Checked, TextRefusal, append_canonical_text};
 use lt_recent::Recent;
 use lt_registry::Lookup;
 use lt_tag::OutOfMemory;
 use std::alloc::Global;
 
-/// Appends what is owed for a line, and tells whether its text was refused. An answer that was given lately is not
-/// worked out again.
+/// Appends what is owed for a text, and tells whether it was refused. An answer that was given lately is not worked out
+/// again.
 pub(crate) fn append_again<L: Lookup>(
     lines: &mut Vec<u8>,
     alloc: Global,
     checked: &Checked<L>,
     recent: &mut Recent,
-    line: &[u8],
+    text: &[u8],
 ) -> Result<bool, OutOfMemory>
-    ensures owed { IfOk result (λ refused. AreRecent (L.listed checked.now) recent.old
-        → AppendsOwed (L.listed checked.now) (λ text. text ≡ content_of line.now) lines.old.items lines.new.items refused) }
-    ensures recent { OnOk result (AreRecent (L.listed checked.now) recent.old → AreRecent (L.listed checked.now) recent.new) }
+    ensures owed { IfOk result (λ refused. AreRecent (terms (L.listed checked.now) LineForm.Tag) recent.old
+        → AppendsTextReply (L.listed checked.now) text.now lines.old.items lines.new.items refused) }
+    ensures recent { OnOk result (AreRecent (terms (L.listed checked.now) LineForm.Tag) recent.old
+        → AreRecent (terms (L.listed checked.now) LineForm.Tag) recent.new) }
 {
-    if let Some(found) = recent.find(line, line.len()) {
+    if let Some(found) = recent.find(text, text.len()) {
         found.answer.append_to(lines)?;
         return Ok(found.refused);
     }
     let start = lines.len();
-    let refused = append_answer(lines, alloc, checked, line)?;
-    recent.put(line, &lines[start..], refused);
+    let refused = append_answer(lines, alloc, checked, text)?;
+    recent.put(text, &lines[start..], refused);
     Ok(refused)
+}
+
+/// Appends the canonical text of a field, or tells why it is refused. A canonical text that was found lately is not
+/// worked out again.
+pub(crate) fn append_field<L: Lookup>(
+    lines: &mut Vec<u8>,
+    alloc: Global,
+    checked: &Checked<L>,
+    before: usize,
+    recent: &mut Recent,
+    field: &[u8],
+) -> Result<Option<TextRefusal>, OutOfMemory>
+    ensures owed { IfOk result (λ refusal. AreRecent (terms (L.listed checked.now) (LineForm.Row before)) recent.old
+        → FieldReply (L.listed checked.now) field.now lines.old.items lines.new.items refusal) }
+    ensures recent { OnOk result (AreRecent (terms (L.listed checked.now) (LineForm.Row before)) recent.old
+        → AreRecent (terms (L.listed checked.now) (LineForm.Row before)) recent.new) }
+{
+    if let Some(found) = recent.find(field, field.len()) {
+        found.answer.append_to(lines)?;
+        return Ok(None);
+    }
+    let start = lines.len();
+    match append_canonical_text(alloc, checked, field, lines) {
+        Ok(()) => {
+            recent.put(field, &lines[start..], false);
+            Ok(None)
+        }
+        Err(TextRefusal::OutOfMemory) => Err(OutOfMemory),
+        Err(refusal) => Ok(Some(refusal)),
+    }
 }

@@ -1,10 +1,12 @@
 //! Runs over the lines of a reader.
 ghost use Rattle.std.specs.Prelude.{◌≡◌, ◌<◌, ◌+◌, ◌^◌};
 ghost use Rattle.lt_lines.specs.Answering.{one_if};
+ghost use Rattle.lt_lines.specs.Owed.{terms};
 ghost use Rattle.lt_lines.specs.Running.{RunsLines};
 
 use crate::answering::Answering;
 use crate::faults::ToolFault;
+use crate::forms::LineForm;
 use lt_canon::Checked;
 use lt_jar::Device;
 use lt_registry::Lookup;
@@ -22,7 +24,7 @@ const PIECE: usize = 65536;
 pub struct Counts {
     /// The lines that were answered.
     pub lines: u64,
-    /// Those of them whose text was refused.
+    /// Those of them of which the tag was refused, or was not there.
     pub refused: u64,
 }
 
@@ -40,11 +42,12 @@ impl Counts {
     }
 }
 
-/// Answers each line of a reader by one line, in order, each ended by a line feed: by the canonical text, or by `! `,
-/// the name of the fault and its place, or by `! ReplacementRepeats ` and the variant in lower case.
+/// Answers each line of a reader by one line, in order, each ended by a line feed, as its form says: a tag by its
+/// canonical text, or by `! `, the name of the fault and its place, or by `! ReplacementRepeats ` and the variant in lower
+/// case.
 ///
-/// A line feed ends a line, and what follows the last one is a line if it is anything; a carriage return that ends a
-/// line is no part of its text. What is owed for the lines of the bytes that were read is written before the next read.
+/// A line feed ends a line, and what follows the last one is a line if it is anything. What is owed for the lines of the
+/// bytes that were read is written before the next read. A row is kept whole until it is answered.
 ///
 /// - `Read`, if a read fails: what is owed for each line whose line feed was read has been written.
 /// - `TooManyTurns`, if all 10,000,000 reads were made and the last gave bytes: the same has been written.
@@ -52,17 +55,18 @@ impl Counts {
 pub fn run_lines<L: Lookup, R: Read, W: Write>(
     alloc: Global,
     checked: &Checked<L>,
+    form: LineForm,
     input: &mut Device<R>,
     output: &mut Device<W>,
 ) -> Result<Counts, ToolFault>
-    ensures { RunsLines (L.listed checked.now) R.remaining W.contents input.old input.new output.old output.new result }
+    ensures { RunsLines (terms (L.listed checked.now) form) R.remaining W.contents input.old input.new output.old output.new result }
 {
     let mut buffer = vec![in alloc; 0u8; PIECE]?;
     let mut answering = Answering::new(alloc);
     for _turn in 0..MOST_READS {
         match input.read(&mut buffer) {
-            Ok(0) => return answering.finish(alloc, checked, output),
-            Ok(count) => answering.take_piece(alloc, checked, &buffer[..count], output)?,
+            Ok(0) => return answering.finish(alloc, checked, form, output),
+            Ok(count) => { answering.take_piece(alloc, checked, form, &buffer[..count], output)? }
             Err(_) => return Err(ToolFault::Read),
         }
     }

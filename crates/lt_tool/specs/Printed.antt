@@ -1,18 +1,21 @@
 -- What the program prints, and how it ends.
-use Rattle.std.specs.Prelude.{◌≡◌, ◌⊎◌, ℕ, List, [], ◌∷◌, ◌++◌, ◌==◌, if◌then◌else◌, Result, Ok, Err, codes, string_bytes}
-use Rattle.std.specs.Fmt.{decimal}
+use Rattle.std.specs.Prelude.{◌≡◌, ◌⊎◌, ◌-◌, ℕ, List, [], ◌∷◌, ◌++◌, ◌==◌, if◌then◌else◌, Result, Ok, Err, codes, string_bytes}
 use Rattle.lt_tag.specs.Classes.{class_of}
 use Rattle.lt_tag.specs.Conventional.{conventional}
 use Rattle.lt_tag.specs.Faults.{HasFault, HasTag}
-use Rattle.lt_tag.specs.Names.{name_of}
 use Rattle.lt_tag.specs.Parts.{TagForm}
 use Rattle.lt_tag.specs.WellFormed.{spell}
 use Rattle.lt_tag.specs.declared.faults.TagFault.{TagFault}
 use Rattle.lt_tag.specs.declared.tags.Class.{Class}
 use Rattle.lt_tag.specs.declared.tags.Class.TheVariants as classes
 use Rattle.lt_registry.specs.Parts.{EntryParts}
+use Rattle.lt_canon.specs.declared.refusals.TextRefusal.TheVariants as refusals
 use Rattle.lt_lines.specs.Faults.{fault_said}
+use Rattle.lt_lines.specs.Refusals.{IsRefusalLine}
+use Rattle.lt_lines.specs.Owed.{terms}
 use Rattle.lt_lines.specs.Running.{RunsLines}
+use Rattle.lt_lines.specs.declared.forms.LineForm.{LineForm}
+use Rattle.lt_lines.specs.declared.forms.LineForm.TheVariants as forms
 use Rattle.lt_lines.specs.declared.faults.ToolFault.{ToolFault}
 use Rattle.lt_lines.specs.declared.runs.Counts.{Counts}
 use Rattle.lt_words.specs.declared.commands.Command.{Command}
@@ -41,14 +44,10 @@ class_word classes.Grandfathered = codes "grandfathered"
 abbrev pub class_line : TagForm → List ℕ
 class_line form = class_word (class_of form) ++ 32 ∷ [] ++ conventional (spell form) ++ 10 ∷ []
 
--- the name of a fault and its place, ended by a line feed
-abbrev pub fault_line : TagFault → List ℕ
-fault_line f = codes "! " ++ name_of f.kind ++ 32 ∷ [] ++ decimal f.place ++ 10 ∷ []
-
 -- what `classify` prints for a text, and how it ends
 abbrev pub Classifies : List ℕ → List ℕ → Status → Type 0
 Classifies text line status.Done = (form : TagForm) × HasTag text form × (line ≡ class_line form)
-Classifies text line status.Refused = (f : TagFault) × HasFault text f.kind f.place × (line ≡ fault_line f)
+Classifies text line status.Refused = (f : TagFault) × HasFault text f.kind f.place × IsRefusalLine (refusals.NotATag f) line
 Classifies text line status.RegistryRefused = ⊥
 Classifies text line status.Usage = ⊥
 Classifies text line status.Failed = ⊥
@@ -77,18 +76,18 @@ EndsRun errors (Ok counts) result =
 EndsRun errors (Err fault) result = Says errors (fault_said fault) × (result ≡ code_of status.Failed)
 
 -- the lines of the input were answered by the registry of the file
-pub record RunsCanon {I O E : Type 0} (reading : Reading) (input : Stream I) (output : Stream O) (errors : Stream E) (result : ℕ) : Type 0 where
+pub record RunsCanon {I O E : Type 0} (form : LineForm) (reading : Reading) (input : Stream I) (output : Stream O) (errors : Stream E) (result : ℕ) : Type 0 where
   pub entries : List EntryParts
   pub registry : HoldsRegistry reading entries
   pub end : Result Counts ToolFault
-  pub runs : RunsLines entries input.bytes output.bytes input.before input.after output.before output.after end
+  pub runs : RunsLines (terms entries form) input.bytes output.bytes input.before input.after output.before output.after end
   pub ends : EndsRun errors end result
 
--- what a run of `canon` wrote, by what the reading of the file gave
-abbrev pub Canonicalises : {I O E : Type 0} → Stream I → Stream O → Stream E → ℕ → Reading → Type 0
-Canonicalises input output errors result reading =
+-- what a run wrote that answers lines, by what the reading of the file gave
+abbrev pub Canonicalises : {I O E : Type 0} → LineForm → Stream I → Stream O → Stream E → ℕ → Reading → Type 0
+Canonicalises form input output errors result reading =
     (IsUntouched input × PrintsOrLacks (RefusesRegistry reading) output errors result)
-    ⊎ RunsCanon reading input output errors result
+    ⊎ RunsCanon form reading input output errors result
 
 -- a run that by what the reading of a file gave prints a line of which this holds
 abbrev pub PrintsByFile : {F O E : Type 0} → (Reading → List ℕ → Status → Type 0) → Stream F → Stream O → Stream E → ℕ → Type 0
@@ -103,7 +102,9 @@ Performs (command.Classify tag) first second input output errors result =
 Performs (command.Check name) first second input output errors result =
     IsUntouched second × IsUntouched input × PrintsByFile Checks first output errors result
 Performs (command.Canon name) first second input output errors result =
-    IsUntouched second × ReadsFile first (Canonicalises input output errors result)
+    IsUntouched second × ReadsFile first (Canonicalises forms.Tag input output errors result)
+Performs (command.Tsv name column) first second input output errors result =
+    IsUntouched second × ReadsFile first (Canonicalises (forms.Row (column - 1)) input output errors result)
 Performs (command.Extlang name tag) first second input output errors result =
     IsUntouched second × IsUntouched input
     × PrintsByFile (ByRegistry (λ R. FormsExtlang R (string_bytes tag))) first output errors result
@@ -125,5 +126,6 @@ pub record SaysUsage {O E : Type 0} (output : Stream O) (errors : Stream E) (tex
 -- what a run whose words ask for no command wrote, and its exit status
 abbrev pub Reports : {O E : Type 0} → WordsFault → Stream O → Stream E → ℕ → Type 0
 Reports (fault.Help text) output errors result = Prints output errors (string_bytes text) status.Done result
+Reports (fault.Version text) output errors result = Prints output errors (string_bytes text) status.Done result
 Reports (fault.Usage text) output errors result = SaysUsage output errors (string_bytes text) result
 Reports fault.OutOfMemory output errors result = LacksMemory output errors result

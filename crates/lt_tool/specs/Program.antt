@@ -36,6 +36,7 @@ NamesCommand (Err error) command = ⊥
 abbrev pub IsProgramFault : GivenWords → WordsFault → Type 0
 IsProgramFault (Ok words) f = IsRefused words f
 IsProgramFault (Err error) (fault.Help text) = ⊥
+IsProgramFault (Err error) (fault.Version text) = ⊥
 IsProgramFault (Err error) (fault.Usage text) = error_kind error ≢ kinds.OutOfMemory
 IsProgramFault (Err error) fault.OutOfMemory = Unit {0}
 
@@ -73,12 +74,20 @@ abbrev pub GoesOn : {F : Type 0} → Result F Error → (Device F → Type 0) �
 GoesOn {F} (Ok file) Goes Ends = (device : Device F) × IsNew file device × Goes device
 GoesOn {F} (Err error) Goes Ends = Ends error
 
--- a file of this name is opened, and then the run goes on so, or ends so, from this state of the opener
-pub record Opens {P F : Type 0} (calls : P → List ℕ → Result F Error → P → Type 0) (before : P) (name : List ℕ)
+-- the file that a name stands for: `-` is the standard input, unless that is read otherwise
+abbrev pub IsPath : (taken : Bool) → (name path : List ℕ) → Type 0
+IsPath taken name path =
+    ((taken ≡ false) × (name ≡ codes "-") × (path ≡ codes "/dev/stdin"))
+    ⊎ (((taken ≡ true) ⊎ (name ≢ codes "-")) × (path ≡ name))
+
+-- the file that a name stands for is opened, and then the run goes on so, or ends so, from this state of the opener
+pub record Opens {P F : Type 0} (calls : P → List ℕ → Result F Error → P → Type 0) (before : P) (taken : Bool) (name : List ℕ)
     (Goes : P → Device F → Type 0) (Ends : P → Error → Type 0) : Type 0 where
+  pub path : List ℕ
+  pub is_path : IsPath taken name path
   pub answer : Result F Error
   pub between : P
-  pub called : calls before name answer between
+  pub called : calls before path answer between
   pub goes_on : GoesOn answer (Goes between) (Ends between)
 
 -- the command is performed on these devices, and nothing more is opened
@@ -100,7 +109,7 @@ abbrev pub RunsOnFirst : {P F N I O E : Type 0} → Command → Opener P F → (
 RunsOnFirst {P} {F} {N} command opener of_none input output errors result first None =
     (none : Device N) × PerformsOn command opener.bytes of_none opener.before opener.after first none input output errors result
 RunsOnFirst command opener of_none input output errors result first (Some name) =
-    Opens opener.calls opener.before name
+    Opens opener.calls opener.before (reads_input_of command) name
     (λ between second. PerformsOn command opener.bytes opener.bytes between opener.after first second input output errors result)
     (λ between error. EndsAt between opener.after input output errors result error)
 
@@ -111,7 +120,7 @@ RunsOnFiles {P} {F} {N} command opener of_none input output errors result None =
     (none : Device N) × (other : Device N)
     × PerformsOn command of_none of_none opener.before opener.after none other input output errors result
 RunsOnFiles command opener of_none input output errors result (Some name) =
-    Opens opener.calls opener.before name
+    Opens opener.calls opener.before (reads_input_of command) name
     (λ between first. RunsOnFirst command (opener_of opener.calls opener.bytes between opener.after) of_none input output errors result
     first (second_file_of command))
     (λ between error. EndsAt between opener.after input output errors result error)

@@ -11,7 +11,8 @@ use Rattle.lt_canon.specs.Texts.{ReadsAs}
 use Rattle.lt_canon.specs.declared.refusals.Refusal.TheVariants as tag_refusals
 use Rattle.lt_canon.specs.declared.refusals.TextRefusal.{TextRefusal}
 use Rattle.lt_canon.specs.declared.refusals.TextRefusal.TheVariants as refusals
-use Rattle.lt_lines.specs.Owed.{IsRefusalLine, RefusesText}
+use Rattle.lt_lines.specs.Owed.{RefusesText}
+use Rattle.lt_lines.specs.Refusals.{IsRefusalLine}
 use Rattle.lt_tool.specs.declared.status.Status.{Status}
 use Rattle.lt_tool.specs.declared.status.Status.TheVariants as status
 

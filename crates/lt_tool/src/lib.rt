@@ -10,11 +10,9 @@ mod status;
 mod tag_commands;
 mod upgrade_command;
 
-pub use lt_lines::{Counts, ToolFault, run_lines};
+pub use lt_lines::{Counts, LineForm, ToolFault, run_lines};
 pub use lt_words::{Command, WordsFault, read_words};
 pub use printing::{perform, report, report_file};
 pub use program::run_program;
 pub use status::Status;
 
-#[cfg(test)]
-mod tests;

@@ -1,9 +1,13 @@
 //! The lines that the program prints.
 ghost use Rattle.std.specs.Prelude.{◌≡◌, IfOk};
-ghost use Rattle.lt_tool.specs.Printed.{class_line, class_word, fault_line, Classifies};
+ghost use Rattle.lt_lines.specs.Refusals.{IsRefusalLine};
+ghost use Rattle.lt_tool.specs.Printed.{class_line, class_word, Classifies};
+ghost use Rattle.lt_tool.specs.declared.status.Status.TheVariants.{Refused};
 
 use crate::status::Status;
-use lt_tag::{Class, OutOfMemory, Tag, TagFault, TagFaultKind, read_tag, write_tag};
+use lt_canon::TextRefusal;
+use lt_lines::append_refusal;
+use lt_tag::{Class, OutOfMemory, Tag, TagFaultKind, read_tag, write_tag};
 use std::alloc::Global;
 
 /// A line, and the status of a run that prints it.
@@ -37,14 +41,17 @@ fn line_of_tag(alloc: Global, tag: &Tag) -> Result<Vec<u8>, OutOfMemory>
     Ok(line)
 }
 
-/// The name of a fault, and its place.
-fn line_of_fault(alloc: Global, fault: TagFault) -> Result<Vec<u8>, OutOfMemory>
-    ensures { IfOk result (λ line. line.items ≡ fault_line fault) }
+/// What is answered where a text is refused.
+pub(crate) fn answer_refusal(alloc: Global, refusal: &TextRefusal) -> Result<Answer, OutOfMemory>
+    ensures line { IfOk result (λ answer. IsRefusalLine refusal.now answer.line.items) }
+    ensures status { IfOk result (λ answer. answer.status ≡ Refused) }
 {
-    let name = fault.kind.name();
-    let place = fault.place;
-    let line = format!(in alloc; "! {name} {place}\n")?;
-    Ok(line.into_bytes())
+    let mut line = Vec::new(alloc);
+    append_refusal(&mut line, refusal)?;
+    Ok(Answer {
+        line,
+        status: Status::Refused,
+    })
 }
 
 /// What `classify` answers to a text.
@@ -57,9 +64,6 @@ pub fn classify(alloc: Global, text: &[u8]) -> Result<Answer, OutOfMemory>
             status: Status::Done,
         }),
         Err(fault) if fault.kind == TagFaultKind::OutOfMemory => Err(OutOfMemory),
-        Err(fault) => Ok(Answer {
-            line: line_of_fault(alloc, fault)?,
-            status: Status::Refused,
-        }),
+        Err(fault) => answer_refusal(alloc, &TextRefusal::NotATag(fault)),
     }
 }

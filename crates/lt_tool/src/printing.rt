@@ -13,7 +13,7 @@ use crate::status::Status;
 use crate::tag_commands::{equal, explain, extlang};
 use crate::upgrade_command::upgrade;
 use lt_jar::Device;
-use lt_lines::{Counts, ToolFault, run_lines, write_text};
+use lt_lines::{Counts, LineForm, ToolFault, run_lines, write_text};
 use lt_tag::OutOfMemory;
 use lt_words::{Command, WordsFault};
 use std::alloc::Global;
@@ -82,18 +82,19 @@ fn print_answer<O: Write, E: Write>(
 }
 
 /// Answers the lines of the input by the registry of a file.
-fn canon<F: Read, I: Read, O: Write, E: Write>(
+fn answer_lines<F: Read, I: Read, O: Write, E: Write>(
     alloc: Global,
+    form: LineForm,
     file: &mut Device<F>,
     input: &mut Device<I>,
     output: &mut Device<O>,
     errors: &mut Device<E>,
 ) -> Status
-    ensures { ReadsFile (stream F.remaining file.old file.new) (Canonicalises (stream I.remaining input.old input.new)
+    ensures { ReadsFile (stream F.remaining file.old file.new) (Canonicalises form (stream I.remaining input.old input.new)
         (stream O.contents output.old output.new) (stream E.contents errors.old errors.new) (code_of result)) }
 {
     match read_registry(alloc, file) {
-        Ok(checked) => end_run(run_lines(alloc, &checked, input, output), errors),
+        Ok(checked) => end_run(run_lines(alloc, &checked, form, input, output), errors),
         Err(refusal) => print_answer(refuse(alloc, &refusal), output, errors),
     }
 }
@@ -115,7 +116,11 @@ fn run<F: Read, G: Read, I: Read, O: Write, E: Write>(
     match command {
         Command::Classify(tag) => print_answer(classify(alloc, tag.as_bytes()), output, errors),
         Command::Check(_) => print_answer(check(alloc, first), output, errors),
-        Command::Canon(_) => canon(alloc, first, input, output, errors),
+        Command::Canon(_) => answer_lines(alloc, LineForm::Tag, first, input, output, errors),
+        Command::Tsv(_, column) => {
+            let form = LineForm::Row(column.saturating_sub(1));
+            answer_lines(alloc, form, first, input, output, errors)
+        }
         Command::Extlang(_, tag) => {
             print_answer(extlang(alloc, first, tag.as_bytes()), output, errors)
         }
@@ -134,8 +139,8 @@ fn run<F: Read, G: Read, I: Read, O: Write, E: Write>(
 ///
 /// `first` and `second` are the files that the command names, in order; one that it does not name is left as it is,
 /// and so is the second of `upgrade` where the first is refused. A file is read record by record, up to its end or
-/// the first line at fault. The answer is written to `output` at once; `canon` answers the lines of `input` as they
-/// come. A read of a file that fails, or is one too many, is answered as a fault of the file. A write to `output` that
+/// the first line at fault. The answer is written to `output` at once; `canon` and `tsv` answer the lines of `input` as
+/// they come. A read of a file that fails, or is one too many, is answered as a fault of the file. A write to `output` that
 /// fails, a read of `input` that fails, and an allocation that fails are named on `errors`; a write
 /// there that fails is counted by the device alone.
 pub fn perform<F: Read, G: Read, I: Read, O: Write, E: Write>(
@@ -165,7 +170,7 @@ pub fn report_file<E: Write>(errors: &mut Device<E>) -> u8
 
 /// Says why the words are no command, and answers the exit status.
 ///
-/// Help goes to `output`, and any other fault to `errors`.
+/// Help and the version go to `output`, and any other fault to `errors`.
 pub fn report<O: Write, E: Write>(
     fault: &WordsFault,
     output: &mut Device<O>,
@@ -174,7 +179,9 @@ pub fn report<O: Write, E: Write>(
     ensures { Reports fault.now (stream O.contents output.old output.new) (stream E.contents errors.old errors.new) result }
 {
     let status = match fault {
-        WordsFault::Help(text) => print(text.as_bytes(), Status::Done, output, errors),
+        WordsFault::Help(text) | WordsFault::Version(text) => {
+            print(text.as_bytes(), Status::Done, output, errors)
+        }
         WordsFault::Usage(text) => {
             say(text.as_bytes(), errors);
             Status::Usage

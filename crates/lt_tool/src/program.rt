@@ -4,7 +4,7 @@ ghost use Rattle.std.specs.Fn.{CalledAt};
 ghost use Rattle.std.specs.IoError.{error_kind};
 ghost use Rattle.lt_words.specs.Reading.{first_file_of, reads_input_of, second_file_of};
 ghost use Rattle.lt_tool.specs.Codes.{code_of};
-ghost use Rattle.lt_tool.specs.Program.{IsProgramFault, NamesCommand, RunsCommand, RunsOnFiles, RunsOnFirst, RunsProgram, input_line, open_line, opener_of, texts_of};
+ghost use Rattle.lt_tool.specs.Program.{IsPath, IsProgramFault, NamesCommand, RunsCommand, RunsOnFiles, RunsOnFirst, RunsProgram, input_line, open_line, opener_of, texts_of};
 ghost use Rattle.lt_tool.specs.Streams.{stream};
 ghost use Rattle.lt_tool.specs.Written.{Says};
 ghost use Rattle.lt_tool.specs.declared.status.Status.TheVariants.{Failed};
@@ -28,6 +28,20 @@ fn command_of(alloc: Global, words: io::Result<Vec<String>>) -> Result<Command, 
         Ok(words) => read_words(alloc, &words),
         Err(error) if error.kind() == io::ErrorKind::OutOfMemory => Err(WordsFault::OutOfMemory),
         Err(error) => Err(WordsFault::Usage(format!(in alloc; "error: {error}\n")?)),
+    }
+}
+
+/// The path of the standard input.
+const INPUT_PATH: &str = "/dev/stdin";
+
+/// The file that a name stands for: `-` is the standard input, unless that is read otherwise.
+fn path_of<'a>(name: &'a str, is_taken: bool) -> &'a str
+    ensures { IsPath is_taken name.entry.now result.now }
+{
+    if name == "-" && !is_taken {
+        INPUT_PATH
+    } else {
+        name
     }
 }
 
@@ -77,7 +91,7 @@ fn run_on_first<F: Read + Drop, P: FnMut(&str) -> io::Result<F>, I: Read, O: Wri
             errors,
         );
     };
-    match opener(name) {
+    match opener(path_of(name, command.reads_input())) {
         Ok(second) => perform(
             alloc,
             command,
@@ -109,7 +123,7 @@ fn run_on_files<F: Read + Drop, P: FnMut(&str) -> io::Result<F>, I: Read, O: Wri
         let (mut none, mut other) = (Device::new(NO_FILE), Device::new(NO_FILE));
         return perform(alloc, command, &mut none, &mut other, input, output, errors);
     };
-    match opener(name) {
+    match opener(path_of(name, command.reads_input())) {
         Ok(first) => run_on_first(
             alloc,
             command,
@@ -149,7 +163,8 @@ fn run_command<F: Read + Drop, P: FnMut(&str) -> io::Result<F>, I: Read, O: Writ
 /// Runs the program by the words of its command line, of which the first is its name, and answers the exit status.
 ///
 /// `opener` opens the files that the words name: the first, and then the second, where a command names two. One that
-/// can't be opened ends the run by `! File` on `errors`, and the status 4. Where the command reads `input`, it is
+/// can't be opened ends the run by `! File` on `errors`, and the status 4. The name `-` stands for the standard input
+/// where the command doesn't read `input`. Where the command reads `input`, it is
 /// asked for no bytes before a file is opened, so that one that is closed is not taken for a file that is opened in
 /// its place: it ends the run by `! Read`, and the status 4. Then [`perform`] does what the command asks for, or
 /// [`report`] says why the words name none.

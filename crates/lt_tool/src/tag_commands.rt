@@ -2,36 +2,20 @@
 ghost use Rattle.std.specs.Prelude.{◌≡◌, IfOk, IfErr};
 ghost use Rattle.lt_canon.specs.Texts.{IsTextRefusal};
 ghost use Rattle.lt_tool.specs.Explanations.{Explains};
-ghost use Rattle.lt_lines.specs.Owed.{IsRefusalLine};
 ghost use Rattle.lt_tool.specs.Registries.{Answers, ByRegistry};
 ghost use Rattle.lt_tool.specs.TagCommands.{Compares, FormsExtlang, IsEqualityOf, IsExtlangTextOf, IsPairRefusal};
-ghost use Rattle.lt_tool.specs.declared.status.Status.TheVariants.{Refused};
 ghost use Rattle.lt_tool.specs.Streams.{stream};
 
 use crate::explanations::explanation;
-use crate::lines::Answer;
+use crate::lines::{Answer, answer_refusal};
 use crate::registries::{read_registry, refuse};
 use crate::status::Status;
 use lt_canon::{Checked, TextRefusal, equivalent, extlang_form};
 use lt_jar::Device;
-use lt_lines::append_refusal;
 use lt_registry::Lookup;
 use lt_tag::{OutOfMemory, read_tag, write_tag};
 use std::alloc::Global;
 use std::io::Read;
-
-/// What is answered where a text is refused.
-fn answer_refusal(alloc: Global, refusal: &TextRefusal) -> Result<Answer, OutOfMemory>
-    ensures line { IfOk result (λ answer. IsRefusalLine refusal.now answer.line.items) }
-    ensures status { IfOk result (λ answer. answer.status ≡ Refused) }
-{
-    let mut line = Vec::new(alloc);
-    append_refusal(&mut line, refusal)?;
-    Ok(Answer {
-        line,
-        status: Status::Refused,
-    })
-}
 
 /// The text of the extlang form of the tag that a text is read as.
 fn extlang_text<L: Lookup>(

@@ -1,3 +1,4 @@
 -- Lemmas on the words of the command line.
 pub mod ReadingLemmas
+pub mod ValueLemmas
 mod WorkedRows

@@ -41,8 +41,10 @@ reads_named words found command same right named = record {
 pub refused_unnamed : (words : List Text) (found : Option (Text × List Row)) (f : WordsFault) → found ≡ subcommand_of langtag words
     → fault_of langtag words ≡ [] → NamesNone found f → IsRefused words f
 refused_unnamed words found (fault.Help text) same right unnamed = absurd unnamed
+refused_unnamed words found (fault.Version text) same right unnamed = absurd unnamed
 refused_unnamed words found (fault.Usage text) same right unnamed = (
   λ command reads. unnamed command (subst (λ (g : Option (Text × List Row)). IsNamed g command) (sym same) reads.names),
+  λ asks. let bad = sym right in cc,
   λ asks. let bad = sym right in cc,
 )
 refused_unnamed words found fault.OutOfMemory same right unnamed = tt
@@ -57,9 +59,13 @@ pub refused_failed : (words : List Text) (k : ErrorKind) (printed : Option (List
 refused_failed words k printed (fault.Help text) (inl memory) help = let shown : k ≡ kind.DisplayHelp = help.0 in cc
 refused_failed words k printed (fault.Help text) (inr among) help =
     subst (λ (x : ErrorKind). IsAmong x (fault_of langtag words)) help.0 among
-refused_failed words k printed (fault.Usage text) (inl memory) usage = absurd (usage.1 memory)
+refused_failed words k printed (fault.Version text) (inl memory) version = let shown : k ≡ kind.DisplayVersion = version.0 in cc
+refused_failed words k printed (fault.Version text) (inr among) version =
+    subst (λ (x : ErrorKind). IsAmong x (fault_of langtag words)) version.0 among
+refused_failed words k printed (fault.Usage text) (inl memory) usage = absurd (usage.2 memory)
 refused_failed words k printed (fault.Usage text) (inr among) usage = (
   λ command reads. subst (λ (ks : List ErrorKind). IsAmong k ks) reads.right among,
   λ asks. usage.0 (among_one k kind.DisplayHelp (subst (λ (ks : List ErrorKind). IsAmong k ks) asks among)),
+  λ asks. usage.1 (among_one k kind.DisplayVersion (subst (λ (ks : List ErrorKind). IsAmong k ks) asks among)),
 )
 refused_failed words k printed fault.OutOfMemory how out = tt

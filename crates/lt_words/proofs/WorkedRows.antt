@@ -47,3 +47,8 @@ second-wrong = refl
 help-asked : fault_of langtag (codes "langtag" ∷ codes "--help" ∷ []) ≡ kind.DisplayHelp ∷ []
 unfolding clap_on_literals
 help-asked = refl
+
+-- a request for the version
+version-asked : fault_of langtag (codes "langtag" ∷ codes "-V" ∷ []) ≡ kind.DisplayVersion ∷ []
+unfolding clap_on_literals
+version-asked = refl

@@ -12,6 +12,9 @@ pub enum Command {
     Check(String),
     /// The canonical form of each line of the input, by the registry of this file.
     Canon(String),
+    /// The rows of the input, the field of this number (counted from 1) in canonical form, by the registry of this file,
+    /// which comes first.
+    Tsv(String, usize),
     /// The extlang form of this tag, by the registry of this file, which comes first.
     Extlang(String, String),
     /// Whether these two tags are equivalent, by the registry of this file, which comes first.
@@ -29,7 +32,9 @@ impl Command {
     {
         match self {
             Command::Classify(_) => None,
-            Command::Check(file) | Command::Canon(file) => Some(file.as_str()),
+            Command::Check(file) | Command::Canon(file) | Command::Tsv(file, _) => {
+                Some(file.as_str())
+            }
             Command::Extlang(file, _) | Command::Explain(file, _) => Some(file.as_str()),
             Command::Equal(file, _, _) | Command::Upgrade(file, _) => Some(file.as_str()),
         }
@@ -40,7 +45,7 @@ impl Command {
         ensures { result ≡ reads_input_of self.now }
     {
         match self {
-            Command::Canon(_) => true,
+            Command::Canon(_) | Command::Tsv(_, _) => true,
             _ => false,
         }
     }

@@ -9,6 +9,8 @@ use std::alloc::AllocError;
 pub enum WordsFault {
     /// They ask for help, which is this text.
     Help(String),
+    /// They ask for the version, which is this text.
+    Version(String),
     /// They are no command of the program, as this text says.
     Usage(String),
     /// No memory was left.

@@ -5,6 +5,8 @@ mod commands;
 mod faults;
 mod program;
 mod reading;
+mod subcommands;
+mod values;
 
 pub use commands::Command;
 pub use faults::WordsFault;

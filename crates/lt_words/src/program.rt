@@ -1,8 +1,8 @@
 //! The command line of the program, as `clap` reads it.
 ghost use Rattle.std.specs.Prelude.{◌≡◌, false, IfOk, map};
-ghost use Rattle.lt_words.specs.CommandLine.{langtag, program, subcommand};
+ghost use Rattle.lt_words.specs.CommandLine.{langtag, positional, program, subcommand};
 ghost use Rattle.clap.specs.declared.builder.command.Command.TheViews.{out-Command as fields_of};
-ghost use Rattle.clap.specs.Words.{app_of, with_subcommand};
+ghost use Rattle.clap.specs.Words.{app_of, rule_of, with_subcommand};
 
 use clap::{Arg, ArgAction, Command};
 use std::alloc::{AllocError, Global};
@@ -28,19 +28,43 @@ pub(crate) static REGISTRY: Positional = Positional {
     help: "A file in the format of the IANA Language Subtag Registry",
 };
 
+pub(crate) static COLUMN: Positional = Positional {
+    name: "COLUMN",
+    help: "The number of the field that is a tag, counted from 1",
+};
+
 pub(crate) static OLD: Positional = Positional {
     name: "OLD",
-    help: "A registry in that format",
+    help: "A registry in the format of the IANA Language Subtag Registry",
 };
 
 pub(crate) static NEW: Positional = Positional {
     name: "NEW",
-    help: "A newer registry in that format",
+    help: "A newer registry in the same format",
 };
 
 /// What the statuses mean, as each text of help says.
-const STATUSES: &str =
-    "Status: 0 done; 1 a tag was refused, or the tags are different; 2 a registry or an upgrade was refused; 3 the words name no command; 4 a file, the output or memory failed";
+const STATUSES: &str = "\
+Status:
+  0  done
+  1  a tag was refused, or the tags are different
+  2  a registry or an upgrade was refused
+  3  the words name no command
+  4  a file, the output or memory failed";
+
+/// The version, and the line of the kit that proves and builds the program.
+const VERSION: &str = "1.0.0 (rattle-kit-13b logic dac8208d650f15bf)";
+
+/// An argument that is a required positional.
+fn new_argument<'a>(alloc: Global, wanted: &Positional) -> Arg<'a>
+    ensures rule { rule_of result ≡ positional wanted.now.name.now }
+    ensures local { result.global ≡ false }
+{
+    Arg::new(alloc, wanted.name)
+        .help(wanted.help)
+        .required(true)
+        .action(ArgAction::Set)
+}
 
 /// A subcommand with these required positionals.
 fn new_subcommand<'a>(
@@ -54,11 +78,7 @@ fn new_subcommand<'a>(
 {
     let mut command = Command::new(alloc, name).about(about).after_help(STATUSES);
     for positional in positionals {
-        let argument = Arg::new(alloc, positional.name)
-            .help(positional.help)
-            .required(true)
-            .action(ArgAction::Set);
-        command = command.arg(argument)?;
+        command = command.arg(new_argument(alloc, positional))?;
     }
     Ok(command)
 }
@@ -69,6 +89,7 @@ fn new_program<'a>(alloc: Global) -> Command<'a>
 {
     Command::new(alloc, "langtag")
         .about("BCP 47 language tags (RFC 5646)")
+        .version(VERSION)
         .after_help(STATUSES)
         .subcommand_required(true)
 }
@@ -98,6 +119,9 @@ pub(crate) fn new_langtag<'a>(alloc: Global) -> Result<Command<'a>, AllocError>
     let program = with_new(alloc, program, "check", about, &[&REGISTRY])?;
     let about = "Prints the canonical form of each line of the standard input";
     let program = with_new(alloc, program, "canon", about, &[&REGISTRY])?;
+    let about =
+        "Replaces a field of each row of the standard input, with tabs between fields, by its canonical form";
+    let program = with_new(alloc, program, "tsv", about, &[&REGISTRY, &COLUMN])?;
     let about = "Prints the extlang form of a tag";
     let program = with_new(alloc, program, "extlang", about, &[&REGISTRY, &TAG])?;
     let about = "Tells whether two tags are equivalent";

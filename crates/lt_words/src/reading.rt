@@ -1,29 +1,66 @@
 //! Reading the words of the command line.
 ghost use Rattle.std.specs.Prelude.{◌≡◌, IfOk, IfErr, map, Some, string_bytes};
-ghost use Rattle.lt_words.specs.Reading.{Reads, IsRefused, IsNamed, NamesNone, IsAbsent, IsFaultOf};
-ghost use Rattle.clap.specs.Words.{first_of, found_of, rows_of, subcommand_rows_of};
+ghost use Rattle.lt_words.specs.CommandLine.{name_of};
+ghost use Rattle.lt_words.specs.Reading.{Reads, IsRefused, IsNamed, NamesNone, IsFaultOf};
+ghost use Rattle.clap.specs.Words.{found_of, rows_of, subcommand_rows_of};
 
 use crate::commands::Command;
 use crate::faults::WordsFault;
-use crate::program::{NEW, OLD, OTHER, Positional, REGISTRY, TAG, new_langtag};
+use crate::program::{COLUMN, NEW, OLD, OTHER, REGISTRY, TAG, new_langtag};
+use crate::subcommands::{Subcommand, subcommand_named};
+use crate::values::{column_of, two_values, value_of};
 use clap::ArgMatches;
 use clap::error::ErrorKind;
 use std::alloc::Global;
 use std::fmt::Display;
 
-/// The value of a positional.
-fn value_of(
-    alloc: Global,
-    matches: &ArgMatches<'_>,
-    positional: &Positional,
-) -> Result<String, WordsFault>
-    ensures value { IfOk result (λ value. first_of positional.now.name.now (rows_of (found_of matches.now)) ≡ Some (string_bytes value)) }
-    ensures absent { IfErr result (IsAbsent (first_of positional.now.name.now (rows_of (found_of matches.now)))) }
+/// The command for rows of fields with tabs between them.
+fn read_tsv(alloc: Global, values: &ArgMatches<'_>) -> Result<Command, WordsFault>
+    ensures named { IfOk result (IsNamed (Some (name_of Subcommand.Tsv, rows_of (found_of values.now)))) }
+    ensures unnamed { IfErr result (NamesNone (Some (name_of Subcommand.Tsv, rows_of (found_of values.now)))) }
 {
-    let name = positional.name;
-    match matches.get_str(name) {
-        Some(value) => Ok(String::from_str(alloc, value)?),
-        None => Err(WordsFault::Usage(format!(in alloc; "error: {name} has no value\n")?)),
+    let (file, column) = two_values(alloc, values, &REGISTRY, &COLUMN)?;
+    let column = column_of(alloc, &column)?;
+    Ok(Command::Tsv(file, column))
+}
+
+/// The command that compares two tags.
+fn read_equal(alloc: Global, values: &ArgMatches<'_>) -> Result<Command, WordsFault>
+    ensures named { IfOk result (IsNamed (Some (name_of Subcommand.Equal, rows_of (found_of values.now)))) }
+    ensures unnamed { IfErr result (NamesNone (Some (name_of Subcommand.Equal, rows_of (found_of values.now)))) }
+{
+    let file = value_of(alloc, values, &REGISTRY)?;
+    let (tag, other) = two_values(alloc, values, &TAG, &OTHER)?;
+    Ok(Command::Equal(file, tag, other))
+}
+
+/// The command that a subcommand asks for with these values.
+fn read_command(
+    alloc: Global,
+    subcommand: Subcommand,
+    values: &ArgMatches<'_>,
+) -> Result<Command, WordsFault>
+    ensures named { IfOk result (IsNamed (Some (name_of subcommand, rows_of (found_of values.now)))) }
+    ensures unnamed { IfErr result (NamesNone (Some (name_of subcommand, rows_of (found_of values.now)))) }
+{
+    match subcommand {
+        Subcommand::Classify => Ok(Command::Classify(value_of(alloc, values, &TAG)?)),
+        Subcommand::Check => Ok(Command::Check(value_of(alloc, values, &REGISTRY)?)),
+        Subcommand::Canon => Ok(Command::Canon(value_of(alloc, values, &REGISTRY)?)),
+        Subcommand::Tsv => read_tsv(alloc, values),
+        Subcommand::Extlang => {
+            let (file, tag) = two_values(alloc, values, &REGISTRY, &TAG)?;
+            Ok(Command::Extlang(file, tag))
+        }
+        Subcommand::Equal => read_equal(alloc, values),
+        Subcommand::Explain => {
+            let (file, tag) = two_values(alloc, values, &REGISTRY, &TAG)?;
+            Ok(Command::Explain(file, tag))
+        }
+        Subcommand::Upgrade => {
+            let (old, new) = two_values(alloc, values, &OLD, &NEW)?;
+            Ok(Command::Upgrade(old, new))
+        }
     }
 }
 
@@ -35,28 +72,9 @@ fn command_of(alloc: Global, matches: &ArgMatches<'_>) -> Result<Command, WordsF
     let Some((name, values)) = matches.subcommand() else {
         return Err(WordsFault::Usage(format!(in alloc; "error: no subcommand\n")?));
     };
-    match name {
-        "classify" => Ok(Command::Classify(value_of(alloc, values, &TAG)?)),
-        "check" => Ok(Command::Check(value_of(alloc, values, &REGISTRY)?)),
-        "canon" => Ok(Command::Canon(value_of(alloc, values, &REGISTRY)?)),
-        "extlang" => Ok(Command::Extlang(
-            value_of(alloc, values, &REGISTRY)?,
-            value_of(alloc, values, &TAG)?,
-        )),
-        "equal" => Ok(Command::Equal(
-            value_of(alloc, values, &REGISTRY)?,
-            value_of(alloc, values, &TAG)?,
-            value_of(alloc, values, &OTHER)?,
-        )),
-        "explain" => Ok(Command::Explain(
-            value_of(alloc, values, &REGISTRY)?,
-            value_of(alloc, values, &TAG)?,
-        )),
-        "upgrade" => Ok(Command::Upgrade(
-            value_of(alloc, values, &OLD)?,
-            value_of(alloc, values, &NEW)?,
-        )),
-        _ => Err(WordsFault::Usage(format!(in alloc; "error: no subcommand {name}\n")?)),
+    match subcommand_named(name) {
+        Some(subcommand) => read_command(alloc, subcommand, values),
+        None => Err(WordsFault::Usage(format!(in alloc; "error: no subcommand {name}\n")?)),
     }
 }
 
@@ -72,13 +90,15 @@ fn fault_of<D: Display>(alloc: Global, kind: ErrorKind, error: &D) -> WordsFault
     };
     match kind {
         ErrorKind::DisplayHelp => WordsFault::Help(text),
+        ErrorKind::DisplayVersion => WordsFault::Version(text),
         _ => WordsFault::Usage(text),
     }
 }
 
 /// Reads the words of the command line, of which the first is the program's name.
 ///
-/// A request for help is answered by its text, and any other words that name no command by `Usage`.
+/// A request for help is answered by its text, one for the version by that, and any other words that name no command
+/// by `Usage`.
 pub fn read_words(alloc: Global, words: &[String]) -> Result<Command, WordsFault>
     ensures read { IfOk result (Reads (map string_bytes words.now)) }
     ensures refused { IfErr result (IsRefused (map string_bytes words.now)) }

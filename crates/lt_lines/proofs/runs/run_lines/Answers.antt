@@ -1,25 +1,26 @@
 use Rattle.std.proofs.Common.{◌≡◌, ◌≤◌, ◌<◌, ◌++◌, ◌∙◌, ℕ, List, Ok, length, take, sym, ap, subst, arith, length-take}
 use Rattle.std.proofs.lemmas.Result.{err_from_is_err_and}
 use Rattle.lt_lines.specs.Answering.{TakesPiece}
+use Rattle.lt_lines.specs.Owed.{terms}
 use Rattle.lt_lines.proofs.RunLemmas.{ReadsPiece, refilled, run_failed, run_finished, run_first, run_lacks, run_next, run_room, run_stopped, run_turns}
 use Rattle.lt_lines.proofs.runs.run_lines.Goals as goal
 
 pub returns-in_err-buffer : goal.returns-in_err-buffer
 returns-in_err-buffer g c =
     let p = err_from_is_err_and c.from_residual.result c.from_residual.ensures.1 in
-    rw (p.1, p.2) (run_lacks (g.L.Lookup.listed c.args.checked.now) g.R.Read.remaining g.W.Write.contents c.args.input.now c.args.output.now)
+    rw (p.1, p.2) (run_lacks (terms (g.L.Lookup.listed c.args.checked.now) c.args.form) g.R.Read.remaining g.W.Write.contents c.args.input.now c.args.output.now)
 
 pub loop-turn-init : goal.loop-turn-init
 loop-turn-init g c =
     let new = c.new-answering.ensures in
     record {
-      turn = run_first (g.L.Lookup.listed c.args.checked.now) g.R.Read.remaining g.W.Write.contents c.args.input.now c.args.output.now c.new-answering.result new.items.0 new.items.1 new.counts.0 new.counts.1 new.recent;
+      turn = run_first (terms (g.L.Lookup.listed c.args.checked.now) c.args.form) g.R.Read.remaining g.W.Write.contents c.args.input.now c.args.output.now c.new-answering.result new.items.0 new.items.1 new.counts.0 new.counts.1 new.recent;
       buffer = sym c.in_ok-buffer.buffer.ok.0 ∙ c.in_ok-buffer.ensures.len;
     }
 
 pub finish-requires : goal.finish-requires
 finish-requires g c =
-    run_room (g.L.Lookup.listed c.args.checked.now) g.R.Read.remaining g.W.Write.contents c.args.input.now c.loop-turn.input c.args.output.now c.loop-turn.output c.loop-turn.answering c.loop-turn._turn 1
+    run_room (terms (g.L.Lookup.listed c.args.checked.now) c.args.form) g.R.Read.remaining g.W.Write.contents c.args.input.now c.loop-turn.input c.args.output.now c.loop-turn.output c.loop-turn.answering c.loop-turn._turn 1
     c.loop-turn.invariant.turn c.loop-turn-test.true (omega arith)
 
 pub returns-in-Ok-eq0 : goal.returns-in-Ok-eq0
@@ -30,19 +31,19 @@ returns-in-Ok-eq0 g c =
     let full : length buffer ≡ 65536 = omega (arith, c.read.auto.buf, ap length c.deref_mut.ensures.value, c.loop-turn.invariant.buffer) in
     let piece = take c.in-Ok-eq0.field-0 buffer in
     let reads : ReadsPiece g.R.Read.remaining c.loop-turn.input c.read.new.self piece = record { consumes = ensures.bytes.0; calls = ensures.reads; failures = ensures.works } in
-    run_finished (g.L.Lookup.listed c.args.checked.now) g.R.Read.remaining g.W.Write.contents c.args.input.now c.loop-turn.input c.read.new.self c.args.output.now c.loop-turn.output c.finish.new.output
+    run_finished (terms (g.L.Lookup.listed c.args.checked.now) c.args.form) g.R.Read.remaining g.W.Write.contents c.args.input.now c.loop-turn.input c.read.new.self c.args.output.now c.loop-turn.output c.finish.new.output
     c.loop-turn.answering c.loop-turn._turn piece c.finish.result c.loop-turn.invariant.turn c.loop-turn-test.true reads (ap (λ (n : ℕ). take n buffer) none) (ensures.bytes.1 none (omega (arith, full))) c.finish.ensures
 
 pub take_piece-requires : goal.take_piece-requires
 take_piece-requires g c =
     let full : length c.read.new.buf ≡ 65536 = omega (arith, c.read.auto.buf, ap length c.deref_mut.ensures.value, c.loop-turn.invariant.buffer) in
     let short : length (take c.in-Ok.count c.deref.result.now) ≤ 65536 = omega (arith, length-take c.in-Ok.count c.deref.result.now, c.in-Ok.ensures.bound.0, full) in
-    run_room (g.L.Lookup.listed c.args.checked.now) g.R.Read.remaining g.W.Write.contents c.args.input.now c.loop-turn.input c.args.output.now c.loop-turn.output c.loop-turn.answering c.loop-turn._turn
+    run_room (terms (g.L.Lookup.listed c.args.checked.now) c.args.form) g.R.Read.remaining g.W.Write.contents c.args.input.now c.loop-turn.input c.args.output.now c.loop-turn.output c.loop-turn.answering c.loop-turn._turn
     (length (take c.in-Ok.count c.deref.result.now)) c.loop-turn.invariant.turn c.loop-turn-test.true short
 
 pub returns-in_err-take_piece-in-Ok : goal.returns-in_err-take_piece-in-Ok
 returns-in_err-take_piece-in-Ok g c =
-    let R = g.L.Lookup.listed c.args.checked.now in
+    let T = terms (g.L.Lookup.listed c.args.checked.now) c.args.form in
     let p = err_from_is_err_and c.from_residual-in_err-take_piece-in-Ok.result c.from_residual-in_err-take_piece-in-Ok.ensures.1 in
     let buffer = c.read.new.buf in
     let ensures = c.in-Ok.ensures in
@@ -52,25 +53,25 @@ returns-in_err-take_piece-in-Ok g c =
     let same : take c.in-Ok.count c.deref.result.now ≡ take c.in-Ok.count buffer = ap (take c.in-Ok.count) (c.deref.ensures.value ∙ refilled held.len held.items buffer held.ok.0 full) in
     let reads : ReadsPiece g.R.Read.remaining c.loop-turn.input c.read.new.self (take c.in-Ok.count buffer) = record { consumes = ensures.bytes.0; calls = ensures.reads; failures = ensures.works } in
     let takes = c.in_err-take_piece-in-Ok.ensures in
-    rw (p.1, p.2) (run_stopped R g.R.Read.remaining g.W.Write.contents c.args.input.now c.loop-turn.input c.read.new.self c.args.output.now c.loop-turn.output c.take_piece.new.output
+    rw (p.1, p.2) (run_stopped T g.R.Read.remaining g.W.Write.contents c.args.input.now c.loop-turn.input c.read.new.self c.args.output.now c.loop-turn.output c.take_piece.new.output
     c.loop-turn.answering c.loop-turn._turn (take c.in-Ok.count buffer) (turn.read ++ take c.in-Ok.count c.deref.result.now) takes.written c.in_err-take_piece-in-Ok.field-0.0 turn c.loop-turn-test.true reads
     (ap (λ (l : List ℕ). turn.read ++ l) same) takes.appends takes.stopped.0 (takes.stopped.1 turn.read turn.written turn.taken))
 
 pub returns-in-Err : goal.returns-in-Err
 returns-in-Err g c =
     let ensures = c.in-Err.ensures in
-    run_failed (g.L.Lookup.listed c.args.checked.now) g.R.Read.remaining g.W.Write.contents c.args.input.now c.loop-turn.input c.read.new.self c.args.output.now c.loop-turn.output
+    run_failed (terms (g.L.Lookup.listed c.args.checked.now) c.args.form) g.R.Read.remaining g.W.Write.contents c.args.input.now c.loop-turn.input c.read.new.self c.args.output.now c.loop-turn.output
     c.loop-turn.answering c.loop-turn._turn c.loop-turn.invariant.turn c.loop-turn-test.true ensures.bytes ensures.reads ensures.fails
 
 pub returns : goal.returns
 returns g c =
     let all : c.loop-turn._turn ≡ 10000000 = omega (arith, c.loop-turn-test.false, c.loop-turn.auto._turn-end) in
-    run_turns (g.L.Lookup.listed c.args.checked.now) g.R.Read.remaining g.W.Write.contents c.args.input.now c.loop-turn.input c.args.output.now c.loop-turn.output
+    run_turns (terms (g.L.Lookup.listed c.args.checked.now) c.args.form) g.R.Read.remaining g.W.Write.contents c.args.input.now c.loop-turn.input c.args.output.now c.loop-turn.output
     c.loop-turn.answering c.loop-turn._turn c.loop-turn.invariant.turn all
 
 pub loop-turn-preserved : goal.loop-turn-preserved
 loop-turn-preserved g c =
-    let R = g.L.Lookup.listed c.args.checked.now in
+    let T = terms (g.L.Lookup.listed c.args.checked.now) c.args.form in
     let buffer = c.read.new.buf in
     let count = c.in-Ok.count in
     let ensures = c.in-Ok.ensures in
@@ -81,9 +82,9 @@ loop-turn-preserved g c =
     let reads : ReadsPiece g.R.Read.remaining c.loop-turn.input c.read.new.self (take count buffer) = record { consumes = ensures.bytes.0; calls = ensures.reads; failures = ensures.works } in
     let some : 0 < length (take count buffer) = omega (arith, length-take count buffer, ensures.bound.0, c.in-Ok.count-test) in
     let short : length (take count buffer) ≤ 65536 = omega (arith, length-take count buffer, ensures.bound.0, full, c.loop-turn.invariant.buffer) in
-    let takes = subst (λ (l : List ℕ). TakesPiece R g.W.Write.contents l c.loop-turn.answering c.take_piece.new.self c.loop-turn.output c.take_piece.new.output (Ok tt)) same c.in_ok-take_piece-in-Ok.ensures in
+    let takes = subst (λ (l : List ℕ). TakesPiece T g.W.Write.contents l c.loop-turn.answering c.take_piece.new.self c.loop-turn.output c.take_piece.new.output (Ok tt)) same c.in_ok-take_piece-in-Ok.ensures in
     record {
-      turn = run_next R g.R.Read.remaining g.W.Write.contents c.args.input.now c.loop-turn.input c.read.new.self c.args.output.now c.loop-turn.output c.take_piece.new.output
+      turn = run_next T g.R.Read.remaining g.W.Write.contents c.args.input.now c.loop-turn.input c.read.new.self c.args.output.now c.loop-turn.output c.take_piece.new.output
           c.loop-turn.answering c.take_piece.new.self c.loop-turn._turn (take count buffer) c.loop-turn.invariant.turn reads some short (omega (arith, ensures.last, c.in-Ok.count-test)) takes;
       buffer = ap length held_is ∙ full ∙ c.loop-turn.invariant.buffer;
     }

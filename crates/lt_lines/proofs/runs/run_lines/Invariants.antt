@@ -1,9 +1,10 @@
 use Rattle.std.proofs.Common.{◌≡◌, length}
+use Rattle.lt_lines.specs.Owed.{terms}
 use Rattle.lt_lines.proofs.RunLemmas.{RunTurn}
 use Rattle.lt_lines.proofs.runs.run_lines.Given as goal
 
 abbrev pub invariant-loop-turn : goal.invariant-loop-turn
 invariant-loop-turn g l = record {
-  turn : RunTurn (g.L.Lookup.listed l.checked) g.R.Read.remaining g.W.Write.contents l.fn.input l.input l.fn.output l.output l.answering l._turn;
+  turn : RunTurn (terms (g.L.Lookup.listed l.checked) l.form) g.R.Read.remaining g.W.Write.contents l.fn.input l.input l.fn.output l.output l.answering l._turn;
   buffer : length l.buffer.items ≡ 65536;
 }

@@ -16,7 +16,12 @@ returns-in-Check g c =
     rw c.in-Check.is (refl, refl, printed_by _ Checks _ _ c.check.result _ c.check.ensures c.print_answer-in-Check.ensures)
 
 pub returns-in-Canon : goal.returns-in-Canon
-returns-in-Canon g c = rw c.in-Canon.is (refl, c.canon.ensures)
+returns-in-Canon g c = rw c.in-Canon.is (refl, c.answer_lines.ensures)
+
+pub returns-in-Tsv : goal.returns-in-Tsv
+returns-in-Tsv g c =
+    let form = c.saturating_sub.ensures in
+    rw c.in-Tsv.is (refl, rw form at c.answer_lines-in-Tsv.ensures)
 
 pub returns-in-Extlang : goal.returns-in-Extlang
 returns-in-Extlang g c =

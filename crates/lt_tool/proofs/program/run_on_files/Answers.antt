@@ -7,6 +7,8 @@ returns-in-Ok g c =
     let named : first_file_of c.args.command.now ≡ Some c.in-Some.name.now = search rules in
     let made = c.new.ensures in
     rw named (record {
+      path = c.path_of.result.now;
+      is_path = rw c.reads_input.ensures at c.path_of.ensures;
       answer = Ok c.in-Ok.first;
       between = c.opener.new.self;
       called = search rules;

@@ -15,6 +15,8 @@ returns-in-Ok g c =
     let named : second_file_of c.args.command.now ≡ Some c.in-Some.name.now = search rules in
     let made = c.new-in-Ok.ensures in
     rw named (record {
+      path = c.path_of.result.now;
+      is_path = rw c.reads_input.ensures at c.path_of.ensures;
       answer = Ok c.in-Ok.second;
       between = c.opener.new.self;
       called = search rules;

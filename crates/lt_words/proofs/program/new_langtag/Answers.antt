@@ -15,4 +15,5 @@ returns c =
     let four = adds _ (app_of c.in_ok-program-4.program) _ _ three c.in_ok-program-4.ensures in
     let five = adds _ (app_of c.in_ok-program-5.program) _ _ four c.in_ok-program-5.ensures in
     let six = adds _ (app_of c.in_ok-program-6.program) _ _ five c.in_ok-program-6.ensures in
-    IfOk-weaker c.with_new-7.result _ _ (λ r is. adds _ (app_of r) _ _ six is) c.with_new-7.ensures
+    let seven = adds _ (app_of c.in_ok-program-7.program) _ _ six c.in_ok-program-7.ensures in
+    IfOk-weaker c.with_new-8.result _ _ (λ r is. adds _ (app_of r) _ _ seven is) c.with_new-8.ensures

@@ -1,26 +1,25 @@
 use Rattle.std.proofs.Common.{◌≡◌, ◌∙◌, ◌++◌, ◌∷◌, ℕ, List, [], Result, Ok, Err, sym, arith, vec_len, OnOk}
-use Rattle.lt_registry.specs.Parts.{EntryParts}
 use Rattle.lt_tag.specs.declared.faults.OutOfMemory.{OutOfMemory}
 use Rattle.lt_lines.specs.Answering.{IsAnswered, IsTaken}
-use Rattle.lt_lines.specs.Owed.{IsOneLine}
+use Rattle.lt_lines.specs.Owed.{IsOneLine, Terms, terms}
 use Rattle.lt_lines.specs.declared.answering.Answering.{Answering}
 use Rattle.lt_lines.proofs.TakenLemmas.{answered_last, answered_none, no_items, some_items}
 use Rattle.lt_lines.proofs.answering.Answering.end_last.Goals as goal
 
 -- whether the last line was answered
-last_answered : (R : List EntryParts) (old new : Answering) (r : Result (Unit {0}) OutOfMemory) → (old.kept.items ≡ [] → ⊥)
-    → OnOk r ((bytes out : List ℕ) → IsOneLine [] → IsTaken R bytes out old → IsTaken R (bytes ++ ([] ++ 10 ∷ [])) out new) → OnOk r (new.kept.items ≡ [])
-    → OnOk r ((bytes out : List ℕ) → IsTaken R bytes out old → IsAnswered R bytes out new)
-last_answered R old new (Ok _) some taken none = λ bytes out t. answered_last R bytes out old new t some (taken bytes out (λ k d lt. absurd (omega (arith, lt))) t) none
-last_answered R old new (Err _) some taken none = tt
+last_answered : (T : Terms) (old new : Answering) (r : Result (Unit {0}) OutOfMemory) → (old.kept.items ≡ [] → ⊥)
+    → OnOk r ((bytes out : List ℕ) → IsOneLine [] → IsTaken T bytes out old → IsTaken T (bytes ++ ([] ++ 10 ∷ [])) out new) → OnOk r (new.kept.items ≡ [])
+    → OnOk r ((bytes out : List ℕ) → IsTaken T bytes out old → IsAnswered T bytes out new)
+last_answered T old new (Ok _) some taken none = λ bytes out t. answered_last T bytes out old new t some (taken bytes out (λ k d lt. absurd (omega (arith, lt))) t) none
+last_answered T old new (Err _) some taken none = tt
 
 pub returns-then-is_empty : goal.returns-then-is_empty
 returns-then-is_empty g c = λ bytes out t.
     let kept = c.args.self.now.kept in
-    answered_none (g.L.Lookup.listed c.args.checked.now) bytes out c.args.self.now t (no_items kept.items (vec_len kept) kept.ok.0 (sym c.is_empty.ensures ∙ c.if-is_empty.true))
+    answered_none (terms (g.L.Lookup.listed c.args.checked.now) c.args.form) bytes out c.args.self.now t (no_items kept.items (vec_len kept) kept.ok.0 (sym c.is_empty.ensures ∙ c.if-is_empty.true))
 
 pub returns : goal.returns
 returns g c =
     let kept = c.args.self.now.kept in
-    last_answered (g.L.Lookup.listed c.args.checked.now) c.args.self.now c.end_line.new.self c.end_line.result
+    last_answered (terms (g.L.Lookup.listed c.args.checked.now) c.args.form) c.args.self.now c.end_line.new.self c.end_line.result
     (some_items kept.items (vec_len kept) kept.ok.0 (sym c.is_empty.ensures ∙ c.if-is_empty.false)) c.end_line.ensures.taken c.end_line.ensures.kept

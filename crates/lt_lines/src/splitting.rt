@@ -1,0 +1,14 @@
+//! Splitting bytes at a byte.
+ghost use Rattle.lt_lines.specs.Splitting.{SplitsAt};
+
+use memchr::memchr;
+
+/// What stands before the first such byte and behind it, if there is one.
+pub fn split_first(byte: u8, bytes: &[u8]) -> Option<(&[u8], &[u8])>
+    ensures { SplitsAt byte bytes.now result }
+{
+    match memchr(byte, bytes) {
+        Some(index) => Some((&bytes[..index], &bytes[index + 1..])),
+        None => None,
+    }
+}

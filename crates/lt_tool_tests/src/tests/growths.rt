@@ -1,0 +1,341 @@
+//! What a run does where a growth of memory is refused. `bench/growth.py` runs each test here once for each growth in
+//! it, and refuses that one alone; the gate refuses none. So a call that is not itself under test is made twice where it
+//! is refused.
+use super::registries::{LINES, OWED, checked};
+use super::sample::sample_text;
+use super::{command_line, read};
+use lt_canon::Checked;
+use lt_jar::Device;
+use lt_registry::SortedTable;
+use lt_tool::{Command, Counts, LineForm, ToolFault, WordsFault, perform, read_words, run_lines};
+use std::alloc::{AllocError, Global};
+use std::fmt::Debug;
+use std::io::Cursor;
+use std::test::Fail;
+
+/// What a call answers, which is made again where it was refused.
+fn twice<T, E: Drop, C: Fn() -> Result<T, E>>(call: C) -> Result<T, E>
+    requires { C.IsAlwaysCallable call }
+{
+    match call() {
+        Ok(value) => Ok(value),
+        Err(_) => call(),
+    }
+}
+
+/// A value as text.
+fn shown<T: Debug>(alloc: Global, value: &T) -> Result<String, AllocError> {
+    match format!(in alloc; "{value:?}") {
+        Ok(text) => Ok(text),
+        Err(_) => format!(in alloc; "{value:?}"),
+    }
+}
+
+/// Whether a call gives its answer, and leaves its arguments as they were; and where it tells that a growth was
+/// refused, whether it leaves them as well, and gives its answer when it is made again.
+fn answers<A, T, C, P, R>(
+    alloc: Global,
+    arguments: &A,
+    call: C,
+    is_answer: P,
+    is_refusal: R,
+) -> Result<bool, AllocError>
+where
+    A: Debug,
+    T: Drop,
+    C: Fn() -> T,
+    P: Fn(&T) -> bool,
+    R: Fn(&T) -> bool,
+    requires call { C.IsAlwaysCallable call }
+    requires answer { P.IsAlwaysCallable is_answer }
+    requires refusal { R.IsAlwaysCallable is_refusal }
+{
+    let before = shown(alloc, arguments)?;
+    let answer = call();
+    let is_kept = shown(alloc, arguments)?.as_str() == before.as_str();
+    Ok(is_kept && (is_answer(&answer) || (is_refusal(&answer) && is_answer(&call()))))
+}
+
+/// Room for what a run writes, which then takes no memory for it.
+type Page = Cursor<[u8; 128]>;
+
+/// Room with nothing written.
+fn empty_page() -> Page {
+    Cursor::new([0; 128])
+}
+
+/// What was written.
+fn text_of(page: &Page) -> &[u8] {
+    let length = page.position() as usize;
+    page.get_ref().get(..length).unwrap_or(&[])
+}
+
+/// The sample, which passes the check.
+fn sample(alloc: Global) -> Result<Checked<SortedTable>, Fail> {
+    for _ in 0..2 {
+        if let Ok(Some(checked)) = checked(alloc) {
+            return Ok(checked);
+        }
+    }
+    Err(Fail::from("the sample does not pass"))
+}
+
+/// How a run over the lines ends, and what it wrote.
+fn run(alloc: Global, checked: &Checked<SortedTable>) -> (Result<Counts, ToolFault>, Page) {
+    let mut page = empty_page();
+    let mut output = Device::new(&mut page);
+    let end = run_lines(
+        alloc,
+        checked,
+        LineForm::Tag,
+        &mut Device::new(LINES),
+        &mut output,
+    );
+    (end, page)
+}
+
+#[test]
+fn lines_are_answered(rt: HostRuntime) -> Result<(), Fail> {
+    let checked = sample(rt.alloc())?;
+    let is_answered = answers(
+        rt.alloc(),
+        checked.table(),
+        || run(rt.alloc(), &checked),
+        |(end, page)| {
+            matches!(end, Ok(counts) if counts.lines == 4 && counts.refused == 2)
+                && text_of(page) == OWED.as_bytes()
+        },
+        |(end, page)| {
+            matches!(end, Err(ToolFault::OutOfMemory)) && OWED.as_bytes().starts_with(text_of(page))
+        },
+    );
+    assert!(rt; is_answered?);
+    Ok(())
+}
+
+/// Rows, and what is owed for them by their second fields.
+const ROWS: &[u8] = b"1\tzh-yue\tx\r\n2\tfr\n3\n4\tsgn-dd";
+
+const OWED_ROWS: &str = "1\tyue\tx\t\r\n2\tfr\tUnknownLanguage 1\n3\tNoColumn\n4\tgsg\t\n";
+
+/// How a run over the rows ends, and what it wrote.
+fn run_rows(alloc: Global, checked: &Checked<SortedTable>) -> (Result<Counts, ToolFault>, Page) {
+    let mut page = empty_page();
+    let mut output = Device::new(&mut page);
+    let mut input = Device::new(ROWS);
+    let end = run_lines(alloc, checked, LineForm::Row(1), &mut input, &mut output);
+    (end, page)
+}
+
+#[test]
+fn rows_are_answered(rt: HostRuntime) -> Result<(), Fail> {
+    let checked = sample(rt.alloc())?;
+    let is_answered = answers(
+        rt.alloc(),
+        checked.table(),
+        || run_rows(rt.alloc(), &checked),
+        |(end, page)| {
+            matches!(end, Ok(counts) if counts.lines == 4 && counts.refused == 2)
+                && text_of(page) == OWED_ROWS.as_bytes()
+        },
+        |(end, page)| {
+            matches!(end, Err(ToolFault::OutOfMemory))
+                && OWED_ROWS.as_bytes().starts_with(text_of(page))
+        },
+    );
+    assert!(rt; is_answered?);
+    Ok(())
+}
+
+/// How a run of the program ended, and what it wrote to the output and to the errors.
+#[derive(Drop)]
+struct Ended {
+    status: u8,
+    output: Page,
+    errors: Page,
+}
+
+/// How a command on files of this text ends, with the lines as its input.
+fn perform_on(alloc: Global, command: &Command, file: &str) -> Ended {
+    let (mut output, mut errors) = (empty_page(), empty_page());
+    let status = perform(
+        alloc,
+        command,
+        &mut Device::new(file.as_bytes()),
+        &mut Device::new(file.as_bytes()),
+        &mut Device::new(LINES),
+        &mut Device::new(&mut output),
+        &mut Device::new(&mut errors),
+    );
+    Ended {
+        status,
+        output,
+        errors,
+    }
+}
+
+/// Whether the words name a command that prints this of files of this text, and ends so.
+fn prints(
+    alloc: Global,
+    words: &[&str],
+    file: &str,
+    printed: &str,
+    status: u8,
+) -> Result<bool, Fail> {
+    let Ok(command) = twice(|| read(alloc, words)) else {
+        return Ok(false);
+    };
+    let is_printed = answers(
+        alloc,
+        &command,
+        || perform_on(alloc, &command, file),
+        |ended| {
+            ended.status == status
+                && text_of(&ended.output) == printed.as_bytes()
+                && text_of(&ended.errors).is_empty()
+        },
+        |ended| {
+            ended.status == 4
+                && printed.as_bytes().starts_with(text_of(&ended.output))
+                && text_of(&ended.errors) == b"! OutOfMemory\n".as_slice()
+        },
+    );
+    Ok(is_printed?)
+}
+
+/// Whether the words name a command that prints this of the sample, and ends so.
+fn prints_of_sample(
+    alloc: Global,
+    words: &[&str],
+    printed: &str,
+    status: u8,
+) -> Result<bool, Fail> {
+    let file = twice(|| sample_text(alloc, "\n", ""))?;
+    prints(alloc, words, &file, printed, status)
+}
+
+#[test]
+fn classes_are_told(rt: HostRuntime) -> Result<(), Fail> {
+    let words = ["classify", "ZH-yue-hant-hk"];
+    assert!(rt; prints(rt.alloc(), &words, "", "langtag zh-yue-Hant-HK\n", 0)?);
+    assert!(rt; prints(rt.alloc(), &["classify", "en-a"], "", "! Unfinished 3\n", 1)?);
+    Ok(())
+}
+
+#[test]
+fn registries_are_checked(rt: HostRuntime) -> Result<(), Fail> {
+    assert!(rt; prints_of_sample(rt.alloc(), &["check", "registry"], "ok 46\n", 0)?);
+    Ok(())
+}
+
+#[test]
+fn registries_are_refused(rt: HostRuntime) -> Result<(), Fail> {
+    let words = ["check", "registry"];
+    assert!(rt; prints(rt.alloc(), &words, "abc", "jar BadLine line 1\n", 2)?);
+    assert!(rt;
+        prints(
+            rt.alloc(),
+            &words,
+            "Subtag: en",
+            "record 1 MissingType\n",
+            2
+        )?
+    );
+    Ok(())
+}
+
+#[test]
+fn tags_are_canonicalised(rt: HostRuntime) -> Result<(), Fail> {
+    assert!(rt; prints_of_sample(rt.alloc(), &["canon", "registry"], OWED, 1)?);
+    Ok(())
+}
+
+#[test]
+fn extlang_forms_are_made(rt: HostRuntime) -> Result<(), Fail> {
+    let words = ["extlang", "registry", "cmn-hans"];
+    assert!(rt; prints_of_sample(rt.alloc(), &words, "zh-cmn-Hans\n", 0)?);
+    Ok(())
+}
+
+#[test]
+fn tags_are_compared(rt: HostRuntime) -> Result<(), Fail> {
+    let words = ["equal", "registry", "YUE", "zh-yue"];
+    assert!(rt; prints_of_sample(rt.alloc(), &words, "equal\n", 0)?);
+    Ok(())
+}
+
+#[test]
+fn tags_are_explained(rt: HostRuntime) -> Result<(), Fail> {
+    let words = ["explain", "registry", "sgn-dd"];
+    let lines = "Region 2 27 sgn-DE\nWhole 1 44 gsg\n= gsg\n";
+    assert!(rt; prints_of_sample(rt.alloc(), &words, lines, 0)?);
+    Ok(())
+}
+
+#[test]
+fn upgrades_are_judged(rt: HostRuntime) -> Result<(), Fail> {
+    assert!(rt; prints_of_sample(rt.alloc(), &["upgrade", "older", "newer"], "ok\n", 0)?);
+    Ok(())
+}
+
+/// Words, and what the answer to them begins with as text.
+const WORDS: [(&[&str], &str); 10] = [
+    (&["classify", "en"], "Ok(Classify(\"en\"))"),
+    (&["check", "registry"], "Ok(Check(\"registry\"))"),
+    (&["canon", "registry"], "Ok(Canon(\"registry\"))"),
+    (
+        &["extlang", "registry", "en"],
+        "Ok(Extlang(\"registry\", \"en\"))",
+    ),
+    (
+        &["equal", "registry", "en", "de"],
+        "Ok(Equal(\"registry\", \"en\", \"de\"))",
+    ),
+    (
+        &["explain", "registry", "en"],
+        "Ok(Explain(\"registry\", \"en\"))",
+    ),
+    (
+        &["upgrade", "older", "newer"],
+        "Ok(Upgrade(\"older\", \"newer\"))",
+    ),
+    (&["upgrade", "older"], "Err(Usage(\"error: "),
+    (&["--help"], "Err(Help(\"BCP 47 language tags"),
+    (&["canon", "--help"], "Err(Help(\"Prints the canonical form"),
+];
+
+/// Whether words name no command for want of memory.
+fn is_refused(answer: &Result<Command, WordsFault>) -> bool {
+    matches!(answer, Err(WordsFault::OutOfMemory))
+}
+
+/// What `read_words` answers, as text.
+fn answer_text(alloc: Global, words: &[String]) -> Result<String, AllocError> {
+    let answer = read_words(alloc, words);
+    if is_refused(&answer) {
+        return shown(alloc, &read_words(alloc, words));
+    }
+    shown(alloc, &answer)
+}
+
+/// Whether the answer to words begins so.
+fn are_read(alloc: Global, words: &[&str], start: &str) -> Result<bool, AllocError> {
+    let words = twice(|| command_line(alloc, words))?;
+    let text = answer_text(alloc, &words)?;
+    let is_read = answers(
+        alloc,
+        &words,
+        || read_words(alloc, &words),
+        |answer| matches!(shown(alloc, answer), Ok(own) if own.as_str() == text.as_str()),
+        is_refused,
+    )?;
+    Ok(is_read && text.as_str().starts_with(start))
+}
+
+#[test]
+fn words_are_read(rt: HostRuntime) -> Result<(), Fail> {
+    for (words, start) in &WORDS {
+        assert!(rt; are_read(rt.alloc(), words, start)?, "{start}");
+    }
+    Ok(())
+}

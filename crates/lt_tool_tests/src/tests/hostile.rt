@@ -1,0 +1,254 @@
+//! Input that ends early or never, lines that are too long, and devices that fail at each of their calls.
+use super::registries::{LINES, OWED, checked, prints_of_reader};
+use super::sample::sample_text;
+use super::{NO_FILE, long_text, read};
+use lt_canon::Checked;
+use lt_jar::{Device, Pieces, Takes};
+use lt_registry::SortedTable;
+use lt_tool::{Command, Counts, LineForm, ToolFault, perform, run_lines};
+use std::alloc::{AllocError, Global};
+use std::io::{Read, Write};
+use std::test::Fail;
+
+/// The sample, which passes the check.
+fn sample(alloc: Global) -> Result<Checked<SortedTable>, Fail> {
+    match checked(alloc)? {
+        Some(checked) => Ok(checked),
+        None => Err(Fail::from("the sample does not pass")),
+    }
+}
+
+#[test]
+fn a_line_without_end(rt: HostRuntime) -> Result<(), Fail> {
+    let checked = sample(rt.alloc())?;
+    let mut output = Vec::new(rt.alloc());
+    let end = run_lines(
+        rt.alloc(),
+        &checked,
+        LineForm::Tag,
+        &mut Device::new(Pieces::for_ever(b"a", 1)),
+        &mut Device::new(&mut output),
+    );
+    assert!(rt; matches!(end, Err(ToolFault::TooManyTurns)));
+    assert!(rt; output.is_empty());
+    Ok(())
+}
+
+/// The line of a tag, ended as in DOS, and a line of 100,000 letters.
+fn long_lines(alloc: Global, tag: &str) -> Result<String, AllocError> {
+    let mut lines = format!(in alloc; "{tag}\r\n")?;
+    for _ in 0..100_000 {
+        lines.push('a')?;
+    }
+    lines.push('\n')?;
+    Ok(lines)
+}
+
+#[test]
+fn a_line_that_is_too_long(rt: HostRuntime) -> Result<(), Fail> {
+    let checked = sample(rt.alloc())?;
+    let tag = long_text(rt.alloc(), "en-x", "-aa")?;
+    let lines = long_lines(rt.alloc(), &tag)?;
+    let owed = format!(in rt.alloc(); "{tag}\n! TooLong 0\n")?;
+    let mut output = Vec::new(rt.alloc());
+    let end = run_lines(
+        rt.alloc(),
+        &checked,
+        LineForm::Tag,
+        &mut Device::new(lines.as_bytes()),
+        &mut Device::new(&mut output),
+    );
+    assert!(rt; is_end(&end, 2, 1));
+    assert!(rt; output.as_slice() == owed.as_bytes());
+    Ok(())
+}
+
+/// Whether a run answered so many lines, and refused so many of them.
+fn is_end(end: &Result<Counts, ToolFault>, lines: u64, refused: u64) -> bool {
+    matches!(end, Ok(counts) if counts.lines == lines && counts.refused == refused)
+}
+
+/// How a run over the lines ends that writes to this writer.
+fn run_into(
+    alloc: Global,
+    checked: &Checked<SortedTable>,
+    writer: &mut Takes,
+) -> Result<Counts, ToolFault> {
+    let mut output = Device::new(writer);
+    run_lines(
+        alloc,
+        checked,
+        LineForm::Tag,
+        &mut Device::new(LINES),
+        &mut output,
+    )
+}
+
+/// Whether `canon` over a reader and a writer fails, and says this to the errors.
+fn canon_fails<R: Read + Drop, W: Write>(
+    alloc: Global,
+    registry: &str,
+    reader: R,
+    writer: &mut W,
+    said: &[u8],
+) -> bool {
+    let Ok(command) = read(alloc, &["canon", "registry"]) else {
+        return false;
+    };
+    let mut errors = Vec::new(alloc);
+    let end = perform(
+        alloc,
+        &command,
+        &mut Device::new(registry.as_bytes()),
+        &mut Device::new(NO_FILE),
+        &mut Device::new(reader),
+        &mut Device::new(writer),
+        &mut Device::new(&mut errors),
+    );
+    end == 4 && errors.as_slice() == said
+}
+
+/// How often a run over the lines writes, where 3 bytes are taken in a call.
+const WRITES: u64 = 16;
+
+/// A writer that takes 3 bytes in a call, and fails or takes none in the call of this number.
+fn narrow(alloc: Global, call: u64, fails: bool) -> Takes {
+    let mut writer = Takes::new(alloc, 3);
+    if fails {
+        writer.fail_at(call);
+    } else {
+        writer.take_none_at(call);
+    }
+    writer
+}
+
+#[test]
+fn three_bytes_at_a_time(rt: HostRuntime) -> Result<(), Fail> {
+    let checked = sample(rt.alloc())?;
+    let mut writer = narrow(rt.alloc(), WRITES.saturating_add(1), true);
+    let end = run_into(rt.alloc(), &checked, &mut writer);
+    assert!(rt; is_end(&end, 4, 2));
+    assert!(rt; writer.taken() == OWED.as_bytes());
+    Ok(())
+}
+
+/// Whether a run stops at this call of its writer, and a front of what is owed was taken.
+fn stops_at_write(
+    alloc: Global,
+    checked: &Checked<SortedTable>,
+    registry: &str,
+    call: u64,
+    fails: bool,
+) -> bool {
+    let mut writer = narrow(alloc, call, fails);
+    let end = run_into(alloc, checked, &mut writer);
+    let mut printed = narrow(alloc, call, fails);
+    matches!(end, Err(ToolFault::Write))
+        && OWED.as_bytes().starts_with(writer.taken())
+        && canon_fails(alloc, registry, LINES, &mut printed, b"! Write\n")
+        && printed.taken() == writer.taken()
+}
+
+#[test]
+fn each_write_of_a_run_failing(rt: HostRuntime) -> Result<(), Fail> {
+    let checked = sample(rt.alloc())?;
+    let registry = sample_text(rt.alloc(), "\n", "")?;
+    for call in 1..=WRITES {
+        assert!(rt;
+            stops_at_write(rt.alloc(), &checked, &registry, call, true),
+            "{call}"
+        );
+        assert!(rt;
+            stops_at_write(rt.alloc(), &checked, &registry, call, false),
+            "{call}"
+        );
+    }
+    Ok(())
+}
+
+/// What is owed for the lines that a line feed ends.
+const ENDED: &str = "yue\n! UnknownLanguage 1\n! EmptySubtag 1\n";
+
+/// What a run has written that reads 4 bytes at a time, if the read of this number fails.
+const READS: [(u64, &str); 6] = [
+    (1, ""),
+    (2, ""),
+    (3, "yue\n"),
+    (4, ENDED),
+    (5, ENDED),
+    (6, ENDED),
+];
+
+/// Whether a run stops at this read, and has written this.
+fn stops_at_read(
+    alloc: Global,
+    checked: &Checked<SortedTable>,
+    registry: &str,
+    call: u64,
+    owed: &str,
+) -> bool {
+    let reader = || Pieces::once(LINES, 4).failing_at(call);
+    let mut written = Vec::new(alloc);
+    let mut output = Device::new(&mut written);
+    let end = run_lines(
+        alloc,
+        checked,
+        LineForm::Tag,
+        &mut Device::new(reader()),
+        &mut output,
+    );
+    let mut printed = Vec::new(alloc);
+    matches!(end, Err(ToolFault::Read))
+        && written.as_slice() == owed.as_bytes()
+        && canon_fails(alloc, registry, reader(), &mut printed, b"! Read\n")
+        && printed.as_slice() == owed.as_bytes()
+}
+
+#[test]
+fn each_read_of_a_run_failing(rt: HostRuntime) -> Result<(), Fail> {
+    let checked = sample(rt.alloc())?;
+    let registry = sample_text(rt.alloc(), "\n", "")?;
+    for (call, owed) in &READS {
+        assert!(rt;
+            stops_at_read(rt.alloc(), &checked, &registry, *call, owed),
+            "{call}"
+        );
+    }
+    Ok(())
+}
+
+/// Whether the command, `check`, passes the bytes of a file, or refuses them as a registry.
+fn is_judged(alloc: Global, command: &Command, file: &[u8]) -> bool {
+    let (mut output, mut errors) = (Vec::new(alloc), Vec::new(alloc));
+    let end = perform(
+        alloc,
+        command,
+        &mut Device::new(file),
+        &mut Device::new(NO_FILE),
+        &mut Device::new(NO_FILE),
+        &mut Device::new(&mut output),
+        &mut Device::new(&mut errors),
+    );
+    let wanted = if output.starts_with(b"ok ") { 0 } else { 2 };
+    end == wanted && errors.is_empty()
+}
+
+#[test]
+fn each_front_of_a_registry(rt: HostRuntime) -> Result<(), Fail> {
+    let registry = sample_text(rt.alloc(), "\n", "")?;
+    let Ok(command) = read(rt.alloc(), &["check", "registry"]) else {
+        panic!(rt; "no command");
+    };
+    for end in 0..=registry.len() {
+        let front = registry.as_bytes().get(..end).unwrap_or(&[]);
+        assert!(rt; is_judged(rt.alloc(), &command, front), "{end}");
+    }
+    Ok(())
+}
+
+#[test]
+fn a_registry_without_end(rt: HostRuntime) {
+    let registry = Pieces::for_ever(b"\n", 1);
+    let line = "jar TooManyTurns line 10000001\n";
+    assert!(rt; prints_of_reader(rt.alloc(), "check", registry, line, 4));
+}

@@ -1,0 +1,143 @@
+//! The whole program, over files that are texts.
+use super::command_line;
+use lt_jar::{Device, Pieces};
+use lt_tool::{Status, run_program};
+use std::alloc::Global;
+use std::io::{self, ErrorKind};
+
+/// A registry of two languages.
+const OLD: &[u8] =
+    b"File-Date: 2024-01-01\n%%\nType: language\nSubtag: en\n%%\nType: language\nSubtag: fr\n";
+
+/// A registry without the second of them.
+const NEW: &[u8] = b"File-Date: 2024-02-01\n%%\nType: language\nSubtag: en\n";
+
+/// Opens the file of this name.
+fn open_text(name: &str) -> io::Result<&'static [u8]> {
+    match name {
+        "old" => Ok(OLD),
+        "new" => Ok(NEW),
+        "large" => Err(io::Error::from(ErrorKind::OutOfMemory)),
+        _ => Err(io::Error::from(ErrorKind::NotFound)),
+    }
+}
+
+/// Whether a run of the program by these words prints this, says this to the errors, and ends so.
+fn runs(alloc: Global, words: &[&str], shown: &str, said: &str, end: Status) -> bool {
+    let words = command_line(alloc, words).map_err(io::Error::from);
+    let (mut output, mut errors) = (Vec::new(alloc), Vec::new(alloc));
+    let status = run_program(
+        alloc,
+        words,
+        &mut |name| open_text(name),
+        &mut Device::new(b"EN\nde\n".as_slice()),
+        &mut Device::new(&mut output),
+        &mut Device::new(&mut errors),
+    );
+    status == end.code()
+        && output.as_slice() == shown.as_bytes()
+        && errors.as_slice() == said.as_bytes()
+}
+
+/// Words, what a run by them prints and says to the errors, and how it ends.
+const RUNS: [(&[&str], &str, &str, Status); 9] = [
+    (&["classify", "EN"], "langtag en\n", "", Status::Done),
+    (&["check", "old"], "ok 2\n", "", Status::Done),
+    (
+        &["canon", "new"],
+        "en\n! UnknownLanguage 1\n",
+        "",
+        Status::Refused,
+    ),
+    (
+        &["upgrade", "old", "new"],
+        "upgrade U1 record 3\n",
+        "",
+        Status::RegistryRefused,
+    ),
+    (&["upgrade", "new", "old"], "ok\n", "", Status::Done),
+    (
+        &["upgrade", "old", "missing"],
+        "",
+        "! File\n",
+        Status::Failed,
+    ),
+    (
+        &["upgrade", "missing", "new"],
+        "",
+        "! File\n",
+        Status::Failed,
+    ),
+    (&["check", "large"], "", "! OutOfMemory\n", Status::Failed),
+    (
+        &["upgrade", "large", "missing"],
+        "",
+        "! OutOfMemory\n",
+        Status::Failed,
+    ),
+];
+
+#[test]
+fn runs_of_the_program(rt: HostRuntime) {
+    for (words, shown, said, end) in &RUNS {
+        assert!(rt; runs(rt.alloc(), words, shown, said, *end));
+    }
+}
+
+/// Whether a run of the program whose input fails at its first read prints this, says this to the errors, and ends so.
+fn runs_closed(alloc: Global, words: &[&str], shown: &str, said: &str, end: Status) -> bool {
+    let words = command_line(alloc, words).map_err(io::Error::from);
+    let (mut output, mut errors) = (Vec::new(alloc), Vec::new(alloc));
+    let status = run_program(
+        alloc,
+        words,
+        &mut |name| open_text(name),
+        &mut Device::new(Pieces::once(b"EN\n", 4).failing_at(1)),
+        &mut Device::new(&mut output),
+        &mut Device::new(&mut errors),
+    );
+    status == end.code()
+        && output.as_slice() == shown.as_bytes()
+        && errors.as_slice() == said.as_bytes()
+}
+
+#[test]
+fn inputs_that_are_closed(rt: HostRuntime) {
+    assert!(rt;
+        runs_closed(
+            rt.alloc(),
+            &["canon", "missing"],
+            "",
+            "! Read\n",
+            Status::Failed
+        )
+    );
+    assert!(rt; runs_closed(rt.alloc(), &["check", "old"], "ok 2\n", "", Status::Done));
+}
+
+/// Whether words that can't be had for this reason end a run so.
+fn ends_without_words(alloc: Global, kind: ErrorKind, said: &str, end: Status) -> bool {
+    let (mut output, mut errors) = (Vec::new(alloc), Vec::new(alloc));
+    let status = run_program(
+        alloc,
+        Err(io::Error::from(kind)),
+        &mut |name| open_text(name),
+        &mut Device::new(b"".as_slice()),
+        &mut Device::new(&mut output),
+        &mut Device::new(&mut errors),
+    );
+    status == end.code() && output.is_empty() && errors.as_slice().starts_with(said.as_bytes())
+}
+
+#[test]
+fn words_that_fail(rt: HostRuntime) {
+    assert!(rt; ends_without_words(rt.alloc(), ErrorKind::InvalidData, "error: ", Status::Usage));
+    assert!(rt;
+        ends_without_words(
+            rt.alloc(),
+            ErrorKind::OutOfMemory,
+            "! OutOfMemory\n",
+            Status::Failed
+        )
+    );
+}

@@ -1,0 +1,311 @@
+//! The commands that read a registry: `check` and `canon`.
+use super::sample::{FOLDED, push_record, sample_text};
+use super::{NO_FILE, prints, read};
+use lt_canon::Checked;
+use lt_jar::{Device, Pieces, read_jar};
+use lt_registry::{Registry, SortedTable};
+use lt_tool::{LineForm, ToolFault, perform, run_lines};
+use std::alloc::{AllocError, Global};
+use std::io::{self, ErrorKind, Write};
+use std::test::Fail;
+
+/// The lines of a run, CR LF and a last line without a line end among them.
+pub const LINES: &[u8] = b"zh-yue\r\nfr\n\nsgn-dd";
+
+/// What is owed for them.
+pub const OWED: &str = "yue\n! UnknownLanguage 1\n! EmptySubtag 1\ngsg\n";
+
+/// Whether a command on the registry of a file prints this to the lines of the input, and ends so.
+fn prints_of(
+    alloc: Global,
+    name: &str,
+    file: &[u8],
+    lines: &[u8],
+    shown: &str,
+    status: u8,
+) -> bool {
+    prints(alloc, &[name, "registry"], file, lines, shown, status)
+}
+
+#[test]
+fn registries_that_pass(rt: HostRuntime) -> Result<(), Fail> {
+    let sample = sample_text(rt.alloc(), "\n", "")?;
+    assert!(rt; prints_of(rt.alloc(), "check", sample.as_bytes(), b"", "ok 46\n", 0));
+    assert!(rt; prints_of(rt.alloc(), "check", b"", b"", "ok 0\n", 0));
+    Ok(())
+}
+
+/// Whether `check` passes this file of 46 entries without its last line end.
+fn passes_without_end(alloc: Global, file: &str) -> bool {
+    match file.as_bytes().strip_suffix(b"\r\n") {
+        Some(front) => {
+            front.ends_with(b"zh-Hans") && prints_of(alloc, "check", front, b"", "ok 46\n", 0)
+        }
+        None => false,
+    }
+}
+
+#[test]
+fn carriage_returns_and_no_last_line_end(rt: HostRuntime) -> Result<(), Fail> {
+    let text = sample_text(rt.alloc(), "\r\n", FOLDED)?;
+    assert!(rt; passes_without_end(rt.alloc(), &text));
+    Ok(())
+}
+
+/// Whether the commands refuse a file by this line.
+fn is_refused(alloc: Global, file: &str, line: &str) -> bool {
+    prints_of(alloc, "check", file.as_bytes(), b"", line, 2)
+        && prints_of(alloc, "canon", file.as_bytes(), b"", line, 2)
+}
+
+#[test]
+fn registries_that_are_refused(rt: HostRuntime) -> Result<(), Fail> {
+    assert!(rt; is_refused(rt.alloc(), "abc", "jar BadLine line 1\n"));
+    assert!(rt; is_refused(rt.alloc(), "Subtag: en", "record 1 MissingType\n"));
+    let mut repeated = sample_text(rt.alloc(), "\n", "")?;
+    push_record(&mut repeated, &("language", "de", "", ""), "\n")?;
+    assert!(rt; is_refused(rt.alloc(), &repeated, "check C1 record 48\n"));
+    Ok(())
+}
+
+#[test]
+fn lines_are_answered(rt: HostRuntime) -> Result<(), Fail> {
+    let sample = sample_text(rt.alloc(), "\n", "")?;
+    assert!(rt; prints_of(rt.alloc(), "canon", sample.as_bytes(), LINES, OWED, 1));
+    assert!(rt;
+        prints_of(
+            rt.alloc(),
+            "canon",
+            sample.as_bytes(),
+            b"iw-x-A\n",
+            "he-x-a\n",
+            0
+        )
+    );
+    Ok(())
+}
+
+/// The sample, if it passes the check.
+pub fn checked(alloc: Global) -> Result<Option<Checked<SortedTable>>, AllocError> {
+    let sample = sample_text(alloc, "\n", "")?;
+    let Ok(jar) = read_jar(alloc, sample.as_bytes()) else {
+        return Ok(None);
+    };
+    let Ok(registry) = Registry::from_records(alloc, &jar.records) else {
+        return Ok(None);
+    };
+    let Ok(table) = SortedTable::new(alloc, registry) else {
+        return Ok(None);
+    };
+    Ok(Checked::new(alloc, table).ok())
+}
+
+/// The length of the pieces that a reader gives, the call at which it fails, what is written of a run over its
+/// lines, and whether the run reaches their end.
+const READS: [(usize, u64, &str, bool); 9] = [
+    (1, 64, OWED, true),
+    (2, 64, OWED, true),
+    (3, 64, OWED, true),
+    (7, 64, OWED, true),
+    (64, 64, OWED, true),
+    (4, 1, "", false),
+    (4, 3, "yue\n", false),
+    (4, 4, "yue\n! UnknownLanguage 1\n! EmptySubtag 1\n", false),
+    (4, 5, "yue\n! UnknownLanguage 1\n! EmptySubtag 1\n", false),
+];
+
+/// Whether a run over a reader's lines writes this, and reaches their end or names the read that failed.
+fn answers(
+    alloc: Global,
+    checked: &Checked<SortedTable>,
+    reader: Pieces,
+    owed: &str,
+    at_end: bool,
+) -> bool {
+    let mut output = Vec::new(alloc);
+    let mut input = Device::new(reader);
+    let ends = match run_lines(
+        alloc,
+        checked,
+        LineForm::Tag,
+        &mut input,
+        &mut Device::new(&mut output),
+    ) {
+        Ok(counts) => at_end && counts.lines == 4 && counts.refused == 2,
+        Err(fault) => !at_end && fault == ToolFault::Read,
+    };
+    ends && output.as_slice() == owed.as_bytes()
+}
+
+#[test]
+fn lines_in_pieces(rt: HostRuntime) -> Result<(), Fail> {
+    let Some(checked) = checked(rt.alloc())? else {
+        panic!(rt; "the sample does not pass");
+    };
+    for (piece, call, owed, at_end) in &READS {
+        let reader = Pieces::once(LINES, *piece).failing_at(*call);
+        assert!(rt; answers(rt.alloc(), &checked, reader, owed, *at_end));
+    }
+    Ok(())
+}
+
+/// A writer that takes 16 bytes at a time, and fails at a call.
+#[derive(Drop)]
+struct Narrow<'a> {
+    taken: &'a mut Vec<u8>,
+    calls_left: usize,
+}
+
+impl Write for Narrow<'_> {
+    fn write(&mut self, buf: &[u8]) -> io::Result<usize> {
+        if self.calls_left == 0 {
+            return Err(io::Error::from(ErrorKind::StorageFull));
+        }
+        self.calls_left -= 1;
+        let count = buf.len().min(16);
+        if self.taken.extend_from_slice(&buf[..count]).is_err() {
+            return Err(io::Error::from(ErrorKind::OutOfMemory));
+        }
+        Ok(count)
+    }
+
+    fn flush(&mut self) -> io::Result<()> {
+        Ok(())
+    }
+}
+
+/// The writes before one fails, and what was written of a run then.
+const WRITES: [(usize, &str); 4] = [
+    (0, ""),
+    (1, "yue\n! UnknownLan"),
+    (2, "yue\n! UnknownLanguage 1\n! EmptyS"),
+    (3, "yue\n! UnknownLanguage 1\n! EmptySubtag 1\n"),
+];
+
+/// Whether a run over the lines writes this before the write that fails, and names that write.
+fn stops(alloc: Global, checked: &Checked<SortedTable>, calls_left: usize, owed: &str) -> bool {
+    let mut taken = Vec::new(alloc);
+    let mut output = Device::new(Narrow {
+        taken: &mut taken,
+        calls_left,
+    });
+    let end = run_lines(
+        alloc,
+        checked,
+        LineForm::Tag,
+        &mut Device::new(LINES),
+        &mut output,
+    );
+    matches!(end, Err(ToolFault::Write)) && taken.as_slice() == owed.as_bytes()
+}
+
+#[test]
+fn writes_of_a_run_that_fail(rt: HostRuntime) -> Result<(), Fail> {
+    let Some(checked) = checked(rt.alloc())? else {
+        panic!(rt; "the sample does not pass");
+    };
+    for (calls_left, owed) in &WRITES {
+        assert!(rt; stops(rt.alloc(), &checked, *calls_left, owed));
+    }
+    Ok(())
+}
+
+/// Whether `canon` over a reader that fails at a call, and a writer that fails after so many, writes this before,
+/// and names the failure.
+fn names(
+    alloc: Global,
+    file: &str,
+    call: u64,
+    writes_left: usize,
+    owed: &str,
+    named: &[u8],
+) -> bool {
+    let Ok(command) = read(alloc, &["canon", "registry"]) else {
+        return false;
+    };
+    let (mut taken, mut errors) = (Vec::new(alloc), Vec::new(alloc));
+    let end = perform(
+        alloc,
+        &command,
+        &mut Device::new(file.as_bytes()),
+        &mut Device::new(NO_FILE),
+        &mut Device::new(Pieces::once(LINES, 4).failing_at(call)),
+        &mut Device::new(Narrow {
+            taken: &mut taken,
+            calls_left: writes_left,
+        }),
+        &mut Device::new(&mut errors),
+    );
+    end == 4 && taken.as_slice() == owed.as_bytes() && errors.as_slice() == named
+}
+
+#[test]
+fn failures_of_canon(rt: HostRuntime) -> Result<(), Fail> {
+    let sample = sample_text(rt.alloc(), "\n", "")?;
+    assert!(rt; names(rt.alloc(), &sample, 3, 64, "yue\n", b"! Read\n"));
+    assert!(rt; names(rt.alloc(), &sample, 64, 1, "yue\n", b"! Write\n"));
+    Ok(())
+}
+
+/// Whether a command prints this of the registry of a reader, ends so, and leaves the input alone.
+pub fn prints_of_reader(
+    alloc: Global,
+    name: &str,
+    registry: Pieces,
+    shown: &str,
+    status: u8,
+) -> bool {
+    let Ok(command) = read(alloc, &[name, "registry"]) else {
+        return false;
+    };
+    let (mut output, mut errors) = (Vec::new(alloc), Vec::new(alloc));
+    let mut input = Device::new(Pieces::once(LINES, 4).failing_at(1));
+    let end = perform(
+        alloc,
+        &command,
+        &mut Device::new(registry),
+        &mut Device::new(NO_FILE),
+        &mut input,
+        &mut Device::new(&mut output),
+        &mut Device::new(&mut errors),
+    );
+    end == status
+        && errors.is_empty()
+        && output.as_slice() == shown.as_bytes()
+        && input.failures() == 0
+}
+
+/// How many bytes a reader of a registry gives in a call.
+const PIECE: usize = 64;
+
+/// The line that the program prints where a read fails behind these bytes.
+fn read_line(alloc: Global, front: &[u8]) -> Result<String, AllocError> {
+    let line = front.split(|byte| *byte == b'\n').count();
+    format!(in alloc; "jar Read line {line}\n")
+}
+
+/// Whether the commands name the line that was being read where the reads behind these bytes of a registry fail.
+fn names_read(alloc: Global, registry: &[u8], front: &[u8], call: u64) -> Result<bool, AllocError> {
+    let line = read_line(alloc, front)?;
+    let reader = || Pieces::once(registry, PIECE).failing_at(call);
+    Ok(
+        prints_of_reader(alloc, "check", reader(), &line, 4)
+            && prints_of_reader(alloc, "canon", reader(), &line, 4),
+    )
+}
+
+#[test]
+fn reads_of_a_registry_that_fail(rt: HostRuntime) -> Result<(), Fail> {
+    let sample = sample_text(rt.alloc(), "\n", "")?;
+    let registry = sample.as_bytes();
+    for index in 0..=registry.len().div_ceil(PIECE) {
+        let front = registry
+            .get(..index.saturating_mul(PIECE))
+            .unwrap_or(registry);
+        let call = (index as u64).saturating_add(1);
+        assert!(rt; names_read(rt.alloc(), registry, front, call)?);
+    }
+    let whole = Pieces::once(registry, PIECE);
+    assert!(rt; prints_of_reader(rt.alloc(), "check", whole, "ok 46\n", 0));
+    Ok(())
+}

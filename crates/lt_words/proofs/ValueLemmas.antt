@@ -1,0 +1,111 @@
+-- The values of positionals.
+use Rattle.std.proofs.Common.{◌≡◌, ◌∙◌, ℕ, List, [], ◌∷◌, Option, Some, None, map, sym, ap, refl, subst, slice_index, ◌==◌, Bool, if◌then◌else◌}
+use Rattle.clap.specs.Words.{Row, Text, first_of}
+use Rattle.lt_words.specs.CommandLine.{name_of, positionals_of}
+use Rattle.lt_words.specs.Reading.{AreGiven, IsNamed, LacksValue, NamesNone}
+use Rattle.lt_words.specs.declared.faults.WordsFault.{WordsFault}
+use Rattle.lt_words.specs.declared.faults.WordsFault.TheVariants as fault
+use Rattle.lt_words.specs.declared.commands.Command.{Command}
+use Rattle.lt_words.specs.Reading.{subcommand_for}
+use Rattle.lt_words.specs.declared.subcommands.Subcommand.{Subcommand}
+use Rattle.lt_words.specs.declared.subcommands.Subcommand.TheVariants as sub
+
+-- a positional that has no value
+pub no_texts : (rows : List Row) (positional : Text) → first_of positional rows ≡ None → (texts : List Text) → AreGiven rows (positional ∷ []) texts → ⊥
+no_texts rows positional none [] given = let e = given.each in cc
+no_texts rows positional none (text ∷ texts) given = let e = given.each in cc
+
+-- the first of positionals and the others
+pub given_first : (rows : List Row) (first : Text) (others : List Text) (texts : List Text) → AreGiven rows (first ∷ others) texts
+    → (text : Text) × (more : List Text) × AreGiven rows (first ∷ []) (text ∷ []) × AreGiven rows others more × (texts ≡ text ∷ more)
+given_first rows first others [] given = let e = given.each in cc
+given_first rows first others (text ∷ more) given =
+    let e = given.each in
+    let one : first_of first rows ≡ Some text = cc in
+    let rest : map (λ (p : Text). first_of p rows) others ≡ map (λ (t : Text). Some t) more = cc in
+    (text, more, record { each = ap (λ (o : Option Text). o ∷ []) one }, record { each = rest }, refl)
+
+-- values of one positional and of others
+pub given_more : (rows : List Row) (first : Text) (others : List Text) (text : Text) (more : List Text) → AreGiven rows (first ∷ []) (text ∷ []) → AreGiven rows others more
+    → AreGiven rows (first ∷ others) (text ∷ more)
+given_more rows first others text more one rest =
+    let e = one.each in
+    let f = rest.each in
+    record { each = cc }
+
+-- the first positional lacks a value
+pub lacks_first : (rows : List Row) (first : Text) (others : List Text) (f : WordsFault) → LacksValue rows (first ∷ []) f → LacksValue rows (first ∷ others) f
+lacks_first rows first others (fault.Help text) lacks = lacks
+lacks_first rows first others (fault.Version text) lacks = lacks
+lacks_first rows first others (fault.Usage said) lacks = λ texts given.
+    let parts = given_first rows first others texts given in lacks (parts.0 ∷ []) parts.2
+lacks_first rows first others fault.OutOfMemory lacks = tt
+
+-- another one does
+pub lacks_other : (rows : List Row) (first : Text) (others : List Text) (f : WordsFault) → LacksValue rows others f → LacksValue rows (first ∷ others) f
+lacks_other rows first others (fault.Help text) lacks = lacks
+lacks_other rows first others (fault.Version text) lacks = lacks
+lacks_other rows first others (fault.Usage said) lacks = λ texts given.
+    let parts = given_first rows first others texts given in lacks parts.1 parts.3
+lacks_other rows first others fault.OutOfMemory lacks = tt
+
+-- ---- subcommands
+
+-- the subcommand by two letters of its name
+by_letters : ℕ → Subcommand
+by_letters a =
+    if a == 97 then sub.Classify
+    else if a == 101 then sub.Check
+    else if a == 110 then sub.Canon
+    else if a == 118 then sub.Tsv
+    else if a == 116 then sub.Extlang
+    else if a == 117 then sub.Equal
+    else if a == 112 then sub.Explain
+    else sub.Upgrade
+
+named_back : (s : Subcommand) → by_letters (slice_index (name_of s) 2) ≡ s
+unfolding by_letters
+named_back sub.Classify = refl
+named_back sub.Check = refl
+named_back sub.Canon = refl
+named_back sub.Tsv = refl
+named_back sub.Extlang = refl
+named_back sub.Equal = refl
+named_back sub.Explain = refl
+named_back sub.Upgrade = refl
+
+-- a name is that of one subcommand
+pub one_named : (s other : Subcommand) → name_of s ≡ name_of other → s ≡ other
+one_named s other e = sym (named_back s) ∙ ap (λ (name : Text). by_letters (slice_index name 2)) e ∙ named_back other
+
+name_in : Option (Text × List Row) → Text
+name_in None = []
+name_in (Some found) = found.0
+
+rows_in : Option (Text × List Row) → List Row
+rows_in None = []
+rows_in (Some found) = found.1
+
+-- what a parse found is this subcommand, so a command that is named is its own
+found_named : (s : Subcommand) (rows : List Row) (command : Command) → (n : IsNamed (Some (name_of s, rows)) command)
+    → (subcommand_for command ≡ s) × (n.rows ≡ rows)
+unfolding name_in rows_in
+found_named s rows command n =
+    (one_named (subcommand_for command) s (sym (ap name_in n.named)), sym (ap rows_in n.named))
+
+-- the values that a command was named by are those of the subcommand
+pub named_values : (s : Subcommand) (rows : List Row) (command : Command) → (n : IsNamed (Some (name_of s, rows)) command)
+    → (subcommand_for command ≡ s) × AreGiven rows (positionals_of s) n.texts
+named_values s rows command n =
+    let found = found_named s rows command n in (
+      found.0,
+      subst (λ (r : List Row). AreGiven r (positionals_of s) n.texts) found.1
+          (subst (λ (t : Subcommand). AreGiven n.rows (positionals_of t) n.texts) found.0 n.given),
+    )
+
+-- a subcommand that lacks a value names no command
+pub lacks_named : (s : Subcommand) (rows : List Row) (f : WordsFault) → LacksValue rows (positionals_of s) f → NamesNone (Some (name_of s, rows)) f
+lacks_named s rows (fault.Help text) lacks = lacks
+lacks_named s rows (fault.Version text) lacks = lacks
+lacks_named s rows (fault.Usage text) lacks = λ command n. lacks n.texts (named_values s rows command n).1
+lacks_named s rows fault.OutOfMemory lacks = tt

@@ -1,0 +1,34 @@
+//! The subcommands of the program.
+ghost use Rattle.std.specs.Prelude.{◌≡◌, MatchOption};
+ghost use Rattle.lt_words.specs.CommandLine.{name_of};
+ghost use Rattle.lt_words.specs.declared.subcommands.Subcommand.{Subcommand};
+
+/// What the program is asked for, by the word behind its name.
+#[derive(Clone, Copy)]
+pub(crate) enum Subcommand {
+    Classify,
+    Check,
+    Canon,
+    Tsv,
+    Extlang,
+    Equal,
+    Explain,
+    Upgrade,
+}
+
+/// The subcommand of this name.
+pub(crate) fn subcommand_named(name: &str) -> Option<Subcommand>
+    ensures { MatchOption result ((s : Subcommand) → name_of s ≡ name.now → ⊥) (λ s. name_of s ≡ name.now) }
+{
+    match name {
+        "classify" => Some(Subcommand::Classify),
+        "check" => Some(Subcommand::Check),
+        "canon" => Some(Subcommand::Canon),
+        "tsv" => Some(Subcommand::Tsv),
+        "extlang" => Some(Subcommand::Extlang),
+        "equal" => Some(Subcommand::Equal),
+        "explain" => Some(Subcommand::Explain),
+        "upgrade" => Some(Subcommand::Upgrade),
+        _ => None,
+    }
+}
