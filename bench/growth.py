@@ -7,14 +7,16 @@ A NAME is a crate of tests, or `langtag` for the program; without one, all are r
 leaves its tests there, and `make` builds the program; `make growth` does both first.
 
 A run refuses the growth of one number and no other, for each number from 1 on until a run met no refusal.
-A test of a module `growths` has to pass in each. A command has to give the answer that it gives without a
-refusal, or a front of it with `! OutOfMemory` and status 4. A test `.._without_growth` marks where calls
+A test of a module `growths` has to pass in each. A test `.._in_order` prints where memory ran out: over the
+runs these numbers may never fall, and each from 1 to the last has to be among them. A command has to give the
+answer that it gives without a refusal, or a front of it with `! OutOfMemory` and status 4. A test `.._without_growth` marks where calls
 begin that take no memory, and each growth behind that is refused: it has to pass and to meet none.
 Prints the number of refusals in each, and ends with status 1 where one is not as it has to be.
 """
 
 import itertools
 import os
+import re
 import subprocess
 import sys
 import tempfile
@@ -25,6 +27,8 @@ CRATES = ["lt_tag_tests", "lt_jar_tests", "lt_registry_tests", "lt_rewrite_tests
 PROGRAM = ROOT / "build" / "langtag"
 SECONDS = 60
 NONE = "_without_growth"
+ORDER = "_in_order"
+RAN_OUT = re.compile(rb"ran out at (\d+) of (\d+)")
 
 # Counts the growths of a process and refuses the one of the number that the environment names. One of 64
 # GiB is a mark: it and each behind it are refused. A byte for each goes to the descriptor that is named.
@@ -121,6 +125,13 @@ def tests_of(crate):
         "growth.py: %s has no such tests" % crate)
 
 
+def are_in_order(places):
+    """Whether the numbers never fall, and each from 1 to the last is among them."""
+    numbers = [at for at, _ in places]
+    last = max((of for _, of in places), default=1)
+    return numbers == sorted(numbers) and set(numbers) == set(range(1, last + 1))
+
+
 def judge_test(library, name, words):
     """How many growths of a test were refused one by one."""
     if name.endswith(NONE):
@@ -128,7 +139,15 @@ def judge_test(library, name, words):
         if answer[0] != 0 or met != b"m":
             stop(words, answer, "a growth was refused behind the mark")
         return 0
-    refused = try_each(library, words, lambda answer, met: answer[0] == 0)
+    places = []
+
+    def is_right(answer, met):
+        places.extend((int(at), int(last)) for at, last in RAN_OUT.findall(answer[1]))
+        return answer[0] == 0
+
+    refused = try_each(library, words, is_right)
+    if name.endswith(ORDER) and not are_in_order(places):
+        sys.exit("growth.py: %s: memory ran out at %s" % (name, places))
     return refused or sys.exit("growth.py: %s of %s met no growth" % (name, words[0].name))
 
 

@@ -37,13 +37,14 @@ fn shown(alloc: Global, jar: &Jar) -> Result<String, AllocError> {
 }
 
 /// Texts with their records.
-const TEXTS: [(&str, &str); 6] = [
+const TEXTS: [(&str, &str); 7] = [
     ("", ""),
     ("%%\n\n%%\n", ""),
     ("A:\n  b \n\tc", "A=b c"),
     (" \nA: b\n \n c", "A=b c"),
     ("A : b:c\n%%\t", "A=b:c"),
     ("A:b\r\n%%\r\nC-9:\r\n d\r", "A=b|C-9=d"),
+    ("A: Bokmål\n 正書法\n%%\nB: 𝄞\n", "A=Bokmål 正書法|B=𝄞"),
 ];
 
 /// Whether a text has the fault of this name at this line.
@@ -55,7 +56,7 @@ fn has_fault(alloc: Global, text: &[u8], name: &str, line: u64) -> bool {
 }
 
 /// Texts with the names and the lines of their faults.
-const FAULTS: [(&[u8], &str, u64); 5] = [
+const FAULTS: [(&[u8], &str, u64); 8] = [
     (
         b"Type: language\nSubtag: en\n%%\n  x",
         "LeadingContinuation",
@@ -65,6 +66,9 @@ const FAULTS: [(&[u8], &str, u64); 5] = [
     (b"Type: a\nB: \xff", "NotUtf8", 2),
     (b"%%x", "BadLine", 1),
     (b": b", "BadLine", 1),
+    (b"A: \xc3\xa5\nB: \xe2\x82\nC: d", "NotUtf8", 2),
+    (b"A: \xf0\x9d\x84\n\x9e", "NotUtf8", 1),
+    (b"A: b\n\n\xf0\x9d\x84\x9e\xc3", "NotUtf8", 3),
 ];
 
 /// A field `Comments` whose body has so many letters, with this end behind its line.

@@ -2,15 +2,29 @@
 use super::one_by_one::SIZES;
 use super::{FAULTS, LONG_LINES, TEXTS, has_fields, is_one_field, long_line, shown as records_of};
 use lt_jar::{Device, Jar, JarFault, JarFaultKind, JarReader, Pieces, RecordRef, read_jar};
-use lt_testing::{answers, mark, returned_text, twice};
+use lt_testing::{answers, mark, returned_text, sample_text, twice};
 use std::alloc::{AllocError, Global};
-use std::io::Read;
+use std::io::{self, Read};
 use std::test::Fail;
 
-/// Whether reading a text answers as it should.
+/// The lines of a text that take memory.
+type Lines = &'static [u64];
+
+/// Whether a text is refused because a growth was, at one of these lines.
+fn is_refused<T>(answer: &Result<T, JarFault>, lines: Lines) -> bool {
+    match answer {
+        Ok(_) => false,
+        Err(fault) => {
+            fault.kind == JarFaultKind::OutOfMemory && lines.iter().any(|line| *line == fault.line)
+        }
+    }
+}
+
+/// Whether reading a text answers as it should; where a growth is refused, at one of these lines.
 fn is_read<P: Fn(&Result<Jar, JarFault>) -> bool>(
     alloc: Global,
     text: &[u8],
+    lines: Lines,
     is_answer: P,
 ) -> Result<bool, AllocError>
     requires { P.IsAlwaysCallable is_answer }
@@ -20,12 +34,25 @@ fn is_read<P: Fn(&Result<Jar, JarFault>) -> bool>(
         &text,
         || read_jar(alloc, text),
         is_answer,
-        |answer| match answer {
-            Ok(_) => false,
-            Err(fault) => fault.kind == JarFaultKind::OutOfMemory && 1 <= fault.line,
-        },
+        |answer| is_refused(answer, lines),
     )
 }
+
+/// The lines that take memory: of each of `TEXTS`, and of each of `FAULTS`. A last line that nothing ends is
+/// kept, whatever it is.
+const LINES: [Lines; 7] = [
+    &[],
+    &[],
+    &[1, 2, 3],
+    &[2, 4],
+    &[1, 2],
+    &[1, 2, 3, 4],
+    &[1, 2, 3, 4],
+];
+
+const LINES_OF_FAULTS: [Lines; 8] = [&[1, 2, 3, 4], &[1], &[1, 2], &[1], &[1], &[1], &[], &[1, 3]];
+
+const LINES_OF_FAULTS: [Lines; 5] = [&[1, 2, 3, 4], &[1], &[1, 2], &[1], &[1]];
 
 /// Whether a jar has these records, as `records_of` gives them.
 fn has_records(alloc: Global, jar: &Jar, records: &str) -> bool {
@@ -35,20 +62,107 @@ fn has_records(alloc: Global, jar: &Jar, records: &str) -> bool {
 #[test]
 fn records_are_read(rt: HostRuntime) -> Result<(), Fail> {
     let alloc = rt.alloc();
-    for (text, records) in &TEXTS {
-        let is_jar = is_read(alloc, text.as_bytes(), |answer| match answer {
+    for ((text, records), lines) in TEXTS.iter().zip(&LINES) {
+        let is_jar = is_read(alloc, text.as_bytes(), lines, |answer| match answer {
             Ok(jar) => has_records(alloc, jar, records),
             Err(_) => false,
         })?;
         assert!(rt; is_jar, "{text}");
     }
-    for (text, name, line) in &FAULTS {
-        let is_fault = is_read(alloc, text, |answer| match answer {
+    for ((text, name, line), lines) in FAULTS.iter().zip(&LINES_OF_FAULTS) {
+        let is_fault = is_read(alloc, text, lines, |answer| match answer {
             Ok(_) => false,
             Err(fault) => fault.kind.name() == *name && fault.line == *line,
         })?;
         assert!(rt; is_fault, "{name}");
     }
+    Ok(())
+}
+
+/// Texts that only their last line makes take memory, with its number.
+const LAST_LINES: [(&[u8], Lines); 4] = [
+    (b"A: b", &[1]),
+    (b"\n%%\n \nA: b", &[4]),
+    (b"%%\n\n%%\n\n\n\nA: b", &[7]),
+    (b"\n\n\n\nbad", &[5]),
+];
+
+#[test]
+fn memory_runs_out_at_the_last_line(rt: HostRuntime) -> Result<(), Fail> {
+    for (text, lines) in &LAST_LINES {
+        let is_told = is_read(rt.alloc(), text, lines, |answer| !is_out_of_memory(answer))?;
+        assert!(rt; is_told);
+    }
+    Ok(())
+}
+
+/// A text whose lines all take memory. `bench/growth.py` asks that the numbers that are printed never fall
+/// from one growth to the next, and that each line is among them.
+#[test]
+fn lines_in_order(rt: HostRuntime) -> Result<(), Fail> {
+    if let Err(fault) = read_jar(rt.alloc(), b"A: b\n c\nD: e\n%%\nF: g") {
+        assert!(rt; fault.kind == JarFaultKind::OutOfMemory);
+        println!(rt; "ran out at {} of 5", fault.line)?;
+    }
+    Ok(())
+}
+
+/// A reader that gives one line in each read, and counts them.
+#[derive(Drop)]
+struct LineByLine<'a> {
+    rest: &'a [u8],
+    given: u64,
+}
+
+impl Read for LineByLine<'_> {
+    fn read(&mut self, buf: &mut [u8]) -> io::Result<usize> {
+        let end = match self.rest.iter().position(|byte| *byte == b'\n') {
+            Some(end) => end.saturating_add(1),
+            None => self.rest.len(),
+        };
+        let count = end.min(self.rest.len()).min(buf.len());
+        buf[..count].copy_from_slice(&self.rest[..count]);
+        self.rest = &self.rest[count..];
+        if count > 0 {
+            self.given = self.given.saturating_add(1);
+        }
+        Ok(count)
+    }
+}
+
+/// The fault that a reader of records tells.
+fn fault_of<R: Read>(alloc: Global, device: &mut Device<R>) -> Option<JarFault> {
+    let Ok(mut reader) = JarReader::new(alloc, device) else {
+        return None;
+    };
+    for _ in 0..100 {
+        match reader.next() {
+            Ok(Some(_)) => {}
+            Ok(None) => return None,
+            Err(fault) => return Some(fault),
+        }
+    }
+    None
+}
+
+/// Whether memory runs out, if it does, at the line that was given last.
+fn runs_out_at_the_line(alloc: Global, text: &[u8]) -> bool {
+    let mut lines = LineByLine {
+        rest: text,
+        given: 0,
+    };
+    let fault = fault_of(alloc, &mut Device::new(&mut lines));
+    match fault {
+        Some(fault) if fault.kind == JarFaultKind::OutOfMemory => fault.line == lines.given,
+        _ => true,
+    }
+}
+
+#[test]
+fn memory_runs_out_at_the_line_that_is_read(rt: HostRuntime) -> Result<(), Fail> {
+    assert!(rt; runs_out_at_the_line(rt.alloc(), b"A: b\n c\n\nD: e\n%%\n%%\nF: g\n h\ni: j"));
+    let text = twice(|| sample_text(rt.alloc()))?;
+    assert!(rt; runs_out_at_the_line(rt.alloc(), text.as_bytes()));
     Ok(())
 }
 
@@ -60,7 +174,7 @@ fn is_long_line(
     is_read_whole: bool,
 ) -> Result<bool, Fail> {
     let text = twice(|| long_line(alloc, letters, end))?;
-    Ok(is_read(alloc, &text, |answer| match answer {
+    Ok(is_read(alloc, &text, &[1], |answer| match answer {
         Ok(jar) => is_read_whole && is_one_field(jar, letters),
         Err(fault) => {
             !is_read_whole && fault.kind == JarFaultKind::LineTooLong && fault.line == 1
@@ -79,6 +193,11 @@ fn the_longest_lines_are_read(rt: HostRuntime) -> Result<(), Fail> {
     Ok(())
 }
 
+/// Whether a text is refused because a growth was.
+fn is_out_of_memory(answer: &Result<Jar, JarFault>) -> bool {
+    matches!(answer, Err(fault) if fault.kind == JarFaultKind::OutOfMemory)
+}
+
 /// Whether a jar is that of the sample with carriage returns.
 fn is_sample(alloc: Global, jar: &Jar) -> bool {
     let sixth = "Type=language;Subtag=he;Description=Modern Hebrew";
@@ -94,10 +213,16 @@ fn the_sample_is_read(rt: HostRuntime) -> Result<(), Fail> {
     let text = twice(|| returned_text(alloc))?;
     let text = text.as_bytes().strip_suffix(b"\r\n").unwrap_or(&[]);
     assert!(rt;
-        is_read(alloc, text, |answer| match answer {
-            Ok(jar) => is_sample(alloc, jar),
-            Err(_) => false,
-        })?
+        answers(
+            alloc,
+            &text,
+            || read_jar(alloc, text),
+            |answer| match answer {
+                Ok(jar) => is_sample(alloc, jar),
+                Err(_) => false,
+            },
+            is_out_of_memory,
+        )?
     );
     Ok(())
 }

@@ -11,10 +11,21 @@ use lt_testing::{answers, mark, returned_text, sample_text, shown, twice};
 use std::alloc::{AllocError, Global};
 use std::test::Fail;
 
-/// Whether making entries of a text's records answers as it should.
+/// The first and the last of the lines of a text, or of its records, at which memory may run out.
+type Span = (u64, u64);
+
+/// Whether a number is one of a span.
+fn is_in(span: Span, number: u64) -> bool {
+    let (first, last) = span;
+    first <= number && number <= last
+}
+
+/// Whether making entries of a text's records answers as it should; where a growth is refused, at one of these
+/// records.
 fn is_made<P: Fn(&Result<Registry, RecordFault>) -> bool>(
     alloc: Global,
     text: &str,
+    numbers: Span,
     is_answer: P,
 ) -> Result<bool, Fail>
     requires { P.IsAlwaysCallable is_answer }
@@ -31,7 +42,10 @@ fn is_made<P: Fn(&Result<Registry, RecordFault>) -> bool>(
         is_answer,
         |answer| match answer {
             Ok(_) => false,
-            Err(fault) => fault.kind == RecordFaultKind::OutOfMemory && 1 <= fault.number,
+            Err(fault) => {
+                fault.kind == RecordFaultKind::OutOfMemory
+                    && is_in(numbers, u64::from(fault.number))
+            }
         },
     )?)
 }
@@ -39,7 +53,7 @@ fn is_made<P: Fn(&Result<Registry, RecordFault>) -> bool>(
 #[test]
 fn entries_are_made(rt: HostRuntime) -> Result<(), Fail> {
     for (text, name) in &RECORD_FAULTS {
-        let is_fault = is_made(rt.alloc(), text, |answer| match answer {
+        let is_fault = is_made(rt.alloc(), text, (1, 1), |answer| match answer {
             Ok(_) => false,
             Err(fault) => fault.kind.name() == *name && fault.number == 1,
         })?;
@@ -47,14 +61,14 @@ fn entries_are_made(rt: HostRuntime) -> Result<(), Fail> {
     }
     let dated = "File-Date: x\n%%\nTYPE : Language\nSUBTAG: EN";
     assert!(rt;
-        is_made(rt.alloc(), dated, |answer| match answer {
+        is_made(rt.alloc(), dated, (2, 2), |answer| match answer {
             Ok(registry) => matches!(registry.entries(), [entry] if is_english(entry)),
             Err(_) => false,
         })?
     );
     let text = twice(|| sample_text(rt.alloc()))?;
     assert!(rt;
-        is_made(rt.alloc(), text.as_str(), |answer| match answer {
+        is_made(rt.alloc(), text.as_str(), (2, 47), |answer| match answer {
             Ok(registry) => registry.entries().len() == 46,
             Err(_) => false,
         })?
@@ -62,24 +76,44 @@ fn entries_are_made(rt: HostRuntime) -> Result<(), Fail> {
     Ok(())
 }
 
-/// Whether an answer is that a growth was refused, in a line or a record.
-fn is_read_refusal(answer: &Result<Registry, RegistryFault>) -> bool {
+/// Records that all take memory. `bench/growth.py` asks that the numbers that are printed never fall from one
+/// growth to the next, and that each record is among them.
+#[test]
+fn records_in_order(rt: HostRuntime) -> Result<(), Fail> {
+    let text =
+        b"Type: variant\nSubtag: 1901\nPrefix: de\n%%\nType: extlang\nSubtag: yue\nPrefix: zh\n%%\nType: variant\nSubtag: hepburn\nPrefix: ja-Latn";
+    let jar = twice(|| read_jar(rt.alloc(), text))?;
+    let records = jar.records();
+    if records.len() > 100_000 {
+        return Err(Fail::from("too many records"));
+    }
+    if let Err(fault) = Registry::from_records(rt.alloc(), records) {
+        assert!(rt; fault.kind == RecordFaultKind::OutOfMemory);
+        println!(rt; "ran out at {} of 3", fault.number)?;
+    }
+    Ok(())
+}
+
+/// Whether an answer is that a growth was refused, in one of these lines or records.
+fn is_read_refusal(answer: &Result<Registry, RegistryFault>, lines: Span, numbers: Span) -> bool {
     match answer {
         Ok(_) => false,
         Err(RegistryFault::Jar(fault)) => {
-            fault.kind == JarFaultKind::OutOfMemory && 1 <= fault.line
+            fault.kind == JarFaultKind::OutOfMemory && is_in(lines, fault.line)
         }
         Err(RegistryFault::Record(fault)) => {
-            fault.kind == RecordFaultKind::OutOfMemory && 1 <= fault.number
+            fault.kind == RecordFaultKind::OutOfMemory && is_in(numbers, u64::from(fault.number))
         }
     }
 }
 
-/// Whether reading a text in pieces of this size answers as it should.
+/// Whether reading a text in pieces of this size answers as it should; where a growth is refused, in one of
+/// these lines or records.
 fn is_read<P: Fn(&Result<Registry, RegistryFault>) -> bool>(
     alloc: Global,
     text: &str,
     size: usize,
+    spans: (Span, Span),
     is_answer: P,
 ) -> Result<bool, AllocError>
     requires { P.IsAlwaysCallable is_answer }
@@ -89,14 +123,15 @@ fn is_read<P: Fn(&Result<Registry, RegistryFault>) -> bool>(
         &text,
         || Registry::read(alloc, &mut Device::new(Pieces::once(text.as_bytes(), size))),
         is_answer,
-        |answer| is_read_refusal(answer),
+        |answer| is_read_refusal(answer, spans.0, spans.1),
     )
 }
 
-/// Texts with their faults.
-const FAULTS: [(&str, RegistryFault); 2] = [
+/// Texts with the lines and the records at which memory may run out, and their faults.
+const FAULTS: [(&str, (Span, Span), RegistryFault); 4] = [
     (
         "Type: language\nSubtag: en\n%%\n  x",
+        ((1, 4), (1, 1)),
         RegistryFault::Jar(JarFault {
             kind: JarFaultKind::LeadingContinuation,
             line: 4,
@@ -104,18 +139,35 @@ const FAULTS: [(&str, RegistryFault); 2] = [
     ),
     (
         "Type: planet\nSubtag: en",
+        ((1, 2), (1, 1)),
         RegistryFault::Record(RecordFault {
             kind: RecordFaultKind::UnknownType,
             number: 1,
+        }),
+    ),
+    (
+        "\n%%\n\nType: planet",
+        ((4, 4), (1, 1)),
+        RegistryFault::Record(RecordFault {
+            kind: RecordFaultKind::UnknownType,
+            number: 1,
+        }),
+    ),
+    (
+        "\n\n\nplanet",
+        ((4, 4), (1, 1)),
+        RegistryFault::Jar(JarFault {
+            kind: JarFaultKind::BadLine,
+            line: 4,
         }),
     ),
 ];
 
 #[test]
 fn registries_with_faults_are_read(rt: HostRuntime) -> Result<(), Fail> {
-    for (text, told) in &FAULTS {
+    for (text, spans, told) in &FAULTS {
         for size in &[7, 1_000_000usize] {
-            let is_fault = is_read(rt.alloc(), text, *size, |answer| match answer {
+            let is_fault = is_read(rt.alloc(), text, *size, *spans, |answer| match answer {
                 Ok(_) => false,
                 Err(fault) => fault == told,
             })?;
@@ -129,8 +181,9 @@ fn registries_with_faults_are_read(rt: HostRuntime) -> Result<(), Fail> {
 fn registries_are_read(rt: HostRuntime) -> Result<(), Fail> {
     let text = twice(|| returned_text(rt.alloc()))?;
     let text = text.as_str().strip_suffix("\r\n").unwrap_or("");
+    let spans = ((1, 1_000), (2, 47));
     assert!(rt;
-        is_read(rt.alloc(), text, 64, |answer| match answer {
+        is_read(rt.alloc(), text, 64, spans, |answer| match answer {
             Ok(registry) => registry.entries().len() == 46,
             Err(_) => false,
         })?

@@ -3,7 +3,7 @@ use super::hostile::many_records;
 use super::{RECORD_FAULTS, is_english};
 use lt_jar::{Device, Pieces};
 use lt_registry::Registry;
-use lt_testing::{returned_text, sample_text};
+use lt_testing::{returned_text, sample_text, shown};
 use std::alloc::{AllocError, Global};
 use std::test::Fail;
 
@@ -33,7 +33,7 @@ fn answers(alloc: Global, text: &[u8], told: &str) -> Result<bool, Fail> {
 }
 
 /// Texts and their answers: the lowest record at fault, but a fault of the jar before it.
-const TEXTS: [(&[u8], &str); 11] = [
+const TEXTS: [(&[u8], &str); 14] = [
     (b"", "ok 0"),
     (b"%%\n\n%%\n", "ok 0"),
     (
@@ -54,6 +54,18 @@ const TEXTS: [(&[u8], &str); 11] = [
         "LeadingContinuation in line 5",
     ),
     (b"File-Date: x\n%%\nTYPE : Language\nSUBTAG: EN", "ok 1"),
+    (
+        b"Type: language\nSubtag: nb\nDescription: Bokm\xc3\xa5l \xe2\x82\n",
+        "NotUtf8 in line 3",
+    ),
+    (
+        b"Type: language\nSubtag: nb\nA: \xf0\x9d\x84\n\x9e\n",
+        "NotUtf8 in line 3",
+    ),
+    (
+        b"Type: language\nSubtag: nb\nA: \xf0\x9d\x84\x9e\xc3",
+        "NotUtf8 in line 3",
+    ),
 ];
 
 #[test]
@@ -67,6 +79,29 @@ fn texts_in_pieces(rt: HostRuntime) -> Result<(), Fail> {
             answers(rt.alloc(), text.as_bytes(), told.as_str())?,
             "{text}"
         );
+    }
+    Ok(())
+}
+
+/// A registry with letters of two, three and four bytes.
+const LETTERS: &str =
+    "File-Date: 2024-01-01\n%%\nType: language\nSubtag: nb\nDescription: Norwegian Bokmål\n%%\nType: variant\nSubtag: 1901\nDescription: 正書法\n 𝄞 ß\nPrefix: de\n";
+
+/// The registry of a text in pieces of this size, as it is shown.
+fn registry_in_pieces(alloc: Global, text: &[u8], size: usize) -> Result<String, Fail> {
+    match Registry::read(alloc, &mut Device::new(Pieces::once(text, size))) {
+        Ok(registry) => Ok(shown(alloc, &registry)?),
+        Err(_) => Err(Fail::from("the registry is refused")),
+    }
+}
+
+#[test]
+fn letters_in_pieces(rt: HostRuntime) -> Result<(), Fail> {
+    let whole = registry_in_pieces(rt.alloc(), LETTERS.as_bytes(), 1_000_000)?;
+    assert!(rt; answers(rt.alloc(), LETTERS.as_bytes(), "ok 2")?);
+    for size in &SIZES {
+        let told = registry_in_pieces(rt.alloc(), LETTERS.as_bytes(), *size)?;
+        assert!(rt; told.as_str() == whole.as_str(), "{size}");
     }
     Ok(())
 }
