@@ -41,7 +41,7 @@ pub record Promise (R : List EntryParts) : Type 0 where
 abbrev pub Reading : Type 0
 Reading = Result (List EntryParts) RegistryFault
 
--- what bytes are read as; nothing is owed where no memory was left
+-- what bytes are read as; nothing is owed where memory ran out
 abbrev pub IsReadingOf : List ℕ → Reading → Type 0
 IsReadingOf bytes (Ok R) =
     (records : List (List Field)) × HasRecords bytes records × IsWithin bytes records × HasEntries records R
@@ -49,7 +49,7 @@ IsReadingOf bytes (Err (faults.Record fault)) =
     (records : List (List Field)) × HasRecords bytes records × IsWithin bytes records × IsRecordRefusal records fault
 IsReadingOf bytes (Err (faults.Jar fault)) = IsFaultOf bytes fault
 
--- why what was read is no registry; nothing is owed where no memory was left
+-- why what was read is no registry; nothing is owed where memory ran out
 abbrev pub IsRefusal : Reading → RegistryError → Type 0
 IsRefusal reading (errors.Jar fault) = (reading ≡ Err (faults.Jar fault)) × (fault.kind ≢ jar_kinds.OutOfMemory)
 IsRefusal reading (errors.Record fault) =

@@ -22,7 +22,7 @@ pub enum RegistryError {
     /// The entries do not pass the check: the first condition that some record does not meet, and of
     /// those records the lowest number.
     Check(Finding),
-    /// No memory was left.
+    /// Memory ran out.
     OutOfMemory,
 }
 

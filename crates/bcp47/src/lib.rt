@@ -2,7 +2,7 @@
 //! compares them and makes them canonical (RFC 5646, 4.5).
 //!
 //! A [`Registry`] is read from bytes or from a device, and passes the check of its twelve conditions. What
-//! it promises for every such registry stands on one page, `specs/Promise.antt`.
+//! it promises for every such registry is on one page, `specs/Promise.antt`.
 #![tactic(auto)]
 
 mod errors;

@@ -33,7 +33,7 @@ pub validity_refused : (R : List EntryParts) (text : List ℕ) (t : TagForm) (re
 validity_refused R text t (checks.Fault fault) p owed = record { tag = t; read = p; holds = owed }
 validity_refused R text t checks.OutOfMemory p owed = tt
 
--- bytes that are no registry, or for whose error no memory was left
+-- bytes that are no registry, or for whose error memory ran out
 pub not_opened : (held : Held) (bytes before after : List ℕ) (error : RegistryError) (o : Outcome) → held ≡ None
     → ReadsBytes bytes (Err error) → IsRefusedRegistry error before after o → Opens held bytes before after o
 not_opened held bytes before after error o none read (inl told) =

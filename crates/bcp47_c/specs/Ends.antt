@@ -38,11 +38,11 @@ pub record IsOpened (held : Held) (bytes before after : List ℕ) (o : Outcome) 
   pub read : ReadsBytes bytes (Ok registry)
   pub delivered : IsDelivered (ended 0) [] before after o
 
--- an error is told, and the line is written that the program prints
+-- an error is reported, and the line is written that the program prints
 abbrev pub IsTold : RegistryError → List ℕ → List ℕ → Outcome → Type 0
 IsTold error before after o = IsDelivered (error_said error) (error_text error) before after o
 
--- an error is told, or that no memory was left to tell it
+-- an error is reported, or that memory ran out to tell it
 abbrev pub IsRefusedRegistry : RegistryError → List ℕ → List ℕ → Outcome → Type 0
 IsRefusedRegistry error before after o = IsTold error before after o ⊎ IsTold errors.OutOfMemory before after o
 
@@ -56,7 +56,7 @@ pub record IsNotOpened (held : Held) (bytes before after : List ℕ) (o : Outcom
 abbrev pub Opens : Held → List ℕ → List ℕ → List ℕ → Outcome → Type 0
 Opens held bytes before after o = IsOpened held bytes before after o ⊎ IsNotOpened held bytes before after o
 
--- another handle holds the same registry, or no memory was left for it
+-- another handle holds the same registry, or memory ran out for it
 abbrev pub Shares : List EntryParts → Held → ℕ → Type 0
 Shares registry held status = ((status ≡ 0) × (held ≡ Some registry)) ⊎ ((status ≡ 4) × (held ≡ None))
 
@@ -74,7 +74,7 @@ abbrev pub Classifies : List ℕ → List ℕ → List ℕ → Outcome → Type 
 Classifies text before after o =
     IsClassified text before after o ⊎ IsRefusedAsOwed (IsReadingRefusal text) before after o
 
--- the tag is valid, or the refusal is told; no text goes with either
+-- the tag is valid, or the refusal is reported; no text goes with either
 abbrev pub Validates : List EntryParts → List ℕ → Outcome → Type 0
 Validates R text o =
     (IsValidText R text × (o ≡ outcome (ended 0) 0)) ⊎ IsRefusedAsOwed (IsValidityRefusal R text) [] [] o
@@ -103,7 +103,7 @@ pub record IsUpgrade (older newer : List EntryParts) (o : Outcome) : Type 0 wher
   pub keeps : UpgradeKeepsTags older newer
   pub told : o ≡ outcome (ended 0) 0
 
--- or it does not, and the fault is told
+-- or it does not, and the fault is reported
 pub record IsNoUpgrade (older newer : List EntryParts) (o : Outcome) : Type 0 where
   pub fault : UpgradeFault
   pub owed : IsUpgradeFault older newer fault

@@ -1,4 +1,4 @@
--- The text of an explanation: a line for each step, and behind them the canonical tag.
+-- The text of an explanation: a line for each step, and after them the canonical tag.
 use Rattle.std.specs.Prelude.{◌≡◌, ℕ, List, [], ◌∷◌, ◌++◌, codes, fold}
 use Rattle.std.specs.Fmt.{decimal}
 use Rattle.lt_tag.specs.Conventional.{conventional}
@@ -17,7 +17,7 @@ step_line step = name_of step.kind ++ 32 ∷ [] ++ decimal step.place ++ 32 ∷ 
 abbrev pub with_step : List ℕ → Step → List ℕ
 with_step lines step = lines ++ step_line step
 
--- the lines of the steps, and the canonical tag behind an equals sign
+-- the lines of the steps, and the canonical tag after an equals sign
 abbrev pub explanation_text : List Step → TagForm → List ℕ
 explanation_text steps last = fold with_step [] steps ++ codes "= " ++ conventional (spell last)
 

@@ -1,4 +1,4 @@
--- The numbers of faults, as C sees them; 0 is none, and stands beside the status for want of memory.
+-- The numbers of faults, as C sees them; 0 is none, and is beside the status where memory runs out.
 use Rattle.std.specs.Prelude.{ℕ}
 use Rattle.lt_tag.specs.declared.faults.TagFaultKind.{TagFaultKind}
 use Rattle.lt_tag.specs.declared.faults.TagFaultKind.TheVariants as tag_kinds

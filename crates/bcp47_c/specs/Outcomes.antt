@@ -14,13 +14,13 @@ ended status = record { status = status; detail = 0; place = 0 }
 abbrev pub outcome : Said → ℕ → Outcome
 outcome said length = record { status = said.status; detail = said.detail; place = said.place; length = length }
 
--- a text stands at the front of a buffer, and what stood behind it stands there still
+-- a text is at the front of a buffer, and what stood after it is there still
 pub record StandsIn (text before after : List ℕ) : Type 0 where
   pub front : take (length text) after ≡ text
   pub rest : drop (length text) after ≡ drop (length text) before
 
 -- What is said is answered with the text, where it fits the buffer. Else nothing is written, and the status says so.
--- The text's length is told in both cases.
+-- The text's length is reported in both cases.
 pub record IsDelivered (said : Said) (text before after : List ℕ) (o : Outcome) : Type 0 where
   pub fits : length text ≤ length before → (o ≡ outcome said (length text)) × StandsIn text before after
   pub too_long : length before < length text → (o ≡ outcome (ended 5) (length text)) × (after ≡ before)

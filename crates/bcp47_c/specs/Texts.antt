@@ -13,7 +13,7 @@ use Rattle.lt_canon.specs.declared.refusals.Refusal.TheVariants as tag_refusals
 use Rattle.lt_canon.specs.declared.refusals.TextRefusal.{TextRefusal}
 use Rattle.lt_canon.specs.declared.refusals.TextRefusal.TheVariants as refusals
 
--- the text is read as no tag; want of memory aside
+-- the text is read as no tag; running out of memory aside
 abbrev pub IsReadingRefusal : List ℕ → TextRefusal → Type 0
 IsReadingRefusal text (refusals.NotATag fault) = HasFault text fault.kind fault.place
 IsReadingRefusal text (refusals.Invalid fault) = ⊥
@@ -24,7 +24,7 @@ IsReadingRefusal text refusals.OutOfMemory = Unit {0}
 abbrev pub IsValidText : List EntryParts → List ℕ → Type 0
 IsValidText R text = ReadsAs text (HasNoFault R)
 
--- it is not: no tag, or one that is not valid; want of memory aside
+-- it is not: no tag, or one that is not valid; running out of memory aside
 abbrev pub IsValidityRefusal : List EntryParts → List ℕ → TextRefusal → Type 0
 IsValidityRefusal R text (refusals.NotATag fault) = HasFault text fault.kind fault.place
 IsValidityRefusal R text (refusals.Invalid fault) = ReadsAs text (λ tag. IsFirstFault R tag fault.kind fault.place)
@@ -47,7 +47,7 @@ pub record IsEqualityOf (R : List EntryParts) (first second : List ℕ) (answer 
   pub read_other : HasTag second other
   pub is_answer : IsEquivalenceAnswer R tag other answer
 
--- the first text is read as a tag, then the second, and then the tags are compared; want of memory aside
+-- the first text is read as a tag, then the second, and then the tags are compared; running out of memory aside
 abbrev pub IsPairRefusal : List EntryParts → List ℕ → List ℕ → TextRefusal → Type 0
 IsPairRefusal R first second (refusals.NotATag fault) =
     HasFault first fault.kind fault.place ⊎ ReadsAs first (λ tag. HasFault second fault.kind fault.place)

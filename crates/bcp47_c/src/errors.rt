@@ -34,7 +34,7 @@ fn error_said(error: RegistryError) -> Said
     }
 }
 
-/// Writes the line that the program prints for an error, or that no memory was left for it.
+/// Writes the line that the program prints for an error, or that memory ran out for it.
 pub(crate) fn refuse_registry(alloc: Global, error: RegistryError, buffer: &mut [u8]) -> Outcome
     ensures { spec.IsRefusedRegistry error buffer.old buffer.new result }
 {

@@ -28,7 +28,7 @@ fn append_steps(alloc: Global, steps: &[Step], lines: &mut Vec<u8>) -> Result<()
     Ok(())
 }
 
-/// Appends the tag to which the steps lead, behind an equals sign.
+/// Appends the tag to which the steps lead, after an equals sign.
 fn append_last(last: &Tag, lines: &mut Vec<u8>) -> Result<(), OutOfMemory>
     ensures { OnOk result (lines.new.items ≡ lines.old.items ++ codes "= " ++ conventional (spell last.now)) }
 {

@@ -53,7 +53,7 @@ pub extern "C" fn bcp47_open(
     }
 }
 
-/// Lets another handle, which holds nothing, hold the same registry: 0, or 4 where no memory was left.
+/// Lets another handle, which holds nothing, hold the same registry: 0, or 4 where memory ran out.
 #[unsafe(no_mangle)]
 pub extern "C" fn bcp47_share(alloc: Global, handle: &mut Handle, other: &mut Handle) -> u8
     ghost registry: { List EntryParts }

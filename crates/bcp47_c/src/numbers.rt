@@ -14,7 +14,7 @@ pub(crate) const NOT_A_TAG: u8 = 1;
 pub(crate) const INVALID: u8 = 2;
 /// Replacements can repeat a variant.
 pub(crate) const REPLACEMENT_REPEATS: u8 = 3;
-/// No memory was left.
+/// Memory ran out.
 pub(crate) const OUT_OF_MEMORY: u8 = 4;
 /// The text does not fit the buffer.
 pub(crate) const BUFFER_TOO_SMALL: u8 = 5;

@@ -23,7 +23,7 @@ fn hash_of<T: Hash>(value: &T) -> u64 {
     state.finish()
 }
 
-/// Texts of tags in their order: of two that stand one after the other, the first comes first.
+/// Texts of tags in their order: of two that are one after the other, the first comes first.
 const IN_ORDER: [&str; 14] = [
     "i-ami",
     "i-bnn",

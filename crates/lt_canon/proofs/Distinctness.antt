@@ -1,4 +1,4 @@
--- Whether variants repeat can be decided; and of variants that repeat one is the first to stand again.
+-- Whether variants repeat can be decided; and of variants that repeat one is the first to occur again.
 use Rattle.std.proofs.Common.{◌≡◌, ◌≢◌, ℕ, ◌⊎◌, inl, inr, Bool, true, false, List, [], ◌∷◌, ◌++◌, Option, Some, None, refl, sym, ap, ◌∙◌, subst, bytes_eq, IfSome, append_assoc, append-nil}
 use Rattle.std.specs.List.{AllByRecursion}
 use Rattle.std.proofs.lemmas.Slice.Eq.{bytes_eq-Decides}
@@ -72,7 +72,7 @@ second_from (v ∷ vs) seen d n = by (second_from vs (seen ++ v ∷ [])) (look s
         let r = later (distinct_more seen v d k) (λ h. n (subst Distinct join h)) in
         (r.0, subst (λ l. IsSecondOccurrence l r.0) join r.1)
 
--- of variants that are not distinct one is the first to stand again
+-- of variants that are not distinct one is the first to occur again
 pub second : (vs : List (List ℕ)) → (Distinct vs → ⊥) → (v : List ℕ) × IsSecondOccurrence vs v
 second vs n = second_from vs [] tt n
 
@@ -110,13 +110,13 @@ one_second_at vs v w h k (same e) = e
 one_second_at vs v w h k (shorter rest e) = absurd (front_apart (h.before ++ v ∷ h.between) v rest h.before h.between refl (subst Distinct e k.first))
 one_second_at vs v w h k (longer rest e) = absurd (front_apart (k.before ++ w ∷ k.between) w rest k.before k.between refl (subst Distinct e h.first))
 
--- only one variant is the first to stand again
+-- only one variant is the first to occur again
 pub one_second : (vs : List (List ℕ)) (v w : List ℕ) → IsSecondOccurrence vs v → IsSecondOccurrence vs w → v ≡ w
 one_second vs v w h k =
     let joined : (h.before ++ v ∷ h.between) ++ v ∷ h.after ≡ (k.before ++ w ∷ k.between) ++ w ∷ k.after =
     append_assoc h.before (v ∷ h.between) (v ∷ h.after) ∙ sym h.there ∙ k.there ∙ sym (append_assoc k.before (w ∷ k.between) (w ∷ k.after)) in
     one_second_at vs v w h k (align (h.before ++ v ∷ h.between) v h.after (k.before ++ w ∷ k.between) w k.after joined)
 
--- and where one stands again, variants are not distinct
+-- and where one occurs again, variants are not distinct
 pub second_repeats : (vs : List (List ℕ)) (v : List ℕ) → IsSecondOccurrence vs v → Distinct vs → ⊥
 second_repeats vs v h d = distinct_apart h.before v h.between h.after (subst Distinct h.there d)

@@ -35,7 +35,7 @@ core_rank R start c d (by_region a v s) = omega arith
 core_rank R start c d (by_variant before v w after s) = omega arith
 core_rank R start c d (by_turn before v m after s) = omega arith
 
--- a step on extensions that begin after so many subtags
+-- a step on extensions that begin after this many subtags
 record IsBehind (start : ℕ) (step : Step) : Type 0 where
   pub late : 8 ≤ extension_rank step
   pub behind : kind_rank step ≤ 6 → start < step.place

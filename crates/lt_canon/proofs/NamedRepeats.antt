@@ -43,7 +43,7 @@ record HasRepeating (R : List EntryParts) (C : IsChecked R) (es : List Extension
   there : es ≡ before ++ at ∷ after
   repeating : IsRepeating R C at
 
--- extensions with different singletons: one that stands at two places is one
+-- extensions with different singletons: one that is at two places is one
 same_extension_at : (es b1 : List ExtensionParts) (e : ExtensionParts) (a1 b2 : List ExtensionParts) (f : ExtensionParts) (a2 : List ExtensionParts) → Distinct (singletons_of es) → es ≡ b1 ++ e ∷ a1 → es ≡ b2 ++ f ∷ a2 → e.singleton ≡ f.singleton → Aligned b1 e b2 f → e ≡ f
 same_extension_at es b1 e a1 b2 f a2 d p q s (same k) = k
 same_extension_at es b1 e a1 b2 f a2 d p q s (shorter rest k) =

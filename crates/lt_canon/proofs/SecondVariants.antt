@@ -1,4 +1,4 @@
--- A variant that stands a second time, looked for from the left.
+-- A variant that occurs a second time, looked for from the left.
 use Rattle.std.proofs.Common.{◌≡◌, ◌≢◌, ℕ, ◌+◌, ◌<◌, Bool, true, false, ◌||◌, List, [], ◌∷◌, ◌++◌, length, take, drop, get_or, refl, sym, ap, ◌∙◌, subst, append_assoc, bytes_eq}
 use Rattle.std.specs.List.{AllByRecursion}
 use Rattle.std.proofs.lemmas.Slice.Eq.{bytes_eq-Decides}
@@ -8,7 +8,7 @@ use Rattle.lt_registry.proofs.ListLemmas.{whole_turn, take_turn}
 use Rattle.lt_registry.proofs.VariantFaultLemmas.{stands_at}
 use Rattle.lt_canon.specs.Answers.{IsSecondOccurrence}
 
--- the variant at an index stands before it too, where those before it are distinct
+-- the variant at an index is before it too, where those before it are distinct
 pub second_here : (vs : List (List ℕ)) (i : ℕ) (v : List ℕ) → i < length vs → v ≡ get_or vs i v → stands_in (take i vs) v ≡ true → Distinct (take i vs) → IsSecondOccurrence vs v
 second_here vs i v l e h d =
     let s = stands_at (take i vs) v h in

@@ -1,4 +1,4 @@
--- A variant that stands twice in the source of one of the extensions in their normal form is the one that the
+-- A variant that occurs twice in the source of one of the extensions in their normal form is the one that the
 -- refusal names.
 use Rattle.std.proofs.Common.{◌≡◌, ℕ, ◌+◌, ◌<◌, false, List, [], ◌∷◌, ◌++◌, Option, Some, None, refl, sym, ap, ◌∙◌, subst, map, append_assoc, length, take, drop, get_or, IfSome}
 use Rattle.std.specs.Prelude.{option_map, MatchOption}

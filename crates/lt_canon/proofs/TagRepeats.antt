@@ -47,7 +47,7 @@ unordered P cmp (then (by_drop before a between b after o s) r) h = cc
 abbrev HasDistinctVariants : CoreParts → Type 0
 HasDistinctVariants c = Distinct c.variants
 
--- no variant with a language value stands twice in the source
+-- no variant with a language value occurs twice in the source
 abbrev TurnsOnceExtension : List EntryParts → ExtensionParts → Type 0
 TurnsOnceExtension R e = e.singleton ≡ transform → (p : TForm) → IsTransform e.subtags p → IfSome p.source (TurnsOnce R)
 

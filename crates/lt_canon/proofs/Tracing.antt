@@ -85,7 +85,7 @@ follow_fault R t end steps (faults.NoSuchStep n) V h = (V, h)
 follow_fault R t end steps faults.WrongEnd V h = absurd h
 follow_fault R t end steps faults.OutOfMemory V h = tt
 
--- where a fault is told, there is no trace
+-- where a fault is reported, there is no trace
 pub fault_excludes : (R : List EntryParts) (t end : TagForm) (steps : List Step) (fault : TraceFault) → IsTraceFault R t steps end fault → fault ≢ no_trace_memory → IsValidTrace R t steps end → ⊥
 fault_excludes R t end steps (faults.Invalid fault) h n v = (valid_law R t v.valid.proper.tag).0 v.valid fault.kind fault.place h.there
 fault_excludes R t end steps (faults.NoSuchStep k) h n v = misstep_ends R t end steps k h.1 v.trace

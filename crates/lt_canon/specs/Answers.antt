@@ -9,7 +9,7 @@ use Rattle.lt_rewrite.specs.TagSteps.{IsReached, IsCanonical, CanRepeat}
 use Rattle.lt_canon.specs.declared.refusals.Refusal.{Refusal}
 use Rattle.lt_canon.specs.declared.refusals.Refusal.TheVariants as refusals
 
--- a variant that stands a second time, leftmost
+-- a variant that occurs a second time, leftmost
 pub record IsSecondOccurrence (variants : List (List ℕ)) (v : List ℕ) : Type 0 where
   pub before : List (List ℕ)
   pub between : List (List ℕ)

@@ -15,7 +15,7 @@ use Rattle.lt_rewrite.specs.Runs.{kind_rank, extension_rank, IsRun, NoneLeads, A
 use Rattle.lt_rewrite.specs.declared.steps.Step.{Step}
 use Rattle.lt_canon.specs.Answers.{IsCanonicalFormOf}
 
--- a step on a core, that of a source if it stands behind the tag's own
+-- a step on a core, that of a source if it is after the tag's own
 abbrev pub is_of_source : TagForm → Step → Bool
 is_of_source (LangTag c es ps) step = nat_le (kind_rank step) 6 && nat_le (length (spell_core c) + 1) step.place
 is_of_source (PrivateUse ps) step = false

@@ -7,12 +7,12 @@ use Rattle.lt_registry.specs.Validity.{IsValid}
 use Rattle.lt_registry.specs.declared.entries.Kind.TheVariants as kinds
 use Rattle.lt_canon.specs.Answers.{IsCanonicalFormOf}
 
--- the one Prefix of a language as an extlang, if an extlang may stand after it
+-- the one Prefix of a language as an extlang, if an extlang may be after it
 abbrev pub prefix_of : List (List (List ℕ)) → Option (List ℕ)
 prefix_of ((p ∷ []) ∷ rest) = if is_short p then Some p else None
 prefix_of _ = None
 
--- the Prefix is now the language, and what was the language stands behind it as an extlang
+-- the Prefix is now the language, and what was the language is after it as an extlang
 abbrev pub behind : Option (List ℕ) → CoreParts → CoreParts
 behind None c = c
 behind (Some p) c = record c { language = p; extlangs = c.language ∷ [] }

@@ -1,4 +1,4 @@
--- The laws of canonical tags, over a list of entries. What follows from them stands in Corollaries.
+-- The laws of canonical tags, over a list of entries. What follows from them is in Corollaries.
 use Rattle.std.specs.Prelude.{ℕ, ◌≡◌, ◌≤◌, ◌⊎◌, ◌↔◌, List, length}
 use Rattle.lt_tag.specs.Parts.{TagForm}
 use Rattle.lt_tag.specs.WellFormed.{spell}

@@ -27,7 +27,7 @@ NamesRepeat R t (refusals.Invalid fault) = Unit {0}
 NamesRepeat R t (refusals.ReplacementRepeats v) = IsNamedRepeat R t v
 NamesRepeat R t refusals.OutOfMemory = Unit {0}
 
--- the refusal that is owed: the fault, or the variant that is named; nothing is owed where no memory was left
+-- the refusal that is owed: the fault, or the variant that is named; nothing is owed where memory ran out
 abbrev pub IsRefusedWith : List EntryParts → TagForm → Refusal → Type 0
 IsRefusedWith R t (refusals.Invalid fault) = IsFirstFault R t fault.kind fault.place
 IsRefusedWith R t (refusals.ReplacementRepeats v) = IsRepeatOf R t v

@@ -10,18 +10,18 @@ use Rattle.lt_canon.specs.Answers.{IsSecondOccurrence, IsRepeatOfCore}
 use Rattle.lt_canon.specs.declared.refusals.Refusal.{Refusal}
 use Rattle.lt_canon.specs.declared.refusals.Refusal.TheVariants as refusals
 
--- the core normal form of a core, in which no variant stands twice
+-- the core normal form of a core, in which no variant occurs twice
 pub record IsDistinctForm (R : List EntryParts) (c d : CoreParts) : Type 0 where
   pub normal : IsCoreNormalForm (values_of R) c d
   pub distinct : Distinct d.variants
 
--- the variant that stands twice in the core normal form; want of memory aside
+-- the variant that occurs twice in the core normal form; running out of memory aside
 abbrev pub IsCoreRefusal : List EntryParts → CoreParts → Refusal → Type 0
 IsCoreRefusal R c (refusals.Invalid fault) = ⊥
 IsCoreRefusal R c (refusals.ReplacementRepeats v) = IsRepeatOfCore R c v
 IsCoreRefusal R c refusals.OutOfMemory = Unit {0}
 
--- the leftmost variant that stands a second time in the source of an extension
+-- the leftmost variant that occurs a second time in the source of an extension
 pub record IsSecondInSource (e : ExtensionParts) (v : List ℕ) : Type 0 where
   pub source : CoreParts
   pub has_source : HasSource e source

@@ -30,7 +30,7 @@ pub record ReadsAs (text : List ℕ) (P : TagForm → Type 0) : Type 0 where
   pub read : HasTag text tag
   pub holds : P tag
 
--- the refusal that is owed; want of memory aside
+-- the refusal that is owed; running out of memory aside
 abbrev pub IsTextRefusal : List EntryParts → List ℕ → TextRefusal → Type 0
 IsTextRefusal R text (refusals.NotATag fault) = HasFault text fault.kind fault.place
 IsTextRefusal R text (refusals.Invalid fault) = ReadsAs text (λ tag. IsFirstFault R tag fault.kind fault.place)

@@ -33,7 +33,7 @@ pub record EndsElsewhere (R : List EntryParts) (t : TagForm) (steps : List Step)
   pub led : IsTrace R t steps tag
   pub other : tag ≢ end
 
--- the fault that is told; want of memory aside
+-- the fault that is reported; running out of memory aside
 abbrev pub IsTraceFault : List EntryParts → TagForm → List Step → TagForm → TraceFault → Type 0
 IsTraceFault R t steps end (faults.Invalid fault) = IsFirstFault R t fault.kind fault.place
 IsTraceFault R t steps end (faults.NoSuchStep n) = IsValid R t × IsMisstep R t steps n
@@ -54,7 +54,7 @@ of_invalid checks.OutOfMemory = faults.OutOfMemory
 abbrev pub no_trace_memory : TraceFault
 no_trace_memory = faults.OutOfMemory
 
--- why the steps of a trace lead to no end; want of memory aside
+-- why the steps of a trace lead to no end; running out of memory aside
 abbrev pub IsFollowFault : List EntryParts → TagForm → List Step → TraceFault → Type 0
 IsFollowFault R t steps (faults.Invalid fault) = ⊥
 IsFollowFault R t steps (faults.NoSuchStep n) = IsMisstep R t steps n

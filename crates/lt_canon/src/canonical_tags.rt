@@ -164,7 +164,7 @@ fn form_of_langtag<L: Lookup>(
     Ok(Tag::from_parts(settled, others, copy_subtags(alloc, private)?))
 }
 
-/// A core in its core normal form, unless a variant stands twice there.
+/// A core in its core normal form, unless a variant occurs twice there.
 fn settled_core<L: Lookup>(
     alloc: Global,
     table: &L,

@@ -15,7 +15,7 @@ use lt_tag::{Tag, copy_extensions, copy_subtags};
 use std::alloc::Global;
 
 /// The extlang form of a tag (RFC 5646, 4.5): the canonical form and, where its language is an extlang
-/// too, the Prefix of that in front of it. A Prefix of 4 to 8 letters can't stand before an extlang, so
+/// too, the Prefix of that in front of it. A Prefix of 4 to 8 letters can't be before an extlang, so
 /// such a tag is left in its canonical form; and so are the sources of `t` extensions. It is valid, and
 /// its canonical form is that of the tag. A refusal is that of `canonical`.
 pub fn extlang_form<L: Lookup>(
@@ -42,7 +42,7 @@ pub fn extlang_form<L: Lookup>(
     Ok(Tag::from_parts(core, extensions, private))
 }
 
-/// The Prefix of a language as an extlang, if it is one and the Prefix can stand before an extlang.
+/// The Prefix of a language as an extlang, if it is one and the Prefix can be before an extlang.
 fn extlang_prefix<'a, L: Lookup>(table: &'a L, language: &Subtag) -> Option<&'a Subtag>
     ensures { option_copied result ≡ prefix_of (prefixes (L.listed table.now) kinds.Extlang language.now) }
 {

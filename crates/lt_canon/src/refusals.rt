@@ -14,10 +14,10 @@ pub enum Refusal {
     /// The tag is not valid.
     #[error("{0}: mend the subtag at this place, or take a registry by which it is valid")]
     Invalid(ValidFault),
-    /// Steps can repeat a variant; this one stands twice once the core steps are done.
+    /// Steps can repeat a variant; this one occurs twice once the core steps are done.
     #[error("replacements can repeat a variant: take one of the variants out")]
     ReplacementRepeats(Subtag),
-    /// No memory was left.
+    /// Memory ran out.
     #[error("out of memory: free some, and ask again")]
     OutOfMemory,
 }
@@ -71,10 +71,10 @@ pub enum TextRefusal {
     /// The tag is not valid.
     #[error("{0}: mend the subtag at this place, or take a registry by which it is valid")]
     Invalid(ValidFault),
-    /// Steps can repeat a variant; this one stands twice once the core steps are done.
+    /// Steps can repeat a variant; this one occurs twice once the core steps are done.
     #[error("replacements can repeat a variant: take one of the variants out")]
     ReplacementRepeats(Subtag),
-    /// No memory was left.
+    /// Memory ran out.
     #[error("out of memory: free some, and ask again")]
     OutOfMemory,
 }

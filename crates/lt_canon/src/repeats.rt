@@ -1,4 +1,4 @@
-//! Variants that stand twice.
+//! Variants that occur twice.
 ghost use Rattle.std.specs.Prelude.{MatchOption, IfOk};
 ghost use Rattle.std.specs.List.{AllByRecursion};
 ghost use Rattle.lt_registry.specs.Validity.{Distinct, HasDistinctSource};
@@ -9,7 +9,7 @@ use lt_subtag::Subtag;
 use lt_tag::{Extension, OutOfMemory, TransformFault, split_t};
 use std::alloc::Global;
 
-/// The leftmost variant that stands a second time.
+/// The leftmost variant that occurs a second time.
 pub(crate) fn second_occurrence(variants: &[Subtag]) -> Option<Subtag>
     ensures { MatchOption result (Distinct variants.now) (λ variant. IsSecondOccurrence variants.now variant) }
 {
@@ -21,7 +21,7 @@ pub(crate) fn second_occurrence(variants: &[Subtag]) -> Option<Subtag>
     None
 }
 
-/// The leftmost variant that stands a second time in the source of an extension. Memory is taken
+/// The leftmost variant that occurs a second time in the source of an extension. Memory is taken
 /// only for the parts of a `t` extension.
 fn second_in_source(alloc: Global, extension: &Extension) -> Result<Option<Subtag>, OutOfMemory>
     ensures { IfOk result (λ found. MatchOption found
@@ -41,7 +41,7 @@ fn second_in_source(alloc: Global, extension: &Extension) -> Result<Option<Subta
     }
 }
 
-/// The leftmost variant that stands a second time in the source of one of some extensions. Memory is
+/// The leftmost variant that occurs a second time in the source of one of some extensions. Memory is
 /// taken only for the parts of a `t` extension.
 pub(crate) fn second_in_sources(
     alloc: Global,

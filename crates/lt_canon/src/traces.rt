@@ -32,7 +32,7 @@ pub enum TraceFault {
     /// The steps lead to another tag.
     #[error("the steps lead to another tag than the last: mend that, or the steps")]
     WrongEnd,
-    /// No memory was left.
+    /// Memory ran out.
     #[error("out of memory: free some, and ask again")]
     OutOfMemory,
 }

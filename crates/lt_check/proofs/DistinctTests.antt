@@ -1,4 +1,4 @@
--- The test that no variant stands twice, from the front on.
+-- The test that no variant occurs twice, from the front on.
 use Rattle.std.proofs.Common.{◌≡◌, ◌≢◌, ℕ, ◌+◌, ◌<◌, Bool, true, false, ◌||◌, List, [], ◌∷◌, ◌++◌, length, get_or, take, drop, refl, sym, ap, ◌∙◌, subst, bytes_eq, append_assoc}
 use Rattle.std.specs.List.{AllByRecursion}
 use Rattle.std.proofs.lemmas.Slice.Eq.{bytes_eq-Decides}
@@ -16,7 +16,7 @@ pub distinct_more : (xs : List (List ℕ)) (v : List ℕ) → Distinct xs → Al
 distinct_more [] v h k = (tt, tt)
 distinct_more (x ∷ xs) v h k = (all_more (λ y. y ≢ x) xs v h.0 (λ e. k.0 (sym e)), distinct_more xs v h.1 k.1)
 
--- one that stands before repeats
+-- one that is before repeats
 pub repeated_at : (vs : List (List ℕ)) (i : ℕ) (v : List ℕ) → i < length vs → v ≡ get_or vs i v → stands_in (take i vs) v ≡ true → Distinct vs → ⊥
 repeated_at vs i v lt is h D =
     let p = stands_at (take i vs) v h in

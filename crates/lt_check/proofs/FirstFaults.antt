@@ -58,7 +58,7 @@ pub record IsAt (R : List EntryParts) (i : ℕ) (e : EntryParts) : Type 0 where
 pub contains_at : (R : List EntryParts) (i : ℕ) (e : EntryParts) → IsAt R i e → Contains R e
 contains_at R i e a = (i, a.within, a.there)
 
--- a record of a lower number stands before
+-- a record of a lower number is before
 pub lower_before : (R : List EntryParts) → NumbersRise R → (i k : ℕ) (e f : EntryParts) → IsAt R i e → IsAt R k f → f.number < e.number → k < i
 lower_before R h i k e f a b n = by (below_or_not k i)
   where
@@ -70,7 +70,7 @@ lower_before R h i k e f a b n = by (below_or_not k i)
         let y : (slice_index_or R k f).number ≡ f.number = ap (λ (x : EntryParts). x.number) b.there in
         absurd (omega (arith, o, x, y, n))
 
--- and one that stands before has a lower number
+-- and one that is before has a lower number
 pub before_lower : (R : List EntryParts) → NumbersRise R → (i k : ℕ) (e f : EntryParts) → IsAt R i e → IsAt R k f → k < i → f.number < e.number
 before_lower R h i k e f a b n =
     let o = rising_at R h k i f e n a.within in

@@ -90,7 +90,7 @@ rank_back conditions.NoRangeValue = refl
 one_rank : (k j : Condition) → rank_of k ≡ rank_of j → k ≡ j
 one_rank k j h = sym (rank_back k) ∙ ap with_rank h ∙ rank_back j
 
--- the conditions stand in the order of their ranks
+-- the conditions are in the order of their ranks
 abbrev pub ranked_from : ℕ → List Condition → Bool
 ranked_from n [] = true
 ranked_from n (k ∷ ks) = (rank_of k == n) && ranked_from (suc n) ks

@@ -1,4 +1,4 @@
--- Whether a record has its name alone: what a look-up of the name finds, and which ranges stand before.
+-- Whether a record has its name alone: what a look-up of the name finds, and which ranges are before.
 use Rattle.std.proofs.Common.{◌≡◌, ◌↔◌, ◌⊎◌, inl, inr, ℕ, zero, suc, ◌+◌, ◌<◌, ◌≤◌, Bool, true, false, cond, ◌&&◌, List, [], ◌∷◌, length, Option, Some, None, refl, sym, ap, ◌∙◌, subst, arith, IsTrue, Contains, MatchOption, Result, Ok, Err, IfOk, OnOk, find}
 use Rattle.std.specs.Prelude.{slice_index_or}
 use Rattle.std.specs.List.{AllByRecursion, HoldsAt}

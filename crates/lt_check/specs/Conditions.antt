@@ -29,7 +29,7 @@ pub record IsValidPlain (R : List EntryParts) (t : TagForm) : Type 0 where
 abbrev pub HasValidWhole : List EntryParts → EntryParts → Type 0
 HasValidWhole R e = OfWhole e (λ t u. IsValidPlain R u × (e.kind ≡ kinds.Redundant → IsValidPlain R t))
 
--- If a whole record has a value, no variant stands twice in the core normal form of this value, and this form is not the
+-- If a whole record has a value, no variant occurs twice in the core normal form of this value, and this form is not the
 -- tag of a whole record with a value.
 abbrev pub HasRestingWhole : List EntryParts → EntryParts → Type 0
 HasRestingWhole R e =

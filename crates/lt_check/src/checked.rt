@@ -32,7 +32,7 @@ impl<L: Lookup> Model for Checked<L> {
 impl<L: Lookup> Checked<L> {
     /// Checks a table: each record is to meet each of the twelve [conditions](crate::Condition). A table
     /// that does not pass is handed back with the finding: the first condition that some record does
-    /// not meet, and of those records the lowest number; or because no memory was left. The conditions
+    /// not meet, and of those records the lowest number; or because memory ran out. The conditions
     /// are judged in order, each only where all records meet those before it.
     pub fn new(alloc: Global, table: L) -> Result<Checked<L>, Rejected<L>>
         ensures value { IfOk result (λ checked. checked ≡ table) }

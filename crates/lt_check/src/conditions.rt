@@ -25,7 +25,7 @@ pub enum Condition {
     /// If a whole record has a value, this is a valid langtag and a core alone; and so is a
     /// redundant tag that has one.
     ValidWhole,
-    /// In the core normal form of a whole record's value no variant stands twice, and it has no value.
+    /// In the core normal form of a whole record's value no variant occurs twice, and it has no value.
     RestingWhole,
     /// A redundant tag from which core steps lead comes to the same end as its value.
     AgreeingWhole,

@@ -29,14 +29,14 @@ pub(crate) fn same_core(left: &Core, right: &Core) -> bool
         && left.variants() == right.variants()
 }
 
-/// Whether a variant stands in a list.
+/// Whether a variant is in a list.
 fn stands_in(variants: &[Subtag], variant: &Subtag) -> bool
     ensures { result ≡ checking.stands_in variants.now variant.now }
 {
     variants.contains(variant)
 }
 
-/// Whether no variant stands twice.
+/// Whether no variant occurs twice.
 pub(crate) fn are_distinct(variants: &[Subtag]) -> bool
     ensures { IsTrue result ↔ Distinct variants.now }
 {

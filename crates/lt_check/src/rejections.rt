@@ -20,7 +20,7 @@ pub enum RejectedCause {
     /// A record is at fault.
     #[error("{0}")]
     Finding(Finding),
-    /// No memory was left.
+    /// Memory ran out.
     #[error("out of memory: free some, and check again")]
     OutOfMemory,
 }

@@ -128,7 +128,7 @@ fn comes_to_rest<L: Lookup>(
     Ok(value_of(alloc, table, form).is_none())
 }
 
-/// Whether a record is no whole record with a value; or no variant stands twice in the core normal form
+/// Whether a record is no whole record with a value; or no variant occurs twice in the core normal form
 /// of its value, and this form is not the tag of a whole record with a value.
 pub(crate) fn has_resting_whole<L: Lookup>(
     alloc: Global,

@@ -1,4 +1,4 @@
--- What is wrong with a text behind whole lines is what is wrong with it behind their records, and its records are these and those.
+-- What is wrong with a text after whole lines is what is wrong with it after their records, and its records are these and those.
 use Rattle.std.proofs.Common.{◌≡◌, ◌≢◌, ◌∙◌, ◌++◌, ◌∷◌, ◌⊎◌, inl, inr, ℕ, List, [], Bool, true, false, refl, sym, ap, subst, append_assoc, append-nil, length, ◌+◌, ◌≤◌, ◌<◌, arith, length-append}
 use Rattle.std.specs.List.{All, AllByRecursion, filter, flat_map}
 use Rattle.std.specs.Str.{IsUtf8, is_utf8}
@@ -35,7 +35,7 @@ begun-line_behind : (lines before : List (List ℕ)) (line : List ℕ) (records 
     → begun false (shown ((lines ++ before) ++ line ∷ [])) ≡ length records + begun false (shown (before ++ line ∷ []))
 begun-line_behind lines before line records ended = ap (λ l. begun false (shown l)) (append_assoc lines before (line ∷ [])) ∙ begun-behind lines (before ++ line ∷ []) records ended
 
--- a line is wrong behind lines whose records ended as it is behind so many records
+-- a line is wrong after lines whose records ended as it is after this many records
 wrong_on : (lines before : List (List ℕ)) (line : List ℕ) (records : List (List Field)) → AreEnded lines records → (fault : Fault) → IsWrong (length records) fault before line
     → IsWrong 0 fault (lines ++ before) line
 wrong_on lines before line records ended LineTooLong wrong = wrong
@@ -193,7 +193,7 @@ behind_more lines more records fields text rest front cuts = record {
   sound = subst (IsSound 0) (sym (whole-append lines more)) (sound_on lines records (whole_lines more) front cuts.sound);
 }
 
--- the records of a text behind whole lines
+-- the records of a text after whole lines
 pub records_on : (lines : List (List ℕ)) (records more : List (List Field)) (rest : List ℕ) → Behind lines records → HasRecords rest more → HasRecords (whole_lines lines ++ rest) (records ++ more)
 records_on lines records more rest front has =
     let ended = front.ended in

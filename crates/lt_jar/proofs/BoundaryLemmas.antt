@@ -1,4 +1,4 @@
--- Where a text may be cut: behind a blank, and behind a byte of a name.
+-- Where a text may be cut: after a blank, and after a byte of a name.
 use Rattle.std.proofs.Common.{◌≡◌, ◌<◌, ◌+◌, ℕ, List, length, true, arith, get_or, subst, sym, ap, ◌∙◌}
 use Rattle.std.specs.Prelude.{slice_index}
 use Rattle.std.specs.Str.{IsCharBoundary, IsUtf8}

@@ -63,7 +63,7 @@ fits-texts : (texts : List (List ℕ)) → fits true (map Continuation texts) �
 fits-texts [] = refl
 fits-texts (text ∷ texts) = fits-texts texts
 
--- one group, behind a field of its record
+-- one group, after a field of its record
 inside-rest : (group : List Written) → is_inside true (lines_of_group group) ≡ true
 inside-rest [] = refl
 inside-rest (field ∷ group) =

@@ -42,7 +42,7 @@ first_goes_on byte (next ∷ line) more one =
 pub whole_line : (text : List ℕ) (i : ℕ) → i ≡ length text → IsOneLine (take i text) → IsOneLine text
 whole_line text i all one = subst IsOneLine (ap (λ n. take n text) all ∙ take-length text) one
 
--- the parts before and behind the line feed at i
+-- the parts before and after the line feed at i
 pub split_at : (text : List ℕ) (i : ℕ) → i < length text → get_or text i 0 ≡ 10 → text ≡ take i text ++ 10 ∷ take (length text - (i + 1)) (drop (i + 1) text)
 split_at text i below end =
     let next : drop (suc i) text ≡ drop (i + 1) text = ap (λ n. drop n text) (sym (add-one i)) in

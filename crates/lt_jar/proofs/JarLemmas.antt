@@ -106,7 +106,7 @@ text_refused text rest after records now mid number turn takes counted =
     let at : length lines ≡ number = omega (arith, long, cut.line, turn.line, counted) in
     subst (IsReached 0 text) at (subst (λ t. IsReached 0 t (length lines)) (sym front.1) there)
 
--- the first line behind lines of the rest is wrong, or memory ran out at it
+-- the first line after lines of the rest is wrong, or memory ran out at it
 said_of : (text rest : List ℕ) (records : List (List Field)) (now : Engine) (kind : JarFaultKind) (line : ℕ) (lines : List (List ℕ)) (tail wrong : List ℕ) (others : List (List ℕ)) (fields : List Field)
     → TextTurn text rest records now → AllByRecursion IsOneLine lines → rest ≡ whole_lines lines ++ tail → lines_of tail ≡ wrong ∷ others → steps now.ended (going_on []) lines ≡ going_on fields
     → IsSaid kind (take_line now.ended fields wrong) → line ≡ now.line + length lines → IsFaultOf text (record { kind = kind; line = line })
@@ -204,7 +204,7 @@ text_ended text rest records now mid new taken fin =
           subst (IsReached 0 text) at (reached_at_end text (records ++ fields_in new ∷ []) has ends.sound (omega (arith, long)));
     }
 
--- the text ended behind its last record
+-- the text ended after its last record
 pub text_over : (text rest : List ℕ) (records : List (List Field)) (now mid new : Engine) → TextTaken text rest records now mid → Finishes mid new false → HasRecords text records × IsWithin text records
 text_over text rest records now mid new taken fin =
     let ends = text_ends text rest records now mid new false taken fin in

@@ -6,11 +6,11 @@ use Rattle.lt_jar.specs.LineKinds.{Line, Blank, Separator, Continuation, Start, 
 use Rattle.lt_jar.specs.Records.{Field, HasRecords, Written, lines_of_ended, lines_of_field, lines_of_group, shown}
 use Rattle.lt_jar.proofs.GroupLemmas.{lines_of_groups, records_of}
 
--- the continuations at the front, and the groups behind them
+-- the continuations at the front, and the groups after them
 abbrev Parsed : Type 0
 Parsed = List (List ℕ) × List (List Written)
 
--- the field stands in front of the first group
+-- the field is in front of the first group
 abbrev with_field : Written → List (List Written) → List (List Written)
 with_field field [] = []
 with_field field (group ∷ groups) = (field ∷ group) ∷ groups

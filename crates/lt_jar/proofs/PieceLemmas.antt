@@ -85,7 +85,7 @@ split_more : (piece front rest line after : List ℕ) → piece ≡ front ++ res
 split_more piece front rest line after is cut =
     is ∙ ap (λ l. front ++ l) (cut ∙ sym (append_assoc line (10 ∷ []) after)) ∙ sym (append_assoc front (line ++ 10 ∷ []) after)
 
--- the bytes behind a line that is cut off
+-- the bytes after a line that is cut off
 after_line : (lines : List (List ℕ)) (partial line rest after all : List ℕ) → all ≡ whole_lines lines ++ (partial ++ rest) → rest ≡ line ++ 10 ∷ after
     → all ≡ whole_lines (lines ++ (partial ++ line) ∷ []) ++ after
 after_line lines partial line rest after all is cut =
@@ -216,7 +216,7 @@ pub some_of : (b : Bool) (fields : List Field) → (b ≡ true) ↔ (fields ≡ 
 some_of true fields is = (λ e. cc, λ e. is.0 refl)
 some_of false fields is = (λ e none. let no = is.1 none in cc, λ e. cc)
 
--- the text ended behind a line feed
+-- the text ended after a line feed
 pub finish_none : (old new : Engine) (some : Bool) → old.partial.items ≡ [] → fields_in new ≡ fields_in old → new.ended ≡ old.ended → new.line ≡ old.line → new.partial.items ≡ old.partial.items
     → (some ≡ true → fields_in new ≢ []) × (some ≡ false → fields_in new ≡ []) → Finishes old new some
 finish_none old new some none same ended counted kept tells = record {
@@ -247,7 +247,7 @@ last_taken earlier old new line progress.Ends said =
     let some : new ≢ [] = λ none. ends.some (sym ends.same ∙ none) in
     (record { records = new ∷ []; fields = [] }, step_first earlier old line (Ok (Ends new)) said, sym (rest_some new some))
 
--- the text ended behind a last line
+-- the text ended after a last line
 pub finish_line : (old new : Engine) (p : Progress) (some : Bool) → old.partial.items ≢ [] → take_line old.ended (fields_in old) (old.partial.items ++ []) ≡ Ok (taken_in p (fields_in new)) → new.ended ≡ old.ended
     → new.line ≡ old.line + 1 → new.partial.items ≡ [] → (some ≡ true → fields_in new ≢ []) × (some ≡ false → fields_in new ≡ []) → Finishes old new some
 finish_line old new p some there said ended counted none tells =

@@ -22,7 +22,7 @@ IsShort line = length line ≤ longest_line
 abbrev pub IsClean : ℕ → List (List ℕ) → ℕ → Type 0
 IsClean earlier lines n = (front : List (List ℕ)) (line : List ℕ) (after : List (List ℕ)) (other : Fault) → lines ≡ front ++ line ∷ after → length front < n → IsWrong earlier other front line → ⊥
 
--- so many lines of the text are read, and these are left
+-- this many lines of the text are read, and these are left
 pub record HasRead (earlier : ℕ) (text : List ℕ) (number : ℕ) (left : List (List ℕ)) (going : Going) : Type 0 where
   pub before : List (List ℕ)
   pub all : lines_of text ≡ before ++ left

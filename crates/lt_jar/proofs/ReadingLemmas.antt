@@ -147,7 +147,7 @@ cut_short earlier text lines rest fields few each one short bytes ran = record {
   counted = refl;
 }
 
--- what is said of a line is a fault of the format, or want of memory
+-- what is said of a line is a fault of the format, or running out of memory
 pub said_fault : {A : Type 0} (kind : JarFaultKind) (said : Result A Fault) (fault : Fault) → IsSaid kind said → fault_in kind ≡ Some fault → said ≡ Err fault
 said_fault {A} kind said fault (inl memory) is = absurd (no_fault (ap fault_in (sym memory) ∙ is))
   where

@@ -230,13 +230,13 @@ holds_here : (P : List ℕ → Type 0) (ended : Type 0) (bytes : List ℕ) → H
 holds_here P ended bytes (inl each) = subst P (append-nil bytes) (each [])
 holds_here P ended bytes (inr over) = over.1
 
--- the first line behind these lines is wrong
+-- the first line after these lines is wrong
 fault_told : (earlier : ℕ) (text : List ℕ) (lines : List (List ℕ)) (tail : List ℕ) (fields : List Field) (kind : JarFaultKind) (fault : Fault) → earlier ≤ most_records → AllByRecursion IsOneLine lines
     → text ≡ whole_lines lines ++ tail → steps earlier (going_on []) lines ≡ going_on fields → fault_in kind ≡ Some fault → RefusesFirst earlier fields tail kind → IsTheFault earlier text fault (length lines + 1)
 fault_told earlier text lines tail fields kind fault few each bytes ran is first =
     fault_behind earlier text lines tail first.line first.after fields fault few each bytes first.cut ran (said_fault kind (take_line earlier fields first.line) fault first.said is)
 
--- the first line behind these lines is wrong, or memory ran out at it
+-- the first line after these lines is wrong, or memory ran out at it
 stops_said : {R : Type 0} (remaining : R → Option (List ℕ)) (old new : JarSource) (before after : Device R) (read : List ℕ) (reads : ℕ) (kind : JarFaultKind) (lines : List (List ℕ)) (tail : List ℕ) (fields : List Field)
     → lent_by old ≤ most_records → AllByRecursion IsOneLine lines → kept_in old ++ read ≡ whole_lines lines ++ tail → steps (lent_by old) (going_on []) lines ≡ going_on fields
     → HoldsOfWhole (λ text. RefusesFirst (lent_by old) fields text kind) (IsAtEnd (remaining (inner_of after))) tail → line_of_kept new ≡ line_of_kept old + length lines → Stops remaining old new before after read reads kind
@@ -421,7 +421,7 @@ turn_stops_last remaining old now mid new before between after kind turn few emp
       works = λ other. fills.fills.3 ∙ turn.failures;
     }
 
--- the bytes behind those that were handed on
+-- the bytes after those that were handed on
 pub unread_rest : (buffer : List ℕ) (start end : ℕ) (front rest : List ℕ) → start ≤ end → end ≤ length buffer → take (end - start) (drop start buffer) ≡ front ++ rest
     → take (end - (end - length rest)) (drop (end - length rest) buffer) ≡ rest
 unread_rest buffer start end front rest low high is =

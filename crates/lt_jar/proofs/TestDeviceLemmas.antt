@@ -43,7 +43,7 @@ remaining-moves endless endless' bytes bytes' left old new at at' piece piece' p
     let copied_is : new ≡ take n (drop place bytes) ++ drop n old = copied ∙ ap (λ l. take n l ++ drop n old) front in
     rw (same_end, same_bytes, same_piece, moved) (remaining-consumes endless bytes old new at piece place n is count_is copied_is long)
 
--- what stands from a place on, and nothing past the end
+-- what is from a place on, and nothing past the end
 pub part-from : (bytes : List ℕ) (at : ℕ) (got : Option (Bor (List ℕ))) (empty : Bor (List ℕ)) → empty.now ≡ []
     → MatchOption got ((length bytes < at) ⊎ (length bytes < length bytes)) (λ x. (at ≤ length bytes) × (length bytes ≤ length bytes) × (x.now ≡ slice_range bytes at (length bytes)) × (length x.now + at ≡ length bytes))
     → (unwrap_or got empty).now ≡ drop at bytes

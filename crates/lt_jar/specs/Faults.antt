@@ -40,7 +40,7 @@ abbrev pub is_continuation : Line → Bool
 is_continuation (Continuation text) = true
 is_continuation line = false
 
--- this is wrong with a line that stands behind the lines before it, and those behind so many records
+-- this is wrong with a line that is after the lines before it, and those after this many records
 abbrev pub IsWrong : ℕ → Fault → List (List ℕ) → List ℕ → Type 0
 IsWrong earlier LineTooLong before line = longest_line < length line
 IsWrong earlier NotUtf8 before line = ¬ IsUtf8 line

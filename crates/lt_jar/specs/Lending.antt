@@ -24,7 +24,7 @@ pub record EndsRecord (lines : List (List ℕ)) (fields : List Field) : Type 0 w
   pub gathers : Gathers before fields
   pub some : fields ≢ []
 
--- nothing is wrong with the lines of the text, which stand behind so many records
+-- nothing is wrong with the lines of the text, which are after this many records
 abbrev pub IsSound : ℕ → List ℕ → Type 0
 IsSound earlier text = (fault : Fault) (number : ℕ) → ¬ IsWrongAt earlier text fault number
 

@@ -3,7 +3,7 @@ use Rattle.std.specs.Prelude.{◌≢◌, ℕ, List, [], ◌∷◌, ◌++◌, ◌
 use Rattle.std.specs.List.{All, flat_map}
 use Rattle.std.specs.Io.BufRead.{strip_last}
 
--- the byte stands in front of the first line
+-- the byte is in front of the first line
 abbrev pub begin_first : ℕ → List (List ℕ) → List (List ℕ)
 begin_first byte [] = (byte ∷ []) ∷ []
 begin_first byte (line ∷ lines) = (byte ∷ line) ∷ lines

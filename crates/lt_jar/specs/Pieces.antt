@@ -12,7 +12,7 @@ use Rattle.lt_jar.specs.declared.faults.JarFaultKind.TheVariants as kinds
 use Rattle.lt_jar.specs.declared.drafts.Progress.{Progress}
 use Rattle.lt_jar.specs.declared.engine.Engine.{Engine}
 
--- what stands before the first line feed and behind it
+-- what is before the first line feed and after it
 abbrev pub SplitsLine : List ℕ → Option (Bor (List ℕ) × Bor (List ℕ)) → Type 0
 SplitsLine text parts = MatchOption parts (IsOneLine text) (λ p. IsOneLine p.0.now × (text ≡ p.0.now ++ 10 ∷ p.1.now))
 
@@ -62,7 +62,7 @@ pub record RefusesFirst (ended : ℕ) (fields : List Field) (text : List ℕ) (k
   pub cut : lines_of text ≡ line ∷ after
   pub said : IsSaid kind (take_line ended fields line)
 
--- the line behind these lines is wrong whatever bytes follow, or memory ran out at it
+-- the line after these lines is wrong whatever bytes follow, or memory ran out at it
 pub record StopsAt (old new : Engine) (piece : List ℕ) (kind : JarFaultKind) : Type 0 where
   pub lines : List (List ℕ)
   pub each : AllByRecursion IsOneLine lines
@@ -82,7 +82,7 @@ TakesPiece old new piece (Ok None) = TakesAll old new piece
 TakesPiece old new piece (Ok (Some rest)) = TakesRecord old new piece rest.now
 TakesPiece old new piece (Err kind) = StopsAt old new piece kind
 
--- bytes without a line feed went behind those of the line that goes on. Of a line whose end is not read it is told alone that it is too long, or that memory ran out.
+-- bytes without a line feed went after those of the line that goes on. Of a line whose end is not read it is reported alone that it is too long, or that memory ran out.
 abbrev pub KeepsBytes : Engine → Engine → List ℕ → Result (Unit {0}) JarFaultKind → Type 0
 KeepsBytes old new rest (Ok x) = new.partial.items ≡ old.partial.items ++ rest
 KeepsBytes old new rest (Err kind) =

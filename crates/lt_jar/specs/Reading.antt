@@ -18,7 +18,7 @@ pub data Taken : Type 0 where
 abbrev pub lengthened : List ℕ → List ℕ → List ℕ
 lengthened body text = joined (filter is_something (body ∷ text ∷ []))
 
--- the text goes behind the body of the last field
+-- the text goes after the body of the last field
 abbrev pub with_text : List ℕ → List Field → List Field
 with_text text [] = []
 with_text text (field ∷ []) = (field.0, lengthened field.1 text) ∷ []
@@ -36,7 +36,7 @@ abbrev pub started : ℕ → Field → List Field → Result Taken Fault
 started ended new [] = if nat_lt ended most_records then Ok (GoesOn (new ∷ [])) else Err TooManyRecords
 started ended new (field ∷ fields) = Ok (GoesOn ((field ∷ fields) ++ new ∷ []))
 
--- a line of this kind, behind so many records that have ended
+-- a line of this kind, after this many records that have ended
 abbrev pub take_kind : ℕ → List Field → Line → Result Taken Fault
 take_kind ended fields Blank = Ok (GoesOn fields)
 take_kind ended fields Separator = Ok (separated fields)
@@ -64,7 +64,7 @@ abbrev pub on_taken : Going → Result Taken Fault → Result Going Fault
 on_taken going (Ok taken) = Ok (with_taken going taken)
 on_taken going (Err fault) = Err fault
 
--- one line more, behind so many records of an earlier text
+-- one line more, after this many records of an earlier text
 abbrev pub step : ℕ → Going → List ℕ → Result Going Fault
 step earlier going line = on_taken going (take_line (earlier + length going.records) going.fields line)
 

@@ -52,7 +52,7 @@ pub record IsFresh (s : JarSource) : Type 0 where
 abbrev pub LastGave : {R : Type 0} → JarSource → Device R → Type 0
 LastGave s device = 0 < s.turns → 0 < last_given_of device
 
--- so many reads were made, which gave these bytes, at most 65,536 each
+-- this many reads were made, which gave these bytes, at most 65,536 each
 pub record IsRead {R : Type 0} (remaining : R → Option (List ℕ)) (old new : JarSource) (before after : Device R) (read : List ℕ) (reads : ℕ) : Type 0 where
   pub consumes : Consumes (remaining (inner_of before)) (remaining (inner_of after)) read
   pub calls : reads_of after ≡ after_reads (reads_of before) reads
@@ -148,7 +148,7 @@ abbrev pub without_line : Result Bool JarFault → Result Bool JarFaultKind
 without_line (Ok some) = Ok some
 without_line (Err fault) = Err fault.kind
 
--- What a call did. After the end there is nothing, after a fault it is told that there was one, and at which line.
+-- What a call did. After the end there is nothing, after a fault it is reported that there was one, and at which line.
 pub record Advances {R : Type 0} (remaining : R → Option (List ℕ)) (old new : JarSource) (before after : Device R) (result : Result Bool JarFault) : Type 0 where
   pub reads : old.status ≡ state.Open → ReadsRecord remaining old new before after (without_line result)
   pub fails : (fault : JarFault) → result ≡ Err fault → (new.status ≡ state.Failed) × (fault.line ≡ line_of_kept new)

@@ -17,15 +17,15 @@ given_in (suc more) bytes = bytes
 abbrev pub remaining_of : Pieces → Option (List ℕ)
 remaining_of reader = if reader.endless then None else Some (given_in reader.piece (drop reader.at (bytes_of reader)))
 
--- where the next read begins: behind the last byte a reader without an end begins again
+-- where the next read begins: after the last byte a reader without an end begins again
 abbrev pub next_place : Pieces → ℕ
 next_place reader = if reader.endless && nat_le (length (bytes_of reader)) reader.at then 0 else reader.at
 
--- the bytes that stand there
+-- the bytes that are there
 abbrev pub next_bytes : Pieces → List ℕ
 next_bytes reader = drop (next_place reader) (bytes_of reader)
 
--- how many of them the next read gives, where there is room for so many
+-- how many of them the next read gives, where there is room for this many
 abbrev pub next_count : Pieces → ℕ → ℕ
 next_count reader room = min (min (length (next_bytes reader)) reader.piece) room
 
@@ -49,7 +49,7 @@ taken_by writer = writer.taken.items
 abbrev pub WriteFails : Takes → Type 0
 WriteFails writer = one_more writer.calls ≡ writer.fails_at
 
--- how many of so many bytes the next write takes
+-- how many of this many bytes the next write takes
 abbrev pub take_count : Takes → ℕ → ℕ
 take_count writer count = if nat_eq (one_more writer.calls) writer.full_at then 0 else min count writer.piece
 

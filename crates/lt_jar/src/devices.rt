@@ -9,7 +9,7 @@ use std::io::{self, Read, Write};
 
 /// A reader or a writer that is read and written through this value alone, and how often it failed.
 ///
-/// A device failed in a call where its count of failures rose, or stands at its greatest value.
+/// A device failed in a call where its count of failures rose, or is at its greatest value.
 #[derive(Drop)]
 pub struct Device<T> {
     inner: T,

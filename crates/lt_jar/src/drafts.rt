@@ -55,7 +55,7 @@ impl Draft {
         self.fields.clear();
     }
 
-    /// Takes the next line, behind so many records that have ended.
+    /// Takes the next line, after this many records that have ended.
     pub(crate) fn take_line(
         &mut self,
         alloc: Global,
@@ -138,7 +138,7 @@ impl Draft {
 
 ghost use Rattle.std.specs.Prelude.{◌↔◌, IsTrue};
 
-/// Puts a further text behind a body.
+/// Puts a further text after a body.
 fn lengthen(body: &mut String, text: &str) -> Result<(), AllocError>
     ensures { OnOk result (string_bytes body.new ≡ reading.lengthened (string_bytes body.old) text.now) }
 {

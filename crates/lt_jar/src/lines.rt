@@ -6,7 +6,7 @@ ghost use Rattle.lt_jar.specs.LineKinds as lines;
 ghost use Rattle.lt_jar.specs.Views.{line_in};
 ghost use Rattle.lt_jar.specs.Pieces.{SplitsLine};
 
-/// What stands before the first line feed and behind it, if there is one.
+/// What is before the first line feed and after it, if there is one.
 pub(crate) fn split_line(text: &[u8]) -> Option<(&[u8], &[u8])>
     ensures { SplitsLine text.now result }
 {

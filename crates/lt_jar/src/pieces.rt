@@ -21,7 +21,7 @@ pub struct Pieces<'a> {
 }
 
 impl<'a> Pieces<'a> {
-    /// A reader that gives the bytes once, so many in a call; in pieces of no bytes it gives none.
+    /// A reader that gives the bytes once, this many in a call; in pieces of no bytes it gives none.
     pub fn once(bytes: &'a [u8], piece: usize) -> Pieces<'a>
         ensures unread { IsUnread result bytes.now piece }
         ensures ends { result.endless ≡ false }
@@ -37,7 +37,7 @@ impl<'a> Pieces<'a> {
         }
     }
 
-    /// A reader that begins again behind the last byte.
+    /// A reader that begins again after the last byte.
     pub fn for_ever(bytes: &'a [u8], piece: usize) -> Pieces<'a>
         ensures unread { IsUnread result bytes.now piece }
         ensures endless { result.endless ≡ true }
@@ -104,7 +104,7 @@ impl Read for Pieces<'_> {
     }
 }
 
-/// A writer that takes so many bytes in a call and keeps them, and may fail at one call.
+/// A writer that takes this many bytes in a call and keeps them, and may fail at one call.
 #[derive(Drop)]
 pub struct Takes {
     taken: Vec<u8>,
@@ -115,7 +115,7 @@ pub struct Takes {
 }
 
 impl Takes {
-    /// A writer that takes so many bytes in a call.
+    /// A writer that takes this many bytes in a call.
     pub fn new(alloc: Global, piece: usize) -> Takes
         ensures { IsUnwritten result piece }
     {

@@ -30,7 +30,7 @@ impl<'a> RecordRef<'a> {
         fields
     }
 
-    /// The name of the field behind `i` others, in the case in which the text has it.
+    /// The name of the field after `i` others, in the case in which the text has it.
     pub fn name(&self, i: usize) -> &'a str
         requires { i < length self.now.fields.now }
         ensures { IfSome (slice_get self.now.fields.now i) (λ field. result.now ≡ field.0) }
@@ -38,7 +38,7 @@ impl<'a> RecordRef<'a> {
         self.fields[i].name()
     }
 
-    /// The body of the field behind `i` others, with its continuation lines joined to it by
+    /// The body of the field after `i` others, with its continuation lines joined to it by
     /// single spaces.
     pub fn body(&self, i: usize) -> &'a str
         requires { i < length self.now.fields.now }

@@ -10,7 +10,7 @@ use crate::faults::{JarFault, JarFaultKind};
 use crate::jars::{Jar, Record};
 use std::alloc::Global;
 
-/// Puts the record that ended behind the others. Where memory runs out, it does so at the line
+/// Puts the record that ended after the others. Where memory runs out, it does so at the line
 /// that ended it.
 fn push_record(
     alloc: Global,

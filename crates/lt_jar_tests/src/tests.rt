@@ -11,7 +11,7 @@ use lt_testing::{returned_text, sample_text};
 use std::alloc::{AllocError, Global};
 use std::test::Fail;
 
-/// Puts fields behind the text, with `;` between two of them, and `=` behind a name.
+/// Puts fields after the text, with `;` between two of them, and `=` after a name.
 fn push_fields(text: &mut String, fields: &[JarField]) -> Result<(), AllocError> {
     for (i, field) in fields.iter().enumerate() {
         if i > 0 {
@@ -71,7 +71,7 @@ const FAULTS: [(&[u8], &str, u64); 8] = [
     (b"A: b\n\n\xf0\x9d\x84\x9e\xc3", "NotUtf8", 3),
 ];
 
-/// A field `Comments` whose body has so many letters, with this end behind its line.
+/// A field `Comments` whose body has this many letters, with this end after its line.
 fn long_line(alloc: Global, letters: usize, end: &str) -> Result<Vec<u8>, AllocError> {
     let mut text = Vec::from_slice(alloc, b"Comments: ")?;
     for _ in 0..letters {
@@ -81,7 +81,7 @@ fn long_line(alloc: Global, letters: usize, end: &str) -> Result<Vec<u8>, AllocE
     Ok(text)
 }
 
-/// Whether a jar has one record with one field, whose body has so many bytes.
+/// Whether a jar has one record with one field, whose body has this many bytes.
 fn is_one_field(jar: &Jar, bytes: usize) -> bool {
     let [record] = jar.records() else {
         return false;
@@ -101,7 +101,7 @@ const LONG_LINES: [(usize, &str, bool); 4] = [
     (65_526, "\r\n", false),
 ];
 
-/// The text of so many records.
+/// The text of this many records.
 fn many_records(alloc: Global, records: usize) -> Result<Vec<u8>, AllocError> {
     let mut text = Vec::new(alloc);
     for _ in 0..records {

@@ -66,7 +66,7 @@ turn_next T contents piece rest line after old now mid new before between last t
       refused = omega (arith, lines, refusals, refused);
     }
 
--- no memory was left
+-- memory ran out
 pub turn_lacks : {W : Type 0} (T : Terms) (contents : W → Option (List ℕ)) (piece rest : List ℕ) (old now new : Answering) (before after : Device W)
     → PieceTurn T contents piece rest old now before after → TakesPiece T contents piece old new before after (Err faults.OutOfMemory)
 turn_lacks T contents piece rest old now new before after t = record {

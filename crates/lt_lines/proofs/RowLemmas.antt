@@ -45,7 +45,7 @@ skips_last count wanted row rest s one few = record {
   fewer = omega (arith, s.number, few);
 }
 
--- what stands before the rest
+-- what is before the rest
 front_of_rest : (row front rest : List ℕ) → row ≡ front ++ rest → take (length row - length rest) row ≡ front
 front_of_rest row front rest is =
     let long : length row - length rest ≡ length front = omega (arith, ap length is, length-append front rest) in

@@ -38,7 +38,7 @@ pub record RunTurn {I O : Type 0} (T : Terms) (remaining : I → Option (List �
   pub read_failures : failures_of input' ≡ failures_of input
   pub write_failures : failures_of output' ≡ failures_of output
 
--- what one read of so many bytes did
+-- what one read of this many bytes did
 pub record ReadsPiece {I : Type 0} (remaining : I → Option (List ℕ)) (before after : Device I) (piece : List ℕ) : Type 0 where
   pub consumes : Consumes (remaining (inner_of before)) (remaining (inner_of after)) piece
   pub calls : reads_of after ≡ one_more (reads_of before)
@@ -100,7 +100,7 @@ run_next T remaining contents input before after output between last state new t
   write_failures = takes.done.0 ∙ t.write_failures;
 }
 
--- no memory was left for the pieces
+-- memory ran out for the pieces
 pub run_lacks : {I O : Type 0} (T : Terms) (remaining : I → Option (List ℕ)) (contents : O → Option (List ℕ)) (input : Device I) (output : Device O)
     → RunsLines T remaining contents input input output output (Err faults.OutOfMemory)
 run_lacks T remaining contents input output = record {

@@ -1,4 +1,4 @@
--- Where a byte stands first.
+-- Where a byte is first.
 use Rattle.std.proofs.Common.{◌≡◌, ◌≢◌, ◌≤◌, ◌<◌, ◌+◌, ◌-◌, ◌++◌, ◌∷◌, ◌∙◌, ℕ, List, length, sym, ap, arith, suc, subst, take, drop, get_or, add-one, take-append-drop}
 use Rattle.std.proofs.Math.Seq.{drop-cons, take-length}
 use Rattle.std.proofs.lemmas.Bool.{eq-eqb}

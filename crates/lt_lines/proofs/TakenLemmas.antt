@@ -138,7 +138,7 @@ begun_front T bytes out part more all wrote state t front all_is wrote_is = reco
 pub begun_nothing : (T : Terms) (bytes out more all : List ℕ) (state : Answering) → IsTaken T bytes out state → all ≡ bytes ++ more → IsBegun T all out
 begun_nothing T bytes out more all state t all_is = begun_front T bytes out [] more all out state t (state.owed.items, refl) all_is (sym (append-nil out))
 
--- no line feed stands at the end, or all lines are ended
+-- no line feed is at the end, or all lines are ended
 pub answered_none : (T : Terms) (bytes out : List ℕ) (state : Answering) → IsTaken T bytes out state → state.kept.items ≡ [] → IsAnswered T bytes out state
 answered_none T bytes out state t none =
     let last = nothing_kept T.form state.kept.items t.last t.kept none in
@@ -151,7 +151,7 @@ answered_none T bytes out state t none =
       refused = t.refused;
     }
 
--- a line feed behind a last line ends no further line
+-- a line feed after a last line ends no further line
 last_ended : (T : Terms) (bytes out : List ℕ) (state : Answering) → IsTaken T bytes out state → (state.kept.items ≡ [] → ⊥)
     → lines_of (bytes ++ 10 ∷ []) ≡ lines_of bytes
 last_ended T bytes out state t some =

@@ -23,7 +23,7 @@ use Rattle.lt_lines.specs.declared.faults.ToolFault.TheVariants as faults
 abbrev pub longest_kept : ℕ
 longest_kept = 1026
 
--- Lines are written once so many bytes of them are owed, if no read comes before.
+-- Lines are written once this many bytes of them are owed, if no read comes before.
 abbrev pub full : ℕ
 full = 65536
 
@@ -37,12 +37,12 @@ abbrev pub kept_of : LineForm → List ℕ → List ℕ
 kept_of forms.Tag line = take longest_kept line
 kept_of (forms.Row before) line = line
 
--- the part of more bytes of a line that is kept behind so many
+-- the part of more bytes of a line that is kept after this many
 abbrev pub part_kept : LineForm → ℕ → List ℕ → List ℕ
 part_kept forms.Tag count part = take (longest_kept - count) part
 part_kept (forms.Row before) count part = part
 
--- one answer more stands among those that are owed: that to a text
+-- one answer more is among those that are owed: that to a text
 pub record AppendsTextReply (R : List EntryParts) (text old new : List ℕ) (refused : Bool) : Type 0 where
   pub bytes : List ℕ
   pub grown : new ≡ old ++ bytes
@@ -65,7 +65,7 @@ abbrev pub FieldReply : List EntryParts → List ℕ → (old new : List ℕ) �
 FieldReply R field old new None = AppendsCanonicalText R field old new
 FieldReply R field old new (Some refusal) = IsTextRefusal R field refusal × (new ≡ old)
 
--- a field that is refused was appended, with what follows it in its row and what is told of it
+-- a field that is refused was appended, with what follows it in its row and what is reported of it
 pub record EndsRefused (refusal : TextRefusal) (field after line old new : List ℕ) : Type 0 where
   pub told : List ℕ
   pub is_told : IsTold refusal told
@@ -107,7 +107,7 @@ pub record IsAnswered (T : Terms) (bytes written : List ℕ) (state : Answering)
   pub count : state.counts.lines ≡ length owed
   pub refused : state.counts.refused ≡ refused_in owed
 
--- the counts have room for so many lines more
+-- the counts have room for this many lines more
 pub record HasRoom (state : Answering) (lines : ℕ) : Type 0 where
   pub room : state.counts.lines + lines < 2 ^ 64
   pub refused : state.counts.refused ≤ state.counts.lines

@@ -10,7 +10,7 @@ use Rattle.lt_lines.specs.declared.faults.ToolFault.TheVariants as faults
 abbrev pub IsFrontOf : List ℕ → List ℕ → Type 0
 IsFrontOf written text = (rest : List ℕ) × (text ≡ written ++ rest)
 
--- the text was written, or a write failed and the front of the text stands there
+-- the text was written, or a write failed and the front of the text is there
 pub record WritesText {W : Type 0} (contents : W → Option (List ℕ)) (text : List ℕ) (before after : Device W)
     (result : Result (Unit {0}) ToolFault) : Type 0 where
   pub written : List ℕ

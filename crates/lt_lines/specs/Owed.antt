@@ -48,7 +48,7 @@ is_refusal [] = false
 is_refusal (a ∷ []) = false
 is_refusal (a ∷ b ∷ rest) = (a == 33) && (b == 32)
 
--- the answer that is owed for a text, and that its first bytes say whether it is a refusal; want of memory aside
+-- the answer that is owed for a text, and that its first bytes say whether it is a refusal; running out of memory aside
 pub record IsTextReply (R : List EntryParts) (text : List ℕ) (r : Reply) : Type 0 where
   pub owed : (AnswersText R text r.bytes × (r.refused ≡ false)) ⊎ (RefusesText R text r.bytes × (r.refused ≡ true))
   pub marked : r.refused ≡ is_refusal r.bytes
@@ -63,7 +63,7 @@ end_of line = if ends_with_byte 13 line then 13 ∷ 10 ∷ [] else 10 ∷ []
 abbrev pub row_line : List ℕ → List ℕ → List ℕ → List ℕ
 row_line row last line = row ++ 9 ∷ last ++ end_of line
 
--- the field has a canonical text, which stands in its place, and the last field is empty
+-- the field has a canonical text, which is in its place, and the last field is empty
 pub record AnswersRow (R : List EntryParts) (before : ℕ) (line bytes : List ℕ) : Type 0 where
   pub front : List ℕ
   pub field : List ℕ
@@ -90,7 +90,7 @@ pub record LacksField (before : ℕ) (line bytes : List ℕ) : Type 0 where
   pub fewer : HasFewer before (content_of line)
   pub line_is : bytes ≡ row_line (content_of line) (codes "NoColumn") line
 
--- the line that is owed for a row; want of memory aside
+-- the line that is owed for a row; running out of memory aside
 abbrev pub IsRowReply : List EntryParts → ℕ → List ℕ → Reply → Type 0
 IsRowReply R before line r =
     (AnswersRow R before line r.bytes × (r.refused ≡ false))

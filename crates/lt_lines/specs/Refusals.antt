@@ -5,7 +5,7 @@ use Rattle.lt_canon.specs.Names.{text_refusal_name_of}
 use Rattle.lt_canon.specs.declared.refusals.TextRefusal.{TextRefusal}
 use Rattle.lt_canon.specs.declared.refusals.TextRefusal.TheVariants as refusals
 
--- what is told beside the name: the place of the fault, or the variant that steps can repeat
+-- what is reported beside the name: the place of the fault, or the variant that steps can repeat
 abbrev pub detail_of : TextRefusal → List ℕ
 detail_of (refusals.NotATag fault) = decimal fault.place
 detail_of (refusals.Invalid fault) = decimal fault.place
@@ -16,14 +16,14 @@ detail_of refusals.OutOfMemory = []
 abbrev pub told_of : TextRefusal → List ℕ
 told_of refusal = text_refusal_name_of refusal ++ 32 ∷ [] ++ detail_of refusal
 
--- this is told of a refusal; want of memory is told of no text
+-- this is reported of a refusal; running out of memory is reported of no text
 abbrev pub IsTold : TextRefusal → List ℕ → Type 0
 IsTold (refusals.NotATag fault) told = told ≡ told_of (refusals.NotATag fault)
 IsTold (refusals.Invalid fault) told = told ≡ told_of (refusals.Invalid fault)
 IsTold (refusals.ReplacementRepeats variant) told = told ≡ told_of (refusals.ReplacementRepeats variant)
 IsTold refusals.OutOfMemory told = ⊥
 
--- the line for a refusal; want of memory has none
+-- the line for a refusal; running out of memory has none
 pub record IsRefusalLine (refusal : TextRefusal) (line : List ℕ) : Type 0 where
   pub told : List ℕ
   pub is_told : IsTold refusal told

@@ -15,14 +15,14 @@ tabbed (field ∷ fields) = field ++ 9 ∷ tabbed fields
 abbrev pub IsAfterField : List ℕ → Type 0
 IsAfterField after = (after ≡ []) ⊎ ((more : List ℕ) × (after ≡ 9 ∷ more))
 
--- the rest of a row, behind so many fields
+-- the rest of a row, after this many fields
 pub record Skips (count : ℕ) (row rest : List ℕ) : Type 0 where
   pub before : List (List ℕ)
   pub each : AllByRecursion IsField before
   pub number : length before ≡ count
   pub row_is : row ≡ tabbed before ++ rest
 
--- a row has this field, with so many fields before it
+-- a row has this field, with this many fields before it
 pub record HasField (count : ℕ) (row front field after : List ℕ) : Type 0 where
   pub before : List (List ℕ)
   pub each : AllByRecursion IsField before
@@ -32,7 +32,7 @@ pub record HasField (count : ℕ) (row front field after : List ℕ) : Type 0 wh
   pub ends : IsAfterField after
   pub row_is : row ≡ front ++ field ++ after
 
--- a row has so many fields, or fewer
+-- a row has this many fields, or fewer
 pub record HasFewer (count : ℕ) (row : List ℕ) : Type 0 where
   pub before : List (List ℕ)
   pub last : List ℕ

@@ -9,7 +9,7 @@ use Rattle.lt_lines.specs.declared.faults.ToolFault.{ToolFault}
 use Rattle.lt_lines.specs.declared.faults.ToolFault.TheVariants as faults
 use Rattle.lt_lines.specs.declared.runs.Counts.{Counts}
 
--- so many reads were made
+-- this many reads were made
 abbrev pub HasRead : {T : Type 0} → Device T → Device T → ℕ → Type 0
 HasRead before after reads = reads_of after ≡ after_reads (reads_of before) reads
 

@@ -7,7 +7,7 @@ use Rattle.std.specs.List.{All}
 abbrev pub IsFreeOf : ℕ → List ℕ → Type 0
 IsFreeOf byte bytes = All (λ other. other ≢ byte) bytes
 
--- what stands before the first such byte and behind it
+-- what is before the first such byte and after it
 abbrev pub SplitsAt : ℕ → List ℕ → Option (Bor (List ℕ) × Bor (List ℕ)) → Type 0
 SplitsAt byte bytes parts = MatchOption parts (IsFreeOf byte bytes)
     (λ p. IsFreeOf byte p.0.now × (bytes ≡ p.0.now ++ byte ∷ p.1.now))

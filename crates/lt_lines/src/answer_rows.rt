@@ -59,7 +59,7 @@ fn end_refused(
     Ok(())
 }
 
-/// Appends what is owed for a row whose field behind so many others is a tag, and tells whether that was refused.
+/// Appends what is owed for a row whose field after this many others is a tag, and tells whether that was refused.
 pub(crate) fn append_row<L: Lookup>(
     lines: &mut Vec<u8>,
     alloc: Global,

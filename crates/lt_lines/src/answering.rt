@@ -24,7 +24,7 @@ use std::io::Write;
 /// carriage return.
 const LONGEST_KEPT: usize = 1026;
 
-/// Lines are written once so many bytes of them are owed, if no read comes before.
+/// Lines are written once this many bytes of them are owed, if no read comes before.
 const FULL: usize = 65536;
 
 /// Lines that come in pieces, and what is owed for them.

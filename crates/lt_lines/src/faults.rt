@@ -15,7 +15,7 @@ pub enum ToolFault {
     Write,
     /// 10,000,000 reads were made, and the last of them gave bytes.
     TooManyTurns,
-    /// No memory was left.
+    /// Memory ran out.
     OutOfMemory,
 }
 

@@ -6,7 +6,7 @@ pub enum LineForm {
     /// A tag; a carriage return that ends the line is no part of it. It is answered by its canonical text, or by `! ` and
     /// why it is refused.
     Tag,
-    /// A row of fields with a tab between them, the one behind so many fields a tag; a carriage return that ends the
+    /// A row of fields with a tab between them, the one after this many fields a tag; a carriage return that ends the
     /// line is no part of its last field. It is answered by the row with the tag's canonical text in its place, and one
     /// field more, which is empty; or by the row as it is, and one field more that says why: why the tag is refused, or
     /// `NoColumn` where there are too few fields.

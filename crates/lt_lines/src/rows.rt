@@ -5,7 +5,7 @@ ghost use Rattle.lt_lines.specs.Rows.{HasFewer, HasField, IsAfterField, IsField,
 use crate::splitting::split_first;
 use memchr::memchr;
 
-/// The rest of a row, behind so many fields, if it has more.
+/// The rest of a row, after this many fields, if it has more.
 fn skip_fields(row: &[u8], count: usize) -> Option<&[u8]>
     ensures { MatchOption result (HasFewer count row.now) (λ rest. Skips count row.now rest.now) }
 {
@@ -28,7 +28,7 @@ fn first_field(rest: &[u8]) -> (&[u8], &[u8])
     rest.split_at(memchr(b'\t', rest).unwrap_or(rest.len()))
 }
 
-/// The field of a row behind so many others, with what stands before it and what follows it, if there is one.
+/// The field of a row after this many others, with what is before it and what follows it, if there is one.
 pub(crate) fn find_field(row: &[u8], count: usize) -> Option<(&[u8], &[u8], &[u8])>
     ensures { MatchOption result (HasFewer count row.now) (λ p. HasField count row.now p.0.now p.1.now p.2.now) }
 {

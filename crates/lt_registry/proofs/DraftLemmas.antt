@@ -25,7 +25,7 @@ pub made_stops : (records : List (List Field)) (i : ℕ) (r : List Field) (es : 
 made_stops records i r es fault l is refused made =
     subst (λ n. IsRecordRefusal records (record { kind = fault.kind; number = n })) (sym refused.numbered) (made_refused records i r es fault.kind l is refused.judged refused.refused made)
 
--- a record behind others
+-- a record after others
 
 behind : (before : List (List Field)) (here : List Field) (after rs : List (List Field)) (r : List Field) → rs ++ r ∷ [] ≡ before ++ here ∷ after → length before < length rs → (rest : List (List Field)) × (rs ≡ before ++ here ∷ rest)
 behind before here after [] r e l = absurd (omega (arith, l))
@@ -58,7 +58,7 @@ fault_within rs k m h = omega (arith, h.numbered, ap length h.there, length-appe
 length_more : (rs : List (List Field)) (r : List Field) → length (rs ++ r ∷ []) ≡ length rs + 1
 length_more rs r = length-append rs (r ∷ [])
 
--- where the records so far have no fault below a number, none stands below it behind them
+-- where the records so far have no fault below a number, none is below it after them
 clean_on : (rs : List (List Field)) (r : List Field) (n : ℕ) → n ≤ length rs + 1 → ((k : RecordFaultKind) (m : ℕ) → HasFaultAt rs k m → n ≤ m) → (k : RecordFaultKind) (m : ℕ) → HasFaultAt (rs ++ r ∷ []) k m → n ≤ m
 clean_on rs r n l clean k m h = by_order (cases_lt m n)
   where

@@ -18,7 +18,7 @@ pub record SameFaults (F G : Faults) : Type 0 where
   pub there : (kind : ValidFaultKind) (place : ℕ) → F kind place → G kind place
   pub back : (kind : ValidFaultKind) (place : ℕ) → G kind place → F kind place
 
--- no fault of the second is told before one of the first
+-- no fault of the second is reported before one of the first
 pub record Precede (F G : Faults) : Type 0 where
   pub left : (kind other : ValidFaultKind) (place elsewhere : ℕ) → F kind place → G other elsewhere → place ≤ elsewhere
   pub rank : (kind other : ValidFaultKind) (place : ℕ) → F kind place → G other place → rank_of kind ≤ rank_of other

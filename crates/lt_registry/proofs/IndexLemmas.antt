@@ -133,7 +133,7 @@ module _ {W K : Type 0} {cmp : K → K → Ordering} (total : IsTotalOrder cmp) 
       ascends xs (λ i j d l m. precedes_by (get_or xs i d) (get_or xs j d) (cmp (key (get_or xs i d)) (key (get_or xs j d))) refl
       (sorted_far (λ v w. is_lt (row_cmp v w)) (ranks_by row_total (λ w. w)) xs up i j d (omega arith) m))
 
-  -- a row of the same key, not behind it
+  -- a row of the same key, not after it
   abbrev Near : W → W → Type 0
   Near y v = (cmp (key v) (key y) ≡ Equal) × (place v ≤ place y)
 

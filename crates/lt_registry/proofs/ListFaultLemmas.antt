@@ -58,7 +58,7 @@ turn R here es i e l is =
 pub ended : (R : List EntryParts) (here : ℕ) (before es : List ExtensionParts) (i : ℕ) → length es ≤ i → (k : ValidFaultKind) (p : ℕ) → ListFault R here before (drop i es) k p → ⊥
 ended R here before es i l k p f = none_left R here before k p (subst (λ zs. ListFault R here before zs k p) (drop_all i es l) f)
 
--- a singleton that stands again is told first
+-- a singleton that occurs again is reported first
 dup_first : (R : List EntryParts) (r : Bool) (here : ℕ) (before : List ExtensionParts) (e : ExtensionParts) (G : Faults) → Past here G → has_singleton before e.singleton ≡ true → IsFirstOf (Counted r (Or (HeadFault R here before e) G)) faults.DuplicateSingleton here
 dup_first R r here before e G past again = record {
   there = (inl (inl (refl, refl, again)), λ t z. cc);

@@ -4,7 +4,7 @@ use Rattle.std.proofs.Math.Seq.{drop-cons}
 use Rattle.std.proofs.lemmas.List.{take_more, take-append-drop}
 use Rattle.std.specs.Cmp.Lexicographic.{pointwise}
 
--- the element at an index stands first in what is left there
+-- the element at an index is first in what is left there
 pub drop_turn : {A : Type 0} (xs : List A) (i : ℕ) (x : A) → i < length xs → x ≡ get_or xs i x → drop i xs ≡ x ∷ drop (i + 1) xs
 drop_turn xs i x l e = drop-cons xs i x l ∙ rw (add-one i, ← e) refl
 

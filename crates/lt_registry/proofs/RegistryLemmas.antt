@@ -59,7 +59,7 @@ same_record records i r k m h same is =
 from_one : (records : List (List Field)) (k : RecordFaultKind) (m : ℕ) → HasFaultAt records k m → 1 ≤ m
 from_one records k m h = omega (arith, h.numbered)
 
--- what is made of the first so many records
+-- what is made of the first this many records
 pub record Made (records : List (List Field)) (i : ℕ) (es : List EntryParts) : Type 0 where
   pub entries : EntriesFrom 1 (take i records) es
   pub below : AllByRecursion (λ (e : EntryParts). e.number ≤ i) es

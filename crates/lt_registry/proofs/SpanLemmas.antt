@@ -36,7 +36,7 @@ pub record IsBegun (starts : List ℕ) (k i : ℕ) : Type 0 where
   pub started : get_or starts k 0 ≤ i
   pub not_ended : k + 1 < length starts → i < get_or starts (k + 1) 0
 
--- the starts for the first so many rows
+-- the starts for the first this many rows
 pub record StartsSoFar (rows : List Row) (i : ℕ) (starts : List ℕ) : Type 0 where
   pub begun : (j : ℕ) (w : Row) → j < i → slice_get rows j ≡ Some w → IsBegun starts (beginning w.number) j
   pub small : (k : ℕ) → k < length starts → get_or starts k 0 ≤ i
@@ -185,7 +185,7 @@ found_in_part P rows a b order inside =
 abbrev pub has : ℕ → Row → Bool
 has n w = eqb w.number n
 
--- the rows of a number stand in the span of its beginning
+-- the rows of a number are in the span of its beginning
 spanned : (rows : List Row) (starts : List ℕ) (n : ℕ) → AreStarts rows starts → (i : ℕ) (w : Row) → slice_get rows i ≡ Some w → has n w ≡ true → IsInSpan starts (beginning n) i
 spanned rows starts n g i w there passes = subst (λ m. IsInSpan starts (beginning m) i) (eqb-true w.number n passes) (g.spans i w there)
 

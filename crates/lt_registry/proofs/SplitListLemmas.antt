@@ -1,4 +1,4 @@
--- Facts on each element of a list, and on each pair, by the places where they stand.
+-- Facts on each element of a list, and on each pair, by the places where they are.
 use Rattle.std.proofs.Common.{◌≡◌, ◌≢◌, List, [], ◌∷◌, ◌++◌, refl, sym, ap, ◌∙◌, subst}
 use Rattle.std.specs.Prelude.{map}
 use Rattle.std.specs.List.{AllByRecursion}

@@ -108,7 +108,7 @@ numbers_equal s t h k =
     eqb_itself : (n : ℕ) → eqb n n ≡ true
     eqb_itself n = grind (arith, nat_tests)
 
--- each byte, and zeros behind the last
+-- each byte, and zeros after the last
 pub filled_by_index : (s : List ℕ) → length s ≤ 8
     → filled s ≡ get_or s 0 0 ∷ get_or s 1 0 ∷ get_or s 2 0 ∷ get_or s 3 0 ∷ get_or s 4 0 ∷ get_or s 5 0 ∷ get_or s 6 0 ∷ get_or s 7 0 ∷ []
 filled_by_index [] l = refl
@@ -122,7 +122,7 @@ filled_by_index (a ∷ b ∷ c ∷ d ∷ e ∷ f ∷ g ∷ []) l = refl
 filled_by_index (a ∷ b ∷ c ∷ d ∷ e ∷ f ∷ g ∷ h ∷ []) l = refl
 filled_by_index (a ∷ b ∷ c ∷ d ∷ e ∷ f ∷ g ∷ h ∷ i ∷ s) l = absurd (omega (arith, l))
 
--- numbers of subtags of one length stand in their order
+-- numbers of subtags of one length are in their order
 
 abbrev through : ℕ → List ℕ → ℕ
 through v [] = v

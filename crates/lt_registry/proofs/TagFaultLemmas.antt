@@ -17,7 +17,7 @@ use Rattle.lt_registry.proofs.CoreFaultLemmas.{CoreFault, core_tells, core_upto}
 use Rattle.lt_registry.proofs.ExtensionFaultLemmas.{length_core}
 use Rattle.lt_registry.proofs.ListFaultLemmas.{list_from}
 
--- a singleton that stands among others
+-- a singleton that is among others
 one_singleton : (front : List ExtensionParts) (s : ℕ) → has_singleton front s ≡ true → (b : List ExtensionParts) × (f : ExtensionParts) × (c : List ExtensionParts) × (front ≡ b ++ f ∷ c) × (f.singleton ≡ s)
 one_singleton [] s h = cc
 one_singleton (f ∷ fs) s h =
@@ -49,7 +49,7 @@ record IsExtensionAt (R : List EntryParts) (here : ℕ) (es : List ExtensionPart
   there : es ≡ front ++ extension ∷ after
   fault : HasExtensionFault R (here + length (spell_extensions front)) extension k p
 
--- a singleton that stands again
+-- a singleton that occurs again
 record IsSecondAt (here : ℕ) (before es : List ExtensionParts) (p : ℕ) : Type 0 where
   front : List ExtensionParts
   extension : ExtensionParts

@@ -206,7 +206,7 @@ ranked_again faults.DuplicateVariant = refl
 ranked_again faults.DuplicateSingleton = refl
 ranked_again faults.BadTransform = refl
 
--- one fault is told
+-- one fault is reported
 pub one_fault_law : (R : List EntryParts) (t : TagForm) (k l : ValidFaultKind) (p q : ℕ) → IsFirstFault R t k p → IsFirstFault R t l q → (k ≡ l) × (p ≡ q)
 one_fault_law R t k l p q a b =
     let le = a.leftmost l q b.there in

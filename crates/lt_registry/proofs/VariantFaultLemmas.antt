@@ -10,7 +10,7 @@ use Rattle.lt_registry.specs.declared.faults.ValidFaultKind.{ValidFaultKind}
 use Rattle.lt_registry.specs.declared.faults.ValidFaultKind.TheVariants as faults
 use Rattle.lt_registry.proofs.FirstLemmas.{Or, precede_by, Upto, Single, tells_and, tells_unless, single_precede, single_upto, upto_or}
 
--- a list holds what stands in it
+-- a list holds what is in it
 pub stands_at : (front : List (List ℕ)) (v : List ℕ) → stands_in front v ≡ true → (b c : List (List ℕ)) × (front ≡ b ++ v ∷ c)
 stands_at [] v h = cc
 stands_at (u ∷ us) v h =
@@ -30,13 +30,13 @@ pub stands_there : (b c : List (List ℕ)) (v : List ℕ) → stands_in (b ++ v 
 stands_there [] c v = ap (λ x. x || stands_in c v) (itself v)
 stands_there (u ∷ b) c v = ap (λ x. bytes_eq u v || x) (stands_there b c v) ∙ or_true (bytes_eq u v)
 
--- the faults of one variant behind others
+-- the faults of one variant after others
 abbrev pub VariantHead : List EntryParts → Bool → ℕ → List (List ℕ) → List ℕ → ValidFaultKind → ℕ → Type 0
 VariantHead R r here before v =
     Or (Single faults.UnknownVariant here (is_registered R kinds.Variant v ≡ false))
     (Single faults.DuplicateVariant here ((r || not (stands_in before v)) ≡ false))
 
--- the faults of variants from a place on, behind others
+-- the faults of variants from a place on, after others
 unfoldable pub VariantFault : List EntryParts → Bool → ℕ → List (List ℕ) → List (List ℕ) → ValidFaultKind → ℕ → Type 0
 VariantFault R r here before [] k p = ⊥
 VariantFault R r here before (v ∷ after) k p = VariantHead R r here before v k p ⊎ VariantFault R r (here + 1) (before ++ v ∷ []) after k p
@@ -91,7 +91,7 @@ pub record IsUnknownAt (R : List EntryParts) (here : ℕ) (vs : List (List ℕ))
   pub placed : p ≡ here + length front
   pub cause : is_registered R kinds.Variant variant ≡ false
 
--- a variant that stands again
+-- a variant that occurs again
 pub record IsRepeatedAt (here : ℕ) (before vs : List (List ℕ)) (p : ℕ) : Type 0 where
   pub front : List (List ℕ)
   pub variant : List ℕ

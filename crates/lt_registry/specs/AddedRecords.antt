@@ -12,7 +12,7 @@ use Rattle.lt_registry.specs.RecordRefusals.{IsRefused}
 use Rattle.lt_registry.specs.declared.drafts.Draft.{Draft}
 use Rattle.lt_registry.specs.declared.faults.RecordFault.{RecordFault}
 
--- the record's entry stands behind the others
+-- the record's entry is after the others
 abbrev pub IsPut : List Field → ℕ → List EntryParts → List EntryParts → Type 0
 IsPut r number old new = (e : EntryParts) × IsEntryOf r number e × IsEntry e × (new ≡ old ++ e ∷ [])
 

@@ -51,20 +51,20 @@ part_check R kind fault place (Some s) = unless (is_registered R kind s) fault p
 abbrev pub stands_in : List (List ℕ) → List ℕ → Bool
 stands_in before v = list_any (λ u. bytes_eq u v) before
 
--- a variant behind others
+-- a variant after others
 abbrev pub variant_check : List EntryParts → Bool → ℕ → List (List ℕ) → List ℕ → Check
 variant_check R may_repeat place before v =
     and_then (unless (is_registered R kinds.Variant v) faults.UnknownVariant place)
     (unless (may_repeat || not (stands_in before v)) faults.DuplicateVariant place)
 
--- the variants from a place on, behind others
+-- the variants from a place on, after others
 unfoldable pub variants_check : List EntryParts → Bool → ℕ → List (List ℕ) → List (List ℕ) → Check
 variants_check R may_repeat place before [] = Ok tt
 variants_check R may_repeat place before (v ∷ after) =
     and_then (variant_check R may_repeat place before v)
     (variants_check R may_repeat (place + 1) (before ++ v ∷ []) after)
 
--- a core that begins after so many subtags
+-- a core that begins after this many subtags
 unfoldable pub core_check : List EntryParts → Bool → ℕ → CoreParts → Check
 core_check R may_repeat start c =
     and_then (language_check R start c.language)
@@ -73,7 +73,7 @@ core_check R may_repeat start c =
     (and_then (part_check R kinds.Region faults.UnknownRegion (start + before_region c + 1) c.region)
     (variants_check R may_repeat (start + before_variants c + 1) [] c.variants))))
 
--- the source of a t extension whose singleton stands at a place
+-- the source of a t extension whose singleton is at a place
 abbrev pub source_check : List EntryParts → Bool → ℕ → Option CoreParts → Check
 source_check R may_repeat place None = Ok tt
 source_check R may_repeat place (Some c) = core_check R may_repeat place c
@@ -81,29 +81,29 @@ source_check R may_repeat place (Some c) = core_check R may_repeat place c
 abbrev pub has_singleton : List ExtensionParts → ℕ → Bool
 has_singleton es s = list_any (λ (e : ExtensionParts). e.singleton == s) es
 
--- the faults of an extension whose singleton stands at a place, behind others
+-- the faults of an extension whose singleton is at a place, after others
 abbrev pub HeadFault : List EntryParts → ℕ → List ExtensionParts → ExtensionParts → ValidFaultKind → ℕ → Type 0
 HeadFault R here before e kind place =
     ((kind ≡ faults.DuplicateSingleton) × (place ≡ here) × (has_singleton before e.singleton ≡ true))
     ⊎ HasExtensionFault R here e kind place
 
--- the faults of extensions of which the first has its singleton at a place, behind others
+-- the faults of extensions of which the first has its singleton at a place, after others
 unfoldable pub ListFault : List EntryParts → ℕ → List ExtensionParts → List ExtensionParts → ValidFaultKind → ℕ → Type 0
 ListFault R here before [] kind place = ⊥
 ListFault R here before (e ∷ after) kind place =
     HeadFault R here before e kind place
     ⊎ ListFault R (here + (1 + length e.subtags)) (before ++ e ∷ []) after kind place
 
--- faults, those aside that a variant stands twice where variants may repeat
+-- faults, those aside that a variant occurs twice where variants may repeat
 abbrev pub Counted : Bool → (ValidFaultKind → ℕ → Type 0) → ValidFaultKind → ℕ → Type 0
 Counted may_repeat F kind place = F kind place × (may_repeat ≡ true → kind ≢ faults.DuplicateVariant)
 
--- there is no fault, or the first one is told
+-- there is no fault, or the first one is reported
 abbrev pub Tells : (ValidFaultKind → ℕ → Type 0) → Check → Type 0
 Tells F (Ok done) = (kind : ValidFaultKind) (place : ℕ) → F kind place → ⊥
 Tells F (Err fault) = IsFirstOf F fault.kind fault.place
 
--- the same, but that memory may be wanting where something holds
+-- the same, but that memory may run out where something holds
 abbrev pub TellsOrLacks : (ValidFaultKind → ℕ → Type 0) → Type 0 → Result (Unit {0}) ValidRefusal → Type 0
 TellsOrLacks F M (Ok done) = (kind : ValidFaultKind) (place : ℕ) → F kind place → ⊥
 TellsOrLacks F M (Err (refusals.Fault fault)) = IsFirstOf F fault.kind fault.place

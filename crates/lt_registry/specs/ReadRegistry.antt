@@ -25,7 +25,7 @@ pub record IsReadWhole {R : Type 0} (remaining : R → Option (List ℕ)) (befor
   pub end : IsAtEnd (remaining (inner_of after))
   pub works : failures_of after ≡ failures_of before
 
--- why the bytes that so many reads gave are no jar, or are not all
+-- why the bytes that this many reads gave are no jar, or are not all
 pub record IsJarRefusal {R : Type 0} (remaining : R → Option (List ℕ)) (before after : Device R) (bytes : List ℕ) (reads : ℕ) (fault : JarFault) : Type 0 where
   pub format : (kind : Fault) → fault_in fault.kind ≡ Some kind → HoldsOfWhole (λ text. IsTheFault 0 text kind fault.line) (IsAtEnd (remaining (inner_of after))) bytes
   pub memory : fault.kind ≡ jars.OutOfMemory → IsReached 0 bytes fault.line
@@ -47,7 +47,7 @@ IsReadFailure (Ok registry) = ⊥
 IsReadFailure (Err (faults.Record fault)) = ⊥
 IsReadFailure (Err (faults.Jar fault)) = fault.kind ≡ jars.Read
 
--- So many reads gave these bytes, at most 65,536 each, and the answer is theirs. The device fails only where it is told.
+-- This many reads gave these bytes, at most 65,536 each, and the answer is theirs. The device fails only where it is reported.
 pub record ReadsRegistry {R : Type 0} (remaining : R → Option (List ℕ)) (before after : Device R) (result : Result (List EntryParts) RegistryFault) : Type 0 where
   pub bytes : List ℕ
   pub reads : ℕ

@@ -1,4 +1,4 @@
--- Why records give no entries; want of memory aside.
+-- Why records give no entries; running out of memory aside.
 use Rattle.std.specs.Prelude.{◌≡◌, ◌⊎◌, List}
 use Rattle.lt_jar.specs.Records.{Field}
 use Rattle.lt_registry.specs.Records.{IsFirstOfRecord, IsFirstRecordFault, IsReached}
@@ -6,7 +6,7 @@ use Rattle.lt_registry.specs.declared.faults.RecordFault.{RecordFault}
 use Rattle.lt_registry.specs.declared.faults.RecordFaultKind.{RecordFaultKind}
 use Rattle.lt_registry.specs.declared.faults.RecordFaultKind.TheVariants as faults
 
--- the first fault of a record, or memory was wanting
+-- the first fault of a record, or memory ran out
 abbrev pub IsRefused : List Field → RecordFaultKind → Type 0
 IsRefused r kind = (kind ≡ faults.OutOfMemory) ⊎ IsFirstOfRecord r kind
 

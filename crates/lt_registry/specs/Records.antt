@@ -55,7 +55,7 @@ body name r = option_map (λ (f : Field). f.1) (find (is_called name) r)
 abbrev pub is_repeated : List ℕ → List Field → Bool
 is_repeated name r = nat_lt 1 (count_by (is_called name) r)
 
--- one of the fields that stand once at most stands again
+-- one of the fields that occur once at most occurs again
 abbrev pub repeats_field : List Field → Bool
 repeats_field r = is_repeated type_name r || (is_repeated subtag_name r || (is_repeated tag_name r || is_repeated value_name r))
 
@@ -206,7 +206,7 @@ HasRecordFault r faults.BadPreferred =
 HasRecordFault r faults.BadPrefix = (k : Kind) × HasKind r k × (prefixes_in k r ≡ None)
 HasRecordFault r faults.OutOfMemory = ⊥
 
--- of the faults of one record the one of the least rank is told
+-- of the faults of one record the one of the least rank is reported
 abbrev pub record_rank : RecordFaultKind → ℕ
 record_rank faults.RepeatedField = 0
 record_rank faults.MissingType = 1

@@ -25,11 +25,11 @@ use Rattle.lt_registry.specs.declared.indexes.Indexes.{Indexes}
 abbrev pub filled : List ℕ → List ℕ
 filled s = s ++ replicate (8 - length s) 0
 
--- those as one number, so that numbers stand in the order of subtags
+-- those as one number, so that numbers are in the order of subtags
 unfoldable pub number : List ℕ → ℕ
 number s = from_be_bytes w64 (filled s)
 
--- the length, and behind it the number, so that subtags of one length stand together, in their order
+-- the length, and after it the number, so that subtags of one length are together, in their order
 abbrev pub rank : List ℕ → ℕ
 rank s = length s * 2 ^ 64 + number s
 
@@ -42,7 +42,7 @@ single_number _ = None
 abbrev pub single_row : Kind → ℕ → EntryParts → Option Row
 single_row kind place e = if same_kind e.kind kind then option_map (λ n. record { number = n; place = place }) (single_number e.name) else None
 
--- the rank of a range's first, and the one behind that of its last
+-- the rank of a range's first, and the one after that of its last
 abbrev pub ends : EntryName → Option (ℕ × ℕ)
 ends (names.Range a b) = Some (rank a, rank b + 1)
 ends _ = None
@@ -51,7 +51,7 @@ ends _ = None
 abbrev pub range_row : Kind → ℕ → EntryParts → Option RangeRow
 range_row kind place e = if same_kind e.kind kind then option_map (λ (n : ℕ × ℕ). record { start = n.0; end = n.1; place = place }) (ends e.name) else None
 
--- the rows of the ranges of a kind, in the order of the file, where the entries stand from a place on
+-- the rows of the ranges of a kind, in the order of the file, where the entries are from a place on
 abbrev pub range_rows : Kind → ℕ → List EntryParts → List RangeRow
 range_rows kind place [] = []
 range_rows kind place (e ∷ es) = cons_option (range_row kind place e) (range_rows kind (place + 1) es)
@@ -78,7 +78,7 @@ pub record AreStretches (rows : List RangeRow) (stretches : List Stretch) : Type
   pub rising : StartsRise stretches
   pub places : (rank : ℕ) → place_in None stretches rank ≡ first_within rows rank
 
--- the stretches of ranges that stand before others, from those of each
+-- the stretches of ranges that are before others, from those of each
 pub record AreMerged (earlier later stretches : List Stretch) : Type 0 where
   pub rising : StartsRise stretches
   pub places : (rank : ℕ) → place_in None stretches rank ≡ option_or (place_in None earlier rank) (place_in None later rank)
@@ -125,13 +125,13 @@ whole_cmp R v w = ordering_then (key_cmp (whole_key R v) (whole_key R w)) (nat_c
 abbrev pub IsRowAt : {W : Type 0} → (ℕ → EntryParts → Option W) → (W → ℕ) → List EntryParts → W → Type 0
 IsRowAt row place R w = (e : EntryParts) × (slice_get R (place w) ≡ Some e) × (row (place w) e ≡ Some w)
 
--- the rows of the first so many entries, in any order
+-- the rows of the first this many entries, in any order
 pub record AreRows {W : Type 0} (row : ℕ → EntryParts → Option W) (place : W → ℕ) (R : List EntryParts) (i : ℕ) (rows : List W) : Type 0 where
   pub sound : All (IsRowAt row place R) rows
   pub complete : (p : ℕ) (e : EntryParts) (w : W) → p < i → slice_get R p ≡ Some e → row p e ≡ Some w → Contains rows w
 
 -- Rows in the order of their keys, each key once: each is the row of an entry, and the row of each entry
--- is there, or one of the same key whose entry stands before it.
+-- is there, or one of the same key whose entry is before it.
 pub record IsIndex {W K : Type 0} (row : ℕ → EntryParts → Option W) (place : W → ℕ) (key : W → K) (cmp : K → K → Ordering) (R : List EntryParts) (rows : List W) : Type 0 where
   pub rising : AllPairs (λ v w. cmp (key v) (key w) ≡ Less) rows
   pub sound : All (IsRowAt row place R) rows
@@ -164,8 +164,8 @@ pub record IsInSpan (starts : List ℕ) (k i : ℕ) : Type 0 where
   pub started : slice_index starts k ≤ i
   pub not_ended : i < slice_index starts (k + 1)
 
--- Where rows of each beginning start: each row stands in the span of its beginning, and none starts
--- behind the last row.
+-- Where rows of each beginning start: each row is in the span of its beginning, and none starts
+-- after the last row.
 pub record AreStarts (rows : List Row) (starts : List ℕ) : Type 0 where
   pub spans : (i : ℕ) (w : Row) → slice_get rows i ≡ Some w → IsInSpan starts (beginning w.number) i
   pub bounded : All (λ start. start ≤ length rows) starts

@@ -12,7 +12,7 @@ use lt_jar::{JarFault, JarField, JarReader};
 use std::alloc::Global;
 use std::io::Read;
 
-/// Puts the entry of the record of these fields behind the others; a header has none.
+/// Puts the entry of the record of these fields after the others; a header has none.
 pub(crate) fn add_record(
     alloc: Global,
     entries: &mut Vec<Entry>,
@@ -31,7 +31,7 @@ pub(crate) fn add_record(
     }
 }
 
-/// Puts the entry of the record of these fields behind the others.
+/// Puts the entry of the record of these fields after the others.
 fn add_entry(
     alloc: Global,
     entries: &mut Vec<Entry>,

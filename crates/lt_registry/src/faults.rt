@@ -24,9 +24,9 @@ pub enum ValidFaultKind {
     UnknownRegion,
     /// A variant is not registered.
     UnknownVariant,
-    /// A variant stands a second time.
+    /// A variant occurs a second time.
     DuplicateVariant,
-    /// A singleton stands a second time.
+    /// A singleton occurs a second time.
     DuplicateSingleton,
     /// The subtags of a `t` extension have not its form (RFC 6497).
     BadTransform,
@@ -95,7 +95,7 @@ impl From<ValidFault> for ValidRefusal {
 /// Why a record gives no entry.
 #[derive(Clone, Copy, Debug, PartialEq, Eq)]
 pub enum RecordFaultKind {
-    /// Type, Subtag, Tag or Preferred-Value stands twice.
+    /// Type, Subtag, Tag or Preferred-Value occurs twice.
     RepeatedField,
     /// There is no Type.
     MissingType,
@@ -113,7 +113,7 @@ pub enum RecordFaultKind {
     BadPreferred,
     /// A Prefix of an extlang or variant is no list of subtags.
     BadPrefix,
-    /// No memory was left.
+    /// Memory ran out.
     OutOfMemory,
 }
 

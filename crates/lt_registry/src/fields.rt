@@ -41,7 +41,7 @@ fn is_repeated(fields: &[JarField], name: &str) -> bool
     1 < fields.iter().filter(|field| is_called(field, name)).count()
 }
 
-/// Whether Type, Subtag, Tag or Preferred-Value stands twice.
+/// Whether Type, Subtag, Tag or Preferred-Value occurs twice.
 pub(crate) fn repeats_field(fields: &[JarField]) -> bool
     ensures { result ≡ record_words.repeats_field fields.now }
 {

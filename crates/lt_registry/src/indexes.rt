@@ -21,7 +21,7 @@ pub(crate) struct Indexes {
 }
 
 impl Indexes {
-    /// The indexes of entries. They are refused for want of memory alone.
+    /// The indexes of entries. They are refused only where memory runs out.
     pub(crate) fn of_entries(alloc: Global, entries: &[Entry]) -> Result<Indexes, AllocError>
         ensures { IfOk result (sorted.AreIndexes entries.now) }
     {

@@ -27,7 +27,7 @@ pub(crate) struct KindIndex {
 }
 
 impl KindIndex {
-    /// The index of the records of a kind. It is refused for want of memory alone.
+    /// The index of the records of a kind. It is refused only where memory runs out.
     pub(crate) fn of_entries(
         alloc: Global,
         entries: &[Entry],

@@ -20,7 +20,7 @@ pub fn proper_repeats_at_most()
     ensures { (R : List EntryParts) (t : TagForm) → IsTagValue t → IsProper R t ↔ RepeatsAtMost R t }
 {}
 
-/// One fault of a tag is told.
+/// One fault of a tag is reported.
 pub fn one_first_fault()
     ensures { (R : List EntryParts) (t : TagForm) (k l : ValidFaultKind) (p q : ℕ) → IsFirstFault R t k p → IsFirstFault R t l q → (k ≡ l) × (p ≡ q) }
 {}
@@ -36,7 +36,7 @@ pub fn fault_or_entries()
         → HasEntries records entries → HasFaultAt records kind number → ⊥ }
 {}
 
-/// One fault of some records is told.
+/// One fault of some records is reported.
 pub fn one_first_record_fault()
     ensures { (records : List (List Field)) (k l : RecordFaultKind) (m n : ℕ)
         → IsFirstRecordFault records k m → IsFirstRecordFault records l n → (k ≡ l) × (m ≡ n) }

@@ -14,7 +14,7 @@ pub(crate) fn is_alphabetic(subtag: &Subtag) -> bool
     subtag.bytes().iter().all(|byte| byte.is_ascii_lowercase())
 }
 
-/// Whether the first is the other or stands before it in letter order.
+/// Whether the first is the other or is before it in letter order.
 pub(crate) fn is_up_to(first: &Subtag, other: &Subtag) -> bool
     ensures { result ≡ forms.letters_le first.now other.now }
 {

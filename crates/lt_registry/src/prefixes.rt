@@ -40,7 +40,7 @@ impl Prefixes {
         }
     }
 
-    /// These Prefixes. Refused for want of memory alone.
+    /// These Prefixes. Refused only where memory runs out.
     pub(crate) fn of_list(alloc: Global, prefixes: Vec<Prefix>) -> Result<Prefixes, OutOfMemory>
         ensures { IfOk result (λ made. made ≡ prefixes.items) }
     {

@@ -33,7 +33,7 @@ impl Model for Registry {
 
 impl Registry {
     /// The entries of a file's records: each record but the header gives one. A refusal names the lowest
-    /// record at fault and, there, the first fault; for want of memory the record that was being made.
+    /// record at fault and, there, the first fault; where memory runs out, the record that was being made.
     pub fn from_records(alloc: Global, records: &[Record]) -> Result<Registry, RecordFault>
         requires { length records.now ≤ 100000 }
         ensures ok { IfOk result (HasEntries records.now) }

@@ -8,7 +8,7 @@ pub(crate) struct Row {
     pub(crate) place: usize,
 }
 
-/// A range of subtags, by the rank of its first and the one behind that of its last, and the place of its record among the
+/// A range of subtags, by the rank of its first and the one after that of its last, and the place of its record among the
 /// entries.
 #[derive(Clone, Copy, Debug)]
 pub(crate) struct RangeRow {

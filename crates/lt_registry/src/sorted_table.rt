@@ -32,7 +32,7 @@ impl Model for SortedTable {
 }
 
 impl SortedTable {
-    /// The table of a registry's entries. For want of memory alone it is refused, and the registry
+    /// The table of a registry's entries. It is refused only where memory runs out, and the registry
     /// handed back.
     pub fn new(alloc: Global, registry: Registry) -> Result<SortedTable, Registry>
         ensures ok { IfOk result (λ table. table ≡ registry) }

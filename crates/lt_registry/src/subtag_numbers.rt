@@ -8,7 +8,7 @@ use lt_subtag::Subtag;
 /// How many numbers there are.
 const NUMBERS: u128 = 1 << 64;
 
-/// The bytes of a subtag, filled up with zeros, as one number. Numbers stand in the order of
+/// The bytes of a subtag, filled up with zeros, as one number. Numbers are in the order of
 /// subtags. Most subtags have two or three bytes.
 #[tactic(auto, unfolding(crate::specs::Sorted::number))]
 pub(crate) fn number_of(subtag: &Subtag) -> u64
@@ -22,7 +22,7 @@ pub(crate) fn number_of(subtag: &Subtag) -> u64
     }
 }
 
-/// The rank of a subtag: its length, and behind it its number. So subtags of one length stand together, in their order.
+/// The rank of a subtag: its length, and after it its number. So subtags of one length are together, in their order.
 #[tactic(auto, using(crate::proofs::SubtagNumbers::subtag_short))]
 pub(crate) fn rank_of(subtag: &Subtag) -> u128
     ensures value { result ≡ sorted.rank subtag.now }
@@ -33,7 +33,7 @@ pub(crate) fn rank_of(subtag: &Subtag) -> u128
     length * NUMBERS + number_of(subtag) as u128
 }
 
-/// The byte at an index, and zero behind the last.
+/// The byte at an index, and zero after the last.
 fn byte_at(bytes: &[u8], index: usize) -> u8
     ensures { result ≡ slice_index_or bytes.now index 0 }
 {

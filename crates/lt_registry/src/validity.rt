@@ -67,7 +67,7 @@ fn core_length(core: &Core) -> u32
     length as u32
 }
 
-/// Checks a core that begins after so many subtags.
+/// Checks a core that begins after this many subtags.
 #[tactic(auto, unfolding(crate::specs::Checking::core_check))]
 fn check_core<L: Lookup>(
     table: &L,
@@ -186,7 +186,7 @@ fn check_variants<L: Lookup>(
     Ok(())
 }
 
-/// Checks a variant that stands behind others.
+/// Checks a variant that is after others.
 fn check_variant<L: Lookup>(
     table: &L,
     place: u32,
@@ -237,7 +237,7 @@ fn has_singleton(extensions: &[Extension], singleton: u8) -> bool
         .any(|extension| extension.singleton() == singleton)
 }
 
-/// Checks an extension whose singleton stands at a place. Of a `t` extension the source is looked at.
+/// Checks an extension whose singleton is at a place. Of a `t` extension the source is looked at.
 fn check_extension<L: Lookup>(
     alloc: Global,
     table: &L,
@@ -261,7 +261,7 @@ fn check_extension<L: Lookup>(
     }
 }
 
-/// Checks the source of a `t` extension whose singleton stands at a place.
+/// Checks the source of a `t` extension whose singleton is at a place.
 fn check_source<L: Lookup>(
     table: &L,
     source: &Option<Core>,

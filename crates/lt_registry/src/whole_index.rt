@@ -22,7 +22,7 @@ pub(crate) struct WholeIndex {
 }
 
 impl WholeIndex {
-    /// The index of the whole records. It is refused for want of memory alone.
+    /// The index of the whole records. It is refused only where memory runs out.
     pub(crate) fn of_entries(alloc: Global, entries: &[Entry]) -> Result<WholeIndex, AllocError>
         ensures { IfOk result (λ index. sorted.IsWholes entries.now index.rows.items) }
     {

@@ -24,7 +24,7 @@ pub chase_last : (f : List ℕ → Option (List ℕ)) (n : ℕ) (s t : List ℕ)
 chase_last f zero s t h = chase_next f zero s t h
 chase_last f (suc n) s t h = chase_last_at f n s t (λ u. chase_last f n u t) (f s) refl h
 
--- what a walk of so many values gives
+-- what a walk of this many values gives
 pub chase_more : (f : List ℕ → Option (List ℕ)) (n : ℕ) (s u t : List ℕ) → u ≡ chase f n s → f u ≡ Some t → t ≡ chase f (n + 1) s
 chase_more f n s u t e h = sym (ap (λ k. chase f k s) (add-one n) ∙ chase_last f n s t (ap f (sym e) ∙ h))
 

@@ -166,7 +166,7 @@ module _ (R : List EntryParts) (start : ℕ) (c : CoreParts) where
 pub none_turn : (R : List EntryParts) (start : ℕ) (c : CoreParts) → HasNoTurn (values_of R) c → NoneOnCore R start c 6
 none_turn R start c none step b l r = none_turns R start c step (rank_6 step.kind r) none b l
 
--- what stands at the first kind of which a step leads on
+-- what is at the first kind of which a step leads on
 module _ (R : List EntryParts) (start : ℕ) (c : CoreParts) (step : Step) where
   pub first_1 : IsLeftmostOnCore R start c 1 step → IsFirstOnCore R start c step
   first_1 h = first_core R start c step 1 (below_1 R start c) h

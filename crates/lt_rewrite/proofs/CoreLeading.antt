@@ -187,7 +187,7 @@ one_first f (x ∷ xs) v m after (y ∷ ys) v' m' after' e h h' n n' =
     ap suc (one_first f xs v m after ys v' m' after' k h h' n.1 n'.1)
 
 module _ (R : List EntryParts) (start : ℕ) (c : CoreParts) (step : Step) where
-  -- no variant stands at the place
+  -- no variant is at the place
   pub variant_elsewhere : step.kind ≡ steps.Variant → ((index : ℕ) → index < length c.variants → step.place ≡ start + before_variants c + index + 1 → ⊥) → (d : CoreParts) → CoreLeads R start c step d → ⊥
   variant_elsewhere k none d l =
       let r = of_variant R start c step d k l in

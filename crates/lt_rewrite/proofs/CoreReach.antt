@@ -51,7 +51,7 @@ variants_to_end V S l xs sc re before (v ∷ vs) =
     let more'' = subst (λ us. Star (CoreStep V) (core l xs sc re (before ++ S.variant v ∷ vs)) (core l xs sc re us)) to more' in
     star_trans one more''
 
--- the picked variant, and what stands round it
+-- the picked variant, and what is round it
 pub record Picked (V : Values) (l : List ℕ) (vs : List (List ℕ)) (p : List ℕ × List (List ℕ)) : Type 0 where
   pub before : List (List ℕ)
   pub variant : List ℕ

@@ -170,12 +170,12 @@ pub singletons_replaced : (before : List ExtensionParts) (e f : ExtensionParts) 
 singletons_replaced [] e f after h = ap (λ n. n ∷ map singleton_of after) h
 singletons_replaced (x ∷ xs) e f after h = ap (λ l. x.singleton ∷ l) (singletons_replaced xs e f after h)
 
--- steps in an extension come behind those of a rank
+-- steps in an extension come after those of a rank
 abbrev pub IsBehind : List EntryParts → ℕ → ExtensionParts → Type 0
 IsBehind R most e = (k : ℕ) (f : ExtensionParts) (s : ExtensionStep R e f) → most < extension_rank (extension_label R k s)
 
 -- a first step in the one extension of a singleton is one among all, where those are in order, and steps in others
--- come behind
+-- come after
 module _ (R : List EntryParts) (start n most : ℕ) (own : (k : ℕ) (e f : ExtensionParts) (s : ExtensionStep R e f) → e.singleton ≡ n → extension_rank (extension_label R k s) ≤ most) (before after : List ExtensionParts) where
   pub record Leading (e : ExtensionParts) : Type 0 where
     pub singleton : e.singleton ≡ n

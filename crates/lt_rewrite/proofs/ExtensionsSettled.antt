@@ -67,7 +67,7 @@ transform_settled R G e p q u k n = record {
         let own : IsTransform (spell_t q) q = record { shaped = star_keeps IsT (t_shaped R (step_shaped R G)) n.reached k.shaped; spelled = refl } in
         n.at_rest b (subst (λ x. TransformStep R x b) (one_transform (spell_t q) a q s.from own) s.step)
 
--- where the first extension of a singleton stands
+-- where the first extension of a singleton is
 
 none_at : {A : Type 0} (test : A → Bool) (i : ℕ) (x : A) (xs : List A) → (position_from test (i + 1) xs ≡ None → AllByRecursion (λ y. test y ≡ false) xs) → (b : Bool) → test x ≡ b → cond b (Some i) (position_from test (i + 1) xs) ≡ None → AllByRecursion (λ y. test y ≡ false) (x ∷ xs)
 none_at test i x xs others true t e = cc
@@ -107,7 +107,7 @@ all_set P [] i x a p = tt
 all_set P (y ∷ ys) zero x a p = (p, a.1)
 all_set P (y ∷ ys) (suc i) x a p = (a.0, all_set P ys i x a.1 p)
 
--- where each singleton stands once, what the placed one has, each of its singleton has
+-- where each singleton occurs once, what the placed one has, each of its singleton has
 placed_alone : (P : ExtensionParts → Type 0) (n : ℕ) (es : List ExtensionParts) (i : ℕ) (e f : ExtensionParts) → Distinct (map singleton_of es) → i < length es → e ≡ get_or es i e → e.singleton ≡ n → P f → AllByRecursion (λ (x : ExtensionParts). x.singleton ≡ n → P x) (set es i f)
 placed_alone P n [] i e f d h is s p = absurd (omega arith)
 placed_alone P n (x ∷ xs) zero e f d h is s p =

@@ -37,7 +37,7 @@ language_form R G s h =
     let of : IsEntryOf kinds.Language s en.0 = has.1 in
     language_at s en.0.name (subst (λ k. FitsName k en.0.name) of.of_kind has.0.name) of.names
 
--- an extlang stands in its record by itself
+-- an extlang is in its record by itself
 pub extlang_form : (R : List EntryParts) → IsRegistry R → (s : List ℕ) → ExtlangEntry R s → is_extlang s ≡ true
 extlang_form R G s x =
     let has = entry_has R kinds.Extlang s IsEntry G.forms x.at x.found in

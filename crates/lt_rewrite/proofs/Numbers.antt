@@ -38,7 +38,7 @@ pub one_numbered : (R : List EntryParts) → NumbersRise R → (e f : EntryParts
 one_numbered R rise e f c d same =
     sym c.2 ∙ one_at R rise c.0 d.0 e f c.1 d.1 (ap (λ (x : EntryParts). x.number) c.2 ∙ same ∙ ap (λ (x : EntryParts). x.number) (sym d.2)) ∙ d.2
 
--- a record stands where one of its number does
+-- a record is where one of its number does
 pub numbered_there : (R : List EntryParts) → NumbersRise R → (i : ℕ) (e f : EntryParts) → slice_get R i ≡ Some e → Contains R f → e.number ≡ f.number → slice_get R i ≡ Some f
 numbered_there R rise i e f there c same =
     let at : get_or R i e ≡ e = get_or_from_slice_get R i e e there in
@@ -46,7 +46,7 @@ numbered_there R rise i e f there c same =
     let one : get_or R i e ≡ get_or R c.0 f = one_at R rise i c.0 e f (slice_get_within R i e there) c.1 numbers in
     there ∙ ap some (sym at ∙ one ∙ c.2)
 
--- and behind all of lower numbers
+-- and after all of lower numbers
 pub first_not_lower : (R : List EntryParts) → NumbersRise R → (i : ℕ) (e : EntryParts) → Contains R e → i ≤ length R → AllWithin (λ (x : EntryParts). ltb x.number e.number ≡ true) R 0 i → AllWithin (λ (x : EntryParts). ltb x.number e.number ≡ false) R i (length R) → slice_get R i ≡ Some e
 first_not_lower R rise i e c within before after =
     let k : ℕ = c.0 in

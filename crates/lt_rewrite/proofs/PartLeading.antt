@@ -50,7 +50,7 @@ module _ {A : Type 0} (spell : A → List (List ℕ)) where
       let r = length-append (spell a) (flat_map spell between) in
       omega (arith, p, q, r)
 
-  -- so many subtags stand before one part alone
+  -- this many subtags are before one part alone
   pub same_front : ((a : A) → 0 < length (spell a)) → (i j : ℕ) (xs : List A) → i < length xs → j < length xs → length (flat_map spell (take i xs)) ≡ length (flat_map spell (take j xs)) → i ≡ j
   same_front n zero zero xs h k e = refl
   same_front n zero (suc j) [] h k e = absurd (omega arith)
@@ -127,7 +127,7 @@ module _ {A : Type 0} (spell : A → List (List ℕ)) where
     drop_nowhere xs none ys s =
         none (length (s.before ++ s.first ∷ s.between)) (cut_within (s.before ++ s.first ∷ s.between) s.second s.after xs (drop_there xs ys s)) (drop_front xs ys s)
 
-    -- no like of it stands before it
+    -- no like of it is before it
     pub drop_alone : ((a : A) → 0 < length (spell a)) → (xs : List A) (i : ℕ) → i < length xs → IsPlaceOf spell start xs i place → (HasLike cmp xs i → ⊥) → (ys : List A) → DropLeads cmp spell start place xs ys → ⊥
     drop_alone some xs i h p none ys s =
         let front : List A = s.before ++ s.first ∷ s.between in

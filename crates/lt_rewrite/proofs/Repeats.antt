@@ -1,4 +1,4 @@
--- A repeat that steps on a core without repeats can reach stands in the core normal form too.
+-- A repeat that steps on a core without repeats can reach is in the core normal form too.
 use Rattle.std.proofs.Common.{◌≡◌, ◌≢◌, ℕ, zero, suc, Bool, true, false, cond, not, List, [], ◌∷◌, ◌++◌, Option, Some, None, refl, sym, ap, ◌∙◌, subst, map, is_some, length, filter}
 use Rattle.std.specs.Option.{option_map}
 use Rattle.std.specs.List.{AllByRecursion}
@@ -79,7 +79,7 @@ turning R v = is_some (language_value R v)
 abbrev staying : List EntryParts → List ℕ → Bool
 staying R v = not (turning R v)
 
--- no variant with a language value stands twice
+-- no variant with a language value occurs twice
 abbrev pub TurnsOnce : List EntryParts → CoreParts → Type 0
 TurnsOnce R c = Distinct (filter (turning R) c.variants)
 

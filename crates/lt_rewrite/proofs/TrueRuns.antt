@@ -50,7 +50,7 @@ front_few spell (x ∷ xs) (suc i) =
     omega (arith, n, length-append (spell x) (flat_map spell (take i xs)), length-append (spell x) (flat_map spell xs))
 
 module _ (start : ℕ) where
-  -- the first that is left stands no further left than the first index that was not yet looked at
+  -- the first that is left is no further left than the first index that was not yet looked at
   true_behind : (ks ls : List KeywordParts) (place index : ℕ) → ((k : ℕ) (d : KeywordParts) → k < index → IsSoleTrue (get_or ks k d) → ⊥) → TrueLeads start place ks ls → start + length (flat_map spell_keyword (take index ks)) + 2 ≤ place
   true_behind ks ls place index none t =
       let front : take (length t.before) ks ≡ t.before = ap (take (length t.before)) t.drops.there ∙ take_at t.before (t.keyword ∷ t.after) (length t.before) refl in

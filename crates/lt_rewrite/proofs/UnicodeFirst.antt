@@ -180,7 +180,7 @@ module _ (start : ℕ) (p : UForm) where
             leftmost_first 0 step.place other.place (h.first other q.keywords (as_drop_true other q u (sym (rank_said start p other q u) ∙ r)));
       })
 
--- a keyword without its types stands as it did
+-- a keyword without its types is as it did
 unlike_bare : (before : List KeywordParts) (k : KeywordParts) (after : List KeywordParts) → IsUnlike key_cmp (before ++ k ∷ after) → IsUnlike key_cmp (before ++ record k { types = [] } ∷ after)
 unlike_bare [] k after h = h
 unlike_bare (u ∷ us) k after h =

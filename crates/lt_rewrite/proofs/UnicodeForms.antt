@@ -59,7 +59,7 @@ types_rest (t ∷ u ∷ ts) h = cc
 untrue_is_form : IsFormOf LosesTrue untrue
 untrue_is_form = record { kept = untrue_kept; reached = λ k. types_reached k.key k.types; rests = λ k l s. types_rest k.types s.sole }
 
--- sole types true go, then keywords whose keys stand earlier, and the rest stand in the order of their keys
+-- sole types true go, then keywords whose keys are earlier, and the rest are in the order of their keys
 abbrev pub keywords_form : List KeywordParts → List KeywordParts
 keywords_form ks = sorted true key_cmp (map untrue ks)
 

@@ -14,7 +14,7 @@ fault_name_of faults.OutOfMemory = codes "OutOfMemory"
 abbrev pub no_memory : ApplyFault
 no_memory = faults.OutOfMemory
 
--- the step leads nowhere from the tag; want of memory aside
+-- the step leads nowhere from the tag; running out of memory aside
 abbrev pub IsApplyFault : List EntryParts → TagForm → Step → ApplyFault → Type 0
 IsApplyFault R t step faults.NoSuchStep = (u : TagForm) → LeadsBy R t step u → ⊥
 IsApplyFault R t step faults.OutOfMemory = Unit {0}

@@ -29,15 +29,15 @@ pub record IsValueBy (R : List EntryParts) (kind : Kind) (s : List ℕ) (number 
   pub has : value R kind s ≡ Some v
   pub by : number_of (entry R kind s) ≡ number
 
--- on a core that begins after so many subtags
+-- on a core that begins after this many subtags
 abbrev pub CoreLeads : List EntryParts → ℕ → CoreParts → Step → CoreParts → Type 0
 CoreLeads R start c step d = (s : CoreStep (values_of R) c d) × (core_label R start s ≡ step)
 
--- the first subtag of the part at an index stands at a place, in a list that begins after so many subtags
+-- the first subtag of the part at an index is at a place, in a list that begins after this many subtags
 abbrev pub IsPlaceOf : {A : Type 0} → (A → List (List ℕ)) → ℕ → List A → ℕ → ℕ → Type 0
 IsPlaceOf spell start xs index place = place ≡ start + length (flat_map spell (take index xs)) + 1
 
--- the like of the part at an index stands before it
+-- the like of the part at an index is before it
 pub record HasLike {A : Type 0} (cmp : A → A → Ordering) (xs : List A) (index : ℕ) : Type 0 where
   pub earlier : ℕ
   pub before : earlier < index
@@ -52,7 +52,7 @@ pub record SwapLeads {A : Type 0} (cmp : A → A → Ordering) (spell : A → Li
   pub swaps : SwapsAt cmp before first second after xs ys
   pub at : place ≡ start + length (flat_map spell before) + 1
 
--- a part that begins at a place goes, whose like stands before it
+-- a part that begins at a place goes, whose like is before it
 pub record DropLeads {A : Type 0} (cmp : A → A → Ordering) (spell : A → List (List ℕ)) (start place : ℕ) (xs ys : List A) : Type 0 where
   pub before : List A
   pub first : A
@@ -62,7 +62,7 @@ pub record DropLeads {A : Type 0} (cmp : A → A → Ordering) (spell : A → Li
   pub drops : DropsAt cmp before first between second after xs ys
   pub at : place ≡ start + length (flat_map spell before) + length (spell first) + length (flat_map spell between) + 1
 
--- a keyword that begins before a place loses its sole type, which stands at the place and is true
+-- a keyword that begins before a place loses its sole type, which is at the place and is true
 pub record TrueLeads (start place : ℕ) (ks ls : List KeywordParts) : Type 0 where
   pub before : List KeywordParts
   pub keyword : KeywordParts
@@ -70,7 +70,7 @@ pub record TrueLeads (start place : ℕ) (ks ls : List KeywordParts) : Type 0 wh
   pub drops : DropsTrue before keyword after ks ls
   pub at : place ≡ start + length (flat_map spell_keyword before) + 2
 
--- on the parts of an extension, and on an extension, whose singleton stands at a place
+-- on the parts of an extension, and on an extension, whose singleton is at a place
 abbrev pub UnicodeLeads : ℕ → UForm → Step → UForm → Type 0
 UnicodeLeads start p step q = (s : UnicodeStep p q) × (unicode_label start s ≡ step)
 
@@ -80,12 +80,12 @@ TransformLeads R start p step q = (s : TransformStep R p q) × (transform_label 
 abbrev pub ExtensionLeads : List EntryParts → ℕ → ExtensionParts → Step → ExtensionParts → Type 0
 ExtensionLeads R start e step f = (s : ExtensionStep R e f) × (extension_label R start s ≡ step)
 
--- on the extension at an index, of extensions that begin after so many subtags
+-- on the extension at an index, of extensions that begin after this many subtags
 abbrev pub LeadsAt : List EntryParts → ℕ → List ExtensionParts → Step → ℕ → ExtensionParts → Type 0
 LeadsAt R start es step index f =
     (default : ExtensionParts) → ExtensionLeads R (start + length (spell_extensions (take index es)) + 1) (slice_index_or es index default) step f
 
--- on extensions that begin after so many subtags
+-- on extensions that begin after this many subtags
 abbrev pub ExtensionsLeads : List EntryParts → ℕ → List ExtensionParts → Step → List ExtensionParts → Type 0
 ExtensionsLeads R start es step fs = (s : ExtensionsStep R es fs) × (extensions_label R start s ≡ step)
 

@@ -19,7 +19,7 @@ use Rattle.lt_rewrite.specs.declared.steps.StepKind.TheVariants as steps
 abbrev pub step_at : StepKind → ℕ → ℕ → Step
 step_at kind place number = record { kind = kind; place = place; number = number }
 
--- of a core that begins after so many subtags
+-- of a core that begins after this many subtags
 abbrev pub core_label : (R : List EntryParts) (start : ℕ) {c d : CoreParts} → CoreStep (values_of R) c d → Step
 core_label R start {c} (by_extlang x s) = step_at steps.Extlang (start + 2) (number_of (entry R kinds.Extlang x))
 core_label R start {c} (by_language v s) = step_at steps.Language (start + 1) (number_of (entry R kinds.Language c.language))
@@ -30,20 +30,20 @@ core_label R start {c} (by_variant before v w after s) =
 core_label R start {c} (by_turn before v m after s) =
     step_at steps.VariantLanguage (start + before_variants c + length before + 1) (number_of (entry R kinds.Variant v))
 
--- of a list of parts that begins after so many subtags: the kinds of a swap and of a drop, and the subtags of a part
+-- of a list of parts that begins after this many subtags: the kinds of a swap and of a drop, and the subtags of a part
 abbrev pub list_label : {A : Type 0} {once : Bool} {cmp : A → A → Ordering} {xs ys : List A} → StepKind → StepKind → (A → List (List ℕ)) → ℕ → ListStep once cmp xs ys → Step
 list_label swap drop spell start (by_swap before a b after s) = step_at swap (start + length (flat_map spell before) + 1) 0
 list_label swap drop spell start (by_drop before a between b after o s) =
     step_at drop (start + length (flat_map spell before) + length (spell a) + length (flat_map spell between) + 1) 0
 
--- of a u extension whose singleton stands at a place
+-- of a u extension whose singleton is at a place
 abbrev pub unicode_label : ℕ → {p q : UForm} → UnicodeStep p q → Step
 unicode_label start (on_attributes s k) = list_label steps.SwapAttributes steps.DropAttribute (λ a. a ∷ []) start s
 unicode_label start {p} (on_keywords a s) = list_label steps.SwapKeywords steps.DropKeyword spell_keyword (start + length p.attributes) s
 unicode_label start {p} (on_types a before k after s) =
     step_at steps.DropTrue (start + length p.attributes + length (flat_map spell_keyword before) + 2) 0
 
--- of a t extension whose singleton stands at a place
+-- of a t extension whose singleton is at a place
 abbrev pub transform_label : (R : List EntryParts) → ℕ → {p q : TForm} → TransformStep R p q → Step
 transform_label R start (on_source c d s) = core_label R start s.step
 transform_label R start {p} (on_fields a s) = list_label steps.SwapFields steps.SwapFields spell_field (start + length (spell_source p.source)) s
@@ -52,7 +52,7 @@ abbrev pub extension_label : (R : List EntryParts) → ℕ → {e f : ExtensionP
 extension_label R start (in_unicode p q s) = unicode_label start s.step
 extension_label R start (in_transform p q s) = transform_label R start s.step
 
--- of extensions that begin after so many subtags
+-- of extensions that begin after this many subtags
 abbrev pub extensions_label : (R : List EntryParts) → ℕ → {es fs : List ExtensionParts} → ExtensionsStep R es fs → Step
 extensions_label R start (inside before e f after w s) = extension_label R (start + length (spell_extensions before) + 1) s
 extensions_label R start (among s) = list_label steps.SwapExtensions steps.SwapExtensions spell_extension start s

@@ -28,11 +28,11 @@ rank_of steps.SwapFields = 20
 abbrev pub kind_rank : Step → ℕ
 kind_rank step = rank_of step.kind
 
--- among extensions, where each step on a core is one on a source, behind DropTrue and before SwapFields
+-- among extensions, where each step on a core is one on a source, after DropTrue and before SwapFields
 abbrev pub extension_rank : Step → ℕ
 extension_rank step = if nat_le (kind_rank step) 6 then kind_rank step + 13 else kind_rank step
 
--- a step comes no later than another: its rank is lower, or they are of one rank and it stands no further right
+-- a step comes no later than another: its rank is lower, or they are of one rank and it is no further right
 abbrev pub IsNoLater : (Step → ℕ) → Step → Step → Type 0
 IsNoLater rank a b = (rank a < rank b) ⊎ ((rank a ≡ rank b) × (a.place ≤ b.place))
 
@@ -67,7 +67,7 @@ pub record Adds {A : Type 0} (Leads : A → Step → A → Type 0) (rank : A →
   pub added : new ≡ old ++ run
   pub is_run : IsRun Leads rank a run b
 
--- on a core that begins after so many subtags
+-- on a core that begins after this many subtags
 abbrev pub IsLeftmostOnCore : List EntryParts → ℕ → CoreParts → ℕ → Step → Type 0
 IsLeftmostOnCore R start c n step = IsLeftmost (CoreLeads R start c) kind_rank n step
 
@@ -81,7 +81,7 @@ pub record IsFirstOnCore (R : List EntryParts) (start : ℕ) (c : CoreParts) (st
 abbrev pub AddsOnCore : List EntryParts → ℕ → CoreParts → CoreParts → List Step → List Step → Type 0
 AddsOnCore R start c d old new = Adds (CoreLeads R start) (λ _ step. kind_rank step) c d old new
 
--- two neighbours of a list that begins after so many subtags change places, by a step of a kind
+-- two neighbours of a list that begins after this many subtags change places, by a step of a kind
 pub record SwapsBy {A : Type 0} (cmp : A → A → Ordering) (spell : A → List (List ℕ)) (kind : StepKind) (start : ℕ) (xs : List A) (step : Step) (ys : List A) : Type 0 where
   pub of_kind : step.kind ≡ kind
   pub unnumbered : step.number ≡ 0
@@ -103,7 +103,7 @@ pub record IsFirstFall {A : Type 0} (cmp : A → A → Ordering) (xs : List A) (
   pub falls : FallsAt cmp xs index
   pub leftmost : (other : ℕ) → other < index → FallsAt cmp xs other → ⊥
 
--- the leftmost index of a part whose like stands before it
+-- the leftmost index of a part whose like is before it
 pub record IsFirstRepeat {A : Type 0} (cmp : A → A → Ordering) (xs : List A) (index : ℕ) : Type 0 where
   pub within : index < length xs
   pub repeats : HasLike cmp xs index
@@ -115,13 +115,13 @@ pub record DropsTrueBy (start : ℕ) (ks : List KeywordParts) (step : Step) (ls 
   pub unnumbered : step.number ≡ 0
   pub leads : TrueLeads start step.place ks ls
 
--- on the parts of a u extension and of a t extension whose singleton stands at a place
+-- on the parts of a u extension and of a t extension whose singleton is at a place
 abbrev pub AddsOnUnicode : ℕ → UForm → UForm → List Step → List Step → Type 0
 AddsOnUnicode start p q old new = Adds (UnicodeLeads start) (λ _ step. kind_rank step) p q old new
 
 abbrev pub AddsOnTransform : List EntryParts → ℕ → TForm → TForm → List Step → List Step → Type 0
 AddsOnTransform R start p q old new = Adds (TransformLeads R start) (λ _ step. kind_rank step) p q old new
 
--- on extensions that begin after so many subtags
+-- on extensions that begin after this many subtags
 abbrev pub AddsOnExtensions : List EntryParts → ℕ → List ExtensionParts → List ExtensionParts → List Step → List Step → Type 0
 AddsOnExtensions R start es fs old new = Adds (ExtensionsLeads R start) (λ _ step. extension_rank step) es fs old new

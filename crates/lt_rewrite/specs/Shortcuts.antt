@@ -11,7 +11,7 @@ use Rattle.lt_rewrite.specs.ChainEnds.{following}
 abbrev pub IsOnward : (List ℕ → Option (List ℕ)) → ℕ → List ℕ → List ℕ → Type 0
 IsOnward f n s t = (m : ℕ) × (n ≤ m) × (chase f m s ≡ t)
 
--- A record of the kind stands at the place, and the value that follows it is so many values on from v.
+-- A record of the kind is at the place, and the value that follows it is this many values on from v.
 pub record LeadsTo (R : List EntryParts) (kind : Kind) (n : ℕ) (v : List ℕ) (place : ℕ) : Type 0 where
   pub entry : EntryParts
   pub there : slice_get R place ≡ Some entry
@@ -20,11 +20,11 @@ pub record LeadsTo (R : List EntryParts) (kind : Kind) (n : ℕ) (v : List ℕ) 
   pub follows : following entry.kind entry ≡ Some value
   pub onward : IsOnward (next_value R kind) n v value
 
--- From the value that follows the record at a place, a shortcut leads so many values on to another place.
+-- From the value that follows the record at a place, a shortcut leads this many values on to another place.
 abbrev pub IsShortcut : List EntryParts → ℕ → ℕ → ℕ → Type 0
 IsShortcut R n i j = (e : EntryParts) (v : List ℕ) → slice_get R i ≡ Some e → following e.kind e ≡ Some v → LeadsTo R e.kind n v j
 
--- each record has a shortcut to the place of one, so many values on
+-- each record has a shortcut to the place of one, this many values on
 pub record LeadOn (R : List EntryParts) (n : ℕ) (places : List ℕ) : Type 0 where
   pub one_each : length places ≡ length R
   pub within : (i j : ℕ) → slice_get places i ≡ Some j → j < length R

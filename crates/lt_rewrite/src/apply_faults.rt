@@ -36,7 +36,7 @@ impl fmt::Display for ApplyFault {
 
 impl std::error::Error for ApplyFault {}
 
-/// Want of memory as a fault.
+/// Running out of memory as a fault.
 impl From<OutOfMemory> for ApplyFault {
     ghost from_gives = { λ _ fault. fault ≡ no_memory };
 

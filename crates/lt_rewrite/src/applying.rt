@@ -86,7 +86,7 @@ fn change_core<L: Lookup>(
     }
 }
 
-/// What a step makes of the extensions of a tag, which begin after so many subtags.
+/// What a step makes of the extensions of a tag, which begin after this many subtags.
 fn change_extensions<L: Lookup>(
     alloc: Global,
     table: &L,
@@ -174,7 +174,7 @@ fn change<L: Lookup>(
 
 /// The tag to which a step leads from a proper tag (RFC 5646, 4.5): Ok exactly where it leads to a
 /// proper tag, which is then the only one. NoSuchStep comes exactly where the step, by its kind, its
-/// place and the number of its record, leads to none; OutOfMemory where memory was wanting. The tag
+/// place and the number of its record, leads to none; OutOfMemory where memory ran out. The tag
 /// stays as it is.
 pub fn apply<L: Lookup>(alloc: Global, table: &L, tag: &Tag, step: &Step) -> Result<Tag, ApplyFault>
     requires { IsProper (L.listed table.now) tag.now }

@@ -41,7 +41,7 @@ fn value_by<'a, L: Lookup>(
     }
 }
 
-/// How many subtags stand before the script.
+/// How many subtags are before the script.
 pub(crate) fn before_script(core: &Core) -> usize
     ensures value { result ≡ faults.before_script core.now }
     ensures few { result ≤ 4 }
@@ -49,7 +49,7 @@ pub(crate) fn before_script(core: &Core) -> usize
     1 + core.extlangs().len()
 }
 
-/// How many subtags stand before the region.
+/// How many subtags are before the region.
 pub(crate) fn before_region(core: &Core) -> usize
     ensures value { result ≡ faults.before_region core.now }
     ensures few { result ≤ 5 }
@@ -60,7 +60,7 @@ pub(crate) fn before_region(core: &Core) -> usize
     }
 }
 
-/// How many subtags stand before the variants.
+/// How many subtags are before the variants.
 pub(crate) fn before_variants(core: &Core) -> usize
     ensures value { result ≡ faults.before_variants core.now }
     ensures few { result ≤ 6 }
@@ -213,7 +213,7 @@ fn turn_variant<L: Lookup>(table: &L, core: &mut Core, start: usize, step: Step)
     true
 }
 
-/// The replacement that a step is, on a core that begins after so many subtags. False where there is
+/// The replacement that a step is, on a core that begins after this many subtags. False where there is
 /// no such replacement.
 pub(crate) fn apply_to_core<L: Lookup>(table: &L, core: &mut Core, start: usize, step: Step) -> bool
     requires { start ≤ 1200000 }

@@ -123,7 +123,7 @@ fn turn_step<L: Lookup>(table: &L, core: &Core, start: usize) -> Option<Step>
     })
 }
 
-/// The first step on a core that begins after so many subtags.
+/// The first step on a core that begins after this many subtags.
 fn first_core_step<L: Lookup>(table: &L, core: &Core, start: usize) -> Option<Step>
     requires { start ≤ 1200000 }
     ensures { MatchOption result
@@ -148,7 +148,7 @@ fn first_core_step<L: Lookup>(table: &L, core: &Core, start: usize) -> Option<St
     turn_step(table, core, start)
 }
 
-/// Takes the steps on a core that begins after so many subtags, each the first that leads on, until
+/// Takes the steps on a core that begins after this many subtags, each the first that leads on, until
 /// none does, and adds them to others. Where it is refused, it may have taken some of them.
 pub(crate) fn take_core_steps<L: Lookup>(
     table: &L,
@@ -168,7 +168,7 @@ pub(crate) fn take_core_steps<L: Lookup>(
     Ok(())
 }
 
-/// Takes the steps on a core that begins after so many subtags, each the first that leads on, until
+/// Takes the steps on a core that begins after this many subtags, each the first that leads on, until
 /// none does, and adds them to others. It gives back the core to which they lead, and all the steps.
 /// The chains of the registry end, as they do where `first_cycle` is None. It is refused for want of
 /// memory alone.

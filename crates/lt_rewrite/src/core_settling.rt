@@ -193,7 +193,7 @@ pub(crate) fn settle_along<L: Lookup>(table: &L, shortcuts: Option<&Shortcuts>, 
 ///
 /// Takes no memory. Each subtag is looked up once, and once more for each value that replaces it;
 /// beside a language without extlangs each variant is looked up once more for each language that
-/// stands there, to see whether it turns into one.
+/// is there, to see whether it turns into one.
 pub fn settle_core<L: Lookup>(table: &L, core: &mut Core)
     requires { All (HasEndingChain (L.listed table.now)) (L.listed table.now) }
     ensures { IsCoreNormalForm (values_of (L.listed table.now)) core.old core.new }

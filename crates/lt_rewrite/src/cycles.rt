@@ -10,7 +10,7 @@ use lt_registry::{Entry, Lookup};
 /// An order of the records by their numbers.
 #[derive(Clone, Copy)]
 enum Order {
-    /// As they stand in the file.
+    /// As they are in the file.
     File,
     /// One that has nothing to do with how chains run through a file: by the multiples of 2^32 over
     /// the golden ratio.
@@ -84,7 +84,7 @@ fn first_endless<L: Lookup>(table: &L) -> Option<u32>
 /// chain ends, as `settle_core` and the other settling calls ask for. From a variant only variants
 /// follow.
 ///
-/// Takes no memory. Each chain is followed only to the first record that stands before its own in
+/// Takes no memory. Each chain is followed only to the first record that is before its own in
 /// an order of the numbers that has nothing to do with the file's. So where all chains end, it
 /// takes about as many look-ups for each record as the number of records has binary digits, unless
 /// a file is made against that order. Where one has no end, it may take as many look-ups as there

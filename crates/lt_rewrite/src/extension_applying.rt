@@ -15,7 +15,7 @@ use lt_registry::Lookup;
 use lt_tag::{Extension, OutOfMemory, TransformFault, join_t, join_u, split_t, split_u};
 use std::alloc::Global;
 
-/// What a step makes of a `u` extension whose singleton stands at a place.
+/// What a step makes of a `u` extension whose singleton is at a place.
 fn apply_in_unicode(
     alloc: Global,
     extension: &Extension,
@@ -33,7 +33,7 @@ fn apply_in_unicode(
     Ok(Some(join_u(alloc, &parts)?))
 }
 
-/// What a step makes of a `t` extension whose singleton stands at a place.
+/// What a step makes of a `t` extension whose singleton is at a place.
 fn apply_in_transform<L: Lookup>(
     alloc: Global,
     table: &L,
@@ -57,7 +57,7 @@ fn apply_in_transform<L: Lookup>(
     Ok(Some(join_t(alloc, &parts)?))
 }
 
-/// What a step makes of an extension whose singleton stands at a place. Other extensions than `u` and
+/// What a step makes of an extension whose singleton is at a place. Other extensions than `u` and
 /// `t` have no steps.
 fn apply_to_extension<L: Lookup>(
     alloc: Global,
@@ -80,7 +80,7 @@ fn apply_to_extension<L: Lookup>(
 }
 
 /// The index of an extension inside which a step acts, and what it makes of it. The extensions begin
-/// after so many subtags.
+/// after this many subtags.
 fn find_change<L: Lookup>(
     alloc: Global,
     table: &L,
@@ -115,7 +115,7 @@ fn swap_extensions(extensions: &mut Vec<Extension>, start: usize, step: Step) ->
     swap_at(extensions, start, step.place)
 }
 
-/// The step that a step is, on extensions that begin after so many subtags. False where there is no
+/// The step that a step is, on extensions that begin after this many subtags. False where there is no
 /// such step.
 pub(crate) fn apply_to_extensions<L: Lookup>(
     alloc: Global,

@@ -34,7 +34,7 @@ pub(crate) fn recall_forms<L: Lookup>(table: &L)
 }
 
 /// Puts the parts of a `u` extension into their normal form: sole types `true` go, of equal
-/// attributes and of keywords of one key the first stays, and both stand in their order. The types
+/// attributes and of keywords of one key the first stays, and both are in their order. The types
 /// of a keyword keep theirs. What could be joined before can be joined again. It takes no memory,
 /// and so is never refused.
 pub fn settle_u(_alloc: Global, parts: &mut UParts) -> Result<(), OutOfMemory>

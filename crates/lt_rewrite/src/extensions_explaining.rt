@@ -36,7 +36,7 @@ fn subtags_before(extensions: &[Extension], index: usize) -> usize
     count
 }
 
-/// What the `u` extension comes to by its steps, and where it stands. The extensions begin after so
+/// What the `u` extension comes to by its steps, and where it is. The extensions begin after so
 /// many subtags.
 fn explained_unicode(
     alloc: Global,
@@ -56,7 +56,7 @@ fn explained_unicode(
     Ok(Some((index, join_u(alloc, &parts)?)))
 }
 
-/// What the `t` extension comes to by its steps, and where it stands. The extensions begin after so
+/// What the `t` extension comes to by its steps, and where it is. The extensions begin after so
 /// many subtags.
 fn explained_transform<L: Lookup>(
     alloc: Global,
@@ -84,10 +84,10 @@ fn explained_transform<L: Lookup>(
     Ok(Some((index, join_t(alloc, &parts)?)))
 }
 
-/// Takes the steps on extensions that begin after so many subtags, each the first that leads on,
+/// Takes the steps on extensions that begin after this many subtags, each the first that leads on,
 /// until none does, and adds them to others. It gives back the extensions to which they lead, and
-/// all the steps. Each singleton stands once, a `t` extension has the form of one, and the chains of
-/// the registry end, as they do where `first_cycle` is None. It is refused for want of memory alone.
+/// all the steps. Each singleton occurs once, a `t` extension has the form of one, and the chains of
+/// the registry end, as they do where `first_cycle` is None. It is refused only where memory runs out.
 pub fn explain_extensions<L: Lookup>(
     alloc: Global,
     table: &L,

@@ -18,7 +18,7 @@ use lt_registry::Lookup;
 use lt_tag::{Extension, OutOfMemory, TransformFault, join_t, join_u, split_t, split_u};
 use std::alloc::Global;
 
-/// Where the first extension of a singleton stands.
+/// Where the first extension of a singleton is.
 pub(crate) fn place_of(extensions: &[Extension], singleton: u8) -> Option<usize>
     ensures { result ≡ position (λ (e : ExtensionParts). e.singleton == singleton) extensions.now }
 {
@@ -27,7 +27,7 @@ pub(crate) fn place_of(extensions: &[Extension], singleton: u8) -> Option<usize>
         .position(|extension| extension.singleton() == singleton)
 }
 
-/// The normal form of the `u` extension, and where that stands.
+/// The normal form of the `u` extension, and where that is.
 fn settled_unicode(
     alloc: Global,
     extensions: &[Extension],
@@ -42,7 +42,7 @@ fn settled_unicode(
     Ok(Some((place, join_u(alloc, &parts)?)))
 }
 
-/// The normal form of the `t` extension, and where that stands.
+/// The normal form of the `t` extension, and where that is.
 fn settled_transform<L: Lookup>(
     alloc: Global,
     table: &L,
@@ -100,7 +100,7 @@ pub(crate) fn settle_all<L: Lookup>(
 }
 
 /// Puts a list of extensions into its normal form: the `u` and the `t` extension come to theirs, and
-/// the extensions stand in the order of their singletons. Each singleton stands once, a `t` extension
+/// the extensions are in the order of their singletons. Each singleton occurs once, a `t` extension
 /// has the form of one, and the chains of the registry end, as they do where `first_cycle` is None.
 /// Memory is taken only for a `u` or a `t` extension, and nothing else is refused; the list is then
 /// what it was.

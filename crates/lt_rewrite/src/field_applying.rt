@@ -44,7 +44,7 @@ fn swap_fields(parts: &mut TParts, start: usize, step: Step) -> bool
     swap_at(&mut parts.fields, first_field, step.place)
 }
 
-/// The step that a step is, on the parts of a `t` extension whose singleton stands at a place. False
+/// The step that a step is, on the parts of a `t` extension whose singleton is at a place. False
 /// where there is no such step.
 pub(crate) fn apply_to_transform<L: Lookup>(
     table: &L,

@@ -24,8 +24,8 @@ pub(crate) fn drop_types(keyword: &mut Keyword)
     keyword.types.clear();
 }
 
-/// The keyword whose first type stands at a place loses its types, if they are exactly `true`. The
-/// list begins after so many subtags.
+/// The keyword whose first type is at a place loses its types, if they are exactly `true`. The
+/// list begins after this many subtags.
 fn drop_true_at(keywords: &mut Vec<Keyword>, start: usize, place: u32) -> bool
     requires { start + 1 + length (flat_map spell_keyword keywords.old.items) < 2 ^ 32 }
     ensures { Answers (TrueLeads start place keywords.old.items) keywords.new.items result }
@@ -40,7 +40,7 @@ fn drop_true_at(keywords: &mut Vec<Keyword>, start: usize, place: u32) -> bool
     true
 }
 
-/// The ordering step that a step is, on the parts of a `u` extension whose singleton stands at a
+/// The ordering step that a step is, on the parts of a `u` extension whose singleton is at a
 /// place. False where there is no such step.
 pub(crate) fn apply_to_unicode(parts: &mut UParts, start: usize, step: Step) -> bool
     requires { start + 1 + length (spell_u parts.old) < 2 ^ 32 }

@@ -55,7 +55,7 @@ impl Spelled for Field {
     ghost some = { λ f. zero-lt-suc (length f.values) };
 }
 
-/// The index of the part whose first subtag stands at a place, in a list that begins after so many
+/// The index of the part whose first subtag is at a place, in a list that begins after this many
 /// subtags.
 pub(crate) fn index_at<P: Spelled>(parts: &[P], start: usize, place: u32) -> Option<usize>
     requires { start + length (flat_map P.spell parts.now) < 2 ^ 32 }
@@ -73,7 +73,7 @@ pub(crate) fn index_at<P: Spelled>(parts: &[P], start: usize, place: u32) -> Opt
     None
 }
 
-/// Whether the like of the part at an index stands before it.
+/// Whether the like of the part at an index is before it.
 pub(crate) fn has_like<P: Part>(parts: &[P], index: usize) -> bool
     requires { index < length parts.now }
     ensures { MatchBool result (HasLike P.order parts.now index) (HasLike P.order parts.now index → ⊥) }
@@ -86,8 +86,8 @@ pub(crate) fn has_like<P: Part>(parts: &[P], index: usize) -> bool
     false
 }
 
-/// The part whose first subtag stands at a place changes places with the next, if they are in falling
-/// order. The list begins after so many subtags.
+/// The part whose first subtag is at a place changes places with the next, if they are in falling
+/// order. The list begins after this many subtags.
 pub(crate) fn swap_at<P: Spelled>(parts: &mut Vec<P>, start: usize, place: u32) -> bool
     requires { start + length (flat_map P.spell parts.old.items) < 2 ^ 32 }
     ensures { Answers (SwapLeads P.order P.spell start place parts.old.items) parts.new.items result }
@@ -107,8 +107,8 @@ pub(crate) fn swap_at<P: Spelled>(parts: &mut Vec<P>, start: usize, place: u32) 
     }
 }
 
-/// The part whose first subtag stands at a place goes, if its like stands before it. The list begins
-/// after so many subtags.
+/// The part whose first subtag is at a place goes, if its like is before it. The list begins
+/// after this many subtags.
 pub(crate) fn drop_at<P: Spelled>(parts: &mut Vec<P>, start: usize, place: u32) -> bool
     requires { start + length (flat_map P.spell parts.old.items) < 2 ^ 32 }
     ensures { Answers (DropLeads P.order P.spell start place parts.old.items) parts.new.items result }

@@ -43,7 +43,7 @@ impl Model for Shortcuts {
 impl Shortcuts {
     /// The shortcuts of a table: for each record a place as many values on as there are records, so
     /// at the end of each chain that has one. They take a place for each record, and look up each
-    /// value once. Refused for want of memory alone.
+    /// value once. Refused only where memory runs out.
     pub fn of_table<L: Lookup>(alloc: Global, table: &L) -> Result<Shortcuts, AllocError>
         ensures { IfOk result (AreShortcuts (L.listed table.now)) }
     {
@@ -136,7 +136,7 @@ impl Shortcuts {
 
     /// Puts a list of extensions into its normal form as
     /// [`settle_extensions`](crate::settle_extensions) does, by the shortcuts of the table: each
-    /// singleton stands once, a `t` extension has the form of one, and the chains of the registry end.
+    /// singleton occurs once, a `t` extension has the form of one, and the chains of the registry end.
     pub fn settle_extensions<L: Lookup>(
         &self,
         alloc: Global,

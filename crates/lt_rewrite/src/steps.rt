@@ -21,11 +21,11 @@ pub enum StepKind {
     Whole,
     /// Two neighbouring extensions in falling order of their singletons change places.
     SwapExtensions,
-    /// An attribute goes that stands earlier too.
+    /// An attribute goes that is earlier too.
     DropAttribute,
     /// Two neighbouring attributes in falling order change places.
     SwapAttributes,
-    /// A keyword goes whose key stands earlier too.
+    /// A keyword goes whose key is earlier too.
     DropKeyword,
     /// Two neighbouring keywords in falling order of their keys change places.
     SwapKeywords,

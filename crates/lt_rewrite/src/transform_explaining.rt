@@ -15,7 +15,7 @@ use crate::steps::{Step, StepKind};
 use lt_registry::Lookup;
 use lt_tag::{OutOfMemory, TParts};
 
-/// Takes the steps on the source of a `t` extension whose singleton stands at a place, each the first
+/// Takes the steps on the source of a `t` extension whose singleton is at a place, each the first
 /// that leads on, until none does, and adds them to others. Where there is no source, there are none.
 fn explain_source<L: Lookup>(
     table: &L,
@@ -35,7 +35,7 @@ fn explain_source<L: Lookup>(
     take_core_steps(table, source, start, steps)
 }
 
-/// Takes the steps on the parts of a `t` extension whose singleton stands at a place, each the first
+/// Takes the steps on the parts of a `t` extension whose singleton is at a place, each the first
 /// that leads on, until none does, and adds them to others. The chains of the registry end.
 pub(crate) fn explain_t<L: Lookup>(
     table: &L,

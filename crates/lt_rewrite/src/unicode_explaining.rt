@@ -12,7 +12,7 @@ use crate::steps::{Step, StepKind};
 use lt_tag::{Keyword, OutOfMemory, UParts};
 
 /// Takes the types of the leftmost keyword whose types are exactly `true`, as long as there is one.
-/// The list begins after so many subtags.
+/// The list begins after this many subtags.
 fn drop_trues(
     keywords: &mut Vec<Keyword>,
     start: usize,
@@ -37,7 +37,7 @@ fn drop_trues(
     Ok(())
 }
 
-/// Takes the steps on the parts of a `u` extension whose singleton stands at a place, each the first
+/// Takes the steps on the parts of a `u` extension whose singleton is at a place, each the first
 /// that leads on, until none does, and adds them to others.
 pub(crate) fn explain_u(
     parts: &mut UParts,

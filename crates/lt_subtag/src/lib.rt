@@ -85,7 +85,7 @@ impl Model for Subtag {
 impl Default for Subtag {
     ghost is_default = { λ subtag. subtag ≡ 120 ∷ [] };
 
-    /// `x`. It stands in the unused places of an `ArrayVec`.
+    /// `x`. It is in the unused places of an `ArrayVec`.
     #[tactic(auto, unfolding(crate::specs::Bytes::is_subtag))]
     fn default() -> Subtag {
         let mut letters = ArrayVec::new();
@@ -268,7 +268,7 @@ fn long_fault(bytes: &[u8]) -> SubtagFault
     }
 }
 
-/// The bytes with the first so many in upper case.
+/// The bytes with the first this many in upper case.
 fn capitalised(bytes: &[u8], capitals: usize) -> ArrayVec<u8, 8>
     requires short { length bytes.now ≤ 8 }
     requires within { capitals ≤ length bytes.now }

@@ -66,7 +66,7 @@ one_list a b first last low high e =
 pub one_number : (list : List (List ℕ)) (a b : ℕ) → IsGrandfathered list a → IsGrandfathered list b → a ≡ b
 one_number list a b g k = one_list a b g.first g.last k.first k.last (sym g.same ∙ k.same)
 
--- an x stands first
+-- an x is first
 abbrev x_first : List (List ℕ) → Bool
 x_first [] = false
 x_first (s ∷ ss) = is_x s
@@ -88,7 +88,7 @@ no_private subtags number first last e =
 abbrev no_single : List (List ℕ) → Bool
 no_single list = list_all (λ (s : List ℕ). not (length s == 1)) list
 
--- a one-character subtag stands first, if any does
+-- a one-character subtag is first, if any does
 abbrev single_first : List (List ℕ) → Bool
 single_first [] = true
 single_first (s ∷ ss) = length s == 1
@@ -96,7 +96,7 @@ single_first (s ∷ ss) = length s == 1
 long_no_single : (s : List ℕ) → IsLong s → not (length s == 1) ≡ true
 long_no_single s l = ap not (ne_eqb (length s) 1 (λ e. omega (arith, l.long)))
 
--- what stands before the first one-character subtag, and the rest
+-- what is before the first one-character subtag, and the rest
 before_single : (xs ys rest others : List (List ℕ)) → no_single xs ≡ true → no_single ys ≡ true → single_first rest ≡ true → single_first others ≡ true → xs ++ rest ≡ ys ++ others
     → (xs ≡ ys) × (rest ≡ others)
 before_single [] [] rest others h k m n e = (refl, e)

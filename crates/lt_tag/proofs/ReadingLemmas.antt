@@ -53,7 +53,7 @@ bad_list text list short all other none =
       bad = λ w. elim w [ inl g ↦ other g.0 g.1 | inr v ↦ none v.0 v.1 (v.2 ∙ sym l.1) ];
     }
 
--- the first subtag behind those of a draft that can't stand there
+-- the first subtag after those of a draft that can't be there
 pub misplaced_behind : (done : List (List ℕ)) (s : List ℕ) (others : List (List ℕ)) (draft : Draft) → draft_of done ≡ Some draft → draft_of (done ++ s ∷ []) ≡ None
     → IsFirstMisplaced ((done ++ s ∷ []) ++ others) (length done + 1)
 misplaced_behind done s others draft some none =
@@ -79,7 +79,7 @@ module _ (text : List ℕ) (p s : List ℕ) (left : List (List ℕ)) (split : pi
   pub fault_behind_first : (found : TagFault) → listed 2 left ≡ Err found → listed 1 (pieces text) ≡ Err found
   fault_behind_first found h = ap (listed 1) split ∙ listed_next 1 p left s read ∙ ap (with_front (s ∷ [])) h
 
-  -- a first subtag that can't stand there
+  -- a first subtag that can't be there
   pub misplaced_first : begun s ≡ None → IsOk (listed 2 left) → length text ≤ longest_text → IsNotGrandfathered (list_of text)
       → HasBadList text × IsFirstMisplaced (list_of text) 1 × (◌≡◌ {A = ℕ} 1 1)
   misplaced_first none ok short other =
@@ -112,7 +112,7 @@ module _ (text : List ℕ) (place : ℕ) (draft : Draft) (p : List ℕ) (left : 
     pub fault_behind : (found : TagFault) → listed (place + 1 + 1) left ≡ Err found → listed 1 (pieces text) ≡ Err found
     fault_behind found h = fault_behind_whole ∙ ap (with_front (has.done ++ s ∷ [])) h
 
-    -- a subtag that can't stand there
+    -- a subtag that can't be there
     pub misplaced_here : drafted draft s ≡ None → IsOk (listed (place + 1 + 1) left) → length text ≤ longest_text → IsNotGrandfathered (list_of text)
         → HasBadList text × IsFirstMisplaced (list_of text) (place + 1) × (1 < place + 1)
     misplaced_here none ok short other =
@@ -137,11 +137,11 @@ module _ (text : List ℕ) (place : ℕ) (draft : Draft) (has : HasRead text pla
   pub whole_length : length (list_of text) ≡ place
   whole_length = sym (ap length (text_list text has.done all_read).1) ∙ has.count
 
-  -- nothing is wanting
+  -- nothing is missing
   pub whole_value : (form : TagForm) → Some form ≡ finished draft → spell form ≡ list_of text
   whole_value form h = (finished_is draft form whole_draft.0 (sym h)).1 ∙ whole_draft.1
 
-  -- something is wanting
+  -- something is missing
   pub whole_unfinished : None ≡ finished draft → length text ≤ longest_text → IsNotGrandfathered (list_of text) → HasBadList text × Begins (list_of text) × (place + 1 ≡ length (list_of text) + 1)
   whole_unfinished h short other =
       let u = unfinished has.done draft has.drafts (sym h) in

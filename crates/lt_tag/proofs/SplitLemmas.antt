@@ -38,7 +38,7 @@ module _ (mark : List ℕ → Bool) where
         | inr e ↦ rw e (before_onward ss)
       ]
 
-  -- subtags without a mark stand before it
+  -- subtags without a mark are before it
   pub before-append : (front rest : List (List ℕ)) → list_all (λ (s : List ℕ). not (mark s)) front ≡ true → before mark (front ++ rest) ≡ front ++ before mark rest
   before-append [] rest h = refl
   before-append (s ∷ front) rest h =
@@ -65,7 +65,7 @@ fields-spelled (s ∷ ss) =
       | false ↦ ap (λ (z : List (List ℕ)). s ∷ z) (fields-spelled ss)
     ]
 
--- what stands before the first mark makes no group
+-- what is before the first mark makes no group
 pub keywords-onward : (ss : List (List ℕ)) → keywords_of (onward is_key ss) ≡ keywords_of ss
 keywords-onward [] = refl
 keywords-onward (s ∷ ss) =

@@ -50,7 +50,7 @@ next_number list n none differ k m g =
       | inr less ↦ none k less g
     ]
 
--- a list has one of the first so many numbers, or none
+-- a list has one of the first this many numbers, or none
 first_numbers : (list : List (List ℕ)) (n : ℕ) → n ≤ 26 → ((k : ℕ) × IsGrandfathered list k) ⊎ ((k : ℕ) → k ≤ n → IsGrandfathered list k → ⊥)
 first_numbers list zero l = inr (λ k m g. absurd (omega (arith, g.first)))
 first_numbers list (suc n) l =
@@ -67,7 +67,7 @@ number_or_none : (list : List (List ℕ)) → ((k : ℕ) × IsGrandfathered list
 number_or_none list =
     elim (first_numbers list 26 (omega arith)) [ inl found ↦ inl found | inr none ↦ inr (λ k g. none k g.last g) ]
 
--- a list that the machine refuses has a first misplaced subtag, behind those of a draft
+-- a list that the machine refuses has a first misplaced subtag, after those of a draft
 first_misplaced : (done rest : List (List ℕ)) (draft : Draft) → 0 < length done → draft_of done ≡ Some draft → draft_of (done ++ rest) ≡ None → (place : ℕ) × IsFirstMisplaced (done ++ rest) place × (1 < place)
 first_misplaced done [] draft some has none = let same : draft_of (done ++ []) ≡ Some draft = ap draft_of (append-nil done) ∙ has in cc
 first_misplaced done (t ∷ ts) draft some has none = go (λ more next. first_misplaced (done ++ t ∷ []) ts more (omega (arith, length_push done t)) next (ap draft_of (append_assoc done (t ∷ []) ts) ∙ none)) (drafted draft t) refl

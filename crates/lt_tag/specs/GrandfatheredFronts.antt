@@ -1,7 +1,7 @@
 -- How the texts of the 26 grandfathered tags begin, by their lengths.
 use Rattle.std.specs.Prelude.{ℕ, ◌==◌, ◌||◌, Bool, false, if◌then◌else◌}
 
--- one of the texts has so many bytes and begins so
+-- one of the texts has this many bytes and begins so
 abbrev pub begins_listed : ℕ → ℕ → Bool
 begins_listed length first =
     if length == 5 || length == 7 then first == 105

@@ -1,4 +1,4 @@
--- An order of tags by their parts, one after another as they stand in a tag. Tags without a core come first.
+-- An order of tags by their parts, one after another as they are in a tag. Tags without a core come first.
 use Rattle.std.specs.Prelude.{ℕ, List, ◌++◌}
 use Rattle.std.specs.Ordering.{nat_cmp, ordering_then}
 use Rattle.std.specs.Option.{option_cmp}

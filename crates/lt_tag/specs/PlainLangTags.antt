@@ -16,13 +16,13 @@ pub record IsPlainLangTag (list : List (List ℕ)) : Type 0 where
   pub spelled : spell_core core ≡ list
   pub other : IsNotGrandfathered list
 
--- the pieces behind the first are subtags that a core has at its end one after another
+-- the pieces after the first are subtags that a core has at its end one after another
 pub record GrowsAlong (core : CoreParts) (pieces : List (List ℕ)) (grown : CoreParts) : Type 0 where
   pub subtags : List (List ℕ)
   pub read : listed 2 pieces ≡ Ok subtags
   pub grows : grown_by core subtags ≡ Some grown
 
--- the pieces behind the first are no subtags that a core has at its end one after another
+-- the pieces after the first are no subtags that a core has at its end one after another
 abbrev pub StopsAlong : CoreParts → List (List ℕ) → Type 0
 StopsAlong core pieces = (grown : CoreParts) → ¬ (GrowsAlong core pieces grown)
 
@@ -35,7 +35,7 @@ abbrev pub room_of : CoreParts → Room
 room_of core =
     if takes_script core then rooms.Extlangs (extlangs_left core) else (if takes_region core then rooms.Region else rooms.Variants)
 
--- what may follow once one more subtag stands there, if it may
+-- what may follow once one more subtag is there, if it may
 abbrev pub room_after : Room → List ℕ → Option Room
 room_after (rooms.Extlangs left) s =
     if is_extlang s && nat_lt 0 left then Some (rooms.Extlangs (left - 1))

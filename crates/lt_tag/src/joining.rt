@@ -50,7 +50,7 @@ fn append_core(list: &mut Vec<Subtag>, core: &Core) -> Result<(), OutOfMemory>
 }
 
 /// The `u` extension that parts spell (RFC 6067): attributes, then each key and its types. The parts have
-/// their forms, there is at least one, and there are at most 1,024 subtags. The only refusal is want of memory.
+/// their forms, there is at least one, and there are at most 1,024 subtags. The only refusal is running out of memory.
 pub fn join_u(alloc: Global, parts: &UParts) -> Result<Extension, OutOfMemory>
     requires shaped { IsU parts.now }
     requires few { length (spell_u parts.now) ≤ most_parts }

@@ -8,7 +8,7 @@ use lt_subtag::Subtag;
 /// What may follow the subtags of a core (RFC 5646, 2.1).
 #[derive(Clone, Copy, Drop)]
 enum Room {
-    /// So many extlangs, or a script, a region or a variant.
+    /// This many extlangs, or a script, a region or a variant.
     Extlangs(u8),
     /// A region or a variant.
     Region,
@@ -17,7 +17,7 @@ enum Room {
 }
 
 impl Room {
-    /// What may follow once this subtag stands there, if it may.
+    /// What may follow once this subtag is there, if it may.
     fn after(self, subtag: &Subtag) -> Option<Room>
         ensures { result ≡ room_after self subtag.now }
     {

@@ -1,4 +1,4 @@
-//! A text has one tag or one fault: what `read_tag` answers, want of memory aside, follows from
+//! A text has one tag or one fault: what `read_tag` answers, running out of memory aside, follows from
 //! the text alone. Each law is the contract of a function that does nothing.
 ghost use Rattle.std.specs.Prelude.{◌≡◌, ℕ, List, ◌⊎◌};
 ghost use Rattle.lt_tag.specs.Parts.{TagForm};

@@ -140,8 +140,8 @@ fn read_source(alloc: Global, subtags: &[Subtag]) -> Result<Option<Core>, Transf
 }
 
 /// The parts that spell a `u` extension (RFC 6067). There is one such value for each `u` extension: its keys
-/// are the subtags of 2, its attributes what stands before the first key, and what stands between a key and
-/// the next are the types of the key. The only refusal is want of memory.
+/// are the subtags of 2, its attributes what is before the first key, and what is between a key and
+/// the next are the types of the key. The only refusal is running out of memory.
 pub fn split_u(alloc: Global, extension: &Extension) -> Result<UParts, OutOfMemory>
     requires { extension.now.singleton ≡ unicode }
     ensures parts { IfOk result (λ parts. IsUnicode extension.now.subtags parts) }
@@ -155,7 +155,7 @@ pub fn split_u(alloc: Global, extension: &Extension) -> Result<UParts, OutOfMemo
     })
 }
 
-/// The parts that spell a `t` extension (RFC 6497): a source, fields, or a source and fields behind it. There is
+/// The parts that spell a `t` extension (RFC 6497): a source, fields, or a source and fields after it. There is
 /// at most one such value. BadTransform comes exactly where there is none; the tag is well-formed all the same.
 /// A separator may occur twice.
 pub fn split_t(alloc: Global, extension: &Extension) -> Result<TParts, TransformFault>
@@ -172,7 +172,7 @@ pub fn split_t(alloc: Global, extension: &Extension) -> Result<TParts, Transform
     })
 }
 
-/// Want of memory as a fault of a `t` extension.
+/// Running out of memory as a fault of a `t` extension.
 impl From<OutOfMemory> for TransformFault {
     ghost from_gives = { λ _ fault. fault ≡ no_memory };
 

@@ -23,7 +23,7 @@ abbrev pub step_line : Step → TagForm → List ℕ
 step_line step after =
     name_of step.kind ++ 32 ∷ [] ++ decimal step.place ++ 32 ∷ [] ++ decimal step.number ++ 32 ∷ [] ++ tag_line after
 
--- a step leads from a tag to one from which the steps behind it lead on, and its line stands before theirs
+-- a step leads from a tag to one from which the steps after it lead on, and its line is before theirs
 pub record StepPrinted (R : List EntryParts) (t : TagForm) (step : Step) (Rest : TagForm → List ℕ → Type 0) (lines : List ℕ) : Type 0 where
   pub after : TagForm
   pub leads : LeadsBy R t step after
@@ -42,7 +42,7 @@ pub record AppendsSteps (R : List EntryParts) (t : TagForm) (steps : List Step) 
   pub grown : new ≡ old ++ lines
   pub are_steps : AreStepLines R steps end t lines
 
--- the lines of the steps, and behind them the text of the end
+-- the lines of the steps, and after them the text of the end
 pub record AreLines (R : List EntryParts) (t : TagForm) (steps : List Step) (end : TagForm) (lines : List ℕ) : Type 0 where
   pub of_steps : List ℕ
   pub are_steps : AreStepLines R steps end t of_steps

@@ -42,7 +42,7 @@ pub record FailsCheck (reading : Reading) (condition : Condition) (number : ℕ)
   pub gave : reading ≡ Ok entries
   pub finding : IsFinding entries condition number
 
--- why the file holds no registry that passes; want of memory aside
+-- why the file holds no registry that passes; running out of memory aside
 abbrev pub IsRegistryRefusal : Reading → RegistryRefusal → Type 0
 IsRegistryRefusal reading (refusals.Jar fault) = (reading ≡ Err (faults.Jar fault)) × (fault.kind ≢ jar_kinds.OutOfMemory)
 IsRegistryRefusal reading (refusals.Record fault) = (reading ≡ Err (faults.Record fault)) × (fault.kind ≢ record_kinds.OutOfMemory)
@@ -65,7 +65,7 @@ record_line number name = codes "record " ++ decimal number ++ 32 ∷ [] ++ name
 abbrev pub check_line : List ℕ → ℕ → List ℕ
 check_line code number = codes "check " ++ code ++ codes " record " ++ decimal number ++ 10 ∷ []
 
--- the line for a refusal; want of memory has none
+-- the line for a refusal; running out of memory has none
 abbrev pub IsRegistryLine : RegistryRefusal → List ℕ → Type 0
 IsRegistryLine (refusals.Jar fault) line = line ≡ jar_line (jar_names.name_of fault.kind) fault.line
 IsRegistryLine (refusals.Record fault) line = line ≡ record_line fault.number (record_names.record_name_of fault.kind)
@@ -103,6 +103,6 @@ CountsEntries R line end = (line ≡ codes "ok " ++ decimal (length R) ++ 10 ∷
 abbrev pub Checks : Reading → List ℕ → Status → Type 0
 Checks = ByRegistry CountsEntries
 
--- a file was read, and by what the reading gave the answer is this, unless memory was wanting for it
+-- a file was read, and by what the reading gave the answer is this, unless memory ran out for it
 abbrev pub Answers : {F : Type 0} → Stream F → (Reading → List ℕ → Status → Type 0) → Result Answer OutOfMemory → Type 0
 Answers file IsAnswer answer = ReadsFile file (λ reading. IfOk answer (λ a. IsAnswer reading a.line.items a.status))

@@ -32,7 +32,7 @@ pub record IsEqualityOf (R : List EntryParts) (first second : List ℕ) (answer 
   pub read_other : HasTag second other
   pub is_answer : IsEquivalenceAnswer R tag other answer
 
--- the first text is read as a tag, then the second, and then the tags are compared; want of memory aside
+-- the first text is read as a tag, then the second, and then the tags are compared; running out of memory aside
 abbrev pub IsPairRefusal : List EntryParts → List ℕ → List ℕ → TextRefusal → Type 0
 IsPairRefusal R first second (refusals.NotATag fault) =
     HasFault first fault.kind fault.place ⊎ ReadsAs first (λ tag. HasFault second fault.kind fault.place)

@@ -15,7 +15,7 @@ use Rattle.lt_tool.specs.declared.status.Status.TheVariants as status
 abbrev pub upgrade_line : List ℕ → ℕ → List ℕ
 upgrade_line code number = codes "upgrade " ++ code ++ codes " record " ++ decimal number ++ 10 ∷ []
 
--- the line for a refused registry, behind a mark that says which it is
+-- the line for a refused registry, after a mark that says which it is
 pub record IsMarkedLine (mark : List ℕ) (refusal : RegistryRefusal) (line : List ℕ) : Type 0 where
   pub rest : List ℕ
   pub line_is : IsRegistryLine refusal rest

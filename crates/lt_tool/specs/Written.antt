@@ -1,4 +1,4 @@
--- What stands on the output and the errors of a run after a text was written to one.
+-- What is on the output and the errors of a run after a text was written to one.
 use Rattle.std.specs.Prelude.{◌≡◌, ◌⊎◌, ℕ, List, [], ◌∷◌, ◌++◌, codes}
 use Rattle.std.specs.Io.KnownBytes.{Appends}
 use Rattle.lt_jar.specs.Devices.{HasFailed, failures_of, inner_of}
@@ -8,7 +8,7 @@ use Rattle.lt_tool.specs.Streams.{IsUntouched, Stream}
 use Rattle.lt_tool.specs.declared.status.Status.{Status}
 use Rattle.lt_tool.specs.declared.status.Status.TheVariants as status
 
--- the text was written, or the writer failed and the front of the text stands there; and nothing else was written
+-- the text was written, or the writer failed and the front of the text is there; and nothing else was written
 pub record Says {E : Type 0} (errors : Stream E) (text : List ℕ) : Type 0 where
   pub written : List ℕ
   pub appends : Appends (errors.bytes (inner_of errors.before)) (errors.bytes (inner_of errors.after)) written
@@ -26,7 +26,7 @@ file_line = codes "! File" ++ 10 ∷ []
 abbrev pub memory_line : List ℕ
 memory_line = codes "! OutOfMemory" ++ 10 ∷ []
 
--- A run prints a text to its output, and ends so; or the output failed, the front of the text stands there, and the
+-- A run prints a text to its output, and ends so; or the output failed, the front of the text is there, and the
 -- errors name it.
 pub record Prints {O E : Type 0} (output : Stream O) (errors : Stream E) (text : List ℕ) (end : Status) (result : ℕ) : Type 0 where
   pub written : List ℕ

@@ -44,7 +44,7 @@ fn print<O: Write, E: Write>(
     }
 }
 
-/// Says that no memory was left.
+/// Says that memory ran out.
 pub(crate) fn report_memory<E: Write>(errors: &mut Device<E>) -> Status
     ensures status { result ≡ Failed }
     ensures said { Says (stream E.contents errors.old errors.new) memory_line }
@@ -67,7 +67,7 @@ fn end_run<E: Write>(end: Result<Counts, ToolFault>, errors: &mut Device<E>) -> 
     }
 }
 
-/// Prints an answer, or says that no memory was left.
+/// Prints an answer, or says that memory ran out.
 fn print_answer<O: Write, E: Write>(
     answer: Result<Answer, OutOfMemory>,
     output: &mut Device<O>,

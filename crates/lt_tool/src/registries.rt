@@ -21,7 +21,7 @@ pub(crate) enum RegistryRefusal {
     Record(RecordFault),
     /// The entries do not pass the check.
     Check(Finding),
-    /// No memory was left.
+    /// Memory ran out.
     OutOfMemory,
 }
 

@@ -13,7 +13,7 @@ pub enum Status {
     RegistryRefused = 2,
     /// The words name no command.
     Usage = 3,
-    /// A file was not opened, a read or a write failed, the reads were too many, or no memory was left.
+    /// A file was not opened, a read or a write failed, the reads were too many, or memory ran out.
     Failed = 4,
 }
 

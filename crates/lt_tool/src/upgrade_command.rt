@@ -15,7 +15,7 @@ use lt_upgrade::{UpgradeFault, upgrade_check};
 use std::alloc::Global;
 use std::io::Read;
 
-/// What is answered where a registry is refused, behind a mark that says which it is.
+/// What is answered where a registry is refused, after a mark that says which it is.
 fn refuse_marked(
     alloc: Global,
     mark: &[u8],

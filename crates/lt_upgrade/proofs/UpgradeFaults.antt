@@ -113,7 +113,7 @@ rank_back upgrades.SameWhole = refl
 one_rank : (k j : UpgradeCondition) → upgrade_rank_of k ≡ upgrade_rank_of j → k ≡ j
 one_rank k j h = sym (rank_back k) ∙ ap with_rank h ∙ rank_back j
 
--- the conditions stand in the order of their ranks
+-- the conditions are in the order of their ranks
 abbrev ranked_from : ℕ → List UpgradeCondition → Bool
 ranked_from n [] = true
 ranked_from n (k ∷ ks) = (upgrade_rank_of k == n) && ranked_from (suc n) ks

@@ -45,7 +45,7 @@ on_right : {A : Type 0} (x : A) (xs ys : List A) → Member x ys → Member x (x
 on_right x [] ys m = m
 on_right x (z ∷ zs) ys m = inr (on_right x zs ys m)
 
--- a member, and what stands round it
+-- a member, and what is round it
 record Split {A : Type 0} (x : A) (xs : List A) : Type 0 where
   before : List A
   after : List A

@@ -33,7 +33,7 @@ abbrev pub MeetsUpgradeBelow : ℕ → List EntryParts → List EntryParts → T
 MeetsUpgradeBelow rank A B =
     (other : UpgradeCondition) → upgrade_rank_of other < rank → All (MeetsUpgrade other A B) (records_of other A B)
 
--- what a fault names is what the check finds; want of memory aside
+-- what a fault names is what the check finds; running out of memory aside
 abbrev pub IsUpgradeFault : List EntryParts → List EntryParts → UpgradeFault → Type 0
 IsUpgradeFault A B (faults.Fails condition number) = IsUpgradeFinding A B condition number
 IsUpgradeFault A B faults.OutOfMemory = Unit {0}

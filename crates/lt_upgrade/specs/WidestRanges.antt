@@ -20,7 +20,7 @@ range_end kind subtag = record { kind = kind_number kind; length = length subtag
 abbrev pub end_cmp : RangeEnd → RangeEnd → Ordering
 end_cmp a b = ordering_then (nat_cmp a.kind b.kind) (ordering_then (nat_cmp a.length b.length) (slice_cmp nat_cmp a.subtag b.subtag))
 
--- the end is the other or stands before it
+-- the end is the other or is before it
 abbrev pub is_up_to : RangeEnd → RangeEnd → Bool
 is_up_to a b = is_le (end_cmp a b)
 
@@ -38,7 +38,7 @@ abbrev pub range_rows : List EntryParts → List RangeRow
 range_rows [] = []
 range_rows (e ∷ es) = cons_option (range_row e.kind e.name) (range_rows es)
 
--- neither end of a range stands before that of an earlier one
+-- neither end of a range is before that of an earlier one
 abbrev pub EndsRise : List RangeRow → Type 0
 EndsRise [] = Unit {0}
 EndsRise (v ∷ rows) = AllByRecursion (λ (w : RangeRow). (is_up_to v.first w.first ≡ true) × (is_up_to v.last w.last ≡ true)) rows × EndsRise rows

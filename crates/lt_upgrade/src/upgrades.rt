@@ -28,7 +28,7 @@ pub enum UpgradeFault {
         condition: UpgradeCondition,
         number: u32,
     },
-    /// No memory was left.
+    /// Memory ran out.
     #[error("out of memory: free some, and check again")]
     OutOfMemory,
 }
@@ -71,7 +71,7 @@ const IN_ORDER: [UpgradeCondition; 6] = [
     UpgradeCondition::SameWhole,
 ];
 
-/// Whether a record of the older registry meets a condition on such records behind the first.
+/// Whether a record of the older registry meets a condition on such records after the first.
 fn meets<A: Lookup, B: Lookup>(
     alloc: Global,
     older: &Checked<A>,
@@ -97,7 +97,7 @@ fn meets<A: Lookup, B: Lookup>(
     }
 }
 
-/// The first record of the older registry that does not meet a condition on such records behind the
+/// The first record of the older registry that does not meet a condition on such records after the
 /// first.
 fn first_failing<A: Lookup, B: Lookup>(
     alloc: Global,

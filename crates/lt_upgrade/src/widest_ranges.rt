@@ -11,7 +11,7 @@ use lt_subtag::Subtag;
 use std::alloc::{AllocError, Global};
 use std::marker::Model;
 
-/// An end of a range under a kind. Ends stand in the order of their kinds, then of their lengths, then of
+/// An end of a range under a kind. Ends are in the order of their kinds, then of their lengths, then of
 /// their letters. So a range that begins no later and ends no earlier than another is of its kind and
 /// length.
 #[derive(Drop, PartialEq, Eq, PartialOrd, Ord)]
@@ -33,7 +33,7 @@ impl RangeEnd {
         }
     }
 
-    /// Whether the end is the other or stands before it.
+    /// Whether the end is the other or is before it.
     fn is_up_to(&self, other: &RangeEnd) -> bool
         ensures { result ≡ is_up_to self.now other.now }
     {
@@ -48,7 +48,7 @@ pub(crate) struct RangeRow {
     last: RangeEnd,
 }
 
-/// Ranges among entries, of which neither end stands before that of an earlier one. What any range among the
+/// Ranges among entries, of which neither end is before that of an earlier one. What any range among the
 /// entries covers, one of these covers.
 #[derive(Drop)]
 pub(crate) struct WidestRanges {
@@ -68,7 +68,7 @@ impl Model for WidestRanges {
 }
 
 impl WidestRanges {
-    /// The widest ranges among entries. They are refused for want of memory alone.
+    /// The widest ranges among entries. They are refused only where memory runs out.
     pub(crate) fn of_entries(alloc: Global, entries: &[Entry]) -> Result<WidestRanges, AllocError>
         requires { All IsEntry entries.now }
         ensures { IfOk result (HoldRanges entries.now) }

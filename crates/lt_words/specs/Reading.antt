@@ -84,7 +84,7 @@ pub record Reads (words : List Text) (command : Command) : Type 0 where
   pub right : fault_of langtag words ≡ []
   pub names : Names words command
 
--- Want of memory aside: help answers a request for help, the version one for the version, and words that are that alone
+-- Running out of memory aside: help answers a request for help, the version one for the version, and words that are that alone
 -- are answered by nothing else; words that name a command are no fault of usage.
 abbrev pub IsRefused : List Text → WordsFault → Type 0
 IsRefused words (fault.Help text) = IsAmong kind.DisplayHelp (fault_of langtag words)
@@ -96,21 +96,21 @@ IsRefused words fault.OutOfMemory = ⊤
 
 -- ---- the steps
 
--- want of memory aside, the positionals don't all have a value
+-- running out of memory aside, the positionals don't all have a value
 abbrev pub LacksValue : List Row → List Text → WordsFault → Type 0
 LacksValue rows positionals (fault.Help text) = ⊥
 LacksValue rows positionals (fault.Version text) = ⊥
 LacksValue rows positionals (fault.Usage text) = (texts : List Text) → AreGiven rows positionals texts → ⊥
 LacksValue rows positionals fault.OutOfMemory = ⊤
 
--- want of memory aside, the text is no column
+-- running out of memory aside, the text is no column
 abbrev pub IsNoColumn : Text → WordsFault → Type 0
 IsNoColumn text (fault.Help said) = ⊥
 IsNoColumn text (fault.Version said) = ⊥
 IsNoColumn text (fault.Usage said) = (column : ℕ) → IsColumn text column → ⊥
 IsNoColumn text fault.OutOfMemory = ⊤
 
--- want of memory aside, what a parse found is no command
+-- running out of memory aside, what a parse found is no command
 abbrev pub NamesNone : Option (Text × List Row) → WordsFault → Type 0
 NamesNone found (fault.Help text) = ⊥
 NamesNone found (fault.Version text) = ⊥

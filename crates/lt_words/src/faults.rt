@@ -13,7 +13,7 @@ pub enum WordsFault {
     Version(String),
     /// They are no command of the program, as this text says.
     Usage(String),
-    /// No memory was left.
+    /// Memory ran out.
     OutOfMemory,
 }
 

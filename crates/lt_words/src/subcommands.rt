@@ -3,7 +3,7 @@ ghost use Rattle.std.specs.Prelude.{◌≡◌, MatchOption};
 ghost use Rattle.lt_words.specs.CommandLine.{name_of};
 ghost use Rattle.lt_words.specs.declared.subcommands.Subcommand.{Subcommand};
 
-/// What the program is asked for, by the word behind its name.
+/// What the program is asked for, by the word after its name.
 #[derive(Clone, Copy)]
 pub(crate) enum Subcommand {
     Classify,

@@ -110,7 +110,7 @@ pub(super) fn canonical_texts<L: Lookup>(rt: &impl Abort, alloc: Global, checked
     }
 }
 
-/// Appends the canonical text of a text, again where a growth was refused and what stood before stands.
+/// Appends the canonical text of a text, again where a growth was refused, and leaves what was there.
 fn append<L: Lookup>(
     alloc: Global,
     checked: &Checked<L>,
@@ -126,7 +126,7 @@ fn append<L: Lookup>(
     }
 }
 
-/// Texts, and what stands once the canonical text of each that is valid is appended.
+/// Texts, and what is there once the canonical text of each that is valid is appended.
 const APPENDED: [(&str, &str); 3] = [
     ("I-KLINGON", "tlh"),
     ("fr", "tlh"),
@@ -199,7 +199,7 @@ pub(super) fn replacements_that_repeat<L: Lookup>(
     assert!(rt; repeats(alloc, checked, b"en-t-ja-heploc-alalc97", b"alalc97"));
 }
 
-/// A text of 1,024 bytes, which is its own canonical text, with this end behind it.
+/// A text of 1,024 bytes, which is its own canonical text, with this end after it.
 fn long_text(alloc: Global, end: &str) -> Result<String, AllocError> {
     let mut text = String::from_str(alloc, "en-x")?;
     for _ in 0..113 {
@@ -245,7 +245,7 @@ fn is_answer(
     }
 }
 
-/// Whether a refusal is want of memory.
+/// Whether a refusal is for running out of memory.
 fn is_want_of_memory(refusal: &Refusal) -> bool {
     matches!(refusal, Refusal::OutOfMemory)
 }

@@ -23,7 +23,7 @@ fn letter(number: usize) -> char {
     char::from(b'a' + (number % 10) as u8)
 }
 
-/// Puts the language of five letters of a number behind the text.
+/// Puts the language of five letters of a number after the text.
 fn push_language(text: &mut String, number: usize) -> Result<(), AllocError> {
     text.push('x')?;
     text.push(letter(number / 1000))?;

@@ -27,7 +27,7 @@ const FINDING: Finding = Finding {
     number: 48,
 };
 
-/// The variant that stands twice.
+/// The variant that occurs twice.
 fn repeated() -> Result<Subtag, Fail> {
     Subtag::read(b"alalc97").map_err(|fault| Fail::from(fault.name()))
 }

@@ -72,7 +72,7 @@ pub(super) const FAULTS: [(u32, &str, &str); 12] = [
     (44, "Type: redundant\nTag: sgn-DE\n", "U6"),
 ];
 
-/// Records put in the place of one of the sample, or behind the last, after which each condition holds.
+/// Records put in the place of one of the sample, or after the last, after which each condition holds.
 /// The range that covers an old one need not be the first that holds its ends.
 pub(super) const UPGRADES: [(usize, &str); 6] = [
     (0, ""),

@@ -4,7 +4,7 @@ use lt_jar::{Device, Pieces};
 use std::alloc::Global;
 use std::test::Fail;
 
-/// Whether so many calls answer so for pieces that do not fail.
+/// Whether this many calls answer so for pieces that do not fail.
 fn are_told(alloc: Global, pieces: Pieces<'_>, calls: usize, answers: &str) -> Result<bool, Fail> {
     let mut device = Device::new(pieces);
     Ok(told(alloc, &mut device, calls)?.as_str() == answers && device.failures() == 0)

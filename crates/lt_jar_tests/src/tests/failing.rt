@@ -6,7 +6,7 @@ use std::alloc::Global;
 use std::io::Read;
 use std::test::Fail;
 
-/// What so many calls answer.
+/// What this many calls answer.
 pub fn told<R: Read>(alloc: Global, device: &mut Device<R>, calls: usize) -> Result<String, Fail> {
     let Ok(mut reader) = JarReader::new(alloc, device) else {
         return Err(Fail::from("no reader"));
@@ -25,7 +25,7 @@ pub fn told<R: Read>(alloc: Global, device: &mut Device<R>, calls: usize) -> Res
     Ok(text)
 }
 
-/// Texts and what calls answer: after the end there is none, and after a fault it is told again.
+/// Texts and what calls answer: after the end there is none, and after a fault it is reported again.
 const ENDS: [(&[u8], usize, &str); 3] = [
     (b"A: b\n%%\n", 3, "record;none;none;"),
     (
@@ -49,7 +49,7 @@ fn ends_stay(rt: HostRuntime) -> Result<(), Fail> {
     Ok(())
 }
 
-/// Whether a reader that fails at this call is told with the line of the same number.
+/// Whether a reader that fails at this call is reported with the line of the same number.
 fn fails_at_line(alloc: Global, call: u64) -> Result<bool, Fail> {
     let mut device = Device::new(Pieces::once(b"A: b\n%%\nC: d\n", 5).failing_at(call));
     let failed = format!(in alloc; "!Read {call}")?;
@@ -69,7 +69,7 @@ fn readers_that_fail(rt: HostRuntime) -> Result<(), Fail> {
     Ok(())
 }
 
-/// Whether the sample in pieces of 64, whose read of this number fails behind these bytes, is told
+/// Whether the sample in pieces of 64, whose read of this number fails after these bytes, is reported
 /// as a record for each separator, that the read failed, and again that there was this fault.
 fn fails_behind(alloc: Global, text: &[u8], call: u64, read: &[u8]) -> Result<bool, Fail> {
     let mut expected = String::new(alloc);

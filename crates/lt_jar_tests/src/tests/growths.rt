@@ -166,7 +166,7 @@ fn memory_runs_out_at_the_line_that_is_read(rt: HostRuntime) -> Result<(), Fail>
     Ok(())
 }
 
-/// Whether a line of so many letters and this end is read, or is too long.
+/// Whether a line of this many letters and this end is read, or is too long.
 fn is_long_line(
     alloc: Global,
     letters: usize,

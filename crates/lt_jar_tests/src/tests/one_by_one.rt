@@ -9,7 +9,7 @@ use std::test::Fail;
 /// The sizes of the pieces in which a text is given.
 pub const SIZES: [usize; 5] = [1, 2, 3, 7, 1_000_000];
 
-/// Puts the fields of a record behind the text, as `shown` has them.
+/// Puts the fields of a record after the text, as `shown` has them.
 fn push_record(text: &mut String, record: RecordRef<'_>) -> Result<(), AllocError> {
     for i in 0..record.len() {
         if i > 0 {

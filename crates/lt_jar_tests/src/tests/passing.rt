@@ -19,7 +19,7 @@ impl FailsFirst {
         }
     }
 
-    /// One byte of a slice of so many, but in the first call.
+    /// One byte of a slice of this many, but in the first call.
     fn answer(&mut self, room: usize) -> io::Result<usize>
         ensures { IfOk result (λ count. count ≤ room) }
     {

@@ -13,7 +13,7 @@ fn device(text: &[u8], call: u64) -> Device<Pieces<'_>> {
     Device::new(Pieces::once(text, PIECE).failing_at(call))
 }
 
-/// Whether a call that fails behind these bytes is told as a read, in the line behind their last line feed.
+/// Whether a call that fails after these bytes is reported as a read, in the line after their last line feed.
 fn names_read(alloc: Global, text: &[u8], front: &[u8], call: u64) -> bool {
     let line = front.split(|byte| *byte == b'\n').count() as u64;
     match Registry::read(alloc, &mut device(text, call)) {
@@ -22,7 +22,7 @@ fn names_read(alloc: Global, text: &[u8], front: &[u8], call: u64) -> bool {
     }
 }
 
-/// The last of the calls reads at the end of the text. The one behind it is not made.
+/// The last of the calls reads at the end of the text. The one after it is not made.
 #[test]
 fn each_read_of_the_sample(rt: HostRuntime) -> Result<(), Fail> {
     let sample = sample_text(rt.alloc())?;

@@ -7,7 +7,7 @@ use lt_subtag::Subtag;
 use std::alloc::{AllocError, Global};
 use std::test::Fail;
 
-/// The text of so many records of one line, whose type is unknown.
+/// The text of this many records of one line, whose type is unknown.
 pub fn many_records(alloc: Global, records: usize) -> Result<String, AllocError> {
     let mut text = String::new(alloc);
     for _ in 0..records {

@@ -117,7 +117,7 @@ fn sample_in_pieces(rt: HostRuntime) -> Result<(), Fail> {
     Ok(())
 }
 
-/// A field `Comments` whose body has so many letters.
+/// A field `Comments` whose body has this many letters.
 fn long_line(alloc: Global, letters: usize) -> Result<String, AllocError> {
     let mut text = String::from_str(alloc, "Comments: ")?;
     for _ in 0..letters {
@@ -135,7 +135,7 @@ fn longest_line_in_pieces(rt: HostRuntime) -> Result<(), Fail> {
     Ok(())
 }
 
-/// The record at fault is told only where no more records follow than a text may have.
+/// The record at fault is reported only where no more records follow than a text may have.
 #[test]
 fn most_records_in_pieces(rt: HostRuntime) -> Result<(), Fail> {
     let mut text = many_records(rt.alloc(), 100_000)?;

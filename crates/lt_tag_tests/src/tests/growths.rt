@@ -38,7 +38,7 @@ where
     Ok(is_changed(argument))
 }
 
-/// Whether a call is refused for want of memory.
+/// Whether a call is refused where memory runs out.
 fn is_refused<T>(answer: &Result<T, OutOfMemory>) -> bool {
     answer.is_err()
 }
@@ -105,7 +105,7 @@ fn is_written(alloc: Global, tag: &Tag, text: &str) -> Result<bool, AllocError> 
     )
 }
 
-/// Whether a tag's text is put behind another.
+/// Whether a tag's text is put after another.
 fn is_appended(alloc: Global, tag: &Tag, text: &str) -> Result<bool, AllocError> {
     let mut found = twice(|| Vec::from_slice(alloc, b"en "))?;
     changes(

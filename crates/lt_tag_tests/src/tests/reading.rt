@@ -10,7 +10,7 @@ pub const FAULTS: [(&str, &str, u32); 22] = [
     ("en_US", "BadByte", 1),
     ("en-abcdefgh_", "BadByte", 2),
     ("en-abcdefghi", "LongSubtag", 2),
-    // A piece that is no subtag comes first, even behind a misplaced subtag.
+    // A piece that is no subtag comes first, even after a misplaced subtag.
     ("e1-a-b_", "BadByte", 3),
     ("en-419-GB-", "EmptySubtag", 4),
     ("en-a-", "EmptySubtag", 3),
@@ -41,7 +41,7 @@ fn has_fault(alloc: Global, text: &[u8], name: &str, place: u32) -> bool {
 /// private use they have.
 const LONGEST: [(&str, &str, usize, usize); 2] = [("en-x", "-aa", 0, 114), ("en", "-1aaa", 114, 0)];
 
-/// Whether a text's tag has so many variants and subtags of private use.
+/// Whether a text's tag has this many variants and subtags of private use.
 fn has_counts(
     alloc: Global,
     text: &[u8],

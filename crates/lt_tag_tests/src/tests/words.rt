@@ -13,7 +13,7 @@ pub(super) fn put(words: &mut Vec<u8>, label: &str, subtag: &Subtag) -> Result<(
     Ok(())
 }
 
-/// Adds subtags at the end, each behind the label.
+/// Adds subtags at the end, each after the label.
 pub(super) fn put_each(
     words: &mut Vec<u8>,
     label: &str,

@@ -35,7 +35,7 @@ fn prints(alloc: Global, text: &[u8], shown: &[u8]) -> Result<bool, TagFault> {
     Ok(is_text(alloc, &read_tag(alloc, text)?, shown)?)
 }
 
-/// Whether the tags of two texts are printed so one behind the other.
+/// Whether the tags of two texts are printed so one after the other.
 fn appends(alloc: Global, first: &[u8], second: &[u8], shown: &[u8]) -> Result<bool, TagFault> {
     let mut texts = Vec::new(alloc);
     append_tag(&mut texts, &read_tag(alloc, first)?)?;
@@ -80,7 +80,7 @@ const GRANDFATHERED: [&str; 26] = [
     "zh-xiang",
 ];
 
-/// Whether a text is the grandfathered tag of this number, and is printed as it stands.
+/// Whether a text is the grandfathered tag of this number, and is printed as it is.
 fn is_grandfathered(alloc: Global, text: &str, number: u8) -> Result<bool, TagFault> {
     let tag = read_tag(alloc, text.as_bytes())?;
     Ok(tag.grandfathered() == Some(number) && is_text(alloc, &tag, text.as_bytes())?)
@@ -94,7 +94,7 @@ fn prints_grandfathered_tags(rt: HostRuntime) -> Result<(), TagFault> {
     Ok(())
 }
 
-/// Whether a text of these pieces and 113 between them is printed as it stands.
+/// Whether a text of these pieces and 113 between them is printed as it is.
 fn prints_long(alloc: Global, first: &str, last: &str) -> Result<bool, TagFault> {
     let text = long_text(alloc, first, last)?;
     prints(alloc, &text, &text)

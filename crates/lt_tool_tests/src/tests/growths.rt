@@ -304,7 +304,7 @@ const WORDS: [(&[&str], &str); 10] = [
     (&["canon", "--help"], "Err(Help(\"Prints the canonical form"),
 ];
 
-/// Whether words name no command for want of memory.
+/// Whether words name no command where memory runs out.
 fn is_refused(answer: &Result<Command, WordsFault>) -> bool {
     matches!(answer, Err(WordsFault::OutOfMemory))
 }

@@ -63,7 +63,7 @@ fn a_line_that_is_too_long(rt: HostRuntime) -> Result<(), Fail> {
     Ok(())
 }
 
-/// Whether a run answered so many lines, and refused so many of them.
+/// Whether a run answered this many lines, and refused this many of them.
 fn is_end(end: &Result<Counts, ToolFault>, lines: u64, refused: u64) -> bool {
     matches!(end, Ok(counts) if counts.lines == lines && counts.refused == refused)
 }

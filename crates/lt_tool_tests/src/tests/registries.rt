@@ -210,7 +210,7 @@ fn writes_of_a_run_that_fail(rt: HostRuntime) -> Result<(), Fail> {
     Ok(())
 }
 
-/// Whether `canon` over a reader that fails at a call, and a writer that fails after so many, writes this before,
+/// Whether `canon` over a reader that fails at a call, and a writer that fails after this many, writes this before,
 /// and names the failure.
 fn names(
     alloc: Global,
@@ -278,13 +278,13 @@ pub fn prints_of_reader(
 /// How many bytes a reader of a registry gives in a call.
 const PIECE: usize = 64;
 
-/// The line that the program prints where a read fails behind these bytes.
+/// The line that the program prints where a read fails after these bytes.
 fn read_line(alloc: Global, front: &[u8]) -> Result<String, AllocError> {
     let line = front.split(|byte| *byte == b'\n').count();
     format!(in alloc; "jar Read line {line}\n")
 }
 
-/// Whether the commands name the line that was being read where the reads behind these bytes of a registry fail.
+/// Whether the commands name the line that was being read where the reads after these bytes of a registry fail.
 fn names_read(alloc: Global, registry: &[u8], front: &[u8], call: u64) -> Result<bool, AllocError> {
     let line = read_line(alloc, front)?;
     let reader = || Pieces::once(registry, PIECE).failing_at(call);

@@ -119,7 +119,7 @@ fn rows_in_pieces(rt: HostRuntime) -> Result<(), Fail> {
     Ok(())
 }
 
-/// Whether a run whose output has room for so many bytes writes the front of what is owed, and names the write.
+/// Whether a run whose output has room for this many bytes writes the front of what is owed, and names the write.
 fn stops(alloc: Global, checked: &Checked<SortedTable>, room: usize) -> bool {
     let mut page = [0u8; 64];
     let (taken, _) = page.split_at_mut(room.min(64));

@@ -4,7 +4,7 @@ use std::alloc::{AllocError, Global};
 /// A record: type, name, preferred value and prefix. An empty text stands for no field.
 pub type Row = (&'static str, &'static str, &'static str, &'static str);
 
-/// The records behind the header, 2 to 47.
+/// The records after the header, 2 to 47.
 const ROWS: [Row; 46] = [
     ("language", "de", "", ""),
     ("language", "en", "", ""),
@@ -60,14 +60,14 @@ const HEADER: &str = "File-Date: 2024-01-01";
 /// A field of two lines, with carriage returns.
 pub const FOLDED: &str = "Description: Modern\r\n Hebrew\r\n";
 
-/// Puts a line behind the text.
+/// Puts a line after the text.
 fn push_line(text: &mut String, label: &str, body: &str, end: &str) -> Result<(), AllocError> {
     text.push_str(label)?;
     text.push_str(body)?;
     text.push_str(end)
 }
 
-/// Puts the line of a field behind the text, unless the body is empty.
+/// Puts the line of a field after the text, unless the body is empty.
 fn push_field(text: &mut String, label: &str, body: &str, end: &str) -> Result<(), AllocError> {
     if body.is_empty() {
         return Ok(());
@@ -83,7 +83,7 @@ fn name_label(kind: &str) -> &'static str {
     }
 }
 
-/// Puts the lines of a record behind the text, the separator first, with this end behind each line.
+/// Puts the lines of a record after the text, the separator first, with this end after each line.
 pub fn push_record(text: &mut String, row: &Row, end: &str) -> Result<(), AllocError> {
     let (kind, name, value, prefix) = row;
     push_line(text, "%%", "", end)?;
@@ -93,7 +93,7 @@ pub fn push_record(text: &mut String, row: &Row, end: &str) -> Result<(), AllocE
     push_field(text, "Prefix: ", prefix, end)
 }
 
-/// The text of the registry, with this end behind each line and this field last in the record of `he`.
+/// The text of the registry, with this end after each line and this field last in the record of `he`.
 pub fn sample_text(alloc: Global, end: &str, field: &str) -> Result<String, AllocError> {
     let mut text = String::new(alloc);
     push_line(&mut text, HEADER, "", end)?;

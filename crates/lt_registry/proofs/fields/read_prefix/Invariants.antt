@@ -4,7 +4,7 @@ use Rattle.lt_registry.specs.Records.{subtags_of}
 use Rattle.lt_registry.proofs.ScanLemmas.{after}
 use Rattle.lt_registry.proofs.fields.read_prefix.Given as goal
 
--- the subtags so far stand before those of the rest
+-- the subtags so far are before those of the rest
 abbrev pub invariant-pieces : goal.invariant-pieces
 invariant-pieces l = subtags_of (pieces l.fn.text) ≡ after l.subtags.items (subtags_of (pieces l.rest))
 

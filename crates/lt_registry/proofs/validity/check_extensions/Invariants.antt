@@ -3,7 +3,7 @@ use Rattle.lt_registry.proofs.FirstLemmas.{SameFaults}
 use Rattle.lt_registry.proofs.ListFaultLemmas.{Whole, From}
 use Rattle.lt_registry.proofs.validity.check_extensions.Given as goal
 
--- what faults there are stand in the extensions that are left
+-- what faults there are, are in the extensions that are left
 abbrev pub invariant-loop-index : goal.invariant-loop-index
 invariant-loop-index g l =
     (l.place ≤ 1031 + 1025 * l.index)

@@ -3,6 +3,6 @@ use Rattle.lt_rewrite.specs.CoreSteps.{chase}
 use Rattle.lt_rewrite.specs.Conditions.{next_value}
 use Rattle.lt_rewrite.proofs.chain_ends.end_of_chain.Given as goal
 
--- so many values have been followed
+-- this many values have been followed
 abbrev pub invariant-loop-turn : goal.invariant-loop-turn
 invariant-loop-turn g l = l.end ≡ chase (next_value (g.L.Lookup.listed l.table) l.kind) l._turn l.subtag

@@ -2,7 +2,7 @@ use Rattle.std.proofs.Common.{◌≡◌, ◌≤◌, ◌+◌, ◌*◌, length, ta
 use Rattle.std.specs.Prelude.{sum_by}
 use Rattle.lt_tag.proofs.grandfathered.text_length.Given as goal
 
--- the bytes of the subtags so far, and a hyphen behind each
+-- the bytes of the subtags so far, and a hyphen after each
 abbrev pub invariant-loop-subtag : goal.invariant-loop-subtag
 invariant-loop-subtag l =
     (l.bytes ≡ sum_by length (take l.subtag-index l.list) + l.subtag-index) × (l.bytes ≤ 9 * l.subtag-index)

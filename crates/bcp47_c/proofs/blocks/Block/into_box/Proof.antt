@@ -34,7 +34,7 @@ use Rattle.bcp47_c.specs.contracts.blocks.Block.into_box as f
 use Rattle.bcp47_c.proofs.blocks.Block.into_box.Statement.{statement}
 use Rattle.bcp47_c.proofs.blocks.Block.into_box.Code as code
 
--- what runs behind the `unsafe` block
+-- what runs after the `unsafe` block
 abbrev after_block : Body
 after_block = seq (assign (place 0 []) (rv_opd (copy (place 4 [])))) return
 

@@ -4,7 +4,7 @@ use Rattle.lt_tag.specs.Keeping.{IsKept}
 use Rattle.lt_tag.specs.Printing.{Prints}
 use Rattle.lt_tag.proofs.writing.Style.put_pieces.Given as goal
 
--- what is left follows what stands in the text
+-- what is left follows what is in the text
 abbrev pub invariant-loop-others : goal.invariant-loop-others
 invariant-loop-others g l = record {
   put : (front : List (List ℕ)) × (front ++ pieces l.rest ≡ pieces l.bytes) × Prints g.S.Sink.took l.initial.text l.initial.self front l.text l.self;
