@@ -15,4 +15,3 @@ pub use lt_words::{Command, WordsFault, read_words};
 pub use printing::{perform, report, report_file};
 pub use program::run_program;
 pub use status::Status;
-
