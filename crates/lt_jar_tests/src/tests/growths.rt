@@ -52,8 +52,6 @@ const LINES: [Lines; 7] = [
 
 const LINES_OF_FAULTS: [Lines; 8] = [&[1, 2, 3, 4], &[1], &[1, 2], &[1], &[1], &[1], &[], &[1, 3]];
 
-const LINES_OF_FAULTS: [Lines; 5] = [&[1, 2, 3, 4], &[1], &[1, 2], &[1], &[1]];
-
 /// Whether a jar has these records, as `records_of` gives them.
 fn has_records(alloc: Global, jar: &Jar, records: &str) -> bool {
     matches!(twice(|| records_of(alloc, jar)), Ok(found) if found.as_str() == records)
