@@ -11,7 +11,7 @@ use std::test::Fail;
 type Lines = &'static [u64];
 
 /// Whether a text is refused because a growth was, at one of these lines.
-fn is_refused<T>(answer: &Result<T, JarFault>, lines: Lines) -> bool {
+fn is_refused<T>(answer: &Result<T, JarFault>, lines: &[u64]) -> bool {
     match answer {
         Ok(_) => false,
         Err(fault) => {
@@ -24,7 +24,7 @@ fn is_refused<T>(answer: &Result<T, JarFault>, lines: Lines) -> bool {
 fn is_read<P: Fn(&Result<Jar, JarFault>) -> bool>(
     alloc: Global,
     text: &[u8],
-    lines: Lines,
+    lines: &[u64],
     is_answer: P,
 ) -> Result<bool, AllocError>
     requires { P.IsAlwaysCallable is_answer }
