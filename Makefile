@@ -19,11 +19,13 @@ lib:
 sqlite: lib
 	gcc -O2 -fPIC -shared -Wall -Ibindings/c -o build/bcp47.so bindings/sqlite/bcp47_sqlite.c build/libbcp47.a
 
-# Proves everything from nothing, and runs each test; then the program on real files and streams, and README's commands.
+# Proves everything from nothing, and runs each test; then refuses growths of memory in the tests that name a line or a
+# record, and runs the program on real files and streams, README's commands, and what is linked to the library for C.
 test:
 	rt ci
 	mkdir -p build
 	cp crates/langtag/out/langtag build/langtag
+	bench/growth.py lt_jar_tests lt_registry_tests
 	tests/program.sh
 	tests/fresh.sh
 	tests/bindings.sh
