@@ -41,8 +41,12 @@ fn valid_tags(rt: HostRuntime) -> Result<(), Fail> {
     let hebrew = Tag::read(rt.alloc(), b"he-IL")?;
     assert!(rt; registry.validate(rt.alloc(), &hebrew).is_ok());
     let latin = Tag::read(rt.alloc(), b"he-Latn")?;
-    let Err(ValidRefusal::Fault(fault)) = registry.validate(rt.alloc(), &latin) else {
+    let Err(refusal) = registry.validate(rt.alloc(), &latin) else {
         return Err(Fail::from("valid"));
+    };
+    assert_eq!(rt; refusal.name(), "UnknownScript");
+    let ValidRefusal::Fault(fault) = refusal else {
+        return Err(Fail::from("no memory"));
     };
     assert!(rt; fault.kind == ValidFaultKind::UnknownScript && fault.place == 2);
     Ok(())

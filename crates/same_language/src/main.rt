@@ -7,9 +7,7 @@ fn main(rt: HostRuntime) -> anyhow::Result<()> {
     let registry = Registry::from_bytes(rt.alloc(), &std::fs::read(&rt, "registry.txt")?)?;
     let first = Tag::read(rt.alloc(), b"zh-cmn-Hans")?;
     let second = Tag::read(rt.alloc(), b"cmn-hans")?;
-    match registry.equivalent(rt.alloc(), &first, &second) {
-        Ok(same) => println!(rt; "{same}")?,
-        Err(refusal) => println!(rt; "{refusal:?}")?,
-    }
+    let same = registry.equivalent(rt.alloc(), &first, &second)?;
+    println!(rt; "{first} and {second}: {same}")?;
     Ok(())
 }
