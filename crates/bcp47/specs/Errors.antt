@@ -1,11 +1,16 @@
--- How the error of a registry is named and printed.
-use Rattle.std.specs.Prelude.{ℕ, List, [], ◌∷◌, ◌++◌, codes}
+-- How a registry and its error are printed.
+use Rattle.std.specs.Prelude.{ℕ, List, [], ◌∷◌, ◌++◌, length, codes}
 use Rattle.std.specs.Fmt.{decimal}
 use Rattle.lt_jar.specs.Names as jar_names
 use Rattle.lt_registry.specs.Names as record_names
+use Rattle.lt_registry.specs.Parts.{EntryParts}
 use Rattle.lt_check.specs.Codes as condition_codes
 use Rattle.bcp47.specs.declared.errors.RegistryError.{RegistryError}
 use Rattle.bcp47.specs.declared.errors.RegistryError.TheVariants as errors
+
+-- a registry is shown by the number of its entries
+abbrev pub registry_shown : List EntryParts → List ℕ
+registry_shown R = codes "Registry { entries: " ++ decimal (length R) ++ codes " }"
 
 abbrev pub error_name_of : RegistryError → List ℕ
 error_name_of (errors.Jar fault) = jar_names.name_of fault.kind

@@ -1,5 +1,5 @@
 //! A registry that passes the check, and what it says of tags.
-ghost use Rattle.std.specs.Prelude.{◌≡◌, Ok, OnOk, OnErr, IfOk, IfErr, Err};
+ghost use Rattle.std.specs.Prelude.{◌≡◌, Ok, OnOk, OnErr, IfOk, IfErr, Err, Some};
 ghost use Rattle.lt_registry.specs.Faults as validity;
 ghost use Rattle.lt_rewrite.specs.TagSteps.{AreEquivalent};
 ghost use Rattle.lt_check.specs.Conditions.{IsChecked};
@@ -13,6 +13,7 @@ ghost use Rattle.lt_canon.specs.Traces.{IsTraceFault, IsValidTrace};
 ghost use Rattle.lt_upgrade.specs.Laws.{UpgradeKeepsTags};
 ghost use Rattle.lt_upgrade.specs.Upgrade.{Upgrades};
 ghost use Rattle.lt_upgrade.specs.UpgradeChecking.{IsUpgradeFault};
+ghost use Rattle.bcp47.specs.Errors.{registry_shown};
 ghost use Rattle.bcp47.specs.Promise.{IsJudged, ReadsBytes, ReadsDevice, Promise};
 
 use crate::errors::RegistryError;
@@ -25,6 +26,7 @@ use lt_registry::{Entry, Lookup, Registry as Entries, SortedTable, ValidRefusal}
 use lt_tag::Tag;
 use lt_upgrade::UpgradeFault;
 use std::alloc::Global;
+use std::fmt;
 use std::io::Read;
 use std::marker::Model;
 
@@ -45,6 +47,16 @@ impl Model for Registry {
     ghost view = { λ r. r.checked };
 
     ghost invariant = { λ r. IsChecked r.checked };
+}
+
+impl fmt::Debug for Registry {
+    ghost debug_output = { λ entries. Some (registry_shown entries) };
+
+    /// The number of its entries alone.
+    fn fmt<W: fmt::Write>(&self, f: &mut fmt::Formatter<W>) -> fmt::Result {
+        let entries = self.entries().len();
+        write!(f, "Registry {{ entries: {entries} }}")
+    }
 }
 
 /// The registry of these entries, if they pass the check.

@@ -14,7 +14,7 @@ ghost use Rattle.lt_check.specs.declared.conditions.Condition.TheVariants as con
 
 use crate::whole_checks::know_entries;
 use lt_registry::{Entry, EntryName, Kind, Lookup};
-use lt_rewrite::values::{is_registered, lists};
+use lt_rewrite::values::is_registered;
 use lt_subtag::Subtag;
 
 /// How many regular grandfathered tags have two subtags. The one of three, zh-min-nan, has two
@@ -40,7 +40,7 @@ fn by_extlang<L: Lookup>(table: &L, language: &[u8], extlang: &[u8]) -> Option<u
 {
     let language = subtag(language);
     let entry = table.entry(Kind::Extlang, &subtag(extlang))?;
-    if is_registered(table, Kind::Language, &language) && lists(entry.prefixes(), &language) {
+    if is_registered(table, Kind::Language, &language) && entry.has_prefix(&language) {
         Some(entry.number())
     } else {
         None

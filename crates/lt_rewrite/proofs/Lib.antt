@@ -37,6 +37,7 @@ mod ChainWalks
 mod PlacedParts
 mod ValueForms
 mod CoreSettled
+mod PlacedVariants
 mod ExtensionSettled
 mod ExtensionsSettled
 mod CoreLeading

@@ -10,6 +10,7 @@ pub mod OrderingLaws
 pub mod Laws
 pub mod ChainEnds
 pub mod CoreSettling
+pub mod Turns
 pub mod ExtensionSettling
 pub mod ExtensionsSettling
 pub mod Applying

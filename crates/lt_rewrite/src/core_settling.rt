@@ -1,5 +1,5 @@
 //! The core normal form (RFC 5646, 4.5).
-ghost use Rattle.std.specs.Prelude.{◌≡◌, ◌<◌, ℕ, true, Some, None, [], ◌∷◌, List, All, IfSome, IfOk, OnErr, length, MatchOption};
+ghost use Rattle.std.specs.Prelude.{◌≡◌, ◌<◌, ◌≤◌, ℕ, true, Some, None, [], ◌∷◌, List, All, IfSome, IfOk, OnErr, length, MatchOption};
 ghost use Rattle.std.specs.Option.{option_copied};
 ghost use Rattle.lt_subtag.specs.Shapes.{is_language};
 ghost use Rattle.lt_registry.specs.Entries.{has_form};
@@ -12,6 +12,7 @@ ghost use Rattle.lt_rewrite.specs.CoreSettling.{IsFirstTurn, HasNoTurn, HasFinal
 
 use crate::chain_ends::{Cycle, end_of_chain, replacement};
 use crate::shortcuts::Shortcuts;
+use crate::turns::{first_turn_at, places_of};
 use crate::values::{is_short, one_value};
 use lt_registry::{Kind, Lookup};
 use lt_subtag::Subtag;
@@ -171,6 +172,49 @@ fn settle_turns<L: Lookup>(table: &L, shortcuts: Option<&Shortcuts>, core: &mut 
     }
 }
 
+/// The same of few variants, which are looked up once.
+fn settle_few_turns<L: Lookup>(table: &L, shortcuts: Option<&Shortcuts>, core: &mut Core)
+    requires chains { All (HasEndingChain (L.listed table.now)) (L.listed table.now) }
+    requires shortcuts { IfSome shortcuts (λ s. AreShortcuts (L.listed table.now) s.now) }
+    requires alone { core.old.extlangs ≡ [] }
+    requires variants { HasFinalVariants (values_of (L.listed table.now)) core.old }
+    requires few { length core.old.variants ≤ 256 }
+    ensures reached { Star (CoreStep (values_of (L.listed table.now))) core.old core.new }
+    ensures language { HasFinalLanguage (values_of (L.listed table.now)) core.new }
+    ensures turns { HasNoTurn (values_of (L.listed table.now)) core.new }
+    ensures variants { HasFinalVariants (values_of (L.listed table.now)) core.new }
+    ensures others { core.new ≡ record core.old { language = core.new.language; variants = core.new.variants } }
+{
+    settle_language(table, shortcuts, core);
+    let mut places = places_of(table, core.variants());
+    while let Some((index, language)) = first_turn_at(table, &places, core) {
+        core.remove_variant(index);
+        places.remove(index);
+        core.set_language(language);
+        settle_language(table, shortcuts, core);
+    }
+}
+
+/// The same of any variants. Of two or three it costs less to look them up again.
+fn settle_all_turns<L: Lookup>(table: &L, shortcuts: Option<&Shortcuts>, core: &mut Core)
+    requires chains { All (HasEndingChain (L.listed table.now)) (L.listed table.now) }
+    requires shortcuts { IfSome shortcuts (λ s. AreShortcuts (L.listed table.now) s.now) }
+    requires alone { core.old.extlangs ≡ [] }
+    requires variants { HasFinalVariants (values_of (L.listed table.now)) core.old }
+    ensures reached { Star (CoreStep (values_of (L.listed table.now))) core.old core.new }
+    ensures language { HasFinalLanguage (values_of (L.listed table.now)) core.new }
+    ensures turns { HasNoTurn (values_of (L.listed table.now)) core.new }
+    ensures variants { HasFinalVariants (values_of (L.listed table.now)) core.new }
+    ensures others { core.new ≡ record core.old { language = core.new.language; variants = core.new.variants } }
+{
+    let count = core.variants().len();
+    if 3 < count && count <= 256 {
+        settle_few_turns(table, shortcuts, core);
+    } else {
+        settle_turns(table, shortcuts, core);
+    }
+}
+
 /// Puts a core into its core normal form, by shortcuts along the chains if there are some.
 pub(crate) fn settle_along<L: Lookup>(table: &L, shortcuts: Option<&Shortcuts>, core: &mut Core)
     requires chains { All (HasEndingChain (L.listed table.now)) (L.listed table.now) }
@@ -182,7 +226,7 @@ pub(crate) fn settle_along<L: Lookup>(table: &L, shortcuts: Option<&Shortcuts>, 
     settle_variants(table, shortcuts, core);
     settle_extlang(table, core);
     if core.extlangs().is_empty() {
-        settle_turns(table, shortcuts, core);
+        settle_all_turns(table, shortcuts, core);
     }
 }
 
@@ -192,8 +236,8 @@ pub(crate) fn settle_along<L: Lookup>(table: &L, shortcuts: Option<&Shortcuts>, 
 /// chains of the registry end, as they do where `first_cycle` is None.
 ///
 /// Takes no memory. Each subtag is looked up once, and once more for each value that replaces it;
-/// beside a language without extlangs each variant is looked up once more for each language that
-/// is there, to see whether it turns into one.
+/// beside a language without extlangs each of 4 to 256 variants is looked up once more, and each of
+/// fewer or more once more for each language that stands there, to see whether it turns into one.
 pub fn settle_core<L: Lookup>(table: &L, core: &mut Core)
     requires { All (HasEndingChain (L.listed table.now)) (L.listed table.now) }
     ensures { IsCoreNormalForm (values_of (L.listed table.now)) core.old core.new }

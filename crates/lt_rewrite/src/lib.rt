@@ -23,6 +23,7 @@ mod part_ordering;
 mod shortcuts;
 mod steps;
 mod transform_explaining;
+mod turns;
 mod unicode_explaining;
 pub mod values;
 

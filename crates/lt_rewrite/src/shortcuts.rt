@@ -155,7 +155,7 @@ impl Shortcuts {
 }
 
 /// The place of one of the entries, at once where their numbers follow on one another.
-fn place_of(entries: &[Entry], entry: &Entry) -> usize
+pub(crate) fn place_of(entries: &[Entry], entry: &Entry) -> usize
     requires rising { NumbersRise entries.now }
     requires there { Contains entries.now entry.now }
     ensures { slice_get entries.now result ≡ Some entry.now }

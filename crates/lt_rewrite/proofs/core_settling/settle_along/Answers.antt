@@ -19,8 +19,8 @@ returns-then-is_empty g c =
       other_than_variants = c.settle_variants.ensures.others;
       other_than_extlang = c.settle_extlang.ensures.others;
     } in
-    let turns = c.settle_turns.ensures in
-    rests_after_turns V c.args.core.now c.settle_script.new.core c.settle_region.new.core c.settle_variants.new.core c.settle_extlang.new.core c.settle_turns.new.core all
+    let turns = c.settle_all_turns.ensures in
+    rests_after_turns V c.args.core.now c.settle_script.new.core c.settle_region.new.core c.settle_variants.new.core c.settle_extlang.new.core c.settle_all_turns.new.core all
     turns.reached turns.language turns.turns turns.variants turns.others
 
 pub returns-else-is_empty : goal.returns-else-is_empty

@@ -1,0 +1,89 @@
+//! Variants that turn into languages one after another: each is looked up once (RFC 5646, 4.5).
+ghost use Rattle.std.specs.Prelude.{◌≡◌, ◌≤◌, true, IfSome, MatchOption, length};
+ghost use Rattle.std.specs.List.{slice_get};
+ghost use Rattle.std.specs.Option.{option_copied};
+ghost use Rattle.lt_subtag.specs.Shapes.{is_language};
+ghost use Rattle.lt_registry.specs.Entries.{entry};
+ghost use Rattle.lt_registry.specs.declared.entries.Kind.TheVariants as kinds;
+ghost use Rattle.lt_rewrite.specs.CoreSteps.{values_of};
+ghost use Rattle.lt_rewrite.specs.CoreSettling.{IsFirstTurn, HasNoTurn};
+ghost use Rattle.lt_rewrite.specs.Turns.{ArePlaces};
+
+use crate::shortcuts::place_of;
+use crate::values::{is_short, one_value};
+use arrayvec::ArrayVec;
+use lt_registry::{Entry, Kind, Lookup};
+use lt_subtag::Subtag;
+use lt_tag::Core;
+
+/// Where the entry of a variant stands, or behind the last where it has none.
+fn variant_place<L: Lookup>(table: &L, variant: &Subtag) -> usize
+    ensures { slice_get (L.listed table.now) result ≡ entry (L.listed table.now) kinds.Variant variant.now }
+{
+    let entries = table.entries();
+    match table.entry(Kind::Variant, variant) {
+        Some(entry) => place_of(entries, entry),
+        None => entries.len(),
+    }
+}
+
+/// Where the entries of variants stand.
+pub(crate) fn places_of<L: Lookup>(table: &L, variants: &[Subtag]) -> ArrayVec<usize, 256>
+    requires { length variants.now ≤ 256 }
+    ensures { ArePlaces (L.listed table.now) variants.now result.items }
+{
+    let mut places = ArrayVec::new();
+    for variant in variants {
+        places.push(variant_place(table, variant));
+    }
+    places
+}
+
+/// The entry at a place.
+#[tactic(auto, using(std::proofs::lemmas::Option::gets))]
+fn entry_at<'a, L: Lookup>(table: &'a L, place: usize) -> Option<&'a Entry>
+    ensures { option_copied result ≡ slice_get (L.listed table.now) place }
+{
+    table.entries().get(place)
+}
+
+/// The language that a variant, whose entry stands at a place, turns into beside a language.
+fn turn_at<'a, L: Lookup>(
+    table: &'a L,
+    place: usize,
+    language: &Subtag,
+    _variant: &Subtag,
+) -> Option<&'a Subtag>
+    requires { slice_get (L.listed table.now) place ≡ entry (L.listed table.now) kinds.Variant _variant.now }
+    ensures value { option_copied result ≡ (values_of (L.listed table.now)).turn language.now _variant.now }
+    ensures form { IfSome result (λ value. is_language value.now ≡ true) }
+{
+    match entry_at(table, place) {
+        Some(entry) => match one_value(entry) {
+            Some(value) if is_short(value) && entry.has_prefix(language) => Some(value),
+            _ => None,
+        },
+        None => None,
+    }
+}
+
+/// The leftmost variant that turns beside the language, by the places of their entries: its index, and what
+/// it turns into.
+pub(crate) fn first_turn_at<L: Lookup>(
+    table: &L,
+    places: &[usize],
+    core: &Core,
+) -> Option<(usize, Subtag)>
+    requires { ArePlaces (L.listed table.now) core.now.variants places.now }
+    ensures turn { MatchOption result
+        (HasNoTurn (values_of (L.listed table.now)) core.now)
+        (λ turn. IsFirstTurn (values_of (L.listed table.now)) core.now turn.0 turn.1) }
+    ensures form { IfSome result (λ turn. is_language turn.1 ≡ true) }
+{
+    for (index, variant) in core.variants().iter().enumerate() {
+        if let Some(language) = turn_at(table, places[index], core.language(), variant) {
+            return Some((index, language.copy()));
+        }
+    }
+    None
+}
