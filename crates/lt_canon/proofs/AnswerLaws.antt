@@ -1,7 +1,7 @@
 -- Canonical forms are their own, equal texts tell equivalent tags, and the extlang form goes back to the canonical one.
-use Rattle.std.proofs.Common.{◌≡◌, ℕ, ◌≤◌, Bool, true, false, ◌↔◌, IsTrue, List, [], ◌∷◌, Option, Some, None, refl, sym, ap, ◌∙◌, subst, length, bytes_eq, cond}
+use Rattle.std.proofs.Common.{◌≡◌, ℕ, ◌≤◌, Bool, true, false, ◌↔◌, IsTrue, List, [], ◌∷◌, Option, Some, None, refl, sym, ap, ◌∙◌, subst, length, cond}
 use Rattle.std.specs.Prelude.{is_some}
-use Rattle.std.proofs.lemmas.Slice.Eq.{bytes_eq-Decides}
+use Rattle.std.specs.Ordering.{eq_by_cmp}
 use Rattle.std.proofs.lemmas.Bool.{leb-true}
 use Rattle.lt_subtag.specs.Shapes.{is_language, is_extlang}
 use Rattle.lt_tag.specs.Parts.{CoreParts, ExtensionParts, TagForm, LangTag, PrivateUse, Grandfathered}
@@ -9,6 +9,8 @@ use Rattle.lt_tag.specs.Spelling.{spell_core}
 use Rattle.lt_tag.specs.Values.{core_of, extensions_of, private_of}
 use Rattle.lt_tag.specs.WellFormed.{spell, IsTag, IsNotGrandfathered}
 use Rattle.lt_tag.specs.Conventional.{conventional}
+use Rattle.lt_tag.specs.Order.{tag_cmp}
+use Rattle.lt_tag.specs.OrderLaws.{same_exactly, tag_total, tags_apart}
 use Rattle.lt_tag.specs.Faults.{longest_text, HasTag}
 use Rattle.lt_tag.proofs.OneTagLemmas.{one_tag_of_text, read_again, same_text}
 use Rattle.lt_registry.specs.Parts.{EntryParts}
@@ -58,11 +60,9 @@ text_equality R E t u c d h k = (
 )
 
 -- what comparing the texts of canonical forms tells
-pub equivalence_answer : (R : List EntryParts) → EquivalenceIsEquality R → (t u c d : TagForm) (a b : List ℕ) (answer : Bool) → IsCanonicalFormOf R t c → IsCanonicalFormOf R u d → a ≡ text_of c → b ≡ text_of d → answer ≡ bytes_eq a b → IsEquivalenceAnswer R t u answer
-equivalence_answer R E t u c d a b answer h k e f g =
-    let D = bytes_eq-Decides a b in
-    let to : IsTrue answer → text_of c ≡ text_of d = λ x. sym e ∙ D.0 (sym g ∙ x) ∙ f in
-    let from : text_of c ≡ text_of d → IsTrue answer = λ x. g ∙ D.1 (e ∙ x ∙ sym f) in
+pub equivalence_answer : (R : List EntryParts) → EquivalenceIsEquality R → (t u c d : TagForm) (answer : Bool) → IsCanonicalFormOf R t c → IsCanonicalFormOf R u d → answer ≡ eq_by_cmp tag_cmp c d → IsEquivalenceAnswer R t u answer
+equivalence_answer R E t u c d answer h k e =
+    let same : IsTrue answer ↔ (c ≡ d) = same_exactly tag_total tags_apart c d answer e in
     let S = same_form_text R t u c d h k in
     let T = text_equality R E t u c d h k in
     record {
@@ -70,9 +70,9 @@ equivalence_answer R E t u c d a b answer h k e f g =
       second = d;
       first_form = h;
       second_form = k;
-      equivalent = ((λ x. T.1 (to x)), (λ x. from (T.0 x)));
-      equal = ((λ x. S.0 (to x)), (λ x. from (S.1 x)));
-      equal_texts = (to, from);
+      equivalent = ((λ x. T.1 (S.1 (same.0 x))), (λ x. same.1 (S.0 (T.0 x))));
+      equal = same;
+      equal_texts = ((λ x. S.1 (same.0 x)), (λ x. same.1 (S.0 x)));
     }
 
 module _ (R : List EntryParts) (C : IsChecked R) where

@@ -1,12 +1,7 @@
 -- Traces one step after another.
-use Rattle.std.proofs.Common.{◌≡◌, ◌≢◌, ℕ, ◌+◌, ◌<◌, Bool, true, false, List, [], ◌∷◌, ◌++◌, refl, sym, ap, ◌∙◌, subst, length, take, drop, get_or, bytes_eq, arith}
-use Rattle.std.specs.Prelude.{MatchBool}
+use Rattle.std.proofs.Common.{◌≡◌, ◌≢◌, ℕ, ◌+◌, ◌<◌, List, [], ◌∷◌, ◌++◌, refl, sym, ap, ◌∙◌, subst, length, take, drop, get_or, arith}
 use Rattle.std.proofs.lemmas.List.{take_more, drop_more, take-append-drop, length-take-le}
-use Rattle.std.proofs.lemmas.Slice.Eq.{bytes_eq-Decides}
 use Rattle.lt_tag.specs.Parts.{TagForm}
-use Rattle.lt_tag.specs.WellFormed.{spell, IsTag}
-use Rattle.lt_tag.specs.Conventional.{conventional}
-use Rattle.lt_tag.proofs.OneTagLemmas.{same_text}
 use Rattle.lt_registry.specs.Parts.{EntryParts}
 use Rattle.lt_registry.specs.Validity.{IsValid}
 use Rattle.lt_registry.specs.Faults.{IsRefusal}
@@ -54,11 +49,6 @@ misstep_ends R t end steps n m h =
 pub invalid_trace : (R : List EntryParts) (t end : TagForm) (steps : List Step) (refused : ValidRefusal) → IsRefusal R t refused → IsTraceFault R t steps end (of_invalid refused)
 invalid_trace R t end steps (checks.Fault fault) h = h
 invalid_trace R t end steps checks.OutOfMemory h = tt
-
--- what comparing the texts of two tags tells
-pub same_answer : (t u : TagForm) (a b : List ℕ) (answer : Bool) → IsTag t → IsTag u → a ≡ conventional (spell t) → b ≡ conventional (spell u) → answer ≡ bytes_eq a b → MatchBool answer (t ≡ u) (t ≢ u)
-same_answer t u a b true p q e f g = (same_text t u p q).0 (sym e ∙ (bytes_eq-Decides a b).0 (sym g) ∙ f)
-same_answer t u a b false p q e f g = λ same. let k : bytes_eq a b ≡ true = (bytes_eq-Decides a b).1 (e ∙ ap (λ x. conventional (spell x)) same ∙ sym f) in cc
 
 -- the step at an index does not lead on
 pub misstep_here : (R : List EntryParts) (t : TagForm) (steps : List Step) (i : ℕ) (default : Step) (here : TagForm) (fault : ApplyFault) → i < length steps → IsTrace R t (take i steps) here → IsApplyFault R here (get_or steps i default) fault → fault ≡ apply_faults.NoSuchStep → IsMisstep R t steps (i + 1)

@@ -7,11 +7,11 @@ use crate::laws::confluence;
 use crate::refusals::Refusal;
 use lt_check::Checked;
 use lt_registry::Lookup;
-use lt_tag::{Tag, write_tag};
+use lt_tag::Tag;
 use std::alloc::Global;
 
 /// Whether steps, forth and back, lead from one tag to another: exactly where their canonical forms
-/// have one text. A refusal is the one of `canonical` for the first tag, else for the second.
+/// are equal. A refusal is the one of `canonical` for the first tag, else for the second.
 pub fn equivalent<L: Lookup>(
     alloc: Global,
     checked: &Checked<L>,
@@ -24,7 +24,5 @@ pub fn equivalent<L: Lookup>(
     confluence(checked);
     let first_form = canonical(alloc, checked, first)?;
     let second_form = canonical(alloc, checked, second)?;
-    let first_text = write_tag(alloc, &first_form)?;
-    let second_text = write_tag(alloc, &second_form)?;
-    Ok(first_text.as_slice() == second_text.as_slice())
+    Ok(first_form == second_form)
 }

@@ -1,5 +1,5 @@
 //! Traces: the steps that lead from a tag to another (RFC 5646, 4.5).
-ghost use Rattle.std.specs.Prelude.{◌≡◌, ◌≢◌, IfOk, IfErr, OnOk, MatchBool};
+ghost use Rattle.std.specs.Prelude.{◌≡◌, ◌≢◌, IfOk, IfErr, OnOk};
 ghost use Rattle.lt_registry.specs.Validity.{IsProper};
 ghost use Rattle.lt_rewrite.specs.TagSteps.{AreEquivalent};
 ghost use Rattle.lt_rewrite.specs.Labels.{IsTrace};
@@ -9,12 +9,12 @@ use crate::laws::{traces_have_one_end, traces_reach_their_end};
 use lt_check::Checked;
 use lt_registry::{Lookup, ValidFault, ValidRefusal, validate};
 use lt_rewrite::{ApplyFault, Step, apply};
-use lt_tag::{OutOfMemory, Tag, write_tag};
+use lt_tag::{OutOfMemory, Tag};
 use std::alloc::Global;
 use thiserror::Error;
 
 /// Steps one after another, and the tag to which they lead.
-#[derive(Debug, Drop)]
+#[derive(Debug, Drop, PartialEq, Eq)]
 pub struct Trace {
     pub steps: Vec<Step>,
     pub last: Tag,
@@ -70,16 +70,6 @@ impl From<OutOfMemory> for TraceFault {
     }
 }
 
-/// Whether two tags are the same: whether they have one text.
-fn is_same(alloc: Global, tag: &Tag, other: &Tag) -> Result<bool, OutOfMemory>
-    ensures { IfOk result (λ same. MatchBool same (tag.now ≡ other.now) (tag.now ≢ other.now)) }
-{
-    let (_, _) = (tag.extensions(), other.extensions());
-    let text = write_tag(alloc, tag)?;
-    let other_text = write_tag(alloc, other)?;
-    Ok(text.as_slice() == other_text.as_slice())
-}
-
 /// The tag to which steps lead one after another.
 fn follow<L: Lookup>(alloc: Global, table: &L, tag: &Tag, steps: &[Step]) -> Result<Tag, TraceFault>
     requires { IsProper (L.listed table.now) tag.now }
@@ -122,7 +112,7 @@ pub fn verify<L: Lookup>(
     validate(alloc, table, tag)?;
     let _ = tag.extensions();
     let end = follow(alloc, table, tag, &trace.steps)?;
-    if is_same(alloc, &end, &trace.last)? {
+    if end == trace.last {
         Ok(())
     } else {
         Err(TraceFault::WrongEnd)

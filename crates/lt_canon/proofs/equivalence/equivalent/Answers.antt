@@ -1,4 +1,4 @@
-use Rattle.std.proofs.Common.{inl, inr, ◌∙◌}
+use Rattle.std.proofs.Common.{inl, inr}
 use Rattle.std.proofs.lemmas.Result.{err_from_is_err_and}
 use Rattle.lt_canon.proofs.AnswerLaws.{equivalence_answer}
 use Rattle.lt_canon.proofs.Refused.{refused}
@@ -23,5 +23,4 @@ returns-in_err-second_form-clause-refusal g c =
 pub returns-clause-answer : goal.returns-clause-answer
 returns-clause-answer g c =
     equivalence_answer (g.L.Lookup.listed c.args.checked.now) c.confluence.ensures.equality c.args.first.now c.args.second.now c.in_ok-first_form.first_form c.in_ok-second_form.second_form
-    c.as_slice.result.now c.as_slice-2.result.now c.eq.result (c.in_ok-first_form.ensures {u = tt}).ok (c.in_ok-second_form.ensures {u = tt}).ok
-    (c.as_slice.ensures.value ∙ c.in_ok-first_text.ensures {u = tt}) (c.as_slice-2.ensures.value ∙ c.in_ok-second_text.ensures {u = tt}) c.eq.ensures
+    c.eq.result (c.in_ok-first_form.ensures {u = tt}).ok (c.in_ok-second_form.ensures {u = tt}).ok c.eq.ensures

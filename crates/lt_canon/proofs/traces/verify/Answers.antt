@@ -1,6 +1,6 @@
-use Rattle.std.proofs.Common.{◌≡◌, ◌≢◌, sym, subst}
-use Rattle.std.specs.Prelude.{MatchBool}
+use Rattle.std.proofs.Common.{◌≡◌, sym, ◌∙◌, subst, true≢false}
 use Rattle.std.proofs.lemmas.Result.{err_from_is_err_and}
+use Rattle.lt_tag.specs.OrderLaws.{same_exactly, tag_total, tags_apart}
 use Rattle.lt_registry.specs.Validity.{IsValid}
 use Rattle.lt_registry.proofs.ValidityLaws.{valid_law}
 use Rattle.lt_rewrite.specs.Labels.{IsTrace}
@@ -49,7 +49,7 @@ returns-then-branch-clause-ok g c =
     let R = g.L.Lookup.listed c.table-table.result.now in
     let t = c.args.tag.now in
     let end = c.args.trace.now.last in
-    let same = subst (λ b. MatchBool b (c.in_ok-end.end ≡ end) (c.in_ok-end.end ≢ end)) c.if-branch.true (c.in_ok-is_same.ensures {u = tt}) in
+    let same : c.in_ok-end.end ≡ end = (same_exactly tag_total tags_apart c.in_ok-end.end end c.eq.result c.eq.ensures).0 c.if-branch.true in
     let at : IsValidTrace R t c.args.trace.now.steps.items end = record {
       valid = (valid_law R t c.extensions.ensures.tag).1 (c.in_ok-validate.ensures {u = tt}).ok;
       trace = subst (IsTrace R t c.args.trace.now.steps.items) same (subst (λ xs. IsTrace R t xs c.in_ok-end.end) c.deref.ensures.value (c.in_ok-end.ensures {u = tt}).ok);
@@ -64,7 +64,7 @@ returns-clause-err g c =
     let elsewhere : EndsElsewhere R t c.args.trace.now.steps.items end = record {
       tag = c.in_ok-end.end;
       led = subst (λ xs. IsTrace R t xs c.in_ok-end.end) c.deref.ensures.value (c.in_ok-end.ensures {u = tt}).ok;
-      other = subst (λ b. MatchBool b (c.in_ok-end.end ≡ end) (c.in_ok-end.end ≢ end)) c.if-branch.false (c.in_ok-is_same.ensures {u = tt});
+      other = λ same. true≢false (sym ((same_exactly tag_total tags_apart c.in_ok-end.end end c.eq.result c.eq.ensures).1 same) ∙ c.if-branch.false);
     } in
     subst (λ l. IsValid (g.L.Lookup.listed l) t × EndsElsewhere (g.L.Lookup.listed l) t c.args.trace.now.steps.items end) c.table-table.ensures.value
     ((valid_law R t c.extensions.ensures.tag).1 (c.in_ok-validate.ensures {u = tt}).ok, elsewhere)
