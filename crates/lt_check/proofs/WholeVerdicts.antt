@@ -2,20 +2,20 @@
 use Rattle.std.proofs.Common.{◌≡◌, ◌≢◌, ◌↔◌, inl, inr, Bool, true, false, not, IsTrue, IfOk, Bor, is_some, List, [], ◌∷◌, ◌++◌, Option, Some, None, Result, Ok, Err, is_ok, is_none, OnOk, IfErr, refl, sym, ap, ◌∙◌, subst}
 use Rattle.std.specs.Bool.{Decides}
 use Rattle.std.specs.Option.{option_copied}
-use Rattle.std.proofs.lemmas.Bool.Decides.{Decides-at}
+use Rattle.std.specs.Ordering.{eq_by_cmp}
+use Rattle.lt_tag.specs.Order.{core_cmp}
+use Rattle.lt_tag.specs.OrderLaws.{core_total, cores_apart, same_exactly}
 use Rattle.lt_tag.specs.Parts.{CoreParts, ExtensionParts, TagForm}
 use Rattle.lt_tag.specs.Values.{IsTagValue, extensions_of}
 use Rattle.lt_registry.specs.Parts.{EntryParts}
 use Rattle.lt_registry.specs.Entries.{tag_of, whole_value, IsRegistry}
 use Rattle.lt_registry.specs.Faults.{HasNoFault, HasTransform, IsRefusal}
-use Rattle.lt_registry.specs.Same.{same_core}
 use Rattle.lt_registry.specs.Validity.{Distinct}
 use Rattle.lt_registry.specs.declared.entries.EntryName.TheVariants as names
 use Rattle.lt_registry.specs.declared.faults.ValidRefusal.{ValidRefusal}
 use Rattle.lt_registry.specs.declared.faults.ValidRefusal.TheVariants as refusals
 use Rattle.lt_registry.proofs.ValidityLaws.{valid_law}
 use Rattle.lt_rewrite.specs.CoreSteps.{values_of, IsCoreNormalForm}
-use Rattle.lt_rewrite.proofs.Same.{same_core-Decides}
 use Rattle.lt_check.specs.Conditions.{plain, IsValidPlain, HasValidWhole, HasAgreeingWhole}
 use Rattle.lt_check.specs.WholeChecks.{MeetsBelow, HasNoValue, ComesToRest, ComesTo, ComeTogether}
 use Rattle.lt_check.proofs.CheckedRegistry.{no_value}
@@ -52,10 +52,10 @@ none_copied None false e = cc
 none_copied (Some a) true e = cc
 none_copied (Some a) false e = refl
 
-pub same_verdict : (c d : CoreParts) (b : Bool) → b ≡ same_core c d → Decides b (c ≡ d)
-same_verdict c d b e = Decides-at b (same_core c d) e (same_core-Decides c d)
+pub same_verdict : (c d : CoreParts) (b : Bool) → b ≡ eq_by_cmp core_cmp c d → Decides b (c ≡ d)
+same_verdict = same_exactly core_total cores_apart
 
-pub differ : (c d : CoreParts) (b : Bool) → b ≡ same_core c d → b ≡ false → c ≢ d
+pub differ : (c d : CoreParts) (b : Bool) → b ≡ eq_by_cmp core_cmp c d → b ≡ false → c ≢ d
 differ c d b e f k = let t : b ≡ true = (same_verdict c d b e).1 k in cc
 
 -- a core that is its own core normal form

@@ -4,12 +4,12 @@
 mod checked;
 mod checking;
 mod conditions;
-mod cores;
 mod grandfathered_checks;
 mod name_checks;
 mod range_names;
 mod record_checks;
 mod rejections;
+mod variants;
 mod whole_checks;
 
 pub use checked::Checked;

@@ -14,7 +14,7 @@ ghost use Rattle.lt_check.specs.Conditions.{plain, OfWhole, IsValidPlain, Meets}
 ghost use Rattle.lt_check.specs.WholeChecks.{MeetsBelow, ComesToRest, ComeTogether};
 ghost use Rattle.lt_check.specs.declared.conditions.Condition.TheVariants as conditions;
 
-use crate::cores::{are_distinct, same_core};
+use crate::variants::are_distinct;
 use lt_registry::{Entry, Kind, Lookup, validate};
 use lt_rewrite::Shortcuts;
 use lt_rewrite::values::{tag_and_value, whole_value};
@@ -166,15 +166,15 @@ fn come_together<L: Lookup>(
     ensures { IfOk result (λ together. IsTrue together ↔ ComeTogether (L.listed table.now) first.now second.now) }
 {
     let form = settled(alloc, table, shortcuts, first)?;
-    if same_core(&form, first) {
+    if form == *first {
         return Ok(true);
     }
     let end = settled(alloc, table, shortcuts, second)?;
-    if same_core(&form, &end) {
+    if form == end {
         return Ok(true);
     }
     match plain_value_of(alloc, table, form) {
-        Some(next) => Ok(same_core(&settled(alloc, table, shortcuts, next)?, &end)),
+        Some(next) => Ok(settled(alloc, table, shortcuts, next)? == end),
         None => Ok(false),
     }
 }
