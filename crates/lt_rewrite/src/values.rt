@@ -1,13 +1,12 @@
-//! What the entries of a table give as values, and which Prefixes they name.
-ghost use Rattle.std.specs.Prelude.{◌≡◌, [], ◌∷◌, Some, true, is_some, IfSome, MatchOption};
+//! What the entries of a table give as values.
+ghost use Rattle.std.specs.Prelude.{◌≡◌, Some, true, is_some, IfSome, MatchOption};
 ghost use Rattle.std.specs.Option.{option_copied};
 ghost use Rattle.lt_tag.specs.Parts.{TagForm};
 ghost use Rattle.lt_registry.specs.Entries as entries;
 ghost use Rattle.lt_registry.specs.Entries.{one_of, tag_of, language_value, has_value_form};
-ghost use Rattle.lt_registry.specs.Same.{same_list};
 ghost use Rattle.lt_registry.specs.declared.entries.EntryName.TheVariants as names;
 
-use lt_registry::{Entry, EntryName, EntryValue, Kind, Lookup, Prefix};
+use lt_registry::{Entry, EntryName, EntryValue, Kind, Lookup};
 use lt_subtag::Subtag;
 use lt_tag::Tag;
 
@@ -90,23 +89,4 @@ pub fn has_language_value<L: Lookup>(table: &L, variant: &Subtag) -> bool
         },
         None => false,
     }
-}
-
-/// Whether a Prefix is the language alone.
-fn is_language_alone(prefix: &Prefix, language: &Subtag) -> bool
-    ensures { result ≡ same_list prefix.now (language.now ∷ []) }
-{
-    match prefix.subtags() {
-        [only] => only == language,
-        _ => false,
-    }
-}
-
-/// Whether the language alone is among Prefixes.
-pub fn lists(prefixes: &[Prefix], language: &Subtag) -> bool
-    ensures { result ≡ entries.lists prefixes.now language.now }
-{
-    prefixes
-        .iter()
-        .any(|prefix| is_language_alone(prefix, language))
 }
