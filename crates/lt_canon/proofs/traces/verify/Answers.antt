@@ -5,6 +5,7 @@ use Rattle.lt_registry.specs.Validity.{IsValid}
 use Rattle.lt_registry.proofs.ValidityLaws.{valid_law}
 use Rattle.lt_rewrite.specs.Labels.{IsTrace}
 use Rattle.lt_canon.specs.Traces.{IsValidTrace, EndsElsewhere, IsTraceFault}
+use Rattle.lt_canon.specs.declared.traces.TraceFault.TheVariants as faults
 use Rattle.lt_canon.proofs.Tracing.{invalid_trace, follow_fault, fault_excludes}
 use Rattle.lt_canon.proofs.traces.verify.Goals as goal
 
@@ -44,17 +45,21 @@ returns-in_err-end-clause-exact g c =
     rw p.1 (fault_excludes (g.L.Lookup.listed c.args.checked.now) t end c.args.trace.now.steps.items p.0
     (subst (λ xs. IsTraceFault (g.L.Lookup.listed c.args.checked.now) t xs end p.0) c.deref.ensures.value (subst (λ l. IsTraceFault (g.L.Lookup.listed l) t steps end p.0) c.table-table.ensures.value told)))
 
-pub returns-then-branch-clause-ok : goal.returns-then-branch-clause-ok
-returns-then-branch-clause-ok g c =
+pub returns-then-eq-clause-ok : goal.returns-then-eq-clause-ok
+returns-then-eq-clause-ok g c =
     let R = g.L.Lookup.listed c.table-table.result.now in
     let t = c.args.tag.now in
     let end = c.args.trace.now.last in
-    let same : c.in_ok-end.end ≡ end = (same_exactly tag_total tags_apart c.in_ok-end.end end c.eq.result c.eq.ensures).0 c.if-branch.true in
+    let same : c.in_ok-end.end ≡ end = (same_exactly tag_total tags_apart c.in_ok-end.end end c.eq.result c.eq.ensures).0 c.if-eq.true in
     let at : IsValidTrace R t c.args.trace.now.steps.items end = record {
       valid = (valid_law R t c.extensions.ensures.tag).1 (c.in_ok-validate.ensures {u = tt}).ok;
       trace = subst (IsTrace R t c.args.trace.now.steps.items) same (subst (λ xs. IsTrace R t xs c.in_ok-end.end) c.deref.ensures.value (c.in_ok-end.ensures {u = tt}).ok);
     } in
     subst (λ l. IsValidTrace (g.L.Lookup.listed l) t c.args.trace.now.steps.items end) c.table-table.ensures.value at
+
+pub returns-then-eq-clause-equivalent : goal.returns-then-eq-clause-equivalent
+returns-then-eq-clause-equivalent g c =
+    (c.traces_reach_their_end.ensures (g.L.Lookup.listed c.args.checked.now) c.args.tag.now c.args.trace.now.last c.args.trace.now.steps.items (returns-then-eq-clause-ok g c).trace).1
 
 pub returns-clause-err : goal.returns-clause-err
 returns-clause-err g c =
@@ -64,7 +69,11 @@ returns-clause-err g c =
     let elsewhere : EndsElsewhere R t c.args.trace.now.steps.items end = record {
       tag = c.in_ok-end.end;
       led = subst (λ xs. IsTrace R t xs c.in_ok-end.end) c.deref.ensures.value (c.in_ok-end.ensures {u = tt}).ok;
-      other = λ same. true≢false (sym ((same_exactly tag_total tags_apart c.in_ok-end.end end c.eq.result c.eq.ensures).1 same) ∙ c.if-branch.false);
+      other = λ same. true≢false (sym ((same_exactly tag_total tags_apart c.in_ok-end.end end c.eq.result c.eq.ensures).1 same) ∙ c.if-eq.false);
     } in
     subst (λ l. IsValid (g.L.Lookup.listed l) t × EndsElsewhere (g.L.Lookup.listed l) t c.args.trace.now.steps.items end) c.table-table.ensures.value
     ((valid_law R t c.extensions.ensures.tag).1 (c.in_ok-validate.ensures {u = tt}).ok, elsewhere)
+
+pub returns-clause-exact : goal.returns-clause-exact
+returns-clause-exact g c =
+    fault_excludes (g.L.Lookup.listed c.args.checked.now) c.args.tag.now c.args.trace.now.last c.args.trace.now.steps.items faults.WrongEnd (returns-clause-err g c)
