@@ -20,9 +20,8 @@ from pathlib import Path
 
 ROOT = Path(__file__).resolve().parent.parent
 
-# A public call and its clauses; `invariant` is that of a type. README's table names the same.
+# A public call and its clauses. README's table names the same.
 HEADLINE = [
-    ("Checked", ["invariant"]),
     ("new", ["value", "passes", "cause"], "Checked"),
     ("canonical", ["ok", "repeats"]),
     ("canonical_text", ["written"]),
@@ -349,14 +348,7 @@ class Tree:
         self.reach(spec.items.get(name) or spec.owners.get(name), spec)
 
     def clauses(self, call, names, owner=None):
-        """The clauses of a public function, or the invariant of a type, as items."""
-        if names == ["invariant"]:
-            for sources in self.sources.values():
-                for source in sources:
-                    if call in source.models:
-                        self.reach(source.models[call], source)
-                        return
-            raise SystemExit(f"no type {call} with an invariant")
+        """The clauses of a public function, as items."""
         for sources in self.sources.values():
             for source in sources:
                 for item in source.functions.get(call, []):
