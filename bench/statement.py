@@ -22,7 +22,7 @@ ROOT = Path(__file__).resolve().parent.parent
 
 # A public call and its clauses. README's table names the same.
 HEADLINE = [
-    ("new", ["value", "passes", "cause"], "Checked"),
+    ("new", ["value", "passes", "rejects"], "Checked"),
     ("canonical", ["ok", "repeats"]),
     ("canonical_text", ["written"]),
     ("confluence", ["canonical", "text_twice", "equal_texts"]),

@@ -18,7 +18,6 @@ use Rattle.lt_rewrite.proofs.CoreLaws.{normal_core, cores_formed as normal_cores
 use Rattle.lt_rewrite.proofs.PartLists.{empty_middle, step_some}
 use Rattle.lt_rewrite.proofs.ExtensionLaws.{normal_extension, normal_extensions, extensions_formed}
 use Rattle.lt_check.specs.Conditions.{plain, HasRestingWhole, HasAgreeingWhole, IsChecked}
-use Rattle.lt_check.specs.declared.conditions.Condition.TheVariants as conditions
 use Rattle.lt_canon.proofs.EndForms.{IsEndForm}
 use Rattle.lt_check.proofs.Checks.{core_conditions}
 use Rattle.lt_check.proofs.CheckedRegistry.{valued_whole, whole_has, no_value, value_plain}
@@ -101,7 +100,7 @@ module _ (R : List EntryParts) (C : IsChecked R) where
   pub resting : (t : TagForm) (c : CoreParts) → whole_value R t ≡ Some (plain c) → Distinct (core_end c).variants × All (λ (f : EntryParts). f.name ≡ names.Whole (plain (core_end c)) → tag_of f.value ≡ None) R
   resting t c e =
       let w = valued_whole R t (plain c) e in
-      whole_has R t (plain c) (HasRestingWhole R) (C.passes conditions.RestingWhole) w t (plain c) w.named w.gives c (core_end c) refl (core_normal c)
+      whole_has R t (plain c) (HasRestingWhole R) (C.passes.resting_whole) w t (plain c) w.named w.gives c (core_end c) refl (core_normal c)
 
   -- the end of a value is its core normal form
   pub value_rests : (t : TagForm) (c : CoreParts) → whole_value R t ≡ Some (plain c) → whole_value R (plain (core_end c)) ≡ None
@@ -117,7 +116,7 @@ module _ (R : List EntryParts) (C : IsChecked R) where
       agree : core_end c ≢ c → (core_end c ≡ core_end q) ⊎ ((r : CoreParts) × (whole_value R (plain (core_end c)) ≡ Some (plain r)) × IsCoreNormalForm (values_of R) r (core_end q))
       agree n =
           let w = valued_whole R (plain c) (plain q) e in
-          whole_has R (plain c) (plain q) (HasAgreeingWhole R) (C.passes conditions.AgreeingWhole) w (plain c) (plain q) w.named w.gives c (core_end c) q (core_end q) refl refl (core_normal c) n (core_normal q)
+          whole_has R (plain c) (plain q) (HasAgreeingWhole R) (C.passes.agreeing_whole) w (plain c) (plain q) w.named w.gives c (core_end c) q (core_end q) refl refl (core_normal c) n (core_normal q)
 
       then_by : (core_end c ≡ core_end q) ⊎ ((r : CoreParts) × (whole_value R (plain (core_end c)) ≡ Some (plain r)) × IsCoreNormalForm (values_of R) r (core_end q)) → whole_end (plain (core_end c)) ≡ plain (core_end q)
       then_by (inl s) = ap (λ d. whole_end (plain d)) s ∙ whole_end_none (plain (core_end q)) (value_rests (plain c) q e)

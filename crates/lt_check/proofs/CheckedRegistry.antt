@@ -12,10 +12,9 @@ use Rattle.lt_rewrite.specs.Conditions.{FitsGrandfathered}
 use Rattle.lt_rewrite.proofs.Entries.{find_has}
 use Rattle.lt_rewrite.proofs.Same.{same_tag_is}
 use Rattle.lt_check.specs.Conditions.{IsValidPlain, HasValidWhole, IsChecked}
-use Rattle.lt_check.specs.declared.conditions.Condition.TheVariants as conditions
 
 pub grandfathered_fit : (R : List EntryParts) → IsChecked R → All (FitsGrandfathered R) R
-grandfathered_fit R C = C.passes conditions.FittingGrandfathered
+grandfathered_fit R C = C.passes.fitting_grandfathered
 
 -- the whole record behind a value
 pub record ValuedWhole (R : List EntryParts) (t u : TagForm) : Type 0 where
@@ -70,7 +69,7 @@ module _ (R : List EntryParts) (C : IsChecked R) where
   pub value_plain : (t u : TagForm) → whole_value R t ≡ Some u → IsValidPlain R u
   value_plain t u e =
       let w = valued_whole R t u e in
-      (whole_has R t u (HasValidWhole R) (C.passes conditions.ValidWhole) w t u w.named w.gives).0
+      (whole_has R t u (HasValidWhole R) (C.passes.valid_whole) w t u w.named w.gives).0
 
   pub tag_plain : (t u : TagForm) → whole_value R t ≡ Some u → IsGrandfatheredTag t ⊎ IsValidPlain R t
   tag_plain t u e =
@@ -84,4 +83,4 @@ module _ (R : List EntryParts) (C : IsChecked R) where
           let g = (whole_has R t u (FitsGrandfathered R) (grandfathered_fit R C) w).named k in
           let same : names.Whole t ≡ names.Whole (Grandfathered g.0) = sym w.named ∙ g.1 in
           inl (record { number = g.0; is = cc })
-      by w (inr k) = inr ((whole_has R t u (HasValidWhole R) (C.passes conditions.ValidWhole) w t u w.named w.gives).1 k)
+      by w (inr k) = inr ((whole_has R t u (HasValidWhole R) (C.passes.valid_whole) w t u w.named w.gives).1 k)

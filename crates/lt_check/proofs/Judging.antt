@@ -116,8 +116,41 @@ one_more R k n r lower meets other m = by (below_or_not (rank_of other) n)
         subst (λ j. All (Meets j R) R) s meets
 
 -- nor after the last
-pub all_below : (R : List EntryParts) → MeetsBelow 13 R → Passes R
-all_below R h k = let b = (rank_bounds k).1 in h k (omega (arith, b))
+pub all_below : (R : List EntryParts) (n : ℕ) → 12 < n → MeetsBelow n R → Passes R
+all_below R n more h =
+    let each : (k : Condition) → All (Meets k R) R = λ k. let b = (rank_bounds k).1 in h k (omega (arith, b, more)) in
+    record {
+      own_name = each conditions.OwnName;
+      registered_value = each conditions.RegisteredValue;
+      ending_chain = each conditions.EndingChain;
+      fitting_extlang = each conditions.FittingExtlang;
+      fitting_variant_value = each conditions.FittingVariantValue;
+      final_prefixes = each conditions.FinalPrefixes;
+      langtag_prefixes = each conditions.LangtagPrefixes;
+      fitting_grandfathered = each conditions.FittingGrandfathered;
+      valid_whole = each conditions.ValidWhole;
+      resting_whole = each conditions.RestingWhole;
+      agreeing_whole = each conditions.AgreeingWhole;
+      no_range_value = each conditions.NoRangeValue;
+    }
+
+meets : (R : List EntryParts) → Passes R → (k : Condition) → All (Meets k R) R
+meets R P conditions.OwnName = P.own_name
+meets R P conditions.RegisteredValue = P.registered_value
+meets R P conditions.EndingChain = P.ending_chain
+meets R P conditions.FittingExtlang = P.fitting_extlang
+meets R P conditions.FittingVariantValue = P.fitting_variant_value
+meets R P conditions.FinalPrefixes = P.final_prefixes
+meets R P conditions.LangtagPrefixes = P.langtag_prefixes
+meets R P conditions.FittingGrandfathered = P.fitting_grandfathered
+meets R P conditions.ValidWhole = P.valid_whole
+meets R P conditions.RestingWhole = P.resting_whole
+meets R P conditions.AgreeingWhole = P.agreeing_whole
+meets R P conditions.NoRangeValue = P.no_range_value
+
+-- where a record is at fault the table doesn't pass
+pub none_that_passes : (R : List EntryParts) (k : Condition) (n : ℕ) → IsAtFault R k n → Passes R → ⊥
+none_that_passes R k n f P = f.fails (All-contains (Meets k R) R f.entry (meets R P k) f.there)
 
 pub finding_from : (R : List EntryParts) (k : Condition) (n : ℕ) → MeetsBelow (rank_of k) R → IsLowestFault R k (Some n) → IsFinding R k n
 finding_from R k n lower h = record { fault = h.fault; lower = lower; first = h.first }

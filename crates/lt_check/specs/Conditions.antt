@@ -73,9 +73,20 @@ rank_of conditions.RestingWhole = 10
 rank_of conditions.AgreeingWhole = 11
 rank_of conditions.NoRangeValue = 12
 
--- each record meets each condition
-abbrev pub Passes : List EntryParts → Type 0
-Passes R = (condition : Condition) → All (Meets condition R) R
+-- each record meets each of the twelve conditions, C1 to C12 (this project's own)
+pub record Passes (R : List EntryParts) : Type 0 where
+  pub own_name : All (HasOwnName R) R
+  pub registered_value : All (HasRegisteredValue R) R
+  pub ending_chain : All (HasEndingChain R) R
+  pub fitting_extlang : All (FitsAsExtlang R) R
+  pub fitting_variant_value : All (HasFittingVariantValue R) R
+  pub final_prefixes : All (StandsBesideFinalLanguages R) R
+  pub langtag_prefixes : All (HasLangtagPrefixes R) R
+  pub fitting_grandfathered : All (FitsGrandfathered R) R
+  pub valid_whole : All (HasValidWhole R) R
+  pub resting_whole : All (HasRestingWhole R) R
+  pub agreeing_whole : All (HasAgreeingWhole R) R
+  pub no_range_value : All HasNoRangeValue R
 
 -- the registry has its forms and passes the check
 pub record IsChecked (R : List EntryParts) : Type 0 where

@@ -2,7 +2,7 @@
 ghost use Rattle.std.specs.Prelude.{◌≡◌, IfOk, IfErr};
 ghost use Rattle.lt_rewrite.specs.Shortcuts.{AreShortcuts};
 ghost use Rattle.lt_check.specs.Conditions.{IsChecked, Passes};
-ghost use Rattle.lt_check.specs.Checking.{IsCause, IsFirstCause};
+ghost use Rattle.lt_check.specs.Checking.{IsCause, IsFirstCause, RejectsNoneThatPass};
 
 use crate::checking::find_fault;
 use crate::rejections::{Rejected, RejectedCause};
@@ -38,6 +38,7 @@ impl<L: Lookup> Checked<L> {
         ensures value { IfOk result (λ checked. checked ≡ table) }
         ensures passes { IfOk result (λ checked. Passes (L.listed table)) }
         ensures returned { IfErr result (λ rejected. rejected.table ≡ table) }
+        ensures rejects { IfErr result (λ rejected. RejectsNoneThatPass (L.listed table) rejected.cause) }
         ensures cause { IfErr result (λ rejected. IsCause (L.listed table) rejected.cause) }
         ensures first { IfErr result (λ rejected. IsFirstCause (L.listed table) rejected.cause) }
     {
@@ -48,12 +49,17 @@ impl<L: Lookup> Checked<L> {
                 cause: RejectedCause::OutOfMemory,
             });
         };
-        let cause = match find_fault(alloc, &table, &shortcuts) {
-            Ok(None) => return Ok(Checked { table, shortcuts }),
-            Ok(Some(finding)) => RejectedCause::Finding(finding),
-            Err(_) => RejectedCause::OutOfMemory,
-        };
-        Err(Rejected { table, cause })
+        match find_fault(alloc, &table, &shortcuts) {
+            Ok(None) => Ok(Checked { table, shortcuts }),
+            Ok(Some(finding)) => Err(Rejected {
+                table,
+                cause: RejectedCause::Finding(finding),
+            }),
+            Err(_) => Err(Rejected {
+                table,
+                cause: RejectedCause::OutOfMemory,
+            }),
+        }
     }
 
     /// The table.

@@ -17,7 +17,6 @@ use Rattle.lt_rewrite.proofs.Entries.{entry_of, ValuedEntry, valued, valued_has,
 use Rattle.lt_rewrite.proofs.Forms.{ExtlangEntry, extlang_entry, replacement_at}
 use Rattle.lt_check.specs.Conditions.{IsChecked}
 use Rattle.lt_upgrade.specs.Upgrade.{SameEnd, KeepsKind, KeepsEnds, IsSameExtlang, IsSameTurn, KeepsTurn, HadTurn, Upgrades}
-use Rattle.lt_check.specs.declared.conditions.Condition.TheVariants as conditions
 use Rattle.lt_upgrade.specs.declared.conditions.UpgradeCondition.TheVariants as upgrades
 use Rattle.lt_check.proofs.Checks.{core_conditions}
 use Rattle.lt_upgrade.proofs.UpgradeValid.{same_extlang}
@@ -34,7 +33,7 @@ has_name s (names.Whole t) h (inr e) = cc
 pub valued_single : (R : List EntryParts) → IsChecked R → (k : Kind) (s v : List ℕ) (n : ValuedEntry R k s v) → n.at.name ≡ names.Single s
 valued_single R C k s v n =
     has_name s n.at.name (λ a b e.
-    let no : HasNoRangeValue n.at = valued_has R k s v HasNoRangeValue (C.passes conditions.NoRangeValue) n in
+    let no : HasNoRangeValue n.at = valued_has R k s v HasNoRangeValue (C.passes.no_range_value) n in
     let x : one_of n.at.value ≡ None = ap one_of (no a b e) in
     let y = n.gives in cc)
     (entry_of R k s n.at n.found).names

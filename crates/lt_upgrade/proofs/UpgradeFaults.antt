@@ -11,7 +11,6 @@ use Rattle.lt_rewrite.specs.Conditions.{FitsAsExtlang}
 use Rattle.lt_check.specs.Conditions.{IsChecked}
 use Rattle.lt_upgrade.specs.Upgrade.{MeetsUpgrade, records_of, upgrade_rank_of, Upgrades, IsAtUpgradeFault, IsUpgradeFinding}
 use Rattle.lt_upgrade.specs.UpgradeChecking.{is_of_newer, IsFirstAtUpgradeFault, MeetsUpgradeBelow}
-use Rattle.lt_check.specs.declared.conditions.Condition.TheVariants as conditions
 use Rattle.lt_upgrade.specs.declared.conditions.UpgradeCondition.{UpgradeCondition}
 use Rattle.lt_upgrade.specs.declared.conditions.UpgradeCondition.TheVariants as upgrades
 use Rattle.lt_check.proofs.FirstFaults.{any_default, below_or_not, ordered_at, IsAt, contains_at}
@@ -80,7 +79,7 @@ answered_at A B e k j s r h = subst (λ c. IfOk r (λ b. IsTrue b ↔ MeetsUpgra
 -- an extlang of a registry that passes the check has one Prefix
 pub one_prefix : (A : List EntryParts) → IsChecked A → (e : EntryParts) → Contains A e → e.kind ≡ kinds.Extlang → length e.prefixes ≡ 1
 one_prefix A C e c k =
-    let fits : FitsAsExtlang A e = All-contains (FitsAsExtlang A) A e (C.passes conditions.FittingExtlang) c in
+    let fits : FitsAsExtlang A e = All-contains (FitsAsExtlang A) A e (C.passes.fitting_extlang) c in
     ap length (fits k).one_prefix
 
 -- ranks

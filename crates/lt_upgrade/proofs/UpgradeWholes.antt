@@ -16,7 +16,6 @@ use Rattle.lt_check.specs.Conditions.{IsValidPlain, HasValidWhole, IsChecked}
 use Rattle.lt_canon.specs.Equivalence.{IsEquivalenceAnswer, IsFirstRefusal}
 use Rattle.lt_canon.specs.Refusals.{IsRefusedWith}
 use Rattle.lt_upgrade.specs.Upgrade.{MeetInCanonical}
-use Rattle.lt_check.specs.declared.conditions.Condition.TheVariants as conditions
 use Rattle.lt_canon.specs.declared.refusals.Refusal.{Refusal}
 use Rattle.lt_canon.specs.declared.refusals.Refusal.TheVariants as refusals
 use Rattle.lt_check.proofs.CheckedRegistry.{grandfathered_fit}
@@ -64,7 +63,7 @@ module _ (R : List EntryParts) (C : IsChecked R) where
       form = All-contains IsEntry R e C.registry.forms c
 
       whole : IsValidPlain R u × (e.kind ≡ kinds.Redundant → IsValidPlain R t)
-      whole = All-contains (HasValidWhole R) R e (C.passes conditions.ValidWhole) c t u n o
+      whole = All-contains (HasValidWhole R) R e (C.passes.valid_whole) c t u n o
 
       named : e.kind ≡ kinds.Grandfathered → RepeatsNoVariant t
       named k =

@@ -4,13 +4,12 @@ use Rattle.lt_tag.specs.Parts.{LangTag}
 use Rattle.lt_registry.specs.Entries.{whole_value}
 use Rattle.lt_check.specs.Conditions.{plain}
 use Rattle.lt_canon.specs.Answers.{IsCanonicalFormOf}
-use Rattle.lt_check.specs.declared.conditions.Condition.TheVariants as conditions
 use Rattle.lt_check.proofs.CheckedRegistry.{value_plain}
 use Rattle.lt_canon.proofs.CanonicalForms.{core_refused, form_spells_none, core_value_canonical, core_canonical}
 use Rattle.lt_canon.proofs.canonical_tags.form_of_core.Goals as goal
 
 pub settled_core-requires-clause-chains : goal.settled_core-requires-clause-chains
-settled_core-requires-clause-chains g c = c.requires.checked.passes conditions.EndingChain
+settled_core-requires-clause-chains g c = c.requires.checked.passes.ending_chain
 
 pub returns-in_err-settled : goal.returns-in_err-settled
 returns-in_err-settled g c =

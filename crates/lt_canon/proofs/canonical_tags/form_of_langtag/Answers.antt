@@ -9,12 +9,11 @@ use Rattle.lt_rewrite.specs.Rewriting.{IsNormalForm}
 use Rattle.lt_rewrite.specs.Extensions.{ExtensionsStep}
 use Rattle.lt_canon.specs.Answers.{IsCanonicalFormOf}
 use Rattle.lt_canon.specs.Settled.{IsSecondInSources}
-use Rattle.lt_check.specs.declared.conditions.Condition.TheVariants as conditions
 use Rattle.lt_canon.proofs.CanonicalForms.{transforms_have_parts, core_refused, form_count, form_some, langtag_canonical, source_refused}
 use Rattle.lt_canon.proofs.canonical_tags.form_of_langtag.Goals as goal
 
 pub settled_core-requires-clause-chains : goal.settled_core-requires-clause-chains
-settled_core-requires-clause-chains g c = c.requires.checked.passes conditions.EndingChain
+settled_core-requires-clause-chains g c = c.requires.checked.passes.ending_chain
 
 pub returns-in_err-settled : goal.returns-in_err-settled
 returns-in_err-settled g c =
@@ -23,7 +22,7 @@ returns-in_err-settled g c =
     rw (p.1, p.2) (core_refused R c.requires.checked c.args.core.now c.args.extensions.now c.args.private.now c.in_err-settled.field-0.0 c.requires.valid (c.in_err-settled.ensures {u = tt}).refusal)
 
 pub settle_extensions-requires-clause-chains : goal.settle_extensions-requires-clause-chains
-settle_extensions-requires-clause-chains g c = c.requires.checked.passes conditions.EndingChain
+settle_extensions-requires-clause-chains g c = c.requires.checked.passes.ending_chain
 
 pub settle_extensions-requires-clause-transforms :
     goal.settle_extensions-requires-clause-transforms

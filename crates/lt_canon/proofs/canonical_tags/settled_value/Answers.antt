@@ -2,12 +2,11 @@ use Rattle.std.proofs.Common.{◌≡◌, inl, [], sym, subst}
 use Rattle.lt_registry.specs.Validity.{IsProper}
 use Rattle.lt_rewrite.specs.CoreSteps.{values_of, IsCoreNormalForm}
 use Rattle.lt_check.specs.Conditions.{plain}
-use Rattle.lt_check.specs.declared.conditions.Condition.TheVariants as conditions
 use Rattle.lt_canon.proofs.CanonicalForms.{plain_of_core, form_spells_none}
 use Rattle.lt_canon.proofs.canonical_tags.settled_value.Goals as goal
 
 pub settle_core-requires-clause-chains : goal.settle_core-requires-clause-chains
-settle_core-requires-clause-chains g c = c.requires.checked.passes conditions.EndingChain
+settle_core-requires-clause-chains g c = c.requires.checked.passes.ending_chain
 
 pub from_parts-requires-clause-not_grandfathered :
     goal.from_parts-requires-clause-not_grandfathered

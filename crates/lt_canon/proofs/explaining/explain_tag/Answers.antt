@@ -11,7 +11,6 @@ use Rattle.lt_rewrite.specs.declared.steps.Step.{Step}
 use Rattle.lt_rewrite.proofs.StepLaws.{fits, few_subtags}
 use Rattle.lt_check.specs.Conditions.{plain}
 use Rattle.lt_canon.specs.Explaining.{LeadsToRest}
-use Rattle.lt_check.specs.declared.conditions.Condition.TheVariants as conditions
 use Rattle.lt_rewrite.proofs.ProperTags.{proper_parts}
 use Rattle.lt_canon.proofs.TagProper.{core_spells_none}
 use Rattle.lt_canon.proofs.CanonicalForms.{none_of_test, nothing_of_test}
@@ -26,7 +25,7 @@ returns-then-is_none g c =
     (none_of_test c.grandfathered.result (number_of t) c.grandfathered.ensures.value (c.if-is_none.ensures {u = tt}))
 
 pub explain_core-requires-clause-chains : goal.explain_core-requires-clause-chains
-explain_core-requires-clause-chains g c = c.requires.checked.passes conditions.EndingChain
+explain_core-requires-clause-chains g c = c.requires.checked.passes.ending_chain
 
 pub from_parts-settled-requires-clause-not_grandfathered :
     goal.from_parts-settled-requires-clause-not_grandfathered
@@ -77,7 +76,7 @@ returns-then-is_empty-2 g c =
     c.explain_whole-then-is_empty-2.ensures
 
 pub explain_extensions-requires-clause-chains : goal.explain_extensions-requires-clause-chains
-explain_extensions-requires-clause-chains g c = c.requires.checked.passes conditions.EndingChain
+explain_extensions-requires-clause-chains g c = c.requires.checked.passes.ending_chain
 
 pub explain_extensions-requires-clause-transforms :
     goal.explain_extensions-requires-clause-transforms

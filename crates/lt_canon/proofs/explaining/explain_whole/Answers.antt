@@ -8,7 +8,6 @@ use Rattle.lt_rewrite.specs.Runs.{AddsOnCore}
 use Rattle.lt_rewrite.specs.declared.steps.Step.{Step}
 use Rattle.lt_rewrite.specs.declared.steps.StepKind.TheVariants as steps
 use Rattle.lt_check.specs.Conditions.{plain}
-use Rattle.lt_check.specs.declared.conditions.Condition.TheVariants as conditions
 use Rattle.lt_check.proofs.CheckedRegistry.{value_plain}
 use Rattle.lt_canon.proofs.CanonicalForms.{plain_of_core, plain_has_core}
 use Rattle.lt_canon.proofs.Explained.{rests, whole_at_rest, value_rests_by}
@@ -37,7 +36,7 @@ returns-in_default-core g c =
     absurd (plain_has_core R value (value_plain R c.requires.checked t value has) (sym (c.in_default-core.ensures {u = tt}).value))
 
 pub explain_core-requires-clause-chains : goal.explain_core-requires-clause-chains
-explain_core-requires-clause-chains g c = c.requires.checked.passes conditions.EndingChain
+explain_core-requires-clause-chains g c = c.requires.checked.passes.ending_chain
 
 pub returns : goal.returns
 returns g c =
