@@ -1,7 +1,8 @@
 -- What the turns over a piece of lines keep.
-use Rattle.std.proofs.Common.{◌≡◌, ◌≤◌, ◌+◌, ◌++◌, ◌∷◌, ◌∙◌, inl, inr, ℕ, List, [], Option, Result, Ok, Err, OnOk, length, take, ◌-◌, sym, ap, refl, subst, arith, append_assoc, append-nil, length-append}
+use Rattle.std.proofs.Common.{◌≡◌, ◌≤◌, ◌+◌, ◌++◌, ◌∷◌, ◌∙◌, inl, inr, ℕ, List, [], Option, Result, Ok, Err, OnOk, length, take, sym, ap, refl, subst, arith, append_assoc, append-nil, length-append}
 use Rattle.std.specs.Io.KnownBytes.{Appends}
 use Rattle.std.proofs.KnownBytes.{Appends-nil, Appends-trans}
+use Rattle.std.proofs.Math.Seq.{take-append_seam}
 use Rattle.lt_jar.specs.Devices.{failures_of, inner_of}
 use Rattle.lt_jar.specs.declared.devices.Device.{Device}
 use Rattle.lt_lines.specs.Answering.{IsTaken, TakesPiece, WritesOwed, part_kept}
@@ -40,6 +41,14 @@ turn_first T contents piece old before refused = record {
   room = omega arith;
   refused = refused;
 }
+
+-- the line that was answered begins the rest of the piece
+pub answered_front : (T : Terms) (rest line after : List ℕ) (now mid : Answering) → rest ≡ line ++ 10 ∷ after
+    → ((bytes out : List ℕ) → IsOneLine (take (length line) rest) → IsTaken T bytes out now → IsTaken T (bytes ++ (take (length line) rest ++ 10 ∷ [])) out mid)
+    → (bytes out : List ℕ) → IsOneLine line → IsTaken T bytes out now → IsTaken T (bytes ++ (line ++ 10 ∷ [])) out mid
+answered_front T rest line after now mid split answered =
+    subst (λ (l : List ℕ). (bytes out : List ℕ) → IsOneLine l → IsTaken T bytes out now → IsTaken T (bytes ++ (l ++ 10 ∷ [])) out mid)
+    (ap (take (length line)) split ∙ take-append_seam line (10 ∷ after)) answered
 
 -- a line of the piece was answered, and some of what is owed was written
 pub turn_next : {W : Type 0} (T : Terms) (contents : W → Option (List ℕ)) (piece rest line after : List ℕ) (old now mid new : Answering) (before between last : Device W)

@@ -1,5 +1,5 @@
 -- Answers that were given lately.
-use Rattle.std.proofs.Common.{◌≡◌, ◌⊎◌, ◌++◌, ℕ, List, Bool, true, false, Option, Some, None, length, take, drop, inl, inr, refl, sym, ap, subst, ◌∙◌, arith}
+use Rattle.std.proofs.Common.{◌≡◌, ◌++◌, ℕ, List, Bool, false, Option, length, take, drop, inl, inr, sym, ap, subst, ◌∙◌, arith}
 use Rattle.std.specs.List.{All}
 use Rattle.std.proofs.lemmas.List.Elements.{All-contains, All-set}
 use Rattle.std.proofs.lemmas.List.{take_all}
@@ -8,7 +8,7 @@ use Rattle.lt_registry.specs.Parts.{EntryParts}
 use Rattle.lt_canon.specs.Texts.{AppendsCanonicalText}
 use Rattle.lt_recent.specs.Recent.{Holds, IsBlank, PutsIn, kept}
 use Rattle.lt_recent.specs.declared.Kept.{Kept}
-use Rattle.lt_lines.specs.Answering.{AppendsTextReply, AreRecent, IsRecent, IsRight}
+use Rattle.lt_lines.specs.Answering.{AppendsTextReply, AreRecent, IsRecent}
 use Rattle.lt_lines.specs.Owed.{Terms, terms}
 use Rattle.lt_lines.specs.declared.forms.LineForm.TheVariants as forms
 

@@ -1,5 +1,5 @@
 -- The fields of a row, and what is owed for it.
-use Rattle.std.proofs.Common.{◌≡◌, ◌≤◌, ◌<◌, ◌+◌, ◌-◌, ◌++◌, ◌∷◌, ◌∙◌, ◌⊎◌, inl, inr, ℕ, List, [], Bool, true, false, length, take, drop, sym, ap, refl, subst, arith, append_assoc, append-nil, length-append}
+use Rattle.std.proofs.Common.{◌≡◌, ◌<◌, ◌+◌, ◌-◌, ◌++◌, ◌∷◌, ◌∙◌, inl, inr, ℕ, List, [], true, false, length, take, sym, ap, refl, arith, append_assoc, length-append}
 use Rattle.std.specs.List.{AllByRecursion}
 use Rattle.std.proofs.Math.Seq.{take-append_seam}
 use Rattle.lt_jar.specs.Lines.{content_of}
@@ -7,7 +7,7 @@ use Rattle.lt_registry.specs.Parts.{EntryParts}
 use Rattle.lt_canon.specs.Texts.{AppendsCanonicalText, IsTextRefusal}
 use Rattle.lt_canon.specs.declared.refusals.TextRefusal.{TextRefusal}
 use Rattle.lt_lines.specs.Answering.{AppendsReply, EndsRefused}
-use Rattle.lt_lines.specs.Owed.{Terms, end_of, row_line, terms}
+use Rattle.lt_lines.specs.Owed.{end_of, row_line, terms}
 use Rattle.lt_lines.specs.Rows.{HasFewer, HasField, IsAfterField, IsField, Skips, tabbed}
 use Rattle.lt_lines.specs.declared.forms.LineForm.TheVariants as forms
 

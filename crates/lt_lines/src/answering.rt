@@ -1,5 +1,5 @@
 //! Answering lines that come in pieces.
-ghost use Rattle.std.specs.Prelude.{◌≡◌, ◌<◌, ◌≤◌, ◌+◌, ◌++◌, ◌∷◌, ◌^◌, List, ℕ, [], IfOk, OnOk, length, vec_len};
+ghost use Rattle.std.specs.Prelude.{◌≡◌, ◌<◌, ◌≤◌, ◌+◌, ◌++◌, ◌∷◌, ◌^◌, List, ℕ, [], IfOk, OnOk, length, take, vec_len};
 ghost use Rattle.lt_recent.specs.Recent.{IsBlank};
 ghost use Rattle.lt_lines.specs.Owed.{IsOneLine, terms};
 ghost use Rattle.lt_lines.specs.Answering as spec;
@@ -52,26 +52,37 @@ fn keep(form: LineForm, kept: &mut Vec<u8>, part: &[u8]) -> Result<(), AllocErro
     }
 }
 
-/// Appends what is owed for a line, and tells whether it was refused.
+/// Appends what is owed for the line that the first `count` bytes of a text are, and tells whether it was refused.
 fn append_reply<L: Lookup>(
     lines: &mut Vec<u8>,
     alloc: Global,
     checked: &Checked<L>,
     form: LineForm,
     recent: &mut Recent,
-    line: &[u8],
+    text: &[u8],
+    count: usize,
 ) -> Result<bool, OutOfMemory>
+    requires { count ≤ length text.now }
     ensures owed { IfOk result (λ refused. spec.AreRecent (terms (L.listed checked.now) form) recent.old
-        → spec.AppendsReply (terms (L.listed checked.now) form) line.now lines.old.items lines.new.items refused) }
+        → spec.AppendsReply (terms (L.listed checked.now) form) (take count text.now) lines.old.items lines.new.items refused) }
     ensures recent { OnOk result (spec.AreRecent (terms (L.listed checked.now) form) recent.old → spec.AreRecent (terms (L.listed checked.now) form) recent.new) }
 {
+    let line = &text[..count];
     match form {
-        LineForm::Tag => append_again(lines, alloc, checked, recent, without_return(line)),
+        LineForm::Tag => append_again(
+            lines,
+            alloc,
+            checked,
+            recent,
+            text,
+            without_return(line).len(),
+        ),
         LineForm::Row(before) => append_row(lines, alloc, checked, before, recent, line),
     }
 }
 
-/// Appends what is owed for the line that is kept and goes on so, and tells whether it was refused.
+/// Appends what is owed for the line that is kept and goes on with the first `count` bytes of a text, and tells whether it
+/// was refused.
 fn append_line<L: Lookup>(
     lines: &mut Vec<u8>,
     alloc: Global,
@@ -79,17 +90,19 @@ fn append_line<L: Lookup>(
     form: LineForm,
     recent: &mut Recent,
     kept: &mut Vec<u8>,
-    part: &[u8],
+    text: &[u8],
+    count: usize,
 ) -> Result<bool, OutOfMemory>
+    requires { count ≤ length text.now }
     ensures owed { IfOk result (λ refused. spec.AreRecent (terms (L.listed checked.now) form) recent.old
-        → spec.AppendsLine (terms (L.listed checked.now) form) kept.old.items part.now lines.old.items lines.new.items refused) }
+        → spec.AppendsLine (terms (L.listed checked.now) form) kept.old.items (take count text.now) lines.old.items lines.new.items refused) }
     ensures recent { OnOk result (spec.AreRecent (terms (L.listed checked.now) form) recent.old → spec.AreRecent (terms (L.listed checked.now) form) recent.new) }
 {
     if kept.is_empty() {
-        return append_reply(lines, alloc, checked, form, recent, part);
+        return append_reply(lines, alloc, checked, form, recent, text, count);
     }
-    keep(form, kept, part)?;
-    append_reply(lines, alloc, checked, form, recent, kept)
+    keep(form, kept, &text[..count])?;
+    append_reply(lines, alloc, checked, form, recent, kept, kept.len())
 }
 
 impl Answering {
@@ -110,17 +123,19 @@ impl Answering {
         }
     }
 
-    /// Answers the line that this part ends.
+    /// Answers the line that the first `count` bytes of a text end.
     fn end_line<L: Lookup>(
         &mut self,
         alloc: Global,
         checked: &Checked<L>,
         form: LineForm,
-        part: &[u8],
+        text: &[u8],
+        count: usize,
     ) -> Result<(), OutOfMemory>
-        requires { spec.HasRoom self.old 1 }
-        ensures taken { OnOk result ((bytes out : List ℕ) → IsOneLine part.now → spec.IsTaken (terms (L.listed checked.now) form) bytes out self.old
-            → spec.IsTaken (terms (L.listed checked.now) form) (bytes ++ (part.now ++ 10 ∷ [])) out self.new) }
+        requires room { spec.HasRoom self.old 1 }
+        requires count { count ≤ length text.now }
+        ensures taken { OnOk result ((bytes out : List ℕ) → IsOneLine (take count text.now) → spec.IsTaken (terms (L.listed checked.now) form) bytes out self.old
+            → spec.IsTaken (terms (L.listed checked.now) form) (bytes ++ (take count text.now ++ 10 ∷ [])) out self.new) }
         ensures kept { OnOk result (self.new.kept.items ≡ []) }
         ensures counted { OnOk result ((self.new.counts.lines ≡ self.old.counts.lines + 1) × (self.new.counts.refused ≤ self.new.counts.lines)) }
     {
@@ -131,7 +146,8 @@ impl Answering {
             form,
             &mut self.recent,
             &mut self.kept,
-            part,
+            text,
+            count,
         )?;
         self.counts.count(refused);
         self.kept.clear();
@@ -173,7 +189,7 @@ impl Answering {
     {
         let mut rest = piece;
         while let Some((line, after)) = split_first(b'\n', rest) {
-            self.end_line(alloc, checked, form, line)?;
+            self.end_line(alloc, checked, form, rest, line.len())?;
             self.write_much(output)?;
             rest = after;
         }
@@ -195,7 +211,7 @@ impl Answering {
         if self.kept.is_empty() {
             return Ok(());
         }
-        self.end_line(alloc, checked, form, &[])
+        self.end_line(alloc, checked, form, &[], 0)
     }
 
     /// Ends the lines, and writes what is owed.

@@ -1,5 +1,5 @@
 //! Answers that were given lately, which are given again.
-ghost use Rattle.std.specs.Prelude.{IfOk, OnOk};
+ghost use Rattle.std.specs.Prelude.{◌≤◌, IfOk, OnOk, length, take};
 ghost use Rattle.lt_lines.specs.Answering.{AppendsTextReply, AreRecent, FieldReply};
 ghost use Rattle.lt_lines.specs.Owed.{terms};
 
@@ -11,24 +11,27 @@ use lt_registry::Lookup;
 use lt_tag::OutOfMemory;
 use std::alloc::Global;
 
-/// Appends what is owed for a text, and tells whether it was refused. An answer that was given lately is not worked out
-/// again.
+/// Appends what is owed for the first `count` bytes of a text, and tells whether they were refused. An answer that was
+/// given lately is not worked out again: where 32 bytes are left of the text, they are looked for without a copy.
 pub(crate) fn append_again<L: Lookup>(
     lines: &mut Vec<u8>,
     alloc: Global,
     checked: &Checked<L>,
     recent: &mut Recent,
     text: &[u8],
+    count: usize,
 ) -> Result<bool, OutOfMemory>
+    requires { count ≤ length text.now }
     ensures owed { IfOk result (λ refused. AreRecent (terms (L.listed checked.now) LineForm.Tag) recent.old
-        → AppendsTextReply (L.listed checked.now) text.now lines.old.items lines.new.items refused) }
+        → AppendsTextReply (L.listed checked.now) (take count text.now) lines.old.items lines.new.items refused) }
     ensures recent { OnOk result (AreRecent (terms (L.listed checked.now) LineForm.Tag) recent.old
         → AreRecent (terms (L.listed checked.now) LineForm.Tag) recent.new) }
 {
-    if let Some(found) = recent.find(text, text.len()) {
+    if let Some(found) = recent.find(text, count) {
         found.answer.append_to(lines)?;
         return Ok(found.refused);
     }
+    let text = &text[..count];
     let start = lines.len();
     let refused = append_answer(lines, alloc, checked, text)?;
     recent.put(text, &lines[start..], refused);

@@ -95,11 +95,14 @@ impl ShortText {
         (mixed >> 40) as usize
     }
 
-    /// Appends the text.
+    /// Appends the text: all 32 bytes, which are then cut to its own, since a copy whose length is known takes no loop.
     #[inline(always)]
     pub fn append_to(&self, texts: &mut Vec<u8>) -> Result<(), AllocError>
         ensures { OnOk result (texts.new.items ≡ texts.old.items ++ self.now) }
     {
-        texts.extend_from_slice(&self.bytes[..self.count])
+        let end = texts.len() + self.count;
+        texts.extend_from_slice(&self.bytes)?;
+        texts.truncate(end);
+        Ok(())
     }
 }

@@ -83,3 +83,20 @@ fn compares_each_byte(rt: HostRuntime) -> Result<(), Fail> {
     }
     Ok(())
 }
+
+#[test]
+fn appends_each_length(rt: HostRuntime) -> Result<(), Fail> {
+    for count in 0..33usize {
+        let Some(text) = ShortText::front(&[b'a'; 40], count) else {
+            return Err("short".into());
+        };
+        let mut texts = vec![in rt.alloc(); b'-'; count]?;
+        text.append_to(&mut texts)?;
+        text.append_to(&mut texts)?;
+        let is_right = texts.len() == 3 * count
+            && texts[..count].iter().all(|byte| *byte == b'-')
+            && texts[count..].iter().all(|byte| *byte == b'a');
+        assert!(rt; is_right, "{count}");
+    }
+    Ok(())
+}

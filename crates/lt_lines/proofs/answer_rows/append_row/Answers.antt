@@ -1,4 +1,4 @@
-use Rattle.std.proofs.Common.{ℕ, List, None, Some, subst}
+use Rattle.std.proofs.Common.{ℕ, List, subst}
 use Rattle.lt_lines.specs.Answering.{FieldReply}
 use Rattle.lt_lines.specs.Rows.{HasField}
 use Rattle.lt_lines.proofs.RowLemmas.{row_answered, row_refused}

@@ -1,4 +1,5 @@
-use Rattle.std.proofs.Common.{◌≡◌, ◌++◌, ◌∙◌, ℕ, Bool, List, sym, ap, subst, length, vec_len}
+use Rattle.std.proofs.Common.{◌≡◌, ◌++◌, ◌∙◌, ℕ, Bool, List, sym, ap, subst, arith, length, take, vec_len}
+use Rattle.std.proofs.lemmas.List.{take_all}
 use Rattle.std.proofs.lemmas.Result.{IfOk-weaker}
 use Rattle.lt_lines.specs.Answering.{AppendsLine, AppendsReply, kept_of, part_kept}
 use Rattle.lt_lines.specs.Owed.{IsReplyTo, Terms, reply, terms}
@@ -19,7 +20,7 @@ pub returns-then-is_empty-clause-owed : goal.returns-then-is_empty-clause-owed
 returns-then-is_empty-clause-owed g c =
     let T = terms (g.L.Lookup.listed c.args.checked.now) c.args.form in
     let kept = c.args.kept.now in
-    let part = c.args.part.now in
+    let part = take c.args.count c.args.text.now in
     let none = no_items kept.items (vec_len kept) kept.ok.0 (sym c.is_empty.ensures ∙ c.if-is_empty.true) in
     IfOk-weaker c.append_reply.result _ _ (λ refused owes recent. of_line T kept.items part part _ _ refused (λ last bytes is owed.
     subst (λ (l : List ℕ). IsReplyTo T (l ++ part) (reply bytes refused)) (sym (nothing_kept c.args.form kept.items last is none)) owed) (owes recent)) c.append_reply.ensures.owed
@@ -28,10 +29,12 @@ pub returns-clause-owed : goal.returns-clause-owed
 returns-clause-owed g c =
     let R = g.L.Lookup.listed c.args.checked.now in
     let T = terms R c.args.form in
-    let part = c.args.part.now in
+    let part = take c.args.count c.args.text.now in
     let old = c.args.kept.now in
     let kept : c.keep.new.kept.items ≡ old.items ++ part_kept c.args.form (length old.items) part =
     c.in_ok-keep.ensures ∙ ap (λ (n : ℕ). old.items ++ part_kept c.args.form n part) old.ok.0 in
-    IfOk-weaker c.append_reply-2.result _ _ (λ refused owes recent. of_line T old.items part c.deref.result.now _ _ refused (λ last bytes is owed.
+    let line = c.deref.result.now in
+    let whole = take_all c.len.result line (omega (arith, ap length c.deref.ensures.value, c.len.ensures, c.keep.new.kept.ok.0)) in
+    IfOk-weaker c.append_reply-2.result _ _ (λ refused owes recent. of_line T old.items part (take c.len.result line) _ _ refused (λ last bytes is owed.
     let front = kept_more c.args.form old.items last part c.keep.new.kept.items is kept in
-    reply_for_kept R c.args.form (last ++ part) (reply bytes refused) (subst (λ (l : List ℕ). IsReplyTo T l (reply bytes refused)) (c.deref.ensures.value ∙ front) owed)) (owes recent)) c.append_reply-2.ensures.owed
+    reply_for_kept R c.args.form (last ++ part) (reply bytes refused) (subst (λ (l : List ℕ). IsReplyTo T l (reply bytes refused)) (whole ∙ c.deref.ensures.value ∙ front) owed)) (owes recent)) c.append_reply-2.ensures.owed

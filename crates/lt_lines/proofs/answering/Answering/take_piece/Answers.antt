@@ -1,10 +1,15 @@
-use Rattle.std.proofs.Common.{◌≡◌, ◌++◌, ◌∷◌, ◌∙◌, ℕ, refl, ap, length}
+use Rattle.std.proofs.Common.{◌≡◌, ◌++◌, ◌∷◌, ◌∙◌, ℕ, refl, ap, arith, length, length-append}
 use Rattle.std.proofs.lemmas.Result.{err_from_is_err_and}
 use Rattle.lt_lines.specs.Answering.{part_kept}
 use Rattle.lt_lines.specs.Owed.{IsOneLine, terms}
 use Rattle.lt_lines.specs.declared.answering.Answering.{Answering}
-use Rattle.lt_lines.proofs.PieceLemmas.{turn_breaks, turn_kept, turn_lacks, turn_last, turn_next}
+use Rattle.lt_lines.proofs.PieceLemmas.{answered_front, turn_breaks, turn_kept, turn_lacks, turn_last, turn_next}
 use Rattle.lt_lines.proofs.answering.Answering.take_piece.Goals as goal
+
+pub end_line-requires-clause-count : goal.end_line-requires-clause-count
+end_line-requires-clause-count g c =
+    let split : IsOneLine c.in-Some.line.now × (c.loop-line.rest.now ≡ c.in-Some.line.now ++ 10 ∷ c.in-Some.after.now) = c.in-Some.ensures in
+    omega (arith, ap length split.1, length-append c.in-Some.line.now (10 ∷ c.in-Some.after.now))
 
 pub returns-in_err-end_line : goal.returns-in_err-end_line
 returns-in_err-end_line g c =
@@ -17,16 +22,18 @@ returns-in_err-write_much g c =
     let T = terms (g.L.Lookup.listed c.args.checked.now) c.args.form in
     let p = err_from_is_err_and c.from_residual-in_err-write_much.result c.from_residual-in_err-write_much.ensures.1 in
     let split : IsOneLine c.in-Some.line.now × (c.loop-line.rest.now ≡ c.in-Some.line.now ++ 10 ∷ c.in-Some.after.now) = c.in-Some.ensures in
+    let answered = answered_front T c.loop-line.rest.now c.in-Some.line.now c.in-Some.after.now c.loop-line.self c.end_line.new.self split.1 c.in_ok-end_line.ensures.taken in
     rw (p.1, p.2) (turn_breaks T g.W.Write.contents c.args.piece.now c.loop-line.rest.now c.in-Some.line.now c.in-Some.after.now c.args.self.now c.loop-line.self c.end_line.new.self c.write_much.new.self
-    c.args.output.now c.loop-line.output c.write_much.new.output c.in_err-write_much.field-0.0 c.loop-line.invariant split.1 split.0 c.in_ok-end_line.ensures.taken c.in_err-write_much.ensures.writes)
+    c.args.output.now c.loop-line.output c.write_much.new.output c.in_err-write_much.field-0.0 c.loop-line.invariant split.1 split.0 answered c.in_err-write_much.ensures.writes)
 
 pub loop-line-preserved : goal.loop-line-preserved
 loop-line-preserved g c =
     let T = terms (g.L.Lookup.listed c.args.checked.now) c.args.form in
     let split : IsOneLine c.in-Some.line.now × (c.loop-line.rest.now ≡ c.in-Some.line.now ++ 10 ∷ c.in-Some.after.now) = c.in-Some.ensures in
     let counted = c.in_ok-end_line.ensures.counted in
+    let answered = answered_front T c.loop-line.rest.now c.in-Some.line.now c.in-Some.after.now c.loop-line.self c.end_line.new.self split.1 c.in_ok-end_line.ensures.taken in
     turn_next T g.W.Write.contents c.args.piece.now c.loop-line.rest.now c.in-Some.line.now c.in-Some.after.now c.args.self.now c.loop-line.self c.end_line.new.self c.write_much.new.self
-    c.args.output.now c.loop-line.output c.write_much.new.output c.loop-line.invariant split.1 split.0 c.in_ok-end_line.ensures.taken counted.0 counted.1 c.in_ok-write_much.ensures.writes
+    c.args.output.now c.loop-line.output c.write_much.new.output c.loop-line.invariant split.1 split.0 answered counted.0 counted.1 c.in_ok-write_much.ensures.writes
 
 pub returns-in_err-keep : goal.returns-in_err-keep
 returns-in_err-keep g c =
