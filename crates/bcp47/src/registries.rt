@@ -7,6 +7,7 @@ ghost use Rattle.lt_canon.specs.Answers.{IsCanonicalFormOf, RefusesOnlyRepeats};
 ghost use Rattle.lt_canon.specs.Refusals.{NamesFault, NamesRepeat, IsRefusedWith};
 ghost use Rattle.lt_canon.specs.Equivalence.{IsEquivalenceAnswer, IsFirstRefusal};
 ghost use Rattle.lt_canon.specs.Explaining.{IsExplanation};
+ghost use Rattle.lt_canon.specs.ExplanationTexts.{IsExplanationTextOf};
 ghost use Rattle.lt_canon.specs.ExtlangForm.{IsExtlangFormOf};
 ghost use Rattle.lt_canon.specs.Texts.{AppendsCanonicalText, IsCanonicalTextOf, IsTextRefusal};
 ghost use Rattle.lt_canon.specs.Traces.{IsTraceFault, IsValidTrace};
@@ -198,6 +199,19 @@ impl Registry {
         ensures err { IfErr result (λ refusal. IsRefusedWith self.now tag.now refusal) }
     {
         lt_canon::explain(alloc, &self.checked, tag)
+    }
+
+    /// The text of the explanation of the tag that a text is read as: a line for each step that `explain`
+    /// tells, with its kind, its place, the number of its record and the tag to which it leads, and then a
+    /// line with the canonical form. A line feed ends each line.
+    ///
+    /// - `NotATag`, with the fault that `Tag::read` answers, exactly where the text is read as none.
+    /// - `Invalid` and `ReplacementRepeats` where `canonical` refuses the tag so.
+    pub fn explanation_text(&self, alloc: Global, text: &[u8]) -> Result<Vec<u8>, TextRefusal>
+        ensures written { IfOk result (λ lines. IsExplanationTextOf self.now text.now lines.items) }
+        ensures refusal { IfErr result (λ refusal. IsTextRefusal self.now text.now refusal) }
+    {
+        lt_canon::explanation_text(alloc, &self.checked, text)
     }
 
     /// Whether the steps of a trace lead from a valid tag, one after another, to its last tag, which is

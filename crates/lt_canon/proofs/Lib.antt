@@ -19,5 +19,6 @@ mod OneExplanation
 mod Tracing
 mod FirstTagSteps
 mod Explained
+mod ExplanationLines
 mod UsualTags
 mod Refused

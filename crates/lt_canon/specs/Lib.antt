@@ -13,4 +13,5 @@ pub mod RepeatLaws
 pub mod ExtlangLaws
 pub mod Traces
 pub mod Explaining
+pub mod ExplanationTexts
 pub mod UsualTags

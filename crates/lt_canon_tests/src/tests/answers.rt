@@ -1,5 +1,5 @@
 //! The answers by the tables of the sample.
-use super::explanations::explanations;
+use super::explanations::{explanation_texts, explanations};
 use super::traces::traces;
 use lt_canon::laws::confluence;
 use lt_canon::{
@@ -394,6 +394,7 @@ fn gives_answers<L: Lookup>(
     extlang_forms(rt, alloc, checked)?;
     equivalence(rt, alloc, checked)?;
     explanations(rt, alloc, checked)?;
+    explanation_texts(rt, alloc, checked);
     traces(rt, alloc, checked)
 }
 

@@ -2,7 +2,7 @@ ghost use Rattle.std.specs.Prelude.{◌↔◌, IsTrue, IfOk};
 ghost use Rattle.lt_registry.specs.Validity.{IsProper};
 ghost use Rattle.lt_registry.specs.Faults.{RepeatsAtMost};
 
-use lt_canon::{Refusal, Trace, explain};
+use lt_canon::{Refusal, TextRefusal, Trace, explain, explanation_text};
 use lt_check::Checked;
 use lt_registry::{Lookup, proper};
 use lt_rewrite::{ApplyFault, Step, StepKind, apply};
@@ -203,4 +203,61 @@ pub(super) fn explanations<L: Lookup>(
     }
     assert!(rt; has_no_explanation(alloc, checked, "fr")?);
     Ok(())
+}
+
+/// Texts, and the lines of their explanations.
+const LINES: [(&str, &str); 3] = [
+    ("SGN-dd", "Region 2 27 sgn-DE\nWhole 1 44 gsg\n= gsg\n"),
+    (
+        "en-t-iw-x-A",
+        "Language 3 9 en-t-he-x-a\n= en-t-he-x-a\n",
+    ),
+    ("en-Latn", "= en-Latn\n"),
+];
+
+/// Texts that have no explanation, and the names of the refusals.
+const WITHOUT_LINES: [(&str, &str); 3] = [
+    ("en_US", "BadByte"),
+    ("fr", "UnknownLanguage"),
+    ("ja-Latn-heploc-alalc97", "ReplacementRepeats"),
+];
+
+/// The lines of the explanation of a text's tag, or why there are none.
+fn lines_of<L: Lookup>(
+    alloc: Global,
+    checked: &Checked<L>,
+    text: &str,
+) -> Result<Vec<u8>, TextRefusal> {
+    answered(
+        alloc,
+        &text,
+        || explanation_text(alloc, checked, text.as_bytes()),
+        |refusal| matches!(refusal, TextRefusal::OutOfMemory),
+    )
+}
+
+/// Whether a text has these lines.
+fn has_lines<L: Lookup>(alloc: Global, checked: &Checked<L>, text: &str, lines: &str) -> bool {
+    match lines_of(alloc, checked, text) {
+        Ok(found) => found.as_slice() == lines.as_bytes(),
+        Err(_) => false,
+    }
+}
+
+/// Whether a text is refused by this name.
+fn is_refused<L: Lookup>(alloc: Global, checked: &Checked<L>, text: &str, name: &str) -> bool {
+    match lines_of(alloc, checked, text) {
+        Ok(_lines) => false,
+        Err(refusal) => refusal.name() == name,
+    }
+}
+
+/// Each text has the lines of its row, or the refusal.
+pub(super) fn explanation_texts<L: Lookup>(rt: &impl Abort, alloc: Global, checked: &Checked<L>) {
+    for (text, lines) in &LINES {
+        assert!(rt; has_lines(alloc, checked, text, lines), "{text}");
+    }
+    for (text, name) in &WITHOUT_LINES {
+        assert!(rt; is_refused(alloc, checked, text, name), "{text}");
+    }
 }

@@ -4,7 +4,7 @@ use super::answers::{
     appends, canonical_tags, canonical_texts, equivalence, extlang_forms, replacements_that_repeat,
     texts_with_faults, the_longest_text,
 };
-use super::explanations::explanations;
+use super::explanations::{explanation_texts, explanations};
 use super::traces::traces;
 use super::upgrades::{FAULTS, UPGRADES, checked, fault};
 use super::{CHANGES, finding};
@@ -64,6 +64,12 @@ fn tags_are_compared(rt: HostRuntime) -> Result<(), Fail> {
 #[test]
 fn steps_are_explained(rt: HostRuntime) -> Result<(), Fail> {
     explanations(&rt, rt.alloc(), &checked_sample(rt.alloc())?)
+}
+
+#[test]
+fn explanations_are_written(rt: HostRuntime) -> Result<(), Fail> {
+    explanation_texts(&rt, rt.alloc(), &checked_sample(rt.alloc())?);
+    Ok(())
 }
 
 #[test]
