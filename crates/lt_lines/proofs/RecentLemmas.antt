@@ -1,7 +1,7 @@
 -- Answers that were given lately.
-use Rattle.std.proofs.Common.{◌≡◌, ◌++◌, ℕ, List, Bool, false, Option, length, take, drop, inl, inr, sym, ap, subst, ◌∙◌, arith}
-use Rattle.std.specs.List.{All}
-use Rattle.std.proofs.lemmas.List.Elements.{All-contains, All-set}
+use Rattle.std.proofs.Common.{◌≡◌, ◌⊎◌, ◌++◌, ℕ, List, Bool, false, Option, length, take, drop, inl, inr, sym, ap, subst, ◌∙◌, arith, slice_index_or}
+use Rattle.std.specs.List.{Contains}
+use Rattle.std.proofs.lemmas.List.Elements.{All-contains}
 use Rattle.std.proofs.lemmas.List.{take_all}
 use Rattle.std.proofs.Math.Seq.{drop-append_seam}
 use Rattle.lt_registry.specs.Parts.{EntryParts}
@@ -44,9 +44,11 @@ recent_field R before table text answer old new refused recent held grown = reco
 -- what is right may be put
 put_recent : (T : Terms) (old new : List (Option Kept)) (text answer : List ℕ) (refused : Bool) → PutsIn old new text answer refused
     → IsRecent T (kept text answer refused) → AreRecent T old → AreRecent T new
-put_recent T old new text answer refused (inl same) right recent = subst (AreRecent T) (sym same) recent
-put_recent T old new text answer refused (inr put) right recent =
-    record { each = subst (All (IsRecent T)) (sym put.1) (All-set (IsRecent T) old put.0 (kept text answer refused) right recent.each) }
+put_recent T old new text answer refused puts right recent = record { each = λ k d lt. by_place (slice_index_or new k d) (puts k d lt) }
+  where
+    by_place : (place : Option Kept) → (place ≡ kept text answer refused) ⊎ Contains old place → IsRecent T place
+    by_place place (inl same) = subst (IsRecent T) (sym same) right
+    by_place place (inr held) = All-contains (IsRecent T) old place recent.each held
 
 -- the answer that was appended for a text may be put
 pub put_answer : (R : List EntryParts) (before after : List (Option Kept)) (text old new answer : List ℕ) (refused : Bool) → PutsIn before after text answer refused

@@ -1,7 +1,6 @@
 -- What a table of answers that were given lately holds.
 use Rattle.std.specs.Prelude.{◌≡◌, ◌⊎◌, ℕ, Bool, List, Option, Some, None}
 use Rattle.std.specs.List.{All, Contains}
-use Rattle.std.proofs.Math.ListN.{set}
 use Rattle.lt_recent.specs.declared.Kept.{Kept}
 
 -- a place that has this answer for this line
@@ -16,6 +15,6 @@ Holds places line answer refused = Contains places (kept line answer refused)
 abbrev pub IsBlank : List (Option Kept) → Type 0
 IsBlank places = All (λ place. place ≡ None) places
 
--- the table is the same, or one place has this answer for this line
+-- each place has this answer for this line, or what a place had before
 abbrev pub PutsIn : List (Option Kept) → List (Option Kept) → List ℕ → List ℕ → Bool → Type 0
-PutsIn old new line answer refused = (new ≡ old) ⊎ ((i : ℕ) × (new ≡ set old i (kept line answer refused)))
+PutsIn old new line answer refused = All (λ place. (place ≡ kept line answer refused) ⊎ Contains old place) new

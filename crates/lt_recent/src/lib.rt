@@ -13,8 +13,8 @@ pub use short_texts::ShortText;
 use std::alloc::{AllocError, Global};
 use std::marker::Model;
 
-/// How many places the table has. Each takes 96 bytes.
-const PLACES: usize = 8192;
+/// How many pairs of places the table has. A place takes 67 bytes.
+const PAIRS: usize = 8192;
 
 /// An answer, the line that it was given to, and whether it is a refusal.
 #[derive(Drop)]
@@ -31,8 +31,8 @@ pub struct Found<'t> {
     pub refused: bool,
 }
 
-/// The answers that were given lately, each in the place that its line gives. A table without memory has no place: it
-/// keeps nothing.
+/// The answers that were given lately, each in one of the two places that its line gives: the first has what was put
+/// last, and the second what was put before. A table without memory has no place: it keeps nothing.
 #[derive(Drop)]
 pub struct Recent {
     places: Vec<Option<Kept>>,
@@ -51,8 +51,8 @@ impl Model for Recent {
 fn blank(alloc: Global) -> Result<Vec<Option<Kept>>, AllocError>
     ensures { IfOk result (λ places. IsBlank places.items) }
 {
-    let mut places = Vec::with_capacity(alloc, PLACES)?;
-    for _place in 0..PLACES {
+    let mut places = Vec::with_capacity(alloc, 2 * PAIRS)?;
+    for _place in 0..2 * PAIRS {
         places.push(None)?;
     }
     Ok(places)
@@ -71,14 +71,13 @@ impl Recent {
         }
     }
 
-    /// The answer that was put for the first `count` bytes of a text, if the table still holds it.
-    pub fn find(&self, text: &[u8], count: usize) -> Option<Found<'_>>
-        requires { count ≤ length text.now }
-        ensures { IfSome result (λ found. Holds self.now (take count text.now) found.answer.now found.refused) }
+    /// What a place has for a line.
+    #[inline(always)]
+    fn at(&self, index: usize, line: &ShortText) -> Option<Found<'_>>
+        ensures { IfSome result (λ found. Holds self.now line.now found.answer.now found.refused) }
     {
-        let line = ShortText::front(text, count)?;
-        match self.places.get(line.hash() % PLACES) {
-            Some(Some(kept)) if kept.line.is(&line) => Some(Found {
+        match self.places.get(index) {
+            Some(Some(kept)) if kept.line.is(line) => Some(Found {
                 answer: &kept.answer,
                 refused: kept.refused,
             }),
@@ -86,7 +85,20 @@ impl Recent {
         }
     }
 
-    /// Puts an answer for a line in place of what stood where it belongs, if both are short.
+    /// The answer that was put for the first `count` bytes of a text, if the table still holds it.
+    pub fn find(&self, text: &[u8], count: usize) -> Option<Found<'_>>
+        requires { count ≤ length text.now }
+        ensures { IfSome result (λ found. Holds self.now (take count text.now) found.answer.now found.refused) }
+    {
+        let line = ShortText::front(text, count)?;
+        let first = 2 * (line.hash() % PAIRS);
+        match self.at(first, &line) {
+            None => self.at(first + 1, &line),
+            found => found,
+        }
+    }
+
+    /// Puts an answer for a line where it belongs, if both are short, in place of what was put there the time before last.
     pub fn put(&mut self, line: &[u8], answer: &[u8], refused: bool)
         ensures { PutsIn self.old self.new line.now answer.now refused }
     {
@@ -96,9 +108,10 @@ impl Recent {
         ) else {
             return;
         };
-        let index = line.hash() % PLACES;
-        if index < self.places.len() {
-            self.places[index] = Some(Kept {
+        let first = 2 * (line.hash() % PAIRS);
+        if first + 1 < self.places.len() {
+            self.places.swap(first, first + 1);
+            self.places[first] = Some(Kept {
                 line,
                 answer,
                 refused,

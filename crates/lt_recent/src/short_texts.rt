@@ -19,7 +19,7 @@ const LANES: [u8; MOST] = [
 #[derive(Drop)]
 pub struct ShortText {
     bytes: [u8; MOST],
-    count: usize,
+    count: u8,
 }
 
 impl Model for ShortText {
@@ -72,7 +72,10 @@ impl ShortText {
         } else {
             front_of_32(text, count)
         };
-        Some(ShortText { bytes, count })
+        Some(ShortText {
+            bytes,
+            count: count as u8,
+        })
     }
 
     /// Whether two texts are the same.
@@ -100,7 +103,7 @@ impl ShortText {
     pub fn append_to(&self, texts: &mut Vec<u8>) -> Result<(), AllocError>
         ensures { OnOk result (texts.new.items ≡ texts.old.items ++ self.now) }
     {
-        let end = texts.len() + self.count;
+        let end = texts.len() + usize::from(self.count);
         texts.extend_from_slice(&self.bytes)?;
         texts.truncate(end);
         Ok(())

@@ -9,6 +9,9 @@ const LINES: [(&str, &str, bool); 4] = [
     ("zh-yu", "zh-YU\n", false),
 ];
 
+/// Lines of one hash.
+const NEIGHBOURS: [&str; 3] = ["de-AB", "fr-IO", "it-SA"];
+
 const LONG: &str = "de-1901-x-abcdefgh-abcdefgh-abcde";
 
 /// What a table has for the front of a text.
@@ -55,6 +58,21 @@ fn finds_the_front_of_a_text(rt: HostRuntime) -> Result<(), Fail> {
     assert!(rt; found(rt.alloc(), &table, text, 6)?.is_some());
     assert!(rt; found(rt.alloc(), &table, text, 5)?.is_none());
     assert!(rt; found(rt.alloc(), &table, text, 7)?.is_none());
+    Ok(())
+}
+
+#[test]
+fn keeps_two_lines_of_one_hash(rt: HostRuntime) -> Result<(), Fail> {
+    let mut table = Recent::new(rt.alloc());
+    for line in &NEIGHBOURS {
+        table.put(line.as_bytes(), line.as_bytes(), false);
+    }
+    for (line, stays) in NEIGHBOURS.iter().zip([false, true, true]) {
+        let there = found(rt.alloc(), &table, line, line.len())?;
+        assert!(rt; there.is_some() == stays, "{line}");
+        let is_right = there.map_or(true, |(text, _)| text.as_slice() == line.as_bytes());
+        assert!(rt; is_right, "{line}");
+    }
     Ok(())
 }
 
