@@ -27,6 +27,7 @@ test:
 	cp crates/langtag/out/langtag build/langtag
 	bench/growth.py lt_jar_tests lt_registry_tests
 	tests/program.sh
+	tests/messages.sh
 	tests/fresh.sh
 	tests/bindings.sh
 

@@ -144,5 +144,41 @@ head -c 7 usage > err
 head -c 7 usage > err
 (exit "$ended"); is 'a word that is not UTF-8' 3 '' 'error: '
 
+# what a person is told where the standard error is a terminal, and nothing of it where it is none
+# on_terminal WORD..: runs the program with a terminal of its own as its standard error, which is written to `told`.
+on_terminal() {
+    python3 - "$program" "$@" << 'END'
+import os, pty, subprocess, sys
+own, theirs = pty.openpty()
+with open("input", "rb") as given, open("out", "wb") as out:
+    run = subprocess.Popen(sys.argv[1:], stdin=given, stdout=out, stderr=theirs)
+    os.close(theirs)
+    told = b""
+    while True:
+        try:
+            more = os.read(own, 65536)
+        except OSError:
+            break
+        if not more:
+            break
+        told += more
+with open("err", "wb") as err:
+    err.write(told.replace(b"\r\n", b"\n"))
+sys.exit(run.wait())
+END
+}
+unknown='UnknownLanguage: The registry lacks the language: correct it, or get a newer registry.\n'
+printf 'zh-yue\nxx\nen_US\n' > input
+on_terminal canon "$sample"; is 'canon at a terminal' 1 'yue\n! UnknownLanguage 1\n! BadByte 1\n' "3 lines, 2 refused\n$unknown"
+"$program" canon "$sample" < input > out 2> err; is 'canon at no terminal' 1 'yue\n! UnknownLanguage 1\n! BadByte 1\n' ''
+on_terminal tsv "$sample" 1; is 'tsv at a terminal' 1 'yue\t\nxx\tUnknownLanguage 1\nen_US\tBadByte 1\n' "3 lines, 2 refused\n$unknown"
+on_terminal check "$sample"; is 'check at a terminal' 0 'ok 46\n' ''
+on_terminal classify xx-; ended=$?; cut -c1-12 err > told; mv told err
+(exit "$ended"); is 'classify at a terminal' 1 '! EmptySubtag 2\n' 'EmptySubtag:\n'
+on_terminal check missing; ended=$?; sed -n '1p; 3p' err > told; mv told err
+(exit "$ended"); is 'check at a terminal: no file' 4 '' '! File\nmissing: No such file or directory (os error 2)\n'
+on_terminal --help; ended=$?; : > out
+(exit "$ended"); is 'help at a terminal' 0 '' ''
+
 echo "$passed passed, $failed failed"
 [ "$failed" = 0 ]

@@ -2,19 +2,39 @@
 #![tactic(auto)]
 
 use lt_jar::Device;
+use lt_people::{Openings, run_for_people};
 use lt_tool::run_program;
+use std::io::IsTerminal;
 use std::process::ExitCode;
 use std::{env, fs};
 
 fn main(rt: HostRuntime) -> ExitCode {
     let words = env::args(&rt).and_then(|words| Ok(words.collect(rt.alloc())?));
-    let status = run_program(
-        rt.alloc(),
-        words,
-        &mut |name| fs::open(&rt, name),
-        &mut Device::new(rt.stdin()),
-        &mut Device::new(rt.stdout()),
-        &mut Device::new(rt.stderr()),
-    );
+    let openings = Openings::new();
+    let mut opener = |name: &str| openings.kept(rt.alloc(), name, fs::open(&rt, name));
+    let mut input = Device::new(rt.stdin());
+    let mut errors = Device::new(rt.stderr());
+    let status = if rt.stderr().is_terminal() {
+        run_for_people(
+            rt.alloc(),
+            words,
+            &mut opener,
+            &openings,
+            &mut input,
+            rt.stdout(),
+            rt.stderr(),
+            &mut errors,
+        )
+    } else {
+        let mut output = Device::new(rt.stdout());
+        run_program(
+            rt.alloc(),
+            words,
+            &mut opener,
+            &mut input,
+            &mut output,
+            &mut errors,
+        )
+    };
     ExitCode::from(status)
 }
