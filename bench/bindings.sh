@@ -1,16 +1,20 @@
 #!/bin/bash
-# Measures the bindings that `make lib` built beside ICU and PyICU, in one run, over 200,000 tags (bench/make_tags.py).
+# Measures the library that `make lib` built, from C, Python, SQLite and PostgreSQL, beside ICU and PyICU, in one run, over
+# 200,000 tags (bench/make_tags.py). tests/packages.sh installs what it needs.
 # Argument: a registry (examples/iana-2025-05-15.txt, if there is none).
 set -e
 cd "$(dirname "$0")/.."
-registry=${1:-examples/iana-2025-05-15.txt}
+registry=$(realpath "${1:-examples/iana-2025-05-15.txt}")
 folder=$(mktemp -d)
 trap 'rm -rf "$folder"' EXIT
 /usr/bin/python3 bench/make_tags.py "$registry" mixed > "$folder/tags"
 gcc -std=c11 -D_GNU_SOURCE -O2 -Ibindings/c -o "$folder/library" bench/bindings/library.c build/libbcp47.a
 # shellcheck disable=SC2046
-gcc -std=c11 -D_GNU_SOURCE -O2 -o "$folder/icu" bench/bindings/icu.c $(pkg-config --cflags --libs icu-uc)
+gcc -std=c11 -D_GNU_SOURCE -O2 -Ibindings/c -o "$folder/icu" bench/bindings/icu.c $(pkg-config --cflags --libs icu-uc)
 "$folder/library" "$registry" "$folder/tags"
 "$folder/icu" "$folder/tags"
 export PYTHONPATH=$PWD/bindings/python BCP47_LIBRARY=$PWD/build/libbcp47.so.1
 /usr/bin/python3 -B bench/bindings/python.py "$registry" "$folder/tags"
+gcc -O2 -fPIC -shared -Ibindings/c -o "$folder/bcp47.so" bindings/sqlite/bcp47_sqlite.c build/libbcp47.a
+bench/bindings/sqlite.sh "$folder" "$registry"
+bench/bindings/postgresql.sh "$folder" "$registry"

@@ -51,18 +51,21 @@ static bcp47_handle *opened(void) {
     return &registry;
 }
 
-/* The canonical text, or where there is none what a refusal says. */
-static bcp47_outcome ask(text *value, uint8_t **written) {
+/* A call that writes a text. */
+typedef bcp47_outcome (*call)(bcp47_handle *, const uint8_t *, size_t, uint8_t *, size_t);
+
+/* The text that a call writes, or where there is none what a refusal says. */
+static bcp47_outcome ask(call does, text *value, uint8_t **written) {
     bcp47_handle *handle = opened();
     const uint8_t *bytes = (const uint8_t *)VARDATA_ANY(value);
     size_t length = VARSIZE_ANY_EXHDR(value), room = 2048;
     bcp47_outcome outcome;
 
     *written = palloc(room);
-    outcome = bcp47_canonical(handle, bytes, length, *written, room);
+    outcome = does(handle, bytes, length, *written, room);
     if (outcome.status == BCP47_BUFFER_TOO_SMALL) {
         *written = repalloc(*written, outcome.length);
-        outcome = bcp47_canonical(handle, bytes, length, *written, outcome.length);
+        outcome = does(handle, bytes, length, *written, outcome.length);
     }
     if (outcome.status == BCP47_OUT_OF_MEMORY) ereport(ERROR, (errcode(ERRCODE_OUT_OF_MEMORY), errmsg("out of memory")));
     return outcome;
@@ -71,17 +74,27 @@ static bcp47_outcome ask(text *value, uint8_t **written) {
 PG_FUNCTION_INFO_V1(canonical_of);
 Datum canonical_of(PG_FUNCTION_ARGS) {
     uint8_t *written;
-    bcp47_outcome outcome = ask(PG_GETARG_TEXT_PP(0), &written);
+    bcp47_outcome outcome = ask(bcp47_canonical, PG_GETARG_TEXT_PP(0), &written);
 
     if (outcome.status != BCP47_DONE) PG_RETURN_NULL();
     PG_RETURN_TEXT_P(cstring_to_text_with_len((const char *)written, (int)outcome.length));
+}
+
+/* The lines that the program prints, without the line feed of the last. */
+PG_FUNCTION_INFO_V1(explanation_of);
+Datum explanation_of(PG_FUNCTION_ARGS) {
+    uint8_t *written;
+    bcp47_outcome outcome = ask(bcp47_explain, PG_GETARG_TEXT_PP(0), &written);
+
+    if (outcome.status != BCP47_DONE) PG_RETURN_NULL();
+    PG_RETURN_TEXT_P(cstring_to_text_with_len((const char *)written, (int)outcome.length - 1));
 }
 
 /* The line that the program prints for a refusal, behind `! `. */
 PG_FUNCTION_INFO_V1(fault_of);
 Datum fault_of(PG_FUNCTION_ARGS) {
     uint8_t name[BCP47_LINE], *written;
-    bcp47_outcome named, outcome = ask(PG_GETARG_TEXT_PP(0), &written);
+    bcp47_outcome named, outcome = ask(bcp47_canonical, PG_GETARG_TEXT_PP(0), &written);
 
     if (outcome.status == BCP47_DONE) PG_RETURN_NULL();
     if (outcome.status == BCP47_REPLACEMENT_REPEATS)

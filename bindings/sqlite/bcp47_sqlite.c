@@ -21,17 +21,17 @@ static void release(void *data) {
     free(c);
 }
 
-/* A text that a call wrote; where it did not fit, the call is made again by `again`. */
+/* A text that a call writes; where it does not fit, the call is made again. */
 typedef bcp47_outcome (*call)(bcp47_handle *, const uint8_t *, size_t, uint8_t *, size_t);
 
-static uint8_t *ask(connection *c, call ask, sqlite3_value *value, uint8_t *buffer, bcp47_outcome *outcome) {
+static uint8_t *ask(connection *c, call does, sqlite3_value *value, uint8_t *buffer, bcp47_outcome *outcome) {
     const uint8_t *text = bcp47_bytes_(sqlite3_value_text(value));
     size_t length = (size_t)sqlite3_value_bytes(value);
-    *outcome = ask(&c->handle, text, length, buffer, BUFFER);
+    *outcome = does(&c->handle, text, length, buffer, BUFFER);
     if (outcome->status != BCP47_BUFFER_TOO_SMALL) return buffer;
     size_t room = outcome->length;
     buffer = malloc(room);
-    if (buffer) *outcome = ask(&c->handle, text, length, buffer, room);
+    if (buffer) *outcome = does(&c->handle, text, length, buffer, room);
     return buffer;
 }
 
@@ -93,19 +93,31 @@ static void load(sqlite3_context *context, int count, sqlite3_value **values) {
     sqlite3_result_int(context, 1);
 }
 
-static void canonical(sqlite3_context *context, int count, sqlite3_value **values) {
-    (void)count;
+/* The text that a call writes, without the line feed of its last line; NULL where the tag is refused. */
+static void answer(sqlite3_context *context, call does, sqlite3_value *value) {
     connection *c = sqlite3_user_data(context);
-    if (sqlite3_value_type(values[0]) == SQLITE_NULL || !is_ready(context, c)) return;
+    if (sqlite3_value_type(value) == SQLITE_NULL || !is_ready(context, c)) return;
     uint8_t buffer[BUFFER];
     bcp47_outcome outcome;
-    uint8_t *text = ask(c, bcp47_canonical, values[0], buffer, &outcome);
+    uint8_t *text = ask(c, does, value, buffer, &outcome);
     if (!text || outcome.status == BCP47_OUT_OF_MEMORY) {
         sqlite3_result_error_nomem(context);
     } else if (outcome.status == BCP47_DONE) {
-        sqlite3_result_text(context, (const char *)text, (int)outcome.length, SQLITE_TRANSIENT);
+        size_t length = outcome.length;
+        if (length && text[length - 1] == '\n') length--;
+        sqlite3_result_text(context, (const char *)text, (int)length, SQLITE_TRANSIENT);
     }
     if (text != buffer) free(text);
+}
+
+static void canonical(sqlite3_context *context, int count, sqlite3_value **values) {
+    (void)count;
+    answer(context, bcp47_canonical, values[0]);
+}
+
+static void explain(sqlite3_context *context, int count, sqlite3_value **values) {
+    (void)count;
+    answer(context, bcp47_explain, values[0]);
 }
 
 static void fault(sqlite3_context *context, int count, sqlite3_value **values) {
@@ -178,6 +190,7 @@ int sqlite3_bcp_init(sqlite3 *database, char **error, const sqlite3_api_routines
         {"bcp47_canonical", 1, 1, canonical},
         {"bcp47_equal", 2, 1, equal},
         {"bcp47_fault", 1, 1, fault},
+        {"bcp47_explain", 1, 1, explain},
     };
     int result = SQLITE_OK;
     for (size_t i = 0; i < sizeof functions / sizeof *functions && result == SQLITE_OK; i++) {

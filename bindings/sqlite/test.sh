@@ -1,5 +1,16 @@
 #!/bin/bash
 # Tests of the functions in SQLite, and docs/SQL.md's first example. Arguments: the folder of bcp47.so, the sample registry.
+page=$(dirname "$(realpath "$0")")/../../docs/SQL.md
+books=$1/books
+rm -rf "$books"
+mkdir "$books"
+cp "$1/bcp47.so" "$books"
+cp "$2" "$books/registry.txt"
+sed -n '/^## SQLite/,/^## PostgreSQL/s/^    sqlite> //p' "$page" > "$books/example"
+sed -n '/^## SQLite/,/^## PostgreSQL/{/^    \(sqlite>\|\$\) /!s/^    //p}' "$page" > "$books/wanted"
+sqlite3 "$books/books.db" 'CREATE TABLE books (tag TEXT)'
+(cd "$books" && sqlite3 books.db < example > got 2>&1)
+diff "$books/wanted" "$books/got" || exit 1
 got=$(sqlite3 :memory: ".load $1/bcp47" "SELECT bcp47_canonical('en');" 2>&1)
 case $got in *"no registry is loaded"*) ;; *) echo "not loaded: $got" && exit 1 ;; esac
 got=$(sqlite3 :memory: ".load $1/bcp47" "SELECT bcp47_load('/no/such/file');" 2>&1)
@@ -9,9 +20,11 @@ got=$(sqlite3 :memory: ".load $1/bcp47" "SELECT bcp47_load('$1/other');" 2>&1)
 case $got in *"jar BadLine line 1"*) ;; *) echo "refused: $got" && exit 1 ;; esac
 got=$(sqlite3 :memory: ".load $1/bcp47" "SELECT bcp47_load('$2');" \
     "SELECT bcp47_canonical('zh-yue'), bcp47_equal('zh-yue', 'YUE'), bcp47_fault('en_US');" \
+    "SELECT bcp47_explain('sgn-dd');" \
     ".nullvalue NULL" \
     "SELECT bcp47_canonical('en_US'), bcp47_fault('zh-yue'), bcp47_equal('en', 'en_US'), bcp47_equal('en', 'zh');" \
     "SELECT bcp47_canonical(NULL), bcp47_fault(NULL), bcp47_equal(NULL, 'en'), bcp47_equal('en', NULL);" \
+    "SELECT bcp47_explain(NULL), bcp47_explain('en_US'), bcp47_explain('EN');" \
     "SELECT bcp47_canonical(''), bcp47_fault(''), bcp47_fault(x'ff'), bcp47_fault(1);" \
     "SELECT length(bcp47_canonical('en-x-' || substr(replace(hex(zeroblob(700)), '00', 'abcdefgh-'), 1, 1007)));" \
     "SELECT 'zh-yue' = 'YUE' COLLATE BCP47, 'zh' = 'YUE' COLLATE BCP47;" \
@@ -22,8 +35,12 @@ got=$(sqlite3 :memory: ".load $1/bcp47" "SELECT bcp47_load('$2');" \
     "EXPLAIN QUERY PLAN SELECT * FROM books WHERE bcp47_canonical(tag) = 'he';" 2>&1)
 wanted='1
 yue|1|BadByte 1
+Region 2 27 sgn-DE
+Whole 1 44 gsg
+= gsg
 NULL|NULL|NULL|0
 NULL|NULL|NULL|NULL
+NULL|NULL|= en
 NULL|EmptySubtag 1|BadByte 1|BadLanguage 1
 1012
 1|0

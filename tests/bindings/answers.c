@@ -1,5 +1,5 @@
 /* Answers each line of a file as `langtag canon` does, by so many threads that each hold the one registry, and prints
-   the lines in order. Arguments: registry, lines, threads. */
+   the lines in order. Arguments: registry, lines, threads; and `explain`, to answer as that command does. */
 #include "support.h"
 #include <pthread.h>
 
@@ -10,15 +10,19 @@ typedef struct {
     char *lines;
 } part;
 
+static int is_explained = 0;
+
 static void *answer(void *data) {
     part *p = data;
-    uint8_t buffer[8192];
-    char line[9000];
+    static _Thread_local uint8_t buffer[65536];
+    static _Thread_local char line[66000];
     for (size_t i = p->begin; i < p->end;) {
         size_t j = i;
         while (p->texts[j] != '\n') j++;
-        bcp47_outcome o = bcp47_canonical(&p->handle, p->texts + i, j - i, buffer, sizeof buffer);
+        bcp47_outcome o = is_explained ? bcp47_explain(&p->handle, p->texts + i, j - i, buffer, sizeof buffer)
+                                       : bcp47_canonical(&p->handle, p->texts + i, j - i, buffer, sizeof buffer);
         size_t n = (size_t)line_of(o, buffer, line, sizeof line);
+        if (is_explained && o.status == BCP47_DONE) n--;
         if (p->used + n > p->room && !(p->lines = realloc(p->lines, p->room = 2 * (p->room + n)))) exit(4);
         memcpy(p->lines + p->used, line, n);
         p->used += n;
@@ -30,6 +34,7 @@ static void *answer(void *data) {
 int main(int count, char **words) {
     size_t length, texts_length;
     int threads = count > 3 ? atoi(words[3]) : 1;
+    is_explained = count > 4 && !strcmp(words[4], "explain");
     uint8_t line[BCP47_LINE], *bytes = read_all(words[1], &length), *texts = read_all(words[2], &texts_length);
     bcp47_handle registry = {NULL};
     bcp47_outcome o = bcp47_open(&registry, bytes, length, line, sizeof line);

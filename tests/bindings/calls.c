@@ -59,13 +59,48 @@ static void others(void) {
     CHECK(EQUAL("zh-yue", "zh").status == BCP47_DIFFERENT);
     CHECK(EQUAL("zh", "xx").status == BCP47_INVALID);
     CHECK(EQUAL("", "xx").status == BCP47_NOT_A_TAG);
-    CHECK(is_text(ASK(bcp47_explain, "sgn-dd"), "Region 2 27\nWhole 1 44\n= gsg"));
+    CHECK(is_text(ASK(bcp47_explain, "sgn-dd"), "Region 2 27 sgn-DE\nWhole 1 44 gsg\n= gsg\n"));
+    CHECK(is_text(ASK(bcp47_explain, "EN"), "= en\n"));
     CHECK(ASK(bcp47_explain, "en_US").status == BCP47_NOT_A_TAG);
+    memset(buffer, '#', sizeof buffer);
+    o = bcp47_explain(&registry, (const uint8_t *)"en", 2, buffer, 4);
+    CHECK(o.status == BCP47_BUFFER_TOO_SMALL && o.length == 5 && buffer[0] == '#');
     CHECK(is_text(bcp47_status_name(BCP47_INVALID, buffer, sizeof buffer), "Invalid"));
-    CHECK(is_text(bcp47_status_name(11, buffer, sizeof buffer), ""));
+    CHECK(is_text(bcp47_status_name(BCP47_WRONG_END, buffer, sizeof buffer), "WrongEnd"));
+    CHECK(is_text(bcp47_status_name(13, buffer, sizeof buffer), ""));
+    CHECK(is_text(bcp47_kind_name(BCP47_EXTLANG, buffer, sizeof buffer), "Extlang"));
+    CHECK(is_text(bcp47_kind_name(BCP47_SWAP_FIELDS, buffer, sizeof buffer), "SwapFields"));
+    CHECK(is_text(bcp47_kind_name(0, buffer, sizeof buffer), ""));
+    CHECK(is_text(bcp47_kind_name(15, buffer, sizeof buffer), ""));
     CHECK(is_text(bcp47_fault_name(1, buffer, sizeof buffer), "TooLong"));
     CHECK(is_text(bcp47_fault_name(52, buffer, sizeof buffer), "U6"));
     CHECK(is_text(bcp47_fault_name(53, buffer, sizeof buffer), ""));
+}
+
+static int is_judged(const char *text, const bcp47_step *steps, size_t count, const char *last, uint8_t status, uint64_t place) {
+    bcp47_outcome o = bcp47_verify(&registry, (const uint8_t *)text, strlen(text), steps, count, (const uint8_t *)last, strlen(last));
+    return o.status == status && o.place == place && o.length == 0;
+}
+
+static void verify(void) {
+    bcp47_step steps[2] = {{BCP47_REGION, 2, 27}, {BCP47_WHOLE, 1, 44}};
+    CHECK(is_judged("sgn-dd", steps, 2, "GSG", BCP47_DONE, 0));
+    CHECK(is_judged("sgn-dd", steps, 1, "sgn-DE", BCP47_DONE, 0));
+    CHECK(is_judged("sgn-dd", NULL, 0, "sgn-DD", BCP47_DONE, 0));
+    CHECK(is_judged("sgn-dd", steps, 2, "sgn", BCP47_WRONG_END, 0));
+    CHECK(is_judged("sgn-dd", steps, 1, "gsg", BCP47_WRONG_END, 0));
+    CHECK(is_judged("sgn-dd", steps + 1, 1, "gsg", BCP47_NO_SUCH_STEP, 1));
+    CHECK(is_judged("xx", steps, 2, "gsg", BCP47_INVALID, 1));
+    CHECK(is_judged("en_US", steps, 2, "gsg", BCP47_NOT_A_TAG, 1));
+    CHECK(is_judged("sgn-dd", steps, 2, "gsg-", BCP47_NOT_A_TAG, 2));
+    steps[1].number = 43;
+    CHECK(is_judged("sgn-dd", steps, 2, "gsg", BCP47_NO_SUCH_STEP, 2));
+    steps[1] = (bcp47_step){15, 1, 44};
+    CHECK(is_judged("sgn-dd", steps, 2, "gsg", BCP47_NO_SUCH_STEP, 2));
+    CHECK(is_judged("sgn-dd", steps, 2, "sgn-DE", BCP47_NO_SUCH_STEP, 2));
+    steps[0].kind = 0;
+    CHECK(is_judged("sgn-dd", steps, 2, "sgn-DD", BCP47_NO_SUCH_STEP, 1));
+    CHECK(is_judged("xx", steps, 2, "gsg", BCP47_INVALID, 1));
 }
 
 static void many(void) {
@@ -90,6 +125,7 @@ int main(int count, char **words) {
     CHECK(o.status == BCP47_DONE && bcp47_is_open(&registry));
     canonical();
     others();
+    verify();
     many();
     bcp47_handle other = {NULL};
     CHECK(bcp47_share(&registry, &other) == BCP47_DONE && bcp47_is_open(&other));

@@ -1,39 +1,66 @@
-/* Refuses each growth of memory in turn, in each call; then counts those of calls that take none. Argument: the sample
-   registry. */
+/* Refuses each growth of memory in turn, in each call; then counts those of calls that take none. Linked with
+   -Wl,--wrap=malloc and so on, so that sanitizers and valgrind see what is taken. Arguments: the sample registry, and how
+   far it is from one growth that is refused to the next (1, if that is not given). */
 #include "support.h"
 
-extern void *__libc_malloc(size_t), *__libc_calloc(size_t, size_t), *__libc_realloc(void *, size_t);
+void *__real_malloc(size_t), *__real_calloc(size_t, size_t), *__real_realloc(void *, size_t);
+void *__wrap_malloc(size_t), *__wrap_calloc(size_t, size_t), *__wrap_realloc(void *, size_t);
 static long refused_at = 0, growths = 0;
 
 static int is_refused(void) {
     return ++growths == refused_at;
 }
 
-void *malloc(size_t size) {
-    return is_refused() ? NULL : __libc_malloc(size);
+void *__wrap_malloc(size_t size) {
+    return is_refused() ? NULL : __real_malloc(size);
 }
 
-void *calloc(size_t items, size_t size) {
-    return is_refused() ? NULL : __libc_calloc(items, size);
+void *__wrap_calloc(size_t items, size_t size) {
+    return is_refused() ? NULL : __real_calloc(items, size);
 }
 
-void *realloc(void *old, size_t size) {
-    return is_refused() ? NULL : __libc_realloc(old, size);
+void *__wrap_realloc(void *old, size_t size) {
+    return is_refused() ? NULL : __real_realloc(old, size);
 }
 
 static const char *const tags[] = {"zh-yue", "en-us", "I-KLINGON", "sgn-dd", "en-t-iw-m0-names", "en-u-nu-latn-ca-buddhist-foo",
                                    "en_US", "xx", "de-1901-1901", "x-own-use", "en-a-bbb-x-own"};
 #define TAGS (sizeof tags / sizeof *tags)
+#define CALLS 7
 static uint8_t buffer[4096];
-static char wanted[5 * TAGS][512];
+static char wanted[CALLS * TAGS][512];
+static const bcp47_step steps[2] = {{BCP47_REGION, 2, 27}, {BCP47_WHOLE, 1, 44}};
 
-static void kept(int is_first, size_t at, bcp47_outcome o, long before) {
+/* Whether a growth was refused since so many. */
+static int was_refused(long before) {
+    return before < refused_at && refused_at <= growths;
+}
+
+/* An answer is that of the run in which no growth was refused; or the growth of this call was refused. */
+static void kept(int is_first, size_t at, bcp47_outcome o, const uint8_t *text, long before) {
     char line[512];
-    int n = line_of(o, buffer, line, sizeof line);
+    int n = line_of(o, text, line, sizeof line);
     snprintf(line + n, sizeof line - (size_t)n, "%d", o.status);
     if (is_first) strcpy(wanted[at], line);
-    if (o.status == BCP47_OUT_OF_MEMORY) CHECK(growths >= refused_at && before < refused_at);
+    if (o.status == BCP47_OUT_OF_MEMORY) CHECK(was_refused(before));
     else CHECK(!strcmp(line, wanted[at]));
+}
+
+static void ask(bcp47_handle *handle, int is_first, size_t at, const uint8_t *text, size_t n) {
+    long before = growths;
+    kept(is_first, at, bcp47_canonical(handle, text, n, buffer, sizeof buffer), buffer, before);
+    before = growths;
+    kept(is_first, at + 1, bcp47_extlang(handle, text, n, buffer, sizeof buffer), buffer, before);
+    before = growths;
+    kept(is_first, at + 2, bcp47_classify(handle, text, n, buffer, sizeof buffer), buffer, before);
+    before = growths;
+    kept(is_first, at + 3, bcp47_explain(handle, text, n, buffer, sizeof buffer), buffer, before);
+    before = growths;
+    kept(is_first, at + 4, bcp47_equal(handle, text, n, (const uint8_t *)"yue", 3, buffer, sizeof buffer), buffer, before);
+    before = growths;
+    kept(is_first, at + 5, bcp47_validate(handle, text, n), buffer, before);
+    before = growths;
+    kept(is_first, at + 6, bcp47_verify(handle, text, n, steps, 2, (const uint8_t *)"gsg", 3), buffer, before);
 }
 
 /* All calls, with the growth of this number refused; answers whether one was. */
@@ -43,39 +70,49 @@ static int run(const uint8_t *bytes, size_t length, long number) {
     refused_at = number;
     bcp47_outcome o = bcp47_open(&first, bytes, length, buffer, sizeof buffer);
     if (o.status) {
-        CHECK(o.status == BCP47_OUT_OF_MEMORY && !bcp47_is_open(&first) && !memcmp(buffer, "OutOfMemory", o.length));
+        CHECK(o.status == BCP47_OUT_OF_MEMORY && was_refused(0));
+        CHECK(!bcp47_is_open(&first) && o.length == strlen("OutOfMemory") && !memcmp(buffer, "OutOfMemory", o.length));
         return growths >= number;
     }
-    for (size_t i = 0; i < TAGS; i++) {
-        const uint8_t *text = (const uint8_t *)tags[i];
-        size_t n = strlen(tags[i]);
-        long before = growths;
-        kept(!number, 5 * i, bcp47_canonical(&first, text, n, buffer, sizeof buffer), before);
-        kept(!number, 5 * i + 1, bcp47_extlang(&first, text, n, buffer, sizeof buffer), before);
-        kept(!number, 5 * i + 2, bcp47_classify(&first, text, n, buffer, sizeof buffer), before);
-        kept(!number, 5 * i + 3, bcp47_explain(&first, text, n, buffer, sizeof buffer), before);
-        kept(!number, 5 * i + 4, bcp47_equal(&first, text, n, (const uint8_t *)"yue", 3, buffer, sizeof buffer), before);
-        o = bcp47_validate(&first, text, n);
-        CHECK(o.status <= BCP47_INVALID || o.status == BCP47_OUT_OF_MEMORY);
-    }
+    for (size_t i = 0; i < TAGS; i++) ask(&first, !number, CALLS * i, (const uint8_t *)tags[i], strlen(tags[i]));
+    long before = growths;
     uint8_t shared = bcp47_share(&first, &second);
-    CHECK(shared == (bcp47_is_open(&second) ? BCP47_DONE : BCP47_OUT_OF_MEMORY));
+    CHECK(shared == (was_refused(before) ? BCP47_OUT_OF_MEMORY : BCP47_DONE) && bcp47_is_open(&second) == !shared);
     if (!shared) {
+        before = growths;
         o = bcp47_upgrade_check(&first, &second);
-        CHECK(o.status == BCP47_DONE || o.status == BCP47_OUT_OF_MEMORY);
+        CHECK(o.status == BCP47_DONE || (o.status == BCP47_OUT_OF_MEMORY && was_refused(before)));
         bcp47_close(&second);
     }
     bcp47_close(&first);
     return growths >= number;
 }
 
+/* The answers of the run in which no growth was refused. */
+static void first_answers(void) {
+    static const struct {
+        size_t at;
+        const char *line;
+    } rows[] = {
+        {0, "yue\n0"}, {3, "Extlang 2 22 yue\n= yue\n\n0"}, {4, "\n0"}, {5, "\n0"}, {6, "! None 1\n11"},
+        {CALLS + 4, "\n6"}, {3 * CALLS + 5, "\n0"}, {3 * CALLS + 6, "\n0"},
+        {6 * CALLS + 5, "! BadByte 1\n1"}, {7 * CALLS + 5, "! UnknownLanguage 1\n2"}, {7 * CALLS + 6, "! UnknownLanguage 1\n2"},
+        {8 * CALLS + 5, "! DuplicateVariant 3\n2"},
+    };
+    for (size_t i = 0; i < sizeof rows / sizeof *rows; i++) {
+        if (strcmp(wanted[rows[i].at], rows[i].line)) fprintf(stderr, "%zu: %s\n", rows[i].at, wanted[rows[i].at]);
+        CHECK(!strcmp(wanted[rows[i].at], rows[i].line));
+    }
+}
+
 int main(int count, char **words) {
     size_t length;
     if (count < 2) return 3;
     uint8_t *bytes = read_all(words[1], &length);
+    long far = count > 2 ? atol(words[2]) : 1, number = 1, runs = 0;
     run(bytes, length, 0);
-    long number = 1;
-    while (run(bytes, length, number)) number++;
+    first_answers();
+    for (; run(bytes, length, number); number += far) runs++;
     CHECK(number > 100);
     bcp47_handle registry = {NULL};
     refused_at = 0;
@@ -90,6 +127,6 @@ int main(int count, char **words) {
     CHECK(growths == 0);
     bcp47_close(&registry);
     free(bytes);
-    if (!failures) printf("growths: %ld refused in turn\n", number - 1);
+    if (!failures) printf("growths: %ld refused in turn\n", runs);
     return failures != 0;
 }

@@ -33,7 +33,7 @@ static UNUSED uint8_t *read_all(const char *path, size_t *length) {
 /* The line that the program prints for an answer, with the text that was written. */
 static UNUSED int line_of(bcp47_outcome o, const uint8_t *text, char *line, size_t room) {
     uint8_t name[BCP47_LINE];
-    if (o.status == BCP47_DONE) return snprintf(line, room, "%.*s\n", (int)o.length, (const char *)text);
+    if (o.status == BCP47_DONE || o.status == BCP47_DIFFERENT) return snprintf(line, room, "%.*s\n", (int)o.length, (const char *)text);
     if (o.status == BCP47_REPLACEMENT_REPEATS)
         return snprintf(line, room, "! ReplacementRepeats %.*s\n", (int)o.length, (const char *)text);
     bcp47_outcome n = bcp47_fault_name(o.detail, name, sizeof name);

@@ -13,9 +13,9 @@ import threading
 from typing import Iterable, List, NamedTuple, Optional, Tuple, Union
 
 from . import _library
-from ._library import BUFFER_TOO_SMALL, DIFFERENT, DONE, OUT_OF_MEMORY, REPLACEMENT_REPEATS
+from ._library import BUFFER_TOO_SMALL, DIFFERENT, DONE, NO_SUCH_STEP, OUT_OF_MEMORY, REPLACEMENT_REPEATS, WRONG_END
 
-__all__ = ["Explanation", "RefusedRegistry", "RefusedTag", "RefusedUpgrade", "Registry", "Step", "Tag"]
+__all__ = ["Explanation", "RefusedRegistry", "RefusedTag", "RefusedTrace", "RefusedUpgrade", "Registry", "Step", "Tag"]
 
 _calls = _library.load()
 _CLASSES = {1: "langtag", 2: "privateuse", 3: "grandfathered"}
@@ -45,12 +45,17 @@ class RefusedUpgrade(Refused):
     """A newer registry does not keep what an older one promised. The place is the number of a record."""
 
 
+class RefusedTrace(Refused):
+    """Steps do not lead from a tag to another: NoSuchStep, with the number of a step as the place, or WrongEnd."""
+
+
 class Step(NamedTuple):
-    """A step of an explanation: its kind, the place of its subtag, and the number of the record that it uses."""
+    """A step: its kind, the place of its subtag, the number of the record that it uses, and the tag to which it leads."""
 
     kind: str
     place: int
     number: int
+    tag: str
 
 
 class Explanation(NamedTuple):
@@ -64,6 +69,10 @@ def _name(call, number: int) -> str:
     buffer = ctypes.create_string_buffer(80)
     outcome = call(number, buffer, 80)
     return buffer.raw[: outcome.length].decode("ascii")
+
+
+# The number of each kind of step.
+_KINDS = {_name(_calls.bcp47_kind_name, number): number for number in range(1, 15)}
 
 
 def _refusal(kind, outcome: _library.Outcome, text: bytes = b"") -> Exception:
@@ -86,6 +95,14 @@ def _bytes(text: Union[str, "Tag"]) -> bytes:
     if not isinstance(text, str):
         raise TypeError(f"a tag is a str, not {type(text).__name__}")
     return text.encode("utf-8")
+
+
+def _numbers(step: Step) -> _library.Step:
+    """A step in numbers. One that has none, as no kind has its name, gets zeros, which lead nowhere."""
+    kind = _KINDS.get(step.kind, 0)
+    if not all(isinstance(number, int) and 0 <= number < 2**32 for number in (step.place, step.number)):
+        return _library.Step(0, 0, 0)
+    return _library.Step(kind, step.place, step.number)
 
 
 class Registry:
@@ -142,12 +159,12 @@ class Registry:
         words = [word for text in texts for word in (text, len(text))]
         with self._lock:
             self._check()
-            outcome = call(self._handle, *words, self._buffer, self._room)
+            buffer = self._buffer
+            outcome = call(self._handle, *words, buffer, self._room)
             if outcome.status == BUFFER_TOO_SMALL:
-                self._room = 2 * outcome.length
-                self._buffer = ctypes.create_string_buffer(self._room)
-                outcome = call(self._handle, *words, self._buffer, self._room)
-            return outcome, ctypes.string_at(self._buffer, outcome.length)
+                buffer = ctypes.create_string_buffer(outcome.length)
+                outcome = call(self._handle, *words, buffer, outcome.length)
+            return outcome, ctypes.string_at(buffer, outcome.length)
 
     def _text(self, call, tag: Union[str, "Tag"]) -> str:
         outcome, text = self._ask(call, _bytes(tag))
@@ -205,9 +222,31 @@ class Registry:
 
     def explain(self, tag: Union[str, "Tag"]) -> Explanation:
         """The steps from a tag to its canonical form. Raises RefusedTag."""
-        *lines, last = self._text(_calls.bcp47_explain, tag).split("\n")
+        *lines, last = self._text(_calls.bcp47_explain, tag).splitlines()
         steps = (line.split(" ") for line in lines)
-        return Explanation(tuple(Step(kind, int(place), int(number)) for kind, place, number in steps), last[2:])
+        return Explanation(tuple(Step(kind, int(place), int(number), after) for kind, place, number, after in steps), last[2:])
+
+    def verify(self, tag: Union[str, "Tag"], steps: Iterable[Step], last: Union[str, "Tag", None] = None) -> None:
+        """Returns where steps lead from a valid tag, one after another, to the last: that of the last step, if none is given.
+
+        The steps are judged by their kinds, places and numbers. Raises RefusedTrace where they don't lead there, and
+        RefusedTag for the tag, or else for the last.
+        """
+        steps = tuple(steps)
+        for step in steps:
+            if not isinstance(step, Step):
+                raise TypeError(f"a step is a Step, not {type(step).__name__}")
+        text = _bytes(tag)
+        end = _bytes(last) if last is not None else _bytes(steps[-1].tag) if steps else text
+        told = (_library.Step * len(steps))(*map(_numbers, steps))
+        with self._lock:
+            self._check()
+            outcome = _calls.bcp47_verify(self._handle, text, len(text), told, len(steps), end, len(end))
+        if outcome.status in (NO_SUCH_STEP, WRONG_END):
+            status = _name(_calls.bcp47_status_name, outcome.status)
+            raise RefusedTrace(f"{status} {outcome.place}" if outcome.place else status, status, status, outcome.place)
+        if outcome.status != DONE:
+            raise _refusal(RefusedTag, outcome)
 
     def upgrade_check(self, newer: "Registry") -> None:
         """Returns where a newer registry keeps what this one promised. Raises RefusedUpgrade where it does not."""

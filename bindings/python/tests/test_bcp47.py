@@ -19,8 +19,10 @@ class Examples(unittest.TestCase):
             with self.assertRaises(bcp47.RefusedTag) as raised:
                 registry.canonical("en_US")
             self.assertEqual((str(raised.exception), raised.exception.fault, raised.exception.place), ("BadByte 1", "BadByte", 1))
-            self.assertEqual(registry.explain("sgn-dd"),
-                             ((bcp47.Step("Region", 2, 27), bcp47.Step("Whole", 1, 44)), "gsg"))
+            explanation = registry.explain("sgn-dd")
+            self.assertEqual(explanation,
+                             ((bcp47.Step("Region", 2, 27, "sgn-DE"), bcp47.Step("Whole", 1, 44, "gsg")), "gsg"))
+            self.assertIsNone(registry.verify("sgn-dd", explanation.steps))
 
 
 class Calls(unittest.TestCase):
@@ -38,6 +40,40 @@ class Calls(unittest.TestCase):
         self.assertRaises(bcp47.RefusedTag, self.registry.validate, "xx")
         self.assertRaises(bcp47.RefusedTag, self.registry.equivalent, "en", "xx")
         self.assertRaises(bcp47.RefusedTag, self.registry.explain, "")
+
+    def judged(self, tag, steps, last=None):
+        """What is raised for steps."""
+        with self.assertRaises(bcp47.RefusedTrace) as raised:
+            self.registry.verify(tag, steps, last)
+        return str(raised.exception), raised.exception.status, raised.exception.place
+
+    def test_verify(self):
+        first, second = steps = self.registry.explain("sgn-dd").steps
+        self.assertIsNone(self.registry.verify("sgn-dd", steps, "GSG"))
+        self.assertIsNone(self.registry.verify(bcp47.Tag("sgn-dd"), [first]))
+        self.assertIsNone(self.registry.verify("en", []))
+        self.assertIsNone(self.registry.verify("en", [], bcp47.Tag("EN")))
+        for wrong in (second._replace(number=43), second._replace(place=2), second._replace(kind="Region"),
+                      second._replace(kind="whole"), second._replace(place=2**32 + 1), second._replace(number=44.0),
+                      second._replace(place=-1)):
+            self.assertEqual(self.judged("sgn-dd", (first, wrong)), ("NoSuchStep 2", "NoSuchStep", 2))
+        self.assertEqual(self.judged("sgn-dd", (second,)), ("NoSuchStep 1", "NoSuchStep", 1))
+        self.assertEqual(self.judged("sgn-dd", (first, second, second)), ("NoSuchStep 3", "NoSuchStep", 3))
+        self.assertEqual(self.judged("sgn-dd", (first,), "gsg"), ("WrongEnd", "WrongEnd", 0))
+        self.assertEqual(self.judged("sgn-dd", (first, second._replace(tag="sgn"))), ("WrongEnd", "WrongEnd", 0))
+        self.assertEqual(self.judged("en", [], "de"), ("WrongEnd", "WrongEnd", 0))
+        self.assertRaises(bcp47.RefusedTag, self.registry.verify, "xx", steps)
+        self.assertRaises(bcp47.RefusedTag, self.registry.verify, "sgn-dd", steps, "gsg-")
+        self.assertRaises(TypeError, self.registry.verify, "sgn-dd", self.registry.explain("sgn-dd"))
+        self.assertRaises(TypeError, self.registry.verify, "sgn-dd", None)
+        self.assertRaises(TypeError, self.registry.verify, b"sgn-dd", steps)
+
+    def test_long_explanations(self):
+        tag = "en-u-" + "-".join(f"z{n:02}" for n in range(60, 0, -1))
+        explanation = self.registry.explain(tag)
+        self.assertEqual(len(explanation.steps), 60 * 59 // 2)
+        self.assertIsNone(self.registry.verify(tag, explanation.steps, explanation.canonical))
+        self.assertEqual(explanation.canonical, self.registry.canonical(tag))
 
     def test_tags(self):
         tag = bcp47.Tag("ZH-yue-hANT-hk")
@@ -81,6 +117,7 @@ class Calls(unittest.TestCase):
         for call in (registry.canonical, registry.extlang, registry.validate, registry.explain):
             self.assertRaises(ValueError, call, "en")
         self.assertRaises(ValueError, registry.canonical_many, ["en"])
+        self.assertRaises(ValueError, registry.verify, "en", [])
         self.assertRaises(ValueError, registry.equivalent, "en", "en")
         self.assertRaises(ValueError, registry.__enter__)
 

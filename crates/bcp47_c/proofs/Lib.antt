@@ -1,2 +1,4 @@
 pub mod AsBox
 pub mod Refusals
+pub mod Fronts
+pub mod KindNumbers

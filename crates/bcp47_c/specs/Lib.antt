@@ -3,5 +3,6 @@ pub mod Numbers
 pub mod Names
 pub mod Outcomes
 pub mod Texts
-pub mod Explanations
+pub mod Steps
+pub mod Traces
 pub mod Ends

@@ -5,7 +5,7 @@ unfoldable pub status_names : List (List ℕ)
 status_names =
     codes "Done" ∷ codes "NotATag" ∷ codes "Invalid" ∷ codes "ReplacementRepeats" ∷ codes "OutOfMemory" ∷
     codes "BufferTooSmall" ∷ codes "Different" ∷ codes "BadFile" ∷ codes "BadRecord" ∷ codes "Rejected" ∷
-    codes "NoUpgrade" ∷ []
+    codes "NoUpgrade" ∷ codes "NoSuchStep" ∷ codes "WrongEnd" ∷ []
 
 -- those of no fault, of a text, a tag, the bytes of a registry, a record, the check and an upgrade
 unfoldable pub fault_names : List (List ℕ)

@@ -1,5 +1,5 @@
 -- The numbers of faults, as C sees them; 0 is none, and is beside the status where memory runs out.
-use Rattle.std.specs.Prelude.{ℕ}
+use Rattle.std.specs.Prelude.{ℕ, ◌≡◌, ◌≢◌, Option, Some, None}
 use Rattle.lt_tag.specs.declared.faults.TagFaultKind.{TagFaultKind}
 use Rattle.lt_tag.specs.declared.faults.TagFaultKind.TheVariants as tag_kinds
 use Rattle.lt_registry.specs.declared.faults.ValidFaultKind.{ValidFaultKind}
@@ -8,6 +8,8 @@ use Rattle.lt_jar.specs.declared.faults.JarFaultKind.{JarFaultKind}
 use Rattle.lt_jar.specs.declared.faults.JarFaultKind.TheVariants as file_kinds
 use Rattle.lt_registry.specs.declared.faults.RecordFaultKind.{RecordFaultKind}
 use Rattle.lt_registry.specs.declared.faults.RecordFaultKind.TheVariants as record_kinds
+use Rattle.lt_rewrite.specs.declared.steps.StepKind.{StepKind}
+use Rattle.lt_rewrite.specs.declared.steps.StepKind.TheVariants as steps
 use Rattle.lt_check.specs.declared.conditions.Condition.{Condition}
 use Rattle.lt_check.specs.declared.conditions.Condition.TheVariants as conditions
 use Rattle.lt_upgrade.specs.declared.conditions.UpgradeCondition.{UpgradeCondition}
@@ -93,3 +95,25 @@ abbrev pub class : Class → ℕ
 class classes.LangTag = 1
 class classes.PrivateUse = 2
 class classes.Grandfathered = 3
+
+-- the kinds of step
+abbrev pub step_kind : StepKind → ℕ
+step_kind steps.Extlang = 1
+step_kind steps.Language = 2
+step_kind steps.Script = 3
+step_kind steps.Region = 4
+step_kind steps.Variant = 5
+step_kind steps.VariantLanguage = 6
+step_kind steps.Whole = 7
+step_kind steps.SwapExtensions = 8
+step_kind steps.DropAttribute = 9
+step_kind steps.SwapAttributes = 10
+step_kind steps.DropKeyword = 11
+step_kind steps.SwapKeywords = 12
+step_kind steps.DropTrue = 13
+step_kind steps.SwapFields = 14
+
+-- the kind that has a number, or that none has
+abbrev pub IsKindOf : ℕ → Option StepKind → Type 0
+IsKindOf n (Some kind) = n ≡ step_kind kind
+IsKindOf n None = (kind : StepKind) → n ≢ step_kind kind

@@ -3,34 +3,40 @@
 //! A call on a [`Handle`] wants it open, which is for its caller to see to: nothing checks C.
 #![tactic(auto)]
 
-ghost use Rattle.std.specs.Prelude.{◌≡◌, ◌≤◌, ◌<◌, List, [], Some, None, slice_index_or};
+ghost use Rattle.std.specs.Prelude.{◌≡◌, ◌≤◌, ◌<◌, ◌≢◌, List, [], Some, None, slice_index_or};
 ghost use Rattle.lt_registry.specs.Parts.{EntryParts};
+ghost use Rattle.lt_rewrite.specs.Names.{name_of};
+ghost use Rattle.lt_rewrite.specs.declared.steps.StepKind.{StepKind};
+ghost use Rattle.lt_canon.specs.ExplanationTexts.{IsExplanationTextOf};
 ghost use Rattle.lt_canon.specs.Texts.{IsCanonicalTextOf, IsTextRefusal};
 ghost use Rattle.bcp47_c.specs.Ends.{ChecksUpgrade, Classifies, Compares, Opens, Shares, Validates};
-ghost use Rattle.bcp47_c.specs.Explanations.{IsExplanationTextOf};
 ghost use Rattle.bcp47_c.specs.Names.{fault_names, status_names};
+ghost use Rattle.bcp47_c.specs.Numbers as number_of;
 ghost use Rattle.bcp47_c.specs.Outcomes.{Answers, IsDelivered, ended};
 ghost use Rattle.bcp47_c.specs.Texts.{IsExtlangTextOf};
+ghost use Rattle.bcp47_c.specs.Traces.{Verifies};
 
 mod blocks;
 mod errors;
-mod explanations;
 mod handle;
 mod names;
 mod numbers;
 mod opened;
 mod outcomes;
+mod steps;
 mod texts;
+mod traces;
 
 use errors::refuse_registry;
 pub use handle::Handle;
 use handle::{put, take};
-use names::{LAST_FAULT, LAST_STATUS, fault_name, status_name};
+use names::{LAST_FAULT, LAST_STATUS, fault_name, kind_name, status_name};
 use numbers::{DONE, OUT_OF_MEMORY};
 use opened::Opened;
 pub use outcomes::Outcome;
 use outcomes::{deliver, ended};
 use std::alloc::Global;
+pub use steps::StepNumbers;
 
 /// Opens the registry whose text the bytes are, in a handle that holds nothing. Where it is refused the handle holds
 /// nothing still, and the line is written that the program prints.
@@ -141,7 +147,8 @@ pub extern "C" fn bcp47_classify(
     outcome
 }
 
-/// Writes the steps from the tag that a text is read as to its canonical form, each a line, and that form (RFC 5646, 4.5).
+/// Writes the explanation of the tag that a text is read as: each step to its canonical form, with the tag to which
+/// the step leads, and that form, each a line that a line feed ends (RFC 5646, 4.5).
 #[unsafe(no_mangle)]
 pub extern "C" fn bcp47_explain(
     alloc: Global,
@@ -154,8 +161,29 @@ pub extern "C" fn bcp47_explain(
     ensures kept { handle.new.held ≡ Some registry }
     ensures answer { Answers (IsExplanationTextOf registry text.now) (IsTextRefusal registry text.now) buffer.old buffer.new result }
 {
-    let mut opened = take(alloc, handle);
+    let opened = take(alloc, handle);
     let outcome = opened.explain(alloc, text, buffer);
+    put(handle, opened);
+    outcome
+}
+
+/// Tells whether steps lead from the tag that a text is read as, which is valid, one after another to the tag that
+/// another text is read as, which is then equivalent to it (RFC 5646, 4.5).
+#[unsafe(no_mangle)]
+pub extern "C" fn bcp47_verify(
+    alloc: Global,
+    handle: &mut Handle,
+    text: &[u8],
+    steps: &[StepNumbers],
+    last: &[u8],
+) -> Outcome
+    ghost registry: { List EntryParts }
+    requires { handle.old.held ≡ Some registry }
+    ensures kept { handle.new.held ≡ Some registry }
+    ensures answer { Verifies registry text.now steps.now last.now result }
+{
+    let opened = take(alloc, handle);
+    let outcome = opened.verify(alloc, text, steps, last);
     put(handle, opened);
     outcome
 }
@@ -230,8 +258,8 @@ pub extern "C" fn bcp47_upgrade_check(
 /// Writes the name of a status; nothing for a number of none.
 #[unsafe(no_mangle)]
 pub extern "C" fn bcp47_status_name(status: u8, buffer: &mut [u8]) -> Outcome
-    ensures named { status ≤ 10 → IsDelivered (ended 0) (slice_index_or status_names status []) buffer.old buffer.new result }
-    ensures none { 10 < status → IsDelivered (ended 0) [] buffer.old buffer.new result }
+    ensures named { status ≤ 12 → IsDelivered (ended 0) (slice_index_or status_names status []) buffer.old buffer.new result }
+    ensures none { 12 < status → IsDelivered (ended 0) [] buffer.old buffer.new result }
 {
     let name = if status <= LAST_STATUS {
         status_name(status)
@@ -253,4 +281,13 @@ pub extern "C" fn bcp47_fault_name(fault: u8, buffer: &mut [u8]) -> Outcome
         ""
     };
     deliver(ended(DONE), name.as_bytes(), buffer)
+}
+
+/// Writes the name of a kind of step, as the program prints it; nothing for a number of none.
+#[unsafe(no_mangle)]
+pub extern "C" fn bcp47_kind_name(kind: u8, buffer: &mut [u8]) -> Outcome
+    ensures named { (k : StepKind) → kind ≡ number_of.step_kind k → IsDelivered (ended 0) (name_of k) buffer.old buffer.new result }
+    ensures none { ((k : StepKind) → kind ≢ number_of.step_kind k) → IsDelivered (ended 0) [] buffer.old buffer.new result }
+{
+    deliver(ended(DONE), kind_name(kind).as_bytes(), buffer)
 }

@@ -1,9 +1,14 @@
 //! The names of statuses and faults.
-ghost use Rattle.std.specs.Prelude.{◌≡◌, ◌≤◌, [], slice_index_or};
+ghost use Rattle.std.specs.Prelude.{◌≡◌, ◌≤◌, ◌≢◌, [], slice_index_or};
+ghost use Rattle.lt_rewrite.specs.Names.{name_of};
+ghost use Rattle.lt_rewrite.specs.declared.steps.StepKind.{StepKind};
 ghost use Rattle.bcp47_c.specs.Names.{fault_names, status_names};
+ghost use Rattle.bcp47_c.specs.Numbers as number_of;
+
+use crate::numbers::step_kind;
 
 /// The greatest number of a status.
-pub(crate) const LAST_STATUS: u8 = 10;
+pub(crate) const LAST_STATUS: u8 = 12;
 
 /// The greatest number of a fault.
 pub(crate) const LAST_FAULT: u8 = 52;
@@ -11,7 +16,7 @@ pub(crate) const LAST_FAULT: u8 = 52;
 /// The name of a status.
 #[tactic(auto, unfolding(crate::specs::Names::status_names))]
 pub(crate) fn status_name(status: u8) -> &'static str
-    requires { status ≤ 10 }
+    requires { status ≤ 12 }
     ensures { result.now ≡ slice_index_or status_names status [] }
 {
     match status {
@@ -26,6 +31,8 @@ pub(crate) fn status_name(status: u8) -> &'static str
         8 => "BadRecord",
         9 => "Rejected",
         10 => "NoUpgrade",
+        11 => "NoSuchStep",
+        12 => "WrongEnd",
         _ => unreachable!(),
     }
 }
@@ -91,5 +98,17 @@ pub(crate) fn fault_name(fault: u8) -> &'static str
         51 => "U5",
         52 => "U6",
         _ => unreachable!(),
+    }
+}
+
+/// The name of the kind of step that has a number; nothing for a number of none.
+#[tactic(auto, using(crate::proofs::KindNumbers::same_kind))]
+pub(crate) fn kind_name(number: u8) -> &'static str
+    ensures named { (k : StepKind) → number ≡ number_of.step_kind k → result.now ≡ name_of k }
+    ensures none { ((k : StepKind) → number ≢ number_of.step_kind k) → result.now ≡ [] }
+{
+    match step_kind(number) {
+        Some(kind) => kind.name(),
+        None => "",
     }
 }

@@ -3,7 +3,8 @@ ghost use Rattle.std.specs.Prelude.{◌≡◌};
 ghost use Rattle.bcp47_c.specs.Numbers as numbers;
 
 use bcp47::{
-    Class, Condition, JarFaultKind, RecordFaultKind, TagFaultKind, UpgradeCondition, ValidFaultKind,
+    Class, Condition, JarFaultKind, RecordFaultKind, StepKind, TagFaultKind, UpgradeCondition,
+    ValidFaultKind,
 };
 
 /// What was asked is done.
@@ -28,6 +29,10 @@ pub(crate) const BAD_RECORD: u8 = 8;
 pub(crate) const REJECTED: u8 = 9;
 /// The newer registry is no upgrade.
 pub(crate) const NO_UPGRADE: u8 = 10;
+/// A step of a trace does not lead on.
+pub(crate) const NO_SUCH_STEP: u8 = 11;
+/// The steps of a trace lead to another tag than its last.
+pub(crate) const WRONG_END: u8 = 12;
 
 /// The number of a fault of a text.
 pub(crate) fn tag_fault(kind: TagFaultKind) -> u8
@@ -141,4 +146,27 @@ pub(crate) fn class(class: Class) -> u8
         Class::PrivateUse => 2,
         Class::Grandfathered => 3,
     }
+}
+
+/// The kind of step that has a number, if one has.
+pub(crate) fn step_kind(number: u8) -> Option<StepKind>
+    ensures { numbers.IsKindOf number result }
+{
+    Some(match number {
+        1 => StepKind::Extlang,
+        2 => StepKind::Language,
+        3 => StepKind::Script,
+        4 => StepKind::Region,
+        5 => StepKind::Variant,
+        6 => StepKind::VariantLanguage,
+        7 => StepKind::Whole,
+        8 => StepKind::SwapExtensions,
+        9 => StepKind::DropAttribute,
+        10 => StepKind::SwapAttributes,
+        11 => StepKind::DropKeyword,
+        12 => StepKind::SwapKeywords,
+        13 => StepKind::DropTrue,
+        14 => StepKind::SwapFields,
+        _ => return None,
+    })
 }

@@ -1,17 +1,19 @@
 //! What a handle holds.
 ghost use Rattle.std.specs.Prelude.{◌≡◌, IfOk, IfErr, Ok, Err};
+ghost use Rattle.lt_canon.specs.ExplanationTexts.{IsExplanationTextOf};
 ghost use Rattle.lt_canon.specs.Texts.{IsCanonicalTextOf, IsTextRefusal};
 ghost use Rattle.bcp47.specs.Promise.{ReadsBytes};
 ghost use Rattle.bcp47_c.specs.Ends.{ChecksUpgrade, Classifies, Compares, Validates};
-ghost use Rattle.bcp47_c.specs.Explanations.{IsExplanationTextOf};
 ghost use Rattle.bcp47_c.specs.Outcomes.{Answers};
 ghost use Rattle.bcp47_c.specs.Texts.{IsExtlangTextOf};
+ghost use Rattle.bcp47_c.specs.Traces.{Verifies};
 
 use crate::errors::upgrade_said;
-use crate::explanations::write_explanation;
 use crate::numbers::{DIFFERENT, DONE, class};
 use crate::outcomes::{Outcome, Said, deliver, ended, refuse};
-use crate::texts::{equality, validity, write_extlang};
+use crate::steps::StepNumbers;
+use crate::texts::{equality, read_pair, validity, write_extlang};
+use crate::traces::{judge, trace_said};
 use bcp47::{OutOfMemory, Registry, RegistryError, Tag, TextRefusal, append_tag};
 use std::alloc::Global;
 use std::marker::Model;
@@ -140,15 +142,35 @@ impl Opened {
             Err(refusal) => refuse(&refusal, buffer),
         }
     }
-    /// Writes the explanation of the canonical form of the tag that a text is read as.
-    pub(crate) fn explain(&mut self, alloc: Global, text: &[u8], buffer: &mut [u8]) -> Outcome
-        ensures kept { self.new ≡ self.old }
-        ensures answer { Answers (IsExplanationTextOf self.old text.now) (IsTextRefusal self.old text.now) buffer.old buffer.new result }
+
+    /// Writes the explanation of the tag that a text is read as.
+    pub(crate) fn explain(&self, alloc: Global, text: &[u8], buffer: &mut [u8]) -> Outcome
+        ensures { Answers (IsExplanationTextOf self.now text.now) (IsTextRefusal self.now text.now) buffer.old buffer.new result }
     {
-        if let Err(refusal) = write_explanation(alloc, &self.registry, text, &mut self.texts) {
-            return refuse(&refusal, buffer);
+        match self.registry.explanation_text(alloc, text) {
+            Ok(lines) => deliver(ended(DONE), &lines, buffer),
+            Err(refusal) => refuse(&refusal, buffer),
         }
-        deliver(ended(DONE), &self.texts, buffer)
+    }
+
+    /// Tells whether steps in numbers lead from the tag that a text is read as to the one that another is read as.
+    pub(crate) fn verify(
+        &self,
+        alloc: Global,
+        text: &[u8],
+        steps: &[StepNumbers],
+        last: &[u8],
+    ) -> Outcome
+        ensures { Verifies self.now text.now steps.now last.now result }
+    {
+        let (tag, last) = match read_pair(alloc, text, last) {
+            Ok(pair) => pair,
+            Err(refusal) => return refuse(&refusal, &mut []),
+        };
+        match judge(alloc, &self.registry, &tag, steps, last) {
+            Ok(()) => deliver(ended(DONE), &[], &mut []),
+            Err(fault) => deliver(trace_said(fault), &[], &mut []),
+        }
     }
 
     /// Tells whether a newer registry upgrades this one.

@@ -1,7 +1,9 @@
 //! What a registry says of texts.
 ghost use Rattle.std.specs.Prelude.{◌≡◌, IfOk, IfErr, OnOk};
+ghost use Rattle.lt_tag.specs.Faults.{HasTag};
 ghost use Rattle.lt_canon.specs.Texts.{IsTextRefusal};
 ghost use Rattle.bcp47_c.specs.Texts.{IsEqualityOf, IsExtlangTextOf, IsPairRefusal, IsValidityRefusal, IsValidText};
+ghost use Rattle.bcp47_c.specs.Traces.{IsPairReadingRefusal};
 
 use bcp47::{Refusal, Registry, Tag, TextRefusal, append_tag};
 use std::alloc::Global;
@@ -48,4 +50,18 @@ pub(crate) fn equality(
     let tag = Tag::read(alloc, first)?;
     let other = Tag::read(alloc, second)?;
     Ok(registry.equivalent(alloc, &tag, &other)?)
+}
+
+/// The tags that two texts are read as.
+pub(crate) fn read_pair(
+    alloc: Global,
+    first: &[u8],
+    second: &[u8],
+) -> Result<(Tag, Tag), TextRefusal>
+    ensures tags { IfOk result (λ tags. HasTag first.now tags.0 × HasTag second.now tags.1) }
+    ensures refusal { IfErr result (IsPairReadingRefusal first.now second.now) }
+{
+    let tag = Tag::read(alloc, first)?;
+    let other = Tag::read(alloc, second)?;
+    Ok((tag, other))
 }

@@ -1,0 +1,104 @@
+-- What is owed for a trace in numbers that is to be verified.
+use Rattle.std.specs.Prelude.{ℕ, ◌≡◌, ◌+◌, ◌⊎◌, List, [], ◌∷◌, ◌++◌, length, map, None}
+use Rattle.lt_tag.specs.Faults.{HasFault, HasTag}
+use Rattle.lt_tag.specs.Parts.{TagForm}
+use Rattle.lt_registry.specs.Faults.{IsFirstFault}
+use Rattle.lt_registry.specs.Parts.{EntryParts}
+use Rattle.lt_registry.specs.Validity.{IsValid}
+use Rattle.lt_rewrite.specs.Labels.{IsTrace, LeadsBy}
+use Rattle.lt_rewrite.specs.TagSteps.{AreEquivalent}
+use Rattle.lt_rewrite.specs.declared.steps.Step.{Step}
+use Rattle.lt_canon.specs.Texts.{ReadsAs}
+use Rattle.lt_canon.specs.Traces.{EndsElsewhere, IsValidTrace}
+use Rattle.lt_canon.specs.declared.refusals.TextRefusal.{TextRefusal}
+use Rattle.lt_canon.specs.declared.refusals.TextRefusal.TheVariants as refusals
+use Rattle.lt_canon.specs.declared.traces.TraceFault.{TraceFault}
+use Rattle.lt_canon.specs.declared.traces.TraceFault.TheVariants as faults
+use Rattle.bcp47_c.specs.Numbers.{valid_fault}
+use Rattle.bcp47_c.specs.Outcomes.{ended, outcome, IsRefusedAsOwed}
+use Rattle.bcp47_c.specs.Steps.{in_numbers, IsToldBy}
+use Rattle.bcp47_c.specs.declared.outcomes.Outcome.{Outcome}
+use Rattle.bcp47_c.specs.declared.outcomes.Said.{Said}
+use Rattle.bcp47_c.specs.declared.steps.StepNumbers.{StepNumbers}
+
+-- ---- steps in numbers (RFC 5646, 4.5)
+
+-- they tell steps that lead from the valid tag to the end, which is then equivalent to it
+pub record TellsTrace (R : List EntryParts) (t : TagForm) (told : List StepNumbers) (end : TagForm) : Type 0 where
+  pub steps : List Step
+  pub are : told ≡ map in_numbers steps
+  pub trace : IsValidTrace R t steps end
+  pub equivalent : AreEquivalent R t end
+
+-- the numbers tell a step that does not lead on from the tag
+pub record TellsMisstep (R : List EntryParts) (t : TagForm) (told : StepNumbers) : Type 0 where
+  pub step : Step
+  pub is : told ≡ in_numbers step
+  pub stuck : (u : TagForm) → LeadsBy R t step u → ⊥
+
+-- the nth, counted from 1, are the first that tell no step, or one that does not lead on
+pub record HasMisstep (R : List EntryParts) (t : TagForm) (told : List StepNumbers) (n : ℕ) : Type 0 where
+  pub before : List Step
+  pub nth : StepNumbers
+  pub after : List StepNumbers
+  pub there : told ≡ map in_numbers before ++ nth ∷ after
+  pub counted : n ≡ length before + 1
+  pub tag : TagForm
+  pub led : IsTrace R t before tag
+  pub stops : IsToldBy nth None ⊎ TellsMisstep R tag nth
+
+-- they tell steps that lead to another tag
+pub record TellsOtherEnd (R : List EntryParts) (t : TagForm) (told : List StepNumbers) (end : TagForm) : Type 0 where
+  pub steps : List Step
+  pub are : told ≡ map in_numbers steps
+  pub elsewhere : EndsElsewhere R t steps end
+
+-- the fault that is reported; running out of memory aside
+abbrev pub IsToldFault : List EntryParts → TagForm → List StepNumbers → TagForm → TraceFault → Type 0
+IsToldFault R t told end (faults.Invalid fault) = IsFirstFault R t fault.kind fault.place
+IsToldFault R t told end (faults.NoSuchStep n) = IsValid R t × HasMisstep R t told n
+IsToldFault R t told end faults.WrongEnd = IsValid R t × TellsOtherEnd R t told end
+IsToldFault R t told end faults.OutOfMemory = Unit {0}
+
+-- what a fault of the first steps says of all, where the next numbers, the nth, tell no step
+abbrev pub of_front : TraceFault → ℕ → TraceFault
+of_front (faults.Invalid fault) n = faults.Invalid fault
+of_front (faults.NoSuchStep m) n = faults.NoSuchStep m
+of_front faults.WrongEnd n = faults.NoSuchStep n
+of_front faults.OutOfMemory n = faults.OutOfMemory
+
+-- ---- texts and outcomes
+
+-- one of two texts is read as no tag, the first before the second; running out of memory aside
+abbrev pub IsPairReadingRefusal : List ℕ → List ℕ → TextRefusal → Type 0
+IsPairReadingRefusal first second (refusals.NotATag fault) =
+    HasFault first fault.kind fault.place ⊎ ReadsAs first (λ tag. HasFault second fault.kind fault.place)
+IsPairReadingRefusal first second (refusals.Invalid fault) = ⊥
+IsPairReadingRefusal first second (refusals.ReplacementRepeats variant) = ⊥
+IsPairReadingRefusal first second refusals.OutOfMemory = Unit {0}
+
+-- what is said of a fault
+abbrev pub trace_said : TraceFault → Said
+trace_said (faults.Invalid fault) = record { status = 2; detail = valid_fault fault.kind; place = fault.place }
+trace_said (faults.NoSuchStep n) = record { status = 11; detail = 0; place = n }
+trace_said faults.WrongEnd = ended 12
+trace_said faults.OutOfMemory = ended 4
+
+-- what is said of the steps between two tags
+abbrev pub IsJudged : List EntryParts → TagForm → List StepNumbers → TagForm → Outcome → Type 0
+IsJudged R t told end o =
+    (TellsTrace R t told end × (o ≡ outcome (ended 0) 0))
+    ⊎ ((fault : TraceFault) × IsToldFault R t told end fault × (o ≡ outcome (trace_said fault) 0))
+
+-- the two texts are read as tags, and the steps between them are judged
+pub record JudgesTexts (R : List EntryParts) (text : List ℕ) (told : List StepNumbers) (last : List ℕ) (o : Outcome) : Type 0 where
+  pub tag : TagForm
+  pub read : HasTag text tag
+  pub end : TagForm
+  pub read_end : HasTag last end
+  pub judged : IsJudged R tag told end o
+
+-- or one is read as none; no text goes with either
+abbrev pub Verifies : List EntryParts → List ℕ → List StepNumbers → List ℕ → Outcome → Type 0
+Verifies R text told last o =
+    JudgesTexts R text told last o ⊎ IsRefusedAsOwed (IsPairReadingRefusal text last) [] [] o

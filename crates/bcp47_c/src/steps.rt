@@ -1,0 +1,45 @@
+//! Steps in numbers, as C tells them.
+ghost use Rattle.std.specs.Prelude.{IfOk};
+ghost use Rattle.bcp47_c.specs.Steps.{IsFront, IsToldBy};
+
+use crate::numbers::step_kind;
+use bcp47::{OutOfMemory, Step};
+use std::alloc::Global;
+
+/// A step in numbers: that of its kind, its place, and the number of its record.
+#[repr(C)]
+#[derive(Clone, Copy, Drop)]
+pub struct StepNumbers {
+    /// The number of the kind.
+    pub kind: u8,
+    /// The place of the subtag that changes, counted from 1.
+    pub place: u32,
+    /// The number of the record that the step uses; 0 where it uses none.
+    pub number: u32,
+}
+
+/// The step that numbers tell, if they tell one.
+fn step_of(told: StepNumbers) -> Option<Step>
+    ensures { IsToldBy told result }
+{
+    let kind = step_kind(told.kind)?;
+    Some(Step {
+        kind,
+        place: told.place,
+        number: told.number,
+    })
+}
+
+/// The steps that numbers tell, up to the first that tell none.
+pub(crate) fn front_steps(alloc: Global, told: &[StepNumbers]) -> Result<Vec<Step>, OutOfMemory>
+    ensures { IfOk result (λ steps. IsFront told.now steps.items) }
+{
+    let mut steps = Vec::new(alloc);
+    for numbers in told {
+        let Some(step) = step_of(*numbers) else {
+            break;
+        };
+        steps.push(step)?;
+    }
+    Ok(steps)
+}

@@ -1,0 +1,66 @@
+//! Whether steps in numbers are a trace.
+ghost use Rattle.std.specs.Prelude.{◌≡◌, IfErr, OnOk};
+ghost use Rattle.bcp47_c.specs.Traces as spec;
+ghost use Rattle.bcp47_c.specs.Traces.{IsToldFault, TellsTrace};
+
+use crate::numbers::{INVALID, NO_SUCH_STEP, OUT_OF_MEMORY, WRONG_END, valid_fault};
+use crate::outcomes::{Said, ended};
+use crate::steps::{StepNumbers, front_steps};
+use bcp47::{Registry, Tag, Trace, TraceFault};
+use std::alloc::Global;
+
+/// What a fault of the first steps says of all, where the next numbers, counted from 1, tell no step.
+fn of_front(fault: TraceFault, next: usize) -> TraceFault
+    ensures { result ≡ spec.of_front fault next }
+{
+    match fault {
+        TraceFault::WrongEnd => TraceFault::NoSuchStep(next),
+        TraceFault::NoSuchStep(number) => TraceFault::NoSuchStep(number),
+        TraceFault::Invalid(fault) => TraceFault::Invalid(fault),
+        TraceFault::OutOfMemory => TraceFault::OutOfMemory,
+    }
+}
+
+/// Whether steps in numbers lead from a valid tag, one after another, to the last.
+pub(crate) fn judge(
+    alloc: Global,
+    registry: &Registry,
+    tag: &Tag,
+    told: &[StepNumbers],
+    last: Tag,
+) -> Result<(), TraceFault>
+    ensures trace { OnOk result (TellsTrace registry.now tag.now told.now last) }
+    ensures fault { IfErr result (IsToldFault registry.now tag.now told.now last) }
+{
+    let steps = front_steps(alloc, told)?;
+    let count = steps.len();
+    let judged = registry.verify(alloc, tag, &Trace { steps, last });
+    if count == told.len() {
+        return judged;
+    }
+    let next = count + 1;
+    match judged {
+        Ok(()) => Err(TraceFault::NoSuchStep(next)),
+        Err(fault) => Err(of_front(fault, next)),
+    }
+}
+
+/// What is said of steps that are no trace.
+pub(crate) fn trace_said(fault: TraceFault) -> Said
+    ensures { result ≡ spec.trace_said fault }
+{
+    match fault {
+        TraceFault::Invalid(fault) => Said {
+            status: INVALID,
+            detail: valid_fault(fault.kind),
+            place: u64::from(fault.place),
+        },
+        TraceFault::NoSuchStep(number) => Said {
+            status: NO_SUCH_STEP,
+            detail: 0,
+            place: number as u64,
+        },
+        TraceFault::WrongEnd => ended(WRONG_END),
+        TraceFault::OutOfMemory => ended(OUT_OF_MEMORY),
+    }
+}
