@@ -6,5 +6,4 @@ pub mod Printed
 pub mod Registries
 pub mod TagCommands
 pub mod UpgradeCommand
-pub mod Explanations
 pub mod Program

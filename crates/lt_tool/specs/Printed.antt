@@ -26,8 +26,7 @@ use Rattle.lt_tool.specs.Codes.{code_of}
 use Rattle.lt_tool.specs.Registries.{ByRegistry, Checks, HoldsRegistry, Reading, ReadsFile, RefusesRegistry}
 use Rattle.lt_tool.specs.declared.lines.Answer.{Answer}
 use Rattle.lt_tag.specs.declared.faults.OutOfMemory.{OutOfMemory}
-use Rattle.lt_tool.specs.TagCommands.{Compares, FormsExtlang}
-use Rattle.lt_tool.specs.Explanations.{Explains}
+use Rattle.lt_tool.specs.TagCommands.{Compares, Explains, FormsExtlang}
 use Rattle.lt_tool.specs.UpgradeCommand.{UpgradesFiles}
 use Rattle.lt_tool.specs.Streams.{IsUntouched, Stream}
 use Rattle.lt_tool.specs.Written.{LacksMemory, Prints, Says}

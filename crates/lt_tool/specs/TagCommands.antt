@@ -6,6 +6,7 @@ use Rattle.lt_tag.specs.Parts.{TagForm}
 use Rattle.lt_tag.specs.WellFormed.{spell}
 use Rattle.lt_registry.specs.Parts.{EntryParts}
 use Rattle.lt_canon.specs.Equivalence.{IsEquivalenceAnswer, IsFirstRefusal}
+use Rattle.lt_canon.specs.ExplanationTexts.{IsExplanationTextOf}
 use Rattle.lt_canon.specs.ExtlangForm.{IsExtlangFormOf}
 use Rattle.lt_canon.specs.Texts.{ReadsAs}
 use Rattle.lt_canon.specs.declared.refusals.Refusal.TheVariants as tag_refusals
@@ -80,3 +81,11 @@ Compares R first second line status.Refused = PrintsEquality R first second line
 Compares R first second line status.RegistryRefused = ⊥
 Compares R first second line status.Usage = ⊥
 Compares R first second line status.Failed = ⊥
+
+-- what `explain` prints by a registry, and how it ends
+abbrev pub Explains : List EntryParts → List ℕ → List ℕ → Status → Type 0
+Explains R text lines status.Done = IsExplanationTextOf R text lines
+Explains R text lines status.Refused = RefusesText R text lines
+Explains R text lines status.RegistryRefused = ⊥
+Explains R text lines status.Usage = ⊥
+Explains R text lines status.Failed = ⊥

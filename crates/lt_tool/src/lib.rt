@@ -1,7 +1,6 @@
 //! The program `langtag`: what its commands print, and its statuses.
 #![tactic(auto)]
 
-mod explanations;
 mod lines;
 mod printing;
 mod program;

@@ -1,16 +1,14 @@
 //! What is answered to one or two tags by the registry of a file.
 ghost use Rattle.std.specs.Prelude.{◌≡◌, IfOk, IfErr};
 ghost use Rattle.lt_canon.specs.Texts.{IsTextRefusal};
-ghost use Rattle.lt_tool.specs.Explanations.{Explains};
 ghost use Rattle.lt_tool.specs.Registries.{Answers, ByRegistry};
-ghost use Rattle.lt_tool.specs.TagCommands.{Compares, FormsExtlang, IsEqualityOf, IsExtlangTextOf, IsPairRefusal};
+ghost use Rattle.lt_tool.specs.TagCommands.{Compares, Explains, FormsExtlang, IsEqualityOf, IsExtlangTextOf, IsPairRefusal};
 ghost use Rattle.lt_tool.specs.Streams.{stream};
 
-use crate::explanations::explanation;
 use crate::lines::{Answer, answer_refusal};
 use crate::registries::{read_registry, refuse};
 use crate::status::Status;
-use lt_canon::{Checked, TextRefusal, equivalent, extlang_form};
+use lt_canon::{Checked, TextRefusal, equivalent, explanation_text, extlang_form};
 use lt_jar::Device;
 use lt_registry::Lookup;
 use lt_tag::{OutOfMemory, read_tag, write_tag};
@@ -93,7 +91,7 @@ fn answer_explain<L: Lookup>(
 ) -> Result<Answer, OutOfMemory>
     ensures { IfOk result (λ answer. Explains (L.listed checked.now) text.now answer.line.items answer.status) }
 {
-    match explanation(alloc, checked, text) {
+    match explanation_text(alloc, checked, text) {
         Ok(line) => Ok(Answer {
             line,
             status: Status::Done,

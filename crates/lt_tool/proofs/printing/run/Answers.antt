@@ -1,8 +1,7 @@
 use Rattle.std.proofs.Common.{refl}
-use Rattle.lt_tool.specs.Explanations.{Explains}
 use Rattle.lt_tool.specs.Printed.{Classifies}
 use Rattle.lt_tool.specs.Registries.{ByRegistry, Checks}
-use Rattle.lt_tool.specs.TagCommands.{Compares, FormsExtlang}
+use Rattle.lt_tool.specs.TagCommands.{Compares, Explains, FormsExtlang}
 use Rattle.lt_tool.proofs.AnswerLemmas.{printed_answer, printed_by, upgrades_more}
 use Rattle.lt_tool.proofs.printing.run.Goals as goal
 

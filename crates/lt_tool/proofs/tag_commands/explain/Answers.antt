@@ -1,4 +1,4 @@
-use Rattle.lt_tool.specs.Explanations.{Explains}
+use Rattle.lt_tool.specs.TagCommands.{Explains}
 use Rattle.lt_tool.proofs.AnswerLemmas.{answered_by, answered_refusal}
 use Rattle.lt_tool.proofs.tag_commands.explain.Goals as goal
 
