@@ -94,8 +94,8 @@ static void first_answers(void) {
         size_t at;
         const char *line;
     } rows[] = {
-        {0, "yue\n0"}, {3, "Extlang 2 22 yue\n= yue\n\n0"}, {4, "\n0"}, {5, "\n0"}, {6, "! None 1\n11"},
-        {CALLS + 4, "\n6"}, {3 * CALLS + 5, "\n0"}, {3 * CALLS + 6, "\n0"},
+        {0, "yue\n0"}, {3, "Extlang 2 23 yue\n= yue\n\n0"}, {4, "\n0"}, {5, "\n0"}, {6, "! None 1\n11"},
+        {CALLS + 4, "! UnknownRegion 2\n2"}, {3 * CALLS + 4, "\n6"}, {3 * CALLS + 5, "\n0"}, {3 * CALLS + 6, "\n0"},
         {6 * CALLS + 5, "! BadByte 1\n1"}, {7 * CALLS + 5, "! UnknownLanguage 1\n2"}, {7 * CALLS + 6, "! UnknownLanguage 1\n2"},
         {8 * CALLS + 5, "! DuplicateVariant 3\n2"},
     };
