@@ -65,7 +65,10 @@ fn explanations(rt: HostRuntime) -> Result<(), Fail> {
     let wrong = registry.verify(rt.alloc(), &other, &trace);
     assert_eq!(rt; wrong.err(), Some(TraceFault::NoSuchStep(1)));
     let lines = registry.explanation_text(rt.alloc(), b"IW-il")?;
-    assert_eq!(rt; lines.as_slice(), b"Language 1 4 he-IL\n= he-IL\n".as_slice());
+    assert_eq!(rt;
+        lines.as_slice(),
+        b"Language 1 4 he-IL\n= he-IL\n".as_slice()
+    );
     Ok(())
 }
 

@@ -208,10 +208,7 @@ pub(super) fn explanations<L: Lookup>(
 /// Texts, and the lines of their explanations.
 const LINES: [(&str, &str); 3] = [
     ("SGN-dd", "Region 2 27 sgn-DE\nWhole 1 44 gsg\n= gsg\n"),
-    (
-        "en-t-iw-x-A",
-        "Language 3 9 en-t-he-x-a\n= en-t-he-x-a\n",
-    ),
+    ("en-t-iw-x-A", "Language 3 9 en-t-he-x-a\n= en-t-he-x-a\n"),
     ("en-Latn", "= en-Latn\n"),
 ];
 
