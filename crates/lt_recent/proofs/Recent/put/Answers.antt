@@ -1,4 +1,4 @@
-use Rattle.std.proofs.Common.{◌+◌, ◌*◌, ◌%◌, ◌∙◌, ◌≡◌, length, take, ap, ap₂, arith, Some}
+use Rattle.std.proofs.Common.{◌+◌, ◌*◌, ◌%◌, ◌∙◌, ◌≡◌, length, ap, ap₂, arith}
 use Rattle.std.specs.List.{swap}
 use Rattle.std.proofs.lemmas.List.{take_all}
 use Rattle.lt_recent.specs.Recent.{kept}
