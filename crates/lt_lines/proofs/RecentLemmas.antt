@@ -1,7 +1,7 @@
 -- Answers that were given lately.
-use Rattle.std.proofs.Common.{◌≡◌, ◌⊎◌, ◌++◌, ℕ, List, Bool, false, Option, length, take, drop, inl, inr, sym, ap, subst, ◌∙◌, arith, slice_index_or}
-use Rattle.std.specs.List.{Contains}
-use Rattle.std.proofs.lemmas.List.Elements.{All-contains}
+use Rattle.std.proofs.Common.{◌≡◌, ◌<◌, ◌+◌, ◌++◌, ℕ, List, [], ◌∷◌, Bool, false, Option, length, take, drop, inl, inr, sym, ap, subst, ◌∙◌, arith, slice_index_or, slice_set}
+use Rattle.std.specs.List.{All, swap}
+use Rattle.std.proofs.lemmas.List.Elements.{All-contains, All-set}
 use Rattle.std.proofs.lemmas.List.{take_all}
 use Rattle.std.proofs.Math.Seq.{drop-append_seam}
 use Rattle.lt_registry.specs.Parts.{EntryParts}
@@ -41,14 +41,21 @@ recent_field R before table text answer old new refused recent held grown = reco
   is_canonical = recent_right (terms R (forms.Row before)) table text answer refused recent held;
 }
 
+-- what holds of each holds of each where two are exchanged
+all_swapped : {X : Type 0} (P : X → Type 0) (xs : List X) (i j : ℕ) → i < length xs → j < length xs → All P xs → All P (swap xs i j)
+all_swapped P [] i j below other all = all
+all_swapped P (x ∷ xs) i j below other all =
+    All-set P (slice_set (x ∷ xs) i (slice_index_or (x ∷ xs) j x)) j (slice_index_or (x ∷ xs) i x) (all i x below)
+    (All-set P (x ∷ xs) i (slice_index_or (x ∷ xs) j x) (all j x other) all)
+
 -- what is right may be put
 put_recent : (T : Terms) (old new : List (Option Kept)) (text answer : List ℕ) (refused : Bool) → PutsIn old new text answer refused
     → IsRecent T (kept text answer refused) → AreRecent T old → AreRecent T new
-put_recent T old new text answer refused puts right recent = record { each = λ k d lt. by_place (slice_index_or new k d) (puts k d lt) }
-  where
-    by_place : (place : Option Kept) → (place ≡ kept text answer refused) ⊎ Contains old place → IsRecent T place
-    by_place place (inl same) = subst (IsRecent T) (sym same) right
-    by_place place (inr held) = All-contains (IsRecent T) old place recent.each held
+put_recent T old new text answer refused (inl same) right recent = subst (AreRecent T) (sym same) recent
+put_recent T old new text answer refused (inr put) right recent =
+    let i = put.0 in
+    let exchanged = all_swapped (IsRecent T) old i (i + 1) (omega (arith, put.1)) put.1 recent.each in
+    record { each = subst (All (IsRecent T)) (sym put.2) (All-set (IsRecent T) (swap old i (i + 1)) i (kept text answer refused) right exchanged) }
 
 -- the answer that was appended for a text may be put
 pub put_answer : (R : List EntryParts) (before after : List (Option Kept)) (text old new answer : List ℕ) (refused : Bool) → PutsIn before after text answer refused

@@ -1,2 +1,1 @@
 pub mod LaneLemmas
-pub mod PlaceLemmas

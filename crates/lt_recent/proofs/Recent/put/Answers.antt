@@ -1,8 +1,7 @@
-use Rattle.std.proofs.Common.{◌+◌, ◌*◌, ◌%◌, ◌∙◌, ◌≡◌, length, take, ap, ap₂, arith, Some}
+use Rattle.std.proofs.Common.{◌+◌, ◌*◌, ◌%◌, ◌∙◌, ◌≡◌, inr, length, slice_set, ap, ap₂, arith}
 use Rattle.std.specs.List.{swap}
 use Rattle.std.proofs.lemmas.List.{take_all}
 use Rattle.lt_recent.specs.Recent.{kept}
-use Rattle.lt_recent.proofs.PlaceLemmas.{put_first}
 use Rattle.lt_recent.proofs.Recent.put.Goals as goal
 
 pub returns-then-first-len : goal.returns-then-first-len
@@ -14,7 +13,9 @@ returns-then-first-len c =
     let long = ap length c.self.view_is in
     let same_line : c.in-Some-Some.line ≡ line = c.in-Some-Some.ensures.same ∙ take_all (length line) line (omega arith) in
     let same_answer : c.in-Some-Some.answer ≡ answer = c.in-Some-Some.ensures'.same ∙ take_all (length answer) answer (omega arith) in
-    put_first c.args.self.now c.swap.new.self.items first (first + 1) (kept line answer c.args.refused) _
-    (omega (arith, c.if-first-len.true, c.len.ensures, places.ok.0, long)) (omega (arith, c.if-first-len.true, c.len.ensures, places.ok.0, long))
-    (c.swap.ensures.items ∙ ap (λ xs. swap xs first (first + 1)) c.self.view_is)
-    (ap₂ (λ l a. kept l a c.args.refused) same_line same_answer)
+    let exchanged = c.swap.ensures.items ∙ ap (λ xs. swap xs first (first + 1)) c.self.view_is in
+    inr (
+      first,
+      omega (arith, c.if-first-len.true, c.len.ensures, places.ok.0, long),
+      ap₂ (λ xs place. slice_set xs first place) exchanged (ap₂ (λ l a. kept l a c.args.refused) same_line same_answer),
+    )
