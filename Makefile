@@ -23,6 +23,7 @@ sqlite: lib
 # record, and runs the program on real files and streams, README's commands, and what is linked to the library for C.
 test:
 	rt ci
+	tests/keep_proofs.py
 	mkdir -p build
 	cp crates/langtag/out/langtag build/langtag
 	bench/growth.py lt_jar_tests lt_registry_tests

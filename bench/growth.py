@@ -10,7 +10,7 @@ A run refuses the growth of one number and no other, for each number from 1 on u
 A test of a module `growths` has to pass in each. A test `.._in_order` prints where memory ran out: over the
 runs these numbers may never fall, and each from 1 to the last has to be among them. A command has to give the
 answer that it gives without a refusal, or a front of it with `! OutOfMemory` and status 4. A test `.._without_growth` marks where calls
-begin that take no memory, and each growth behind that is refused: it has to pass and to meet none.
+begin that take no memory, and each growth after that is refused: it has to pass and to meet none.
 Prints the number of refusals in each, and ends with status 1 where one is not as it has to be.
 """
 
@@ -31,7 +31,7 @@ ORDER = "_in_order"
 RAN_OUT = re.compile(rb"ran out at (\d+) of (\d+)")
 
 # Counts the growths of a process and refuses the one of the number that the environment names. One of 64
-# GiB is a mark: it and each behind it are refused. A byte for each goes to the descriptor that is named.
+# GiB is a mark: it and each after it are refused. A byte for each goes to the descriptor that is named.
 REFUSER = r"""
 #include <stdlib.h>
 #include <unistd.h>
@@ -73,6 +73,8 @@ COMMANDS = [
     (["equal", SAMPLE, "YUE", "zh-yue"], b""),
     (["explain", SAMPLE, "sgn-dd"], b""),
     (["explain", SAMPLE, "en-u-foo-bar-foo-nu-latn-ca-buddhist-NU-arab"], b""),
+    (["verify", SAMPLE, "sgn-dd"], b"Region 2 27 sgn-DE\nWhole 1 44 gsg\n= gsg\n"),
+    (["verify", SAMPLE, "sgn-dd"], b"Region 2 27 sgn-DE" + b" " * 40),
     (["upgrade", SAMPLE, SAMPLE], b""),
 ]
 
@@ -137,7 +139,7 @@ def judge_test(library, name, words):
     if name.endswith(NONE):
         answer, met = run(library, words, 0)
         if answer[0] != 0 or met != b"m":
-            stop(words, answer, "a growth was refused behind the mark")
+            stop(words, answer, "a growth was refused after the mark")
         return 0
     places = []
 

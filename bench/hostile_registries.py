@@ -10,7 +10,7 @@ import random
 import sys
 
 LETTERS = "abcdefghijklmnopqrstuvwxyz"
-# So many variants of 4 characters behind a language of 3 make a tag of 1,023 bytes.
+# So many variants of 4 characters after a language of 3 make a tag of 1,023 bytes.
 MOST_VARIANTS = 204
 
 
@@ -59,7 +59,7 @@ def cycle(order):
 
 
 def then_cycle(order):
-    """A chain that ends, and behind it two languages that are each other's value."""
+    """A chain that ends, and after it two languages that are each other's value."""
     return chain(order) + [record("language", "yyyya", "yyyyb"), record("language", "yyyyb", "yyyya")]
 
 
@@ -96,7 +96,7 @@ def nested_ranges(count):
 
 
 def overlapping_ranges(count):
-    """Ranges each of which begins within the one before it and ends behind it."""
+    """Ranges each of which begins within the one before it and ends after it."""
     return [record("language", name(2 * n, 5) + ".." + name(2 * n + 3, 5)) for n in range(count)]
 
 
@@ -332,7 +332,7 @@ def folded_field(count):
 
 
 def folded_subtag(count):
-    """A Subtag that begins behind very many lines of one space and a full stop."""
+    """A Subtag that begins after very many lines of one space and a full stop."""
     return ["Type: language\nSubtag: a" + "\n ." * (33 * count)]
 
 

@@ -4,7 +4,7 @@
 Usage: bench/layers.py [--list]
 
 A crate's specs and contracts are for every crate above. Of its lemmas those are lent whose modules are declared
-`pub mod` in crates/NAME/proofs/Lib.antt; a `mod` is the crate's own, and can change behind the others. The check of a
+`pub mod` in crates/NAME/proofs/Lib.antt; a `mod` is the crate's own, and can change without the others. The check of a
 crate refuses to import a module that is not lent. This reads the same of the text, without a toolchain, and sees
 besides that a crate which parts what it lends from its own, by the comment OWN below, lends no module to nobody.
 

@@ -37,7 +37,7 @@ class Lines:
         return next(self.mixed).encode()
 
     def joined(self):
-        """Parts of some tags behind one another."""
+        """Parts of some tags one after another."""
         parts = [part for _ in range(self.random.randint(2, 4)) for part in self.tag().split(b"-")]
         return b"-".join(parts[self.random.randrange(3):])
 

@@ -18,7 +18,8 @@ put() {
 
 put 755 bin "$root/build/langtag"
 put 644 share/man/man1 "$root/docs/langtag.1"
-put 644 share/doc/langtag "$root/README.md" "$root"/docs/*.md
+put 644 share/doc/langtag "$root/README.md"
+put 644 share/doc/langtag/docs "$root"/docs/*.md
 put 644 share/zsh/site-functions "$root/completions/_langtag"
 put 644 share/fish/vendor_completions.d "$root/completions/langtag.fish"
 install -d "$to/share/bash-completion/completions"

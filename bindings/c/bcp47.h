@@ -1,4 +1,4 @@
-/* BCP 47 language tags by a registry of language subtags. docs/C.md tells of each call, and of what a caller owes. */
+/* BCP 47 language tags by a registry of language subtags. docs/C.md describes each call, and what a caller owes. */
 #ifndef BCP47_H
 #define BCP47_H
 
@@ -9,7 +9,7 @@
 extern "C" {
 #endif
 
-/* What holds a registry. All zero it holds nothing, and so it begins. */
+/* What holds a registry. It begins as zeros, which hold nothing. */
 typedef struct {
     void *place;
 } bcp47_handle;
@@ -17,7 +17,7 @@ typedef struct {
 /* What a call answers beside the text that it writes. */
 typedef struct {
     uint8_t status;  /* how the call ended, BCP47_DONE and so on */
-    uint8_t detail;  /* the number of a fault, which bcp47_fault_name names; of bcp47_classify the class */
+    uint8_t detail;  /* the number of a fault, which bcp47_fault_name names; for bcp47_classify the class */
     uint64_t place;  /* of a fault: the subtag, the line, the record or the step, counted from 1 */
     size_t length;   /* the bytes of the text, also where it does not fit the buffer */
 } bcp47_outcome;
@@ -42,7 +42,7 @@ enum {
 /* The classes of a tag, in `detail` of bcp47_classify. */
 enum { BCP47_LANGTAG = 1, BCP47_PRIVATE_USE = 2, BCP47_GRANDFATHERED = 3 };
 
-/* A step, as bcp47_verify takes it, and bcp47_explain tells it. */
+/* A step, as bcp47_verify takes it. The lines of bcp47_explain have its kind by name, its place and its number. */
 typedef struct {
     uint8_t kind;    /* BCP47_EXTLANG and so on, which bcp47_kind_name names */
     uint32_t place;  /* the subtag that changes, counted from 1 */
@@ -94,9 +94,10 @@ bcp47_outcome bcp47_status_name(uint8_t status, uint8_t *buffer, size_t room);
 bcp47_outcome bcp47_fault_name(uint8_t fault, uint8_t *buffer, size_t room);
 bcp47_outcome bcp47_kind_name(uint8_t kind, uint8_t *buffer, size_t room);
 
-/* Canonical texts of `count` texts that stand one behind another: text i ends before byte ends[i] of `texts`. Their
-   outcomes go to `outcomes`, their texts one behind another to the buffer. Answers how many were answered: fewer than
-   `count` where the next text does not fit what is left of the buffer. */
+/* Canonical texts of `count` texts that follow one another in `texts`: text i ends before byte ends[i]. Their outcomes go
+   to `outcomes`, and the texts, one after another, to the buffer: the canonical text of each, or the variant of a tag that
+   is refused for one. Returns how many were answered: fewer than `count` where the next text does not fit what is left of
+   the buffer. */
 size_t bcp47_canonical_many(bcp47_handle *handle, const uint8_t *texts, const size_t *ends, size_t count,
                             bcp47_outcome *outcomes, uint8_t *buffer, size_t room);
 

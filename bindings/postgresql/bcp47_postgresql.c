@@ -90,7 +90,7 @@ Datum explanation_of(PG_FUNCTION_ARGS) {
     PG_RETURN_TEXT_P(cstring_to_text_with_len((const char *)written, (int)outcome.length - 1));
 }
 
-/* The line that the program prints for a refusal, behind `! `. */
+/* The line that the program prints for a refusal, without `! `. */
 PG_FUNCTION_INFO_V1(fault_of);
 Datum fault_of(PG_FUNCTION_ARGS) {
     uint8_t name[BCP47_LINE], *written;

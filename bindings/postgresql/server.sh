@@ -1,6 +1,6 @@
 # Builds the extension, puts it among the server's, and starts a server in a folder of its own, until the script ends.
 # Read by `.` from a script that has set `registry` and whose first argument is a folder: `folder` is then the server's,
-# in which the script stands, and `ask` asks it.
+# in which the script is, and `ask` asks it.
 here=$(dirname "$(realpath "${BASH_SOURCE[0]}")")
 root=$here/../..
 tools=$(pg_config --bindir)

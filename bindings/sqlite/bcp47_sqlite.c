@@ -41,7 +41,7 @@ static int is_ready(sqlite3_context *context, connection *c) {
     return 0;
 }
 
-/* The line that the program prints for a refusal, behind `! `. */
+/* The line that the program prints for a refusal, without `! `. */
 static void say_fault(sqlite3_context *context, bcp47_outcome outcome, const uint8_t *text) {
     uint8_t name[BCP47_LINE];
     char line[2 * BCP47_LINE];

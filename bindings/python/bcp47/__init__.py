@@ -22,7 +22,7 @@ _CLASSES = {1: "langtag", 2: "privateuse", 3: "grandfathered"}
 
 
 class Refused(ValueError):
-    """What the program would print behind `! `: `str` gives it. `status` and `fault` are names, `place` a number."""
+    """What is refused: `status` and `fault` are names, `place` a number, and `str` gives them as one line."""
 
     def __init__(self, line: str, status: str, fault: str, place: int) -> None:
         super().__init__(line)

@@ -14,13 +14,13 @@ use std::fmt;
 /// It is printed as `jar BadLine line 3`, `record 7 UnknownType`, `check C2 record 5` or `OutOfMemory`.
 #[derive(Clone, Copy, Debug, Drop, PartialEq, Eq)]
 pub enum RegistryError {
-    /// The text is not in the format of a registry, or was not read to its end. The line is counted
-    /// from 1.
+    /// The text is not in the format of a registry (RFC 5646, 3.1.1), or was not read to its end. The line is
+    /// counted from 1.
     Jar(JarFault),
-    /// A record gives no entry. Records are counted from 1, the header among them.
+    /// A record gives no entry (RFC 5646, 3.1). Records are counted from 1, the header among them.
     Record(RecordFault),
-    /// The entries do not pass the check: the first condition that some record does not meet, and of
-    /// those records the lowest number.
+    /// The entries do not pass the check: the first [`Condition`](crate::Condition) that some record does not
+    /// meet, and the lowest number of those records.
     Check(Finding),
     /// Memory ran out.
     OutOfMemory,

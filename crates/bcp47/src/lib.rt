@@ -1,8 +1,9 @@
-//! BCP 47 language tags by a registry of language subtags: all that a program names that reads tags,
-//! compares them and makes them canonical (RFC 5646, 4.5).
+//! BCP 47 language tags by a registry of language subtags: reads tags, compares them and makes them canonical
+//! (RFC 5646, 4.5), so that `zh-yue` gives `yue`. A program begins with this crate, and needs no other of the
+//! repository.
 //!
-//! A [`Registry`] is read from bytes or from a device, and passes the check of its twelve conditions. What
-//! it promises for every such registry is on one page, `specs/Promise.antt`.
+//! A [`Registry`] is read from bytes or from a device, and passes the check of its twelve conditions; its
+//! methods answer the rest. What it promises for every such registry is on one page, `specs/Promise.antt`.
 #![tactic(auto)]
 
 mod errors;

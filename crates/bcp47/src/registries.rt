@@ -31,8 +31,8 @@ use std::fmt;
 use std::io::Read;
 use std::marker::Model;
 
-/// A registry of language subtags in the format of IANA's (RFC 5646, 3.1), which passes the check: each
-/// record meets each [`Condition`](crate::Condition). A contract sees the list of its entries.
+/// A registry of language subtags in the format of IANA's (RFC 5646, 3.1), which passes the check: each record
+/// meets each [`Condition`](crate::Condition). No call changes it. A contract sees the list of its entries.
 #[derive(Drop)]
 pub struct Registry {
     checked: Checked<SortedTable>,
@@ -53,7 +53,7 @@ impl Model for Registry {
 impl fmt::Debug for Registry {
     ghost debug_output = { λ entries. Some (registry_shown entries) };
 
-    /// The number of its entries alone.
+    /// The number of its entries alone, as `Registry { entries: 7 }`.
     fn fmt<W: fmt::Write>(&self, f: &mut fmt::Formatter<W>) -> fmt::Result {
         let entries = self.entries().len();
         write!(f, "Registry {{ entries: {entries} }}")
@@ -89,7 +89,9 @@ impl Registry {
     ///
     /// - `Jar`: the lowest line at which anything is wrong, and there the first fault.
     /// - `Record`: else the lowest record that gives no entry, and its first fault.
-    /// - `Check`: else the first condition that some record does not meet, and of those records the lowest.
+    /// - `Check`: else the first condition that some record does not meet, and the lowest number of those
+    ///   records.
+    /// - `OutOfMemory` where memory runs out.
     pub fn from_bytes(alloc: Global, bytes: &[u8]) -> Result<Registry, RegistryError>
         ensures { ReadsBytes bytes.now result }
     {
@@ -100,8 +102,8 @@ impl Registry {
     }
 
     /// The registry that a device gives, which is read to its end, record by record. It is refused as by
-    /// `from_bytes`; and as `Jar` with `Read` where the device fails, or with `TooManyTurns` after
-    /// 10,000,000 reads.
+    /// `from_bytes`; and as `Jar` with `Read` where the device fails, or with `TooManyTurns` where 10,000,000
+    /// reads were made and the last of them gave bytes.
     pub fn read<R: Read>(alloc: Global, device: &mut Device<R>) -> Result<Registry, RegistryError>
         ensures { ReadsDevice R.remaining device.old device.new result }
     {
@@ -111,14 +113,14 @@ impl Registry {
         }
     }
 
-    /// What holds of every registry; nothing is computed.
+    /// What holds of every registry, for the proof of a caller; nothing is computed.
     pub fn promise(&self)
         ensures { Promise self.now }
     {
         know_promise(&self.checked);
     }
 
-    /// The entries in the order of the file.
+    /// The entries in the order of the file, one for each record but the header.
     pub fn entries(&self) -> &[Entry]
         ensures value { result.now ≡ self.now }
         ensures checked { IsChecked self.now }
@@ -126,8 +128,11 @@ impl Registry {
         self.checked.table().entries()
     }
 
-    /// Whether a tag is valid (RFC 5646, 2.2.9): the fault of the least place and, there, of the first
-    /// kind, if there is one. Memory is taken only for the parts of a `t` extension.
+    /// Whether a tag is valid (RFC 5646, 2.2.9): nothing, or the fault of the least place and, there, of the
+    /// first kind in the order of [`ValidFaultKind`](crate::ValidFaultKind). By a registry without the script
+    /// `Latn`, `he-Latn` gives `UnknownScript` at place 2.
+    ///
+    /// Memory is taken only for the parts of a `t` extension, so `OutOfMemory` comes for no other tag.
     pub fn validate(&self, alloc: Global, tag: &Tag) -> Result<(), ValidRefusal>
         ensures ok { OnOk result (validity.HasNoFault self.now tag.now) }
         ensures err { IfErr result (validity.IsRefusal self.now tag.now) }
@@ -135,10 +140,12 @@ impl Registry {
         lt_registry::validate(alloc, self.checked.table(), tag)
     }
 
-    /// The canonical form of a tag (RFC 5646, 4.5): the one canonical tag that steps reach from it.
+    /// The canonical form of a tag (RFC 5646, 4.5): the one canonical tag that steps reach from it. `zh-yue`
+    /// gives `yue`, and `i-klingon` gives `tlh`.
     ///
     /// - `Invalid`, with the fault that `validate` answers, exactly where the tag is not valid.
     /// - `ReplacementRepeats` exactly where steps can repeat a variant of the valid tag.
+    /// - `OutOfMemory` where memory runs out.
     pub fn canonical(&self, alloc: Global, tag: &Tag) -> Result<Tag, Refusal>
         ensures ok { IfOk result (λ form. IsCanonicalFormOf self.now tag.now form) }
         ensures repeats { IfErr result (λ refusal. RefusesOnlyRepeats self.now tag.now refusal) }
@@ -148,10 +155,12 @@ impl Registry {
         lt_canon::canonical(alloc, &self.checked, tag)
     }
 
-    /// The text, in conventional case, of the canonical form of the tag that a text is read as.
+    /// The text, in conventional case (RFC 5646, 2.1.1), of the canonical form of the tag that a text is read
+    /// as: `IW-il` gives `he-IL`.
     ///
     /// - `NotATag`, with the fault that `Tag::read` answers, exactly where the text is read as none.
     /// - `Invalid` and `ReplacementRepeats` where `canonical` refuses the tag so.
+    /// - `OutOfMemory` where memory runs out.
     pub fn canonical_text(&self, alloc: Global, text: &[u8]) -> Result<Vec<u8>, TextRefusal>
         ensures written { IfOk result (λ canonical. IsCanonicalTextOf self.now text.now canonical.items) }
         ensures refusal { IfErr result (λ refusal. IsTextRefusal self.now text.now refusal) }
@@ -159,7 +168,8 @@ impl Registry {
         lt_canon::canonical_text(alloc, &self.checked, text)
     }
 
-    /// Appends what `canonical_text` answers to other texts. A refusal leaves what was there.
+    /// Appends what `canonical_text` answers to other texts, with nothing between. It is refused as
+    /// `canonical_text` refuses, and then leaves what was there.
     pub fn append_canonical_text(
         &self,
         alloc: Global,
@@ -174,7 +184,8 @@ impl Registry {
     }
 
     /// The extlang form of a tag (RFC 5646, 4.5): its canonical form and, where the language of that is an
-    /// extlang too, the Prefix of that in front of it. It is refused as `canonical` refuses.
+    /// extlang too, the Prefix of that in front of it. `cmn-Hans` gives `zh-cmn-Hans`. It is refused as
+    /// `canonical` refuses.
     pub fn extlang_form(&self, alloc: Global, tag: &Tag) -> Result<Tag, Refusal>
         ensures form { IfOk result (λ form. IsExtlangFormOf self.now tag.now form) }
         ensures refusal { IfErr result (λ refusal. IsRefusedWith self.now tag.now refusal) }
@@ -183,8 +194,8 @@ impl Registry {
     }
 
     /// Whether two tags are equivalent: whether steps, forth and back, lead from one to the other, which is
-    /// whether their canonical forms are equal. A refusal is that of `canonical` for the first tag, else
-    /// for the second.
+    /// whether their canonical forms are equal, as those of `zh-cmn-Hans` and `cmn-Hans` are. A refusal is that
+    /// of `canonical` for the first tag, else for the second.
     pub fn equivalent(&self, alloc: Global, first: &Tag, second: &Tag) -> Result<bool, Refusal>
         ensures answer { IfOk result (λ answer. IsEquivalenceAnswer self.now first.now second.now answer) }
         ensures refusal { IfErr result (λ refusal. IsFirstRefusal self.now first.now second.now refusal) }
@@ -192,8 +203,9 @@ impl Registry {
         lt_canon::equivalent(alloc, &self.checked, first, second)
     }
 
-    /// The steps that lead from a tag to its canonical form, each the first that leads on, and that form.
-    /// It is refused as `canonical` refuses.
+    /// The steps that lead from a tag to its canonical form (RFC 5646, 4.5), each the first that leads on, and
+    /// that form. For `iw-IL` it is one step, of kind `Language` at place 1, and the tag `he-IL`. It is refused
+    /// as `canonical` refuses.
     pub fn explain(&self, alloc: Global, tag: &Tag) -> Result<Trace, Refusal>
         ensures ok { IfOk result (λ trace. IsExplanation self.now tag.now trace.steps.items trace.last) }
         ensures err { IfErr result (λ refusal. IsRefusedWith self.now tag.now refusal) }
@@ -202,11 +214,13 @@ impl Registry {
     }
 
     /// The text of the explanation of the tag that a text is read as: a line for each step that `explain`
-    /// tells, with its kind, its place, the number of its record and the tag to which it leads, and then a
-    /// line with the canonical form. A line feed ends each line.
+    /// answers, with its kind, its place, the number of its record and the tag to which it leads, and then a
+    /// line with the canonical form. A line feed ends each line. `IW-il` gives the lines `Language 1 4 he-IL`
+    /// and `= he-IL`, if record 4 has the value `he` for `iw`.
     ///
     /// - `NotATag`, with the fault that `Tag::read` answers, exactly where the text is read as none.
     /// - `Invalid` and `ReplacementRepeats` where `canonical` refuses the tag so.
+    /// - `OutOfMemory` where memory runs out.
     pub fn explanation_text(&self, alloc: Global, text: &[u8]) -> Result<Vec<u8>, TextRefusal>
         ensures written { IfOk result (λ lines. IsExplanationTextOf self.now text.now lines.items) }
         ensures refusal { IfErr result (λ refusal. IsTextRefusal self.now text.now refusal) }
@@ -214,12 +228,13 @@ impl Registry {
         lt_canon::explanation_text(alloc, &self.checked, text)
     }
 
-    /// Whether the steps of a trace lead from a valid tag, one after another, to its last tag, which is
-    /// then equivalent to the tag.
+    /// Whether the steps of a trace lead from a valid tag, one after another, to its last tag, which is then
+    /// equivalent to the tag.
     ///
     /// - `Invalid`, with the fault that `validate` answers, where the tag is not valid.
     /// - Else `NoSuchStep` with the first step, counted from 1, that does not lead on.
     /// - Else `WrongEnd` where the steps lead to another tag.
+    /// - `OutOfMemory` where memory runs out.
     pub fn verify(&self, alloc: Global, tag: &Tag, trace: &Trace) -> Result<(), TraceFault>
         ensures ok { OnOk result (IsValidTrace self.now tag.now trace.now.steps.items trace.now.last) }
         ensures equivalent { OnOk result (AreEquivalent self.now tag.now trace.now.last) }
@@ -230,7 +245,8 @@ impl Registry {
 
     /// Whether a newer registry upgrades this one: whether it meets each
     /// [`UpgradeCondition`](crate::UpgradeCondition) beside it. Tags that are valid by this registry are then
-    /// valid by the newer one, and equivalent tags equivalent.
+    /// valid by the newer one, and equivalent tags equivalent. Else the fault is the first condition that does
+    /// not hold, with the lowest record at fault; or that memory ran out.
     pub fn upgrade_check(&self, alloc: Global, newer: &Registry) -> Result<(), UpgradeFault>
         ensures upgrades { OnOk result (Upgrades self.now newer.now) }
         ensures keeps { OnOk result (UpgradeKeepsTags self.now newer.now) }

@@ -53,6 +53,7 @@ pub record IsNotOpened (held : Held) (bytes before after : List ℕ) (o : Outcom
   pub read : ReadsBytes bytes (Err error)
   pub told : IsTold error before after o
 
+-- the registry is held, or the bytes are refused
 abbrev pub Opens : Held → List ℕ → List ℕ → List ℕ → Outcome → Type 0
 Opens held bytes before after o = IsOpened held bytes before after o ⊎ IsNotOpened held bytes before after o
 
@@ -70,6 +71,7 @@ pub record IsClassified (text before after : List ℕ) (o : Outcome) : Type 0 wh
       IsDelivered (record { status = 0; detail = class (class_of tag); place = 0 }) (conventional (spell tag)) before
       after o
 
+-- the tag is classified, or the text is read as none
 abbrev pub Classifies : List ℕ → List ℕ → List ℕ → Outcome → Type 0
 Classifies text before after o =
     IsClassified text before after o ⊎ IsRefusedAsOwed (IsReadingRefusal text) before after o
@@ -79,12 +81,13 @@ abbrev pub Validates : List EntryParts → List ℕ → Outcome → Type 0
 Validates R text o =
     (IsValidText R text × (o ≡ outcome (ended 0) 0)) ⊎ IsRefusedAsOwed (IsValidityRefusal R text) [] [] o
 
--- the status tells whether the tags are equivalent
+-- the status says whether the tags are equivalent
 pub record IsCompared (R : List EntryParts) (first second before after : List ℕ) (o : Outcome) : Type 0 where
   pub answer : Bool
   pub is_answer : IsEqualityOf R first second answer
   pub delivered : IsDelivered (ended (if answer then 0 else 6)) [] before after o
 
+-- the tags are compared, or one of the texts or tags is refused
 abbrev pub Compares : List EntryParts → List ℕ → List ℕ → List ℕ → List ℕ → Outcome → Type 0
 Compares R first second before after o =
     IsCompared R first second before after o ⊎ IsRefusedAsOwed (IsPairRefusal R first second) before after o
@@ -109,5 +112,6 @@ pub record IsNoUpgrade (older newer : List EntryParts) (o : Outcome) : Type 0 wh
   pub owed : IsUpgradeFault older newer fault
   pub told : o ≡ outcome (upgrade_said fault) 0
 
+-- the newer registry upgrades the older one, or the fault is reported
 abbrev pub ChecksUpgrade : List EntryParts → List EntryParts → Outcome → Type 0
 ChecksUpgrade older newer o = IsUpgrade older newer o ⊎ IsNoUpgrade older newer o

@@ -18,5 +18,6 @@ abbrev pub held_owns : Global → Ptr → Held → Fml
 held_owns alloc place (Some registry) = box_owns (ghosts.dealloc_token alloc) the_row place registry
 held_owns alloc place None = ftrue
 
+-- how what is held is coded as a value of a proof
 abbrev pub held_coded : Coded Held
 held_coded = coded_option the_row.coded

@@ -1,6 +1,7 @@
 -- The names of statuses and faults, each at its number.
 use Rattle.std.specs.Prelude.{ℕ, List, [], ◌∷◌, codes}
 
+-- those of the statuses
 unfoldable pub status_names : List (List ℕ)
 status_names =
     codes "Done" ∷ codes "NotATag" ∷ codes "Invalid" ∷ codes "ReplacementRepeats" ∷ codes "OutOfMemory" ∷

@@ -10,11 +10,11 @@ use Rattle.bcp47_c.specs.declared.outcomes.Said.{Said}
 abbrev pub ended : ℕ → Said
 ended status = record { status = status; detail = 0; place = 0 }
 
--- beside what is said, the length of the text
+-- what is said, and the length of the text
 abbrev pub outcome : Said → ℕ → Outcome
 outcome said length = record { status = said.status; detail = said.detail; place = said.place; length = length }
 
--- a text is at the front of a buffer, and what stood after it is there still
+-- a text is at the front of a buffer, and what was after it is there still
 pub record StandsIn (text before after : List ℕ) : Type 0 where
   pub front : take (length text) after ≡ text
   pub rest : drop (length text) after ≡ drop (length text) before

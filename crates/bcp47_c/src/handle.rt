@@ -11,6 +11,7 @@ use std::mem::replace;
 use std::ptr::null_mut;
 
 /// What C holds: a registry, or nothing, as bytes do that are all zero. A contract sees its entries.
+/// `bcp47_open` and `bcp47_share` open it, `bcp47_close` closes it.
 #[repr(C)]
 pub struct Handle {
     place: *mut u8,

@@ -1,6 +1,8 @@
-//! BCP 47 language tags by a registry of language subtags, for programs in C.
+//! BCP 47 language tags by a registry of language subtags, for programs in C: the calls of the crate `bcp47` as
+//! functions of C. A program in Rattle begins with `bcp47` itself.
 //!
-//! A call on a [`Handle`] wants it open, which is for its caller to see to: nothing checks C.
+//! A call on a [`Handle`] needs it open, which its caller must see to: nothing checks C. A text that does not
+//! fit its buffer is not written; the status is then 5, and the length is the one that is needed.
 #![tactic(auto)]
 
 ghost use Rattle.std.specs.Prelude.{◌≡◌, ◌≤◌, ◌<◌, ◌≢◌, List, [], Some, None, slice_index_or};
@@ -38,8 +40,11 @@ use outcomes::{deliver, ended};
 use std::alloc::Global;
 pub use steps::StepNumbers;
 
-/// Opens the registry whose text the bytes are, in a handle that holds nothing. Where it is refused the handle holds
-/// nothing still, and the line is written that the program prints.
+/// Opens the registry whose text the bytes are (RFC 5646, 3.1), in a handle that holds nothing: status 0.
+///
+/// Status 7, 8 or 9 says that the format, a record or the check refuses it, with the number of the fault and
+/// its line or record, and 4 that memory ran out. The handle then still holds nothing, and the line that the
+/// program prints is written to the buffer.
 #[unsafe(no_mangle)]
 pub extern "C" fn bcp47_open(
     alloc: Global,
@@ -59,7 +64,7 @@ pub extern "C" fn bcp47_open(
     }
 }
 
-/// Lets another handle, which holds nothing, hold the same registry: 0, or 4 where memory ran out.
+/// Lets another handle, which holds nothing, hold the same registry: 0, or 4 where memory runs out.
 #[unsafe(no_mangle)]
 pub extern "C" fn bcp47_share(alloc: Global, handle: &mut Handle, other: &mut Handle) -> u8
     ghost registry: { List EntryParts }
@@ -90,7 +95,11 @@ pub extern "C" fn bcp47_close(alloc: Global, handle: &mut Handle)
     drop(take(alloc, handle));
 }
 
-/// Writes the canonical text of the tag that a text is read as (RFC 5646, 4.5).
+/// Writes the canonical text of the tag that a text is read as (RFC 5646, 4.5): status 0, and `yue` for
+/// `zh-yue`.
+///
+/// Status 1 says that the text is no tag, 2 that the tag is not valid, both with the number of the fault and
+/// its place; 3 that steps can repeat a variant, which is written; 4 that memory ran out.
 #[unsafe(no_mangle)]
 pub extern "C" fn bcp47_canonical(
     alloc: Global,
@@ -109,7 +118,8 @@ pub extern "C" fn bcp47_canonical(
     outcome
 }
 
-/// Writes the text of the extlang form of the tag that a text is read as (RFC 5646, 4.5).
+/// Writes the text of the extlang form of the tag that a text is read as (RFC 5646, 4.5): `zh-cmn-Hans` for
+/// `cmn-Hans`. The statuses are those of `bcp47_canonical`.
 #[unsafe(no_mangle)]
 pub extern "C" fn bcp47_extlang(
     alloc: Global,
@@ -128,7 +138,9 @@ pub extern "C" fn bcp47_extlang(
     outcome
 }
 
-/// Writes the text, in conventional case, of the tag that a text is read as, and tells its class (RFC 5646, 2.1).
+/// Writes the text, in conventional case (RFC 5646, 2.1.1), of the tag that a text is read as, and answers its
+/// class as the detail: 1 for a langtag, 2 for private use, 3 for a grandfathered tag (RFC 5646, 2.1). Status 1
+/// says that the text is no tag, 4 that memory ran out.
 #[unsafe(no_mangle)]
 pub extern "C" fn bcp47_classify(
     alloc: Global,
@@ -147,8 +159,9 @@ pub extern "C" fn bcp47_classify(
     outcome
 }
 
-/// Writes the explanation of the tag that a text is read as: each step to its canonical form, with the tag to which
-/// the step leads, and that form, each a line that a line feed ends (RFC 5646, 4.5).
+/// Writes the explanation of the tag that a text is read as: each step to its canonical form, with the tag to
+/// which the step leads, and that form, each a line that a line feed ends (RFC 5646, 4.5). The statuses are
+/// those of `bcp47_canonical`.
 #[unsafe(no_mangle)]
 pub extern "C" fn bcp47_explain(
     alloc: Global,
@@ -167,8 +180,11 @@ pub extern "C" fn bcp47_explain(
     outcome
 }
 
-/// Tells whether steps lead from the tag that a text is read as, which is valid, one after another to the tag that
-/// another text is read as, which is then equivalent to it (RFC 5646, 4.5).
+/// Whether steps lead from the tag that a text is read as, which is valid, one after another to the tag that
+/// another text is read as, which is then equivalent to it (RFC 5646, 4.5): status 0.
+///
+/// Status 1 says that one of the texts is no tag, 2 that the tag is not valid, 11 that a step, whose number
+/// from 1 is the place, does not lead on, 12 that the steps lead to another tag, 4 that memory ran out.
 #[unsafe(no_mangle)]
 pub extern "C" fn bcp47_verify(
     alloc: Global,
@@ -188,7 +204,8 @@ pub extern "C" fn bcp47_verify(
     outcome
 }
 
-/// Tells whether the tag that a text is read as is valid (RFC 5646, 2.2.9).
+/// Whether the tag that a text is read as is valid (RFC 5646, 2.2.9): status 0. Status 1 says that the text is
+/// no tag, 2 that the tag is not valid, both with the number of the fault and its place; 4 that memory ran out.
 #[unsafe(no_mangle)]
 pub extern "C" fn bcp47_validate(alloc: Global, handle: &mut Handle, text: &[u8]) -> Outcome
     ghost registry: { List EntryParts }
@@ -202,7 +219,11 @@ pub extern "C" fn bcp47_validate(alloc: Global, handle: &mut Handle, text: &[u8]
     outcome
 }
 
-/// Tells whether the tags that two texts are read as are equivalent.
+/// Whether the tags that two texts are read as are equivalent (RFC 5646, 4.5): status 0, or 6 where they are
+/// not.
+///
+/// Status 1 says that a text is no tag, the first or else the second; 2 and 3 that a tag is refused as by
+/// `bcp47_canonical`, the first or else the second; 4 that memory ran out.
 #[unsafe(no_mangle)]
 pub extern "C" fn bcp47_equal(
     alloc: Global,
@@ -222,7 +243,7 @@ pub extern "C" fn bcp47_equal(
     outcome
 }
 
-/// Tells whether the registry that a handle holds upgrades an older one.
+/// Whether the registry that a handle holds upgrades an older one.
 fn check_newer(alloc: Global, older: &Opened, newer: &mut Handle) -> Outcome
     ghost registry: { List EntryParts }
     requires { newer.old.held ≡ Some registry }
@@ -235,7 +256,8 @@ fn check_newer(alloc: Global, older: &Opened, newer: &mut Handle) -> Outcome
     outcome
 }
 
-/// Tells whether a newer registry upgrades an older one.
+/// Whether a newer registry upgrades an older one: status 0, or 10 with the number of the condition that is not
+/// met and the record at fault, or 4 where memory runs out.
 #[unsafe(no_mangle)]
 pub extern "C" fn bcp47_upgrade_check(
     alloc: Global,
@@ -255,7 +277,7 @@ pub extern "C" fn bcp47_upgrade_check(
     outcome
 }
 
-/// Writes the name of a status; nothing for a number of none.
+/// Writes the name of a status, 0 to 12, as `NotATag` for 1; nothing for another number.
 #[unsafe(no_mangle)]
 pub extern "C" fn bcp47_status_name(status: u8, buffer: &mut [u8]) -> Outcome
     ensures named { status ≤ 12 → IsDelivered (ended 0) (slice_index_or status_names status []) buffer.old buffer.new result }
@@ -269,7 +291,7 @@ pub extern "C" fn bcp47_status_name(status: u8, buffer: &mut [u8]) -> Outcome
     deliver(ended(DONE), name.as_bytes(), buffer)
 }
 
-/// Writes the name of a fault, as the program prints it; nothing for a number of none.
+/// Writes the name of a fault, 0 to 52, as the program prints it: `BadByte` for 3; nothing for another number.
 #[unsafe(no_mangle)]
 pub extern "C" fn bcp47_fault_name(fault: u8, buffer: &mut [u8]) -> Outcome
     ensures named { fault ≤ 52 → IsDelivered (ended 0) (slice_index_or fault_names fault []) buffer.old buffer.new result }
@@ -283,7 +305,8 @@ pub extern "C" fn bcp47_fault_name(fault: u8, buffer: &mut [u8]) -> Outcome
     deliver(ended(DONE), name.as_bytes(), buffer)
 }
 
-/// Writes the name of a kind of step, as the program prints it; nothing for a number of none.
+/// Writes the name of a kind of step, 1 to 14, as the program prints it: `Extlang` for 1; nothing for another
+/// number.
 #[unsafe(no_mangle)]
 pub extern "C" fn bcp47_kind_name(kind: u8, buffer: &mut [u8]) -> Outcome
     ensures named { (k : StepKind) → kind ≡ number_of.step_kind k → IsDelivered (ended 0) (name_of k) buffer.old buffer.new result }

@@ -116,7 +116,7 @@ impl Opened {
         deliver(said, &self.texts, buffer)
     }
 
-    /// Tells whether the tag that a text is read as is valid.
+    /// Whether the tag that a text is read as is valid.
     pub(crate) fn validate(&self, alloc: Global, text: &[u8]) -> Outcome
         ensures { Validates self.now text.now result }
     {
@@ -126,7 +126,7 @@ impl Opened {
         }
     }
 
-    /// Tells whether the tags that two texts are read as are equivalent.
+    /// Whether the tags that two texts are read as are equivalent.
     pub(crate) fn equal(
         &self,
         alloc: Global,
@@ -153,7 +153,7 @@ impl Opened {
         }
     }
 
-    /// Tells whether steps in numbers lead from the tag that a text is read as to the one that another is read as.
+    /// Whether steps in numbers lead from the tag that a text is read as to the one that another is read as.
     pub(crate) fn verify(
         &self,
         alloc: Global,
@@ -173,7 +173,7 @@ impl Opened {
         }
     }
 
-    /// Tells whether a newer registry upgrades this one.
+    /// Whether a newer registry upgrades this one.
     pub(crate) fn upgrade_check(&self, alloc: Global, newer: &Opened) -> Outcome
         ensures { ChecksUpgrade self.now newer.now result }
     {

@@ -9,17 +9,18 @@ use crate::numbers::{
 };
 use bcp47::TextRefusal;
 
-/// What a call answers beside the text that it writes.
+/// What a call answers, besides the text that it writes.
 #[repr(C)]
 #[derive(Clone, Copy, Drop)]
 pub struct Outcome {
-    /// How the call ended.
+    /// How the call ended: a status, 0 to 12, whose name `bcp47_status_name` writes.
     pub status: u8,
-    /// The number of the fault, or of the class of a tag.
+    /// The number of the fault, 1 to 52, whose name `bcp47_fault_name` writes, or that of the class of a tag;
+    /// else 0.
     pub detail: u8,
-    /// The place of the fault: a subtag, a line, a record or a step, each counted from 1.
+    /// The place of the fault: a subtag, a line, a record or a step, each counted from 1; else 0.
     pub place: u64,
-    /// The bytes of the text.
+    /// How many bytes the text has, also where it does not fit the buffer.
     pub length: usize,
 }
 

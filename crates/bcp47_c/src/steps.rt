@@ -10,9 +10,9 @@ use std::alloc::Global;
 #[repr(C)]
 #[derive(Clone, Copy, Drop)]
 pub struct StepNumbers {
-    /// The number of the kind.
+    /// The number of the kind, 1 to 14, whose name `bcp47_kind_name` writes.
     pub kind: u8,
-    /// The place of the subtag that changes, counted from 1.
+    /// The place of the step: the subtag that changes, counted from 1.
     pub place: u32,
     /// The number of the record that the step uses; 0 where it uses none.
     pub number: u32,

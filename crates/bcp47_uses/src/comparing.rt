@@ -1,18 +1,31 @@
 //! Tags are compared: as they are, and by a registry.
-use super::REGISTRY;
+use super::{small_registry, tag_of};
 use bcp47::{Registry, Tag};
+use std::alloc::Global;
 use std::cmp::Ordering;
 use std::hash::{DefaultHasher, Hash, Hasher};
 use std::test::Fail;
 
+/// Whether two tags are equal, and whether they are one language by a registry.
+fn compared(
+    alloc: Global,
+    registry: &Registry,
+    first: &str,
+    second: &str,
+) -> Result<(bool, bool), Fail> {
+    let first = tag_of(alloc, first)?;
+    let second = tag_of(alloc, second)?;
+    Ok((
+        first == second,
+        registry.equivalent(alloc, &first, &second)?,
+    ))
+}
+
 #[test]
 fn one_language(rt: HostRuntime) -> Result<(), Fail> {
-    let registry = Registry::from_bytes(rt.alloc(), REGISTRY)?;
-    let first = Tag::read(rt.alloc(), b"iw-IL")?;
-    let second = Tag::read(rt.alloc(), b"HE-il")?;
-    assert!(rt; first != second && registry.equivalent(rt.alloc(), &first, &second)?);
-    let third = Tag::read(rt.alloc(), b"he")?;
-    assert!(rt; !registry.equivalent(rt.alloc(), &first, &third)?);
+    let registry = small_registry(rt.alloc())?;
+    assert!(rt; compared(rt.alloc(), &registry, "iw-IL", "HE-il")? == (false, true));
+    assert!(rt; compared(rt.alloc(), &registry, "iw-IL", "he")? == (false, false));
     Ok(())
 }
 
@@ -41,33 +54,65 @@ const IN_ORDER: [&str; 14] = [
     "zh-cmn",
 ];
 
+/// Whether the letter case of a text makes no other tag, and none of another hash.
+fn is_one_in_capitals(alloc: Global, text: &str) -> Result<bool, Fail> {
+    let tag = tag_of(alloc, text)?;
+    let again = tag_of(alloc, text.to_ascii_uppercase(alloc)?.as_str())?;
+    Ok(tag == again && hash_of(&tag) == hash_of(&again))
+}
+
+#[test]
+fn tags_in_capitals(rt: HostRuntime) -> Result<(), Fail> {
+    for text in &IN_ORDER {
+        assert!(rt; is_one_in_capitals(rt.alloc(), text)?, "{text}");
+    }
+    Ok(())
+}
+
+/// How the tags of two texts compare.
+fn order_of(alloc: Global, first: &str, second: &str) -> Result<Ordering, Fail> {
+    Ok(tag_of(alloc, first)?.cmp(&tag_of(alloc, second)?))
+}
+
 #[test]
 fn order_of_tags(rt: HostRuntime) -> Result<(), Fail> {
     for (first, text) in IN_ORDER.iter().enumerate() {
-        let tag = Tag::read(rt.alloc(), text.as_bytes())?;
-        let again = Tag::read(rt.alloc(), text.to_ascii_uppercase(rt.alloc())?.as_bytes())?;
-        assert!(rt; tag == again && hash_of(&tag) == hash_of(&again), "{text}");
         for (second, other) in IN_ORDER.iter().enumerate() {
-            let compared = tag.cmp(&Tag::read(rt.alloc(), other.as_bytes())?);
+            let compared = order_of(rt.alloc(), text, other)?;
             assert!(rt; compared == first.cmp(&second), "{text} {other}");
         }
     }
     Ok(())
 }
 
+/// Two texts of equal cores, and of equal extensions in another order.
+const FIRST: &str = "de-Latn-AT-1996-a-bb-t-de";
+
+const SECOND: &str = "DE-latn-at-1996-t-DE-a-BB";
+
 #[test]
-fn parts_of_tags(rt: HostRuntime) -> Result<(), Fail> {
-    let first = Tag::read(rt.alloc(), b"de-Latn-AT-1996-a-bb-t-de")?;
-    let second = Tag::read(rt.alloc(), b"DE-latn-at-1996-t-DE-a-BB")?;
+fn cores_of_tags(rt: HostRuntime) -> Result<(), Fail> {
+    let first = tag_of(rt.alloc(), FIRST)?;
+    let second = tag_of(rt.alloc(), SECOND)?;
     assert!(rt; first.core() == second.core() && first != second);
     assert!(rt; hash_of(&first.core()) == hash_of(&second.core()));
-    let [a, t] = first.extensions() else {
-        return Err(Fail::from("not two extensions"));
+    Ok(())
+}
+
+/// Whether the two extensions of a tag are those of the other in another order, and the first is the less.
+fn are_exchanged(first: &Tag, second: &Tag) -> bool {
+    let ([a, t], [other_t, other_a]) = (first.extensions(), second.extensions()) else {
+        return false;
     };
-    let [other_t, other_a] = second.extensions() else {
-        return Err(Fail::from("not two extensions"));
-    };
-    assert!(rt; a == other_a && t == other_t && a < t && t.cmp(a) == Ordering::Greater);
-    assert!(rt; hash_of(a) == hash_of(other_a) && hash_of(a) != hash_of(t));
+    let ordered = a < t && t.cmp(a) == Ordering::Greater;
+    let hashed = hash_of(a) == hash_of(other_a) && hash_of(a) != hash_of(t);
+    a == other_a && t == other_t && ordered && hashed
+}
+
+#[test]
+fn extensions_of_tags(rt: HostRuntime) -> Result<(), Fail> {
+    let first = tag_of(rt.alloc(), FIRST)?;
+    let second = tag_of(rt.alloc(), SECOND)?;
+    assert!(rt; are_exchanged(&first, &second));
     Ok(())
 }

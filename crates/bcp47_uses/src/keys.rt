@@ -1,36 +1,48 @@
 //! Tags are keys of maps.
-use super::REGISTRY;
+use super::{small_registry, tag_of};
 use bcp47::{Registry, Tag};
+use std::alloc::Global;
 use std::collections::{BTreeMap, HashMap};
 use std::test::Fail;
 
 /// The languages of some books.
 const BOOKS: [&str; 5] = ["iw", "zh-cmn", "he", "cmn", "HE"];
 
-#[test]
-fn books_by_language(rt: HostRuntime) -> Result<(), Fail> {
-    let registry = Registry::from_bytes(rt.alloc(), REGISTRY)?;
-    let mut counts: HashMap<Tag, u32> = HashMap::new(rt.alloc());
+/// How many books there are in each language.
+fn counted(alloc: Global, registry: &Registry) -> Result<HashMap<Tag, u32>, Fail> {
+    let mut counts: HashMap<Tag, u32> = HashMap::new(alloc);
     for text in &BOOKS {
-        let tag = Tag::read(rt.alloc(), text.as_bytes())?;
-        let canonical = registry.canonical(rt.alloc(), &tag)?;
+        let tag = tag_of(alloc, text)?;
+        let canonical = registry.canonical(alloc, &tag)?;
         let count = counts.entry(canonical)?.or_insert(0);
         *count = count.saturating_add(1);
     }
+    Ok(counts)
+}
+
+#[test]
+fn books_by_language(rt: HostRuntime) -> Result<(), Fail> {
+    let registry = small_registry(rt.alloc())?;
+    let counts = counted(rt.alloc(), &registry)?;
     assert_eq!(rt; counts.len(), 2);
-    assert_eq!(rt; counts.get(&Tag::read(rt.alloc(), b"he")?), Some(&3));
-    assert_eq!(rt; counts.get(&Tag::read(rt.alloc(), b"cmn")?), Some(&2));
+    assert_eq!(rt; counts.get(&tag_of(rt.alloc(), "he")?), Some(&3));
+    assert_eq!(rt; counts.get(&tag_of(rt.alloc(), "cmn")?), Some(&2));
     Ok(())
+}
+
+/// Titles in the order of their languages.
+fn titles_in_order(alloc: Global) -> Result<BTreeMap<Tag, &'static str>, Fail> {
+    let mut titles: BTreeMap<Tag, &'static str> = BTreeMap::new(alloc);
+    titles.insert(tag_of(alloc, "he")?, "second")?;
+    titles.insert(tag_of(alloc, "zh")?, "third")?;
+    titles.insert(tag_of(alloc, "cmn")?, "first")?;
+    Ok(titles)
 }
 
 #[test]
 fn books_in_order(rt: HostRuntime) -> Result<(), Fail> {
-    let mut titles: BTreeMap<Tag, &str> = BTreeMap::new(rt.alloc());
-    titles.insert(Tag::read(rt.alloc(), b"he")?, "second")?;
-    titles.insert(Tag::read(rt.alloc(), b"zh")?, "third")?;
-    titles.insert(Tag::read(rt.alloc(), b"cmn")?, "first")?;
     let mut line = String::new(rt.alloc());
-    for title in titles.values() {
+    for title in titles_in_order(rt.alloc())?.values() {
         line.push_str(title)?;
         line.push(' ')?;
     }

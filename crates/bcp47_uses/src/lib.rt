@@ -12,6 +12,13 @@ mod reading;
 #[cfg(test)]
 mod tags;
 
+#[cfg(test)]
+use bcp47::{Registry, Tag};
+#[cfg(test)]
+use std::alloc::Global;
+#[cfg(test)]
+use std::test::Fail;
+
 /// A small registry in the format of IANA's (RFC 5646, 3.1).
 #[cfg(test)]
 const REGISTRY: &[u8] = b"File-Date: 2025-05-15
@@ -40,3 +47,21 @@ Subtag: Hans
 Type: region
 Subtag: IL
 ";
+
+/// The registry whose text the bytes are.
+#[cfg(test)]
+fn registry_of(alloc: Global, bytes: &[u8]) -> Result<Registry, Fail> {
+    Ok(Registry::from_bytes(alloc, bytes)?)
+}
+
+/// The registry of the records above.
+#[cfg(test)]
+fn small_registry(alloc: Global) -> Result<Registry, Fail> {
+    registry_of(alloc, REGISTRY)
+}
+
+/// The tag that a text is read as.
+#[cfg(test)]
+fn tag_of(alloc: Global, text: &str) -> Result<Tag, Fail> {
+    Ok(Tag::read(alloc, text.as_bytes())?)
+}

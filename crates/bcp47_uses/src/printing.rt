@@ -1,40 +1,65 @@
 //! Tags, their parts and what is refused are printed by `{}`.
-use super::REGISTRY;
-use bcp47::{Registry, Tag};
+use super::{small_registry, tag_of};
+use bcp47::{Core, Registry, Tag};
+use std::alloc::Global;
 use std::test::Fail;
 
+/// A core, and its language at the end of four characters.
+fn core_and_language(alloc: Global, core: &Core) -> Result<String, Fail> {
+    let language = core.language();
+    Ok(format!(in alloc; "{core} {language:>4}")?)
+}
+
 #[test]
-fn tags_and_their_parts(rt: HostRuntime) -> Result<(), Fail> {
-    let tag = Tag::read(rt.alloc(), b"ZH-HANT-hk-U-CO-TRAD-X-AB")?;
+fn tags_and_cores(rt: HostRuntime) -> Result<(), Fail> {
+    let tag = tag_of(rt.alloc(), "ZH-HANT-hk-U-CO-TRAD-X-AB")?;
     let text = format!(in rt.alloc(); "{tag}")?;
     assert_eq!(rt; text.as_str(), "zh-Hant-HK-u-co-trad-x-ab");
     let Some(core) = tag.core() else {
         return Err(Fail::from("no core"));
     };
-    let language = core.language();
-    let parts = format!(in rt.alloc(); "{core} {language:>4}")?;
+    let parts = core_and_language(rt.alloc(), core)?;
     assert_eq!(rt; parts.as_str(), "zh-Hant-HK   zh");
-    for extension in tag.extensions() {
-        let shown = format!(in rt.alloc(); "{extension}")?;
-        assert_eq!(rt; shown.as_str(), "u-co-trad");
-    }
     Ok(())
 }
 
 #[test]
+fn extensions(rt: HostRuntime) -> Result<(), Fail> {
+    let tag = tag_of(rt.alloc(), "ZH-HANT-hk-U-CO-TRAD-X-AB")?;
+    let mut shown = String::new(rt.alloc());
+    for extension in tag.extensions() {
+        shown = format!(in rt.alloc(); "{extension}")?;
+    }
+    assert_eq!(rt; shown.as_str(), "u-co-trad");
+    Ok(())
+}
+
+/// What is printed of a text that is no tag.
+fn no_tag(alloc: Global, text: &str) -> Result<String, Fail> {
+    match Tag::read(alloc, text.as_bytes()) {
+        Ok(_) => Err(Fail::from("a tag")),
+        Err(fault) => Ok(format!(in alloc; "{fault}")?),
+    }
+}
+
+/// The name of what is wrong with a tag, and what is printed of it.
+fn refused(alloc: Global, registry: &Registry, text: &str) -> Result<(&'static str, String), Fail> {
+    let tag = tag_of(alloc, text)?;
+    match registry.canonical(alloc, &tag) {
+        Ok(_) => Err(Fail::from("canonical")),
+        Err(refusal) => Ok((refusal.name(), format!(in alloc; "{refusal}")?)),
+    }
+}
+
+#[test]
 fn refusals(rt: HostRuntime) -> Result<(), Fail> {
-    let registry = Registry::from_bytes(rt.alloc(), REGISTRY)?;
-    let Err(fault) = Tag::read(rt.alloc(), b"he_IL") else {
-        return Err(Fail::from("a tag"));
-    };
-    let told = format!(in rt.alloc(); "{fault}")?;
+    let told = no_tag(rt.alloc(), "he_IL")?;
     assert_eq!(rt; told.as_str(), "BadByte 1");
-    let latin = Tag::read(rt.alloc(), b"he-Latn")?;
-    let Err(refusal) = registry.canonical(rt.alloc(), &latin) else {
-        return Err(Fail::from("canonical"));
-    };
-    let line = format!(in rt.alloc(); "{refusal}")?;
-    assert!(rt; line.as_str().starts_with("UnknownScript 2: "), "{line}");
-    assert_eq!(rt; refusal.name(), "UnknownScript");
+    let registry = small_registry(rt.alloc())?;
+    let (name, line) = refused(rt.alloc(), &registry, "he-Latn")?;
+    assert!(rt;
+        name == "UnknownScript" && line.as_str().starts_with("UnknownScript 2: "),
+        "{line}"
+    );
     Ok(())
 }

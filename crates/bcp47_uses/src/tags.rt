@@ -1,70 +1,147 @@
 //! What a registry says of tags.
-use super::REGISTRY;
-use bcp47::{Registry, StepKind, Tag, TraceFault, ValidFaultKind, ValidRefusal, write_tag};
+use super::{registry_of, small_registry, tag_of};
+use bcp47::{Registry, StepKind, Tag, Trace, TraceFault, ValidFaultKind, ValidRefusal, write_tag};
+use std::alloc::Global;
 use std::test::Fail;
+
+/// The canonical text of the tag that a text is read as.
+fn canonical_of(alloc: Global, registry: &Registry, text: &[u8]) -> Result<Vec<u8>, Fail> {
+    Ok(registry.canonical_text(alloc, text)?)
+}
 
 #[test]
 fn canonical_texts(rt: HostRuntime) -> Result<(), Fail> {
-    let registry = Registry::from_bytes(rt.alloc(), REGISTRY)?;
-    let text = registry.canonical_text(rt.alloc(), b"IW-il")?;
+    let registry = small_registry(rt.alloc())?;
+    let text = canonical_of(rt.alloc(), &registry, b"IW-il")?;
     assert_eq!(rt; text.as_slice(), b"he-IL".as_slice());
-    let mut line = Vec::new(rt.alloc());
-    registry.append_canonical_text(rt.alloc(), b"zh-cmn-hans", &mut line)?;
+    Ok(())
+}
+
+/// The canonical texts of two tags, with a space between.
+fn pair_of(
+    alloc: Global,
+    registry: &Registry,
+    first: &[u8],
+    second: &[u8],
+) -> Result<Vec<u8>, Fail> {
+    let mut line = Vec::new(alloc);
+    registry.append_canonical_text(alloc, first, &mut line)?;
     line.push(b' ')?;
-    registry.append_canonical_text(rt.alloc(), b"iw", &mut line)?;
+    registry.append_canonical_text(alloc, second, &mut line)?;
+    Ok(line)
+}
+
+/// Whether a text is refused where its canonical text would be appended.
+fn refuses(alloc: Global, registry: &Registry, text: &[u8], line: &mut Vec<u8>) -> bool {
+    registry.append_canonical_text(alloc, text, line).is_err()
+}
+
+#[test]
+fn texts_are_appended(rt: HostRuntime) -> Result<(), Fail> {
+    let registry = small_registry(rt.alloc())?;
+    let mut line = pair_of(rt.alloc(), &registry, b"zh-cmn-hans", b"iw")?;
     assert_eq!(rt; line.as_slice(), b"cmn-Hans he".as_slice());
-    assert!(rt;
-        registry
-            .append_canonical_text(rt.alloc(), b"en_US", &mut line)
-            .is_err()
-    );
+    assert!(rt; refuses(rt.alloc(), &registry, b"en_US", &mut line));
     assert_eq!(rt; line.as_slice(), b"cmn-Hans he".as_slice());
     Ok(())
+}
+
+/// The text of the canonical form of a tag.
+fn text_of_canonical(alloc: Global, registry: &Registry, tag: &Tag) -> Result<Vec<u8>, Fail> {
+    let canonical = registry.canonical(alloc, tag)?;
+    Ok(write_tag(alloc, &canonical)?)
+}
+
+/// The extlang form of the canonical form of a tag.
+fn extlang_form_of(alloc: Global, registry: &Registry, tag: &Tag) -> Result<Tag, Fail> {
+    let canonical = registry.canonical(alloc, tag)?;
+    Ok(registry.extlang_form(alloc, &canonical)?)
 }
 
 #[test]
 fn canonical_and_extlang_forms(rt: HostRuntime) -> Result<(), Fail> {
-    let registry = Registry::from_bytes(rt.alloc(), REGISTRY)?;
-    let tag = Tag::read(rt.alloc(), b"zh-cmn")?;
-    let canonical = registry.canonical(rt.alloc(), &tag)?;
-    assert_eq!(rt;
-        write_tag(rt.alloc(), &canonical)?.as_slice(),
-        b"cmn".as_slice()
-    );
-    assert!(rt; registry.extlang_form(rt.alloc(), &canonical)? == tag);
+    let registry = small_registry(rt.alloc())?;
+    let tag = tag_of(rt.alloc(), "zh-cmn")?;
+    let text = text_of_canonical(rt.alloc(), &registry, &tag)?;
+    assert_eq!(rt; text.as_slice(), b"cmn".as_slice());
+    assert!(rt; extlang_form_of(rt.alloc(), &registry, &tag)? == tag);
     Ok(())
+}
+
+/// Why the tag that a text is read as is not valid, if it is not: what is printed, the fault, and its place.
+fn fault_of(
+    alloc: Global,
+    registry: &Registry,
+    text: &[u8],
+) -> Result<Option<(&'static str, ValidFaultKind, u32)>, Fail> {
+    let tag = Tag::read(alloc, text)?;
+    let Err(refusal) = registry.validate(alloc, &tag) else {
+        return Ok(None);
+    };
+    let name = refusal.name();
+    match refusal {
+        ValidRefusal::Fault(fault) => Ok(Some((name, fault.kind, fault.place))),
+        ValidRefusal::OutOfMemory => Err(Fail::from(name)),
+    }
 }
 
 #[test]
 fn valid_tags(rt: HostRuntime) -> Result<(), Fail> {
-    let registry = Registry::from_bytes(rt.alloc(), REGISTRY)?;
-    let hebrew = Tag::read(rt.alloc(), b"he-IL")?;
-    assert!(rt; registry.validate(rt.alloc(), &hebrew).is_ok());
-    let latin = Tag::read(rt.alloc(), b"he-Latn")?;
-    let Err(refusal) = registry.validate(rt.alloc(), &latin) else {
+    let registry = small_registry(rt.alloc())?;
+    assert!(rt; fault_of(rt.alloc(), &registry, b"he-IL")?.is_none());
+    let Some((name, kind, place)) = fault_of(rt.alloc(), &registry, b"he-Latn")? else {
         return Err(Fail::from("valid"));
     };
-    assert_eq!(rt; refusal.name(), "UnknownScript");
-    let ValidRefusal::Fault(fault) = refusal else {
-        return Err(Fail::from("no memory"));
-    };
-    assert!(rt; fault.kind == ValidFaultKind::UnknownScript && fault.place == 2);
+    assert!(rt; name == "UnknownScript" && kind == ValidFaultKind::UnknownScript && place == 2);
     Ok(())
+}
+
+/// Whether a trace is the one step by record 4 from a language to its preferred value.
+fn is_one_language_step(trace: &Trace) -> bool {
+    let Some(step) = trace.steps.first() else {
+        return false;
+    };
+    let is_language = matches!(step.kind, StepKind::Language);
+    is_language && step.place == 1 && step.number == 4 && trace.steps.len() == 1
 }
 
 #[test]
 fn explanations(rt: HostRuntime) -> Result<(), Fail> {
-    let registry = Registry::from_bytes(rt.alloc(), REGISTRY)?;
-    let tag = Tag::read(rt.alloc(), b"iw-IL")?;
-    let trace = registry.explain(rt.alloc(), &tag)?;
-    assert_eq!(rt; trace.steps.len(), 1);
-    let step = &trace.steps[0];
-    assert!(rt; step.kind == StepKind::Language && step.place == 1 && step.number == 4);
-    assert!(rt; registry.verify(rt.alloc(), &tag, &trace).is_ok());
-    let other = Tag::read(rt.alloc(), b"he")?;
-    let wrong = registry.verify(rt.alloc(), &other, &trace);
-    assert_eq!(rt; wrong.err(), Some(TraceFault::NoSuchStep(1)));
-    let lines = registry.explanation_text(rt.alloc(), b"IW-il")?;
+    let registry = small_registry(rt.alloc())?;
+    let tag = tag_of(rt.alloc(), "iw-IL")?;
+    let trace = explained(rt.alloc(), &registry, &tag)?;
+    assert!(rt; is_one_language_step(&trace));
+    assert_eq!(rt; fault_of_trace(rt.alloc(), &registry, &tag, &trace), None);
+    let other = tag_of(rt.alloc(), "he")?;
+    let wrong = fault_of_trace(rt.alloc(), &registry, &other, &trace);
+    assert_eq!(rt; wrong, Some(TraceFault::NoSuchStep(1)));
+    Ok(())
+}
+
+/// The explanation of a tag.
+fn explained(alloc: Global, registry: &Registry, tag: &Tag) -> Result<Trace, Fail> {
+    Ok(registry.explain(alloc, tag)?)
+}
+
+/// What is wrong with an explanation of a tag, if anything is.
+fn fault_of_trace(
+    alloc: Global,
+    registry: &Registry,
+    tag: &Tag,
+    trace: &Trace,
+) -> Option<TraceFault> {
+    registry.verify(alloc, tag, trace).err()
+}
+
+/// The lines of the explanation of the tag that a text is read as.
+fn lines_of(alloc: Global, registry: &Registry, text: &[u8]) -> Result<Vec<u8>, Fail> {
+    Ok(registry.explanation_text(alloc, text)?)
+}
+
+#[test]
+fn explanation_texts(rt: HostRuntime) -> Result<(), Fail> {
+    let registry = small_registry(rt.alloc())?;
+    let lines = lines_of(rt.alloc(), &registry, b"IW-il")?;
     assert_eq!(rt;
         lines.as_slice(),
         b"Language 1 4 he-IL\n= he-IL\n".as_slice()
@@ -72,14 +149,19 @@ fn explanations(rt: HostRuntime) -> Result<(), Fail> {
     Ok(())
 }
 
+/// Two records of the registry above, without the value that one has there.
+const OLDER: &[u8] = b"Type: language\nSubtag: iw\n%%\nType: language\nSubtag: he\n";
+
+/// Whether a newer registry upgrades an older one.
+fn upgrades_to(alloc: Global, older: &Registry, newer: &Registry) -> bool {
+    older.upgrade_check(alloc, newer).is_ok()
+}
+
 #[test]
 fn upgrades(rt: HostRuntime) -> Result<(), Fail> {
-    let older = Registry::from_bytes(
-        rt.alloc(),
-        b"Type: language\nSubtag: iw\n%%\nType: language\nSubtag: he\n",
-    )?;
-    let newer = Registry::from_bytes(rt.alloc(), REGISTRY)?;
-    assert!(rt; older.upgrade_check(rt.alloc(), &newer).is_ok());
-    assert!(rt; newer.upgrade_check(rt.alloc(), &older).is_err());
+    let older = registry_of(rt.alloc(), OLDER)?;
+    let newer = small_registry(rt.alloc())?;
+    assert!(rt; upgrades_to(rt.alloc(), &older, &newer));
+    assert!(rt; !upgrades_to(rt.alloc(), &newer, &older));
     Ok(())
 }

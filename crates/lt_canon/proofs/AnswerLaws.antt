@@ -3,6 +3,7 @@ use Rattle.std.proofs.Common.{◌≡◌, ℕ, ◌≤◌, Bool, true, false, ◌�
 use Rattle.std.specs.Prelude.{is_some}
 use Rattle.std.specs.Ordering.{eq_by_cmp}
 use Rattle.std.proofs.lemmas.Bool.{leb-true}
+use Rattle.std.specs.Option.{option_map_or}
 use Rattle.lt_subtag.specs.Shapes.{is_language, is_extlang}
 use Rattle.lt_tag.specs.Parts.{CoreParts, ExtensionParts, TagForm, LangTag, PrivateUse, Grandfathered}
 use Rattle.lt_tag.specs.Spelling.{spell_core}
@@ -11,10 +12,10 @@ use Rattle.lt_tag.specs.WellFormed.{spell, IsTag, IsNotGrandfathered}
 use Rattle.lt_tag.specs.Conventional.{conventional}
 use Rattle.lt_tag.specs.Order.{tag_cmp}
 use Rattle.lt_tag.specs.OrderLaws.{same_exactly, tag_total, tags_apart}
-use Rattle.lt_tag.specs.Faults.{longest_text, HasTag}
+use Rattle.lt_tag.specs.Faults.{HasTag}
 use Rattle.lt_tag.proofs.OneTagLemmas.{one_tag_of_text, read_again, same_text}
 use Rattle.lt_registry.specs.Parts.{EntryParts}
-use Rattle.lt_registry.specs.Entries.{entry, prefixes, prefixes_of, is_short}
+use Rattle.lt_registry.specs.Entries.{entry, prefixes, is_short}
 use Rattle.lt_registry.specs.Validity.{IsProper}
 use Rattle.lt_registry.specs.declared.entries.Kind.TheVariants as kinds
 use Rattle.lt_rewrite.specs.Rewriting.{Rests, done}
@@ -35,6 +36,7 @@ use Rattle.lt_rewrite.proofs.ProperTags.{proper_parts}
 use Rattle.lt_canon.proofs.TagProper.{core_spells_none}
 use Rattle.lt_canon.proofs.CanonicalForms.{langtag_of}
 use Rattle.lt_canon.proofs.Answering.{canonical_form}
+use Rattle.lt_tag.specs.Lists.{longest_text}
 
 -- the text of a tag
 abbrev text_of : TagForm → List ℕ
@@ -91,14 +93,13 @@ module _ (R : List EntryParts) (C : IsChecked R) where
       let T : IsTag form = is_tag R x.tag form x.is_form in
       let n : length (text_of form) ≤ longest_text = subst (λ b. length b ≤ longest_text) x.written short in
       let read : HasTag canonical form = subst (λ b. HasTag b form) (sym x.written) (read_again form T n) in
-      let own : IsCanonicalFormOf R form form = own_form form x.is_form.canonical in
-      record {
-        own = record { tag = form; read = read; form = form; is_form = own; written = x.written };
-        only = λ other y.
+      let own : IsCanonicalFormOf R form form = own_form form x.is_form.canonical in (
+        record { tag = form; read = read; form = form; is_form = own; written = x.written },
+        (λ other y.
             let same : y.tag ≡ form = one_tag_of_text canonical y.tag form y.read read in
             let k : IsCanonicalFormOf R form y.form = subst (λ t. IsCanonicalFormOf R t y.form) same y.is_form in
-            y.written ∙ ap text_of (one_form form y.form form k own) ∙ sym x.written;
-      }
+            y.written ∙ ap text_of (one_form form y.form form k own) ∙ sym x.written),
+      )
 
   -- the extlang form of a canonical form
   pub extlang_answer : (t c form : TagForm) → IsCanonicalFormOf R t c → form ≡ extlang_form R c → IsExtlangFormOf R t form
@@ -118,7 +119,7 @@ module _ (R : List EntryParts) (C : IsChecked R) where
   prefix_short l p x false s e = cc
 
   prefix_at : (l p : List ℕ) (o : Option EntryParts) → entry R kinds.Extlang l ≡ o → prefix_of (prefixes R kinds.Extlang l) ≡ Some p → IsFittingPrefix l p
-  prefix_at l p None h e = let none : prefix_of (prefixes R kinds.Extlang l) ≡ None = ap (λ o. prefix_of (prefixes_of o)) h in cc
+  prefix_at l p None h e = let none : prefix_of (prefixes R kinds.Extlang l) ≡ None = ap (λ o. prefix_of (option_map_or (λ (e : EntryParts). e.prefixes) o [])) h in cc
   prefix_at l p (Some at) h e =
       let x : ExtlangEntry R l = extlang_entry R (core_conditions R C.passes) l (ap is_some h) in
       let found : prefixes R kinds.Extlang l ≡ (x.fits.prefix ∷ []) ∷ [] = prefixes_at R kinds.Extlang l x.at x.found ∙ x.fits.one_prefix in

@@ -7,10 +7,10 @@ use Rattle.lt_registry.specs.Validity.{IsProper, IsValid, RepeatsNoVariant}
 use Rattle.lt_rewrite.specs.Rewriting.{done, then, Rests, IsNormalForm}
 use Rattle.lt_rewrite.specs.CoreSteps.{values_of, IsCoreNormalForm}
 use Rattle.lt_rewrite.specs.Extensions.{ExtensionsStep}
-use Rattle.lt_rewrite.specs.TagSteps.{IsPlain, TagStep, on_whole, IsReached}
+use Rattle.lt_rewrite.specs.TagSteps.{CanBeReplacedWhole, TagStep, on_whole, IsReached}
 use Rattle.lt_rewrite.proofs.Stars.{star_trans}
 use Rattle.lt_rewrite.proofs.NormalForms.{normal_is_form}
-use Rattle.lt_check.specs.Conditions.{plain, IsChecked}
+use Rattle.lt_check.specs.Conditions.{IsChecked}
 use Rattle.lt_canon.specs.Answers.{IsNamedRepeat, IsCanonicalFormOf, IsRepeatOf}
 use Rattle.lt_check.proofs.CheckedRegistry.{value_plain}
 use Rattle.lt_canon.proofs.EndForms.{star_proper, star_end, rest_is_end}
@@ -18,6 +18,7 @@ use Rattle.lt_canon.proofs.TagProper.{step_of_change}
 use Rattle.lt_canon.proofs.TagForm.{core_end, cores_formed, tag_end, end_form, cores_reached, cores_proper, extensions_reached, value_rests}
 use Rattle.lt_canon.proofs.TagRest.{lang_at_end, none_rests, grandfathered_rests, private_rests}
 use Rattle.lt_canon.proofs.TagRepeats.{repeats_at_end}
+use Rattle.lt_tag.specs.Values.{core_alone}
 
 module _ (R : List EntryParts) (C : IsChecked R) where
   -- steps lead there and no further
@@ -50,28 +51,28 @@ module _ (R : List EntryParts) (C : IsChecked R) where
   }
 
   -- a core by itself, where its normal form is no whole record with a value
-  pub core_ends : (c d : CoreParts) → IsProper R (plain c) → IsCoreNormalForm (values_of R) c d → whole_value R (plain d) ≡ None → EndsAt (plain c) (plain d)
+  pub core_ends : (c d : CoreParts) → IsProper R (core_alone c) → IsCoreNormalForm (values_of R) c d → whole_value R (core_alone d) ≡ None → EndsAt (core_alone c) (core_alone d)
   core_ends c d P n e = record {
     reached = cores_reached R C n.reached [] [] P;
     at_rest = λ u s. lang_at_end R d [] [] (record { core = n.at_rest; extensions = none_rests R; whole = λ _ _. e }) u s.change;
   }
 
   -- a whole record with a value: the value's core comes to its normal form
-  pub value_ends : (t : TagForm) (q e : CoreParts) → IsPlain t → IsProper R t → whole_value R t ≡ Some (plain q) → IsCoreNormalForm (values_of R) q e → EndsAt t (plain e)
+  pub value_ends : (t : TagForm) (q e : CoreParts) → CanBeReplacedWhole t → IsProper R t → whole_value R t ≡ Some (core_alone q) → IsCoreNormalForm (values_of R) q e → EndsAt t (core_alone e)
   value_ends t q e h P k n =
-      let Q : IsProper R (plain q) = (value_plain R C t (plain q) k).valid.proper in
-      let one : TagStep R t (plain q) = step_of_change R C t (plain q) (on_whole (record { plain = h; has = k })) P in
+      let Q : IsProper R (core_alone q) = (value_plain R C t (core_alone q) k).valid.proper in
+      let one : TagStep R t (core_alone q) = step_of_change R C t (core_alone q) (on_whole h k) P in
       let same : core_end R C q ≡ e = normal_is_form (cores_formed R C) q e n in
-      let none : whole_value R (plain e) ≡ None = ap (λ c. whole_value R (plain c)) (sym same) ∙ value_rests R C t q k in
+      let none : whole_value R (core_alone e) ≡ None = ap (λ c. whole_value R (core_alone c)) (sym same) ∙ value_rests R C t q k in
       record {
         reached = then one (cores_reached R C n.reached [] [] Q);
         at_rest = λ u s. lang_at_end R e [] [] (record { core = n.at_rest; extensions = none_rests R; whole = λ _ _. none }) u s.change;
       }
 
   -- the same after core steps
-  pub core_value_ends : (c d q e : CoreParts) → IsProper R (plain c) → IsCoreNormalForm (values_of R) c d → whole_value R (plain d) ≡ Some (plain q) → IsCoreNormalForm (values_of R) q e → EndsAt (plain c) (plain e)
+  pub core_value_ends : (c d q e : CoreParts) → IsProper R (core_alone c) → IsCoreNormalForm (values_of R) c d → whole_value R (core_alone d) ≡ Some (core_alone q) → IsCoreNormalForm (values_of R) q e → EndsAt (core_alone c) (core_alone e)
   core_value_ends c d q e P n k m =
-      let rest = value_ends (plain d) q e (refl, refl) (cores_proper R C n.reached [] [] P) k m in
+      let rest = value_ends (core_alone d) q e (refl, refl) (cores_proper R C n.reached [] [] P) k m in
       record { reached = star_trans (cores_reached R C n.reached [] [] P) rest.reached; at_rest = rest.at_rest }
 
   pub grandfathered_ends : (n : ℕ) → whole_value R (Grandfathered n) ≡ None → EndsAt (Grandfathered n) (Grandfathered n)

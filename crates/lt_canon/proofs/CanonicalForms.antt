@@ -5,7 +5,7 @@ use Rattle.std.proofs.lemmas.Bool.{eqb-true}
 use Rattle.lt_tag.specs.Parts.{CoreParts, ExtensionParts, TForm, TagForm, LangTag, PrivateUse, Grandfathered}
 use Rattle.lt_tag.specs.Spelling.{spell_core}
 use Rattle.lt_tag.specs.Extensions.{transform, IsTransform}
-use Rattle.lt_tag.specs.Values.{IsTagValue, core_of, extensions_of, private_of, number_of, most_parts}
+use Rattle.lt_tag.specs.Values.{IsTagValue, core_of, extensions_of, private_of, number_of, core_alone}
 use Rattle.lt_tag.specs.WellFormed.{IsNotGrandfathered}
 use Rattle.lt_tag.proofs.TagLemmas.{AllByRecursion-weaker}
 use Rattle.lt_registry.specs.Parts.{EntryParts}
@@ -18,10 +18,10 @@ use Rattle.lt_registry.specs.declared.faults.ValidRefusal.TheVariants as checks
 use Rattle.lt_rewrite.specs.Rewriting.{IsNormalForm}
 use Rattle.lt_rewrite.specs.CoreSteps.{values_of, IsCoreNormalForm}
 use Rattle.lt_rewrite.specs.Extensions.{ExtensionsStep}
-use Rattle.lt_rewrite.specs.TagSteps.{IsPlain, IsReached}
+use Rattle.lt_rewrite.specs.TagSteps.{CanBeReplacedWhole, IsReached}
 use Rattle.lt_rewrite.proofs.Stars.{star_trans}
 use Rattle.lt_rewrite.proofs.NormalForms.{star_keeps, normal_is_form}
-use Rattle.lt_check.specs.Conditions.{plain, IsValidPlain, IsChecked}
+use Rattle.lt_check.specs.Conditions.{IsValidCoreAlone, IsChecked}
 use Rattle.lt_canon.specs.Answers.{IsCanonicalFormOf, IsRepeatOf}
 use Rattle.lt_canon.specs.OtherForms.{IsCanonicalAnswer}
 use Rattle.lt_canon.specs.Settled.{IsDistinctForm, IsCoreRefusal, IsSecondInSources, IsSettledValue}
@@ -35,6 +35,7 @@ use Rattle.lt_canon.proofs.TagProper.{core_spells_none}
 use Rattle.lt_canon.proofs.TagForm.{core_end, cores_formed, cores_reached, cores_proper, extensions_reached, resting, end_form, extensions_step_to}
 use Rattle.lt_canon.proofs.SourceRepeats.{source_repeats, named_source}
 use Rattle.lt_canon.proofs.Answering.{canonical_form, named_repeat, langtag_ends, core_ends, value_ends, core_value_ends, grandfathered_ends, private_use_ends}
+use Rattle.lt_tag.specs.Lists.{longest_text}
 
 -- a tag by what its readers show
 pub langtag_of : (t : TagForm) (c : CoreParts) → core_of t ≡ Some c → t ≡ LangTag c (extensions_of t) (private_of t)
@@ -42,12 +43,12 @@ langtag_of (LangTag d es ps) c h = let same : d ≡ c = cc in ap (λ x. LangTag 
 langtag_of (PrivateUse ps) c h = cc
 langtag_of (Grandfathered n) c h = cc
 
-pub plain_of_number : (t : TagForm) (n : ℕ) → number_of t ≡ Some n → IsPlain t
+pub plain_of_number : (t : TagForm) (n : ℕ) → number_of t ≡ Some n → CanBeReplacedWhole t
 plain_of_number (LangTag c es ps) n h = cc
 plain_of_number (PrivateUse ps) n h = cc
 plain_of_number (Grandfathered m) n h = tt
 
-pub plain_of_test : (t : TagForm) (o : Option ℕ) → o ≡ number_of t → is_some o ≡ true → IsPlain t
+pub plain_of_test : (t : TagForm) (o : Option ℕ) → o ≡ number_of t → is_some o ≡ true → CanBeReplacedWhole t
 plain_of_test t None e h = cc
 plain_of_test t (Some n) e h = plain_of_number t n (sym e)
 
@@ -55,13 +56,13 @@ pub none_of_test : {A : Type 0} (o r : Option A) → o ≡ r → is_some o ≡ f
 none_of_test None r e h = sym e
 none_of_test (Some a) r e h = cc
 
-pub plain_of_core : (R : List EntryParts) (t : TagForm) (c : CoreParts) → IsValidPlain R t → core_of t ≡ Some c → t ≡ plain c
+pub plain_of_core : (R : List EntryParts) (t : TagForm) (c : CoreParts) → IsValidCoreAlone R t → core_of t ≡ Some c → t ≡ core_alone c
 plain_of_core R t c v h =
     let both : Some v.core ≡ Some c = sym (ap core_of v.is) ∙ h in
     let same : v.core ≡ c = cc in
-    v.is ∙ ap plain same
+    v.is ∙ ap core_alone same
 
-pub plain_has_core : (R : List EntryParts) (t : TagForm) → IsValidPlain R t → core_of t ≡ None → ⊥
+pub plain_has_core : (R : List EntryParts) (t : TagForm) → IsValidCoreAlone R t → core_of t ≡ None → ⊥
 plain_has_core R t v h = let both : Some v.core ≡ None = sym (ap core_of v.is) ∙ h in cc
 
 -- a tag that is not found valid
@@ -82,6 +83,10 @@ pub valid_parts : (R : List EntryParts) (t : TagForm) (c : CoreParts) (es : List
 valid_parts R t c es ps k n h e p =
     subst (IsValid R) (tag_of_parts t c es ps h e p) ((valid_law R t k).1 n)
 
+-- the same of a core alone
+pub valid_alone : (R : List EntryParts) (t : TagForm) (c : CoreParts) → IsTagValue t → HasNoFault R t → t ≡ core_alone c → IsValid R (core_alone c)
+valid_alone R t c k n e = subst (IsValid R) e ((valid_law R t k).1 n)
+
 -- what settling the extensions of a proper tag needs
 pub transforms_have_parts : (R : List EntryParts) (es : List ExtensionParts) → AllByRecursion (IsProperExtension R) es → AllByRecursion (λ (e : ExtensionParts). e.singleton ≡ transform → (p : TForm) × IsTransform e.subtags p) es
 transforms_have_parts R es P =
@@ -99,27 +104,27 @@ module _ (R : List EntryParts) (C : IsChecked R) where
       named_repeat R C (LangTag c es ps) (LangTag h.form es ps) v V (cores_reached R C h.normal.reached es ps V.proper) (λ d. second_repeats h.form.variants v h.second d.0) (inl h)
   core_refused c es ps refusals.OutOfMemory V h = tt
 
-  value_distinct : (t : TagForm) (q e : CoreParts) → whole_value R t ≡ Some (plain q) → IsCoreNormalForm (values_of R) q e → RepeatsNoVariant (plain e)
+  value_distinct : (t : TagForm) (q e : CoreParts) → whole_value R t ≡ Some (core_alone q) → IsCoreNormalForm (values_of R) q e → RepeatsNoVariant (core_alone e)
   value_distinct t q e k n =
       let same : core_end R C q ≡ e = normal_is_form (cores_formed R C) q e n in
       (subst (λ (x : CoreParts). Distinct x.variants) same (resting R C t q k).0, tt)
 
   -- the value of a whole tag
-  pub value_canonical : (t u r : TagForm) → IsPlain t → IsValid R t → whole_value R t ≡ Some u → IsSettledValue R u r → IsCanonicalFormOf R t r
+  pub value_canonical : (t u r : TagForm) → CanBeReplacedWhole t → IsValid R t → whole_value R t ≡ Some u → IsSettledValue R u r → IsCanonicalFormOf R t r
   value_canonical t u r h V e s =
-      let k : whole_value R t ≡ Some (plain s.core) = e ∙ ap Some s.from in
-      subst (IsCanonicalFormOf R t) (sym s.to) (canonical_form R C t (plain s.form) V (value_ends R C t s.core s.form h V.proper k s.normal) (value_distinct t s.core s.form k s.normal))
+      let k : whole_value R t ≡ Some (core_alone s.core) = e ∙ ap Some s.from in
+      subst (IsCanonicalFormOf R t) (sym s.to) (canonical_form R C t (core_alone s.form) V (value_ends R C t s.core s.form h V.proper k s.normal) (value_distinct t s.core s.form k s.normal))
 
   -- the value of a core in core normal form
-  pub core_value_canonical : (c d : CoreParts) (u r : TagForm) → IsValid R (plain c) → IsDistinctForm R c d → whole_value R (plain d) ≡ Some u → IsSettledValue R u r → IsCanonicalFormOf R (plain c) r
+  pub core_value_canonical : (c d : CoreParts) (u r : TagForm) → IsValid R (core_alone c) → IsDistinctForm R c d → whole_value R (core_alone d) ≡ Some u → IsSettledValue R u r → IsCanonicalFormOf R (core_alone c) r
   core_value_canonical c d u r V n e s =
-      let k : whole_value R (plain d) ≡ Some (plain s.core) = e ∙ ap Some s.from in
-      subst (IsCanonicalFormOf R (plain c)) (sym s.to)
-      (canonical_form R C (plain c) (plain s.form) V (core_value_ends R C c d s.core s.form V.proper n.normal k s.normal) (value_distinct (plain d) s.core s.form k s.normal))
+      let k : whole_value R (core_alone d) ≡ Some (core_alone s.core) = e ∙ ap Some s.from in
+      subst (IsCanonicalFormOf R (core_alone c)) (sym s.to)
+      (canonical_form R C (core_alone c) (core_alone s.form) V (core_value_ends R C c d s.core s.form V.proper n.normal k s.normal) (value_distinct (core_alone d) s.core s.form k s.normal))
 
   -- a core in core normal form without a value
-  pub core_canonical : (c d : CoreParts) → IsValid R (plain c) → IsDistinctForm R c d → whole_value R (plain d) ≡ None → IsCanonicalFormOf R (plain c) (plain d)
-  core_canonical c d V n e = canonical_form R C (plain c) (plain d) V (core_ends R C c d V.proper n.normal e) (n.distinct, tt)
+  pub core_canonical : (c d : CoreParts) → IsValid R (core_alone c) → IsDistinctForm R c d → whole_value R (core_alone d) ≡ None → IsCanonicalFormOf R (core_alone c) (core_alone d)
+  core_canonical c d V n e = canonical_form R C (core_alone c) (core_alone d) V (core_ends R C c d V.proper n.normal e) (n.distinct, tt)
 
   -- a tag without a core that no step changes
   pub coreless_canonical : (t : TagForm) → IsValid R t → core_of t ≡ None → (number_of t ≡ None) ⊎ (whole_value R t ≡ None) → IsCanonicalFormOf R t t
@@ -133,7 +138,7 @@ module _ (R : List EntryParts) (C : IsChecked R) where
   parts_reached : (c d : CoreParts) (es fs : List ExtensionParts) (ps : List (List ℕ)) → IsProper R (LangTag c es ps) → IsCoreNormalForm (values_of R) c d → IsNormalForm (ExtensionsStep R) es fs → IsReached R (LangTag c es ps) (LangTag d fs ps)
   parts_reached c d es fs ps P n m = star_trans (cores_reached R C n.reached es ps P) (extensions_reached R C d m.reached ps (cores_proper R C n.reached es ps P))
 
-  pub form_count : (c d : CoreParts) (es fs : List ExtensionParts) (ps : List (List ℕ)) → IsProper R (LangTag c es ps) → IsCoreNormalForm (values_of R) c d → IsNormalForm (ExtensionsStep R) es fs → length fs ≤ most_parts
+  pub form_count : (c d : CoreParts) (es fs : List ExtensionParts) (ps : List (List ℕ)) → IsProper R (LangTag c es ps) → IsCoreNormalForm (values_of R) c d → IsNormalForm (ExtensionsStep R) es fs → length fs ≤ longest_text
   form_count c d es fs ps P n m = (star_proper (end_form R C) (parts_reached c d es fs ps P n m) P).tag.counts.1
 
   pub form_some : (es fs : List ExtensionParts) (ps : List (List ℕ)) → IsNormalForm (ExtensionsStep R) es fs → 0 < length es + length ps → 0 < length fs + length ps

@@ -5,7 +5,7 @@ use Rattle.std.specs.List.{AllByRecursion}
 use Rattle.lt_tag.specs.Parts.{CoreParts, ExtensionParts, TForm, TagForm, LangTag, PrivateUse, Grandfathered}
 use Rattle.lt_tag.specs.Spelling.{spell_core}
 use Rattle.lt_tag.specs.Extensions.{transform, IsTransform}
-use Rattle.lt_tag.specs.Values.{core_of, extensions_of, private_of}
+use Rattle.lt_tag.specs.Values.{core_of, extensions_of, private_of, core_alone}
 use Rattle.lt_tag.specs.Values.{number_of as tag_number}
 use Rattle.lt_registry.specs.Parts.{EntryParts}
 use Rattle.lt_registry.specs.Entries.{whole, whole_value, number_of}
@@ -13,7 +13,7 @@ use Rattle.lt_registry.specs.Validity.{IsProper}
 use Rattle.lt_rewrite.specs.Rewriting.{Star, then, Rests, IsNormalForm}
 use Rattle.lt_rewrite.specs.CoreSteps.{values_of, CoreStep, IsCoreNormalForm}
 use Rattle.lt_rewrite.specs.Extensions.{ExtensionsStep}
-use Rattle.lt_rewrite.specs.TagSteps.{IsPlain, TagChange, on_core, on_extensions, on_whole, TagStep}
+use Rattle.lt_rewrite.specs.TagSteps.{CanBeReplacedWhole, TagChange, on_core, on_extensions, on_whole, TagStep}
 use Rattle.lt_rewrite.specs.Labels.{step_at, core_label, extensions_label, tag_label, LeadsBy, IsTrace}
 use Rattle.lt_rewrite.specs.Applying.{CoreLeads, ExtensionsLeads}
 use Rattle.lt_rewrite.specs.Runs.{kind_rank, extension_rank, IsFirst, IsRun, NoneLeads, Adds, AddsOnCore, AddsOnExtensions}
@@ -22,7 +22,7 @@ use Rattle.lt_rewrite.specs.declared.steps.StepKind.TheVariants as steps
 use Rattle.lt_rewrite.proofs.Stars.{star_path}
 use Rattle.lt_rewrite.proofs.NormalForms.{normal_is_form}
 use Rattle.lt_rewrite.proofs.FirstSteps.{adds_none, adds_more, adds_all, run_lift}
-use Rattle.lt_check.specs.Conditions.{plain, IsChecked}
+use Rattle.lt_check.specs.Conditions.{IsChecked}
 use Rattle.lt_canon.specs.Answers.{IsCanonicalFormOf}
 use Rattle.lt_canon.specs.Explaining.{rank_in, IsExplanation, RestsOnCore, LeadsToRest}
 use Rattle.lt_check.proofs.CheckedRegistry.{value_plain}
@@ -42,7 +42,7 @@ pub some_of_test : {A : Type 0} (xs : List A) → false ≡ (length xs == 0) →
 some_of_test [] h = cc
 some_of_test (x ∷ xs) h = omega arith
 
-pub plain_made : (t : TagForm) (c : CoreParts) (es : List ExtensionParts) (ps : List (List ℕ)) → t ≡ LangTag c es ps → es ≡ [] → ps ≡ [] → t ≡ plain c
+pub plain_made : (t : TagForm) (c : CoreParts) (es : List ExtensionParts) (ps : List (List ℕ)) → t ≡ LangTag c es ps → es ≡ [] → ps ≡ [] → t ≡ core_alone c
 plain_made t c es ps h e p = h ∙ (λ i. LangTag c (e i) (p i))
 
 -- a run goes by steps
@@ -71,7 +71,7 @@ module _ (R : List EntryParts) where
   }
 
   -- no step leads from a tag whose core is at rest and that has no value
-  pub whole_at_rest : (t : TagForm) → IsPlain t → RestsOnCore R t → whole_value R t ≡ None → Rests (TagStep R) t
+  pub whole_at_rest : (t : TagForm) → CanBeReplacedWhole t → RestsOnCore R t → whole_value R t ≡ None → Rests (TagStep R) t
   whole_at_rest (LangTag c es ps) h k e u s =
       lang_at_end R c es ps (record {
         core = core_rests c (k c refl);
@@ -81,10 +81,10 @@ module _ (R : List EntryParts) where
   whole_at_rest (PrivateUse ps) h k e u s = absurd h
   whole_at_rest (Grandfathered n) h k e u s = grandfathered_rests R n e u s.change
 
-  only_whole : (t : TagForm) → IsPlain t → RestsOnCore R t → (step : Step) (u : TagForm) (s : TagChange R t u) → tag_label R s ≡ step → step ≡ step_at steps.Whole 1 (number_of (whole R t))
-  only_whole t h k step u (on_core c d es ps s) e = absurd (k c (ap core_of s.from) (core_label R 0 s.step) d (s.step, refl))
-  only_whole t h k step u (on_extensions c es fs ps s) e = let p : IsPlain (LangTag c es ps) = subst IsPlain s.from h in absurd (extensions_step_from R es fs s.step p.0)
-  only_whole t h k step u (on_whole s) e = sym e
+  only_whole : (t : TagForm) → CanBeReplacedWhole t → RestsOnCore R t → (step : Step) (u : TagForm) (s : TagChange R t u) → tag_label R s ≡ step → step ≡ step_at steps.Whole 1 (number_of (whole R t))
+  only_whole t h k step u (on_core c d es ps from _ s) e = absurd (k c (ap core_of from) (core_label R 0 s) d (s, refl))
+  only_whole t h k step u (on_extensions c es fs ps from _ s) e = let p : CanBeReplacedWhole (LangTag c es ps) = subst CanBeReplacedWhole from h in absurd (extensions_step_from R es fs s p.0)
+  only_whole t h k step u (on_whole _ _) e = sym e
 
   module _ (C : IsChecked R) where
     pub adds_on_core : (c d : CoreParts) (es : List ExtensionParts) (ps : List (List ℕ)) (old new : List Step) → IsProper R (LangTag c es ps) → AddsOnCore R 0 c d old new → IsProper R (LangTag d es ps) × Adds (LeadsBy R) rank_in (LangTag c es ps) (LangTag d es ps) old new
@@ -98,9 +98,9 @@ module _ (R : List EntryParts) where
         record { run = h.run; added = h.added; is_run = lifted.1 }
 
     -- the step to the value is the first, where the core is at rest
-    whole_is_first : (t u : TagForm) (step : Step) → IsProper R t → IsPlain t → RestsOnCore R t → whole_value R t ≡ Some u → step ≡ step_at steps.Whole 1 (number_of (whole R t)) → IsFirst (LeadsBy R t) (rank_in t) step u
+    whole_is_first : (t u : TagForm) (step : Step) → IsProper R t → CanBeReplacedWhole t → RestsOnCore R t → whole_value R t ≡ Some u → step ≡ step_at steps.Whole 1 (number_of (whole R t)) → IsFirst (LeadsBy R t) (rank_in t) step u
     whole_is_first t u step P h k v e = record {
-      leads = (record { from = P; to = (value_plain R C t u v).valid.proper; change = on_whole (record { plain = h; has = v }) }, sym e);
+      leads = (record { from = P; to = (value_plain R C t u v).valid.proper; change = on_whole h v }, sym e);
       first = λ other b l. let same : step ≡ other = e ∙ sym (only_whole t h k other b l.0.change l.1) in inr (ap (rank_in t) same, omega (arith, ap (λ (x : Step). x.place) same));
     }
 
@@ -116,16 +116,16 @@ module _ (R : List EntryParts) where
     private_use_rests ps old = rests (PrivateUse ps) old (λ u s. private_rests R ps u s.change)
 
     -- the value of a whole tag, and the steps on its core
-    pub value_rests_by : (t : TagForm) (core form : CoreParts) (step : Step) (old mid new : List Step) → IsProper R t → IsPlain t → RestsOnCore R t → whole_value R t ≡ Some (plain core) → step ≡ step_at steps.Whole 1 (number_of (whole R t)) → mid ≡ old ++ step ∷ [] → AddsOnCore R 0 core form mid new → NoneLeads (CoreLeads R 0 form) → LeadsToRest R t old new
+    pub value_rests_by : (t : TagForm) (core form : CoreParts) (step : Step) (old mid new : List Step) → IsProper R t → CanBeReplacedWhole t → RestsOnCore R t → whole_value R t ≡ Some (core_alone core) → step ≡ step_at steps.Whole 1 (number_of (whole R t)) → mid ≡ old ++ step ∷ [] → AddsOnCore R 0 core form mid new → NoneLeads (CoreLeads R 0 form) → LeadsToRest R t old new
     value_rests_by t core form step old mid new P h k v e m a none =
-        let Q : IsProper R (plain core) = (value_plain R C t (plain core) v).valid.proper in
+        let Q : IsProper R (core_alone core) = (value_plain R C t (core_alone core) v).valid.proper in
         let normal : IsCoreNormalForm (values_of R) core form = record { reached = core_reached core form mid new a; at_rest = core_rests form none } in
         let same : core_end R C core ≡ form = normal_is_form (cores_formed R C) core form normal in
-        let valueless : whole_value R (plain form) ≡ None = ap (λ c. whole_value R (plain c)) (sym same) ∙ value_rests R C t core v in
-        let on : RestsOnCore R (plain form) = λ c i. let j : form ≡ c = cc in subst (λ x. NoneLeads (CoreLeads R 0 x)) j none in
-        let rest : LeadsToRest R (plain form) new new = rests (plain form) new (whole_at_rest (plain form) (refl, refl) on valueless) in
-        let one : Adds (LeadsBy R) rank_in t (plain core) old mid = adds_more (LeadsBy R) rank_in t t (plain core) old old mid step (adds_none (LeadsBy R) rank_in t old) (whole_is_first t (plain core) step P h k v e) m in
-        first_adds t (plain core) old mid new one (first_adds (plain core) (plain form) mid new new (adds_on_core core form [] [] mid new Q a).1 rest)
+        let valueless : whole_value R (core_alone form) ≡ None = ap (λ c. whole_value R (core_alone c)) (sym same) ∙ value_rests R C t core v in
+        let on : RestsOnCore R (core_alone form) = λ c i. let j : form ≡ c = cc in subst (λ x. NoneLeads (CoreLeads R 0 x)) j none in
+        let rest : LeadsToRest R (core_alone form) new new = rests (core_alone form) new (whole_at_rest (core_alone form) (refl, refl) on valueless) in
+        let one : Adds (LeadsBy R) rank_in t (core_alone core) old mid = adds_more (LeadsBy R) rank_in t t (core_alone core) old old mid step (adds_none (LeadsBy R) rank_in t old) (whole_is_first t (core_alone core) step P h k v e) m in
+        first_adds t (core_alone core) old mid new one (first_adds (core_alone core) (core_alone form) mid new new (adds_on_core core form [] [] mid new Q a).1 rest)
 
     -- the steps on the extensions of a langtag whose core is at rest
     pub extensions_rest_by : (c : CoreParts) (es fs : List ExtensionParts) (ps : List (List ℕ)) (old new : List Step) → IsProper R (LangTag c es ps) → 0 < length es + length ps → NoneLeads (CoreLeads R 0 c) → AddsOnExtensions R (length (spell_core c)) es fs old new → NoneLeads (ExtensionsLeads R (length (spell_core c)) fs) → LeadsToRest R (LangTag c es ps) old new
@@ -139,11 +139,11 @@ module _ (R : List EntryParts) where
         }
 
     -- a tag of a core alone, once its core is at rest
-    pub plain_explained : (t : TagForm) (core d : CoreParts) (es : List ExtensionParts) (ps : List (List ℕ)) (old mid : List Step) → IsProper R t → Some core ≡ core_of t → es ≡ extensions_of t → ps ≡ private_of t → [] ≡ es → [] ≡ ps → AddsOnCore R 0 core d old mid → IsProper R (plain d) × Adds (LeadsBy R) rank_in t (plain d) old mid
+    pub plain_explained : (t : TagForm) (core d : CoreParts) (es : List ExtensionParts) (ps : List (List ℕ)) (old mid : List Step) → IsProper R t → Some core ≡ core_of t → es ≡ extensions_of t → ps ≡ private_of t → [] ≡ es → [] ≡ ps → AddsOnCore R 0 core d old mid → IsProper R (core_alone d) × Adds (LeadsBy R) rank_in t (core_alone d) old mid
     plain_explained t core d es ps old mid P k e p n m a =
-        let same : t ≡ plain core = langtag_of t core (sym k) ∙ (λ i. LangTag core (sym e i) (sym p i)) ∙ (λ i. LangTag core (sym n i) (sym m i)) in
+        let same : t ≡ core_alone core = langtag_of t core (sym k) ∙ (λ i. LangTag core (sym e i) (sym p i)) ∙ (λ i. LangTag core (sym n i) (sym m i)) in
         let on = adds_on_core core d [] [] old mid (subst (IsProper R) same P) a in
-        (on.0, subst (λ x. Adds (LeadsBy R) rank_in x (plain d) old mid) (sym same) on.1)
+        (on.0, subst (λ x. Adds (LeadsBy R) rank_in x (core_alone d) old mid) (sym same) on.1)
 
     -- a langtag with extensions or private use
     pub langtag_explained : (t : TagForm) (core d : CoreParts) (es fs : List ExtensionParts) (ps : List (List ℕ)) (start : ℕ) (old mid new : List Step) → IsProper R t → Some core ≡ core_of t → es ≡ extensions_of t → ps ≡ private_of t → 0 < length es + length ps → AddsOnCore R 0 core d old mid → NoneLeads (CoreLeads R 0 d) → start ≡ length (spell_core d) → AddsOnExtensions R start es fs mid new → NoneLeads (ExtensionsLeads R start fs) → LeadsToRest R t old new

@@ -1,13 +1,14 @@
 -- The extlang form of a canonical tag is valid, and leads back to it.
 use Rattle.std.proofs.Common.{◌≡◌, ℕ, ◌⊎◌, inl, inr, Bool, true, false, cond, ◌&&◌, ◌||◌, List, [], ◌∷◌, Option, Some, None, refl, sym, ap, ◌∙◌, subst, length, arith}
-use Rattle.std.specs.Prelude.{is_some}
+use Rattle.std.specs.Prelude.{is_some, unwrap_or}
 use Rattle.std.proofs.lemmas.Slice.Eq.{bytes_eq-Decides}
 use Rattle.std.proofs.lemmas.Bool.{and_from, leb-true}
+use Rattle.std.specs.Option.{option_map_or}
 use Rattle.lt_subtag.specs.Shapes.{is_language, is_extlang}
 use Rattle.lt_tag.specs.Parts.{CoreParts, ExtensionParts, LangTag, PrivateUse, Grandfathered}
 use Rattle.lt_tag.specs.Spelling.{IsCore}
 use Rattle.lt_registry.specs.Parts.{EntryParts}
-use Rattle.lt_registry.specs.Entries.{one_of, value, value_or, entry, prefixes, prefixes_of, lists, replacement, is_short}
+use Rattle.lt_registry.specs.Entries.{one_of, preferred_value, entry, prefixes, has_prefix, replacement, is_short}
 use Rattle.lt_registry.specs.Validity.{ExtlangsFit, IsProperCore, IsProper, IsValid}
 use Rattle.lt_registry.specs.declared.entries.Kind.TheVariants as kinds
 use Rattle.lt_rewrite.specs.Rewriting.{Rests, done}
@@ -54,7 +55,7 @@ module _ (R : List EntryParts) (C : IsChecked R) where
       by false k form = inl form
 
   fronted_at : (d : CoreParts) (o : Option EntryParts) → entry R kinds.Extlang d.language ≡ o → Front d
-  fronted_at d None h = inl (ap (λ o. behind (prefix_of (prefixes_of o)) d) h)
+  fronted_at d None h = inl (ap (λ o. behind (prefix_of (option_map_or (λ (e : EntryParts). e.prefixes) o [])) d) h)
   fronted_at d (Some e) h =
       let x : ExtlangEntry R d.language = extlang_entry R (core_conditions R C.passes) d.language (ap is_some h) in
       fronted_short d x (is_short x.fits.prefix) refl
@@ -65,7 +66,7 @@ module _ (R : List EntryParts) (C : IsChecked R) where
   no_extlang d es ps P h (x ∷ []) e =
       let d' : CoreParts = core (replacement R x) [] d.script d.region d.variants in
       let s : CoreStep (values_of R) d d' = by_extlang x (record { one = e; result = refl }) in
-      absurd (h (LangTag d' es ps) (step_of_change R C (LangTag d es ps) (LangTag d' es ps) (on_core d d' es ps (record { from = refl; to = refl; step = s })) P))
+      absurd (h (LangTag d' es ps) (step_of_change R C (LangTag d es ps) (LangTag d' es ps) (on_core d d' es ps refl refl s) P))
   no_extlang d es ps P h (x ∷ y ∷ r) e = absurd (subst (ExtlangsFit R d.language) e P.parts.core.extlangs)
 
   abbrev front_core : (d : CoreParts) → IsFronted d → CoreParts
@@ -79,8 +80,8 @@ module _ (R : List EntryParts) (C : IsChecked R) where
       let l : List ℕ = d.language in
       let language : is_language q ≡ true = language_form R C.registry q f.extlang.fits.final_prefix.registered in
       let extlang : is_extlang l ≡ true = extlang_form R C.registry l f.extlang in
-      let listed : lists (prefixes R kinds.Extlang l) q ≡ true =
-      ap (λ ps. lists ps q) (prefixes_at R kinds.Extlang l f.extlang.at f.extlang.found ∙ f.extlang.fits.one_prefix) ∙ ap (λ (b : Bool). (b && true) || false) ((bytes_eq-Decides q q).1 refl) in
+      let listed : has_prefix (prefixes R kinds.Extlang l) q ≡ true =
+      ap (λ ps. has_prefix ps q) (prefixes_at R kinds.Extlang l f.extlang.at f.extlang.found ∙ f.extlang.fits.one_prefix) ∙ ap (λ (b : Bool). (b && true) || false) ((bytes_eq-Decides q q).1 refl) in
       let shaped : IsCore (front_core d f) = record {
         language = language;
         extlangs = and_from (is_extlang l) true extlang refl;
@@ -113,10 +114,10 @@ module _ (R : List EntryParts) (C : IsChecked R) where
       let l : List ℕ = d.language in
       let x = f.extlang in
       let at : List ℕ → CoreParts = λ u. core u [] d.script d.region d.variants in
-      let back : value_or (one_of x.at.value) x.fits.subtag ≡ replacement R l = ap (value_or (one_of x.at.value)) x.same ∙ sym (replacement_at R l x.at x.found) in
-      let Q : List ℕ → Type 0 = λ u. EndsIn (value R kinds.Language) u x.fits.end in
+      let back : unwrap_or (one_of x.at.value) x.fits.subtag ≡ replacement R l = ap (unwrap_or (one_of x.at.value)) x.same ∙ sym (replacement_at R l x.at x.found) in
+      let Q : List ℕ → Type 0 = λ u. EndsIn (preferred_value R kinds.Language) u x.fits.end in
       (cores_formed R C).kept (front_core d f) (at (replacement R l)) (by_extlang l (record { one = refl; result = refl }))
-      ∙ one_end_one_form R (core_conditions R C.passes) (value R kinds.Language) at (λ s t e. by_language t (record { alone = refl; has = e; result = refl }))
+      ∙ one_end_one_form R (core_conditions R C.passes) (preferred_value R kinds.Language) at (λ s t e. by_language t (record { alone = refl; has = e; result = refl }))
       (replacement R l) l x.fits.end (subst Q back x.fits.replacement_ends) (subst Q x.same x.fits.ends)
       ∙ ap (λ xs. core_end R C (core l xs d.script d.region d.variants)) (sym none)
 

@@ -4,15 +4,15 @@ use Rattle.std.specs.Prelude.{nat_le, if◌then◌else◌}
 use Rattle.std.proofs.lemmas.Bool.{lt-leb, le-leb, leb-true}
 use Rattle.lt_tag.specs.Parts.{CoreParts, ExtensionParts, UForm, TForm, TagForm, LangTag, PrivateUse, Grandfathered}
 use Rattle.lt_tag.specs.Spelling.{spell_core, spell_extension, spell_extensions}
-use Rattle.lt_tag.specs.Extensions.{spell_keyword, spell_field, spell_source}
+use Rattle.lt_tag.specs.Extensions.{spell_keyword, spell_field}
 use Rattle.lt_tag.specs.Values.{core_of}
 use Rattle.lt_registry.specs.Parts.{EntryParts}
 use Rattle.lt_registry.specs.Entries.{whole, number_of}
 use Rattle.lt_registry.specs.Validity.{IsProper}
-use Rattle.lt_rewrite.specs.CoreSteps.{values_of, CoreStep, by_extlang, by_language, by_script, by_region, by_variant, by_turn}
+use Rattle.lt_rewrite.specs.CoreSteps.{values_of, CoreStep, by_extlang, by_language, by_script, by_region, by_variant, by_variant_language}
 use Rattle.lt_rewrite.specs.Orderings.{ListStep, by_swap, by_drop}
 use Rattle.lt_rewrite.specs.Extensions.{UnicodeStep, on_attributes, on_keywords, on_types, TransformStep, on_source, on_fields, ExtensionStep, in_unicode, in_transform, ExtensionsStep, inside, among}
-use Rattle.lt_rewrite.specs.TagSteps.{IsPlain, TagChange, on_core, on_extensions, on_whole}
+use Rattle.lt_rewrite.specs.TagSteps.{CanBeReplacedWhole, TagChange, on_core, on_extensions, on_whole}
 use Rattle.lt_rewrite.specs.Labels.{step_at, core_label, list_label, unicode_label, transform_label, extension_label, extensions_label, tag_label, LeadsBy}
 use Rattle.lt_rewrite.specs.Applying.{CoreLeads, ExtensionsLeads}
 use Rattle.lt_rewrite.specs.Runs.{rank_of, kind_rank, extension_rank, IsNoLater, IsFirst, NoneLeads}
@@ -24,6 +24,7 @@ use Rattle.lt_check.specs.Conditions.{IsChecked}
 use Rattle.lt_canon.specs.Explaining.{rank_in}
 use Rattle.lt_canon.proofs.TagProper.{core_step_tag, extensions_step_tag}
 use Rattle.lt_canon.proofs.TagForm.{extensions_step_from}
+use Rattle.lt_tag.specs.Splitting.{spell_source}
 
 -- the ranks of steps
 
@@ -33,7 +34,7 @@ core_rank R start c d (by_language v s) = omega arith
 core_rank R start c d (by_script a v s) = omega arith
 core_rank R start c d (by_region a v s) = omega arith
 core_rank R start c d (by_variant before v w after s) = omega arith
-core_rank R start c d (by_turn before v m after s) = omega arith
+core_rank R start c d (by_variant_language before v m after s) = omega arith
 
 -- a step on extensions that begin after this many subtags
 record IsBehind (start : ℕ) (step : Step) : Type 0 where
@@ -53,7 +54,7 @@ source_behind R start place c d (by_language v s) h = record { late = omega arit
 source_behind R start place c d (by_script a v s) h = record { late = omega arith; behind = λ _. omega arith }
 source_behind R start place c d (by_region a v s) h = record { late = omega arith; behind = λ _. omega arith }
 source_behind R start place c d (by_variant before v w after s) h = record { late = omega arith; behind = λ _. omega arith }
-source_behind R start place c d (by_turn before v m after s) h = record { late = omega arith; behind = λ _. omega arith }
+source_behind R start place c d (by_variant_language before v m after s) h = record { late = omega arith; behind = λ _. omega arith }
 
 list_behind : {A : Type 0} {once : Bool} {cmp : A → A → Ordering} {xs ys : List A} (swap drop : StepKind) → 8 ≤ rank_of swap → 8 ≤ rank_of drop → (spell : A → List (List ℕ)) (start place : ℕ) (s : ListStep once cmp xs ys) → IsBehind start (list_label swap drop spell place s)
 list_behind swap drop h k spell start place (by_swap before a b after s) = by_kind start _ h
@@ -65,12 +66,12 @@ unicode_behind start place p q (on_keywords a s) = list_behind steps.SwapKeyword
 unicode_behind start place p q (on_types a before k after s) = by_kind start _ (omega arith)
 
 transform_behind : (R : List EntryParts) (start place : ℕ) (p q : TForm) (s : TransformStep R p q) → start ≤ place → IsBehind start (transform_label R place s)
-transform_behind R start place p q (on_source c d s) h = source_behind R start place c d s.step h
+transform_behind R start place p q (on_source c d _ _ s _) h = source_behind R start place c d s h
 transform_behind R start place p q (on_fields a s) h = list_behind steps.SwapFields steps.SwapFields (omega arith) (omega arith) spell_field start (place + length (spell_source p.source)) s
 
 extension_behind : (R : List EntryParts) (start place : ℕ) (e f : ExtensionParts) (s : ExtensionStep R e f) → start ≤ place → IsBehind start (extension_label R place s)
-extension_behind R start place e f (in_unicode p q s) h = unicode_behind start place p q s.step
-extension_behind R start place e f (in_transform p q s) h = transform_behind R start place p q s.step h
+extension_behind R start place e f (in_unicode p q _ _ _ _ s) h = unicode_behind start place p q s
+extension_behind R start place e f (in_transform p q _ _ _ _ s) h = transform_behind R start place p q s h
 
 extensions_behind : (R : List EntryParts) (start : ℕ) (es fs : List ExtensionParts) (s : ExtensionsStep R es fs) → IsBehind start (extensions_label R start s)
 extensions_behind R start es fs (inside before e f after w s) = extension_behind R start (start + length (spell_extensions before) + 1) e f s (omega arith)
@@ -124,18 +125,18 @@ module _ (R : List EntryParts) (c : CoreParts) (es : List ExtensionParts) (ps : 
   pub data Leads (step : Step) : Type 0 where
     core_leads : (d : CoreParts) → CoreLeads R 0 c step d → Leads step
     extensions_lead : (fs : List ExtensionParts) → ExtensionsLeads R (length (spell_core c)) es step fs → Leads step
-    whole_leads : IsPlain here → step ≡ step_at steps.Whole 1 (number_of (whole R here)) → Leads step
+    whole_leads : CanBeReplacedWhole here → step ≡ step_at steps.Whole 1 (number_of (whole R here)) → Leads step
 
   leads_by : (step : Step) (u : TagForm) (s : TagChange R here u) → tag_label R s ≡ step → Leads step
-  leads_by step u (on_core b d fs qs s) h =
-      let same : b ≡ c = let a = ap core_of s.from in cc in
-      core_leads d (subst (λ x. CoreLeads R 0 x step d) same (s.step, h))
-  leads_by step u (on_extensions b gs fs qs s) h =
-      let same : LangTag b gs qs ≡ here = sym s.from in
+  leads_by step u (on_core b d fs qs from _ s) h =
+      let same : b ≡ c = let a = ap core_of from in cc in
+      core_leads d (subst (λ x. CoreLeads R 0 x step d) same (s, h))
+  leads_by step u (on_extensions b gs fs qs from _ s) h =
+      let same : LangTag b gs qs ≡ here = sym from in
       let one : b ≡ c = cc in
       let all : gs ≡ es = cc in
-      extensions_lead fs (subst (λ x. ExtensionsLeads R (length (spell_core x)) es step fs) one (subst (λ x. ExtensionsLeads R (length (spell_core b)) x step fs) all (s.step, h)))
-  leads_by step u (on_whole s) h = whole_leads s.plain (sym h)
+      extensions_lead fs (subst (λ x. ExtensionsLeads R (length (spell_core x)) es step fs) one (subst (λ x. ExtensionsLeads R (length (spell_core b)) x step fs) all (s, h)))
+  leads_by step u (on_whole is_plain _) h = whole_leads is_plain (sym h)
 
   module _ (C : IsChecked R) where
     core_before : (step : Step) (d : CoreParts) (other : Step) → IsFirst (CoreLeads R 0 c) kind_rank step d → Leads other → IsNoLater (rank_in here) step other
@@ -155,7 +156,7 @@ module _ (R : List EntryParts) (c : CoreParts) (es : List ExtensionParts) (ps : 
     core_is_first step d P h = (
       core_step_tag R C c d es ps h.leads.0 P,
       record {
-        leads = (record { from = P; to = core_step_tag R C c d es ps h.leads.0 P; change = on_core c d es ps (record { from = refl; to = refl; step = h.leads.0 }) }, h.leads.1);
+        leads = (record { from = P; to = core_step_tag R C c d es ps h.leads.0 P; change = on_core c d es ps refl refl h.leads.0 }, h.leads.1);
         first = λ other u l. core_before step d other h (leads_by other u l.0.change l.1);
       },
     )
@@ -171,7 +172,7 @@ module _ (R : List EntryParts) (c : CoreParts) (es : List ExtensionParts) (ps : 
     extensions_is_first step fs P none h = (
       extensions_step_tag R C c es fs ps h.leads.0 P,
       record {
-        leads = (record { from = P; to = extensions_step_tag R C c es fs ps h.leads.0 P; change = on_extensions c es fs ps (record { from = refl; to = refl; step = h.leads.0 }) }, h.leads.1);
+        leads = (record { from = P; to = extensions_step_tag R C c es fs ps h.leads.0 P; change = on_extensions c es fs ps refl refl h.leads.0 }, h.leads.1);
         first = λ other u l. extensions_before step fs other none h (leads_by other u l.0.change l.1);
       },
     )

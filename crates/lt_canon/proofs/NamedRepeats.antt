@@ -15,7 +15,7 @@ use Rattle.lt_rewrite.specs.TagSteps.{CanRepeat}
 use Rattle.lt_rewrite.proofs.NormalForms.{star_keeps, normal_is_form}
 use Rattle.lt_rewrite.proofs.PartLists.{all_step}
 use Rattle.lt_rewrite.proofs.ExtensionLaws.{one_transform, extensions_ordered, normal_parts, normal_singleton}
-use Rattle.lt_check.specs.Conditions.{plain, IsChecked}
+use Rattle.lt_check.specs.Conditions.{IsChecked}
 use Rattle.lt_canon.specs.Answers.{IsSecondOccurrence, IsRepeatOfCore, IsRepeatOfSource, HasDistinctForm, IsNamedRepeat}
 use Rattle.lt_canon.specs.RepeatLaws.{RepeatsAreNamed}
 use Rattle.lt_check.proofs.Checks.{core_conditions}
@@ -23,6 +23,7 @@ use Rattle.lt_check.proofs.CheckedRegistry.{value_plain}
 use Rattle.lt_canon.proofs.Distinctness.{Decided, decide_distinct, second, one_second, second_repeats, distinct_apart, Aligned, same, shorter, longer, align}
 use Rattle.lt_canon.proofs.TagForm.{or_value, core_end, cores_formed, core_normal, extension_end, value_end, lang_end, resting}
 use Rattle.lt_canon.proofs.TagRepeats.{repeats_at_end}
+use Rattle.lt_tag.specs.Values.{core_alone}
 
 abbrev HasDistinctVariants : CoreParts → Type 0
 HasDistinctVariants c = Distinct c.variants
@@ -122,7 +123,7 @@ module _ (R : List EntryParts) (C : IsChecked R) where
   some_source (e ∷ es) P = more_sources e es (source_of e P.0) (some_source es P.1)
 
   end_distinct : (d : CoreParts) (es : List ExtensionParts) (ps : List (List ℕ)) → Distinct d.variants → AllByRecursion HasDistinctSource (map (extension_end R C) es) → RepeatsNoVariant (lang_end R C d es ps)
-  end_distinct d [] [] h k = whole_distinct_at (plain d) (h, tt) (whole_value R (plain d)) refl
+  end_distinct d [] [] h k = whole_distinct_at (core_alone d) (h, tt) (whole_value R (core_alone d)) refl
   end_distinct d [] (p ∷ ps) h k = (h, tt)
   end_distinct d (e ∷ es) ps h k = (h, star_keeps (AllByRecursion HasDistinctSource) (λ x y s. all_step HasDistinctSource x y s) (extensions_ordered R C.registry (core_conditions R C.passes) (e ∷ es)) k)
 

@@ -10,18 +10,19 @@ use Rattle.lt_rewrite.specs.Rewriting.{Star, done, then}
 use Rattle.lt_rewrite.specs.CoreSteps.{values_of, CoreStep, IsCoreNormalForm}
 use Rattle.lt_rewrite.specs.Orderings.{by_swap, by_drop}
 use Rattle.lt_rewrite.specs.Extensions.{ExtensionsStep, inside, among}
-use Rattle.lt_rewrite.specs.TagSteps.{IsPlain, TagChange, on_core, on_extensions, on_whole, TagStep, IsReached}
+use Rattle.lt_rewrite.specs.TagSteps.{CanBeReplacedWhole, TagChange, on_core, on_extensions, on_whole, TagStep, IsReached}
 use Rattle.lt_rewrite.proofs.Stars.{star_trans}
 use Rattle.lt_rewrite.proofs.NormalForms.{IsFormOf, star_map_while, star_keeps, form_is_normal, normal_is_form}
 use Rattle.lt_rewrite.proofs.Same.{same_core-Decides}
 use Rattle.lt_rewrite.proofs.CoreLaws.{normal_core, cores_formed as normal_cores}
 use Rattle.lt_rewrite.proofs.PartLists.{empty_middle, step_some}
 use Rattle.lt_rewrite.proofs.ExtensionLaws.{normal_extension, normal_extensions, extensions_formed}
-use Rattle.lt_check.specs.Conditions.{plain, HasRestingWhole, HasAgreeingWhole, IsChecked}
+use Rattle.lt_check.specs.Conditions.{HasRestingWhole, HasAgreeingWhole, IsChecked}
 use Rattle.lt_canon.proofs.EndForms.{IsEndForm}
 use Rattle.lt_check.proofs.Checks.{core_conditions}
 use Rattle.lt_check.proofs.CheckedRegistry.{valued_whole, whole_has, no_value, value_plain}
 use Rattle.lt_canon.proofs.TagProper.{core_step_tag, extensions_step_tag, step_of_change}
+use Rattle.lt_tag.specs.Values.{core_alone}
 
 -- the end of a tag that is no langtag with extensions or private use
 abbrev pub or_value : TagForm → (TagForm → TagForm) → Option TagForm → TagForm
@@ -73,7 +74,7 @@ module _ (R : List EntryParts) (C : IsChecked R) where
 
   -- of a langtag whose core is at its end
   abbrev pub lang_end : CoreParts → List ExtensionParts → List (List ℕ) → TagForm
-  lang_end d [] [] = whole_end (plain d)
+  lang_end d [] [] = whole_end (core_alone d)
   lang_end d [] (p ∷ ps) = LangTag d [] (p ∷ ps)
   lang_end d (e ∷ es) ps = LangTag d (extensions_end (e ∷ es)) ps
 
@@ -97,43 +98,43 @@ module _ (R : List EntryParts) (C : IsChecked R) where
   core_normal c = form_is_normal cores_formed c
 
   -- of a whole record's value: what its core normal form has
-  pub resting : (t : TagForm) (c : CoreParts) → whole_value R t ≡ Some (plain c) → Distinct (core_end c).variants × All (λ (f : EntryParts). f.name ≡ names.Whole (plain (core_end c)) → tag_of f.value ≡ None) R
+  pub resting : (t : TagForm) (c : CoreParts) → whole_value R t ≡ Some (core_alone c) → Distinct (core_end c).variants × All (λ (f : EntryParts). f.name ≡ names.Whole (core_alone (core_end c)) → tag_of f.value ≡ None) R
   resting t c e =
-      let w = valued_whole R t (plain c) e in
-      whole_has R t (plain c) (HasRestingWhole R) (C.passes.resting_whole) w t (plain c) w.named w.gives c (core_end c) refl (core_normal c)
+      let w = valued_whole R t (core_alone c) e in
+      whole_has R t (core_alone c) (HasRestingWhole R) (C.passes.resting_whole) w t (core_alone c) w.named w.gives c (core_end c) refl (core_normal c)
 
   -- the end of a value is its core normal form
-  pub value_rests : (t : TagForm) (c : CoreParts) → whole_value R t ≡ Some (plain c) → whole_value R (plain (core_end c)) ≡ None
-  value_rests t c e = no_value R (plain (core_end c)) (resting t c e).1
+  pub value_rests : (t : TagForm) (c : CoreParts) → whole_value R t ≡ Some (core_alone c) → whole_value R (core_alone (core_end c)) ≡ None
+  value_rests t c e = no_value R (core_alone (core_end c)) (resting t c e).1
 
-  value_end_is : (t : TagForm) (c : CoreParts) → whole_value R t ≡ Some (plain c) → tag_end (plain c) ≡ plain (core_end c)
-  value_end_is t c e = whole_end_none (plain (core_end c)) (value_rests t c e)
+  value_end_is : (t : TagForm) (c : CoreParts) → whole_value R t ≡ Some (core_alone c) → tag_end (core_alone c) ≡ core_alone (core_end c)
+  value_end_is t c e = whole_end_none (core_alone (core_end c)) (value_rests t c e)
 
   -- a core that is a whole record with a value: its own end is that of its value
-  plain_kept : (c q : CoreParts) → whole_value R (plain c) ≡ Some (plain q) → whole_end (plain (core_end c)) ≡ plain (core_end q)
+  plain_kept : (c q : CoreParts) → whole_value R (core_alone c) ≡ Some (core_alone q) → whole_end (core_alone (core_end c)) ≡ core_alone (core_end q)
   plain_kept c q e = by (same_or_not (core_end c) c)
     where
-      agree : core_end c ≢ c → (core_end c ≡ core_end q) ⊎ ((r : CoreParts) × (whole_value R (plain (core_end c)) ≡ Some (plain r)) × IsCoreNormalForm (values_of R) r (core_end q))
+      agree : core_end c ≢ c → (core_end c ≡ core_end q) ⊎ ((r : CoreParts) × (whole_value R (core_alone (core_end c)) ≡ Some (core_alone r)) × IsCoreNormalForm (values_of R) r (core_end q))
       agree n =
-          let w = valued_whole R (plain c) (plain q) e in
-          whole_has R (plain c) (plain q) (HasAgreeingWhole R) (C.passes.agreeing_whole) w (plain c) (plain q) w.named w.gives c (core_end c) q (core_end q) refl refl (core_normal c) n (core_normal q)
+          let w = valued_whole R (core_alone c) (core_alone q) e in
+          whole_has R (core_alone c) (core_alone q) (HasAgreeingWhole R) (C.passes.agreeing_whole) w (core_alone c) (core_alone q) w.named w.gives c (core_end c) q (core_end q) refl refl (core_normal c) n (core_normal q)
 
-      then_by : (core_end c ≡ core_end q) ⊎ ((r : CoreParts) × (whole_value R (plain (core_end c)) ≡ Some (plain r)) × IsCoreNormalForm (values_of R) r (core_end q)) → whole_end (plain (core_end c)) ≡ plain (core_end q)
-      then_by (inl s) = ap (λ d. whole_end (plain d)) s ∙ whole_end_none (plain (core_end q)) (value_rests (plain c) q e)
-      then_by (inr k) = whole_end_some (plain (core_end c)) (plain k.0) k.1 ∙ ap plain (normal_is_form cores_formed k.0 (core_end q) k.2)
+      then_by : (core_end c ≡ core_end q) ⊎ ((r : CoreParts) × (whole_value R (core_alone (core_end c)) ≡ Some (core_alone r)) × IsCoreNormalForm (values_of R) r (core_end q)) → whole_end (core_alone (core_end c)) ≡ core_alone (core_end q)
+      then_by (inl s) = ap (λ d. whole_end (core_alone d)) s ∙ whole_end_none (core_alone (core_end q)) (value_rests (core_alone c) q e)
+      then_by (inr k) = whole_end_some (core_alone (core_end c)) (core_alone k.0) k.1 ∙ ap core_alone (normal_is_form cores_formed k.0 (core_end q) k.2)
 
-      by : (core_end c ≡ c) ⊎ (core_end c ≢ c) → whole_end (plain (core_end c)) ≡ plain (core_end q)
-      by (inl s) = whole_end_some (plain (core_end c)) (plain q) (ap (λ d. whole_value R (plain d)) s ∙ e)
+      by : (core_end c ≡ c) ⊎ (core_end c ≢ c) → whole_end (core_alone (core_end c)) ≡ core_alone (core_end q)
+      by (inl s) = whole_end_some (core_alone (core_end c)) (core_alone q) (ap (λ d. whole_value R (core_alone d)) s ∙ e)
       by (inr n) = then_by (agree n)
 
-  whole_kept_at : (t : TagForm) (q : CoreParts) → IsPlain t → whole_value R t ≡ Some (plain q) → tag_end t ≡ tag_end (plain q)
-  whole_kept_at (Grandfathered n) q h e = whole_end_some (Grandfathered n) (plain q) e ∙ sym (value_end_is (Grandfathered n) q e)
-  whole_kept_at (LangTag c [] []) q h e = plain_kept c q e ∙ sym (value_end_is (plain c) q e)
+  whole_kept_at : (t : TagForm) (q : CoreParts) → CanBeReplacedWhole t → whole_value R t ≡ Some (core_alone q) → tag_end t ≡ tag_end (core_alone q)
+  whole_kept_at (Grandfathered n) q h e = whole_end_some (Grandfathered n) (core_alone q) e ∙ sym (value_end_is (Grandfathered n) q e)
+  whole_kept_at (LangTag c [] []) q h e = plain_kept c q e ∙ sym (value_end_is (core_alone c) q e)
   whole_kept_at (LangTag c (x ∷ es) ps) q h e = let a = h.0 in cc
   whole_kept_at (LangTag c [] (p ∷ ps)) q h e = let a = h.1 in cc
   whole_kept_at (PrivateUse ps) q h e = absurd h
 
-  whole_kept : (t u : TagForm) → IsPlain t → whole_value R t ≡ Some u → tag_end t ≡ tag_end u
+  whole_kept : (t u : TagForm) → CanBeReplacedWhole t → whole_value R t ≡ Some u → tag_end t ≡ tag_end u
   whole_kept t u h e =
       let v = value_plain R C t u e in
       whole_kept_at t v.core h (e ∙ ap Some v.is) ∙ sym (ap tag_end v.is)
@@ -146,16 +147,16 @@ module _ (R : List EntryParts) (C : IsChecked R) where
 
   -- each step keeps the end form
   pub change_kept : (t u : TagForm) → TagChange R t u → tag_end t ≡ tag_end u
-  change_kept t u (on_core c d es ps s) = ap tag_end s.from ∙ ap (λ x. lang_end x es ps) (cores_formed.kept c d s.step) ∙ sym (ap tag_end s.to)
-  change_kept t u (on_extensions c es fs ps s) = ap tag_end s.from ∙ extensions_kept (core_end c) es fs ps s.step ∙ sym (ap tag_end s.to)
-  change_kept t u (on_whole s) = whole_kept t u s.plain s.has
+  change_kept t u (on_core c d es ps from to s) = ap tag_end from ∙ ap (λ x. lang_end x es ps) (cores_formed.kept c d s) ∙ sym (ap tag_end to)
+  change_kept t u (on_extensions c es fs ps from to s) = ap tag_end from ∙ extensions_kept (core_end c) es fs ps s ∙ sym (ap tag_end to)
+  change_kept t u (on_whole is_plain has) = whole_kept t u is_plain has
 
   -- each proper tag reaches its end form
 
   pub cores_reached : {c d : CoreParts} → Star (CoreStep (values_of R)) c d → (es : List ExtensionParts) (ps : List (List ℕ)) → IsProper R (LangTag c es ps) → IsReached R (LangTag c es ps) (LangTag d es ps)
   cores_reached r es ps P =
       star_map_while (λ x. IsProper R (LangTag x es ps)) (λ x. LangTag x es ps) (λ x y s p. core_step_tag R C x y es ps s p)
-      (λ x y s p q. step_of_change R C (LangTag x es ps) (LangTag y es ps) (on_core x y es ps (record { from = refl; to = refl; step = s })) p) r P
+      (λ x y s p q. step_of_change R C (LangTag x es ps) (LangTag y es ps) (on_core x y es ps refl refl s) p) r P
 
   pub cores_proper : {c d : CoreParts} → Star (CoreStep (values_of R)) c d → (es : List ExtensionParts) (ps : List (List ℕ)) → IsProper R (LangTag c es ps) → IsProper R (LangTag d es ps)
   cores_proper r es ps P = star_keeps (λ x. IsProper R (LangTag x es ps)) (λ x y s p. core_step_tag R C x y es ps s p) r P
@@ -163,23 +164,23 @@ module _ (R : List EntryParts) (C : IsChecked R) where
   pub extensions_reached : (d : CoreParts) {es fs : List ExtensionParts} → Star (ExtensionsStep R) es fs → (ps : List (List ℕ)) → IsProper R (LangTag d es ps) → IsReached R (LangTag d es ps) (LangTag d fs ps)
   extensions_reached d r ps P =
       star_map_while (λ x. IsProper R (LangTag d x ps)) (λ x. LangTag d x ps) (λ x y s p. extensions_step_tag R C d x y ps s p)
-      (λ x y s p q. step_of_change R C (LangTag d x ps) (LangTag d y ps) (on_extensions d x y ps (record { from = refl; to = refl; step = s })) p) r P
+      (λ x y s p q. step_of_change R C (LangTag d x ps) (LangTag d y ps) (on_extensions d x y ps refl refl s) p) r P
 
-  whole_reached_at : (t : TagForm) → IsPlain t → IsProper R t → (o : Option TagForm) → whole_value R t ≡ o → IsReached R t (or_value t value_end o)
+  whole_reached_at : (t : TagForm) → CanBeReplacedWhole t → IsProper R t → (o : Option TagForm) → whole_value R t ≡ o → IsReached R t (or_value t value_end o)
   whole_reached_at t h P None e = done
   whole_reached_at t h P (Some u) e =
       let v = value_plain R C t u e in
-      let Q : IsProper R (plain v.core) = subst (IsProper R) v.is v.valid.proper in
-      let e' : whole_value R t ≡ Some (plain v.core) = e ∙ ap Some v.is in
-      let one : TagStep R t (plain v.core) = step_of_change R C t (plain v.core) (on_whole (record { plain = h; has = e' })) P in
-      let rest : IsReached R t (plain (core_end v.core)) = then one (cores_reached (cores_formed.reached v.core) [] [] Q) in
+      let Q : IsProper R (core_alone v.core) = subst (IsProper R) v.is v.valid.proper in
+      let e' : whole_value R t ≡ Some (core_alone v.core) = e ∙ ap Some v.is in
+      let one : TagStep R t (core_alone v.core) = step_of_change R C t (core_alone v.core) (on_whole h e') P in
+      let rest : IsReached R t (core_alone (core_end v.core)) = then one (cores_reached (cores_formed.reached v.core) [] [] Q) in
       subst (λ x. IsReached R t (value_end x)) (sym v.is) rest
 
-  whole_reached : (t : TagForm) → IsPlain t → IsProper R t → IsReached R t (whole_end t)
+  whole_reached : (t : TagForm) → CanBeReplacedWhole t → IsProper R t → IsReached R t (whole_end t)
   whole_reached t h P = whole_reached_at t h P (whole_value R t) refl
 
   lang_reached : (d : CoreParts) (es : List ExtensionParts) (ps : List (List ℕ)) → IsProper R (LangTag d es ps) → IsReached R (LangTag d es ps) (lang_end d es ps)
-  lang_reached d [] [] P = whole_reached (plain d) (refl, refl) P
+  lang_reached d [] [] P = whole_reached (core_alone d) (refl, refl) P
   lang_reached d [] (p ∷ ps) P = done
   lang_reached d (e ∷ es) ps P = extensions_reached d (extensions_end_formed.reached (e ∷ es)) ps P
 

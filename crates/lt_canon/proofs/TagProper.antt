@@ -31,9 +31,9 @@ module _ (R : List EntryParts) (C : IsChecked R) where
 
   -- each change
   pub change_proper : (t u : TagForm) → TagChange R t u → IsProper R t → IsProper R u
-  change_proper t u (on_core c d es ps s) P = subst (IsProper R) (sym s.to) (core_step_tag c d es ps s.step (subst (IsProper R) s.from P))
-  change_proper t u (on_extensions c es fs ps s) P = subst (IsProper R) (sym s.to) (extensions_step_tag c es fs ps s.step (subst (IsProper R) s.from P))
-  change_proper t u (on_whole s) P = (value_plain R C t u s.has).valid.proper
+  change_proper t u (on_core c d es ps from to s) P = subst (IsProper R) (sym to) (core_step_tag c d es ps s (subst (IsProper R) from P))
+  change_proper t u (on_extensions c es fs ps from to s) P = subst (IsProper R) (sym to) (extensions_step_tag c es fs ps s (subst (IsProper R) from P))
+  change_proper t u (on_whole _ has) P = (value_plain R C t u has).valid.proper
 
   -- so it is a step
   pub step_of_change : (t u : TagForm) → TagChange R t u → IsProper R t → TagStep R t u

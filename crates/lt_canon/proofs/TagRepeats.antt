@@ -18,7 +18,7 @@ use Rattle.lt_rewrite.proofs.NormalForms.{star_keeps}
 use Rattle.lt_rewrite.proofs.PartLists.{all_both, all_step, all_middle, all_replaced, all_unmapped, if_some_is, is_if_some}
 use Rattle.lt_rewrite.proofs.CoreLaws.{TurnsOnce, turns_once, turns_once_kept, form_distinct}
 use Rattle.lt_rewrite.proofs.ExtensionLaws.{one_transform, extensions_ordered, normal_parts, normal_singleton}
-use Rattle.lt_check.specs.Conditions.{plain, IsValidPlain, IsChecked}
+use Rattle.lt_check.specs.Conditions.{IsValidCoreAlone, IsChecked}
 use Rattle.lt_canon.specs.Laws.{RepeatsWithoutForm, CanonicalOrRepeats}
 use Rattle.lt_canon.specs.Corollaries.{RepeatTogether, EquivalenceIsEquality}
 use Rattle.lt_canon.specs.Answers.{IsCanonicalFormOf}
@@ -28,6 +28,7 @@ use Rattle.lt_canon.proofs.EndForms.{star_proper, star_end, star_equivalent, equ
 use Rattle.lt_canon.proofs.Distinctness.{Decided, decide_both, decide_each, decide_distinct, decide_source}
 use Rattle.lt_canon.proofs.TagForm.{or_value, core_end, cores_formed, extension_end, value_end, lang_end, tag_end, tag_reached, end_form}
 use Rattle.lt_canon.proofs.TagRest.{tag_end_rests}
+use Rattle.lt_tag.specs.Values.{core_alone}
 
 if_some_weaker : {A : Type 0} (P Q : A → Type 0) → ((a : A) → P a → Q a) → (o : Option A) → IfSome o P → IfSome o Q
 if_some_weaker P Q h None a = tt
@@ -67,13 +68,13 @@ distinct_once R C (Grandfathered n) h = tt
 
 module _ (R : List EntryParts) (C : IsChecked R) where
   transform_once : (p q : TForm) → TransformStep R p q → IfSome p.source (TurnsOnce R) → IfSome q.source (TurnsOnce R)
-  transform_once p q (on_source c d s) h =
-      is_if_some (TurnsOnce R) q.source d s.to (turns_once_kept R (core_conditions R C.passes) c d s.step (if_some_is (TurnsOnce R) p.source c s.from h))
+  transform_once p q (on_source c d from to s _) h =
+      is_if_some (TurnsOnce R) q.source d to (turns_once_kept R (core_conditions R C.passes) c d s (if_some_is (TurnsOnce R) p.source c from h))
   transform_once p q (on_fields g s) h = let Q : Option CoreParts → Type 0 = λ x. IfSome x (TurnsOnce R) in subst Q (sym g) h
 
   extension_once : (e f : ExtensionParts) → ExtensionStep R e f → TurnsOnceExtension R e → TurnsOnceExtension R f
-  extension_once e f (in_unicode p q s) h = λ x. absurd (omega (arith, x, s.singleton, s.is_u))
-  extension_once e f (in_transform p q s) h = λ x r k. subst (λ (z : TForm). IfSome z.source (TurnsOnce R)) (one_transform f.subtags q r s.to k) (transform_once p q s.step (h s.is_t p s.from))
+  extension_once e f (in_unicode p q is_u kept _ _ _) h = λ x. absurd (omega (arith, x, kept, is_u))
+  extension_once e f (in_transform p q is_t _ from to s) h = λ x r k. subst (λ (z : TForm). IfSome z.source (TurnsOnce R)) (one_transform f.subtags q r to k) (transform_once p q s (h is_t p from))
 
   extensions_once : (es fs : List ExtensionParts) → ExtensionsStep R es fs → AllByRecursion (TurnsOnceExtension R) es → AllByRecursion (TurnsOnceExtension R) fs
   extensions_once es fs (inside before e f after w s) h =
@@ -82,26 +83,26 @@ module _ (R : List EntryParts) (C : IsChecked R) where
   extensions_once es fs (among s) h = all_step (TurnsOnceExtension R) es fs s h
 
   change_once : (t u : TagForm) → TagChange R t u → TurnsOnceTag R t → TurnsOnceTag R u
-  change_once t u (on_core c d es ps s) h =
-      let k : TurnsOnceTag R (LangTag c es ps) = subst (TurnsOnceTag R) s.from h in
-      subst (TurnsOnceTag R) (sym s.to) (turns_once_kept R (core_conditions R C.passes) c d s.step k.0, k.1)
-  change_once t u (on_extensions c es fs ps s) h =
-      let k : TurnsOnceTag R (LangTag c es ps) = subst (TurnsOnceTag R) s.from h in
-      subst (TurnsOnceTag R) (sym s.to) (k.0, extensions_once es fs s.step k.1)
-  change_once t u (on_whole s) h =
-      let v = value_plain R C t u s.has in
-      let d : RepeatsNoVariant (plain v.core) = subst RepeatsNoVariant v.is v.valid.distinct in
+  change_once t u (on_core c d es ps from to s) h =
+      let k : TurnsOnceTag R (LangTag c es ps) = subst (TurnsOnceTag R) from h in
+      subst (TurnsOnceTag R) (sym to) (turns_once_kept R (core_conditions R C.passes) c d s k.0, k.1)
+  change_once t u (on_extensions c es fs ps from to s) h =
+      let k : TurnsOnceTag R (LangTag c es ps) = subst (TurnsOnceTag R) from h in
+      subst (TurnsOnceTag R) (sym to) (k.0, extensions_once es fs s k.1)
+  change_once t u (on_whole _ has) h =
+      let v = value_plain R C t u has in
+      let d : RepeatsNoVariant (core_alone v.core) = subst RepeatsNoVariant v.is v.valid.distinct in
       subst (TurnsOnceTag R) (sym v.is) (turns_once R (core_conditions R C.passes) v.core d.0, tt)
 
   star_once : {t u : TagForm} → Star (TagStep R) t u → TurnsOnceTag R t → TurnsOnceTag R u
   star_once r h = star_keeps (TurnsOnceTag R) (λ a b s k. change_once a b s.change k) r h
 
   -- a plain core whose end repeats no variant
-  whole_distinct : (d : CoreParts) → (o : Option TagForm) → whole_value R (plain d) ≡ o → RepeatsNoVariant (or_value (plain d) (value_end R C) o) → Distinct d.variants
+  whole_distinct : (d : CoreParts) → (o : Option TagForm) → whole_value R (core_alone d) ≡ o → RepeatsNoVariant (or_value (core_alone d) (value_end R C) o) → Distinct d.variants
   whole_distinct d None e h = h.0
-  whole_distinct d (Some u) e h = by (tag_plain R C (plain d) u e)
+  whole_distinct d (Some u) e h = by (tag_plain R C (core_alone d) u e)
     where
-      by : IsGrandfatheredTag (plain d) ⊎ IsValidPlain R (plain d) → Distinct d.variants
+      by : IsGrandfatheredTag (core_alone d) ⊎ IsValidCoreAlone R (core_alone d) → Distinct d.variants
       by (inl g) = let x = g.is in cc
       by (inr g) = g.valid.distinct.0
 
@@ -116,7 +117,7 @@ module _ (R : List EntryParts) (C : IsChecked R) where
       source_distinct p.source (h s p q) (subst Q n.source (k (normal_singleton R C.registry (core_conditions R C.passes) e ∙ s) n.parts n.formed))
 
   lang_distinct : (c : CoreParts) (es : List ExtensionParts) (ps : List (List ℕ)) → TurnsOnce R c → AllByRecursion (TurnsOnceExtension R) es → RepeatsNoVariant (lang_end R C (core_end R C c) es ps) → Distinct c.variants × AllByRecursion HasDistinctSource es
-  lang_distinct c [] [] h k d = (form_distinct R (core_conditions R C.passes) c h (whole_distinct (core_end R C c) (whole_value R (plain (core_end R C c))) refl d), tt)
+  lang_distinct c [] [] h k d = (form_distinct R (core_conditions R C.passes) c h (whole_distinct (core_end R C c) (whole_value R (core_alone (core_end R C c))) refl d), tt)
   lang_distinct c [] (p ∷ ps) h k d = (form_distinct R (core_conditions R C.passes) c h d.0, tt)
   lang_distinct c (e ∷ es) ps h k d = (
     form_distinct R (core_conditions R C.passes) c h d.0,

@@ -8,15 +8,16 @@ use Rattle.lt_rewrite.specs.CoreSteps.{values_of, CoreStep}
 use Rattle.lt_rewrite.specs.Extensions.{ExtensionsStep}
 use Rattle.lt_rewrite.specs.TagSteps.{TagChange, on_core, on_extensions, on_whole, TagStep}
 use Rattle.lt_rewrite.proofs.NormalForms.{star_keeps}
-use Rattle.lt_check.specs.Conditions.{plain, IsChecked}
+use Rattle.lt_check.specs.Conditions.{IsChecked}
 use Rattle.lt_check.proofs.CheckedRegistry.{value_plain}
 use Rattle.lt_canon.proofs.TagForm.{or_value, core_end, cores_formed, extensions_end, extensions_end_formed, value_end, lang_end, tag_end, value_rests, extensions_step_from, extensions_step_to}
+use Rattle.lt_tag.specs.Values.{core_alone}
 
 -- a langtag at its end
 pub record IsLangAtEnd (R : List EntryParts) (d : CoreParts) (es : List ExtensionParts) (ps : List (List ℕ)) : Type 0 where
   pub core : Rests (CoreStep (values_of R)) d
   pub extensions : Rests (ExtensionsStep R) es
-  pub whole : es ≡ [] → ps ≡ [] → whole_value R (plain d) ≡ None
+  pub whole : es ≡ [] → ps ≡ [] → whole_value R (core_alone d) ≡ None
 
 lang_core : TagForm → CoreParts → CoreParts
 lang_core (LangTag c es ps) d = c
@@ -30,43 +31,43 @@ lang_extensions (Grandfathered n) = []
 
 pub lang_at_end : (R : List EntryParts) (d : CoreParts) (es : List ExtensionParts) (ps : List (List ℕ)) → IsLangAtEnd R d es ps → (u : TagForm) → TagChange R (LangTag d es ps) u → ⊥
 unfolding lang_core lang_extensions
-lang_at_end R d es ps E u (on_core c c' fs qs s) =
-    let same : c ≡ d = sym (ap (λ t. lang_core t d) s.from) in
-    E.core c' (subst (λ x. CoreStep (values_of R) x c') same s.step)
-lang_at_end R d es ps E u (on_extensions c es' fs qs s) =
-    let same : es' ≡ es = sym (ap lang_extensions s.from) in
-    E.extensions fs (subst (λ x. ExtensionsStep R x fs) same s.step)
-lang_at_end R d es ps E u (on_whole s) =
-    let n : whole_value R (plain d) ≡ None = E.whole s.plain.0 s.plain.1 in
-    let same : LangTag d es ps ≡ plain d = λ i. LangTag d (s.plain.0 i) (s.plain.1 i) in
+lang_at_end R d es ps E u (on_core c c' fs qs from _ s) =
+    let same : c ≡ d = sym (ap (λ t. lang_core t d) from) in
+    E.core c' (subst (λ x. CoreStep (values_of R) x c') same s)
+lang_at_end R d es ps E u (on_extensions c es' fs qs from _ s) =
+    let same : es' ≡ es = sym (ap lang_extensions from) in
+    E.extensions fs (subst (λ x. ExtensionsStep R x fs) same s)
+lang_at_end R d es ps E u (on_whole is_plain has) =
+    let n : whole_value R (core_alone d) ≡ None = E.whole is_plain.0 is_plain.1 in
+    let same : LangTag d es ps ≡ core_alone d = λ i. LangTag d (is_plain.0 i) (is_plain.1 i) in
     let m : whole_value R (LangTag d es ps) ≡ None = ap (whole_value R) same ∙ n in
-    let k = s.has in
+    let k = has in
     cc
 
 abbrev pub NoChange : List EntryParts → TagForm → Type 0
 NoChange R t = (u : TagForm) → TagChange R t u → ⊥
 
 pub grandfathered_rests : (R : List EntryParts) (n : ℕ) → whole_value R (Grandfathered n) ≡ None → NoChange R (Grandfathered n)
-grandfathered_rests R n h u (on_core c c' es ps s) = let a = s.from in cc
-grandfathered_rests R n h u (on_extensions c es fs ps s) = let a = s.from in cc
-grandfathered_rests R n h u (on_whole s) = let a = s.has in cc
+grandfathered_rests R n h u (on_core c c' es ps from _ _) = let a = from in cc
+grandfathered_rests R n h u (on_extensions c es fs ps from _ _) = let a = from in cc
+grandfathered_rests R n h u (on_whole _ has) = let a = has in cc
 
 pub private_rests : (R : List EntryParts) (ps : List (List ℕ)) → NoChange R (PrivateUse ps)
-private_rests R ps u (on_core c c' es qs s) = let a = s.from in cc
-private_rests R ps u (on_extensions c es fs qs s) = let a = s.from in cc
-private_rests R ps u (on_whole s) = s.plain
+private_rests R ps u (on_core c c' es qs from _ _) = let a = from in cc
+private_rests R ps u (on_extensions c es fs qs from _ _) = let a = from in cc
+private_rests R ps u (on_whole is_plain _) = is_plain
 
 pub none_rests : (R : List EntryParts) → Rests (ExtensionsStep R) []
 none_rests R fs s = extensions_step_from R [] fs s refl
 
 module _ (R : List EntryParts) (C : IsChecked R) where
-  plain_end : (c : CoreParts) → whole_value R (plain (core_end R C c)) ≡ None → NoChange R (plain (core_end R C c))
+  plain_end : (c : CoreParts) → whole_value R (core_alone (core_end R C c)) ≡ None → NoChange R (core_alone (core_end R C c))
   plain_end c n = lang_at_end R (core_end R C c) [] [] (record { core = (cores_formed R C).rests c; extensions = none_rests R; whole = λ _ _. n })
 
   value_rests_at : (t u : TagForm) → whole_value R t ≡ Some u → NoChange R (value_end R C u)
   value_rests_at t u e =
       let v = value_plain R C t u e in
-      let e' : whole_value R t ≡ Some (plain v.core) = e ∙ ap Some v.is in
+      let e' : whole_value R t ≡ Some (core_alone v.core) = e ∙ ap Some v.is in
       subst (λ x. NoChange R (value_end R C x)) (sym v.is) (plain_end v.core (value_rests R C t v.core e'))
 
   whole_rests_at : (t : TagForm) → (whole_value R t ≡ None → NoChange R t) → (o : Option TagForm) → whole_value R t ≡ o → NoChange R (or_value t (value_end R C) o)
@@ -77,7 +78,7 @@ module _ (R : List EntryParts) (C : IsChecked R) where
   some_end es n = star_keeps (λ l. l ≢ []) (λ a b s _. extensions_step_to R a b s) ((extensions_end_formed R C).reached es) n
 
   lang_rests : (c : CoreParts) (es : List ExtensionParts) (ps : List (List ℕ)) → NoChange R (lang_end R C (core_end R C c) es ps)
-  lang_rests c [] [] = whole_rests_at (plain (core_end R C c)) (plain_end c) (whole_value R (plain (core_end R C c))) refl
+  lang_rests c [] [] = whole_rests_at (core_alone (core_end R C c)) (plain_end c) (whole_value R (core_alone (core_end R C c))) refl
   lang_rests c [] (p ∷ ps) = lang_at_end R (core_end R C c) [] (p ∷ ps) (record { core = (cores_formed R C).rests c; extensions = none_rests R; whole = λ _ h. absurd (cc) })
   lang_rests c (e ∷ es) ps =
       lang_at_end R (core_end R C c) (extensions_end R C (e ∷ es)) ps (record {

@@ -3,10 +3,10 @@ use Rattle.std.proofs.Common.{◌≡◌, ℕ, ◌+◌, Bool, true, false, ◌||�
 use Rattle.std.specs.Option.{option_and_then, option_to_list}
 use Rattle.lt_tag.specs.Parts.{CoreParts, ExtensionParts, TagForm}
 use Rattle.lt_tag.specs.Spelling.{spell_core}
-use Rattle.lt_tag.specs.Values.{IsTagValue, core_of}
+use Rattle.lt_tag.specs.Values.{IsTagValue, core_of, core_alone}
 use Rattle.lt_tag.specs.WellFormed.{IsNotGrandfathered}
 use Rattle.lt_registry.specs.Parts.{EntryParts}
-use Rattle.lt_registry.specs.Entries.{entry, value, one_of, whole_value}
+use Rattle.lt_registry.specs.Entries.{entry, preferred_value, one_of, whole_value}
 use Rattle.lt_registry.specs.Faults.{HasFault, HasNoFault, IsFirstOf, IsFirstFault, before_region}
 use Rattle.lt_registry.specs.Checking.{Check, Counted, and_then, unless, part_check, core_check, variants_check}
 use Rattle.lt_registry.specs.Validity.{IsValid}
@@ -20,9 +20,9 @@ use Rattle.lt_registry.proofs.CoreFaultLemmas.{core_tells}
 use Rattle.lt_registry.proofs.TagFaultLemmas.{tag_core_first}
 use Rattle.lt_rewrite.specs.Rewriting.{done}
 use Rattle.lt_rewrite.specs.CoreSteps.{values_of}
-use Rattle.lt_rewrite.specs.TagSteps.{IsPlain}
+use Rattle.lt_rewrite.specs.TagSteps.{CanBeReplacedWhole}
 use Rattle.lt_rewrite.proofs.CoreLaws.{AtRest, rests}
-use Rattle.lt_check.specs.Conditions.{plain, IsChecked}
+use Rattle.lt_check.specs.Conditions.{IsChecked}
 use Rattle.lt_canon.specs.Answers.{IsCanonicalFormOf}
 use Rattle.lt_canon.specs.Settled.{IsDistinctForm}
 use Rattle.lt_canon.specs.UsualTags.{IsUsual, Test, on_test, one_valued, part_valued, core_valued}
@@ -88,10 +88,10 @@ one_without : (kind : ValidFaultKind) (place : ℕ) (o : Option EntryParts) → 
 one_without kind place (Some e) h = is_none (one_of e.value) (cc)
 one_without kind place None h = cc
 
-part_without : (R : List EntryParts) (kind : Kind) (fault : ValidFaultKind) (place : ℕ) (o : Option (List ℕ)) → part_valued R kind fault place o ≡ Ok false → (s : List ℕ) → o ≡ Some s → value R kind s ≡ None
+part_without : (R : List EntryParts) (kind : Kind) (fault : ValidFaultKind) (place : ℕ) (o : Option (List ℕ)) → part_valued R kind fault place o ≡ Ok false → (s : List ℕ) → o ≡ Some s → preferred_value R kind s ≡ None
 part_without R kind fault place (Some t) h s e =
     let same : t ≡ s = cc in
-    subst (λ u. value R kind u ≡ None) same (one_without fault place (entry R kind t) h)
+    subst (λ u. preferred_value R kind u ≡ None) same (one_without fault place (entry R kind t) h)
 part_without R kind fault place None h s e = cc
 
 -- a core none of whose subtags has a value
@@ -115,7 +115,7 @@ no_extension : (before : List ExtensionParts) (e : ExtensionParts) (after : List
 no_extension [] e after h = cc
 no_extension (f ∷ before) e after h = cc
 
-module _ (R : List EntryParts) (t : TagForm) (c : CoreParts) (u : IsUsual c) (k : t ≡ plain c) where
+module _ (R : List EntryParts) (t : TagForm) (c : CoreParts) (u : IsUsual c) (k : t ≡ core_alone c) where
   -- a subtag that is not registered
   pub usual_refused : (fault : ValidFault) → core_valued R c ≡ Err fault → IsFirstFault R t fault.kind fault.place
   usual_refused fault h =
@@ -127,7 +127,7 @@ module _ (R : List EntryParts) (t : TagForm) (c : CoreParts) (u : IsUsual c) (k 
         earliest = λ other f. first.earliest other (f, λ e. cc);
       }
 
-  no_fault : core_check R false 0 c ≡ Ok tt → HasNoFault R (plain c)
+  no_fault : core_check R false 0 c ≡ Ok tt → HasNoFault R (core_alone c)
   no_fault told kind place (inl f) = (rw told at (core_tells R false 0 c)) kind place (f, λ e. cc)
   no_fault told kind place (inr (inl f)) = no_extension f.before f.extension f.after f.there
   no_fault told kind place (inr (inr f)) = no_extension f.1.before f.1.first _ f.1.there
@@ -144,12 +144,12 @@ module _ (R : List EntryParts) (t : TagForm) (c : CoreParts) (u : IsUsual c) (k 
       let rest = core_without R c u h in
       record { normal = record { reached = done; at_rest = λ d s. rests (values_of R) c d rest s }; distinct = (subst (IsValid R) k V).distinct.0 }
 
-  pub usual_plain : IsPlain t
-  usual_plain = subst IsPlain (sym k) (refl, refl)
+  pub usual_plain : CanBeReplacedWhole t
+  usual_plain = subst CanBeReplacedWhole (sym k) (refl, refl)
 
   module _ (C : IsChecked R) (V : IsValid R t) (h : core_valued R c ≡ Ok false) where
     pub usual_spells_none : IsNotGrandfathered (spell_core c)
     usual_spells_none = form_spells_none R C c c [] [] (subst (IsValid R) k V).proper (usual_form V h).normal
 
-    pub usual_canonical : whole_value R t ≡ None → IsCanonicalFormOf R t (plain c)
-    usual_canonical e = subst (λ a. IsCanonicalFormOf R a (plain c)) (sym k) (core_canonical R C c c (subst (IsValid R) k V) (usual_form V h) (ap (whole_value R) (sym k) ∙ e))
+    pub usual_canonical : whole_value R t ≡ None → IsCanonicalFormOf R t (core_alone c)
+    usual_canonical e = subst (λ a. IsCanonicalFormOf R a (core_alone c)) (sym k) (core_canonical R C c c (subst (IsValid R) k V) (usual_form V h) (ap (whole_value R) (sym k) ∙ e))

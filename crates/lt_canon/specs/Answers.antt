@@ -45,7 +45,7 @@ IsNamedRepeat R (LangTag c es ps) v = IsRepeatOfCore R c v ⊎ (HasDistinctForm 
 IsNamedRepeat R (PrivateUse ps) v = ⊥
 IsNamedRepeat R (Grandfathered n) v = ⊥
 
--- the canonical tag that a valid tag reaches where steps can repeat no variant
+-- the canonical tag that a valid tag reaches where steps can repeat no variant (RFC 5646, 4.5 and 2.2.5)
 pub record IsCanonicalFormOf (R : List EntryParts) (t c : TagForm) : Type 0 where
   pub valid : IsValid R t
   pub canonical : IsCanonical R c
@@ -58,7 +58,8 @@ pub record IsRepeatOf (R : List EntryParts) (t : TagForm) (v : List ℕ) : Type 
   pub repeats : CanRepeat R t
   pub named : IsNamedRepeat R t v
 
--- A valid tag is refused only where steps can repeat a variant. Where memory runs out nothing is said.
+-- A valid tag is refused only where steps can repeat a variant (RFC 5646, 4.5 and 2.2.5). Where memory runs out
+-- nothing is said.
 abbrev pub RefusesOnlyRepeats : List EntryParts → TagForm → Refusal → Type 0
 RefusesOnlyRepeats R t (refusals.Invalid fault) = IsValid R t → ⊥
 RefusesOnlyRepeats R t (refusals.ReplacementRepeats v) = IsValid R t × CanRepeat R t

@@ -17,9 +17,11 @@ abbrev pub behind : Option (List ℕ) → CoreParts → CoreParts
 behind None c = c
 behind (Some p) c = record c { language = p; extlangs = c.language ∷ [] }
 
+-- the core with the Prefix of its language in front, if that is an extlang (RFC 5646, 4.5)
 abbrev pub extlang_core : List EntryParts → CoreParts → CoreParts
 extlang_core R c = behind (prefix_of (prefixes R kinds.Extlang c.language)) c
 
+-- the tag with that core; a tag without a core stays as it is
 abbrev pub extlang_form : List EntryParts → TagForm → TagForm
 extlang_form R (LangTag c es ps) = LangTag (extlang_core R c) es ps
 extlang_form R (PrivateUse ps) = PrivateUse ps

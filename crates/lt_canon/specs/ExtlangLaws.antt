@@ -11,5 +11,6 @@ pub record LeadsBack (R : List EntryParts) (c : TagForm) : Type 0 where
   pub valid : IsValid R (extlang_form R c)
   pub reached : IsReached R (extlang_form R c) c
 
+-- each canonical tag is reached from its extlang form, which is valid
 abbrev pub ExtlangFormsLeadBack : List EntryParts → Type 0
 ExtlangFormsLeadBack R = (c : TagForm) → IsCanonical R c → LeadsBack R c

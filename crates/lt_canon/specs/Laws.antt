@@ -3,13 +3,13 @@ use Rattle.std.specs.Prelude.{ℕ, ◌≡◌, ◌≤◌, ◌⊎◌, ◌↔◌, L
 use Rattle.lt_tag.specs.Parts.{TagForm}
 use Rattle.lt_tag.specs.WellFormed.{spell}
 use Rattle.lt_tag.specs.Conventional.{conventional}
-use Rattle.lt_tag.specs.Faults.{longest_text}
 use Rattle.lt_registry.specs.Parts.{EntryParts}
 use Rattle.lt_registry.specs.Validity.{IsProper, IsValid}
 use Rattle.lt_rewrite.specs.Rewriting.{Rests, IsConfluent}
 use Rattle.lt_rewrite.specs.TagSteps.{TagStep, IsReached, AreEquivalent, IsCanonical, CanRepeat}
 use Rattle.lt_canon.specs.Answers.{IsCanonicalFormOf}
 use Rattle.lt_canon.specs.Texts.{IsCanonicalTextOf}
+use Rattle.lt_tag.specs.Lists.{longest_text}
 
 -- any two tags that steps reach from one proper tag lead on to a common one
 abbrev pub StepsAreConfluent : List EntryParts → Type 0
@@ -22,34 +22,34 @@ pub record HasEndForms (R : List EntryParts) : Type 0 where
   pub reached : (t : TagForm) → IsProper R t → IsReached R t (end t)
   pub at_rest : (t : TagForm) → Rests (TagStep R) (end t)
 
--- steps can repeat a variant, and no canonical tag is equivalent
+-- steps can repeat a variant, and no canonical tag is equivalent (RFC 5646, 4.5 and 2.2.5)
 pub record RepeatsWithoutForm (R : List EntryParts) (t : TagForm) : Type 0 where
   pub repeats : CanRepeat R t
   pub formless : (c : TagForm) → IsCanonical R c → AreEquivalent R t c → ⊥
 
 -- A valid tag reaches a canonical tag and can repeat no variant, or it can repeat one and is equivalent to no
--- canonical tag.
+-- canonical tag (RFC 5646, 4.5).
 abbrev pub CanonicalOrRepeats : List EntryParts → Type 0
 CanonicalOrRepeats R = (t : TagForm) → IsValid R t → ((c : TagForm) × IsCanonicalFormOf R t c) ⊎ RepeatsWithoutForm R t
 
--- valid tags that can repeat no variant are equivalent exactly if the texts of their canonical forms are equal
+-- valid tags that can repeat no variant are equivalent exactly if the texts of their canonical forms are equal (RFC
+-- 5646, 4.5)
 abbrev pub EquivalenceIsEqualText : List EntryParts → Type 0
 EquivalenceIsEqualText R =
-    (t u c d : TagForm) → IsCanonicalFormOf R t c → IsCanonicalFormOf R u d → AreEquivalent R t u ↔ (conventional (spell c) ≡ conventional (spell d))
+    (t u c d : TagForm) → IsCanonicalFormOf R t c → IsCanonicalFormOf R u d →
+    AreEquivalent R t u ↔ (conventional (spell c) ≡ conventional (spell d))
 
 -- a canonical tag is its own canonical form, and has no other
 pub record IsItsOwnForm (R : List EntryParts) (c : TagForm) : Type 0 where
   pub own : IsCanonicalFormOf R c c
   pub only : (d : TagForm) → IsCanonicalFormOf R c d → d ≡ c
 
+-- a canonical form is its own canonical form, and has no other (RFC 5646, 4.5)
 abbrev pub CanonicalTwiceIsOnce : List EntryParts → Type 0
 CanonicalTwiceIsOnce R = (t c : TagForm) → IsCanonicalFormOf R t c → IsItsOwnForm R c
 
--- a canonical text that is not too long to be read is its own canonical text, and has no other
-pub record IsItsOwnText (R : List EntryParts) (text : List ℕ) : Type 0 where
-  pub own : IsCanonicalTextOf R text text
-  pub only : (other : List ℕ) → IsCanonicalTextOf R text other → other ≡ text
-
+-- a canonical text that is not too long to be read is its own canonical text, and has no other (RFC 5646, 4.5)
 abbrev pub CanonicalTextTwiceIsOnce : List EntryParts → Type 0
 CanonicalTextTwiceIsOnce R =
-    (text canonical : List ℕ) → IsCanonicalTextOf R text canonical → length canonical ≤ longest_text → IsItsOwnText R canonical
+    (text canonical : List ℕ) → IsCanonicalTextOf R text canonical → length canonical ≤ longest_text →
+    IsCanonicalTextOf R canonical canonical × ((u : List ℕ) → IsCanonicalTextOf R canonical u → u ≡ canonical)

@@ -1,4 +1,4 @@
--- Why a tag has no canonical form, and how the calls above tell it.
+-- Why a tag or a text has no canonical form, and how what is refused below is told.
 use Rattle.std.specs.Prelude.{List}
 use Rattle.lt_tag.specs.Parts.{TagForm}
 use Rattle.lt_tag.specs.declared.faults.TagFault.{TagFault}
@@ -38,9 +38,11 @@ abbrev pub of_valid : ValidRefusal → Refusal
 of_valid (checks.Fault fault) = refusals.Invalid fault
 of_valid checks.OutOfMemory = refusals.OutOfMemory
 
+-- why a tag with a fault has none
 abbrev pub of_valid_fault : ValidFault → Refusal
 of_valid_fault fault = refusals.Invalid fault
 
+-- running out of memory
 abbrev pub no_memory : Refusal
 no_memory = refusals.OutOfMemory
 
@@ -49,6 +51,7 @@ abbrev pub of_fault_kind : TagFaultKind → TagFault → TextRefusal
 of_fault_kind kinds.OutOfMemory fault = texts.OutOfMemory
 of_fault_kind _ fault = texts.NotATag fault
 
+-- the same by the fault alone
 abbrev pub of_fault : TagFault → TextRefusal
 of_fault fault = of_fault_kind fault.kind fault
 
@@ -58,5 +61,6 @@ of_refusal (refusals.Invalid fault) = texts.Invalid fault
 of_refusal (refusals.ReplacementRepeats v) = texts.ReplacementRepeats v
 of_refusal refusals.OutOfMemory = texts.OutOfMemory
 
+-- running out of memory, for a text
 abbrev pub no_text_memory : TextRefusal
 no_text_memory = texts.OutOfMemory

@@ -5,10 +5,10 @@ use Rattle.lt_registry.specs.Parts.{EntryParts}
 use Rattle.lt_registry.specs.Validity.{Distinct}
 use Rattle.lt_registry.specs.Faults.{HasSource}
 use Rattle.lt_rewrite.specs.CoreSteps.{values_of, IsCoreNormalForm}
-use Rattle.lt_check.specs.Conditions.{plain}
 use Rattle.lt_canon.specs.Answers.{IsSecondOccurrence, IsRepeatOfCore}
 use Rattle.lt_canon.specs.declared.refusals.Refusal.{Refusal}
 use Rattle.lt_canon.specs.declared.refusals.Refusal.TheVariants as refusals
+use Rattle.lt_tag.specs.Values.{core_alone}
 
 -- the core normal form of a core, in which no variant occurs twice
 pub record IsDistinctForm (R : List EntryParts) (c d : CoreParts) : Type 0 where
@@ -39,6 +39,6 @@ pub record IsSecondInSources (es : List ExtensionParts) (v : List ℕ) : Type 0 
 pub record IsSettledValue (R : List EntryParts) (t u : TagForm) : Type 0 where
   pub core : CoreParts
   pub form : CoreParts
-  pub from : t ≡ plain core
-  pub to : u ≡ plain form
+  pub from : t ≡ core_alone core
+  pub to : u ≡ core_alone form
   pub normal : IsCoreNormalForm (values_of R) core form

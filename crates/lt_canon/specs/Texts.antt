@@ -10,7 +10,7 @@ use Rattle.lt_canon.specs.Answers.{IsCanonicalFormOf, IsRepeatOf}
 use Rattle.lt_canon.specs.declared.refusals.TextRefusal.{TextRefusal}
 use Rattle.lt_canon.specs.declared.refusals.TextRefusal.TheVariants as refusals
 
--- the text is read as a tag, and this is the text of its canonical form
+-- the text is read as a tag, and this is the text of its canonical form (RFC 5646, 2.1.1 and 4.5)
 pub record IsCanonicalTextOf (R : List EntryParts) (text canonical : List ℕ) : Type 0 where
   pub tag : TagForm
   pub read : HasTag text tag

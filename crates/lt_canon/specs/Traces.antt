@@ -40,6 +40,7 @@ IsTraceFault R t steps end (faults.NoSuchStep n) = IsValid R t × IsMisstep R t 
 IsTraceFault R t steps end faults.WrongEnd = IsValid R t × EndsElsewhere R t steps end
 IsTraceFault R t steps end faults.OutOfMemory = Unit {0}
 
+-- the names of the faults
 abbrev pub trace_fault_name_of : TraceFault → List ℕ
 trace_fault_name_of (faults.Invalid fault) = codes "Invalid"
 trace_fault_name_of (faults.NoSuchStep n) = codes "NoSuchStep"
@@ -51,6 +52,7 @@ abbrev pub of_invalid : ValidRefusal → TraceFault
 of_invalid (checks.Fault fault) = faults.Invalid fault
 of_invalid checks.OutOfMemory = faults.OutOfMemory
 
+-- running out of memory
 abbrev pub no_trace_memory : TraceFault
 no_trace_memory = faults.OutOfMemory
 

@@ -1,11 +1,11 @@
 //! Canonical tags (RFC 5646, 4.5).
 ghost use Rattle.std.specs.Prelude.{◌≡◌, ◌<◌, ◌+◌, None, List, All, length, IfOk, IfErr};
 ghost use Rattle.lt_tag.specs.Parts.{LangTag};
-ghost use Rattle.lt_tag.specs.Values.{IsTagValue, core_of};
+ghost use Rattle.lt_tag.specs.Values.{IsTagValue, core_of, core_alone};
 ghost use Rattle.lt_registry.specs.Validity.{IsValid};
 ghost use Rattle.lt_rewrite.specs.Conditions.{HasEndingChain};
 ghost use Rattle.lt_rewrite.specs.Shortcuts.{AreShortcuts};
-ghost use Rattle.lt_check.specs.Conditions.{plain, IsValidPlain, IsChecked};
+ghost use Rattle.lt_check.specs.Conditions.{IsValidCoreAlone, IsChecked};
 ghost use Rattle.lt_canon.specs.Answers.{IsCanonicalFormOf, RefusesOnlyRepeats};
 ghost use Rattle.lt_canon.specs.Refusals.{NamesFault, NamesRepeat};
 ghost use Rattle.lt_canon.specs.OtherForms.{IsCanonicalAnswer, or_same};
@@ -23,18 +23,20 @@ use lt_subtag::Subtag;
 use lt_tag::{Core, Extension, OutOfMemory, Tag, copy_extensions, copy_subtags};
 use std::alloc::Global;
 
-/// The canonical form of a tag (RFC 5646, 4.5): the one canonical tag that steps reach from it.
+/// The canonical form of a tag (RFC 5646, 4.5): the one canonical tag that steps reach from it. `zh-yue` gives
+/// `yue`.
 ///
-/// - `Invalid`, with the fault that `validate` tells, exactly where the tag is not valid.
-/// - `ReplacementRepeats` exactly where steps can repeat a variant of the tag, which is valid. When core
-///   steps have come to rest, it is the first variant from the left that has stood already: in the core
-///   or, if none has there, in the source of the `t` extension.
+/// - `Invalid`, with the fault that `validate` answers, exactly where the tag is not valid.
+/// - `ReplacementRepeats` exactly where steps can repeat a variant of the tag, which is valid. It names, where
+///   no core step leads on, the first variant from the left that has occurred before: in the core or, if none
+///   has there, in the source of the `t` extension.
+/// - `OutOfMemory` where memory runs out.
 ///
-/// A tag without extensions and private use is looked up as a whole once. Of a langtag of a language, and
-/// a script and a region where there is one, each subtag is looked up once beside that; where one of them
-/// has a value, the chain of values of each is followed. Of any other langtag the chains are followed
-/// beside what `validate` looks up. Where neither a tag without extensions and private use nor its value
-/// has variants it takes no memory.
+/// A tag without extensions and private use is looked up as a whole once. Of a langtag of a language, and a
+/// script and a region where there is one, each subtag is looked up once besides; where one of them has a
+/// value, the chain of values of each is followed. Of any other langtag the chains are followed besides what
+/// `validate` looks up. Where neither a tag without extensions and private use nor its value has variants it
+/// takes no memory.
 pub fn canonical<L: Lookup>(alloc: Global, checked: &Checked<L>, tag: &Tag) -> Result<Tag, Refusal>
     ensures ok { IfOk result (λ form. IsCanonicalFormOf (L.listed checked.now) tag.now form) }
     ensures repeats { IfErr result (λ refusal. RefusesOnlyRepeats (L.listed checked.now) tag.now refusal) }
@@ -61,13 +63,13 @@ pub(crate) fn other_form<L: Lookup>(
         return form_of_usual(alloc, table, shortcuts, tag, core);
     }
     validate(alloc, table, tag)?;
+    if let Some(core) = tag.core_alone() {
+        return Ok(Some(form_of_core(alloc, table, shortcuts, core)?));
+    }
     let Some(core) = tag.core() else {
         return form_of_coreless(alloc, table, shortcuts, tag);
     };
     let (extensions, private) = (tag.extensions(), tag.private());
-    if extensions.is_empty() && private.is_empty() {
-        return Ok(Some(form_of_core(alloc, table, shortcuts, core)?));
-    }
     let form = form_of_langtag(alloc, table, shortcuts, core, extensions, private)?;
     Ok(Some(form))
 }
@@ -107,7 +109,7 @@ fn form_of_usual<L: Lookup>(
     requires checked { IsChecked (L.listed table.now) }
     requires tag { IsTagValue tag.now }
     requires usual { IsUsual core.now }
-    requires alone { tag.now ≡ plain core.now }
+    requires alone { tag.now ≡ core_alone core.now }
     ensures { IsCanonicalAnswer (L.listed table.now) tag.now (or_same tag.now result) }
 {
     if is_core_valued(table, core)? {
@@ -128,8 +130,8 @@ fn form_of_core<L: Lookup>(
 ) -> Result<Tag, Refusal>
     requires shortcuts { AreShortcuts (L.listed table.now) shortcuts.now }
     requires checked { IsChecked (L.listed table.now) }
-    requires valid { IsValid (L.listed table.now) (plain core.now) }
-    ensures { IsCanonicalAnswer (L.listed table.now) (plain core.now) result }
+    requires valid { IsValid (L.listed table.now) (core_alone core.now) }
+    ensures { IsCanonicalAnswer (L.listed table.now) (core_alone core.now) result }
 {
     let settled = settled_core(alloc, table, shortcuts, core)?;
     let tag = Tag::from_parts(settled, Vec::new(alloc), Vec::new(alloc));
@@ -193,7 +195,7 @@ fn settled_value<L: Lookup>(
 ) -> Result<Tag, OutOfMemory>
     requires shortcuts { AreShortcuts (L.listed table.now) shortcuts.now }
     requires checked { IsChecked (L.listed table.now) }
-    requires plain { IsValidPlain (L.listed table.now) value.now }
+    requires plain { IsValidCoreAlone (L.listed table.now) value.now }
     ensures { IfOk result (λ settled. IsSettledValue (L.listed table.now) value.now settled) }
 {
     let Some(core) = value.core() else {

@@ -9,11 +9,8 @@ use lt_registry::Lookup;
 use lt_tag::{append_tag, read_tag};
 use std::alloc::Global;
 
-/// Appends the text, in conventional case, of the canonical form of the tag that a text is read as.
-/// A refusal leaves what was there.
-///
-/// - `NotATag`, with the fault that `read_tag` tells, exactly where the text is read as none.
-/// - `Invalid` and `ReplacementRepeats` where `canonical` refuses the tag so.
+/// Appends the text, in conventional case, of the canonical form of the tag that a text is read as (RFC 5646,
+/// 2.1.1 and 4.5). It is refused as `canonical_text` refuses, and then leaves what was there.
 pub fn append_canonical_text<L: Lookup>(
     alloc: Global,
     checked: &Checked<L>,
@@ -30,10 +27,12 @@ pub fn append_canonical_text<L: Lookup>(
     Ok(())
 }
 
-/// The text, in conventional case, of the canonical form of the tag that a text is read as.
+/// The text, in conventional case, of the canonical form of the tag that a text is read as (RFC 5646, 2.1.1 and
+/// 4.5): `IW-il` gives `he-IL`.
 ///
-/// - `NotATag`, with the fault that `read_tag` tells, exactly where the text is read as none.
+/// - `NotATag`, with the fault that `read_tag` answers, exactly where the text is read as none.
 /// - `Invalid` and `ReplacementRepeats` where `canonical` refuses the tag so.
+/// - `OutOfMemory` where memory runs out.
 pub fn canonical_text<L: Lookup>(
     alloc: Global,
     checked: &Checked<L>,

@@ -10,8 +10,9 @@ use lt_registry::Lookup;
 use lt_tag::Tag;
 use std::alloc::Global;
 
-/// Whether steps, forth and back, lead from one tag to another: exactly where their canonical forms
-/// are equal. A refusal is the one of `canonical` for the first tag, else for the second.
+/// Whether steps, forth and back, lead from one tag to another (RFC 5646, 4.5): exactly where their canonical
+/// forms are equal, as those of `zh-cmn-Hans` and `cmn-Hans` are. A refusal is the one of `canonical` for the
+/// first tag, else for the second.
 pub fn equivalent<L: Lookup>(
     alloc: Global,
     checked: &Checked<L>,

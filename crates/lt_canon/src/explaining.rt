@@ -1,7 +1,7 @@
 //! Explanations: the steps to a canonical tag, one after another (RFC 5646, 4.5).
 ghost use Rattle.std.specs.Prelude.{IfOk, IfErr};
 ghost use Rattle.lt_registry.specs.Validity.{IsProper};
-ghost use Rattle.lt_rewrite.specs.TagSteps.{IsPlain};
+ghost use Rattle.lt_rewrite.specs.TagSteps.{CanBeReplacedWhole};
 ghost use Rattle.lt_check.specs.Conditions.{IsChecked};
 ghost use Rattle.lt_canon.specs.Refusals.{IsRefusedWith};
 ghost use Rattle.lt_canon.specs.Explaining.{IsExplanation, RestsOnCore, LeadsToRest};
@@ -69,7 +69,7 @@ fn explain_whole<L: Lookup>(
 ) -> Result<Vec<Step>, OutOfMemory>
     requires checked { IsChecked (L.listed table.now) }
     requires proper { IsProper (L.listed table.now) tag.now }
-    requires plain { IsPlain tag.now }
+    requires plain { CanBeReplacedWhole tag.now }
     requires at_rest { RestsOnCore (L.listed table.now) tag.now }
     ensures { IfOk result (λ taken. LeadsToRest (L.listed table.now) tag.now steps.items taken.items) }
 {

@@ -81,11 +81,13 @@ fn lines_of<L: Lookup>(
 }
 
 /// The explanation of the tag that a text is read as (RFC 5646, 4.5): a line for each step that `explain`
-/// tells, with its kind, its place, the number of its record and the tag to which it leads, and then a line
-/// with the canonical form. A line feed ends each line.
+/// answers, with its kind, its place, the number of its record and the tag to which it leads, and then a line
+/// with the canonical form. A line feed ends each line. `IW-il` gives the lines `Language 1 4 he-IL` and `=
+/// he-IL`, if record 4 has the value `he` for `iw`.
 ///
-/// - `NotATag`, with the fault that `read_tag` tells, exactly where the text is read as none.
+/// - `NotATag`, with the fault that `read_tag` answers, exactly where the text is read as none.
 /// - `Invalid` and `ReplacementRepeats` where `canonical` refuses the tag so.
+/// - `OutOfMemory` where memory runs out.
 pub fn explanation_text<L: Lookup>(
     alloc: Global,
     checked: &Checked<L>,

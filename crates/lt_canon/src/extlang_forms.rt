@@ -14,10 +14,10 @@ use lt_subtag::Subtag;
 use lt_tag::{Tag, copy_extensions, copy_subtags};
 use std::alloc::Global;
 
-/// The extlang form of a tag (RFC 5646, 4.5): the canonical form and, where its language is an extlang
-/// too, the Prefix of that in front of it. A Prefix of 4 to 8 letters can't be before an extlang, so
-/// such a tag is left in its canonical form; and so are the sources of `t` extensions. It is valid, and
-/// its canonical form is that of the tag. A refusal is that of `canonical`.
+/// The extlang form of a tag (RFC 5646, 4.5): the canonical form and, where its language is an extlang too, the
+/// Prefix of that in front of it. `cmn-Hans` gives `zh-cmn-Hans`. A Prefix of 4 to 8 letters can't be before an
+/// extlang, so such a tag is left in its canonical form; and so are the sources of `t` extensions. It is valid,
+/// and its canonical form is that of the tag. A refusal is that of `canonical`.
 pub fn extlang_form<L: Lookup>(
     alloc: Global,
     checked: &Checked<L>,

@@ -13,17 +13,17 @@ ghost use Rattle.lt_canon.specs.Explaining.{HasOneExplanation};
 use lt_check::Checked;
 use lt_registry::Lookup;
 
-/// What holds of the steps of a registry that passes the check.
+/// What holds of the steps of a registry that passes the check (RFC 5646, 4.5).
 ///
 /// - Each proper tag has an end that steps reach, that each step keeps, and from which none leads.
 /// - Tags that steps reach from one proper tag lead on to a common one.
 /// - A class of equivalent tags has at most one canonical tag.
-/// - A valid tag reaches a canonical tag and can repeat no variant, or it can repeat one and is
-///   equivalent to no canonical tag; of two valid tags that are equivalent both can or neither.
-/// - Valid tags that can repeat none are equivalent exactly if their canonical forms are equal, and
-///   exactly if the texts of these are.
-/// - A canonical form is its own canonical form; a canonical text is its own canonical text, unless
-///   it has more than 1,024 bytes.
+/// - A valid tag reaches a canonical tag and can repeat no variant, or it can repeat one and is equivalent to
+///   no canonical tag; of two valid tags that are equivalent both can or neither.
+/// - Valid tags that can repeat none are equivalent exactly if their canonical forms are equal, and exactly if
+///   the texts of these are.
+/// - A canonical form is its own canonical form; a canonical text is its own canonical text, unless it has more
+///   than 1,024 bytes.
 /// - Where a valid tag can repeat a variant, there is one variant that the refusal names.
 pub fn confluence<L: Lookup>(checked: &Checked<L>)
     ensures ends { HasEndForms (L.listed checked.now) }

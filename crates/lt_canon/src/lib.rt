@@ -1,4 +1,5 @@
-//! Canonical tags and their laws (RFC 5646, 4.5).
+//! Canonical tags, explanations of them, and their laws (RFC 5646, 4.5), over any table that passes the check.
+//! A program begins with the crate `bcp47`, whose `Registry` has these calls as methods.
 #![tactic(auto)]
 
 mod canonical_tags;

@@ -8,13 +8,14 @@ use lt_subtag::Subtag;
 use lt_tag::{OutOfMemory, TagFault, TagFaultKind};
 use thiserror::Error;
 
-/// Why a tag has no canonical form.
+/// Why a tag has no canonical form (RFC 5646, 4.5).
 #[derive(Debug, Drop, Error)]
 pub enum Refusal {
-    /// The tag is not valid.
+    /// The tag is not valid, for this fault (RFC 5646, 2.2.9).
     #[error("{0}: mend the subtag at this place, or take a registry by which it is valid")]
     Invalid(ValidFault),
-    /// Steps can repeat a variant; this one occurs twice once the core steps are done.
+    /// Steps can repeat a variant, so the tag has no canonical form. It is this variant that occurs twice where
+    /// no core step leads on.
     #[error("replacements can repeat a variant: take one of the variants out")]
     ReplacementRepeats(Subtag),
     /// Memory ran out.
@@ -23,7 +24,8 @@ pub enum Refusal {
 }
 
 impl Refusal {
-    /// The refusal's name, as it is printed: for a tag that is not valid that of its fault.
+    /// The refusal's name, as it is printed: `ReplacementRepeats`, `OutOfMemory`, or for a tag that is not
+    /// valid that of its fault, as `UnknownLanguage`.
     pub fn name(&self) -> &'static str
         ensures { result.now ≡ refusal_name_of self.now }
     {
@@ -65,13 +67,15 @@ impl From<OutOfMemory> for Refusal {
 /// Why a text has no canonical text.
 #[derive(Debug, Drop, Error)]
 pub enum TextRefusal {
-    /// The text is no tag. Out of memory is never told so.
+    /// The text is no tag, for this fault (RFC 5646, 2.1), whose kind is never `OutOfMemory` where a call of
+    /// this crate answers it.
     #[error("{0}: mend the text at this subtag, so that it is a language tag")]
     NotATag(TagFault),
-    /// The tag is not valid.
+    /// The tag is not valid, for this fault (RFC 5646, 2.2.9).
     #[error("{0}: mend the subtag at this place, or take a registry by which it is valid")]
     Invalid(ValidFault),
-    /// Steps can repeat a variant; this one occurs twice once the core steps are done.
+    /// Steps can repeat a variant, so the tag has no canonical form. It is this variant that occurs twice where
+    /// no core step leads on.
     #[error("replacements can repeat a variant: take one of the variants out")]
     ReplacementRepeats(Subtag),
     /// Memory ran out.

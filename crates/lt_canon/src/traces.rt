@@ -13,23 +13,25 @@ use lt_tag::{OutOfMemory, Tag};
 use std::alloc::Global;
 use thiserror::Error;
 
-/// Steps one after another, and the tag to which they lead.
+/// Steps one after another, and the tag to which they lead, as `explain` answers them.
 #[derive(Debug, Drop, PartialEq, Eq)]
 pub struct Trace {
+    /// The steps in their order. There are none where a tag is its own canonical form.
     pub steps: Vec<Step>,
+    /// The tag to which the last step leads.
     pub last: Tag,
 }
 
-/// Why a trace is not one of a tag.
+/// Why a trace does not lead from a tag to its last tag.
 #[derive(Clone, Copy, Debug, Drop, Error, PartialEq, Eq)]
 pub enum TraceFault {
-    /// The tag is not valid.
+    /// The tag is not valid, for this fault (RFC 5646, 2.2.9).
     #[error("{0}: mend the subtag at this place, or take a registry by which it is valid")]
     Invalid(ValidFault),
     /// This step, counted from 1, is the first that does not lead on to a proper tag.
     #[error("step {0} does not lead on: mend it, or take the registry for which the trace was made")]
     NoSuchStep(usize),
-    /// The steps lead to another tag.
+    /// The steps lead to another tag than the last of the trace.
     #[error("the steps lead to another tag than the last: mend that, or the steps")]
     WrongEnd,
     /// Memory ran out.
@@ -38,7 +40,7 @@ pub enum TraceFault {
 }
 
 impl TraceFault {
-    /// The fault's name, as it is written here.
+    /// The fault's name, as it is written here: `NoSuchStep`.
     pub fn name(self) -> &'static str
         ensures { result.now ≡ trace_fault_name_of self }
     {
@@ -87,13 +89,13 @@ fn follow<L: Lookup>(alloc: Global, table: &L, tag: &Tag, steps: &[Step]) -> Res
     Ok(here)
 }
 
-/// Whether steps lead from a valid tag, one after another, to the end that the trace tells; the end
-/// is then equivalent to the tag. Each step is judged by its kind, its place and the number of its
-/// record.
+/// Whether steps lead from a valid tag, one after another, to the last tag of the trace, which is then
+/// equivalent to the tag. Each step is judged by its kind, its place and the number of its record.
 ///
-/// - `Invalid`, with the fault that `validate` tells, where the tag is not valid.
+/// - `Invalid`, with the fault that `validate` answers, where the tag is not valid.
 /// - Else `NoSuchStep` with the first step, counted from 1, that does not lead on.
 /// - Else `WrongEnd` where the steps lead to another tag.
+/// - `OutOfMemory` where memory runs out.
 pub fn verify<L: Lookup>(
     alloc: Global,
     checked: &Checked<L>,

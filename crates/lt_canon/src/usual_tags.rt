@@ -1,9 +1,8 @@
 //! Langtags of the usual kind: a language, and a script and a region where there is one.
 ghost use Rattle.std.specs.Prelude.{◌≡◌, IfSome};
 ghost use Rattle.std.specs.Option.{option_copied};
-ghost use Rattle.lt_tag.specs.Values.{IsTagValue};
+ghost use Rattle.lt_tag.specs.Values.{IsTagValue, core_alone};
 ghost use Rattle.lt_registry.specs.Entries.{entry};
-ghost use Rattle.lt_check.specs.Conditions.{plain};
 ghost use Rattle.lt_canon.specs.UsualTags.{IsUsual, one_valued, part_valued, core_valued};
 
 use lt_registry::{Entry, Kind, Lookup, ValidFault, ValidFaultKind};
@@ -14,15 +13,11 @@ use lt_tag::{Core, Tag};
 /// The core of a langtag without extlangs, variants, extensions and private use.
 pub(crate) fn usual_core(tag: &Tag) -> Option<&Core>
     ensures usual { IfSome result (λ core. IsUsual core.now) }
-    ensures alone { IfSome result (λ core. tag.now ≡ plain core.now) }
+    ensures alone { IfSome result (λ core. tag.now ≡ core_alone core.now) }
     ensures tag { IsTagValue tag.now }
 {
-    let core = tag.core()?;
-    if core.extlangs().is_empty()
-        && core.variants().is_empty()
-        && tag.extensions().is_empty()
-        && tag.private().is_empty()
-    {
+    let core = tag.core_alone()?;
+    if core.extlangs().is_empty() && core.variants().is_empty() {
         Some(core)
     } else {
         None

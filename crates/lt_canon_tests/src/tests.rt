@@ -1,3 +1,4 @@
+//! Records in place of those of the sample, and what the check then finds.
 mod answers;
 mod explanations;
 mod growths;

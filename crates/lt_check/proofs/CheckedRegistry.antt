@@ -8,12 +8,12 @@ use Rattle.lt_registry.specs.declared.entries.Kind.{Kind}
 use Rattle.lt_registry.specs.declared.entries.Kind.TheVariants as kinds
 use Rattle.lt_registry.specs.declared.entries.EntryName.{EntryName}
 use Rattle.lt_registry.specs.declared.entries.EntryName.TheVariants as names
-use Rattle.lt_rewrite.specs.Conditions.{FitsGrandfathered}
+use Rattle.lt_rewrite.specs.Conditions.{HasFittingGrandfathered}
 use Rattle.lt_rewrite.proofs.Entries.{find_has}
 use Rattle.lt_rewrite.proofs.Same.{same_tag_is}
-use Rattle.lt_check.specs.Conditions.{IsValidPlain, HasValidWhole, IsChecked}
+use Rattle.lt_check.specs.Conditions.{IsValidCoreAlone, HasValidWhole, IsChecked}
 
-pub grandfathered_fit : (R : List EntryParts) → IsChecked R → All (FitsGrandfathered R) R
+pub grandfathered_fit : (R : List EntryParts) → IsChecked R → All (HasFittingGrandfathered R) R
 grandfathered_fit R C = C.passes.fitting_grandfathered
 
 -- the whole record behind a value
@@ -66,21 +66,21 @@ whole_kind _ h = cc
 
 module _ (R : List EntryParts) (C : IsChecked R) where
   -- the value is a valid langtag without extensions and private use
-  pub value_plain : (t u : TagForm) → whole_value R t ≡ Some u → IsValidPlain R u
+  pub value_plain : (t u : TagForm) → whole_value R t ≡ Some u → IsValidCoreAlone R u
   value_plain t u e =
       let w = valued_whole R t u e in
       (whole_has R t u (HasValidWhole R) (C.passes.valid_whole) w t u w.named w.gives).0
 
-  pub tag_plain : (t u : TagForm) → whole_value R t ≡ Some u → IsGrandfatheredTag t ⊎ IsValidPlain R t
+  pub tag_plain : (t u : TagForm) → whole_value R t ≡ Some u → IsGrandfatheredTag t ⊎ IsValidCoreAlone R t
   tag_plain t u e =
       let w = valued_whole R t u e in
       let form : IsEntry w.at = whole_has R t u IsEntry C.registry.forms w in
       let fits = subst (λ n. FitsName w.at.kind n) w.named form.name in
       by w (whole_kind w.at.kind fits.0)
     where
-      by : (w : ValuedWhole R t u) → (w.at.kind ≡ kinds.Grandfathered) ⊎ (w.at.kind ≡ kinds.Redundant) → IsGrandfatheredTag t ⊎ IsValidPlain R t
+      by : (w : ValuedWhole R t u) → (w.at.kind ≡ kinds.Grandfathered) ⊎ (w.at.kind ≡ kinds.Redundant) → IsGrandfatheredTag t ⊎ IsValidCoreAlone R t
       by w (inl k) =
-          let g = (whole_has R t u (FitsGrandfathered R) (grandfathered_fit R C) w).named k in
+          let g = (whole_has R t u (HasFittingGrandfathered R) (grandfathered_fit R C) w).named k in
           let same : names.Whole t ≡ names.Whole (Grandfathered g.0) = sym w.named ∙ g.1 in
           inl (record { number = g.0; is = cc })
       by w (inr k) = inr ((whole_has R t u (HasValidWhole R) (C.passes.valid_whole) w t u w.named w.gives).1 k)

@@ -6,19 +6,19 @@ use Rattle.lt_tag.specs.Parts.{CoreParts}
 use Rattle.lt_tag.specs.Spelling.{spell_core, IsCore}
 use Rattle.lt_tag.specs.WellFormed.{IsNotGrandfathered}
 use Rattle.lt_registry.specs.Parts.{EntryParts}
-use Rattle.lt_registry.specs.Entries.{value, is_registered}
+use Rattle.lt_registry.specs.Entries.{preferred_value, is_registered}
 use Rattle.lt_registry.specs.declared.entries.Kind.TheVariants as kinds
 use Rattle.lt_registry.specs.declared.entries.EntryName.TheVariants as names
 use Rattle.lt_rewrite.specs.Conditions.{IsFinalLanguage}
 use Rattle.lt_check.proofs.Deciding.{Decides-true, Decides-none}
 
 abbrev pub final_test : List EntryParts → List ℕ → Bool
-final_test R l = is_registered R kinds.Language l && is_none (value R kinds.Language l)
+final_test R l = is_registered R kinds.Language l && is_none (preferred_value R kinds.Language l)
 
 pub Decides-final : (R : List EntryParts) (l : List ℕ) → Decides (final_test R l) (IsFinalLanguage R l)
 Decides-final R l =
     Decides-like (final_test R l) (λ p. record { registered = p.0; final = p.1 }) (λ (k : IsFinalLanguage R l). (k.registered, k.final))
-    (Decides-and _ _ (Decides-true (is_registered R kinds.Language l)) (Decides-none (value R kinds.Language l)))
+    (Decides-and _ _ (Decides-true (is_registered R kinds.Language l)) (Decides-none (preferred_value R kinds.Language l)))
 
 abbrev pub one_final_test : List EntryParts → List (List ℕ) → Bool
 one_final_test R (l ∷ []) = final_test R l

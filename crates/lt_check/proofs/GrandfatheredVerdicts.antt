@@ -10,7 +10,7 @@ use Rattle.lt_registry.specs.Parts.{EntryParts}
 use Rattle.lt_registry.specs.Entries.{NumbersRise}
 use Rattle.lt_registry.specs.declared.entries.Kind.TheVariants as kinds
 use Rattle.lt_registry.specs.declared.entries.EntryName.TheVariants as names
-use Rattle.lt_rewrite.specs.Conditions.{second_entry, FitsGrandfathered}
+use Rattle.lt_rewrite.specs.Conditions.{second_entry, HasFittingGrandfathered}
 use Rattle.lt_rewrite.proofs.Entries.{entry_has}
 use Rattle.lt_check.specs.RegularTags.{regular_cores, Validates, IsValidatedBy, AreValidatedBy, is_number}
 use Rattle.lt_check.proofs.RegularLists.{each_spells, validates_none, none_validated}
@@ -65,8 +65,8 @@ module _ (R : List EntryParts) (rise : NumbersRise R) (e : EntryParts) (there : 
   Decides-numbers (c ∷ cs) [] v = absurd v
 
   -- a record whose tag is one of the 26, if it is a grandfathered one
-  pub fits_verdict : (os : List (Option ℕ)) → AreValidatedBy R regular_cores os → (e.kind ≡ kinds.Grandfathered → (number : ℕ) × (e.name ≡ names.Whole (Grandfathered number))) → (b : Bool) → b ≡ list_any (is_number e.number) os → Decides (not b) (FitsGrandfathered R e)
+  pub fits_verdict : (os : List (Option ℕ)) → AreValidatedBy R regular_cores os → (e.kind ≡ kinds.Grandfathered → (number : ℕ) × (e.name ≡ names.Whole (Grandfathered number))) → (b : Bool) → b ≡ list_any (is_number e.number) os → Decides (not b) (HasFittingGrandfathered R e)
   fits_verdict os v named b h =
       Decides-at (not b) (not (list_any (is_number e.number) os)) (ap not h)
-      (Decides-like (not (list_any (is_number e.number) os)) (λ all. record { named = named; regular = validates_none R e all }) (λ (f : FitsGrandfathered R e). none_validated R e f.regular regular_cores each_spells)
+      (Decides-like (not (list_any (is_number e.number) os)) (λ all. record { named = named; regular = validates_none R e all }) (λ (f : HasFittingGrandfathered R e). none_validated R e f.regular regular_cores each_spells)
       (Decides-numbers regular_cores os v))

@@ -5,10 +5,11 @@ use Rattle.std.specs.List.{AllByRecursion, HoldsAt}
 use Rattle.std.proofs.lemmas.Bool.{and_parts, and_from}
 use Rattle.std.proofs.lemmas.List.Elements.{All-contains_itself}
 use Rattle.std.proofs.lemmas.Slice.Eq.{bytes_eq-Decides}
+use Rattle.std.specs.Option.{option_or}
 use Rattle.lt_tag.specs.Parts.{TagForm}
 use Rattle.lt_registry.specs.Parts.{EntryParts}
 use Rattle.lt_registry.specs.Same.{same_kind}
-use Rattle.lt_registry.specs.Entries.{NumbersRise, is_named, holds, is_whole, entry, whole, or_else}
+use Rattle.lt_registry.specs.Entries.{NumbersRise, is_named, holds, is_whole, entry, whole}
 use Rattle.lt_registry.specs.declared.entries.Kind.{Kind}
 use Rattle.lt_registry.specs.declared.entries.Kind.TheVariants as kinds
 use Rattle.lt_registry.specs.declared.entries.EntryName.{EntryName}
@@ -115,7 +116,7 @@ single_first R e s n = (
 
 pub single_own : (R : List EntryParts) → NumbersRise R → (e : EntryParts) → Contains R e → (s : List ℕ) → e.name ≡ names.Single s → Finds (entry R e.kind s) e ↔ HasOwnName R e
 single_own R rising e c s n =
-    let a = looked_up R rising (single_test e.kind s) e c (single_passes e.kind s e refl n) (entry R e.kind s) (λ f o. ap (λ p. or_else p (find (λ (e' : EntryParts). same_kind e'.kind e.kind && holds s e'.name) R)) o) in
+    let a = looked_up R rising (single_test e.kind s) e c (single_passes e.kind s e refl n) (entry R e.kind s) (λ f o. ap (λ p. option_or p (find (λ (e' : EntryParts). same_kind e'.kind e.kind && holds s e'.name) R)) o) in
     let b = single_first R e s n in
     ((λ h. b.0 (a.0 h)), (λ h. a.1 (b.1 h)))
 

@@ -6,10 +6,10 @@ use Rattle.std.proofs.lemmas.List.Elements.{All-head, All-tail}
 use Rattle.std.proofs.lemmas.Slice.Eq.{bytes_eq-Decides}
 use Rattle.lt_tag.specs.PlainLangTags.{IsPlainLangTag}
 use Rattle.lt_registry.specs.Parts.{EntryParts}
-use Rattle.lt_registry.specs.Entries.{value, one_of, is_short}
+use Rattle.lt_registry.specs.Entries.{preferred_value, one_of, is_short}
 use Rattle.lt_registry.specs.declared.entries.Kind.TheVariants as kinds
 use Rattle.lt_rewrite.specs.CoreSteps.{EndsIn}
-use Rattle.lt_rewrite.specs.Conditions.{StandsBesideFinalLanguages, HasLangtagPrefixes}
+use Rattle.lt_rewrite.specs.Conditions.{HasFinalPrefixes, HasLangtagPrefixes}
 use Rattle.lt_rewrite.proofs.Chains.{same_end}
 use Rattle.lt_check.specs.RecordChecks.{is_final_prefix, EndAlike}
 use Rattle.lt_check.proofs.Deciding.{Decides-each}
@@ -21,15 +21,15 @@ pub one_end : (f : List ℕ → Option (List ℕ)) (s d e : List ℕ) → EndsIn
 one_end f s d e h k = sym h.1 ∙ same_end f h.0 k.0 s (ap f h.1 ∙ h.2) (ap f k.1 ∙ k.2) ∙ k.1
 
 -- two chains that end come to one end exactly if their ends are equal
-pub ends_compared : (R : List EntryParts) (s t d e : List ℕ) (b : Bool) → EndsIn (value R kinds.Language) s d → EndsIn (value R kinds.Language) t e → b ≡ bytes_eq d e → IsTrue b ↔ EndAlike R s t
+pub ends_compared : (R : List EntryParts) (s t d e : List ℕ) (b : Bool) → EndsIn (preferred_value R kinds.Language) s d → EndsIn (preferred_value R kinds.Language) t e → b ≡ bytes_eq d e → IsTrue b ↔ EndAlike R s t
 ends_compared R s t d e b h k same =
-    let f = value R kinds.Language in (
+    let f = preferred_value R kinds.Language in (
       (λ x. let p : d ≡ e = (bytes_eq-Decides d e).0 (sym same ∙ x) in (d, h, subst (EndsIn f t) (sym p) k)),
       (λ a. same ∙ (bytes_eq-Decides d e).1 (one_end f s d a.0 h a.1 ∙ one_end f t a.0 e a.2 k)),
     )
 
 -- the Prefixes of a variant with a language value
-pub beside_compared : (R : List EntryParts) (e : EntryParts) (v : List ℕ) (b : Bool) → e.kind ≡ kinds.Variant → one_of e.value ≡ Some v → is_short v ≡ true → (length e.prefixes == 0) ≡ false → b ≡ list_all (is_final_prefix R) e.prefixes → IsTrue b ↔ StandsBesideFinalLanguages R e
+pub beside_compared : (R : List EntryParts) (e : EntryParts) (v : List ℕ) (b : Bool) → e.kind ≡ kinds.Variant → one_of e.value ≡ Some v → is_short v ≡ true → (length e.prefixes == 0) ≡ false → b ≡ list_all (is_final_prefix R) e.prefixes → IsTrue b ↔ HasFinalPrefixes R e
 beside_compared R e v b k o s n same =
     let each = Decides-each (OneFinal R) (is_final_prefix R) (Decides-one_final R) e.prefixes in (
       (λ x _ _ _ _. ((λ none. let z : (length e.prefixes == 0) ≡ true = ap (λ (ps : List (List (List ℕ))). length ps == 0) none in cc), each.0 (sym same ∙ x))),

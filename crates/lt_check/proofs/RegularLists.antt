@@ -15,7 +15,7 @@ use Rattle.lt_tag.proofs.TagLemmas.{table_length}
 use Rattle.lt_tag.proofs.PartsLaws.{core_decided}
 use Rattle.lt_registry.specs.Parts.{EntryParts}
 use Rattle.lt_registry.specs.Same.{same_core}
-use Rattle.lt_registry.specs.Validity.{ExtlangsFit, IsValidCore}
+use Rattle.lt_registry.specs.Validity.{ExtlangsFit, IsProperCore, Distinct}
 use Rattle.lt_rewrite.specs.Conditions.{second_entry}
 use Rattle.lt_rewrite.proofs.Same.{same_core-Decides}
 use Rattle.lt_check.specs.RegularTags.{with_extlang, with_variant, regular_cores, Validates}
@@ -94,14 +94,14 @@ each_at P c (d ∷ ds) all h = by (each_at P c ds all.1) (or_cases (same_core c 
     by rest (inr t) = rest t
 
 -- what no regular core is validated by, validates no core that spells a grandfathered tag
-pub validates_none : (R : List EntryParts) (e : EntryParts) → AllByRecursion (λ (c : CoreParts). Validates R c e → ⊥) regular_cores → (c : CoreParts) (number : ℕ) → IsCore c → IsGrandfathered (spell_core c) number → IsValidCore R c → second_entry R c.extlangs c.variants ≡ Some e → ⊥
-validates_none R e all c number S g V two = by (or_cases (several c.extlangs) (list_any (same_core c) regular_cores) (spelling_known c number S g))
+pub validates_none : (R : List EntryParts) (e : EntryParts) → AllByRecursion (λ (c : CoreParts). Validates R c e → ⊥) regular_cores → (c : CoreParts) (number : ℕ) → IsCore c → IsGrandfathered (spell_core c) number → IsProperCore R c → Distinct c.variants → second_entry R c.extlangs c.variants ≡ Some e → ⊥
+validates_none R e all c number S g P distinct two = by (or_cases (several c.extlangs) (list_any (same_core c) regular_cores) (spelling_known c number S g))
   where
     by : (several c.extlangs ≡ true) ⊎ (list_any (same_core c) regular_cores ≡ true) → ⊥
-    by (inl h) = several_unfit R c.language c.extlangs h V.proper.extlangs
-    by (inr h) = each_at (λ (d : CoreParts). Validates R d e → ⊥) c regular_cores all h (record { valid = V; second = two })
+    by (inl h) = several_unfit R c.language c.extlangs h P.extlangs
+    by (inr h) = each_at (λ (d : CoreParts). Validates R d e → ⊥) c regular_cores all h (record { proper = P; distinct = distinct; second = two })
 
 -- and the other way round
-pub none_validated : (R : List EntryParts) (e : EntryParts) → ((c : CoreParts) (number : ℕ) → IsCore c → IsGrandfathered (spell_core c) number → IsValidCore R c → second_entry R c.extlangs c.variants ≡ Some e → ⊥) → (cs : List CoreParts) → AllByRecursion SpellsGrandfathered cs → AllByRecursion (λ (c : CoreParts). Validates R c e → ⊥) cs
+pub none_validated : (R : List EntryParts) (e : EntryParts) → ((c : CoreParts) (number : ℕ) → IsCore c → IsGrandfathered (spell_core c) number → IsProperCore R c → Distinct c.variants → second_entry R c.extlangs c.variants ≡ Some e → ⊥) → (cs : List CoreParts) → AllByRecursion SpellsGrandfathered cs → AllByRecursion (λ (c : CoreParts). Validates R c e → ⊥) cs
 none_validated R e f [] all = tt
-none_validated R e f (c ∷ cs) all = ((λ v. f c all.0.number all.0.shaped all.0.spelled v.valid v.second), none_validated R e f cs all.1)
+none_validated R e f (c ∷ cs) all = ((λ v. f c all.0.number all.0.shaped all.0.spelled v.proper v.distinct v.second), none_validated R e f cs all.1)

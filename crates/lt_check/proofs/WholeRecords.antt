@@ -15,16 +15,17 @@ use Rattle.lt_registry.specs.declared.entries.Kind.TheVariants as kinds
 use Rattle.lt_registry.specs.declared.entries.EntryName.TheVariants as names
 use Rattle.lt_rewrite.specs.Rewriting.{Star}
 use Rattle.lt_rewrite.specs.CoreSteps.{values_of, CoreStep, IsCoreNormalForm}
-use Rattle.lt_rewrite.specs.Conditions.{HasOwnName, FitsGrandfathered, MeetsCoreConditions}
+use Rattle.lt_rewrite.specs.Conditions.{HasOwnName, HasFittingGrandfathered, MeetsCoreConditions}
 use Rattle.lt_rewrite.proofs.CoreLaws.{one_normal_form}
 use Rattle.lt_rewrite.proofs.Entries.{find_has}
 use Rattle.lt_rewrite.proofs.NormalForms.{star_keeps}
 use Rattle.lt_rewrite.proofs.ProperTags.{step_proper, proper_not_grandfathered}
-use Rattle.lt_check.specs.Conditions.{plain, IsValidPlain, HasValidWhole}
+use Rattle.lt_check.specs.Conditions.{IsValidCoreAlone, HasValidWhole}
 use Rattle.lt_check.specs.WholeChecks.{MeetsBelow, HasNoValue}
 use Rattle.lt_check.specs.declared.conditions.Condition.TheVariants as conditions
 use Rattle.lt_check.proofs.CheckedRegistry.{valued_whole, whole_has, found_name}
 use Rattle.lt_check.proofs.Deciding.{same_tag_itself}
+use Rattle.lt_tag.specs.Values.{core_alone}
 
 -- the first six conditions
 pub core_below : (R : List EntryParts) → MeetsBelow 10 R → MeetsCoreConditions R
@@ -46,11 +47,11 @@ pub form_spells_none : (R : List EntryParts) → MeetsBelow 10 R → (c d : Core
 form_spells_none R M c d P s shaped =
     proper_not_grandfathered R (M conditions.FittingGrandfathered (omega arith)) d shaped (star_keeps (IsProperCore R) (λ a b one k. step_proper R (core_below R M) a b k one) s P)
 
-plain_proper : (R : List EntryParts) (t : TagForm) (c : CoreParts) → t ≡ plain c → IsValidPlain R t → IsProperCore R c
-plain_proper R t c e V = let parts : HasProperParts R (plain c) = subst (HasProperParts R) e V.valid.proper.parts in parts.core
+plain_proper : (R : List EntryParts) (t : TagForm) (c : CoreParts) → t ≡ core_alone c → IsValidCoreAlone R t → IsProperCore R c
+plain_proper R t c e V = let parts : HasProperParts R (core_alone c) = subst (HasProperParts R) e V.valid.proper.parts in parts.core
 
 -- the value of a record that has one is proper
-pub value_proper : (R : List EntryParts) → MeetsBelow 10 R → (e : EntryParts) → Contains R e → (t u : TagForm) → e.name ≡ names.Whole t → tag_of e.value ≡ Some u → (c : CoreParts) → u ≡ plain c → IsProperCore R c
+pub value_proper : (R : List EntryParts) → MeetsBelow 10 R → (e : EntryParts) → Contains R e → (t u : TagForm) → e.name ≡ names.Whole t → tag_of e.value ≡ Some u → (c : CoreParts) → u ≡ core_alone c → IsProperCore R c
 value_proper R M e there t u n v c p =
     plain_proper R u c p (All-contains (HasValidWhole R) R e (M conditions.ValidWhole (omega arith)) there t u n v).0
 
@@ -60,7 +61,7 @@ whole_kinds kinds.Redundant h = inr refl
 whole_kinds _ h = cc
 
 -- and so is its tag, where that is a langtag without extensions and private use
-pub tag_proper : (R : List EntryParts) → MeetsBelow 10 R → IsRegistry R → (e : EntryParts) → Contains R e → (t u : TagForm) → e.name ≡ names.Whole t → tag_of e.value ≡ Some u → (c : CoreParts) → t ≡ plain c → IsProperCore R c
+pub tag_proper : (R : List EntryParts) → MeetsBelow 10 R → IsRegistry R → (e : EntryParts) → Contains R e → (t u : TagForm) → e.name ≡ names.Whole t → tag_of e.value ≡ Some u → (c : CoreParts) → t ≡ core_alone c → IsProperCore R c
 tag_proper R M I e there t u n v c p =
     let form : IsEntry e = All-contains IsEntry R e I.forms there in
     let fits = subst (λ m. FitsName e.kind m) n form.name in
@@ -68,16 +69,16 @@ tag_proper R M I e there t u n v c p =
   where
     by : (e.kind ≡ kinds.Grandfathered) ⊎ (e.kind ≡ kinds.Redundant) → IsProperCore R c
     by (inl k) =
-        let g = (All-contains (FitsGrandfathered R) R e (M conditions.FittingGrandfathered (omega arith)) there).named k in
-        let same : names.Whole (plain c) ≡ names.Whole (Grandfathered g.0) = ap names.Whole (sym p) ∙ sym n ∙ g.1 in
+        let g = (All-contains (HasFittingGrandfathered R) R e (M conditions.FittingGrandfathered (omega arith)) there).named k in
+        let same : names.Whole (core_alone c) ≡ names.Whole (Grandfathered g.0) = ap names.Whole (sym p) ∙ sym n ∙ g.1 in
         absurd (cc)
     by (inr k) = plain_proper R t c p ((All-contains (HasValidWhole R) R e (M conditions.ValidWhole (omega arith)) there t u n v).1 k)
 
 -- a value that is found is proper
-pub found_proper : (R : List EntryParts) → MeetsBelow 10 R → (t : TagForm) (q : CoreParts) → whole_value R t ≡ Some (plain q) → IsProperCore R q
+pub found_proper : (R : List EntryParts) → MeetsBelow 10 R → (t : TagForm) (q : CoreParts) → whole_value R t ≡ Some (core_alone q) → IsProperCore R q
 found_proper R M t q e =
-    let w = valued_whole R t (plain q) e in
-    plain_proper R (plain q) q refl (whole_has R t (plain q) (HasValidWhole R) (M conditions.ValidWhole (omega arith)) w t (plain q) w.named w.gives).0
+    let w = valued_whole R t (core_alone q) e in
+    plain_proper R (core_alone q) q refl (whole_has R t (core_alone q) (HasValidWhole R) (M conditions.ValidWhole (omega arith)) w t (core_alone q) w.named w.gives).0
 
 -- the first record that passes a test has the lowest number of all that pass
 

@@ -5,6 +5,7 @@ use Rattle.lt_check.specs.declared.conditions.Condition.TheVariants as condition
 use Rattle.lt_check.specs.declared.rejections.RejectedCause.{RejectedCause}
 use Rattle.lt_check.specs.declared.rejections.RejectedCause.TheVariants as causes
 
+-- the code of a condition
 abbrev pub code_of : Condition → List ℕ
 code_of conditions.OwnName = codes "C1"
 code_of conditions.RegisteredValue = codes "C2"

@@ -1,58 +1,59 @@
--- The twelve conditions on a registry. Each speaks of one record among all; a registry passes if each record meets
--- each condition.
+-- The conditions C9 to C11, each on a record among all; and the check of the twelve, which a registry passes if each of
+-- its records meets each condition.
 use Rattle.std.specs.Prelude.{ℕ, ◌≡◌, ◌≢◌, ◌<◌, ◌≤◌, ◌⊎◌, List, [], Some, None, All, Contains}
-use Rattle.lt_tag.specs.Parts.{CoreParts, TagForm, LangTag}
+use Rattle.lt_tag.specs.Parts.{CoreParts, TagForm}
 use Rattle.lt_registry.specs.Parts.{EntryParts}
 use Rattle.lt_registry.specs.Entries.{tag_of, whole_value, IsRegistry}
 use Rattle.lt_registry.specs.Validity.{IsValid, Distinct}
 use Rattle.lt_registry.specs.declared.entries.Kind.TheVariants as kinds
 use Rattle.lt_registry.specs.declared.entries.EntryName.TheVariants as names
 use Rattle.lt_rewrite.specs.CoreSteps.{values_of, IsCoreNormalForm}
-use Rattle.lt_rewrite.specs.Conditions.{HasOwnName, HasRegisteredValue, HasEndingChain, FitsAsExtlang, HasFittingVariantValue, StandsBesideFinalLanguages, HasLangtagPrefixes, FitsGrandfathered, HasNoRangeValue}
+use Rattle.lt_rewrite.specs.Conditions.{HasOwnName, HasRegisteredValue, HasEndingChain, HasFittingExtlang, HasFittingVariantValue, HasFinalPrefixes, HasLangtagPrefixes, HasFittingGrandfathered, HasNoRangeValue}
 use Rattle.lt_check.specs.declared.conditions.Condition.{Condition}
 use Rattle.lt_check.specs.declared.conditions.Condition.TheVariants as conditions
+use Rattle.lt_tag.specs.Values.{core_alone}
 
--- a langtag without extensions and private use
-abbrev pub plain : CoreParts → TagForm
-plain c = LangTag c [] []
-
--- of a whole record with a value: its tag and its value
+-- of a whole record with a value: its tag and its value (RFC 5646, 3.1.7)
 abbrev pub OfWhole : EntryParts → (TagForm → TagForm → Type 0) → Type 0
 OfWhole e P = (t u : TagForm) → e.name ≡ names.Whole t → tag_of e.value ≡ Some u → P t u
 
-pub record IsValidPlain (R : List EntryParts) (t : TagForm) : Type 0 where
+-- the tag is valid, and a core alone (RFC 5646, 2.2.9)
+pub record IsValidCoreAlone (R : List EntryParts) (t : TagForm) : Type 0 where
   pub core : CoreParts
-  pub is : t ≡ plain core
+  pub is : t ≡ core_alone core
   pub valid : IsValid R t
 
--- If a whole record has a value, this is a valid langtag and a core alone; and so is the record's tag, if it is redundant.
+-- If a whole record has a value, this is a valid langtag and a core alone; and so is the record's tag, if it is
+-- redundant (C9; this project's own).
 abbrev pub HasValidWhole : List EntryParts → EntryParts → Type 0
-HasValidWhole R e = OfWhole e (λ t u. IsValidPlain R u × (e.kind ≡ kinds.Redundant → IsValidPlain R t))
+HasValidWhole R e = OfWhole e (λ t u. IsValidCoreAlone R u × (e.kind ≡ kinds.Redundant → IsValidCoreAlone R t))
 
--- If a whole record has a value, no variant occurs twice in the core normal form of this value, and this form is not the
--- tag of a whole record with a value.
+-- If a whole record has a value, no variant occurs twice in the core normal form of this value, and this form is not
+-- the tag of a whole record with a value (C10; this project's own).
 abbrev pub HasRestingWhole : List EntryParts → EntryParts → Type 0
 HasRestingWhole R e =
-    OfWhole e (λ t u. (c d : CoreParts) → u ≡ plain c → IsCoreNormalForm (values_of R) c d →
-    Distinct d.variants × All (λ (f : EntryParts). f.name ≡ names.Whole (plain d) → tag_of f.value ≡ None) R)
+    OfWhole e (λ t u. (c d : CoreParts) → u ≡ core_alone c → IsCoreNormalForm (values_of R) c d →
+    Distinct d.variants × All (λ (f : EntryParts). f.name ≡ names.Whole (core_alone d) → tag_of f.value ≡ None) R)
 
 -- Let a tag with a value have a core normal form that is another tag. Then the value has this core normal form too; or
--- this form has a value as a whole tag, and the two values have one core normal form.
+-- this form has a value as a whole tag, and the two values have one core normal form (C11; this project's own).
 abbrev pub HasAgreeingWhole : List EntryParts → EntryParts → Type 0
 HasAgreeingWhole R e =
-    OfWhole e (λ t u. (c s p d : CoreParts) → t ≡ plain c → u ≡ plain p → IsCoreNormalForm (values_of R) c s → s ≢ c → IsCoreNormalForm (values_of R) p d →
-    (s ≡ d) ⊎ ((q : CoreParts) × (whole_value R (plain s) ≡ Some (plain q)) × IsCoreNormalForm (values_of R) q d))
+    OfWhole e (λ t u. (c s p d : CoreParts) → t ≡ core_alone c → u ≡ core_alone p →
+    IsCoreNormalForm (values_of R) c s → s ≢ c → IsCoreNormalForm (values_of R) p d →
+    (s ≡ d)
+    ⊎ ((q : CoreParts) × (whole_value R (core_alone s) ≡ Some (core_alone q)) × IsCoreNormalForm (values_of R) q d))
 
 -- a record meets a condition
 abbrev pub Meets : Condition → List EntryParts → EntryParts → Type 0
 Meets conditions.OwnName R e = HasOwnName R e
 Meets conditions.RegisteredValue R e = HasRegisteredValue R e
 Meets conditions.EndingChain R e = HasEndingChain R e
-Meets conditions.FittingExtlang R e = FitsAsExtlang R e
+Meets conditions.FittingExtlang R e = HasFittingExtlang R e
 Meets conditions.FittingVariantValue R e = HasFittingVariantValue R e
-Meets conditions.FinalPrefixes R e = StandsBesideFinalLanguages R e
+Meets conditions.FinalPrefixes R e = HasFinalPrefixes R e
 Meets conditions.LangtagPrefixes R e = HasLangtagPrefixes R e
-Meets conditions.FittingGrandfathered R e = FitsGrandfathered R e
+Meets conditions.FittingGrandfathered R e = HasFittingGrandfathered R e
 Meets conditions.ValidWhole R e = HasValidWhole R e
 Meets conditions.RestingWhole R e = HasRestingWhole R e
 Meets conditions.AgreeingWhole R e = HasAgreeingWhole R e
@@ -78,11 +79,11 @@ pub record Passes (R : List EntryParts) : Type 0 where
   pub own_name : All (HasOwnName R) R
   pub registered_value : All (HasRegisteredValue R) R
   pub ending_chain : All (HasEndingChain R) R
-  pub fitting_extlang : All (FitsAsExtlang R) R
+  pub fitting_extlang : All (HasFittingExtlang R) R
   pub fitting_variant_value : All (HasFittingVariantValue R) R
-  pub final_prefixes : All (StandsBesideFinalLanguages R) R
+  pub final_prefixes : All (HasFinalPrefixes R) R
   pub langtag_prefixes : All (HasLangtagPrefixes R) R
-  pub fitting_grandfathered : All (FitsGrandfathered R) R
+  pub fitting_grandfathered : All (HasFittingGrandfathered R) R
   pub valid_whole : All (HasValidWhole R) R
   pub resting_whole : All (HasRestingWhole R) R
   pub agreeing_whole : All (HasAgreeingWhole R) R

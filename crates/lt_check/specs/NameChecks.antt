@@ -18,9 +18,11 @@ kind_number kinds.Variant = 4
 kind_number kinds.Grandfathered = 5
 kind_number kinds.Redundant = 6
 
+-- a range under a kind
 abbrev pub range_name : Kind → List ℕ → List ℕ → RangeName
 range_name kind first last = record { kind = kind_number kind; first = first; last = last }
 
+-- the range that a name is, under a kind
 abbrev pub range_at : Kind → EntryName → Option RangeName
 range_at kind (names.Range first last) = Some (range_name kind first last)
 range_at kind (names.Single s) = None

@@ -1,13 +1,13 @@
 -- What a look at one record tells.
 use Rattle.std.specs.Prelude.{ℕ, Bool, false, ◌&&◌, List, [], ◌∷◌, is_none}
 use Rattle.lt_registry.specs.Parts.{EntryParts}
-use Rattle.lt_registry.specs.Entries.{value, is_registered}
+use Rattle.lt_registry.specs.Entries.{preferred_value, is_registered}
 use Rattle.lt_registry.specs.declared.entries.Kind.TheVariants as kinds
 use Rattle.lt_rewrite.specs.CoreSteps.{EndsIn}
 
 -- a registered language without a value
 abbrev pub is_final : List EntryParts → List ℕ → Bool
-is_final R l = is_registered R kinds.Language l && is_none (value R kinds.Language l)
+is_final R l = is_registered R kinds.Language l && is_none (preferred_value R kinds.Language l)
 
 -- a Prefix of one subtag, a registered language without a value
 abbrev pub is_final_prefix : List EntryParts → List (List ℕ) → Bool
@@ -16,4 +16,4 @@ is_final_prefix R _ = false
 
 -- the chains of two languages come to one end
 abbrev pub EndAlike : List EntryParts → List ℕ → List ℕ → Type 0
-EndAlike R s t = (end : List ℕ) × EndsIn (value R kinds.Language) s end × EndsIn (value R kinds.Language) t end
+EndAlike R s t = (end : List ℕ) × EndsIn (preferred_value R kinds.Language) s end × EndsIn (preferred_value R kinds.Language) t end

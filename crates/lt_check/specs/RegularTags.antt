@@ -2,12 +2,14 @@
 use Rattle.std.specs.Prelude.{ℕ, ◌≡◌, ◌==◌, Bool, false, List, [], ◌∷◌, Option, Some, None, codes}
 use Rattle.lt_tag.specs.Parts.{CoreParts}
 use Rattle.lt_registry.specs.Parts.{EntryParts}
-use Rattle.lt_registry.specs.Validity.{IsValidCore}
+use Rattle.lt_registry.specs.Validity.{IsProperCore, Distinct}
 use Rattle.lt_rewrite.specs.Conditions.{second_entry}
 
+-- a core of a language and an extlang
 abbrev pub with_extlang : List ℕ → List ℕ → CoreParts
 with_extlang l x = record { language = l; extlangs = x ∷ []; script = None; region = None; variants = [] }
 
+-- a core of a language and a variant
 abbrev pub with_variant : List ℕ → List ℕ → CoreParts
 with_variant l v = record { language = l; extlangs = []; script = None; region = None; variants = v ∷ [] }
 
@@ -21,7 +23,8 @@ regular_cores =
 
 -- the core is valid, and this is the entry of its second subtag
 pub record Validates (R : List EntryParts) (c : CoreParts) (e : EntryParts) : Type 0 where
-  pub valid : IsValidCore R c
+  pub proper : IsProperCore R c
+  pub distinct : Distinct c.variants
   pub second : second_entry R c.extlangs c.variants ≡ Some e
 
 -- the number of the record that makes a core valid, if one does

@@ -6,8 +6,9 @@ use Rattle.lt_registry.specs.Entries.{tag_of, whole_value}
 use Rattle.lt_registry.specs.Validity.{Distinct}
 use Rattle.lt_registry.specs.declared.entries.EntryName.TheVariants as names
 use Rattle.lt_rewrite.specs.CoreSteps.{values_of, IsCoreNormalForm}
-use Rattle.lt_check.specs.Conditions.{plain, Meets, rank_of}
+use Rattle.lt_check.specs.Conditions.{Meets, rank_of}
 use Rattle.lt_check.specs.declared.conditions.Condition.{Condition}
+use Rattle.lt_tag.specs.Values.{core_alone}
 
 -- all records meet each condition of a lower rank
 abbrev pub MeetsBelow : ℕ → List EntryParts → Type 0
@@ -19,12 +20,12 @@ HasNoValue R t = All (λ (f : EntryParts). f.name ≡ names.Whole t → tag_of f
 
 -- the core normal form of a core repeats no variant and has no value
 abbrev pub ComesToRest : List EntryParts → CoreParts → Type 0
-ComesToRest R c = (d : CoreParts) → IsCoreNormalForm (values_of R) c d → Distinct d.variants × HasNoValue R (plain d)
+ComesToRest R c = (d : CoreParts) → IsCoreNormalForm (values_of R) c d → Distinct d.variants × HasNoValue R (core_alone d)
 
 -- a core comes to an end: it is that, or its value comes to it
 abbrev pub ComesTo : List EntryParts → CoreParts → CoreParts → Type 0
 ComesTo R s d =
-    (s ≡ d) ⊎ ((q : CoreParts) × (whole_value R (plain s) ≡ Some (plain q)) × IsCoreNormalForm (values_of R) q d)
+    (s ≡ d) ⊎ ((q : CoreParts) × (whole_value R (core_alone s) ≡ Some (core_alone q)) × IsCoreNormalForm (values_of R) q d)
 
 -- where a core has a core normal form other than itself, that comes to the core normal form of another core
 abbrev pub ComeTogether : List EntryParts → CoreParts → CoreParts → Type 0

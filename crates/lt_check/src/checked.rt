@@ -19,6 +19,7 @@ pub struct Checked<L: Lookup> {
     shortcuts: Shortcuts,
 }
 
+// A contract sees it as its table (this project's own).
 impl<L: Lookup> Model for Checked<L> {
     ghost use Rattle.lt_check.specs.Checking.{IsCheckedAlong};
 
@@ -30,10 +31,11 @@ impl<L: Lookup> Model for Checked<L> {
 }
 
 impl<L: Lookup> Checked<L> {
-    /// Checks a table: each record is to meet each of the twelve [conditions](crate::Condition). A table
-    /// that does not pass is handed back with the finding: the first condition that some record does
-    /// not meet, and of those records the lowest number; or because memory ran out. The conditions
-    /// are judged in order, each only where all records meet those before it.
+    /// Checks a table: each record is to meet each of the twelve [conditions](crate::Condition), which are this
+    /// project's own. They are judged in order, each only where all records meet those before it.
+    ///
+    /// A table that does not pass is handed back with the cause: `Finding`, the first condition that some
+    /// record does not meet and the lowest number of those records; or `OutOfMemory`.
     pub fn new(alloc: Global, table: L) -> Result<Checked<L>, Rejected<L>>
         ensures value { IfOk result (λ checked. checked ≡ table) }
         ensures passes { IfOk result (λ checked. Passes (L.listed table)) }
@@ -62,7 +64,7 @@ impl<L: Lookup> Checked<L> {
         }
     }
 
-    /// The table.
+    /// The table, which passes the check.
     pub fn table(&self) -> &L
         ensures value { result.now ≡ self.now }
         ensures checked { IsChecked (L.listed self.now) }

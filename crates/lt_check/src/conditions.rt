@@ -2,34 +2,40 @@
 ghost use Rattle.std.specs.Prelude.{◌≡◌};
 ghost use Rattle.lt_check.specs.Codes.{code_of};
 
-/// The conditions on a registry, in the order in which they are judged.
+/// The conditions on a registry, in the order in which they are judged. Each speaks of one record among all,
+/// and a registry meets it if each record does. They are this project's own.
 #[derive(Clone, Copy, Debug, PartialEq, Eq)]
 pub enum Condition {
-    /// No earlier record has the kind and the name, and no earlier whole record the tag.
+    /// C1: no earlier record has the same kind and the same name, and no earlier whole record the same tag.
     OwnName,
-    /// If a language, script or region has a value, that is registered too, as the same kind.
+    /// C2: if a language, script or region has a value, that is registered too, as the same kind.
     RegisteredValue,
-    /// The chain of values from each value comes to an end.
+    /// C3: the chain of values that begins with the value of a language, script, region or variant ends.
     EndingChain,
-    /// An extlang is one subtag with one Prefix, a language without a value; itself and its
-    /// replacement are languages whose chains end alike.
+    /// C4: an extlang is one subtag with one Prefix of one subtag, a registered language without a value;
+    /// itself and its replacement are registered languages whose chains end alike.
     FittingExtlang,
-    /// The value of a variant is a language of 2 or 3 letters, or a variant that turns into none.
+    /// C5: the value of a variant is registered: one of 2 or 3 letters as a language, a longer one as a
+    /// variant, whose own value, if any, is no language.
     FittingVariantValue,
-    /// A variant with a language value has Prefixes, each a language without a value.
+    /// C6: a variant with a language as its value has Prefixes, each of one subtag, a registered language
+    /// without a value.
     FinalPrefixes,
-    /// Whatever Prefix a variant names is a langtag and a core alone.
+    /// C7: whatever Prefix a variant names is a langtag and a core alone.
     LangtagPrefixes,
-    /// A grandfathered record names one of the 26 tags, and no regular one is valid as a langtag.
+    /// C8: a grandfathered record names one of the 26 tags (RFC 5646, 2.2.8), and no record makes a regular one
+    /// of them valid, read as a langtag: the entry of its second subtag would be at fault.
     FittingGrandfathered,
-    /// If a whole record has a value, this is a valid langtag and a core alone; and so is a
-    /// redundant tag that has one.
+    /// C9: if a whole record has a value, this is a valid langtag and a core alone; and so is the record's tag,
+    /// if it is redundant.
     ValidWhole,
-    /// In the core normal form of a whole record's value no variant occurs twice, and it has no value.
+    /// C10: in the core normal form of a whole record's value no variant occurs twice, and no whole record
+    /// gives this form a value.
     RestingWhole,
-    /// A redundant tag from which core steps lead comes to the same end as its value.
+    /// C11: if the tag of a whole record with a value has a core normal form that is another tag, the value has
+    /// that form too; or that form has a value as a whole tag, and the two values have one core normal form.
     AgreeingWhole,
-    /// A range has no value.
+    /// C12: a range has no value.
     NoRangeValue,
 }
 

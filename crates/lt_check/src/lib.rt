@@ -1,4 +1,5 @@
-//! The check of a registry by twelve conditions (RFC 5646, 2.2.8 and 3.1).
+//! The check of a registry by twelve conditions, which are this project's own (on RFC 5646, 2.2.8 and 3.1). A
+//! program begins with the crate `bcp47`, whose `Registry` has passed it.
 #![tactic(auto)]
 
 mod checked;

@@ -6,7 +6,7 @@ ghost use Rattle.lt_tag.specs.PlainLangTags.{IsPlainLangTag};
 ghost use Rattle.lt_registry.specs.Parts.{EntryParts};
 ghost use Rattle.lt_registry.specs.Entries.{one_of, language_value};
 ghost use Rattle.lt_registry.specs.Entries as entries;
-ghost use Rattle.lt_rewrite.specs.Conditions.{HasRegisteredValue, FitsAsExtlang, HasFittingVariantValue, StandsBesideFinalLanguages, HasLangtagPrefixes, HasNoRangeValue};
+ghost use Rattle.lt_rewrite.specs.Conditions.{HasRegisteredValue, HasFittingExtlang, HasFittingVariantValue, HasFinalPrefixes, HasLangtagPrefixes, HasNoRangeValue};
 ghost use Rattle.lt_rewrite.specs.Shortcuts.{AreShortcuts};
 ghost use Rattle.lt_check.specs.RecordChecks.{EndAlike};
 ghost use Rattle.lt_check.specs.RecordChecks as checks;
@@ -68,7 +68,7 @@ pub(crate) fn has_registered_value<L: Lookup>(table: &L, entry: &Entry) -> bool
 /// itself and its replacement are languages whose chains end alike.
 pub(crate) fn fits_as_extlang<L: Lookup>(table: &L, shortcuts: &Shortcuts, entry: &Entry) -> bool
     requires { AreShortcuts (L.listed table.now) shortcuts.now }
-    ensures { IsTrue result ↔ FitsAsExtlang (L.listed table.now) entry.now }
+    ensures { IsTrue result ↔ HasFittingExtlang (L.listed table.now) entry.now }
 {
     if entry.kind() != Kind::Extlang {
         return true;
@@ -106,7 +106,7 @@ pub(crate) fn has_fitting_variant_value<L: Lookup>(table: &L, entry: &Entry) -> 
 /// Whether a variant with a language value has Prefixes, each of one subtag, a language without a
 /// value.
 pub(crate) fn stands_beside_final_languages<L: Lookup>(table: &L, entry: &Entry) -> bool
-    ensures { IsTrue result ↔ StandsBesideFinalLanguages (L.listed table.now) entry.now }
+    ensures { IsTrue result ↔ HasFinalPrefixes (L.listed table.now) entry.now }
 {
     match (entry.kind(), one_value(entry)) {
         (Kind::Variant, Some(value)) if is_short(value) => {

@@ -3,14 +3,14 @@ ghost use Rattle.std.specs.Prelude.{◌≡◌, ◌↔◌, Some, IsTrue, IfOk, Ma
 ghost use Rattle.std.specs.Option.{option_copied};
 ghost use Rattle.lt_tag.specs.Parts.{CoreParts};
 ghost use Rattle.lt_tag.specs.Spelling.{spell_core};
-ghost use Rattle.lt_tag.specs.Values.{IsTagValue};
+ghost use Rattle.lt_tag.specs.Values.{IsTagValue, core_alone};
 ghost use Rattle.lt_tag.specs.WellFormed.{IsNotGrandfathered};
 ghost use Rattle.lt_registry.specs.Entries.{tag_of, whole_value, IsRegistry};
 ghost use Rattle.lt_registry.specs.Validity.{IsProperCore};
 ghost use Rattle.lt_registry.specs.declared.entries.EntryName.TheVariants as names;
 ghost use Rattle.lt_rewrite.specs.CoreSteps.{values_of, IsCoreNormalForm};
 ghost use Rattle.lt_rewrite.specs.Shortcuts.{AreShortcuts};
-ghost use Rattle.lt_check.specs.Conditions.{plain, OfWhole, IsValidPlain, Meets};
+ghost use Rattle.lt_check.specs.Conditions.{OfWhole, IsValidCoreAlone, Meets};
 ghost use Rattle.lt_check.specs.WholeChecks.{MeetsBelow, ComesToRest, ComeTogether};
 ghost use Rattle.lt_check.specs.declared.conditions.Condition.TheVariants as conditions;
 
@@ -21,25 +21,11 @@ use lt_rewrite::values::{tag_and_value, whole_value};
 use lt_tag::{Core, OutOfMemory, Tag};
 use std::alloc::Global;
 
-/// The core of a langtag without extensions and private use.
-fn plain_core(tag: &Tag) -> Option<&Core>
-    ensures core { MatchOption result
-        ((c : CoreParts) → tag.now ≡ plain c → ⊥)
-        (λ core. tag.now ≡ plain core.now) }
-    ensures tag { IsTagValue tag.now }
-{
-    if tag.extensions().is_empty() && tag.private().is_empty() {
-        tag.core()
-    } else {
-        None
-    }
-}
-
 /// Whether a tag is a valid langtag without extensions and private use. It takes no memory.
 fn is_valid_plain<L: Lookup>(alloc: Global, table: &L, tag: &Tag) -> bool
-    ensures { IsTrue result ↔ IsValidPlain (L.listed table.now) tag.now }
+    ensures { IsTrue result ↔ IsValidCoreAlone (L.listed table.now) tag.now }
 {
-    match plain_core(tag) {
+    match tag.core_alone() {
         Some(_) => validate(alloc, table, tag).is_ok(),
         None => false,
     }
@@ -89,7 +75,7 @@ fn settled<L: Lookup>(
 /// The value of the whole record of a langtag without extensions and private use.
 fn value_of<L: Lookup>(alloc: Global, table: &L, core: Core) -> Option<&Tag>
     requires { IsNotGrandfathered (spell_core core) }
-    ensures { option_copied result ≡ whole_value (L.listed table.now) (plain core) }
+    ensures { option_copied result ≡ whole_value (L.listed table.now) (core_alone core) }
 {
     let tag = Tag::from_parts(core, Vec::new(alloc), Vec::new(alloc));
     whole_value(table, &tag)
@@ -99,11 +85,11 @@ fn value_of<L: Lookup>(alloc: Global, table: &L, core: Core) -> Option<&Tag>
 fn plain_value_of<L: Lookup>(alloc: Global, table: &L, core: Core) -> Option<&Core>
     requires { IsNotGrandfathered (spell_core core) }
     ensures { MatchOption result
-        ((q : CoreParts) → whole_value (L.listed table.now) (plain core) ≡ Some (plain q) → ⊥)
-        (λ q. whole_value (L.listed table.now) (plain core) ≡ Some (plain q.now)) }
+        ((q : CoreParts) → whole_value (L.listed table.now) (core_alone core) ≡ Some (core_alone q) → ⊥)
+        (λ q. whole_value (L.listed table.now) (core_alone core) ≡ Some (core_alone q.now)) }
 {
     match value_of(alloc, table, core) {
-        Some(value) => plain_core(value),
+        Some(value) => value.core_alone(),
         None => None,
     }
 }
@@ -144,7 +130,7 @@ pub(crate) fn has_resting_whole<L: Lookup>(
     let Some((_, value)) = tag_and_value(entry) else {
         return Ok(true);
     };
-    match plain_core(value) {
+    match value.core_alone() {
         Some(core) => comes_to_rest(alloc, table, shortcuts, core),
         None => Ok(true),
     }
@@ -197,7 +183,7 @@ pub(crate) fn has_agreeing_whole<L: Lookup>(
     let Some((tag, value)) = tag_and_value(entry) else {
         return Ok(true);
     };
-    match (plain_core(tag), plain_core(value)) {
+    match (tag.core_alone(), value.core_alone()) {
         (Some(first), Some(second)) => come_together(alloc, table, shortcuts, first, second),
         _ => Ok(true),
     }

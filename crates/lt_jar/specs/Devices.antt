@@ -27,6 +27,7 @@ given_by (Err error) = 0
 abbrev pub greatest_count : ℕ
 greatest_count = 2 ^ 64 - 1
 
+-- a count after one more
 abbrev pub one_more : ℕ → ℕ
 one_more count = min (count + 1) greatest_count
 

@@ -6,6 +6,7 @@ use Rattle.lt_jar.specs.LineKinds.{Line, Separator, Continuation, Start, Bad, li
 use Rattle.lt_jar.specs.Limits.{longest_line, most_records}
 use Rattle.lt_jar.specs.Records.{shown}
 
+-- what can be wrong with a line, in the order in which it is answered
 pub data Fault : Type 0 where
   LineTooLong : Fault
   NotUtf8 : Fault
@@ -36,6 +37,7 @@ begun false (Start name body ∷ lines) = 1 + begun true lines
 begun inside (Separator ∷ lines) = begun false lines
 begun inside (line ∷ lines) = begun inside lines
 
+-- the line continues a field
 abbrev pub is_continuation : Line → Bool
 is_continuation (Continuation text) = true
 is_continuation line = false

@@ -45,7 +45,8 @@ pub record EndsNoneAbove (text : List ℕ) (number : ℕ) : Type 0 where
   pub gathers : Gathers lines fields
   pub counted : number ≡ length lines + 1
 
--- whole lines, which end no record and with which nothing is wrong, and the line that is being read, which is not too long so far and has this number among them
+-- whole lines, which end no record and with which nothing is wrong, and the line that is being read, which is not
+-- too long so far and has this number among them
 pub record IsCutShort (earlier : ℕ) (text : List ℕ) (number : ℕ) : Type 0 where
   pub lines : List (List ℕ)
   pub each : AllByRecursion IsOneLine lines
@@ -58,13 +59,15 @@ pub record IsCutShort (earlier : ℕ) (text : List ℕ) (number : ℕ) : Type 0 
   pub sound : IsSound earlier (whole_lines lines)
   pub counted : number ≡ length lines + 1
 
--- but for blank lines, the lines are groups that separators end, and these are the records of the groups that have a field
+-- but for blank lines, the lines are groups that separators end, and these are the records of the groups that have
+-- a field
 pub record AreEnded (lines : List (List ℕ)) (records : List (List Field)) : Type 0 where
   pub groups : List (List Written)
   pub lines_are : shown lines ≡ flat_map lines_of_ended groups
   pub records_are : records ≡ map record_of (filter has_field groups)
 
--- whole lines, with which nothing is wrong, and the line that is being read, which is not too long so far and has this number among them
+-- whole lines, with which nothing is wrong, and the line that is being read, which is not too long so far and has
+-- this number among them
 pub record BreaksOff (earlier : ℕ) (text : List ℕ) (number : ℕ) : Type 0 where
   pub ended : List (List ℕ)
   pub records : List (List Field)

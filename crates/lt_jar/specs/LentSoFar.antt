@@ -7,7 +7,8 @@ use Rattle.lt_jar.specs.Lending.{AreEnded, IsSound}
 use Rattle.lt_jar.specs.Sources.{kept_in, lent_by, line_of_kept}
 use Rattle.lt_jar.specs.declared.sources.JarSource.{JarSource}
 
--- these records were lent of the bytes that were read: whole lines that are them, with which nothing is wrong, and the bytes that are kept
+-- these records were lent of the bytes that were read: whole lines that are them, with which nothing is wrong, and
+-- the bytes that are kept
 pub record HasLent (bytes : List ℕ) (records : List (List Field)) (s : JarSource) : Type 0 where
   pub lines : List (List ℕ)
   pub each : AllByRecursion IsOneLine lines

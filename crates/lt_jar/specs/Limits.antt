@@ -1,9 +1,10 @@
 -- How long a line may be, and how many records a text may have.
 use Rattle.std.specs.Prelude.{ℕ}
 
--- in bytes, with the carriage return and without the line feed
+-- the most bytes of a line, with the carriage return and without the line feed
 abbrev pub longest_line : ℕ
 longest_line = 65536
 
+-- the most records of a text
 abbrev pub most_records : ℕ
 most_records = 100000

@@ -30,6 +30,7 @@ abbrev pub name_at_front : List ℕ → List ℕ
 name_at_front [] = []
 name_at_front (byte ∷ rest) = if is_name_byte byte then byte ∷ name_at_front rest else []
 
+-- what a line can be (RFC 5646, 3.1.1)
 pub data Line : Type 0 where
   -- nothing, or spaces and tabs alone: skipped
   Blank : Line
@@ -58,6 +59,7 @@ is_separator [] = false
 is_separator (a ∷ []) = false
 is_separator (a ∷ b ∷ rest) = (a == 37) && ((b == 37) && list_all is_blank rest)
 
+-- a space or a tab comes first
 abbrev pub begins_blank : List ℕ → Bool
 begins_blank [] = false
 begins_blank (byte ∷ rest) = is_blank byte

@@ -8,7 +8,8 @@ abbrev pub begin_first : ℕ → List (List ℕ) → List (List ℕ)
 begin_first byte [] = (byte ∷ []) ∷ []
 begin_first byte (line ∷ lines) = (byte ∷ line) ∷ lines
 
--- the lines of a text, without the line feeds (10) that end them; what follows the last line feed is a line if it is anything
+-- the lines of a text, without the line feeds (10) that end them; what follows the last line feed is a line if it
+-- is anything
 abbrev pub lines_of : List ℕ → List (List ℕ)
 lines_of [] = []
 lines_of (byte ∷ text) = if byte == 10 then [] ∷ lines_of text else begin_first byte (lines_of text)
@@ -21,7 +22,8 @@ content_of line = strip_last 13 line
 abbrev pub IsOneLine : List ℕ → Type 0
 IsOneLine text = All (λ byte. byte ≢ 10) text
 
--- it holds of the whole text, of which these bytes are read: whatever bytes follow them, or of these where the text has ended
+-- it holds of the whole text, of which these bytes are read: whatever bytes follow them, or of these where the text
+-- has ended
 abbrev pub HoldsOfWhole : (List ℕ → Type 0) → Type 0 → List ℕ → Type 0
 HoldsOfWhole P ended bytes = ((more : List ℕ) → P (bytes ++ more)) ⊎ (ended × P bytes)
 

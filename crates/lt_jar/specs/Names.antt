@@ -3,6 +3,7 @@ use Rattle.std.specs.Prelude.{ℕ, List, codes}
 use Rattle.lt_jar.specs.declared.faults.JarFaultKind.{JarFaultKind}
 use Rattle.lt_jar.specs.declared.faults.JarFaultKind.TheVariants as kinds
 
+-- the name of a kind of fault
 abbrev pub name_of : JarFaultKind → List ℕ
 name_of kinds.LineTooLong = codes "LineTooLong"
 name_of kinds.NotUtf8 = codes "NotUtf8"

@@ -82,7 +82,8 @@ TakesPiece old new piece (Ok None) = TakesAll old new piece
 TakesPiece old new piece (Ok (Some rest)) = TakesRecord old new piece rest.now
 TakesPiece old new piece (Err kind) = StopsAt old new piece kind
 
--- bytes without a line feed went after those of the line that goes on. Of a line whose end is not read it is reported alone that it is too long, or that memory ran out.
+-- bytes without a line feed went after those of the line that goes on. Of a line whose end is not read it is
+-- reported alone that it is too long, or that memory ran out.
 abbrev pub KeepsBytes : Engine → Engine → List ℕ → Result (Unit {0}) JarFaultKind → Type 0
 KeepsBytes old new rest (Ok x) = new.partial.items ≡ old.partial.items ++ rest
 KeepsBytes old new rest (Err kind) =
@@ -94,6 +95,7 @@ abbrev pub last_line : List ℕ → List (List ℕ)
 last_line [] = []
 last_line (byte ∷ line) = (byte ∷ line) ∷ []
 
+-- the engine took the end of the text, and a record ends there, or none
 pub record Finishes (old new : Engine) (some : Bool) : Type 0 where
   pub going : Going
   pub ran : steps old.ended (going_on (fields_in old)) (last_line old.partial.items) ≡ Ok going
@@ -112,6 +114,7 @@ pub record StopsAtLast (old new : Engine) (kind : JarFaultKind) : Type 0 where
   pub ended : new.ended ≡ old.ended
   pub begun : IsOneLine new.partial.items
 
+-- what the engine did with the end of the text
 abbrev pub FinishesOr : Engine → Engine → Result Bool JarFaultKind → Type 0
 FinishesOr old new (Ok some) = Finishes old new some
 FinishesOr old new (Err kind) = StopsAtLast old new kind

@@ -24,14 +24,17 @@ with_text text [] = []
 with_text text (field ∷ []) = (field.0, lengthened field.1 text) ∷ []
 with_text text (field ∷ next ∷ fields) = field ∷ with_text text (next ∷ fields)
 
+-- a separator ends the record, if it has a field
 abbrev pub separated : List Field → Taken
 separated [] = GoesOn []
 separated (field ∷ fields) = Ends (field ∷ fields)
 
+-- a continuation goes on with the last field, if there is one
 abbrev pub continued : List ℕ → List Field → Result Taken Fault
 continued text [] = Err LeadingContinuation
 continued text (field ∷ fields) = Ok (GoesOn (with_text text (field ∷ fields)))
 
+-- a field more; the first of a record begins it, if there is room for one more
 abbrev pub started : ℕ → Field → List Field → Result Taken Fault
 started ended new [] = if nat_lt ended most_records then Ok (GoesOn (new ∷ [])) else Err TooManyRecords
 started ended new (field ∷ fields) = Ok (GoesOn ((field ∷ fields) ++ new ∷ []))
@@ -44,6 +47,7 @@ take_kind ended fields (Continuation text) = continued text fields
 take_kind ended fields (Start name body) = started ended (name, body) fields
 take_kind ended fields Bad = Err BadLine
 
+-- a line, after this many records that have ended
 abbrev pub take_line : ℕ → List Field → List ℕ → Result Taken Fault
 take_line ended fields line =
     if nat_lt longest_line (length line) then Err LineTooLong else (if is_utf8 line then take_kind ended fields (line_of line) else Err NotUtf8)
@@ -53,13 +57,16 @@ pub record Going : Type 0 where
   pub records : List (List Field)
   pub fields : List Field
 
+-- nothing is read
 abbrev pub start : Going
 start = record { records = []; fields = [] }
 
+-- a line more, by what it made of the fields
 abbrev pub with_taken : Going → Taken → Going
 with_taken going (GoesOn fields) = record { records = going.records; fields = fields }
 with_taken going (Ends fields) = record { records = going.records ++ fields ∷ []; fields = [] }
 
+-- the same, or the fault of the line
 abbrev pub on_taken : Going → Result Taken Fault → Result Going Fault
 on_taken going (Ok taken) = Ok (with_taken going taken)
 on_taken going (Err fault) = Err fault

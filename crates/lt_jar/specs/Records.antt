@@ -16,6 +16,7 @@ pub record Written : Type 0 where
   pub first : List ℕ
   pub more : List (List ℕ)
 
+-- the text has a byte
 abbrev pub is_something : List ℕ → Bool
 is_something [] = false
 is_something (byte ∷ text) = true
@@ -30,6 +31,7 @@ joined (text ∷ next ∷ rest) = text ++ 32 ∷ joined (next ∷ rest)
 abbrev pub field_of : Written → Field
 field_of f = (f.name, joined (filter is_something (f.first ∷ f.more)))
 
+-- the lines of a field: the one that begins it, and its continuation lines
 abbrev pub lines_of_field : Written → List Line
 lines_of_field f = Start f.name f.first ∷ map Continuation f.more
 
@@ -41,6 +43,7 @@ lines_of_group group = flat_map lines_of_field group
 abbrev pub lines_of_ended : List Written → List Line
 lines_of_ended group = lines_of_group group ++ Separator ∷ []
 
+-- the line is not blank
 abbrev pub is_shown : Line → Bool
 is_shown Blank = false
 is_shown line = true
@@ -49,14 +52,17 @@ is_shown line = true
 abbrev pub shown : List (List ℕ) → List Line
 shown lines = filter is_shown (map line_of lines)
 
+-- the group has a field
 abbrev pub has_field : List Written → Bool
 has_field [] = false
 has_field (field ∷ group) = true
 
+-- the fields of a group
 abbrev pub record_of : List Written → List Field
 record_of group = map field_of group
 
--- the text has these records: but for blank lines, its lines are groups of fields with separators between them, and each group with a field in it is a record
+-- the text has these records: but for blank lines, its lines are groups of fields with separators between them, and
+-- each group with a field in it is a record
 pub record HasRecords (text : List ℕ) (records : List (List Field)) : Type 0 where
   pub ended : List (List Written)
   pub last : List Written

@@ -66,7 +66,7 @@ TakesUnread old new (Ok true) = TakesRecord old.engine new.engine (unread_in old
 TakesUnread old new (Ok false) = TakesAll old.engine new.engine (unread_in old) × (new.start ≡ new.end)
 TakesUnread old new (Err kind) = StopsAt old.engine new.engine (unread_in old) kind
 
--- one read more
+-- what it did, by its answer: bytes, the end, or why there are none
 abbrev pub FillsAs : {R : Type 0} → (R → Option (List ℕ)) → (old new : JarSource) → (before after : Device R) → List ℕ → ℕ → Result Bool JarFaultKind → Type 0
 FillsAs remaining old new before after read reads (Ok true) = (unread_in new ≡ read) × (0 < length read) × (reads ≡ 1) × (failures_of after ≡ failures_of before) × (0 < last_given_of after)
 FillsAs remaining old new before after read reads (Ok false) =
@@ -74,6 +74,7 @@ FillsAs remaining old new before after read reads (Ok false) =
 FillsAs remaining old new before after read reads (Err kind) =
     (read ≡ []) × (((kind ≡ kinds.Read) × HasFailed before after) ⊎ ((kind ≡ kinds.TooManyTurns) × (failures_of after ≡ failures_of before) × (new.turns ≡ most_reads) × (reads ≡ 0) × (last_given_of after ≡ last_given_of before)))
 
+-- what one read more did
 pub record Fills {R : Type 0} (remaining : R → Option (List ℕ)) (old new : JarSource) (before after : Device R) (result : Result Bool JarFaultKind) : Type 0 where
   pub read : List ℕ
   pub reads : ℕ
@@ -96,11 +97,13 @@ pub record Finishes (old new : JarSource) (some : Bool) : Type 0 where
   pub turns : new.turns ≡ old.turns
   pub status : new.status ≡ state.Ended
 
+-- what the end of the text did: a last record, or none, or the last line is wrong
 abbrev pub Finished : JarSource → JarSource → Result Bool JarFaultKind → Type 0
 Finished old new (Ok some) = Finishes old new some
 Finished old new (Err kind) = StopsAtLast old.engine new.engine kind × (new.turns ≡ old.turns)
 
--- A record was lent, which a separator ends: the kept bytes and those that were read are the lines up to its end, and the bytes that are kept now.
+-- A record was lent, which a separator ends: the kept bytes and those that were read are the lines up to its end,
+-- and the bytes that are kept now.
 pub record LendsEnded {R : Type 0} (old new : JarSource) (before after : Device R) (read : List ℕ) (reads : ℕ) : Type 0 where
   pub lines : List (List ℕ)
   pub cuts : CutsRecord (lent_by old) (kept_in old ++ read) (record_in new) lines (kept_in new)
@@ -129,6 +132,7 @@ pub record Stops {R : Type 0} (remaining : R → Option (List ℕ)) (old new : J
       × ((number : ℕ) × IsCutShort (lent_by old) (kept_in old ++ read) number × (line_of_kept new + 1 ≡ line_of_kept old + number))
   pub first : kind ≢ kinds.Failed
 
+-- how a call that went on reading ended: with a record, with none, or with a fault
 abbrev pub EndsAs : {R : Type 0} → (R → Option (List ℕ)) → (old new : JarSource) → (before after : Device R) → List ℕ → ℕ → Result Bool JarFaultKind → Type 0
 EndsAs remaining old new before after read reads (Ok true) =
     (lent_by new ≡ lent_by old + 1) × (LendsEnded old new before after read reads ⊎ LendsLast remaining old new after read (record_in new ∷ []))
@@ -144,6 +148,7 @@ pub record ReadsRecord {R : Type 0} (remaining : R → Option (List ℕ)) (old n
   pub rises : failures_of before < failures_of after → result ≡ Err kinds.Read
   pub works : result ≢ Err kinds.Read → failures_of after ≡ failures_of before
 
+-- the answer, without the line of a fault
 abbrev pub without_line : Result Bool JarFault → Result Bool JarFaultKind
 without_line (Ok some) = Ok some
 without_line (Err fault) = Err fault.kind

@@ -12,6 +12,7 @@ use Rattle.lt_jar.specs.declared.lines.LineKind.TheVariants as kinds
 use Rattle.lt_jar.specs.declared.drafts.Progress.{Progress}
 use Rattle.lt_jar.specs.declared.drafts.Progress.TheVariants as progress
 
+-- what a line is, by its texts
 abbrev pub line_in : LineKind → lines.Line
 line_in kinds.Blank = lines.Blank
 line_in kinds.Separator = lines.Separator
@@ -40,6 +41,7 @@ IsFaultOf text said = ((fault : faults.Fault) × (fault_in said.kind ≡ Some fa
 abbrev pub IsSaid : {A : Type 0} → JarFaultKind → Result A faults.Fault → Type 0
 IsSaid kind said = (kind ≡ OutOfMemory) ⊎ ((fault : faults.Fault) × (fault_in kind ≡ Some fault) × (said ≡ Err fault))
 
+-- what a line made of the record, which has these fields now
 abbrev pub taken_in : Progress → List Field → reading.Taken
 taken_in progress.GoesOn fields = reading.GoesOn fields
 taken_in progress.Ends fields = reading.Ends fields

@@ -7,9 +7,10 @@ ghost use Rattle.lt_jar.specs.Devices.{HasFailed, failures_after_read, failures_
 use crate::calls::{Reads, Writes};
 use std::io::{self, Read, Write};
 
-/// A reader or a writer that is read and written through this value alone, and how often it failed.
+/// A reader or a writer that is read and written through this value alone, and how often it failed: of a slice
+/// of bytes `Device::new(bytes)`.
 ///
-/// A device failed in a call where its count of failures rose, or is at its greatest value.
+/// A device failed in a call where its count of failures rose, or is at its greatest value, 2^64 - 1.
 #[derive(Drop)]
 pub struct Device<T> {
     inner: T,

@@ -48,7 +48,7 @@ impl Draft {
         &self.fields
     }
 
-    /// Lets the fields go.
+    /// Drops the fields.
     pub(crate) fn clear(&mut self)
         ensures { self.new.fields.items ≡ [] }
     {

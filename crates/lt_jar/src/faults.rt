@@ -1,4 +1,4 @@
-//! Why a text is no jar.
+//! Why a text gives no records.
 ghost use Rattle.std.specs.Prelude.{◌≡◌};
 ghost use Rattle.lt_jar.specs.Names.{name_of};
 ghost use Rattle.lt_jar.specs.declared.faults.JarFaultKind.TheVariants as kinds;
@@ -6,18 +6,19 @@ ghost use Rattle.lt_jar.specs.declared.faults.JarFaultKind.TheVariants as kinds;
 use std::alloc::{AllocError, AllocFailed};
 use thiserror::Error;
 
-/// What is wrong with a line, or why it was not read. Of several, the first of this list is answered.
+/// What is wrong with a line, or why it was not read. Of several things that are wrong with one line the first
+/// in this order is answered; `OutOfMemory`, `Read` and `TooManyTurns` come when they happen.
 #[derive(Clone, Copy, Debug, PartialEq, Eq)]
 pub enum JarFaultKind {
-    /// It has more than 65,536 bytes, the carriage return counted and the line feed not.
+    /// The line has more than 65,536 bytes, the carriage return counted and the line feed not.
     LineTooLong,
-    /// It is no UTF-8.
+    /// The line is no UTF-8.
     NotUtf8,
-    /// It continues a field, and its record has none.
+    /// The line continues a field, and its record has none yet.
     LeadingContinuation,
-    /// It is not blank, and neither `%%`, nor a field, nor a continuation.
+    /// The line is not blank, and neither `%%`, nor a field, nor a continuation (RFC 5646, 3.1.1).
     BadLine,
-    /// It begins record 100,001.
+    /// The line begins record 100,001.
     TooManyRecords,
     /// A growth of memory was refused.
     OutOfMemory,
@@ -25,12 +26,12 @@ pub enum JarFaultKind {
     Read,
     /// 10,000,000 reads were made, and the last of them gave bytes.
     TooManyTurns,
-    /// There was a fault before.
+    /// There was a fault before, whose line this is.
     Failed,
 }
 
 impl JarFaultKind {
-    /// The kind's name, as it is written here.
+    /// The kind's name, as it is written here: `BadLine`.
     pub fn name(self) -> &'static str
         ensures { result.now ≡ name_of self }
     {
@@ -64,11 +65,13 @@ impl<T: Drop> From<AllocFailed<T>> for JarFaultKind {
     }
 }
 
-/// What is wrong with a text, and at which line.
+/// What is wrong with a text, and at which line. It is printed as `BadLine in line 3`.
 #[derive(Clone, Copy, Debug, Drop, Error, PartialEq, Eq)]
 #[error("{kind:?} in line {line}")]
 pub struct JarFault {
+    /// What is wrong.
     pub kind: JarFaultKind,
-    /// The line's number, counted from 1.
+    /// The number of the line, counted from 1; for a refusal of memory or a failed read that of the line that
+    /// was being read.
     pub line: u64,
 }

@@ -3,10 +3,13 @@ ghost use Rattle.std.specs.Prelude.{◌≡◌};
 
 use std::marker::Model;
 
-/// A field: its name, and its body. A contract sees the pair of their bytes.
+/// A field: its name, and its body, as `Type` and `language` of the line `Type: language`. A contract sees the
+/// pair of their bytes.
 #[derive(Debug, Drop)]
 pub struct JarField {
+    /// The name, in the case in which the text has it.
     pub name: String,
+    /// The body, with its continuation lines joined to it by single spaces.
     pub body: String,
 }
 
@@ -38,6 +41,7 @@ impl JarField {
 /// A record: its fields, in the order of the text. A contract sees the list of them.
 #[derive(Debug, Drop)]
 pub struct Record {
+    /// The fields.
     pub fields: Vec<JarField>,
 }
 
@@ -62,6 +66,7 @@ impl Record {
 /// The records of a text, in its order. A contract sees the list of them.
 #[derive(Debug, Drop)]
 pub struct Jar {
+    /// The records.
     pub records: Vec<Record>,
 }
 
@@ -75,7 +80,7 @@ impl Model for Jar {
 }
 
 impl Jar {
-    /// The records. `read_jar` gives at most 100,000.
+    /// The records, the header among them. `read_jar` gives at most 100,000.
     pub fn records(&self) -> &[Record]
         ensures { result.now ≡ self.now }
     {

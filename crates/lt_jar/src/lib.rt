@@ -1,4 +1,5 @@
-//! The record-jar format, in which the IANA Language Subtag Registry is kept (RFC 5646, 3.1.1).
+//! The record-jar format, in which the IANA Language Subtag Registry is kept (RFC 5646, 3.1.1): a whole text,
+//! or a device record by record. A program that reads a registry begins with the crate `bcp47`.
 #![tactic(auto)]
 
 mod calls;

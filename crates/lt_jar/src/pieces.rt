@@ -9,7 +9,7 @@ ghost use Rattle.lt_jar.specs.TestDevices.{IsUnread, IsUnwritten, ReadFails, Wri
 use std::alloc::Global;
 use std::io::{self, ErrorKind, Read, Write};
 
-/// A reader that gives bytes in pieces, once or again and again, and may fail at one call.
+/// A reader for tests that gives bytes in pieces, once or again and again, and may fail at one call.
 #[derive(Drop)]
 pub struct Pieces<'a> {
     bytes: &'a [u8],
@@ -104,7 +104,7 @@ impl Read for Pieces<'_> {
     }
 }
 
-/// A writer that takes this many bytes in a call and keeps them, and may fail at one call.
+/// A writer for tests that takes at most a number of bytes in a call, keeps them, and may fail at one call.
 #[derive(Drop)]
 pub struct Takes {
     taken: Vec<u8>,
@@ -115,7 +115,7 @@ pub struct Takes {
 }
 
 impl Takes {
-    /// A writer that takes this many bytes in a call.
+    /// A writer that takes at most this many bytes in a call.
     pub fn new(alloc: Global, piece: usize) -> Takes
         ensures { IsUnwritten result piece }
     {

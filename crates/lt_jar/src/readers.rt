@@ -8,7 +8,7 @@ use crate::sources::JarSource;
 use std::alloc::Global;
 use std::io::Read;
 
-/// A record, in its reader's buffer.
+/// A record, in its reader's buffer. A new call of the reader ends it.
 #[derive(Clone, Copy)]
 pub struct RecordRef<'a> {
     fields: &'a [JarField],
@@ -30,7 +30,7 @@ impl<'a> RecordRef<'a> {
         fields
     }
 
-    /// The name of the field after `i` others, in the case in which the text has it.
+    /// The name of the field at an index, counted from 0, in the case in which the text has it.
     pub fn name(&self, i: usize) -> &'a str
         requires { i < length self.now.fields.now }
         ensures { IfSome (slice_get self.now.fields.now i) (λ field. result.now ≡ field.0) }
@@ -38,8 +38,8 @@ impl<'a> RecordRef<'a> {
         self.fields[i].name()
     }
 
-    /// The body of the field after `i` others, with its continuation lines joined to it by
-    /// single spaces.
+    /// The body of the field at an index, counted from 0, with its continuation lines joined to it by single
+    /// spaces.
     pub fn body(&self, i: usize) -> &'a str
         requires { i < length self.now.fields.now }
         ensures { IfSome (slice_get self.now.fields.now i) (λ field. result.now ≡ field.1) }
@@ -79,13 +79,13 @@ impl<'d, R: Read> JarReader<'d, R, JarSource> {
         })
     }
 
-    /// The next record, until the next call. After the last there is none.
+    /// The next record, which is there until the next call. After the last there is none.
     ///
-    /// A line has at most 65,536 bytes, a text at most 100,000 records. The lowest line at which
-    /// anything is wrong is answered, and there the first of `JarFaultKind`. `Read` comes where a
-    /// read fails, `TooManyTurns` where all 10,000,000 reads were made and the last gave bytes, and
-    /// `OutOfMemory`, each with the line that was being read. After a fault the answer is `Failed`,
-    /// with that fault's line.
+    /// A line has at most 65,536 bytes, a text at most 100,000 records. The lowest line at which anything is
+    /// wrong is answered, and there the first of `JarFaultKind`. `Read` comes where a read fails,
+    /// `TooManyTurns` where all 10,000,000 reads were made and the last gave bytes, and `OutOfMemory` where
+    /// memory runs out, each with the line that was being read. After a fault the answer is `Failed`, with that
+    /// fault's line.
     pub fn next<'a>(&'a mut self) -> Result<Option<RecordRef<'a>>, JarFault>
         ensures* ends { sem 𝓛 (LendsAs R.row R.remaining self.entry result) }
     {

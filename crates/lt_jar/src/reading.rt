@@ -33,11 +33,12 @@ fn push_record(
     }
 }
 
-/// Reads a text in the record-jar format (RFC 5646, 3.1.1).
+/// Reads a text in the record-jar format (RFC 5646, 3.1.1): its records in order, the header among them. The
+/// texts of two records are parted by a line `%%`.
 ///
-/// A line has at most 65,536 bytes, a text at most 100,000 records. The lowest line at which
-/// anything is wrong is answered, and there the first of `JarFaultKind`. OutOfMemory comes with
-/// the line that was being read.
+/// A line has at most 65,536 bytes, a text at most 100,000 records. The lowest line at which anything is wrong
+/// is answered, and there the first of `JarFaultKind`: a line feed ends a line, and lines are counted from 1.
+/// `OutOfMemory` comes with the line that was being read.
 pub fn read_jar(alloc: Global, text: &[u8]) -> Result<Jar, JarFault>
     ensures records { IfOk result (HasRecords text.now) }
     ensures within { IfOk result (IsWithin text.now) }

@@ -4,11 +4,12 @@ use Rattle.std.proofs.lemmas.Bool.{eqb-true}
 use Rattle.std.proofs.lemmas.Bool.Decides.{leb_tells}
 use Rattle.std.proofs.lemmas.List.{take_all, length-take-le}
 use Rattle.std.specs.Io.BufRead.{ends_with_byte}
+use Rattle.std.specs.List.{onto_first}
 use Rattle.lt_subtag.specs.Reading.{subtag_of}
 use Rattle.lt_subtag.specs.declared.SubtagFault.{SubtagFault}
 use Rattle.lt_subtag.specs.declared.SubtagFault.TheVariants as faults
-use Rattle.lt_tag.specs.Faults.{HasList, IsFault, longest_text}
-use Rattle.lt_tag.specs.Lists.{onto_first, pieces}
+use Rattle.lt_tag.specs.Faults.{HasList, IsFault}
+use Rattle.lt_tag.specs.Lists.{pieces, longest_text}
 use Rattle.lt_tag.specs.declared.faults.TagFaultKind.{TagFaultKind}
 use Rattle.lt_tag.specs.declared.faults.TagFaultKind.TheVariants as kinds
 use Rattle.lt_tag.proofs.OneTagLemmas.{text_of_tag}

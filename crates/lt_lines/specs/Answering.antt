@@ -76,6 +76,7 @@ abbrev pub IsRight : List EntryParts → LineForm → Kept → Type 0
 IsRight R forms.Tag kept = IsTextReply R kept.line (reply kept.answer kept.refused)
 IsRight R (forms.Row before) kept = IsCanonicalTextOf R kept.line kept.answer
 
+-- what a place has, if it has something, is right
 abbrev pub IsRecent : Terms → Option Kept → Type 0
 IsRecent T None = Unit {0}
 IsRecent T (Some kept) = IsRight T.entries T.form kept

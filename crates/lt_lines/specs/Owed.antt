@@ -17,6 +17,7 @@ pub record Terms : Type 0 where
   pub entries : List EntryParts
   pub form : LineForm
 
+-- those of these entries and this form
 abbrev pub terms : List EntryParts → LineForm → Terms
 terms entries form = record { entries = entries; form = form }
 
@@ -25,6 +26,7 @@ pub record Reply : Type 0 where
   pub bytes : List ℕ
   pub refused : Bool
 
+-- the answer of these bytes
 abbrev pub reply : List ℕ → Bool → Reply
 reply bytes refused = record { bytes = bytes; refused = refused }
 
@@ -103,6 +105,7 @@ abbrev pub IsReplyIn : List EntryParts → LineForm → List ℕ → Reply → T
 IsReplyIn R forms.Tag line r = IsTextReply R (content_of line) r
 IsReplyIn R (forms.Row before) line r = IsRowReply R before line r
 
+-- the same by what lines are answered by
 abbrev pub IsReplyTo : Terms → List ℕ → Reply → Type 0
 IsReplyTo T line r = IsReplyIn T.entries T.form line r
 

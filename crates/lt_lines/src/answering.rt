@@ -81,8 +81,8 @@ fn append_reply<L: Lookup>(
     }
 }
 
-/// Appends what is owed for the line that is kept and goes on with the first `count` bytes of a text, and tells whether it
-/// was refused.
+/// Appends what is owed for the line that is kept and goes on with the first `count` bytes of a text, and tells
+/// whether it was refused.
 fn append_line<L: Lookup>(
     lines: &mut Vec<u8>,
     alloc: Global,

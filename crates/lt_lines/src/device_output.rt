@@ -5,7 +5,8 @@ use crate::faults::ToolFault;
 use lt_jar::Device;
 use std::io::Write;
 
-/// Writes a text, up to the first write that fails.
+/// Writes a text, up to the first write that fails or takes none of some bytes: then the answer is `Write`, and
+/// a front of the text was written.
 pub fn write_text<W: Write>(text: &[u8], output: &mut Device<W>) -> Result<(), ToolFault>
     ensures { WritesText W.contents text.now output.old output.new result }
 {

@@ -20,7 +20,7 @@ pub enum ToolFault {
 }
 
 impl ToolFault {
-    /// The fault's name, as it is written here.
+    /// The fault's name, as it is written here: `Read`.
     pub fn name(self) -> &'static str
         ensures { result.now ≡ tool_name_of self }
     {
@@ -34,7 +34,7 @@ impl ToolFault {
 }
 
 impl ToolFault {
-    /// The line that says what ended the run.
+    /// The line that says what ended the run: `! Read`, with a line feed.
     pub fn line(self) -> &'static str
         ensures { result.now ≡ fault_said self }
     {

@@ -3,8 +3,8 @@
 /// What each line of a run is, and so how it is answered.
 #[derive(Clone, Copy, Debug, PartialEq, Eq)]
 pub enum LineForm {
-    /// A tag; a carriage return that ends the line is no part of it. It is answered by its canonical text, or by `! ` and
-    /// why it is refused.
+    /// A tag; a carriage return that ends the line is no part of it. It is answered by its canonical text, or
+    /// by `! ` and why it is refused: `zh-yue` by `yue`, and `en_US` by `! BadByte 1`.
     Tag,
     /// A row of fields with a tab between them, the one after this many fields a tag; a carriage return that ends the
     /// line is no part of its last field. It is answered by the row with the tag's canonical text in its place, and one

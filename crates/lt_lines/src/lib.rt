@@ -1,4 +1,5 @@
-//! Answers to the lines of a reader, each a tag or a row with a tag in one field: the canonical text, or why it is refused.
+//! Answers to the lines of a reader, each a tag or a row with a tag in one field: the canonical text, or why it
+//! is refused. A program that handles tags one by one begins with the crate `bcp47`.
 #![tactic(auto)]
 
 mod answer_lines;

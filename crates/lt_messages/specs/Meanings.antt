@@ -26,6 +26,14 @@ tag_faults =
     codes "NoColumn: The row has too few fields (tsv): name another column, or mend the row." ∷
     []
 
+-- lines that explain no tag
+abbrev pub explanation_faults : List (List ℕ)
+explanation_faults =
+    codes "NoSuchStep: The step of the line leads nowhere (verify): mend the line, or name the registry by which the tag was explained." ∷
+    codes "WrongEnd: The line of the end has another tag than the steps lead to (verify): mend the line, or the steps." ∷
+    codes "BadStep: The line is that of no step, has another tag than its step leads to, is missing, or stands behind the end (verify): mend it." ∷
+    []
+
 -- a file that is no registry
 abbrev pub file_faults : List (List ℕ)
 file_faults =
@@ -84,13 +92,14 @@ stream_faults =
     codes "OutOfMemory: No memory was left: end other programs, or use a larger machine." ∷
     []
 
+-- all messages, in the order in which they are looked through
 abbrev pub messages : List (List ℕ)
-messages = tag_faults ++ file_faults ++ record_faults ++ conditions ++ stream_faults
+messages = tag_faults ++ explanation_faults ++ file_faults ++ record_faults ++ conditions ++ stream_faults
 
 -- whether a message is that of the fault that a word names
 abbrev pub is_of : (message word : List ℕ) → Bool
 is_of message word = starts_with nat_eq message word && starts_with nat_eq (drop (length word) message) (codes ": ")
 
 -- what a person is told of the fault that a word names; nothing of a word that names none
-abbrev pub message_of : List ℕ → Option (List ℕ)
+unfoldable pub message_of : List ℕ → Option (List ℕ)
 message_of word = find (λ message. is_of message word) messages

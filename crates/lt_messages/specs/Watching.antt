@@ -3,12 +3,14 @@ use Rattle.std.specs.Prelude.{ℕ, ◌==◌, ◌&&◌, if◌then◌else◌, Bool
 use Rattle.std.specs.Fmt.{decimal}
 use Rattle.lt_messages.specs.Sights.{Seen, seen_of}
 
+-- the messages are equal, or there is none on either side
 abbrev pub same_message : Option (List ℕ) → Option (List ℕ) → Bool
 same_message None None = true
 same_message None (Some other) = false
 same_message (Some message) None = false
 same_message (Some message) (Some other) = bytes_eq message other
 
+-- the same was seen
 abbrev pub same_seen : Seen → Seen → Bool
 same_seen a b =
     a.lines == b.lines && a.refused == b.refused && same_message a.first b.first && same_message a.told b.told && bytes_eq a.word b.word
@@ -27,10 +29,11 @@ abbrev pub message_line : Option (List ℕ) → List ℕ
 message_line None = []
 message_line (Some message) = message ++ 10 ∷ []
 
+-- the report on what was seen: the line of the counts, and the message
 abbrev pub report_of : Seen → List ℕ
 report_of s = summary_line s ++ message_line s.first
 
--- what is left of a report, of which so many bytes were given
+-- what is left of a report, of which this many bytes were given
 abbrev pub report_left : Seen → ℕ → Option (List ℕ)
 report_left s given = Some (drop given (report_of s))
 

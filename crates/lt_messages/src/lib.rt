@@ -1,4 +1,5 @@
-//! What a person is told at a terminal beside what the program prints.
+//! What a person is told at a terminal besides what the program `langtag` prints. A program of your own begins
+//! with the crate `bcp47`, whose errors say what is wrong by `{}`.
 #![tactic(auto)]
 
 mod meanings;

@@ -3,7 +3,7 @@ ghost use Rattle.std.specs.Prelude.{◌≡◌, find, map, option_map};
 ghost use Rattle.lt_messages.specs.Meanings as spec;
 
 /// A message for each name that is printed: the name, a colon, a space, what it means, and what to do.
-const MESSAGES: [&str; 57] = [
+const MESSAGES: [&str; 60] = [
     "BadByte: A byte that is no ASCII letter, digit or hyphen: write zh-Hant for zh_Hant; remove quotes, spaces, a byte order mark.",
     "EmptySubtag: Nothing between two hyphens, or an empty text: remove a hyphen too many, or the empty line.",
     "LongSubtag: A subtag of more than 8 letters and digits: put a hyphen where subtags meet.",
@@ -23,6 +23,9 @@ const MESSAGES: [&str; 57] = [
     "BadTransform: A t extension without its form: mend it: a language, and fields such as m0-names.",
     "ReplacementRepeats: Replacements would repeat the variant that is named: remove one of the variants.",
     "NoColumn: The row has too few fields (tsv): name another column, or mend the row.",
+    "NoSuchStep: The step of the line leads nowhere (verify): mend the line, or name the registry by which the tag was explained.",
+    "WrongEnd: The line of the end has another tag than the steps lead to (verify): mend the line, or the steps.",
+    "BadStep: The line is that of no step, has another tag than its step leads to, is missing, or stands behind the end (verify): mend it.",
     "BadLine: Neither a field, %%, nor a continuation. This is no registry, or not its plain text: get one from https://www.iana.org/assignments/language-subtag-registry/language-subtag-registry, or remove a byte order mark.",
     "NotUtf8: A line that is not UTF-8: convert the file, or unpack it.",
     "LineTooLong: A line of more than 65,536 bytes: it is no registry, or its line feeds are missing.",
@@ -89,7 +92,9 @@ fn first_of(messages: &[&'static str], word: &[u8]) -> Option<&'static str>
     None
 }
 
-/// What a person is told of the fault that a word names; nothing of a word that names none.
+/// What a person is told of the fault that a word names, as `BadByte` or `C2`: the word, what it means, and
+/// what to do. Nothing of a word that names none.
+#[tactic(auto, unfolding(crate::specs::Meanings::message_of))]
 pub fn message_of(word: &[u8]) -> Option<&'static str>
     ensures { option_map (λ message. message.now) result ≡ spec.message_of word.now }
 {

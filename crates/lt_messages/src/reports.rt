@@ -27,7 +27,7 @@ pub(crate) fn report_of(alloc: Global, sight: &Sight) -> Result<Vec<u8>, AllocEr
     Ok(report)
 }
 
-/// A text without its first line.
+/// A text without its first line: what is after its first line feed, or nothing where there is none.
 pub fn behind_line(text: &[u8]) -> &[u8]
     ensures { result.now ≡ spec.behind_line text.now }
 {

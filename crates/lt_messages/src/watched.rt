@@ -13,8 +13,11 @@ use std::io::{self, Read, Write};
 /// A writer, and what is seen of the bytes that it took. What it reports of them is read from it.
 #[derive(Drop)]
 pub struct Watched<W> {
+    /// The writer.
     pub inner: W,
+    /// What was seen of the bytes that it took.
     pub sight: Sight,
+    /// Where the memory for the report comes from.
     pub alloc: Global,
     /// How many bytes of the report were given.
     pub given: usize,

@@ -6,16 +6,16 @@ use Rattle.lt_jar.specs.declared.devices.Device.{Device}
 use Rattle.lt_messages.specs.Sights.{seen_of, unseen}
 use Rattle.lt_messages.specs.Watching.{behind_line, report_of}
 use Rattle.lt_messages.specs.declared.watched.Watched.{Watched}
-use Rattle.lt_words.specs.Reading.{reads_input_of}
+use Rattle.lt_words.specs.Reading.{answers_lines_of}
 use Rattle.lt_words.specs.declared.commands.Command.{Command}
 use Rattle.lt_words.specs.declared.faults.WordsFault.{WordsFault}
 use Rattle.lt_tool.specs.Program.{GivenWords, IsNew, IsProgramFault, NamesCommand, Opener, RunsProgram}
 use Rattle.lt_tool.specs.Streams.{IsUntouched, Stream, stream}
 use Rattle.lt_tool.specs.Written.{Says}
 
--- whether the command that the words name reads the input; nothing where they name none
+-- whether the command that the words name answers the lines of the input; nothing where they name none
 abbrev pub IsAsked : GivenWords → Option Bool → Type 0
-IsAsked words (Some reads) = (command : Command) × NamesCommand words command × (reads ≡ reads_input_of command)
+IsAsked words (Some answers) = (command : Command) × NamesCommand words command × (answers ≡ answers_lines_of command)
 IsAsked words None = (why : WordsFault) × IsProgramFault words why
 
 -- why a file could not be opened, if the errors mean that one could not
@@ -39,7 +39,7 @@ TellsOf counted refusal shown said lines =
 
 -- the lines are counted where all of them were answered
 abbrev pub are_counted : Bool → (result : ℕ) → Bool
-are_counted reads result = reads && nat_le result 1
+are_counted answers result = answers && nat_le result 1
 
 -- a person is told these lines, unless there is no memory for them
 pub record SaysLines {T : Type 0} (counted : Bool) (shown said : Option (List ℕ)) (people : Stream T) : Type 0 where
@@ -51,8 +51,8 @@ pub record SaysLines {T : Type 0} (counted : Bool) (shown said : Option (List �
 -- what a person is told after a run that ended so, where the words name a command
 abbrev pub Tells : {T : Type 0} → Option Bool → (result : ℕ) → (shown said : Option (List ℕ)) → Stream T → Type 0
 Tells None result shown said people = IsUntouched people
-Tells (Some reads) result shown said people =
-    IsUntouched people ⊎ SaysLines (are_counted reads result) shown said people
+Tells (Some answers) result shown said people =
+    IsUntouched people ⊎ SaysLines (are_counted answers result) shown said people
 
 -- a device whose writer is watched, and was not written so far
 pub record IsWatched {W : Type 0} (inner : W) (device : Device (Watched W)) : Type 0 where

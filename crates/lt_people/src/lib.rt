@@ -1,4 +1,5 @@
-//! A run of the program `langtag` for a person at a terminal.
+//! A run of the program `langtag` for a person at a terminal. A program of your own begins with the crate
+//! `bcp47`.
 #![tactic(auto)]
 
 mod openings;

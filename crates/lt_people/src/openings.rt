@@ -19,7 +19,8 @@ impl Openings {
         }
     }
 
-    /// Keeps why a file of this name can't be opened, if there is memory for it, and hands the answer on.
+    /// Keeps why a file of this name can't be opened, if the answer says so and there is memory for it, and
+    /// hands the answer on.
     pub fn kept<F>(&self, alloc: Global, name: &str, answer: io::Result<F>) -> io::Result<F>
         ensures { result ≡ answer }
     {

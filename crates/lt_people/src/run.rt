@@ -5,7 +5,7 @@ ghost use Rattle.lt_tool.specs.Program.{opener_of, texts_of};
 ghost use Rattle.lt_tool.specs.Streams.{stream};
 
 use crate::openings::Openings;
-use crate::telling::{reads_input, tell};
+use crate::telling::{answers_lines, tell};
 use lt_jar::Device;
 use lt_messages::Watched;
 use lt_tool::run_program;
@@ -39,14 +39,14 @@ pub fn run_for_people<
         ⟦<Watched<O> as Write>⟧.contents output ⟦<Watched<E> as Write>⟧.contents errors
         (stream T.contents people.old people.new) result }
 {
-    let reads_input = reads_input(alloc, &words);
+    let answers_lines = answers_lines(alloc, &words);
     let mut output = Device::new(Watched::new(alloc, output));
     let mut errors = Device::new(Watched::new(alloc, errors));
     let status = run_program(alloc, words, opener, input, &mut output, &mut errors);
     let refusal = openings.take().unwrap_or(String::new(alloc));
     tell(
         alloc,
-        reads_input,
+        answers_lines,
         status,
         refusal.as_str(),
         &mut output,

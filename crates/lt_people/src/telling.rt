@@ -14,13 +14,13 @@ use lt_tool::{Status, read_words};
 use std::alloc::{AllocError, Global};
 use std::io::{self, Read, Write};
 
-/// Whether the command that the words name reads the input; nothing where they name none.
-pub(crate) fn reads_input(alloc: Global, words: &io::Result<Vec<String>>) -> Option<bool>
+/// Whether the command that the words name answers the lines of the input; nothing where they name none.
+pub(crate) fn answers_lines(alloc: Global, words: &io::Result<Vec<String>>) -> Option<bool>
     ensures { IsAsked (texts_of words.now) result }
 {
     match words {
         Ok(words) => match read_words(alloc, words) {
-            Ok(command) => Some(command.reads_input()),
+            Ok(command) => Some(command.answers_lines()),
             Err(_) => None,
         },
         Err(_) => None,
@@ -74,10 +74,10 @@ fn lines_of<O: Write, E: Write>(
 }
 
 /// Whether the lines of a run that ended so are counted: all of them were answered.
-fn are_counted(reads_input: bool, status: u8) -> bool
-    ensures { result ≡ spec.are_counted reads_input status }
+fn are_counted(answers_lines: bool, status: u8) -> bool
+    ensures { result ≡ spec.are_counted answers_lines status }
 {
-    reads_input && status <= Status::Refused.code()
+    answers_lines && status <= Status::Refused.code()
 }
 
 /// Writes a text, up to the first write that fails, which the device counts.
@@ -90,19 +90,19 @@ fn say<T: Write>(text: &[u8], people: &mut Device<T>)
 /// Tells a person what a run that ended so wrote, if the words name a command and there is memory for it.
 pub(crate) fn tell<O: Write, E: Write, T: Write>(
     alloc: Global,
-    reads_input: Option<bool>,
+    answers_lines: Option<bool>,
     status: u8,
     refusal: &str,
     output: &mut Device<Watched<O>>,
     errors: &mut Device<Watched<E>>,
     people: &mut Device<T>,
 )
-    ensures { Tells reads_input status (⟦<Watched<O> as Write>⟧.contents (inner_of output.old)) (⟦<Watched<E> as Write>⟧.contents (inner_of errors.old)) (stream T.contents people.old people.new) }
+    ensures { Tells answers_lines status (⟦<Watched<O> as Write>⟧.contents (inner_of output.old)) (⟦<Watched<E> as Write>⟧.contents (inner_of errors.old)) (stream T.contents people.old people.new) }
 {
-    let Some(reads_input) = reads_input else {
+    let Some(answers_lines) = answers_lines else {
         return;
     };
-    let counted = are_counted(reads_input, status);
+    let counted = are_counted(answers_lines, status);
     if let Ok(lines) = lines_of(alloc, counted, refusal, output, errors) {
         say(&lines, people);
     }

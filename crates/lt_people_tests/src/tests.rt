@@ -137,7 +137,7 @@ fn runs_over_lines(rt: HostRuntime) {
 }
 
 /// Runs that answer one line.
-const SINGLE: [Run; 8] = [
+const SINGLE: [Run; 10] = [
     (
         &["classify", "EN"],
         "",
@@ -177,6 +177,22 @@ const SINGLE: [Run; 8] = [
         "different\n",
         "",
         "",
+        Status::Refused,
+    ),
+    (
+        &["verify", "new", "en"],
+        "= en\n",
+        "ok\n",
+        "",
+        "",
+        Status::Done,
+    ),
+    (
+        &["verify", "new", "en"],
+        "= fr\n",
+        "! WrongEnd\n",
+        "",
+        "WrongEnd: The line of the end has another tag than the steps lead to (verify): mend the line, or the steps.\n",
         Status::Refused,
     ),
     (
@@ -250,7 +266,7 @@ fn words_that_name_no_command(rt: HostRuntime) {
 }
 
 /// The names of faults that the program prints, and `ok 0`.
-const NAMES: [&str; 57] = [
+const NAMES: [&str; 60] = [
     "BadByte",
     "EmptySubtag",
     "LongSubtag",
@@ -270,6 +286,9 @@ const NAMES: [&str; 57] = [
     "BadTransform",
     "ReplacementRepeats",
     "NoColumn",
+    "NoSuchStep",
+    "WrongEnd",
+    "BadStep",
     "BadLine",
     "NotUtf8",
     "LineTooLong",

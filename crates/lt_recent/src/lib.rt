@@ -1,5 +1,6 @@
-//! A table of fixed size with the answers that were given lately: lines repeat, and an answer that is found is not
-//! worked out again. It holds what was put into it for just these bytes, or nothing.
+//! A table of fixed size with the answers that were given lately: lines repeat, and an answer that is found is
+//! not worked out again. It holds what was put into it for just these bytes, or nothing. It is a part of the
+//! program `langtag`; a program of your own begins with the crate `bcp47`.
 #![tactic(auto)]
 
 ghost use Rattle.std.specs.Prelude.{◌≡◌, ◌≤◌, length, take, IfSome, IfOk};
@@ -27,7 +28,9 @@ struct Kept {
 /// What a table has for a line.
 #[derive(Drop)]
 pub struct Found<'t> {
+    /// The answer that was put for the line.
     pub answer: &'t ShortText,
+    /// Whether it is a refusal.
     pub refused: bool,
 }
 
@@ -98,7 +101,8 @@ impl Recent {
         }
     }
 
-    /// Puts an answer for a line where it belongs, if both are short, in place of what was put there the time before last.
+    /// Puts an answer for a line where it belongs, if both have at most 32 bytes, in place of what was put
+    /// there the time before last.
     pub fn put(&mut self, line: &[u8], answer: &[u8], refused: bool)
         ensures { PutsIn self.old self.new line.now answer.now refused }
     {

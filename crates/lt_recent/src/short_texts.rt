@@ -98,7 +98,8 @@ impl ShortText {
         (mixed >> 40) as usize
     }
 
-    /// Appends the text: all 32 bytes, which are then cut to its own, since a copy whose length is known takes no loop.
+    /// Appends the text: all 32 bytes, which are then cut to its own, since a copy whose length is known takes
+    /// no loop. The only refusal is running out of memory.
     #[inline(always)]
     pub fn append_to(&self, texts: &mut Vec<u8>) -> Result<(), AllocError>
         ensures { OnOk result (texts.new.items ≡ texts.old.items ++ self.now) }

@@ -1,3 +1,4 @@
+//! Lines that are put into a table and found there again.
 use crate::{Recent, ShortText};
 use std::alloc::{AllocError, Global};
 use std::test::Fail;

@@ -1,10 +1,10 @@
 -- The check of a core tells the first of its faults.
 use Rattle.std.proofs.Common.{◌≡◌, ◌≢◌, ℕ, ◌+◌, ◌<◌, ◌≤◌, Bool, true, false, ◌⊎◌, inl, inr, List, [], ◌∷◌, ◌++◌, length, Option, Some, None, is_some, refl, sym, ap, ◌∙◌, subst, arith, length-append, append_assoc}
 use Rattle.std.specs.Prelude.{Ok}
-use Rattle.std.specs.Option.{option_to_list}
+use Rattle.std.specs.Option.{option_to_list, option_map_or}
 use Rattle.lt_tag.specs.Parts.{CoreParts}
 use Rattle.lt_registry.specs.Parts.{EntryParts}
-use Rattle.lt_registry.specs.Entries.{entry, is_registered, prefixes_of, lists}
+use Rattle.lt_registry.specs.Entries.{entry, is_registered, has_prefix}
 use Rattle.lt_registry.specs.Faults.{HasCoreFault, before_script, before_region, before_variants}
 use Rattle.lt_registry.specs.Checking.{Check, and_then, unless, Tells, Counted, language_check, prefix_check, second_check, extlangs_check, part_check, variants_check, core_check}
 use Rattle.lt_registry.specs.declared.entries.Kind.{Kind}
@@ -20,19 +20,19 @@ LanguagePart R start l = Single faults.UnknownLanguage (start + 1) (is_registere
 -- the first extlang
 abbrev pub FirstPart : ℕ → List ℕ → Option EntryParts → ValidFaultKind → ℕ → Type 0
 FirstPart start l o =
-    Or (Single faults.UnknownExtlang (start + 2) (is_some o ≡ false)) (Single faults.ExtlangPrefix (start + 2) (lists (prefixes_of o) l ≡ false))
+    Or (Single faults.UnknownExtlang (start + 2) (is_some o ≡ false)) (Single faults.ExtlangPrefix (start + 2) (has_prefix (option_map_or (λ (e : EntryParts). e.prefixes) o []) l ≡ false))
 
-first_precede : (start : ℕ) (l : List ℕ) (o : Option EntryParts) → Precede (Single faults.UnknownExtlang (start + 2) (is_some o ≡ false)) (Single faults.ExtlangPrefix (start + 2) (lists (prefixes_of o) l ≡ false))
-first_precede start l o = single_precede faults.UnknownExtlang faults.ExtlangPrefix (start + 2) (start + 2) (is_some o ≡ false) (lists (prefixes_of o) l ≡ false) (omega arith) (λ e. omega arith)
+first_precede : (start : ℕ) (l : List ℕ) (o : Option EntryParts) → Precede (Single faults.UnknownExtlang (start + 2) (is_some o ≡ false)) (Single faults.ExtlangPrefix (start + 2) (has_prefix (option_map_or (λ (e : EntryParts). e.prefixes) o []) l ≡ false))
+first_precede start l o = single_precede faults.UnknownExtlang faults.ExtlangPrefix (start + 2) (start + 2) (is_some o ≡ false) (has_prefix (option_map_or (λ (e : EntryParts). e.prefixes) o []) l ≡ false) (omega arith) (λ e. omega arith)
 
 first_tells : (start : ℕ) (l : List ℕ) (o : Option EntryParts) → Tells (FirstPart start l o) (prefix_check start l o)
 first_tells start l None =
-    first_left (Single faults.UnknownExtlang (start + 2) (false ≡ false)) (Single faults.ExtlangPrefix (start + 2) (lists [] l ≡ false)) faults.UnknownExtlang (start + 2) (first_precede start l None)
+    first_left (Single faults.UnknownExtlang (start + 2) (false ≡ false)) (Single faults.ExtlangPrefix (start + 2) (has_prefix [] l ≡ false)) faults.UnknownExtlang (start + 2) (first_precede start l None)
     (single_first faults.UnknownExtlang (start + 2) (false ≡ false) refl)
 first_tells start l (Some e) =
-    tells_and (Single faults.UnknownExtlang (start + 2) (true ≡ false)) (Single faults.ExtlangPrefix (start + 2) (lists e.prefixes l ≡ false)) (Ok tt) (unless (lists e.prefixes l) faults.ExtlangPrefix (start + 2)) (first_precede start l (Some e))
+    tells_and (Single faults.UnknownExtlang (start + 2) (true ≡ false)) (Single faults.ExtlangPrefix (start + 2) (has_prefix e.prefixes l ≡ false)) (Ok tt) (unless (has_prefix e.prefixes l) faults.ExtlangPrefix (start + 2)) (first_precede start l (Some e))
     (λ k p f. let bad : true ≡ false = f.cause in cc)
-    (tells_unless (lists e.prefixes l) faults.ExtlangPrefix (start + 2))
+    (tells_unless (has_prefix e.prefixes l) faults.ExtlangPrefix (start + 2))
 
 -- a further extlang
 abbrev pub HasMore : List (List ℕ) → Type 0

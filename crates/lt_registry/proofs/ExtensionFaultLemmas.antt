@@ -4,7 +4,7 @@ use Rattle.std.specs.Prelude.{flat_map}
 use Rattle.std.specs.Option.{option_to_list}
 use Rattle.lt_tag.specs.Parts.{CoreParts, ExtensionParts, TForm}
 use Rattle.lt_tag.specs.Spelling.{spell_core}
-use Rattle.lt_tag.specs.Extensions.{spell_t, spell_source, spell_field, transform, IsTransform}
+use Rattle.lt_tag.specs.Extensions.{spell_t, spell_field, transform, IsTransform}
 use Rattle.lt_tag.proofs.PartsLaws.{t_unique}
 use Rattle.lt_registry.specs.Parts.{EntryParts}
 use Rattle.lt_registry.specs.Faults.{rank_of, IsFirstOf, HasCoreFault, HasExtensionFault, before_variants}
@@ -13,6 +13,7 @@ use Rattle.lt_registry.specs.declared.faults.ValidFaultKind.{ValidFaultKind}
 use Rattle.lt_registry.specs.declared.faults.ValidFaultKind.TheVariants as faults
 use Rattle.lt_registry.proofs.FirstLemmas.{SameFaults, tells_same}
 use Rattle.lt_registry.proofs.CoreFaultLemmas.{CoreFault, core_tells, core_past, core_upto}
+use Rattle.lt_tag.specs.Splitting.{spell_source}
 
 some_same : {A : Type 0} (a b : A) → Some a ≡ Some b → a ≡ b
 some_same a b e = cc

@@ -1,7 +1,7 @@
 -- What the texts of a record's fields give has the forms of its kind.
 use Rattle.std.proofs.Common.{◌≡◌, ℕ, zero, suc, ◌<◌, Bool, true, false, ◌&&◌, eqb, leb, ◌⊎◌, inl, inr, List, [], ◌∷◌, length, Option, Some, None, refl, sym, ap, ◌∙◌, subst, arith}
 use Rattle.std.specs.Prelude.{Result, Ok, Err}
-use Rattle.std.specs.List.{list_all, AllByRecursion}
+use Rattle.std.specs.List.{list_all, AllByRecursion, onto_first}
 use Rattle.std.specs.Char.{is_ascii_alphanumeric}
 use Rattle.std.proofs.lemmas.Bool.{and_parts, and_from, eqb-true, leb-true, cases_Bool}
 use Rattle.lt_subtag.specs.Bytes.{is_subtag, folded}
@@ -10,7 +10,7 @@ use Rattle.lt_subtag.specs.Shapes.{is_alphabetic}
 use Rattle.lt_subtag.specs.declared.SubtagFault.{SubtagFault}
 use Rattle.lt_subtag.specs.declared.SubtagFault.TheVariants as subtag_faults
 use Rattle.lt_subtag.proofs.BytesLemmas.{piece_folds}
-use Rattle.lt_tag.specs.Lists.{pieces, onto_first}
+use Rattle.lt_tag.specs.Lists.{pieces}
 use Rattle.lt_registry.specs.Entries.{has_form, letters_le, IsRange, IsPrefix}
 use Rattle.lt_registry.specs.Records.{formed, is_range, range_of, single_of, name_by, ends_of, subtags_named, with_subtag, subtags_of, prefix_of, with_prefix, prefixes_of}
 use Rattle.lt_registry.specs.declared.entries.Kind.{Kind}

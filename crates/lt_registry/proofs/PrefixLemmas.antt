@@ -13,7 +13,7 @@ use Rattle.std.proofs.lemmas.List.Folds.{list_any_none, list_any-from_Any}
 use Rattle.std.proofs.lemmas.List.MinMax.{ranks_by}
 use Rattle.std.proofs.lemmas.Map.Keys.{ge_from_not_lt}
 use Rattle.lt_subtag.specs.Bytes.{is_subtag}
-use Rattle.lt_registry.specs.Entries.{IsPrefix, lists}
+use Rattle.lt_registry.specs.Entries.{IsPrefix, has_prefix}
 use Rattle.lt_registry.specs.Prefixes.{single_of, AreSingles}
 use Rattle.lt_registry.specs.Sorted.{number}
 use Rattle.lt_registry.proofs.SubtagNumbers.{subtag_few, numbers_equal}
@@ -26,13 +26,13 @@ and_false : (b : Bool) → (b && false) ≡ false
 and_false true = refl
 and_false false = refl
 
-lists_number : (ps : List (List (List ℕ))) (l : List ℕ) → AllByRecursion IsPrefix ps → is_subtag l ≡ true → lists ps l ≡ list_any (λ n. eqb n (number l)) (filter_map single_of ps)
+lists_number : (ps : List (List (List ℕ))) (l : List ℕ) → AllByRecursion IsPrefix ps → is_subtag l ≡ true → has_prefix ps l ≡ list_any (λ n. eqb n (number l)) (filter_map single_of ps)
 lists_number [] l h k = refl
 lists_number ([] ∷ ps) l h k = lists_number ps l h.1 k
 lists_number ((s ∷ []) ∷ ps) l h k =
     let same : (bytes_eq s l && true) ≡ eqb (number s) (number l) = and_true (bytes_eq s l) ∙ sym (numbers_equal s l (subtag_few s (and_parts (is_subtag s) true h.0.subtags).0) (subtag_few l k)) in
-    ap (λ b. b || lists ps l) same ∙ ap (λ b. eqb (number s) (number l) || b) (lists_number ps l h.1 k)
-lists_number ((s ∷ t ∷ r) ∷ ps) l h k = ap (λ b. b || lists ps l) (and_false (bytes_eq s l)) ∙ lists_number ps l h.1 k
+    ap (λ b. b || has_prefix ps l) same ∙ ap (λ b. eqb (number s) (number l) || b) (lists_number ps l h.1 k)
+lists_number ((s ∷ t ∷ r) ∷ ps) l h k = ap (λ b. b || has_prefix ps l) (and_false (bytes_eq s l)) ∙ lists_number ps l h.1 k
 
 -- what is sorted does not fall
 rises : (ns : List ℕ) → IsSorted nat_cmp ns → (i j : ℕ) → i ≤ j → j < length ns → get_or ns i 0 ≤ get_or ns j 0
@@ -54,7 +54,7 @@ found ns n (Err i) s h =
         ]
 
 -- a search among the sorted numbers tells whether a subtag alone is a Prefix
-pub lists_found : (ps : List (List (List ℕ))) (ns : List ℕ) (l : List ℕ) (r : Result ℕ ℕ) → AreSingles ps ns → AllByRecursion IsPrefix ps → is_subtag l ≡ true → IsBinarySearchResult (λ m. nat_cmp m (number l)) ns r → is_ok r ≡ lists ps l
+pub lists_found : (ps : List (List (List ℕ))) (ns : List ℕ) (l : List ℕ) (r : Result ℕ ℕ) → AreSingles ps ns → AllByRecursion IsPrefix ps → is_subtag l ≡ true → IsBinarySearchResult (λ m. nat_cmp m (number l)) ns r → is_ok r ≡ has_prefix ps l
 lists_found ps ns l r s h k b =
     found ns (number l) r s.rising b
     ∙ sym (list_any-IsPermutation (λ m. eqb m (number l)) (filter_map single_of ps) ns s.same)

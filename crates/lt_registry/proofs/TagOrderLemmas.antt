@@ -1,7 +1,7 @@
 -- The order of tags is total, and tags are equal by it where they are the same.
 use Rattle.std.proofs.Common.{◌≡◌, ℕ, ◌+◌, ◌<◌, ◌≤◌, Bool, false, ◌&&◌, eqb, List, [], ◌∷◌, length, length-drop, drop, get_or, Option, Some, None, refl, ap, ◌∙◌, arith}
 use Rattle.std.specs.Ordering.{nat_cmp, ordering_then, is_eq}
-use Rattle.std.specs.Option.{option_cmp}
+use Rattle.std.specs.Option.{option_cmp, option_eq}
 use Rattle.std.specs.Cmp.{IsTotalOrder}
 use Rattle.std.specs.Cmp.Lexicographic.{slice_cmp, pointwise, options_total}
 use Rattle.std.specs.declared.cmp.Ordering.{Ordering}
@@ -12,7 +12,7 @@ use Rattle.std.proofs.lemmas.Cmp.{then_total, on_total, nat_cmp_total, nat_list_
 use Rattle.std.proofs.lemmas.List.{drop_all}
 use Rattle.lt_tag.specs.Parts.{CoreParts, ExtensionParts, TagForm, LangTag, PrivateUse, Grandfathered}
 use Rattle.lt_tag.specs.Values.{core_of, extensions_of, private_of, number_of}
-use Rattle.lt_registry.specs.Same.{same_list, same_option, same_core, same_extension, same_tag}
+use Rattle.lt_registry.specs.Same.{same_list, same_core, same_extension, same_tag}
 use Rattle.lt_tag.specs.OrderLaws.{tag_total}
 use Rattle.lt_tag.specs.Order.{subtag_cmp, list_cmp, core_cmp, extension_cmp, tag_cmp}
 
@@ -43,7 +43,7 @@ subtags_equal = lists_equal nat_cmp eqb nats_equal
 many_equal : (a b : List (List ℕ)) → is_eq (list_cmp a b) ≡ same_list a b
 many_equal = lists_equal subtag_cmp bytes_eq subtags_equal
 
-options_equal : (a b : Option (List ℕ)) → is_eq (option_cmp subtag_cmp a b) ≡ same_option a b
+options_equal : (a b : Option (List ℕ)) → is_eq (option_cmp subtag_cmp a b) ≡ option_eq bytes_eq a b
 options_equal None None = refl
 options_equal None (Some b) = refl
 options_equal (Some a) None = refl

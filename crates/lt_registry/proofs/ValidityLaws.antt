@@ -8,7 +8,7 @@ use Rattle.lt_tag.specs.Splitting.{transform_of}
 use Rattle.lt_tag.specs.Values.{IsTagValue}
 use Rattle.lt_tag.proofs.PartsLaws.{t_unique, t_decided}
 use Rattle.lt_registry.specs.Parts.{EntryParts}
-use Rattle.lt_registry.specs.Entries.{is_registered, prefixes, lists}
+use Rattle.lt_registry.specs.Entries.{is_registered, prefixes, has_prefix}
 use Rattle.lt_registry.specs.Validity.{ExtlangsFit, IsProperCore, Distinct, IsProperExtension, HasProperParts, IsProper, HasDistinctSource, RepeatsNoVariant, IsValid}
 use Rattle.lt_registry.specs.Faults.{before_script, before_region, before_variants, HasCoreFault, HasExtensionFault, HasFault, HasNoFault, RepeatsAtMost, rank_of, IsFirstFault}
 use Rattle.lt_registry.specs.declared.entries.Kind.TheVariants as kinds
@@ -34,7 +34,7 @@ module _ (R : List EntryParts) (start : ℕ) (c : CoreParts) where
   extlangs_from f [] e = tt
   extlangs_from f (x ∷ []) e = (
     holds_unless (is_registered R kinds.Extlang x) (λ h. let bad = f faults.UnknownExtlang (start + 2) (x, [], e, refl, h) in cc),
-    holds_unless (lists (prefixes R kinds.Extlang x) c.language) (λ h. let bad = f faults.ExtlangPrefix (start + 2) (x, [], e, refl, h) in cc),
+    holds_unless (has_prefix (prefixes R kinds.Extlang x) c.language) (λ h. let bad = f faults.ExtlangPrefix (start + 2) (x, [], e, refl, h) in cc),
   )
   extlangs_from f (x ∷ y ∷ rest) e = let bad = f faults.TooManyExtlangs (start + 3) (x, y, rest, e, refl) in cc
 
@@ -56,12 +56,12 @@ module _ (R : List EntryParts) (start : ℕ) (c : CoreParts) where
         (λ b v a e. holds_unless (is_registered R kinds.Variant v) (λ h. let bad = f faults.UnknownVariant (start + before_variants c + length b + 1) (b, v, a, e, refl, h) in cc));
   }
 
-  one_extlang : (xs : List (List ℕ)) (x : List ℕ) (rest : List (List ℕ)) → xs ≡ x ∷ rest → ExtlangsFit R c.language xs → (rest ≡ []) × (is_registered R kinds.Extlang x ≡ true) × (lists (prefixes R kinds.Extlang x) c.language ≡ true)
+  one_extlang : (xs : List (List ℕ)) (x : List ℕ) (rest : List (List ℕ)) → xs ≡ x ∷ rest → ExtlangsFit R c.language xs → (rest ≡ []) × (is_registered R kinds.Extlang x ≡ true) × (has_prefix (prefixes R kinds.Extlang x) c.language ≡ true)
   one_extlang [] x rest e h = cc
   one_extlang (y ∷ []) x rest e h =
       let same : y ≡ x = cc in
       let none : [] ≡ rest = cc in
-      (sym none, ap (is_registered R kinds.Extlang) (sym same) ∙ h.0, ap (λ z. lists (prefixes R kinds.Extlang z) c.language) (sym same) ∙ h.1)
+      (sym none, ap (is_registered R kinds.Extlang) (sym same) ∙ h.0, ap (λ z. has_prefix (prefixes R kinds.Extlang z) c.language) (sym same) ∙ h.1)
   one_extlang (y ∷ z ∷ ys) x rest e h = absurd h
 
   at_some : (P : List ℕ → Type 0) (o : Option (List ℕ)) (s : List ℕ) → o ≡ Some s → IfSome o P → P s
@@ -71,7 +71,7 @@ module _ (R : List EntryParts) (start : ℕ) (c : CoreParts) where
   proper_core_has : IsProperCore R c → Repeats
   proper_core_has h faults.UnknownLanguage p f = absurd (both (is_registered R kinds.Language c.language) h.language f.1)
   proper_core_has h faults.UnknownExtlang p f = absurd (both (is_registered R kinds.Extlang f.0) (one_extlang c.extlangs f.0 f.1 f.2 h.extlangs).1 f.4)
-  proper_core_has h faults.ExtlangPrefix p f = absurd (both (lists (prefixes R kinds.Extlang f.0) c.language) (one_extlang c.extlangs f.0 f.1 f.2 h.extlangs).2 f.4)
+  proper_core_has h faults.ExtlangPrefix p f = absurd (both (has_prefix (prefixes R kinds.Extlang f.0) c.language) (one_extlang c.extlangs f.0 f.1 f.2 h.extlangs).2 f.4)
   proper_core_has h faults.TooManyExtlangs p f = let bad = (one_extlang c.extlangs f.0 (f.1 ∷ f.2) f.3 h.extlangs).0 in cc
   proper_core_has h faults.UnknownScript p f = absurd (both (is_registered R kinds.Script f.0) (at_some (λ s. is_registered R kinds.Script s ≡ true) c.script f.0 f.1 h.script) f.3)
   proper_core_has h faults.UnknownRegion p f = absurd (both (is_registered R kinds.Region f.0) (at_some (λ s. is_registered R kinds.Region s ≡ true) c.region f.0 f.1 h.region) f.3)

@@ -4,7 +4,7 @@ use Rattle.std.specs.Prelude.{ℕ, ◌≡◌, ◌≢◌, ◌+◌, Bool, true, fa
 use Rattle.std.specs.List.{list_any}
 use Rattle.lt_tag.specs.Parts.{CoreParts, ExtensionParts}
 use Rattle.lt_registry.specs.Parts.{EntryParts}
-use Rattle.lt_registry.specs.Entries.{entry, is_registered, lists}
+use Rattle.lt_registry.specs.Entries.{entry, is_registered, has_prefix}
 use Rattle.lt_registry.specs.Faults.{IsFirstOf, HasExtensionFault, before_script, before_region, before_variants}
 use Rattle.lt_registry.specs.declared.entries.Kind.{Kind}
 use Rattle.lt_registry.specs.declared.entries.Kind.TheVariants as kinds
@@ -28,17 +28,21 @@ abbrev pub and_then : Check → Check → Check
 and_then (Ok done) next = next
 and_then (Err fault) next = Err fault
 
+-- the language of a core that begins after this many subtags
 abbrev pub language_check : List EntryParts → ℕ → List ℕ → Check
 language_check R start l = unless (is_registered R kinds.Language l) faults.UnknownLanguage (start + 1)
 
+-- the first extlang, by its entry: the language is one of its Prefixes
 abbrev pub prefix_check : ℕ → List ℕ → Option EntryParts → Check
 prefix_check start l None = Err (record { kind = faults.UnknownExtlang; place = start + 2 })
-prefix_check start l (Some e) = unless (lists e.prefixes l) faults.ExtlangPrefix (start + 2)
+prefix_check start l (Some e) = unless (has_prefix e.prefixes l) faults.ExtlangPrefix (start + 2)
 
+-- there is no second extlang
 abbrev pub second_check : ℕ → List (List ℕ) → Check
 second_check start [] = Ok tt
 second_check start (x ∷ rest) = Err (record { kind = faults.TooManyExtlangs; place = start + 3 })
 
+-- the extlangs of a core that begins after this many subtags
 abbrev pub extlangs_check : List EntryParts → ℕ → List ℕ → List (List ℕ) → Check
 extlangs_check R start l [] = Ok tt
 extlangs_check R start l (x ∷ rest) = and_then (prefix_check start l (entry R kinds.Extlang x)) (second_check start rest)
@@ -48,6 +52,7 @@ abbrev pub part_check : List EntryParts → Kind → ValidFaultKind → ℕ → 
 part_check R kind fault place None = Ok tt
 part_check R kind fault place (Some s) = unless (is_registered R kind s) fault place
 
+-- a variant is in a list
 abbrev pub stands_in : List (List ℕ) → List ℕ → Bool
 stands_in before v = list_any (λ u. bytes_eq u v) before
 
@@ -78,6 +83,7 @@ abbrev pub source_check : List EntryParts → Bool → ℕ → Option CoreParts 
 source_check R may_repeat place None = Ok tt
 source_check R may_repeat place (Some c) = core_check R may_repeat place c
 
+-- one of the extensions has the singleton
 abbrev pub has_singleton : List ExtensionParts → ℕ → Bool
 has_singleton es s = list_any (λ (e : ExtensionParts). e.singleton == s) es
 

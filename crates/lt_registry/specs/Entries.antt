@@ -1,7 +1,7 @@
 -- The entries of a registry, and what they say of a subtag or a tag (RFC 5646, 3.1).
-use Rattle.std.specs.Prelude.{ℕ, ◌≡◌, ◌<◌, ◌⊎◌, Bool, true, false, if◌then◌else◌, ◌==◌, nat_lt, nat_le, ◌&&◌, ◌||◌, List, [], ◌∷◌, length, Option, Some, None, find, is_some, bytes_eq, IfSome, All}
+use Rattle.std.specs.Prelude.{ℕ, ◌≡◌, ◌<◌, ◌⊎◌, Bool, true, false, if◌then◌else◌, ◌==◌, nat_lt, nat_le, ◌&&◌, ◌||◌, List, [], ◌∷◌, length, Option, Some, None, find, is_some, bytes_eq, IfSome, All, unwrap_or}
 use Rattle.std.specs.List.{list_all, list_any, AllByRecursion}
-use Rattle.std.specs.Option.{option_and_then, option_or}
+use Rattle.std.specs.Option.{option_and_then, option_map_or, option_or}
 use Rattle.lt_subtag.specs.Bytes.{is_subtag}
 use Rattle.lt_subtag.specs.Shapes.{is_alphabetic, is_language, is_extlang, is_script, is_region, is_variant}
 use Rattle.lt_tag.specs.Parts.{TagForm}
@@ -36,7 +36,7 @@ letters_le [] _ = true
 letters_le (x ∷ xs) [] = false
 letters_le (x ∷ xs) (y ∷ ys) = if x == y then letters_le xs ys else nat_lt x y
 
--- a language of 2 or 3 letters is no longer than this, and no variant is as short (RFC 5646, 2.2.1)
+-- shorter than any variant: a language of 2 or 3 letters (RFC 5646, 2.2.1)
 abbrev pub is_short : List ℕ → Bool
 is_short s = nat_le (length s) 3
 
@@ -56,8 +56,8 @@ FitsName kind (names.Single s) = has_form kind s ≡ true
 FitsName kind (names.Range a b) = IsRange kind a b
 FitsName kind (names.Whole t) = (is_whole_kind kind ≡ true) × IsTagValue t
 
--- The value of an extlang is a language, that of a variant a variant or a language of 2 or 3 letters, and any other has
--- the form of its kind (RFC 5646, 3.1.7).
+-- The value of an extlang is a language, and any other has the form of its kind (RFC 5646, 3.1.7); that a variant may
+-- also have a language of 2 or 3 letters is this project's own.
 abbrev pub has_value_form : Kind → List ℕ → Bool
 has_value_form kinds.Extlang s = is_language s
 has_value_form kinds.Variant s = is_variant s || (is_language s && is_short s)
@@ -101,15 +101,11 @@ abbrev pub holds : List ℕ → EntryName → Bool
 holds s (names.Range a b) = (length s == length a) && (is_alphabetic s && (letters_le a s && letters_le s b))
 holds s _ = false
 
--- what was found, or else another (this project's own)
-abbrev pub or_else : Option EntryParts → Option EntryParts → Option EntryParts
-or_else found other = option_or found other
-
 -- the first record that names this subtag and no other; or, without such a record, the first whose range holds it
 -- (RFC 5646, 3.1.4)
 abbrev pub entry : List EntryParts → Kind → List ℕ → Option EntryParts
 entry R k s =
-    or_else (find (λ (e : EntryParts). same_kind e.kind k && is_named s e.name) R)
+    option_or (find (λ (e : EntryParts). same_kind e.kind k && is_named s e.name) R)
     (find (λ (e : EntryParts). same_kind e.kind k && holds s e.name) R)
 
 -- the subtag has an entry of this kind (RFC 5646, 2.2.9)
@@ -119,21 +115,15 @@ is_registered R k s = is_some (entry R k s)
 -- the one subtag that a record gives as its value (RFC 5646, 3.1.7)
 abbrev pub one_of : Option EntryValue → Option (List ℕ)
 one_of (Some (values.One v)) = Some v
-one_of (Some (values.Whole t)) = None
-one_of None = None
+one_of _ = None
 
 -- the preferred value of a subtag, if it is one subtag (RFC 5646, 3.1.7)
-abbrev pub value : List EntryParts → Kind → List ℕ → Option (List ℕ)
-value R k s = option_and_then (λ (e : EntryParts). one_of e.value) (entry R k s)
-
--- the Prefixes of an entry, if there is one (RFC 5646, 3.1.8)
-abbrev pub prefixes_of : Option EntryParts → List (List (List ℕ))
-prefixes_of (Some e) = e.prefixes
-prefixes_of None = []
+abbrev pub preferred_value : List EntryParts → Kind → List ℕ → Option (List ℕ)
+preferred_value R k s = option_and_then (λ (e : EntryParts). one_of e.value) (entry R k s)
 
 -- the Prefixes of a subtag (RFC 5646, 3.1.8)
 abbrev pub prefixes : List EntryParts → Kind → List ℕ → List (List (List ℕ))
-prefixes R k s = prefixes_of (entry R k s)
+prefixes R k s = option_map_or (λ (e : EntryParts). e.prefixes) (entry R k s) []
 
 -- the number of the record, and 0 where there is none
 abbrev pub number_of : Option EntryParts → ℕ
@@ -141,25 +131,20 @@ number_of (Some e) = e.number
 number_of None = 0
 
 -- the language is one of the Prefixes (RFC 5646, 3.1.8)
-abbrev pub lists : List (List (List ℕ)) → List ℕ → Bool
-lists ps l = list_any (λ (p : List (List ℕ)). same_list p (l ∷ [])) ps
+abbrev pub has_prefix : List (List (List ℕ)) → List ℕ → Bool
+has_prefix ps l = list_any (λ (p : List (List ℕ)). same_list p (l ∷ [])) ps
 
 -- the value of a variant where it is a variant (RFC 5646, 3.1.7)
 abbrev pub variant_value : List EntryParts → List ℕ → Option (List ℕ)
-variant_value R v = option_and_then (λ w. if is_short w then None else Some w) (value R kinds.Variant v)
+variant_value R v = option_and_then (λ w. if is_short w then None else Some w) (preferred_value R kinds.Variant v)
 
--- the value of a variant where it is a language (RFC 5646, 3.1.7)
+-- the value of a variant where it is a language (this project's own)
 abbrev pub language_value : List EntryParts → List ℕ → Option (List ℕ)
-language_value R v = option_and_then (λ w. if is_short w then Some w else None) (value R kinds.Variant v)
-
--- the preferred value if there is one, else the subtag itself (RFC 5646, 3.1.7)
-abbrev pub value_or : Option (List ℕ) → List ℕ → List ℕ
-value_or (Some v) s = v
-value_or None s = s
+language_value R v = option_and_then (λ w. if is_short w then Some w else None) (preferred_value R kinds.Variant v)
 
 -- the value of an extlang, or itself (RFC 5646, 4.5, rule 3)
 abbrev pub replacement : List EntryParts → List ℕ → List ℕ
-replacement R x = value_or (value R kinds.Extlang x) x
+replacement R x = unwrap_or (preferred_value R kinds.Extlang x) x
 
 -- the name is this whole tag (RFC 5646, 2.2.8)
 abbrev pub is_whole : TagForm → EntryName → Bool
@@ -173,8 +158,7 @@ whole R t = find (λ (e : EntryParts). is_whole t e.name) R
 -- the tag that a record gives as its value (RFC 5646, 3.1.7)
 abbrev pub tag_of : Option EntryValue → Option TagForm
 tag_of (Some (values.Whole t)) = Some t
-tag_of (Some (values.One v)) = None
-tag_of None = None
+tag_of _ = None
 
 -- the preferred value of a whole tag, if it has one (RFC 5646, 3.1.7)
 abbrev pub whole_value : List EntryParts → TagForm → Option TagForm

@@ -5,7 +5,7 @@ use Rattle.lt_tag.specs.Parts.{CoreParts, ExtensionParts, TForm, TagForm, LangTa
 use Rattle.lt_tag.specs.Spelling.{spell_core, spell_extensions}
 use Rattle.lt_tag.specs.Values.{extensions_of}
 use Rattle.lt_registry.specs.Parts.{EntryParts}
-use Rattle.lt_registry.specs.Entries.{is_registered, prefixes, lists}
+use Rattle.lt_registry.specs.Entries.{is_registered, prefixes, has_prefix}
 use Rattle.lt_tag.specs.Extensions.{transform, IsTransform}
 use Rattle.lt_registry.specs.declared.entries.Kind.TheVariants as kinds
 use Rattle.lt_registry.specs.declared.faults.ValidFaultKind.{ValidFaultKind}
@@ -34,7 +34,7 @@ HasCoreFault R start c faults.UnknownExtlang place =
     × (is_registered R kinds.Extlang x ≡ false)
 HasCoreFault R start c faults.ExtlangPrefix place =
     (x : List ℕ) × (rest : List (List ℕ)) × (c.extlangs ≡ x ∷ rest) × (place ≡ start + 2)
-    × (lists (prefixes R kinds.Extlang x) c.language ≡ false)
+    × (has_prefix (prefixes R kinds.Extlang x) c.language ≡ false)
 HasCoreFault R start c faults.TooManyExtlangs place =
     (x y : List ℕ) × (rest : List (List ℕ)) × (c.extlangs ≡ x ∷ y ∷ rest) × (place ≡ start + 3)
 HasCoreFault R start c faults.UnknownScript place =
@@ -99,6 +99,7 @@ HasFault R (LangTag c es ps) kind place =
 HasFault R (PrivateUse ps) kind place = ⊥
 HasFault R (Grandfathered n) kind place = ⊥
 
+-- the tag has no fault (RFC 5646, 2.2.9)
 abbrev pub HasNoFault : List EntryParts → TagForm → Type 0
 HasNoFault R t = (kind : ValidFaultKind) (place : ℕ) → HasFault R t kind place → ⊥
 

@@ -10,6 +10,7 @@ use Rattle.lt_registry.specs.declared.faults.RegistryFault.{RegistryFault}
 use Rattle.lt_registry.specs.declared.faults.RegistryFault.TheVariants as refusals
 use Rattle.lt_jar.specs.Names as jars
 
+-- of why a tag is not valid
 abbrev pub name_of : ValidFaultKind → List ℕ
 name_of faults.UnknownLanguage = codes "UnknownLanguage"
 name_of faults.UnknownExtlang = codes "UnknownExtlang"
@@ -22,10 +23,12 @@ name_of faults.DuplicateVariant = codes "DuplicateVariant"
 name_of faults.DuplicateSingleton = codes "DuplicateSingleton"
 name_of faults.BadTransform = codes "BadTransform"
 
+-- of the fault, or that memory ran out
 abbrev pub refusal_name_of : ValidRefusal → List ℕ
 refusal_name_of (valid_refusals.Fault fault) = name_of fault.kind
 refusal_name_of valid_refusals.OutOfMemory = codes "OutOfMemory"
 
+-- of why a record gives no entry
 abbrev pub record_name_of : RecordFaultKind → List ℕ
 record_name_of records.RepeatedField = codes "RepeatedField"
 record_name_of records.MissingType = codes "MissingType"

@@ -25,7 +25,7 @@ pub record IsReadWhole {R : Type 0} (remaining : R → Option (List ℕ)) (befor
   pub end : IsAtEnd (remaining (inner_of after))
   pub works : failures_of after ≡ failures_of before
 
--- why the bytes that this many reads gave are no jar, or are not all
+-- why the bytes that this many reads gave have no records, or are not all
 pub record IsJarRefusal {R : Type 0} (remaining : R → Option (List ℕ)) (before after : Device R) (bytes : List ℕ) (reads : ℕ) (fault : JarFault) : Type 0 where
   pub format : (kind : Fault) → fault_in fault.kind ≡ Some kind → HoldsOfWhole (λ text. IsTheFault 0 text kind fault.line) (IsAtEnd (remaining (inner_of after))) bytes
   pub memory : fault.kind ≡ jars.OutOfMemory → IsReached 0 bytes fault.line
@@ -33,7 +33,7 @@ pub record IsJarRefusal {R : Type 0} (remaining : R → Option (List ℕ)) (befo
   pub all_made : fault.kind ≡ jars.TooManyTurns → (reads ≡ most_reads) × (reads ≤ length bytes) × (0 < last_given_of after) × BreaksOff 0 bytes fault.line
   pub first : fault.kind ≢ jars.Failed
 
--- the entries of the records, or the fault of the lowest record at fault; a fault of the jar goes first
+-- the entries of the records, or the fault of the lowest record at fault; a fault of the text goes first
 abbrev pub AnswersAs : {R : Type 0} → (R → Option (List ℕ)) → (before after : Device R) → List ℕ → ℕ → Result (List EntryParts) RegistryFault → Type 0
 AnswersAs remaining before after bytes reads (Ok registry) =
     (records : List (List Field)) × IsReadWhole remaining before after bytes records × HasEntries records registry
@@ -47,7 +47,8 @@ IsReadFailure (Ok registry) = ⊥
 IsReadFailure (Err (faults.Record fault)) = ⊥
 IsReadFailure (Err (faults.Jar fault)) = fault.kind ≡ jars.Read
 
--- This many reads gave these bytes, at most 65,536 each, and the answer is theirs. The device fails only where it is reported.
+-- This many reads gave these bytes, at most 65,536 each, and the answer is theirs. The device fails only where it
+-- is reported.
 pub record ReadsRegistry {R : Type 0} (remaining : R → Option (List ℕ)) (before after : Device R) (result : Result (List EntryParts) RegistryFault) : Type 0 where
   pub bytes : List ℕ
   pub reads : ℕ

@@ -10,7 +10,8 @@ use Rattle.lt_registry.specs.declared.faults.RecordFaultKind.TheVariants as faul
 abbrev pub IsRefused : List Field → RecordFaultKind → Type 0
 IsRefused r kind = (kind ≡ faults.OutOfMemory) ⊎ IsFirstOfRecord r kind
 
--- the first fault of the lowest record that has one; or memory ran out at a record that is not the header, below which none has one
+-- the first fault of the lowest record that has one; or memory ran out at a record that is not the header, below
+-- which none has one
 abbrev pub IsRecordRefusal : List (List Field) → RecordFault → Type 0
 IsRecordRefusal records fault =
     ((fault.kind ≡ faults.OutOfMemory) × IsReached records fault.number) ⊎ IsFirstRecordFault records fault.kind fault.number

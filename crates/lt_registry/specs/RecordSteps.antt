@@ -11,10 +11,12 @@ use Rattle.lt_registry.specs.declared.entries.EntryValue.{EntryValue}
 use Rattle.lt_registry.specs.declared.faults.RecordFaultKind.{RecordFaultKind}
 use Rattle.lt_registry.specs.declared.faults.RecordFaultKind.TheVariants as faults
 
+-- the kind that a type names, if it names one
 abbrev pub kind_or : Option Kind → Result Kind RecordFaultKind
 kind_or (Some k) = Ok k
 kind_or None = Err faults.UnknownType
 
+-- the kind that a record's type, if it has one, names
 abbrev pub kind_by : Option (List ℕ) → Result Kind RecordFaultKind
 kind_by (Some s) = kind_or (kind_of s)
 kind_by None = Err faults.MissingType

@@ -21,22 +21,27 @@ use Rattle.lt_registry.specs.declared.entries.EntryValue.TheVariants as values
 use Rattle.lt_registry.specs.declared.faults.RecordFaultKind.{RecordFaultKind}
 use Rattle.lt_registry.specs.declared.faults.RecordFaultKind.TheVariants as faults
 
--- the names of the fields that count
+-- the name of the field with the kind of what a record names (RFC 5646, 3.1.3)
 abbrev pub type_name : List ℕ
 type_name = codes "Type"
 
+-- the name of the field with a subtag or a range (RFC 5646, 3.1.4)
 abbrev pub subtag_name : List ℕ
 subtag_name = codes "Subtag"
 
+-- the name of the field with a whole tag (RFC 5646, 3.1.4)
 abbrev pub tag_name : List ℕ
 tag_name = codes "Tag"
 
+-- the name of the field with the value (RFC 5646, 3.1.7)
 abbrev pub value_name : List ℕ
 value_name = codes "Preferred-Value"
 
+-- the name of each field with a Prefix (RFC 5646, 3.1.8)
 abbrev pub prefix_name : List ℕ
 prefix_name = codes "Prefix"
 
+-- the name of the field with the file's date (RFC 5646, 3.1.2)
 abbrev pub date_name : List ℕ
 date_name = codes "File-Date"
 
@@ -52,6 +57,7 @@ bodies name r = map (λ (f : Field). f.1) (filter (is_called name) r)
 abbrev pub body : List ℕ → List Field → Option (List ℕ)
 body name r = option_map (λ (f : Field). f.1) (find (is_called name) r)
 
+-- a field of the name occurs twice
 abbrev pub is_repeated : List ℕ → List Field → Bool
 is_repeated name r = nat_lt 1 (count_by (is_called name) r)
 
@@ -87,15 +93,17 @@ abbrev pub formed : (List ℕ → Bool) → Result (List ℕ) SubtagFault → Op
 formed form (Ok s) = if form s then Some s else None
 formed form (Err fault) = None
 
--- two full stops at the front
+-- a full stop at the front
 abbrev pub begins_dot : List ℕ → Bool
 begins_dot [] = false
 begins_dot (b ∷ s) = b == 46
 
+-- two full stops at the front
 abbrev pub begins_dots : List ℕ → Bool
 begins_dots [] = false
 begins_dots (b ∷ s) = (b == 46) && begins_dot s
 
+-- a byte before the first of two texts
 abbrev pub with_first : ℕ → Option (List ℕ × List ℕ) → Option (List ℕ × List ℕ)
 with_first b None = None
 with_first b (Some p) = Some (b ∷ p.0, p.1)
@@ -110,11 +118,13 @@ abbrev pub is_range : Kind → List ℕ → List ℕ → Bool
 is_range k a b =
     has_form k a && (has_form k b && (is_alphabetic a && (is_alphabetic b && ((length a == length b) && letters_le a b))))
 
+-- the range from one end to the other, if they are those of one
 abbrev pub range_of : Kind → Result (List ℕ) SubtagFault → Result (List ℕ) SubtagFault → Result EntryName RecordFaultKind
 range_of k (Ok a) (Ok b) = if is_range k a b then Ok (names.Range a b) else Err faults.BadRange
 range_of k (Ok a) (Err fault) = Err faults.BadRange
 range_of k (Err fault) other = Err faults.BadRange
 
+-- the name that is this subtag alone
 abbrev pub single_of : Option (List ℕ) → Result EntryName RecordFaultKind
 single_of (Some s) = Ok (names.Single s)
 single_of None = Err faults.BadSubtag
@@ -124,6 +134,7 @@ abbrev pub name_by : Kind → List ℕ → Option (List ℕ × List ℕ) → Res
 name_by k s None = single_of (formed (has_form k) (subtag_of s))
 name_by k s (Some ends) = range_of k (subtag_of ends.0) (subtag_of ends.1)
 
+-- the subtag or the range that the text of a field names
 abbrev pub subtags_named : Kind → List ℕ → Result EntryName RecordFaultKind
 subtags_named k s = name_by k s (ends_of s)
 
@@ -149,11 +160,12 @@ IsValueOf k None (Some v) = ⊥
 IsValueOf k (Some s) None = ⊥
 IsValueOf k (Some s) (Some v) = IsValue k s v
 
--- the subtags of the pieces of a text, if each is one
+-- a subtag before others, if the piece is one
 abbrev pub with_subtag : Result (List ℕ) SubtagFault → Option (List (List ℕ)) → Option (List (List ℕ))
 with_subtag (Ok s) rest = option_map (λ (ss : List (List ℕ)). s ∷ ss) rest
 with_subtag (Err fault) rest = None
 
+-- the subtags of the pieces of a text, if each is one
 unfoldable pub subtags_of : List (List ℕ) → Option (List (List ℕ))
 subtags_of [] = Some []
 subtags_of (p ∷ ps) = with_subtag (subtag_of p) (subtags_of ps)
@@ -162,6 +174,7 @@ subtags_of (p ∷ ps) = with_subtag (subtag_of p) (subtags_of ps)
 abbrev pub prefix_of : List ℕ → Option (List (List ℕ))
 prefix_of s = subtags_of (pieces s)
 
+-- a Prefix before others, if it is a list of subtags
 abbrev pub with_prefix : Option (List (List ℕ)) → Option (List (List (List ℕ))) → Option (List (List (List ℕ)))
 with_prefix (Some p) rest = option_map (λ (ps : List (List (List ℕ))). p ∷ ps) rest
 with_prefix None rest = None
@@ -177,6 +190,7 @@ has_prefixes kinds.Extlang = true
 has_prefixes kinds.Variant = true
 has_prefixes _ = false
 
+-- the Prefixes of a record of a kind, if each is a list of subtags
 abbrev pub prefixes_in : Kind → List Field → Option (List (List (List ℕ)))
 prefixes_in k r = if has_prefixes k then prefixes_of (bodies prefix_name r) else Some []
 

@@ -1,6 +1,7 @@
 -- Tests of equality that compute.
-use Rattle.std.specs.Prelude.{ℕ, Bool, true, false, ◌==◌, ◌&&◌, List, Option, Some, None, bytes_eq}
+use Rattle.std.specs.Prelude.{ℕ, Bool, true, false, ◌==◌, ◌&&◌, List, bytes_eq}
 use Rattle.std.specs.Cmp.Lexicographic.{pointwise}
+use Rattle.std.specs.Option.{option_eq}
 use Rattle.lt_tag.specs.Parts.{CoreParts, ExtensionParts, TagForm, LangTag, PrivateUse, Grandfathered}
 use Rattle.lt_registry.specs.declared.entries.Kind.{Kind}
 use Rattle.lt_registry.specs.declared.entries.Kind.TheVariants as kinds
@@ -9,19 +10,13 @@ use Rattle.lt_registry.specs.declared.entries.Kind.TheVariants as kinds
 abbrev pub same_list : List (List ℕ) → List (List ℕ) → Bool
 same_list a b = pointwise bytes_eq a b
 
--- both have no subtag, or equal ones (RFC 5646, 2.1.1)
-abbrev pub same_option : Option (List ℕ) → Option (List ℕ) → Bool
-same_option None None = true
-same_option (Some a) (Some b) = bytes_eq a b
-same_option None (Some b) = false
-same_option (Some a) None = false
-
 -- the same language, extlangs, script, region and variants (RFC 5646, 2.1.1)
 abbrev pub same_core : CoreParts → CoreParts → Bool
 same_core c d =
     bytes_eq c.language d.language
     && (same_list c.extlangs d.extlangs
-    && (same_option c.script d.script && (same_option c.region d.region && same_list c.variants d.variants)))
+    && (option_eq bytes_eq c.script d.script
+    && (option_eq bytes_eq c.region d.region && same_list c.variants d.variants)))
 
 -- the same singleton and the same subtags (RFC 5646, 2.1.1)
 abbrev pub same_extension : ExtensionParts → ExtensionParts → Bool

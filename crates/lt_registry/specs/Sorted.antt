@@ -25,7 +25,7 @@ use Rattle.lt_registry.specs.declared.indexes.Indexes.{Indexes}
 abbrev pub filled : List ℕ → List ℕ
 filled s = s ++ replicate (8 - length s) 0
 
--- those as one number, so that numbers are in the order of subtags
+-- the number of a subtag: those bytes as one, so that numbers are in the order of subtags
 unfoldable pub number : List ℕ → ℕ
 number s = from_be_bytes w64 (filled s)
 
@@ -56,6 +56,7 @@ abbrev pub range_rows : Kind → ℕ → List EntryParts → List RangeRow
 range_rows kind place [] = []
 range_rows kind place (e ∷ es) = cons_option (range_row kind place e) (range_rows kind (place + 1) es)
 
+-- the rank is in the range
 abbrev pub is_within : ℕ → RangeRow → Bool
 is_within rank row = nat_le row.start rank && nat_lt rank row.end
 
@@ -94,11 +95,12 @@ abbrev pub tag_in : EntryName → Option TagForm
 tag_in (names.Whole t) = Some t
 tag_in _ = None
 
--- the number of a tag's language, and 0 for a tag without a core
+-- the number of a core's language, and 0 where there is no core
 abbrev pub core_number : Option CoreParts → ℕ
 core_number (Some c) = number c.language
 core_number None = 0
 
+-- the number of a tag's language, and 0 for a tag without a core
 abbrev pub language_number : TagForm → ℕ
 language_number t = core_number (core_of t)
 
@@ -114,6 +116,7 @@ tag_at R place = option_and_then (λ (e : EntryParts). tag_in e.name) (slice_get
 abbrev pub key_cmp : ℕ × Option TagForm → ℕ × Option TagForm → Ordering
 key_cmp a b = ordering_then (nat_cmp a.0 b.0) (option_cmp tag_cmp a.1 b.1)
 
+-- what whole records are sorted by: the number of the language, and the tag
 abbrev pub whole_key : List EntryParts → Row → ℕ × Option TagForm
 whole_key R w = (w.number, tag_at R w.place)
 

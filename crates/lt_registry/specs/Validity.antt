@@ -5,14 +5,14 @@ use Rattle.lt_tag.specs.Parts.{CoreParts, ExtensionParts, TForm, TagForm, LangTa
 use Rattle.lt_tag.specs.Extensions.{transform, IsTransform}
 use Rattle.lt_tag.specs.Values.{IsTagValue}
 use Rattle.lt_registry.specs.Parts.{EntryParts}
-use Rattle.lt_registry.specs.Entries.{is_registered, prefixes, lists}
+use Rattle.lt_registry.specs.Entries.{is_registered, prefixes, has_prefix}
 use Rattle.lt_registry.specs.declared.entries.Kind.TheVariants as kinds
 
 -- no extlang, or a single one, which is registered and has the language as one of its Prefixes (RFC 5646, 2.2.2 and
 -- 3.1.8)
 abbrev pub ExtlangsFit : List EntryParts → List ℕ → List (List ℕ) → Type 0
 ExtlangsFit R l [] = Unit {0}
-ExtlangsFit R l (x ∷ []) = (is_registered R kinds.Extlang x ≡ true) × (lists (prefixes R kinds.Extlang x) l ≡ true)
+ExtlangsFit R l (x ∷ []) = (is_registered R kinds.Extlang x ≡ true) × (has_prefix (prefixes R kinds.Extlang x) l ≡ true)
 ExtlangsFit R l (x ∷ y ∷ rest) = ⊥
 
 -- each subtag of the core is registered (RFC 5646, 2.2.9)
@@ -28,12 +28,7 @@ abbrev pub Distinct : {A : Type 0} → List A → Type 0
 Distinct [] = Unit {0}
 Distinct (x ∷ xs) = AllByRecursion (λ y. y ≢ x) xs × Distinct xs
 
--- a proper core in which no variant occurs twice (RFC 5646, 2.2.9)
-pub record IsValidCore (R : List EntryParts) (c : CoreParts) : Type 0 where
-  pub proper : IsProperCore R c
-  pub distinct : Distinct c.variants
-
--- the subtags of a t extension have the form of one, and its source is proper (RFC 6497, 2.2)
+-- the subtags of a t extension have the form of one (RFC 6497, 2.2); that its source is judged is this project's own
 abbrev pub IsProperExtension : List EntryParts → ExtensionParts → Type 0
 IsProperExtension R e =
     e.singleton ≡ transform → (p : TForm) × IsTransform e.subtags p × IfSome p.source (IsProperCore R)
@@ -47,8 +42,7 @@ pub record IsProperLangTag (R : List EntryParts) (c : CoreParts) (es : List Exte
 -- private use and grandfathered tags have no parts to judge (RFC 5646, 2.2.9)
 abbrev pub HasProperParts : List EntryParts → TagForm → Type 0
 HasProperParts R (LangTag c es ps) = IsProperLangTag R c es
-HasProperParts R (PrivateUse ps) = Unit {0}
-HasProperParts R (Grandfathered n) = Unit {0}
+HasProperParts R _ = Unit {0}
 
 -- valid, but that variants may repeat, in the core or in a source (RFC 5646, 2.2.9)
 pub record IsProper (R : List EntryParts) (t : TagForm) : Type 0 where
@@ -64,8 +58,7 @@ HasDistinctSource e =
 -- no variant occurs twice in the core, nor in a source (RFC 5646, 2.2.5)
 abbrev pub RepeatsNoVariant : TagForm → Type 0
 RepeatsNoVariant (LangTag c es ps) = Distinct c.variants × AllByRecursion HasDistinctSource es
-RepeatsNoVariant (PrivateUse ps) = Unit {0}
-RepeatsNoVariant (Grandfathered n) = Unit {0}
+RepeatsNoVariant _ = Unit {0}
 
 -- a valid tag: proper, and no variant occurs twice (RFC 5646, 2.2.9)
 pub record IsValid (R : List EntryParts) (t : TagForm) : Type 0 where

@@ -1,6 +1,6 @@
 //! Entries of a registry.
 ghost use Rattle.std.specs.Prelude.{◌≡◌};
-ghost use Rattle.lt_registry.specs.Entries.{IsEntry, IsPrefix, lists};
+ghost use Rattle.lt_registry.specs.Entries.{IsEntry, IsPrefix, has_prefix};
 
 use crate::prefixes::Prefixes;
 use lt_subtag::Subtag;
@@ -10,12 +10,19 @@ use std::marker::Model;
 /// The type of a record (RFC 5646, 3.1.3).
 #[derive(Clone, Copy, Debug, PartialEq, Eq)]
 pub enum Kind {
+    /// A language, as `zh` (RFC 5646, 2.2.1).
     Language,
+    /// An extended language, as the `yue` of `zh-yue` (RFC 5646, 2.2.2).
     Extlang,
+    /// A script, as `Hant` (RFC 5646, 2.2.3).
     Script,
+    /// A region, as `HK` or `419` (RFC 5646, 2.2.4).
     Region,
+    /// A variant, as `1996` (RFC 5646, 2.2.5).
     Variant,
+    /// A grandfathered tag, as `i-klingon` (RFC 5646, 2.2.8).
     Grandfathered,
+    /// A redundant tag: a whole tag that is a langtag too, as `zh-cmn-Hans` (RFC 5646, 2.2.8).
     Redundant,
 }
 
@@ -23,24 +30,30 @@ pub enum Kind {
 /// (RFC 5646, 3.1.3 and 3.1.4).
 #[derive(Debug, Drop)]
 pub enum EntryName {
+    /// One subtag: `Subtag: iw`.
     Single(Subtag),
+    /// The subtags of one length from the first to the last, both included: `Subtag: qaa..qtz`.
     Range(Subtag, Subtag),
+    /// A whole tag, grandfathered or redundant: `Tag: i-klingon`.
     Whole(Tag),
 }
 
 /// The `Preferred-Value` of a record: one subtag, or a whole tag (RFC 5646, 3.1.7).
 #[derive(Debug, Drop)]
 pub enum EntryValue {
+    /// One subtag, of a record that names subtags.
     One(Subtag),
+    /// A whole tag, of a grandfathered or redundant record.
     Whole(Tag),
 }
 
-/// The subtags of a `Prefix` (RFC 5646, 3.1.8).
+/// The subtags of a `Prefix` (RFC 5646, 3.1.8), as `zh` of the extlang `yue`.
 #[derive(Debug, Drop)]
 pub struct Prefix {
     subtags: Vec<Subtag>,
 }
 
+// A contract sees a Prefix as its subtags (RFC 5646, 3.1.8).
 impl Model for Prefix {
     ghost use Rattle.std.specs.Prelude.{ℕ, List};
     ghost use Rattle.lt_registry.specs.Entries.{IsPrefix};
@@ -81,6 +94,7 @@ pub struct Entry {
     prefixes: Prefixes,
 }
 
+// A contract sees a record as its number, kind, name, value and Prefixes (RFC 5646, 3.1.2).
 impl Model for Entry {
     ghost use Rattle.lt_registry.specs.Parts.{EntryParts};
     ghost use Rattle.lt_registry.specs.Entries.{IsEntry};
@@ -114,7 +128,7 @@ impl Entry {
         }
     }
 
-    /// The record's number in the file, counted from 1.
+    /// The record's number in the file, counted from 1, with the header counted too.
     pub fn number(&self) -> u32
         ensures value { result ≡ self.now.number }
         ensures entry { IsEntry self.now }
@@ -138,7 +152,7 @@ impl Entry {
         &self.name
     }
 
-    /// The record's value, if it has one.
+    /// The record's preferred value, if it has one (RFC 5646, 3.1.7).
     pub fn value(&self) -> &Option<EntryValue>
         ensures value { result.now ≡ self.now.value }
         ensures entry { IsEntry self.now }
@@ -146,7 +160,7 @@ impl Entry {
         &self.value
     }
 
-    /// The record's Prefixes in order.
+    /// The record's Prefixes in the order of the file. Only extlangs and variants have some (RFC 5646, 3.1.8).
     pub fn prefixes(&self) -> &[Prefix]
         ensures value { result.now ≡ self.now.prefixes }
         ensures entry { IsEntry self.now }
@@ -154,9 +168,9 @@ impl Entry {
         self.prefixes.all()
     }
 
-    /// Whether a subtag alone is one of the record's Prefixes. It is looked for among them by a search.
+    /// Whether a subtag alone is one of the record's Prefixes. It is looked for among them by binary search.
     pub fn has_prefix(&self, subtag: &Subtag) -> bool
-        ensures { result ≡ lists self.now.prefixes subtag.now }
+        ensures { result ≡ has_prefix self.now.prefixes subtag.now }
     {
         self.prefixes.has(subtag)
     }

@@ -7,14 +7,14 @@ use lt_tag::OutOfMemory;
 use std::alloc::AllocFailed;
 use thiserror::Error;
 
-/// Why a tag is not valid (RFC 5646, 2.2.9).
+/// Why a tag is not valid (RFC 5646, 2.2.9). Of the faults at one place the first in this order is answered.
 #[derive(Clone, Copy, Debug, PartialEq, Eq)]
 pub enum ValidFaultKind {
     /// The language is not registered.
     UnknownLanguage,
     /// The first extlang is not registered.
     UnknownExtlang,
-    /// The language is no Prefix of the first extlang.
+    /// The language is no Prefix of the first extlang (RFC 5646, 3.1.8).
     ExtlangPrefix,
     /// There is a second extlang.
     TooManyExtlangs,
@@ -24,16 +24,16 @@ pub enum ValidFaultKind {
     UnknownRegion,
     /// A variant is not registered.
     UnknownVariant,
-    /// A variant occurs a second time.
+    /// A variant occurs a second time (RFC 5646, 2.2.5).
     DuplicateVariant,
-    /// A singleton occurs a second time.
+    /// A singleton occurs a second time (RFC 5646, 2.2.6).
     DuplicateSingleton,
-    /// The subtags of a `t` extension have not its form (RFC 6497).
+    /// The subtags of a `t` extension don't have its form (RFC 6497, 2.2).
     BadTransform,
 }
 
 impl ValidFaultKind {
-    /// The kind's name, as it is written here.
+    /// The kind's name, as it is written here: `UnknownLanguage`.
     pub fn name(self) -> &'static str
         ensures { result.now ≡ name_of self }
     {
@@ -52,19 +52,24 @@ impl ValidFaultKind {
     }
 }
 
-/// Why a tag is not valid, and at which subtag, counted from 1.
+/// Why a tag is not valid, and at which subtag. It is printed as `UnknownScript 2`.
 #[derive(Clone, Copy, Debug, Drop, Error, PartialEq, Eq)]
 #[error("{kind:?} {place}")]
 pub struct ValidFault {
+    /// What the fault is.
     pub kind: ValidFaultKind,
+    /// The number of the subtag at fault, counted from 1: of `DuplicateVariant` and `DuplicateSingleton` the
+    /// second one, and of `BadTransform` the singleton.
     pub place: u32,
 }
 
-/// Why a tag is not found valid.
+/// Why `validate` doesn't find a tag valid.
 #[derive(Clone, Copy, Debug, Drop, Error, PartialEq, Eq)]
 pub enum ValidRefusal {
+    /// The tag is not valid.
     #[error("{0}")]
     Fault(ValidFault),
+    /// Memory ran out, for the parts of a `t` extension.
     #[error("OutOfMemory")]
     OutOfMemory,
 }
@@ -92,33 +97,34 @@ impl From<ValidFault> for ValidRefusal {
     }
 }
 
-/// Why a record gives no entry.
+/// Why a record gives no entry (RFC 5646, 3.1). Of the faults of one record the first in this order is
+/// answered.
 #[derive(Clone, Copy, Debug, PartialEq, Eq)]
 pub enum RecordFaultKind {
-    /// Type, Subtag, Tag or Preferred-Value occurs twice.
+    /// `Type`, `Subtag`, `Tag` or `Preferred-Value` occurs twice.
     RepeatedField,
-    /// There is no Type.
+    /// There is no `Type`.
     MissingType,
-    /// The Type is none of the seven.
+    /// The `Type` is none of the seven.
     UnknownType,
-    /// There is no Subtag or, for a grandfathered or redundant tag, no Tag.
+    /// There is no `Subtag` or, for a grandfathered or redundant tag, no `Tag`.
     MissingName,
-    /// The Subtag holds two full stops and is no range of its kind.
+    /// The `Subtag` holds two full stops and is no range of its kind.
     BadRange,
-    /// The Subtag has not the form of its kind.
+    /// The `Subtag` doesn't have the form of its kind.
     BadSubtag,
-    /// The Tag is not well-formed.
+    /// The `Tag` is not well-formed.
     BadTag,
-    /// The Preferred-Value has not the form of its kind.
+    /// The `Preferred-Value` doesn't have the form that its kind asks for.
     BadPreferred,
-    /// A Prefix of an extlang or variant is no list of subtags.
+    /// A `Prefix` of an extlang or variant is no list of subtags.
     BadPrefix,
     /// Memory ran out.
     OutOfMemory,
 }
 
 impl RecordFaultKind {
-    /// The kind's name, as it is written here.
+    /// The kind's name, as it is written here: `UnknownType`.
     pub fn name(self) -> &'static str
         ensures { result.now ≡ record_name_of self }
     {
@@ -159,18 +165,20 @@ impl<T: Drop> From<AllocFailed<T>> for RecordFaultKind {
     }
 }
 
-/// Why a record gives no entry, and the record's number in the file, counted from 1.
+/// Why a record gives no entry, and which record. It is printed as `UnknownType 7`.
 #[derive(Clone, Copy, Debug, Drop, Error, PartialEq, Eq)]
 #[error("{kind:?} {number}")]
 pub struct RecordFault {
+    /// What the fault is.
     pub kind: RecordFaultKind,
+    /// The record's number in the file, counted from 1, with the header counted too.
     pub number: u32,
 }
 
 /// Why a registry is not read.
 #[derive(Clone, Copy, Debug, Drop, Error, PartialEq, Eq)]
 pub enum RegistryFault {
-    /// The text is no jar, or was not read to its end.
+    /// The text is not in the record-jar format, or was not read to its end.
     #[error("{0}")]
     Jar(JarFault),
     /// A record gives no entry.

@@ -13,7 +13,7 @@ use lt_subtag::Subtag;
 use lt_tag::Tag;
 use std::marker::Model;
 
-/// A table that looks at one entry after another.
+/// A table that looks at one entry after another, and keeps no index: simple, and slow for many look-ups.
 #[derive(Debug, Drop)]
 pub struct ListTable {
     registry: Registry,

@@ -8,7 +8,7 @@ use crate::entries::{Entry, Kind};
 use lt_subtag::Subtag;
 use lt_tag::Tag;
 
-/// A table of entries. Each answer is the one that the list of entries determines.
+/// A table of entries. Each answer is the one that the list of entries determines (RFC 5646, 3.1.4 and 2.2.8).
 pub trait Lookup {
     /// The entries in the order of the file.
     ghost listed: { Self → List EntryParts };
@@ -19,9 +19,9 @@ pub trait Lookup {
         ensures rising { NumbersRise (listed self.now) }
         ensures forms { All IsEntry (listed self.now) };
 
-    /// The entry of a subtag under a kind: the first record that names this subtag and no other; or,
-    /// without such a record, the first whose range holds it. No subtag has an entry as a
-    /// grandfathered or redundant tag.
+    /// The entry of a subtag under a kind: the first record of the kind that names this subtag and no other;
+    /// or, without such a record, the first whose range holds it. No subtag has an entry as a grandfathered or
+    /// redundant tag.
     fn entry(&self, kind: Kind, subtag: &Subtag) -> Option<&Entry>
         ensures { option_copied result ≡ entry (listed self.now) kind subtag.now };
 

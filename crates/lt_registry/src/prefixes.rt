@@ -1,7 +1,7 @@
 //! The Prefixes of a record, and a search among them (RFC 5646, 3.1.8).
 ghost use Rattle.std.specs.Prelude.{◌≡◌, List, [], IfOk};
 ghost use Rattle.std.specs.List.{AllByRecursion, filter_map};
-ghost use Rattle.lt_registry.specs.Entries.{IsPrefix, lists};
+ghost use Rattle.lt_registry.specs.Entries.{IsPrefix, has_prefix};
 ghost use Rattle.lt_registry.specs.Prefixes.{single_of};
 
 use crate::entries::Prefix;
@@ -18,6 +18,7 @@ pub(crate) struct Prefixes {
     singles: Vec<u64>,
 }
 
+// A contract sees the Prefixes in the order of the record (RFC 5646, 3.1.8).
 impl Model for Prefixes {
     ghost use Rattle.std.specs.Prelude.{ℕ, List};
     ghost use Rattle.lt_registry.specs.Prefixes.{AreSingles};
@@ -62,7 +63,7 @@ impl Prefixes {
     /// Whether a subtag alone is one of them.
     pub(crate) fn has(&self, subtag: &Subtag) -> bool
         requires { AllByRecursion IsPrefix self.now }
-        ensures { result ≡ lists self.now subtag.now }
+        ensures { result ≡ has_prefix self.now subtag.now }
     {
         self.singles.binary_search(&number_of(subtag)).is_ok()
     }

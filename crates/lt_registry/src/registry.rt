@@ -13,7 +13,7 @@ use std::alloc::Global;
 use std::io::Read;
 use std::marker::Model;
 
-/// The entries of a registry in the order of the file.
+/// The entries of a registry in the order of the file. They need not pass the check.
 #[derive(Debug, Drop)]
 pub struct Registry {
     entries: Vec<Entry>,
@@ -32,8 +32,9 @@ impl Model for Registry {
 }
 
 impl Registry {
-    /// The entries of a file's records: each record but the header gives one. A refusal names the lowest
-    /// record at fault and, there, the first fault; where memory runs out, the record that was being made.
+    /// The entries of a file's records, 100,000 at most: each record but the header gives one (RFC 5646, 3.1).
+    /// A refusal names the lowest record at fault and, there, the first fault; where memory runs out, the
+    /// record that was being read.
     pub fn from_records(alloc: Global, records: &[Record]) -> Result<Registry, RecordFault>
         requires { length records.now ≤ 100000 }
         ensures ok { IfOk result (HasEntries records.now) }
@@ -46,9 +47,11 @@ impl Registry {
         Ok(Registry { entries })
     }
 
-    /// The entries of a file's records, which are read one by one to the end of what the device gives,
-    /// and the first of what is wrong, as `from_records` says it. A fault of the jar goes before one of
-    /// a record.
+    /// The entries of a file's records, which are read one by one to the end of what the device gives.
+    ///
+    /// - `Jar`: what is wrong with the text, or that the device failed, or that 10,000,000 reads did not come
+    ///   to its end, with the line; a fault of the text goes before one of a record.
+    /// - `Record`: else the lowest record at fault, as `from_records` says it.
     pub fn read<R: Read>(alloc: Global, device: &mut Device<R>) -> Result<Registry, RegistryFault>
         ensures { ReadsRegistry R.remaining device.old device.new result }
     {

@@ -8,8 +8,8 @@ pub(crate) struct Row {
     pub(crate) place: usize,
 }
 
-/// A range of subtags, by the rank of its first and the one after that of its last, and the place of its record among the
-/// entries.
+/// A range of subtags, by the rank of its first and the one after that of its last, and the place of its record
+/// among the entries.
 #[derive(Clone, Copy, Debug)]
 pub(crate) struct RangeRow {
     pub(crate) start: u128,

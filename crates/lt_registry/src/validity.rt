@@ -15,8 +15,8 @@ use lt_subtag::Subtag;
 use lt_tag::{Core, Extension, OutOfMemory, Tag, TransformFault, split_t};
 use std::alloc::Global;
 
-/// Whether a tag is valid: the fault of the least place and, there, of the first kind, if there is one.
-/// Memory is taken only for the parts of a `t` extension.
+/// Whether a tag is valid (RFC 5646, 2.2.9): nothing, or the fault of the least place and, there, of the first
+/// kind. Memory is taken only for the parts of a `t` extension, so `OutOfMemory` comes for no other tag.
 pub fn validate<L: Lookup>(alloc: Global, table: &L, tag: &Tag) -> Result<(), ValidRefusal>
     ensures ok { OnOk result (HasNoFault (L.listed table.now) tag.now) }
     ensures err { IfErr result (IsRefusal (L.listed table.now) tag.now) }
@@ -24,7 +24,8 @@ pub fn validate<L: Lookup>(alloc: Global, table: &L, tag: &Tag) -> Result<(), Va
     check_tag(alloc, table, tag, false)
 }
 
-/// Whether nothing keeps a tag from being valid, or nothing but variants that repeat.
+/// Whether nothing keeps a tag from being valid, or nothing but variants that repeat. `OutOfMemory` comes only
+/// for a tag with a `t` extension.
 pub fn proper<L: Lookup>(alloc: Global, table: &L, tag: &Tag) -> Result<bool, OutOfMemory>
     ensures answer { IfOk result (λ proper. IsTrue proper ↔ RepeatsAtMost (L.listed table.now) tag.now) }
     ensures memory { OnErr result (HasTransform (extensions_of tag.now)) }

@@ -1,3 +1,4 @@
+//! Records with their faults, and entries with their parts.
 mod answers;
 mod failing;
 mod growths;

@@ -3,9 +3,10 @@ use Rattle.std.proofs.Common.{◌≡◌, ◌≢◌, ℕ, zero, suc, ◌≤◌, �
 use Rattle.std.specs.List.{AllByRecursion, list_any, IsDistinct}
 use Rattle.std.proofs.lemmas.Map.Steps.{length-le_from_distinct_below}
 use Rattle.std.proofs.lemmas.Bool.{or_cases, eqb-true, ne_eqb}
+use Rattle.std.specs.Option.{option_or}
 use Rattle.lt_registry.specs.Parts.{EntryParts}
 use Rattle.lt_registry.specs.Same.{same_kind}
-use Rattle.lt_registry.specs.Entries.{is_named, holds, or_else, one_of, entry}
+use Rattle.lt_registry.specs.Entries.{is_named, holds, one_of, entry}
 use Rattle.lt_registry.specs.declared.entries.Kind.{Kind}
 use Rattle.lt_rewrite.specs.CoreSteps.{chase, Ends}
 use Rattle.lt_rewrite.specs.Conditions.{next_value}
@@ -109,7 +110,7 @@ entry_place : List EntryParts → Kind → List ℕ → ℕ
 entry_place R k s = unnamed_place (find (λ (e : EntryParts). same_kind e.kind k && is_named s e.name) R) R k s
 
 entry_found_at : (R : List EntryParts) (k : Kind) (s : List ℕ) (e : EntryParts) (o : Option EntryParts) → find (λ (e : EntryParts). same_kind e.kind k && is_named s e.name) R ≡ o
-    → or_else o (find (λ (e : EntryParts). same_kind e.kind k && holds s e.name) R) ≡ Some e
+    → option_or o (find (λ (e : EntryParts). same_kind e.kind k && holds s e.name) R) ≡ Some e
     → slice_get R (unnamed_place o R k s) ≡ Some e
 unfolding unnamed_place
 entry_found_at R k s e (Some g) p q = found (λ (e : EntryParts). same_kind e.kind k && is_named s e.name) R g p ∙ q

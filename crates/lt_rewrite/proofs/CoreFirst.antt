@@ -4,10 +4,10 @@ use Rattle.std.specs.List.{remove}
 use Rattle.std.proofs.lemmas.List.{get_or_read}
 use Rattle.lt_tag.specs.Parts.{CoreParts}
 use Rattle.lt_registry.specs.Parts.{EntryParts}
-use Rattle.lt_registry.specs.Entries.{entry, value, number_of, replacement, variant_value, is_short}
+use Rattle.lt_registry.specs.Entries.{entry, preferred_value, number_of, replacement, variant_value, is_short}
 use Rattle.lt_registry.specs.Faults.{before_script, before_region, before_variants}
 use Rattle.lt_registry.specs.declared.entries.Kind.TheVariants as kinds
-use Rattle.lt_rewrite.specs.CoreSteps.{values_of, CoreStep, by_extlang, by_language, by_script, by_region, by_variant, by_turn}
+use Rattle.lt_rewrite.specs.CoreSteps.{values_of, CoreStep, by_extlang, by_language, by_script, by_region, by_variant, by_variant_language}
 use Rattle.lt_rewrite.specs.CoreSettling.{IsFirstTurn, HasNoTurn}
 use Rattle.lt_rewrite.specs.Labels.{core_label}
 use Rattle.lt_rewrite.specs.Applying.{CoreLeads, Answers}
@@ -61,7 +61,7 @@ module _ (R : List EntryParts) (start : ℕ) (c : CoreParts) (step : Step) where
     leftmost = λ other b l r. omega (arith, p, (of_extlang R start c other b (rank_1 other.kind r) l).place);
   }
 
-  pub first_language : (v : List ℕ) → step.kind ≡ steps.Language → step.place ≡ start + 1 → step.number ≡ number_of (entry R kinds.Language c.language) → c.extlangs ≡ [] → value R kinds.Language c.language ≡ Some v → IsLeftmostOnCore R start c 2 step
+  pub first_language : (v : List ℕ) → step.kind ≡ steps.Language → step.place ≡ start + 1 → step.number ≡ number_of (entry R kinds.Language c.language) → c.extlangs ≡ [] → preferred_value R kinds.Language c.language ≡ Some v → IsLeftmostOnCore R start c 2 step
   first_language v k p n alone has = record {
     of_rank = ap rank_of k;
     to = record c { language = v };
@@ -69,7 +69,7 @@ module _ (R : List EntryParts) (start : ℕ) (c : CoreParts) (step : Step) where
     leftmost = λ other b l r. omega (arith, p, (of_language R start c other b (rank_2 other.kind r) l).place);
   }
 
-  pub first_script : (s v : List ℕ) → step.kind ≡ steps.Script → step.place ≡ start + before_script c + 1 → step.number ≡ number_of (entry R kinds.Script s) → c.script ≡ Some s → value R kinds.Script s ≡ Some v → IsLeftmostOnCore R start c 3 step
+  pub first_script : (s v : List ℕ) → step.kind ≡ steps.Script → step.place ≡ start + before_script c + 1 → step.number ≡ number_of (entry R kinds.Script s) → c.script ≡ Some s → preferred_value R kinds.Script s ≡ Some v → IsLeftmostOnCore R start c 3 step
   first_script s v k p n there has = record {
     of_rank = ap rank_of k;
     to = record c { script = Some v };
@@ -77,7 +77,7 @@ module _ (R : List EntryParts) (start : ℕ) (c : CoreParts) (step : Step) where
     leftmost = λ other b l r. omega (arith, p, (of_script R start c other b (rank_3 other.kind r) l).place);
   }
 
-  pub first_region : (s v : List ℕ) → step.kind ≡ steps.Region → step.place ≡ start + before_region c + 1 → step.number ≡ number_of (entry R kinds.Region s) → c.region ≡ Some s → value R kinds.Region s ≡ Some v → IsLeftmostOnCore R start c 4 step
+  pub first_region : (s v : List ℕ) → step.kind ≡ steps.Region → step.place ≡ start + before_region c + 1 → step.number ≡ number_of (entry R kinds.Region s) → c.region ≡ Some s → preferred_value R kinds.Region s ≡ Some v → IsLeftmostOnCore R start c 4 step
   first_region s v k p n there has = record {
     of_rank = ap rank_of k;
     to = record c { region = Some v };
@@ -85,7 +85,7 @@ module _ (R : List EntryParts) (start : ℕ) (c : CoreParts) (step : Step) where
     leftmost = λ other b l r. omega (arith, p, (of_region R start c other b (rank_4 other.kind r) l).place);
   }
 
-  value_at : (v w : List ℕ) → value R kinds.Variant v ≡ Some w → is_short w ≡ false → variant_value R v ≡ Some w
+  value_at : (v w : List ℕ) → preferred_value R kinds.Variant v ≡ Some w → is_short w ≡ false → variant_value R v ≡ Some w
   value_at v w h s = rw h (rw s refl)
 
   before_none : (i : ℕ) → ((k : ℕ) (d : List ℕ) → k < i → variant_value R (get_or c.variants k d) ≡ None) → (before : List (List ℕ)) (v w : List ℕ) (after : List (List ℕ)) → c.variants ≡ before ++ v ∷ after → variant_value R v ≡ Some w → length before < i → ⊥
@@ -160,7 +160,7 @@ module _ (R : List EntryParts) (start : ℕ) (c : CoreParts) where
       core_rank step b (by_script a v s) h = omega (arith, ap kind_rank h)
       core_rank step b (by_region a v s) h = omega (arith, ap kind_rank h)
       core_rank step b (by_variant before v w after s) h = omega (arith, ap kind_rank h)
-      core_rank step b (by_turn before v m after s) h = omega (arith, ap kind_rank h)
+      core_rank step b (by_variant_language before v m after s) h = omega (arith, ap kind_rank h)
 
 -- no variant turns
 pub none_turn : (R : List EntryParts) (start : ℕ) (c : CoreParts) → HasNoTurn (values_of R) c → NoneOnCore R start c 6

@@ -3,7 +3,7 @@ use Rattle.std.proofs.Common.{◌≡◌, ℕ, zero, suc, ◌⊎◌, inl, inr, Li
 use Rattle.std.specs.Option.{option_map}
 use Rattle.std.specs.List.{AllByRecursion}
 use Rattle.lt_tag.specs.Parts.{CoreParts}
-use Rattle.lt_rewrite.specs.CoreSteps.{Values, CoreStep, by_extlang, by_language, by_script, by_region, by_variant, by_turn, ExtlangStep, LanguageStep, ScriptStep, RegionStep, VariantStep, TurnStep}
+use Rattle.lt_rewrite.specs.CoreSteps.{Values, CoreStep, by_extlang, by_language, by_script, by_region, by_variant, by_variant_language, ExtlangStep, LanguageStep, ScriptStep, RegionStep, VariantStep, VariantLanguageStep}
 use Rattle.lt_rewrite.proofs.Chains.{IsEnd, end_same, end_next, end_keeps}
 
 -- the ends of the chains, and what the conditions on a registry say of them
@@ -17,9 +17,9 @@ pub record Settles (V : Values) : Type 0 where
   pub region_end : IsEnd V.region region
   pub variant_end : IsEnd V.variant variant
   -- a language beside which a variant turns has no value
-  pub turns_at_rest : (l v m : List ℕ) → V.turn l v ≡ Some m → V.language l ≡ None
+  pub turns_at_rest : (l v m : List ℕ) → V.variant_language l v ≡ Some m → V.language l ≡ None
   -- a variant with a variant value does not turn, and nor does its value
-  pub replaced : (v w : List ℕ) → V.variant v ≡ Some w → (l : List ℕ) → (V.turn l v ≡ None) × (V.turn l w ≡ None)
+  pub replaced : (v w : List ℕ) → V.variant v ≡ Some w → (l : List ℕ) → (V.variant_language l v ≡ None) × (V.variant_language l w ≡ None)
 
 -- the leftmost variant that turns: its language, and the others
 abbrev pub pick_at : Option (List ℕ) → List ℕ → List (List ℕ) → Option (List ℕ × List (List ℕ)) → Option (List ℕ × List (List ℕ))
@@ -28,7 +28,7 @@ pick_at None v vs r = option_map (λ (p : List ℕ × List (List ℕ)). (p.0, v 
 
 abbrev pub pick : Values → List ℕ → List (List ℕ) → Option (List ℕ × List (List ℕ))
 pick V l [] = None
-pick V l (v ∷ vs) = pick_at (V.turn l v) v vs (pick V l vs)
+pick V l (v ∷ vs) = pick_at (V.variant_language l v) v vs (pick V l vs)
 
 -- turns done, at most n, from a language that has no value
 abbrev pub settled : (V : Values) → Settles V → ℕ → List ℕ → List (List ℕ) → List ℕ × List (List ℕ)
@@ -53,14 +53,14 @@ pub none_or : (o : Option (List ℕ)) → (o ≡ None) ⊎ ((t : List ℕ) × (o
 none_or None = inl refl
 none_or (Some t) = inr (t, refl)
 
-turn_end_at : (V : Values) (S : Settles V) (l v : List ℕ) → (o : Option (List ℕ)) → V.variant v ≡ o → V.turn l (S.variant v) ≡ V.turn l v
-turn_end_at V S l v None e = ap (V.turn l) (end_same S.variant_end v e)
+turn_end_at : (V : Values) (S : Settles V) (l v : List ℕ) → (o : Option (List ℕ)) → V.variant v ≡ o → V.variant_language l (S.variant v) ≡ V.variant_language l v
+turn_end_at V S l v None e = ap (V.variant_language l) (end_same S.variant_end v e)
 turn_end_at V S l v (Some w) e =
-    let here : V.turn l v ≡ None = (S.replaced v w e l).0 in
-    let P : List ℕ → Type 0 = λ s. V.turn l s ≡ None in
+    let here : V.variant_language l v ≡ None = (S.replaced v w e l).0 in
+    let P : List ℕ → Type 0 = λ s. V.variant_language l s ≡ None in
     end_keeps S.variant_end P (λ s t h p. (S.replaced s t h l).1) v here ∙ sym here
 
-pub turn_end : (V : Values) (S : Settles V) (l v : List ℕ) → V.turn l (S.variant v) ≡ V.turn l v
+pub turn_end : (V : Values) (S : Settles V) (l v : List ℕ) → V.variant_language l (S.variant v) ≡ V.variant_language l v
 turn_end V S l v = turn_end_at V S l v (V.variant v) refl
 
 abbrev mapped : (List ℕ → List ℕ) → List ℕ × List (List ℕ) → List ℕ × List (List ℕ)
@@ -75,10 +75,10 @@ pub pick_map : (V : Values) (S : Settles V) (l : List ℕ) (vs : List (List ℕ)
 pick_map V S l [] = refl
 pick_map V S l (v ∷ vs) =
     ap (λ o. pick_at o (S.variant v) (map S.variant vs) (pick V l (map S.variant vs))) (turn_end V S l v)
-    ∙ ap (pick_at (V.turn l v) (S.variant v) (map S.variant vs)) (pick_map V S l vs)
-    ∙ pick_at_map S.variant (V.turn l v) v vs (pick V l vs)
+    ∙ ap (pick_at (V.variant_language l v) (S.variant v) (map S.variant vs)) (pick_map V S l vs)
+    ∙ pick_at_map S.variant (V.variant_language l v) v vs (pick V l vs)
 
-pub pick_leftmost : (V : Values) (l : List ℕ) (before : List (List ℕ)) (v m : List ℕ) (after : List (List ℕ)) → AllByRecursion (λ u. V.turn l u ≡ None) before → V.turn l v ≡ Some m → pick V l (before ++ v ∷ after) ≡ Some (m, before ++ after)
+pub pick_leftmost : (V : Values) (l : List ℕ) (before : List (List ℕ)) (v m : List ℕ) (after : List (List ℕ)) → AllByRecursion (λ u. V.variant_language l u ≡ None) before → V.variant_language l v ≡ Some m → pick V l (before ++ v ∷ after) ≡ Some (m, before ++ after)
 pick_leftmost V l [] v m after h e = ap (λ o. pick_at o v after (pick V l after)) e
 pick_leftmost V l (u ∷ us) v m after h e =
     ap (λ o. pick_at o u (us ++ v ∷ after) (pick V l (us ++ v ∷ after))) h.0
@@ -94,7 +94,7 @@ pick_at_length None v vs (Some q) p ih e =
 
 pub pick_length : (V : Values) (l : List ℕ) (vs : List (List ℕ)) (p : List ℕ × List (List ℕ)) → pick V l vs ≡ Some p → length vs ≡ suc (length p.1)
 pick_length V l [] p e = cc
-pick_length V l (v ∷ vs) p e = pick_at_length (V.turn l v) v vs (pick V l vs) p (pick_length V l vs) e
+pick_length V l (v ∷ vs) p e = pick_at_length (V.variant_language l v) v vs (pick V l vs) p (pick_length V l vs) e
 
 pub settled_some : (V : Values) (S : Settles V) (x : List ℕ) (vs : List (List ℕ)) (p : List ℕ × List (List ℕ)) → pick V x vs ≡ Some p → settled V S (length vs) x vs ≡ settled V S (length p.1) (S.language p.0) p.1
 settled_some V S x vs p e =
@@ -136,7 +136,7 @@ keeps_variant V S c d before v w after h =
     (ap (map S.variant) h.there ∙ map-append S.variant before (v ∷ after) ∙ ap (λ u. map S.variant before ++ u ∷ map S.variant after) (end_next S.variant_end v w h.has) ∙ sym (map-append S.variant before (w ∷ after)))
     ∙ sym (ap (form V S) h.result)
 
-keeps_turn : (V : Values) (S : Settles V) (c d : CoreParts) (before : List (List ℕ)) (v m : List ℕ) (after : List (List ℕ)) → TurnStep V c before v m after d → form V S c ≡ form V S d
+keeps_turn : (V : Values) (S : Settles V) (c d : CoreParts) (before : List (List ℕ)) (v m : List ℕ) (after : List (List ℕ)) → VariantLanguageStep V c before v m after d → form V S c ≡ form V S d
 keeps_turn V S c d before v m after s =
     let sc = option_map S.script c.script in
     let re = option_map S.region c.region in
@@ -159,4 +159,4 @@ step_keeps V S c d (by_language v s) = keeps_language V S c d v s
 step_keeps V S c d (by_script s v h) = keeps_script V S c d s v h
 step_keeps V S c d (by_region s v h) = keeps_region V S c d s v h
 step_keeps V S c d (by_variant before v w after h) = keeps_variant V S c d before v w after h
-step_keeps V S c d (by_turn before v m after s) = keeps_turn V S c d before v m after s
+step_keeps V S c d (by_variant_language before v m after s) = keeps_turn V S c d before v m after s

@@ -4,10 +4,10 @@ use Rattle.std.specs.List.{AllByRecursion, remove}
 use Rattle.std.proofs.lemmas.List.{set_split, length-take-le}
 use Rattle.lt_tag.specs.Parts.{CoreParts}
 use Rattle.lt_registry.specs.Parts.{EntryParts}
-use Rattle.lt_registry.specs.Entries.{entry, value, number_of, replacement, variant_value, is_short}
+use Rattle.lt_registry.specs.Entries.{entry, preferred_value, number_of, replacement, variant_value, is_short}
 use Rattle.lt_registry.specs.Faults.{before_script, before_region, before_variants}
 use Rattle.lt_registry.specs.declared.entries.Kind.TheVariants as kinds
-use Rattle.lt_rewrite.specs.CoreSteps.{values_of, CoreStep, by_extlang, by_language, by_script, by_region, by_variant, by_turn}
+use Rattle.lt_rewrite.specs.CoreSteps.{values_of, CoreStep, by_extlang, by_language, by_script, by_region, by_variant, by_variant_language}
 use Rattle.lt_rewrite.specs.CoreSettling.{IsFirstTurn, HasNoTurn}
 use Rattle.lt_rewrite.specs.Labels.{core_label, step_at}
 use Rattle.lt_rewrite.specs.Applying.{IsValueBy, CoreLeads}
@@ -119,7 +119,7 @@ module _ (R : List EntryParts) (start : ℕ) (c : CoreParts) (step : Step) where
     pub long : is_short value ≡ false
     pub result : d ≡ record c { variants = before ++ value ∷ after }
 
-  variant_value_at : (v w : List ℕ) → value R kinds.Variant v ≡ Some w → is_short w ≡ false → variant_value R v ≡ Some w
+  variant_value_at : (v w : List ℕ) → preferred_value R kinds.Variant v ≡ Some w → is_short w ≡ false → variant_value R v ≡ Some w
   variant_value_at v w h s = rw h (rw s refl)
 
   pub from_variant : (d : CoreParts) → step.kind ≡ steps.Variant → VariantLeads d → CoreLeads R start c step d
@@ -144,16 +144,16 @@ module _ (R : List EntryParts) (start : ℕ) (c : CoreParts) (step : Step) where
     pub number : number_of (entry R kinds.Variant variant) ≡ step.number
     pub alone : c.extlangs ≡ []
     pub there : c.variants ≡ before ++ variant ∷ after
-    pub has : (values_of R).turn c.language variant ≡ Some language
-    pub leftmost : AllByRecursion (λ u. (values_of R).turn c.language u ≡ None) before
+    pub has : (values_of R).variant_language c.language variant ≡ Some language
+    pub leftmost : AllByRecursion (λ u. (values_of R).variant_language c.language u ≡ None) before
     pub result : d ≡ record c { language = language; variants = before ++ after }
 
   pub from_turn : (d : CoreParts) → step.kind ≡ steps.VariantLanguage → TurnLeads d → CoreLeads R start c step d
   from_turn d k l =
-      (by_turn l.before l.variant l.language l.after (record { alone = l.alone; there = l.there; has = l.has; leftmost = l.leftmost; result = l.result }), same_step _ _ _ step k l.place (sym l.number))
+      (by_variant_language l.before l.variant l.language l.after (record { alone = l.alone; there = l.there; has = l.has; leftmost = l.leftmost; result = l.result }), same_step _ _ _ step k l.place (sym l.number))
 
   to_turn : (d : CoreParts) → step.kind ≡ steps.VariantLanguage → (s : CoreStep (values_of R) c d) → core_label R start s ≡ step → TurnLeads d
-  to_turn d k (by_turn before v m after s) h =
+  to_turn d k (by_variant_language before v m after s) h =
       record { before = before; variant = v; after = after; language = m; place = place_of _ step h; number = number_at _ step h; alone = s.alone; there = s.there; has = s.has; leftmost = s.leftmost; result = s.result }
   to_turn d k s h = let m = kind_of _ step h ∙ k in cc
 
@@ -167,7 +167,7 @@ module _ (R : List EntryParts) (start : ℕ) (c : CoreParts) (step : Step) where
   other_kind d x l s r v t (by_script a b e) h = s (sym (kind_of _ step h))
   other_kind d x l s r v t (by_region a b e) h = r (sym (kind_of _ step h))
   other_kind d x l s r v t (by_variant before a w after e) h = v (sym (kind_of _ step h))
-  other_kind d x l s r v t (by_turn before a m after e) h = t (sym (kind_of _ step h))
+  other_kind d x l s r v t (by_variant_language before a m after e) h = t (sym (kind_of _ step h))
 
 -- the variant at an index, and the list round it
 pub record IsAt (vs : List (List ℕ)) (i : ℕ) (v : List ℕ) : Type 0 where
@@ -221,7 +221,7 @@ module _ (R : List EntryParts) (start : ℕ) (c : CoreParts) (step : Step) where
   pub turn_elsewhere : step.kind ≡ steps.VariantLanguage → (i : ℕ) (m : List ℕ) → IsFirstTurn (values_of R) c i m → (step.place ≡ start + before_variants c + i + 1 → ⊥) → (d : CoreParts) → CoreLeads R start c step d → ⊥
   turn_elsewhere k i m t n d l =
       let r = of_turn R start c step d k l in
-      let same = one_first ((values_of R).turn c.language) r.before r.variant r.language r.after (take i c.variants) t.variant m (drop (suc i) c.variants) (sym r.there ∙ t.there) r.has t.has r.leftmost t.leftmost in
+      let same = one_first ((values_of R).variant_language c.language) r.before r.variant r.language r.after (take i c.variants) t.variant m (drop (suc i) c.variants) (sym r.there ∙ t.there) r.has t.has r.leftmost t.leftmost in
       let front = length-take-le i c.variants (omega (arith, t.within)) in
       n (omega (arith, r.place, same, front))
 
@@ -234,7 +234,7 @@ module _ (R : List EntryParts) (start : ℕ) (c : CoreParts) (step : Step) where
   pub turn_by_another : step.kind ≡ steps.VariantLanguage → (i : ℕ) (m v : List ℕ) → IsFirstTurn (values_of R) c i m → v ≡ get_or c.variants i v → (step.number ≡ number_of (entry R kinds.Variant v) → ⊥) → (d : CoreParts) → CoreLeads R start c step d → ⊥
   turn_by_another k i m v t e n d l =
       let r = of_turn R start c step d k l in
-      let same = one_first ((values_of R).turn c.language) r.before r.variant r.language r.after (take i c.variants) t.variant m (drop (suc i) c.variants) (sym r.there ∙ t.there) r.has t.has r.leftmost t.leftmost in
+      let same = one_first ((values_of R).variant_language c.language) r.before r.variant r.language r.after (take i c.variants) t.variant m (drop (suc i) c.variants) (sym r.there ∙ t.there) r.has t.has r.leftmost t.leftmost in
       let front = length-take-le i c.variants (omega (arith, t.within)) in
       let here : length r.before ≡ i = omega (arith, same, front) in
       let is : r.variant ≡ v = sym (cut_at r.before r.variant r.after c.variants v r.there) ∙ ap (λ n. get_or c.variants n v) here ∙ sym e in
@@ -245,7 +245,7 @@ module _ (R : List EntryParts) (start : ℕ) (c : CoreParts) (step : Step) where
       let r = of_turn R start c step d k l in
       let at = cut_at r.before r.variant r.after c.variants r.variant r.there in
       let a = none (length r.before) r.variant (cut_within r.before r.variant r.after c.variants r.there) in
-      let b : (values_of R).turn c.language r.variant ≡ None = sym (ap ((values_of R).turn c.language) at) ∙ a in
+      let b : (values_of R).variant_language c.language r.variant ≡ None = sym (ap ((values_of R).variant_language c.language) at) ∙ a in
       let h = r.has in
       cc
 

@@ -4,7 +4,7 @@ use Rattle.std.specs.Prelude.{option_to_list}
 use Rattle.std.proofs.lemmas.List.{length-append}
 use Rattle.lt_tag.specs.Parts.{CoreParts}
 use Rattle.lt_tag.specs.Spelling.{spell_core}
-use Rattle.lt_rewrite.specs.CoreSteps.{Values, CoreStep, by_extlang, by_language, by_script, by_region, by_variant, by_turn}
+use Rattle.lt_rewrite.specs.CoreSteps.{Values, CoreStep, by_extlang, by_language, by_script, by_region, by_variant, by_variant_language}
 
 -- no part has more subtags
 pub record IsNoLonger (d c : CoreParts) : Type 0 where
@@ -27,7 +27,7 @@ core_step_no_longer V c d (by_region a v s) =
 core_step_no_longer V c d (by_variant before v w after s) =
     let n : length (before ++ w ∷ after) ≤ length c.variants = omega (arith, length-append before (w ∷ after), length-append before (v ∷ after), ap length s.there) in
     subst (λ y. IsNoLonger y c) (sym s.result) (record { extlangs = omega arith; script = omega arith; region = omega arith; variants = n })
-core_step_no_longer V c d (by_turn before v m after s) =
+core_step_no_longer V c d (by_variant_language before v m after s) =
     let n : length (before ++ after) ≤ length c.variants = omega (arith, length-append before after, length-append before (v ∷ after), ap length s.there) in
     subst (λ y. IsNoLonger y c) (sym s.result) (record { extlangs = omega arith; script = omega arith; region = omega arith; variants = n })
 

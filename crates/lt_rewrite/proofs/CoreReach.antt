@@ -4,7 +4,7 @@ use Rattle.std.specs.Option.{option_map}
 use Rattle.std.specs.List.{AllByRecursion}
 use Rattle.lt_tag.specs.Parts.{CoreParts}
 use Rattle.lt_rewrite.specs.Rewriting.{Star, done, then}
-use Rattle.lt_rewrite.specs.CoreSteps.{Values, chase, CoreStep, by_extlang, by_language, by_script, by_region, by_variant, by_turn}
+use Rattle.lt_rewrite.specs.CoreSteps.{Values, chase, CoreStep, by_extlang, by_language, by_script, by_region, by_variant, by_variant_language}
 use Rattle.lt_rewrite.proofs.Stars.{star_trans, star_path}
 use Rattle.lt_rewrite.proofs.Chains.{IsEnd, chase_rests, chase_next}
 use Rattle.lt_rewrite.proofs.CoreForm.{Settles, pick_at, pick, settled, core, form_on, form}
@@ -57,11 +57,11 @@ pub record Picked (V : Values) (l : List ℕ) (vs : List (List ℕ)) (p : List �
   pub variant : List ℕ
   pub after : List (List ℕ)
   pub there : vs ≡ before ++ variant ∷ after
-  pub has : V.turn l variant ≡ Some p.0
-  pub leftmost : AllByRecursion (λ u. V.turn l u ≡ None) before
+  pub has : V.variant_language l variant ≡ Some p.0
+  pub leftmost : AllByRecursion (λ u. V.variant_language l u ≡ None) before
   pub left : before ++ after ≡ p.1
 
-picked_at : (V : Values) (l v : List ℕ) (vs : List (List ℕ)) (p : List ℕ × List (List ℕ)) → ((q : List ℕ × List (List ℕ)) → pick V l vs ≡ Some q → Picked V l vs q) → (o : Option (List ℕ)) → V.turn l v ≡ o → (r : Option (List ℕ × List (List ℕ))) → pick V l vs ≡ r → pick_at o v vs r ≡ Some p → Picked V l (v ∷ vs) p
+picked_at : (V : Values) (l v : List ℕ) (vs : List (List ℕ)) (p : List ℕ × List (List ℕ)) → ((q : List ℕ × List (List ℕ)) → pick V l vs ≡ Some q → Picked V l vs q) → (o : Option (List ℕ)) → V.variant_language l v ≡ o → (r : Option (List ℕ × List (List ℕ))) → pick V l vs ≡ r → pick_at o v vs r ≡ Some p → Picked V l (v ∷ vs) p
 picked_at V l v vs p ih (Some m) t r q e =
     let a : m ≡ p.0 = cc in
     let b : vs ≡ p.1 = cc in
@@ -75,7 +75,7 @@ picked_at V l v vs p ih None t (Some r) q e =
 
 pub picked : (V : Values) (l : List ℕ) (vs : List (List ℕ)) (p : List ℕ × List (List ℕ)) → pick V l vs ≡ Some p → Picked V l vs p
 picked V l [] p e = cc
-picked V l (v ∷ vs) p e = picked_at V l v vs p (picked V l vs) (V.turn l v) refl (pick V l vs) refl e
+picked V l (v ∷ vs) p e = picked_at V l v vs p (picked V l vs) (V.variant_language l v) refl (pick V l vs) refl e
 
 turns_at : (V : Values) (S : Settles V) (sc re : Option (List ℕ)) (n : ℕ) → ((x : List ℕ) (vs : List (List ℕ)) → (let p = settled V S n x vs in Star (CoreStep V) (core x [] sc re vs) (core p.0 [] sc re p.1))) → (x : List ℕ) (vs : List (List ℕ)) (o : Option (List ℕ × List (List ℕ))) → pick V x vs ≡ o → (let p : List ℕ × List (List ℕ) = elim o as (λ _. List ℕ × List (List ℕ)) [ None ↦ (x, vs) | Some p ↦ settled V S n (S.language p.0) p.1 ] in Star (CoreStep V) (core x [] sc re vs) (core p.0 [] sc re p.1))
 turns_at V S sc re n ih x vs None e = done
@@ -83,7 +83,7 @@ turns_at V S sc re n ih x vs (Some p) e =
     let k : Picked V x vs p = picked V x vs p e in
     let c' : CoreParts = core p.0 [] sc re p.1 in
     let s : CoreStep V (core x [] sc re vs) c' =
-    by_turn k.before k.variant p.0 k.after (record { alone = refl; there = k.there; has = k.has; leftmost = k.leftmost; result = ap (λ us. core p.0 [] sc re us) (sym k.left) }) in
+    by_variant_language k.before k.variant p.0 k.after (record { alone = refl; there = k.there; has = k.has; leftmost = k.leftmost; result = ap (λ us. core p.0 [] sc re us) (sym k.left) }) in
     then s (star_trans (language_to_end V S p.0 sc re p.1) (ih (S.language p.0) p.1))
 
 turns : (V : Values) (S : Settles V) (sc re : Option (List ℕ)) (n : ℕ) (x : List ℕ) (vs : List (List ℕ)) → (let p = settled V S n x vs in Star (CoreStep V) (core x [] sc re vs) (core p.0 [] sc re p.1))

@@ -3,7 +3,7 @@ use Rattle.std.proofs.Common.{◌≡◌, ℕ, zero, suc, List, [], ◌∷◌, �
 use Rattle.std.specs.Option.{option_map}
 use Rattle.std.specs.List.{AllByRecursion}
 use Rattle.lt_tag.specs.Parts.{CoreParts}
-use Rattle.lt_rewrite.specs.CoreSteps.{Values, CoreStep, by_extlang, by_language, by_script, by_region, by_variant, by_turn}
+use Rattle.lt_rewrite.specs.CoreSteps.{Values, CoreStep, by_extlang, by_language, by_script, by_region, by_variant, by_variant_language}
 use Rattle.lt_rewrite.proofs.Chains.{IsEnd}
 use Rattle.lt_rewrite.proofs.CoreForm.{Settles, pick_at, pick, settled, form_on, form, pick_length}
 
@@ -14,7 +14,7 @@ pub record AtRest (V : Values) (d : CoreParts) : Type 0 where
   pub script : (s : List ℕ) → d.script ≡ Some s → V.script s ≡ None
   pub region : (s : List ℕ) → d.region ≡ Some s → V.region s ≡ None
   pub variant : AllByRecursion (λ v. V.variant v ≡ None) d.variants
-  pub turn : d.extlangs ≡ [] → AllByRecursion (λ v. V.turn d.language v ≡ None) d.variants
+  pub turn : d.extlangs ≡ [] → AllByRecursion (λ v. V.variant_language d.language v ≡ None) d.variants
 
 pub all_at : {A : Type 0} (P : A → Type 0) (before : List A) (v : A) (after : List A) → AllByRecursion P (before ++ v ∷ after) → P v
 all_at P [] v after h = h.0
@@ -30,20 +30,20 @@ rests V d e R (by_variant before v w after h) =
     let P : List ℕ → Type 0 = λ u. V.variant u ≡ None in
     let a : V.variant v ≡ None = all_at P before v after (subst (AllByRecursion P) h.there R.variant) in
     let b = h.has in cc
-rests V d e R (by_turn before v m after s) =
-    let P : List ℕ → Type 0 = λ u. V.turn d.language u ≡ None in
-    let a : V.turn d.language v ≡ None = all_at P before v after (subst (AllByRecursion P) s.there (R.turn s.alone)) in
+rests V d e R (by_variant_language before v m after s) =
+    let P : List ℕ → Type 0 = λ u. V.variant_language d.language u ≡ None in
+    let a : V.variant_language d.language v ≡ None = all_at P before v after (subst (AllByRecursion P) s.there (R.turn s.alone)) in
     let b = s.has in cc
 
-pick_none_at : (V : Values) (l v : List ℕ) (vs : List (List ℕ)) → ((pick V l vs ≡ None) → AllByRecursion (λ u. V.turn l u ≡ None) vs) → (o : Option (List ℕ)) → V.turn l v ≡ o → (r : Option (List ℕ × List (List ℕ))) → pick V l vs ≡ r → pick_at o v vs r ≡ None → AllByRecursion (λ u. V.turn l u ≡ None) (v ∷ vs)
+pick_none_at : (V : Values) (l v : List ℕ) (vs : List (List ℕ)) → ((pick V l vs ≡ None) → AllByRecursion (λ u. V.variant_language l u ≡ None) vs) → (o : Option (List ℕ)) → V.variant_language l v ≡ o → (r : Option (List ℕ × List (List ℕ))) → pick V l vs ≡ r → pick_at o v vs r ≡ None → AllByRecursion (λ u. V.variant_language l u ≡ None) (v ∷ vs)
 pick_none_at V l v vs ih (Some m) t r q e = cc
 pick_none_at V l v vs ih None t None q e = (t, ih q)
 pick_none_at V l v vs ih None t (Some p) q e = cc
 
 -- none is picked only where none turns
-pub pick_none : (V : Values) (l : List ℕ) (vs : List (List ℕ)) → pick V l vs ≡ None → AllByRecursion (λ v. V.turn l v ≡ None) vs
+pub pick_none : (V : Values) (l : List ℕ) (vs : List (List ℕ)) → pick V l vs ≡ None → AllByRecursion (λ v. V.variant_language l v ≡ None) vs
 pick_none V l [] e = tt
-pick_none V l (v ∷ vs) e = pick_none_at V l v vs (pick_none V l vs) (V.turn l v) refl (pick V l vs) refl e
+pick_none V l (v ∷ vs) e = pick_none_at V l v vs (pick_none V l vs) (V.variant_language l v) refl (pick V l vs) refl e
 
 pick_kept_at : (P : List ℕ → Type 0) (o : Option (List ℕ)) (v : List ℕ) (vs : List (List ℕ)) (r : Option (List ℕ × List (List ℕ))) (p : List ℕ × List (List ℕ)) → P v → AllByRecursion P vs → ((q : List ℕ × List (List ℕ)) → r ≡ Some q → AllByRecursion P q.1) → pick_at o v vs r ≡ Some p → AllByRecursion P p.1
 pick_kept_at P (Some m) v vs r p h hs ih e =
@@ -57,12 +57,12 @@ pick_kept_at P None v vs (Some q) p h hs ih e =
 -- what holds of all variants holds of those that are left
 pub pick_kept : (V : Values) (P : List ℕ → Type 0) (l : List ℕ) (vs : List (List ℕ)) (p : List ℕ × List (List ℕ)) → AllByRecursion P vs → pick V l vs ≡ Some p → AllByRecursion P p.1
 pick_kept V P l [] p h e = cc
-pick_kept V P l (v ∷ vs) p h e = pick_kept_at P (V.turn l v) v vs (pick V l vs) p h.0 h.1 (λ q f. pick_kept V P l vs q h.1 f) e
+pick_kept V P l (v ∷ vs) p h e = pick_kept_at P (V.variant_language l v) v vs (pick V l vs) p h.0 h.1 (λ q f. pick_kept V P l vs q h.1 f) e
 
 -- where the turns end
 record Settled (V : Values) (P : List ℕ → Type 0) (p : List ℕ × List (List ℕ)) : Type 0 where
   language : V.language p.0 ≡ None
-  turn : AllByRecursion (λ v. V.turn p.0 v ≡ None) p.1
+  turn : AllByRecursion (λ v. V.variant_language p.0 v ≡ None) p.1
   kept : AllByRecursion P p.1
 
 settled_rests_at : (V : Values) (S : Settles V) (P : List ℕ → Type 0) (n : ℕ) → ((x : List ℕ) (vs : List (List ℕ)) → length vs ≡ n → V.language x ≡ None → AllByRecursion P vs → Settled V P (settled V S n x vs)) → (x : List ℕ) (vs : List (List ℕ)) → length vs ≡ suc n → V.language x ≡ None → AllByRecursion P vs → (o : Option (List ℕ × List (List ℕ))) → pick V x vs ≡ o → Settled V P (elim o as (λ _. List ℕ × List (List ℕ)) [ None ↦ (x, vs) | Some p ↦ settled V S n (S.language p.0) p.1 ])

@@ -8,7 +8,7 @@ use Rattle.lt_tag.specs.Parts.{CoreParts}
 use Rattle.lt_registry.specs.Parts.{EntryParts}
 use Rattle.lt_registry.specs.declared.entries.Kind.TheVariants as kinds
 use Rattle.lt_rewrite.specs.Rewriting.{Star, Rests}
-use Rattle.lt_rewrite.specs.CoreSteps.{Values, values_of, CoreStep, IsCoreNormalForm, EndsIn, by_extlang, by_language, by_script, by_region, by_variant, by_turn}
+use Rattle.lt_rewrite.specs.CoreSteps.{Values, values_of, CoreStep, IsCoreNormalForm, EndsIn, by_extlang, by_language, by_script, by_region, by_variant, by_variant_language}
 use Rattle.lt_rewrite.specs.Conditions.{next_value}
 use Rattle.lt_rewrite.specs.CoreSettling.{HasFinalLanguage, HasFinalScript, HasFinalRegion, HasFinalVariants, HasNoTurn, IsFirstTurn}
 use Rattle.lt_rewrite.proofs.Stars.{star_trans}
@@ -58,7 +58,7 @@ pub extlang_step : (R : List EntryParts) (c : CoreParts) (x l : List ℕ) → c.
 extlang_step R c x l h e = by_extlang x (record { one = h; result = ap (λ u. record c { language = u; extlangs = [] }) e })
 
 pub turn_step : (R : List EntryParts) (c : CoreParts) (i : ℕ) (m : List ℕ) → c.extlangs ≡ [] → IsFirstTurn (values_of R) c i m → CoreStep (values_of R) c (record c { language = m; variants = remove c.variants i })
-turn_step R c i m h t = by_turn (take i c.variants) t.variant m (drop (suc i) c.variants) (record { alone = h; there = t.there; has = t.has; leftmost = t.leftmost; result = refl })
+turn_step R c i m h t = by_variant_language (take i c.variants) t.variant m (drop (suc i) c.variants) (record { alone = h; there = t.there; has = t.has; leftmost = t.leftmost; result = refl })
 
 -- what all variants have, those that are left have
 pub final_without : (P : List ℕ → Type 0) (vs : List (List ℕ)) (i : ℕ) → All P vs → All P (remove vs i)
@@ -74,7 +74,7 @@ at_rest V d none script region variants language e s =
       script = λ u h. if_some_is (λ s. V.script s ≡ None) d.script u h script;
       region = λ u h. if_some_is (λ s. V.region s ≡ None) d.region u h region;
       variant = recursion_from_All (λ v. V.variant v ≡ None) d.variants variants;
-      turn = λ a. recursion_from_All (λ v. V.turn d.language v ≡ None) d.variants (language a).1;
+      turn = λ a. recursion_from_All (λ v. V.variant_language d.language v ≡ None) d.variants (language a).1;
     })
     s
 
@@ -85,9 +85,9 @@ sole (y ∷ []) x e h = ap (λ z. z ∷ []) (sym e)
 sole (y ∷ z ∷ zs) x e h = absurd (omega arith)
 
 -- the variant at an index is the first that turns, where none before it does
-pub first_turn_at : (V : Values) (c : CoreParts) (i : ℕ) (v m : List ℕ) (vs : List (List ℕ)) → vs ≡ c.variants → i < length vs → v ≡ get_or vs i v → V.turn c.language v ≡ Some m → All (λ (u : List ℕ). V.turn c.language u ≡ None) (take i vs) → IsFirstTurn V c i m
+pub first_turn_at : (V : Values) (c : CoreParts) (i : ℕ) (v m : List ℕ) (vs : List (List ℕ)) → vs ≡ c.variants → i < length vs → v ≡ get_or vs i v → V.variant_language c.language v ≡ Some m → All (λ (u : List ℕ). V.variant_language c.language u ≡ None) (take i vs) → IsFirstTurn V c i m
 first_turn_at V c i v m vs same h e t none =
-    let P : List ℕ → Type 0 = λ u. V.turn c.language u ≡ None in
+    let P : List ℕ → Type 0 = λ u. V.variant_language c.language u ≡ None in
     let at : c.variants ≡ take i c.variants ++ v ∷ drop (suc i) c.variants = subst (λ us. us ≡ take i us ++ v ∷ drop (suc i) us) same (round vs i v h e) in
     record {
       within = omega (arith, h, ap length same);
@@ -97,9 +97,9 @@ first_turn_at V c i v m vs same h e t none =
       leftmost = subst (λ us. AllByRecursion P (take i us)) same (recursion_from_All P (take i vs) none);
     }
 
-pub none_more : (V : Values) (c : CoreParts) (i : ℕ) (v : List ℕ) (vs : List (List ℕ)) → i < length vs → v ≡ get_or vs i v → V.turn c.language v ≡ None → All (λ (u : List ℕ). V.turn c.language u ≡ None) (take i vs) → All (λ (u : List ℕ). V.turn c.language u ≡ None) (take (i + 1) vs)
+pub none_more : (V : Values) (c : CoreParts) (i : ℕ) (v : List ℕ) (vs : List (List ℕ)) → i < length vs → v ≡ get_or vs i v → V.variant_language c.language v ≡ None → All (λ (u : List ℕ). V.variant_language c.language u ≡ None) (take i vs) → All (λ (u : List ℕ). V.variant_language c.language u ≡ None) (take (i + 1) vs)
 none_more V c i v vs h e t none =
-    let P : List ℕ → Type 0 = λ u. V.turn c.language u ≡ None in
+    let P : List ℕ → Type 0 = λ u. V.variant_language c.language u ≡ None in
     All-more P vs i v h none (subst P e t)
 
 -- an empty list

@@ -6,7 +6,7 @@ use Rattle.lt_registry.specs.Parts.{EntryParts}
 use Rattle.lt_registry.specs.Entries.{replacement}
 use Rattle.lt_registry.specs.declared.entries.Kind.{Kind}
 use Rattle.lt_registry.specs.declared.entries.Kind.TheVariants as kinds
-use Rattle.lt_rewrite.specs.CoreSteps.{values_of, CoreStep, by_extlang, by_language, by_script, by_region, by_variant, by_turn, chase}
+use Rattle.lt_rewrite.specs.CoreSteps.{values_of, CoreStep, by_extlang, by_language, by_script, by_region, by_variant, by_variant_language, chase}
 use Rattle.lt_rewrite.specs.Conditions.{next_value, HasEndingChain}
 use Rattle.lt_rewrite.proofs.Chains.{chase_next}
 use Rattle.lt_rewrite.proofs.Entries.{chains_end}
@@ -113,5 +113,5 @@ module _ (R : List EntryParts) where
       omega (arith, ap weight s.result, of_some kinds.Region c.region a s.there, of_some kinds.Region (Some v) v refl, after_next C kinds.Region a v s.has)
   weight_falls C c d (by_variant before v w vs s) =
       omega (arith, ap weight s.result, ap (total (λ u. after kinds.Variant u + spare)) s.there, variants_with before v vs, variants_with before w vs, after_next C kinds.Variant v w s.has)
-  weight_falls C c d (by_turn before v m vs s) =
+  weight_falls C c d (by_variant_language before v m vs s) =
       omega (arith, ap weight s.result, ap (total (λ u. after kinds.Variant u + spare)) s.there, variants_with before v vs, total_append (λ u. after kinds.Variant u + spare) before vs, after_most kinds.Language m)

@@ -1,18 +1,18 @@
 -- What the conditions say of entries.
 use Rattle.std.proofs.Common.{◌≡◌, ℕ, suc, ◌⊎◌, inl, inr, Bool, true, false, cond, ◌&&◌, List, [], ◌∷◌, Option, Some, None, refl, sym, ap, ◌∙◌, subst, All, bytes_eq, find}
 use Rattle.std.specs.List.{AllByRecursion}
-use Rattle.std.specs.Option.{option_and_then}
+use Rattle.std.specs.Option.{option_and_then, option_or, option_map_or}
 use Rattle.std.specs.Cmp.Lexicographic.{pointwise}
 use Rattle.std.proofs.lemmas.List.Elements.{All-head, All-tail}
 use Rattle.std.proofs.lemmas.Slice.Eq.{bytes_eq-Decides, slice_eq-Decides}
 use Rattle.std.proofs.lemmas.Bool.{and_parts, or_cases}
 use Rattle.lt_registry.specs.Parts.{EntryParts}
 use Rattle.lt_registry.specs.Same.{same_kind}
-use Rattle.lt_registry.specs.Entries.{is_named, holds, or_else, one_of, entry, value, prefixes, prefixes_of, lists, is_short, variant_value, language_value, is_registered}
+use Rattle.lt_registry.specs.Entries.{is_named, holds, one_of, entry, preferred_value, prefixes, has_prefix, is_short, variant_value, language_value, is_registered}
 use Rattle.lt_registry.specs.declared.entries.Kind.{Kind}
 use Rattle.lt_registry.specs.declared.entries.Kind.TheVariants as kinds
 use Rattle.lt_rewrite.specs.CoreSteps.{values_of, Ends}
-use Rattle.lt_rewrite.specs.Conditions.{next_value, HasEndingChain, HasFittingVariantValue, StandsBesideFinalLanguages, IsFinalLanguage, MeetsCoreConditions}
+use Rattle.lt_rewrite.specs.Conditions.{next_value, HasEndingChain, HasFittingVariantValue, HasFinalPrefixes, IsFinalLanguage, MeetsCoreConditions}
 use Rattle.lt_rewrite.proofs.Chains.{chase_next}
 
 pub same_kind_is : (a b : Kind) → same_kind a b ≡ true → a ≡ b
@@ -48,7 +48,7 @@ pub record IsEntryOf (k : Kind) (s : List ℕ) (e : EntryParts) : Type 0 where
   pub of_kind : e.kind ≡ k
   pub names : (is_named s e.name ≡ true) ⊎ (holds s e.name ≡ true)
 
-entry_at : (R : List EntryParts) (k : Kind) (s : List ℕ) (P : EntryParts → Type 0) → All P R → (e : EntryParts) (o : Option EntryParts) → find (λ (e : EntryParts). same_kind e.kind k && is_named s e.name) R ≡ o → or_else o (find (λ (e : EntryParts). same_kind e.kind k && holds s e.name) R) ≡ Some e → P e × IsEntryOf k s e
+entry_at : (R : List EntryParts) (k : Kind) (s : List ℕ) (P : EntryParts → Type 0) → All P R → (e : EntryParts) (o : Option EntryParts) → find (λ (e : EntryParts). same_kind e.kind k && is_named s e.name) R ≡ o → option_or o (find (λ (e : EntryParts). same_kind e.kind k && holds s e.name) R) ≡ Some e → P e × IsEntryOf k s e
 entry_at R k s P h e (Some f) p q =
     let same : f ≡ e = cc in
     let both = find_has P (λ (e : EntryParts). same_kind e.kind k && is_named s e.name) R f h p in
@@ -80,7 +80,7 @@ valued_at : (R : List EntryParts) (k : Kind) (s v : List ℕ) (o : Option EntryP
 valued_at R k s v None p q = cc
 valued_at R k s v (Some e) p q = record { at = e; found = p; of_kind = (entry_of R k s e p).of_kind; gives = q }
 
-pub valued : (R : List EntryParts) (k : Kind) (s v : List ℕ) → value R k s ≡ Some v → ValuedEntry R k s v
+pub valued : (R : List EntryParts) (k : Kind) (s v : List ℕ) → preferred_value R k s ≡ Some v → ValuedEntry R k s v
 valued R k s v q = valued_at R k s v (entry R k s) refl q
 
 -- what each record has, the entry behind a value has
@@ -102,8 +102,8 @@ variant_value_at (Some u) w e =
     let p = none_when (is_short u) u w e in
     (ap Some p.1, ap is_short (sym p.1) ∙ p.0)
 
-pub variant_value_is : (R : List EntryParts) (v w : List ℕ) → variant_value R v ≡ Some w → (value R kinds.Variant v ≡ Some w) × (is_short w ≡ false)
-variant_value_is R v w e = variant_value_at (value R kinds.Variant v) w e
+pub variant_value_is : (R : List EntryParts) (v w : List ℕ) → variant_value R v ≡ Some w → (preferred_value R kinds.Variant v ≡ Some w) × (is_short w ≡ false)
+variant_value_is R v w e = variant_value_at (preferred_value R kinds.Variant v) w e
 
 language_value_at : (o : Option (List ℕ)) (w : List ℕ) → option_and_then (λ u. cond (is_short u) (Some u) None) o ≡ Some w → (o ≡ Some w) × (is_short w ≡ true)
 language_value_at None w e = cc
@@ -112,11 +112,11 @@ language_value_at (Some u) w e =
     let same : u ≡ w = cc (p.1) in
     (ap Some same, ap is_short (sym same) ∙ p.0)
 
-pub language_value_is : (R : List EntryParts) (v w : List ℕ) → language_value R v ≡ Some w → (value R kinds.Variant v ≡ Some w) × (is_short w ≡ true)
-language_value_is R v w e = language_value_at (value R kinds.Variant v) w e
+pub language_value_is : (R : List EntryParts) (v w : List ℕ) → language_value R v ≡ Some w → (preferred_value R kinds.Variant v ≡ Some w) × (is_short w ≡ true)
+language_value_is R v w e = language_value_at (preferred_value R kinds.Variant v) w e
 
 -- what follows in a chain is the value
-pub next_is_value : (R : List EntryParts) (k : Kind) (s v : List ℕ) → next_value R k s ≡ Some v → value R k s ≡ Some v
+pub next_is_value : (R : List EntryParts) (k : Kind) (s v : List ℕ) → next_value R k s ≡ Some v → preferred_value R k s ≡ Some v
 next_is_value R kinds.Language s v e = e
 next_is_value R kinds.Extlang s v e = cc
 next_is_value R kinds.Script s v e = e
@@ -137,17 +137,17 @@ chains_end R h k s =
     subst (λ k. Ends (next_value R k) v) en.of_kind (valued_has R k s v (HasEndingChain R) h en v en.gives))
 
 -- what a turn rests on
-pub turn_is : (R : List EntryParts) (l v m : List ℕ) → (values_of R).turn l v ≡ Some m → (lists (prefixes R kinds.Variant v) l ≡ true) × (language_value R v ≡ Some m)
-turn_is R l v m e = some_when (lists (prefixes R kinds.Variant v) l) (language_value R v) m e
+pub turn_is : (R : List EntryParts) (l v m : List ℕ) → (values_of R).variant_language l v ≡ Some m → (has_prefix (prefixes R kinds.Variant v) l ≡ true) × (language_value R v ≡ Some m)
+turn_is R l v m e = some_when (has_prefix (prefixes R kinds.Variant v) l) (language_value R v) m e
 
 language_none_at : (o : Option (List ℕ)) (w : List ℕ) → o ≡ Some w → is_short w ≡ false → option_and_then (λ u. cond (is_short u) (Some u) None) o ≡ None
 language_none_at o w e h = ap (option_and_then (λ (u : List ℕ). cond (is_short u) (Some u) None)) e ∙ ap (λ (b : Bool). cond b (Some w) None) h
 
-listed_at : (l : List ℕ) (ps : List (List (List ℕ))) (Q : List ℕ → Type 0) → AllByRecursion (λ p. (k : List ℕ) × (p ≡ k ∷ []) × Q k) ps → lists ps l ≡ true → Q l
+listed_at : (l : List ℕ) (ps : List (List (List ℕ))) (Q : List ℕ → Type 0) → AllByRecursion (λ p. (k : List ℕ) × (p ≡ k ∷ []) × Q k) ps → has_prefix ps l ≡ true → Q l
 listed_at l [] Q h e = cc
-listed_at l (p ∷ ps) Q h e = by (listed_at l ps Q h.1) (or_cases (pointwise bytes_eq p (l ∷ [])) (lists ps l) e)
+listed_at l (p ∷ ps) Q h e = by (listed_at l ps Q h.1) (or_cases (pointwise bytes_eq p (l ∷ [])) (has_prefix ps l) e)
   where
-    by : (lists ps l ≡ true → Q l) → (pointwise bytes_eq p (l ∷ []) ≡ true) ⊎ (lists ps l ≡ true) → Q l
+    by : (has_prefix ps l ≡ true → Q l) → (pointwise bytes_eq p (l ∷ []) ≡ true) ⊎ (has_prefix ps l ≡ true) → Q l
     by rest (inl t) =
         let same : p ≡ l ∷ [] = (slice_eq-Decides bytes_eq-Decides p (l ∷ []) (pointwise bytes_eq p (l ∷ [])) refl).0 t in
         let k : List ℕ = h.0.0 in
@@ -157,17 +157,17 @@ listed_at l (p ∷ ps) Q h e = by (listed_at l ps Q h.1) (or_cases (pointwise by
     by rest (inr t) = rest t
 
 pub prefixes_at : (R : List EntryParts) (k : Kind) (s : List ℕ) (e : EntryParts) → entry R k s ≡ Some e → prefixes R k s ≡ e.prefixes
-prefixes_at R k s e h = ap prefixes_of h
+prefixes_at R k s e h = ap (λ (o : Option EntryParts). option_map_or (λ (e : EntryParts). e.prefixes) o []) h
 
 -- beside which a variant turns has no value
-pub turns_final : (R : List EntryParts) → MeetsCoreConditions R → (l v m : List ℕ) → (values_of R).turn l v ≡ Some m → IsFinalLanguage R l
+pub turns_final : (R : List EntryParts) → MeetsCoreConditions R → (l v m : List ℕ) → (values_of R).variant_language l v ≡ Some m → IsFinalLanguage R l
 turns_final R C l v m e =
     let t = turn_is R l v m e in
     let w = language_value_is R v m t.1 in
     let en : ValuedEntry R kinds.Variant v m = valued R kinds.Variant v m w.0 in
-    let fits : StandsBesideFinalLanguages R en.at = valued_has R kinds.Variant v m (StandsBesideFinalLanguages R) C.turns en in
+    let fits : HasFinalPrefixes R en.at = valued_has R kinds.Variant v m (HasFinalPrefixes R) C.turns en in
     let all = (fits en.of_kind m en.gives w.1).1 in
-    listed_at l en.at.prefixes (IsFinalLanguage R) all (ap (λ ps. lists ps l) (sym (prefixes_at R kinds.Variant v en.at en.found)) ∙ t.0)
+    listed_at l en.at.prefixes (IsFinalLanguage R) all (ap (λ ps. has_prefix ps l) (sym (prefixes_at R kinds.Variant v en.at en.found)) ∙ t.0)
 
 -- a variant value is registered, and turns into no language
 pub variant_value_fits : (R : List EntryParts) → MeetsCoreConditions R → (v w : List ℕ) → variant_value R v ≡ Some w → (is_registered R kinds.Variant w ≡ true) × (language_value R w ≡ None)
@@ -195,4 +195,4 @@ language_value_fits R C v m e =
 pub no_language : (R : List EntryParts) → MeetsCoreConditions R → (v w : List ℕ) → variant_value R v ≡ Some w → (language_value R v ≡ None) × (language_value R w ≡ None)
 no_language R C v w e =
     let p = variant_value_is R v w e in
-    (language_none_at (value R kinds.Variant v) w p.0 p.1, (variant_value_fits R C v w e).1)
+    (language_none_at (preferred_value R kinds.Variant v) w p.0 p.1, (variant_value_fits R C v w e).1)

@@ -69,27 +69,27 @@ module _ (R : List EntryParts) (core_form : CoreParts → CoreParts) (K : IsForm
   t_form_is s p k = record { shaped = star_keeps (λ q. IsT q) (t_shaped R S) ((t_formed R core_form K).reached p) k.shaped; spelled = refl }
 
   extension_kept : (e f : ExtensionParts) → ExtensionStep R e f → extension_form e ≡ extension_form f
-  extension_kept e f (in_unicode p q s) =
-      let a = ap spell_u (u_formed.kept p q s.step) in
-      unicode_form e p s.is_u s.from
-      ∙ (λ i. extension (sym s.singleton i) (a i))
-      ∙ sym (unicode_form f q (s.singleton ∙ s.is_u) s.to)
-  extension_kept e f (in_transform p q s) =
-      let a = ap spell_t ((t_formed R core_form K).kept p q s.step) in
-      transform_form e p s.is_t s.from
-      ∙ (λ i. extension (sym s.singleton i) (a i))
-      ∙ sym (transform_form f q (s.singleton ∙ s.is_t) s.to)
+  extension_kept e f (in_unicode p q is_u kept from to s) =
+      let a = ap spell_u (u_formed.kept p q s) in
+      unicode_form e p is_u from
+      ∙ (λ i. extension (sym kept i) (a i))
+      ∙ sym (unicode_form f q (kept ∙ is_u) to)
+  extension_kept e f (in_transform p q is_t kept from to s) =
+      let a = ap spell_t ((t_formed R core_form K).kept p q s) in
+      transform_form e p is_t from
+      ∙ (λ i. extension (sym kept i) (a i))
+      ∙ sym (transform_form f q (kept ∙ is_t) to)
 
   u_star : (n : ℕ) → n ≡ unicode → (p : UForm) → IsU p → Star (ExtensionStep R) (extension n (spell_u p)) (extension n (spell_u (u_form p)))
   u_star n h p k =
       star_map_while IsU (λ q. extension n (spell_u q)) u_shaped
-      (λ a b s i j. in_unicode a b (record { is_u = h; singleton = refl; from = record { shaped = i; spelled = refl }; to = record { shaped = j; spelled = refl }; step = s }))
+      (λ a b s i j. in_unicode a b h refl (record { shaped = i; spelled = refl }) (record { shaped = j; spelled = refl }) s)
       (u_formed.reached p) k
 
   t_star : (n : ℕ) → n ≡ transform → (p : TForm) → IsT p → Star (ExtensionStep R) (extension n (spell_t p)) (extension n (spell_t (t_form R core_form K p)))
   t_star n h p k =
       star_map_while IsT (λ q. extension n (spell_t q)) (t_shaped R S)
-      (λ a b s i j. in_transform a b (record { is_t = h; singleton = refl; from = record { shaped = i; spelled = refl }; to = record { shaped = j; spelled = refl }; step = s }))
+      (λ a b s i j. in_transform a b h refl (record { shaped = i; spelled = refl }) (record { shaped = j; spelled = refl }) s)
       ((t_formed R core_form K).reached p) k
 
   u_reached : (n : ℕ) (s : List (List ℕ)) → n ≡ unicode → (o : Option UForm) → unicode_of s ≡ o → Star (ExtensionStep R) (extension n s) (extension n (spelled_or s (option_map (λ (p : UForm). spell_u (u_form p)) o)))
@@ -133,12 +133,12 @@ module _ (R : List EntryParts) (core_form : CoreParts → CoreParts) (K : IsForm
       (t_formed R core_form K).rests r q (subst (λ x. TransformStep R x q) (sym same) t)
 
   extension_rests : (e f : ExtensionParts) → ExtensionStep R (extension_form e) f → ⊥
-  extension_rests e f (in_unicode p q s) =
-      let own = ap (λ (x : ExtensionParts). x.subtags) (of_unicode e s.is_u) in
-      u_rests e.subtags p q (unicode_of e.subtags) refl (subst (λ l. IsUnicode l p) own s.from) s.step
-  extension_rests e f (in_transform p q s) =
-      let own = ap (λ (x : ExtensionParts). x.subtags) (of_transform e s.is_t) in
-      t_rests e.subtags p q (transform_of e.subtags) refl (subst (λ l. IsTransform l p) own s.from) s.step
+  extension_rests e f (in_unicode p q is_u _ from _ s) =
+      let own = ap (λ (x : ExtensionParts). x.subtags) (of_unicode e is_u) in
+      u_rests e.subtags p q (unicode_of e.subtags) refl (subst (λ l. IsUnicode l p) own from) s
+  extension_rests e f (in_transform p q is_t _ from _ s) =
+      let own = ap (λ (x : ExtensionParts). x.subtags) (of_transform e is_t) in
+      t_rests e.subtags p q (transform_of e.subtags) refl (subst (λ l. IsTransform l p) own from) s
 
   -- each step keeps it, steps reach it, none leads from it
   pub extension_formed : IsFormOf (ExtensionStep R) extension_form

@@ -24,47 +24,47 @@ use Rattle.lt_rewrite.proofs.UnicodeLeading.{answers_by, from_swap, unicode_othe
 module _ (R : List EntryParts) (start : ℕ) (e : ExtensionParts) (step : Step) where
   pub unicode_changed : (p q : UForm) → e.singleton ≡ unicode → IsUnicode e.subtags p → UnicodeLeads start p step q → ExtensionLeads R start e step (record { singleton = unicode; subtags = spell_u q })
   unicode_changed p q u from l =
-      (in_unicode p q (record { is_u = u; singleton = sym u; from = from; to = record { shaped = u_shaped p q l.0 from.shaped; spelled = refl }; step = l.0 }), l.1)
+      (in_unicode p q u (sym u) from (record { shaped = u_shaped p q l.0 from.shaped; spelled = refl }) l.0, l.1)
 
   unicode_kept_by : (p : UForm) → e.singleton ≡ unicode → IsUnicode e.subtags p → ((q : UForm) → UnicodeLeads start p step q → ⊥) → (f : ExtensionParts) (s : ExtensionStep R e f) → extension_label R start s ≡ step → ⊥
-  unicode_kept_by p u from none f (in_unicode b q s) h = none q (subst (λ x. UnicodeLeads start x step q) (one_unicode e.subtags b p s.from from) (s.step, h))
-  unicode_kept_by p u from none f (in_transform b q s) h = omega (arith, u, s.is_t)
+  unicode_kept_by p u from none f (in_unicode b q _ _ begins _ s) h = none q (subst (λ x. UnicodeLeads start x step q) (one_unicode e.subtags b p begins from) (s, h))
+  unicode_kept_by p u from none f (in_transform b q is_t _ _ _ _) h = omega (arith, u, is_t)
 
   pub unicode_kept : (p : UForm) → e.singleton ≡ unicode → IsUnicode e.subtags p → ((q : UForm) → UnicodeLeads start p step q → ⊥) → (f : ExtensionParts) → ExtensionLeads R start e step f → ⊥
   unicode_kept p u from none f l = unicode_kept_by p u from none f l.0 l.1
 
   pub transform_changed : IsRegistry R → (p q : TForm) → e.singleton ≡ transform → IsTransform e.subtags p → TransformLeads R start p step q → ExtensionLeads R start e step (record { singleton = transform; subtags = spell_t q })
   transform_changed G p q t from l =
-      (in_transform p q (record { is_t = t; singleton = sym t; from = from; to = record { shaped = t_shaped R (step_shaped R G) p q l.0 from.shaped; spelled = refl }; step = l.0 }), l.1)
+      (in_transform p q t (sym t) from (record { shaped = t_shaped R (step_shaped R G) p q l.0 from.shaped; spelled = refl }) l.0, l.1)
 
   transform_kept_by : (p : TForm) → e.singleton ≡ transform → IsTransform e.subtags p → ((q : TForm) → TransformLeads R start p step q → ⊥) → (f : ExtensionParts) (s : ExtensionStep R e f) → extension_label R start s ≡ step → ⊥
-  transform_kept_by p t from none f (in_transform b q s) h = none q (subst (λ x. TransformLeads R start x step q) (one_transform e.subtags b p s.from from) (s.step, h))
-  transform_kept_by p t from none f (in_unicode b q s) h = omega (arith, t, s.is_u)
+  transform_kept_by p t from none f (in_transform b q _ _ begins _ s) h = none q (subst (λ x. TransformLeads R start x step q) (one_transform e.subtags b p begins from) (s, h))
+  transform_kept_by p t from none f (in_unicode b q is_u _ _ _ _) h = omega (arith, t, is_u)
 
   pub transform_kept : (p : TForm) → e.singleton ≡ transform → IsTransform e.subtags p → ((q : TForm) → TransformLeads R start p step q → ⊥) → (f : ExtensionParts) → ExtensionLeads R start e step f → ⊥
   transform_kept p t from none f l = transform_kept_by p t from none f l.0 l.1
 
   formless_kept_by : e.singleton ≡ transform → ((p : TForm) → IsTransform e.subtags p → ⊥) → (f : ExtensionParts) → ExtensionStep R e f → ⊥
-  formless_kept_by t none f (in_transform p q s) = none p s.from
-  formless_kept_by t none f (in_unicode p q s) = omega (arith, t, s.is_u)
+  formless_kept_by t none f (in_transform p q _ _ from _ _) = none p from
+  formless_kept_by t none f (in_unicode p q is_u _ _ _ _) = omega (arith, t, is_u)
 
   pub formless_kept : e.singleton ≡ transform → ((p : TForm) → IsTransform e.subtags p → ⊥) → (f : ExtensionParts) → ExtensionLeads R start e step f → ⊥
   formless_kept t none f l = formless_kept_by t none f l.0
 
   other_kept_by : e.singleton ≢ unicode → e.singleton ≢ transform → (f : ExtensionParts) → ExtensionStep R e f → ⊥
-  other_kept_by u t f (in_unicode p q s) = u s.is_u
-  other_kept_by u t f (in_transform p q s) = t s.is_t
+  other_kept_by u t f (in_unicode p q is_u _ _ _ _) = u is_u
+  other_kept_by u t f (in_transform p q is_t _ _ _ _) = t is_t
 
   pub other_kept : e.singleton ≢ unicode → e.singleton ≢ transform → (f : ExtensionParts) → ExtensionLeads R start e step f → ⊥
   other_kept u t f l = other_kept_by u t f l.0
 
   -- inside an extension no extensions change places
   swaps_inside : step.kind ≡ steps.SwapExtensions → (f : ExtensionParts) (s : ExtensionStep R e f) → extension_label R start s ≡ step → ⊥
-  swaps_inside k f (in_unicode p q s) h = unicode_other start p step (λ m. cc) (λ m. cc) (λ m. cc) (λ m. cc) (λ m. cc) q (s.step, h)
-  swaps_inside k f (in_transform p q s) h = by p q s.step h
+  swaps_inside k f (in_unicode p q _ _ _ _ s) h = unicode_other start p step (λ m. cc) (λ m. cc) (λ m. cc) (λ m. cc) (λ m. cc) q (s, h)
+  swaps_inside k f (in_transform p q _ _ _ _ s) h = by p q s h
     where
       by : (p q : TForm) (s : TransformStep R p q) → transform_label R start s ≡ step → ⊥
-      by p q (on_source c d s) h = other_kind R start c step d (λ m. cc) (λ m. cc) (λ m. cc) (λ m. cc) (λ m. cc) (λ m. cc) s.step h
+      by p q (on_source c d _ _ s _) h = other_kind R start c step d (λ m. cc) (λ m. cc) (λ m. cc) (λ m. cc) (λ m. cc) (λ m. cc) s h
       by p q (on_fields a (by_swap before x y after s)) h = let m = kind_of _ step h ∙ k in cc
       by p q (on_fields a (by_drop before x between y after o s)) h = cc
 

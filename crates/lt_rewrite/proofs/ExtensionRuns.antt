@@ -9,7 +9,7 @@ use Rattle.lt_registry.specs.Parts.{EntryParts}
 use Rattle.lt_registry.specs.Entries.{IsRegistry}
 use Rattle.lt_registry.specs.Validity.{Distinct}
 use Rattle.lt_rewrite.specs.Rewriting.{Star, then, Rests}
-use Rattle.lt_rewrite.specs.CoreSteps.{values_of, CoreStep, by_extlang, by_language, by_script, by_region, by_variant, by_turn}
+use Rattle.lt_rewrite.specs.CoreSteps.{values_of, CoreStep, by_extlang, by_language, by_script, by_region, by_variant, by_variant_language}
 use Rattle.lt_rewrite.specs.Orderings.{ListStep, by_swap, by_drop}
 use Rattle.lt_rewrite.specs.Extensions.{singleton_cmp, UnicodeStep, on_attributes, on_keywords, on_types, TransformStep, on_source, on_fields, ExtensionStep, in_unicode, in_transform, ExtensionsStep, inside, among}
 use Rattle.lt_rewrite.specs.Labels.{core_label, unicode_label, transform_label, extension_label, extensions_label}
@@ -59,14 +59,14 @@ core_rank R k c d (by_language v s) = record { some = omega arith; most = omega 
 core_rank R k c d (by_script a v s) = record { some = omega arith; most = omega arith; raised = refl }
 core_rank R k c d (by_region a v s) = record { some = omega arith; most = omega arith; raised = refl }
 core_rank R k c d (by_variant before v w after s) = record { some = omega arith; most = omega arith; raised = refl }
-core_rank R k c d (by_turn before v m after s) = record { some = omega arith; most = omega arith; raised = refl }
+core_rank R k c d (by_variant_language before v m after s) = record { some = omega arith; most = omega arith; raised = refl }
 
 -- in t
 abbrev InT : Step → Type 0
 InT step = OnSource step ⊎ ((kind_rank step ≡ 20) × (extension_rank step ≡ 20))
 
 t_rank : (R : List EntryParts) (k : ℕ) (p q : TForm) (s : TransformStep R p q) → InT (transform_label R k s)
-t_rank R k p q (on_source c d s) = inl (core_rank R k c d s.step)
+t_rank R k p q (on_source c d _ _ s _) = inl (core_rank R k c d s)
 t_rank R k p q (on_fields e (by_swap before a b after s)) = inr (refl, refl)
 t_rank R k p q (on_fields e (by_drop before a between b after o s)) = inr (refl, refl)
 
@@ -75,8 +75,8 @@ t_range step (inl h) = (omega (arith, h.some, h.raised), omega (arith, h.most, h
 t_range step (inr h) = (omega (arith, h.1), omega (arith, h.1))
 
 pub inside_rank : (R : List EntryParts) (k : ℕ) (e f : ExtensionParts) (s : ExtensionStep R e f) → 8 < extension_rank (extension_label R k s)
-inside_rank R k e f (in_unicode p q s) = let u : InU (unicode_label k s.step) = u_rank k p q s.step in omega (arith, u.least, u.same)
-inside_rank R k e f (in_transform p q s) = let t = t_range (transform_label R k s.step) (t_rank R k p q s.step) in omega (arith, t.0)
+inside_rank R k e f (in_unicode p q _ _ _ _ s) = let u : InU (unicode_label k s) = u_rank k p q s in omega (arith, u.least, u.same)
+inside_rank R k e f (in_transform p q _ _ _ _ s) = let t = t_range (transform_label R k s) (t_rank R k p q s) in omega (arith, t.0)
 
 u_later : (step other : Step) → InU step → InU other → IsNoLater kind_rank step other → IsNoLater extension_rank step other
 u_later step other a b (inl h) = inl (omega (arith, a.same, b.same, h))
@@ -107,10 +107,10 @@ module _ (R : List EntryParts) (k : ℕ) (a c : UForm) (step : Step) (i : IsU a)
   in_u other q l = subst InU l.1 (u_rank k a q l.0)
 
   none_before_u : (other : Step) (b : ExtensionParts) (s : ExtensionStep R (of_u a) b) → extension_label R k s ≡ other → IsNoLater extension_rank step other
-  none_before_u other b (in_unicode p q s) e =
-      let l : UnicodeLeads k a other q = subst (λ x. UnicodeLeads k x other q) (one_unicode (spell_u a) p a s.from own_u) (s.step, e) in
+  none_before_u other b (in_unicode p q _ _ from _ s) e =
+      let l : UnicodeLeads k a other q = subst (λ x. UnicodeLeads k x other q) (one_unicode (spell_u a) p a from own_u) (s, e) in
       u_later step other (in_u step c h.leads) (in_u other q l) (h.first other q l)
-  none_before_u other b (in_transform p q s) e = absurd (omega (arith, s.is_t))
+  none_before_u other b (in_transform p q is_t _ _ _ _) e = absurd (omega (arith, is_t))
 
   pub first_in_u : IsU c × IsFirst (ExtensionLeads R k (of_u a)) extension_rank step (of_u c)
   first_in_u =
@@ -124,10 +124,10 @@ module _ (R : List EntryParts) (G : IsRegistry R) (k : ℕ) (a c : TForm) (step 
   in_t other q l = subst InT l.1 (t_rank R k a q l.0)
 
   none_before_t : (other : Step) (b : ExtensionParts) (s : ExtensionStep R (of_t a) b) → extension_label R k s ≡ other → IsNoLater extension_rank step other
-  none_before_t other b (in_transform p q s) e =
-      let l : TransformLeads R k a other q = subst (λ x. TransformLeads R k x other q) (one_transform (spell_t a) p a s.from own_t) (s.step, e) in
+  none_before_t other b (in_transform p q _ _ from _ s) e =
+      let l : TransformLeads R k a other q = subst (λ x. TransformLeads R k x other q) (one_transform (spell_t a) p a from own_t) (s, e) in
       t_later step other (in_t step c h.leads) (in_t other q l) (h.first other q l)
-  none_before_t other b (in_unicode p q s) e = absurd (omega (arith, s.is_u))
+  none_before_t other b (in_unicode p q is_u _ _ _ _) e = absurd (omega (arith, is_u))
 
   pub first_in_t : IsT c × IsFirst (ExtensionLeads R k (of_t a)) extension_rank step (of_t c)
   first_in_t =
@@ -244,17 +244,17 @@ module _ (R : List EntryParts) (start n most : ℕ) (own : (k : ℕ) (e f : Exte
 
 -- the steps in u come no later than DropTrue, and those in t no later than SwapFields
 pub u_most : (R : List EntryParts) (k : ℕ) (e f : ExtensionParts) (s : ExtensionStep R e f) → e.singleton ≡ unicode → extension_rank (extension_label R k s) ≤ 13
-u_most R k e f (in_unicode p q s) h = let u : InU (unicode_label k s.step) = u_rank k p q s.step in omega (arith, u.most, u.same)
-u_most R k e f (in_transform p q s) h = absurd (omega (arith, s.is_t, h))
+u_most R k e f (in_unicode p q _ _ _ _ s) h = let u : InU (unicode_label k s) = u_rank k p q s in omega (arith, u.most, u.same)
+u_most R k e f (in_transform p q is_t _ _ _ _) h = absurd (omega (arith, is_t, h))
 
 pub t_most : (R : List EntryParts) (k : ℕ) (e f : ExtensionParts) (s : ExtensionStep R e f) → e.singleton ≡ transform → extension_rank (extension_label R k s) ≤ 20
-t_most R k e f (in_transform p q s) h = (t_range (transform_label R k s.step) (t_rank R k p q s.step)).1
-t_most R k e f (in_unicode p q s) h = absurd (omega (arith, s.is_u, h))
+t_most R k e f (in_transform p q _ _ _ _ s) h = (t_range (transform_label R k s) (t_rank R k p q s)).1
+t_most R k e f (in_unicode p q is_u _ _ _ _) h = absurd (omega (arith, is_u, h))
 
 pub behind_u : (R : List EntryParts) (e : ExtensionParts) → e.singleton ≢ unicode → IsBehind R 13 e
-behind_u R e ne k f (in_unicode p q s) = absurd (ne s.is_u)
-behind_u R e ne k f (in_transform p q s) = (t_range (transform_label R k s.step) (t_rank R k p q s.step)).0
+behind_u R e ne k f (in_unicode p q is_u _ _ _ _) = absurd (ne is_u)
+behind_u R e ne k f (in_transform p q _ _ _ _ s) = (t_range (transform_label R k s) (t_rank R k p q s)).0
 
 pub behind_t : (R : List EntryParts) (e : ExtensionParts) → (e.singleton ≡ unicode → Rests (ExtensionStep R) e) → e.singleton ≢ transform → IsBehind R 20 e
-behind_t R e u ne k f (in_unicode p q s) = absurd (u s.is_u f (in_unicode p q s))
-behind_t R e u ne k f (in_transform p q s) = absurd (ne s.is_t)
+behind_t R e u ne k f (in_unicode p q is_u kept from to s) = absurd (u is_u f (in_unicode p q is_u kept from to s))
+behind_t R e u ne k f (in_transform p q is_t _ _ _ _) = absurd (ne is_t)

@@ -32,7 +32,7 @@ SourceSettles R (Some c) None = ⊥
 source_reached : (R : List EntryParts) (o r : Option CoreParts) (fs : List FieldParts) → SourceSettles R o r → Star (TransformStep R) (of_parts o fs) (of_parts r fs)
 source_reached R None None fs h = done
 source_reached R (Some c) (Some d) fs h =
-    star_map (λ x. of_parts (Some x) fs) (λ x y s. on_source x y (record { from = refl; to = refl; step = s; fields = refl })) h.reached
+    star_map (λ x. of_parts (Some x) fs) (λ x y s. on_source x y refl refl s refl) h.reached
 source_reached R None (Some d) fs h = absurd h
 source_reached R (Some c) None fs h = absurd h
 
@@ -53,7 +53,7 @@ transform_settles R p q S n = record {
 }
   where
     rests : (t : TForm) → TransformStep R q t → ⊥
-    rests t (on_source c d s) = source_rests R p.source q.source S c d s.from s.step
+    rests t (on_source c d from _ s _) = source_rests R p.source q.source S c d from s
     rests t (on_fields h s) = n.at_rest t.fields s
 
 pub unicode_settles : (p q : UForm) → IsNormalForm (ListStep true text_cmp) p.attributes q.attributes → IsNormalForm (ListStep true key_cmp) (map untrue p.keywords) q.keywords → IsNormalForm UnicodeStep p q

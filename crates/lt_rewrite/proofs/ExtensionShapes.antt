@@ -13,26 +13,26 @@ use Rattle.lt_rewrite.proofs.UnicodeForms.{u_step_length}
 use Rattle.lt_rewrite.proofs.TransformForms.{t_step_length}
 
 pub extension_step_shaped : (R : List EntryParts) (e f : ExtensionParts) → ExtensionStep R e f → IsExtension f
-extension_step_shaped R e f (in_unicode p q s) =
-    let singleton : f.singleton ≡ 117 = s.singleton ∙ s.is_u in
-    let same : record { singleton = 117; subtags = spell_u q } ≡ f = λ i. let x : ExtensionParts = record { singleton = sym singleton i; subtags = s.to.spelled (i) } in x in
-    subst IsExtension same (u_is_extension q s.to.shaped)
-extension_step_shaped R e f (in_transform p q s) =
-    let singleton : f.singleton ≡ 116 = s.singleton ∙ s.is_t in
-    let same : record { singleton = 116; subtags = spell_t q } ≡ f = λ i. let x : ExtensionParts = record { singleton = sym singleton i; subtags = s.to.spelled (i) } in x in
-    subst IsExtension same (t_is_extension q s.to.shaped)
+extension_step_shaped R e f (in_unicode p q is_u kept _ to _) =
+    let singleton : f.singleton ≡ 117 = kept ∙ is_u in
+    let same : record { singleton = 117; subtags = spell_u q } ≡ f = λ i. let x : ExtensionParts = record { singleton = sym singleton i; subtags = to.spelled (i) } in x in
+    subst IsExtension same (u_is_extension q to.shaped)
+extension_step_shaped R e f (in_transform p q is_t kept _ to _) =
+    let singleton : f.singleton ≡ 116 = kept ∙ is_t in
+    let same : record { singleton = 116; subtags = spell_t q } ≡ f = λ i. let x : ExtensionParts = record { singleton = sym singleton i; subtags = to.spelled (i) } in x in
+    subst IsExtension same (t_is_extension q to.shaped)
 
 pub extension_step_length : (R : List EntryParts) (e f : ExtensionParts) → ExtensionStep R e f → length f.subtags ≤ length e.subtags
-extension_step_length R e f (in_unicode p q s) =
-    let n = u_step_length p q s.step in
-    omega (arith, n, ap length s.from.spelled, ap length s.to.spelled)
-extension_step_length R e f (in_transform p q s) =
-    let n = t_step_length R p q s.step in
-    omega (arith, n, ap length s.from.spelled, ap length s.to.spelled)
+extension_step_length R e f (in_unicode p q _ _ from to s) =
+    let n = u_step_length p q s in
+    omega (arith, n, ap length from.spelled, ap length to.spelled)
+extension_step_length R e f (in_transform p q _ _ from to s) =
+    let n = t_step_length R p q s in
+    omega (arith, n, ap length from.spelled, ap length to.spelled)
 
 pub extension_step_singleton : (R : List EntryParts) (e f : ExtensionParts) → ExtensionStep R e f → f.singleton ≡ e.singleton
-extension_step_singleton R e f (in_unicode p q s) = s.singleton
-extension_step_singleton R e f (in_transform p q s) = s.singleton
+extension_step_singleton R e f (in_unicode p q _ kept _ _ _) = kept
+extension_step_singleton R e f (in_transform p q _ kept _ _ _) = kept
 
 -- so extensions stay extensions as values have them
 pub extensions_step_values : (R : List EntryParts) (es fs : List ExtensionParts) → ExtensionsStep R es fs → AllByRecursion IsExtensionValue es → AllByRecursion IsExtensionValue fs

@@ -6,7 +6,6 @@ use Rattle.std.proofs.Math.Seq.{map-set_same}
 use Rattle.lt_tag.specs.Parts.{ExtensionParts, UForm, TForm}
 use Rattle.lt_tag.specs.Spelling.{spell_extension, spell_extensions}
 use Rattle.lt_tag.specs.Extensions.{unicode, transform, spell_u, spell_t, IsU, IsT, IsUnicode, IsTransform}
-use Rattle.lt_tag.specs.Values.{most_parts}
 use Rattle.lt_registry.specs.Parts.{EntryParts}
 use Rattle.lt_registry.specs.Entries.{IsRegistry}
 use Rattle.lt_registry.specs.Validity.{Distinct}
@@ -31,6 +30,7 @@ use Rattle.lt_rewrite.proofs.TransformForms.{t_step_length}
 use Rattle.lt_rewrite.proofs.ExtensionShapes.{extension_step_length}
 use Rattle.lt_rewrite.proofs.ExtensionsSettled.{unicode_settled, transform_settled, FoundAt, keeps_singleton, placed_reached, placed_distinct, placed_rests, placed_keeps, each_rests}
 use Rattle.lt_rewrite.proofs.ExtensionRuns.{run_star, of_u, of_t, first_in_u, first_in_t, inside_rank, singleton_of, ordered_same, IsBehind, Leading, adds_among, u_most, t_most, behind_u, behind_t}
+use Rattle.lt_tag.specs.Lists.{longest_text}
 
 -- the subtags of the first extensions
 pub few_before : (i : ℕ) (es : List ExtensionParts) → length (spell_extensions (take i es)) ≤ length (spell_extensions es)
@@ -120,25 +120,25 @@ swapped R start es fs old new k a none =
 
 -- the parts of an extension
 
-few_u : (p q : UForm) → UnicodeStep p q → length (spell_u p) ≤ most_parts → length (spell_u q) ≤ most_parts
+few_u : (p q : UForm) → UnicodeStep p q → length (spell_u p) ≤ longest_text → length (spell_u q) ≤ longest_text
 few_u p q s h = omega (arith, h, u_step_length p q s)
 
-few_t : (R : List EntryParts) (p q : TForm) → TransformStep R p q → length (spell_t p) ≤ most_parts → length (spell_t q) ≤ most_parts
+few_t : (R : List EntryParts) (p q : TForm) → TransformStep R p q → length (spell_t p) ≤ longest_text → length (spell_t q) ≤ longest_text
 few_t R p q s h = omega (arith, h, t_step_length R p q s)
 
 module _ (k : ℕ) (p q : UForm) (old new : List Step) (a : AddsOnUnicode k p q old new) where
   pub u_star : Star UnicodeStep p q
   u_star = run_star (UnicodeLeads k) (λ _ step. kind_rank step) UnicodeStep (λ x y step l. l.0) a.run p q a.is_run
 
-  pub u_few : length (spell_u p) ≤ most_parts → length (spell_u q) ≤ most_parts
-  u_few h = star_keeps (λ x. length (spell_u x) ≤ most_parts) few_u u_star h
+  pub u_few : length (spell_u p) ≤ longest_text → length (spell_u q) ≤ longest_text
+  u_few h = star_keeps (λ x. length (spell_u x) ≤ longest_text) few_u u_star h
 
 module _ (R : List EntryParts) (k : ℕ) (p q : TForm) (old new : List Step) (a : AddsOnTransform R k p q old new) where
   pub t_star : Star (TransformStep R) p q
   t_star = run_star (TransformLeads R k) (λ _ step. kind_rank step) (TransformStep R) (λ x y step l. l.0) a.run p q a.is_run
 
-  pub t_few : length (spell_t p) ≤ most_parts → length (spell_t q) ≤ most_parts
-  t_few h = star_keeps (λ x. length (spell_t x) ≤ most_parts) (few_t R) t_star h
+  pub t_few : length (spell_t p) ≤ longest_text → length (spell_t q) ≤ longest_text
+  t_few h = star_keeps (λ x. length (spell_t x) ≤ longest_text) (few_t R) t_star h
 
 pub u_explained : (R : List EntryParts) (start : ℕ) (es : List ExtensionParts) (i : ℕ) (e : ExtensionParts) (p q : UForm) (old new : List Step) → FoundAt unicode es i e → e ≡ get_or es i e → IsUnicode e.subtags p → AddsOnUnicode (start + length (spell_extensions (take i es)) + 1) p q old new → NoneLeads (UnicodeLeads (start + length (spell_extensions (take i es)) + 1) q) → ExplainsAt R unicode start es i (of_u q) old new
 u_explained R start es i e p q old new found is from a none =

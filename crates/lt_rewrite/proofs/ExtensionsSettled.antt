@@ -38,16 +38,16 @@ unicode_settled R e p q u k n = record {
       let same : of_subtags unicode (spell_u p) ≡ e = λ i. of_subtags (sym u i) (k.spelled (i)) in
       subst (λ x. Star (ExtensionStep R) x (of_subtags unicode (spell_u q))) same
       (star_map_while IsU (λ x. of_subtags unicode (spell_u x)) u_shaped
-      (λ a b s i j. in_unicode a b (record { is_u = refl; singleton = refl; from = record { shaped = i; spelled = refl }; to = record { shaped = j; spelled = refl }; step = s }))
+      (λ a b s i j. in_unicode a b refl refl (record { shaped = i; spelled = refl }) (record { shaped = j; spelled = refl }) s)
       n.reached k.shaped);
   at_rest = rests;
 }
   where
     rests : (f : ExtensionParts) → ExtensionStep R (of_subtags unicode (spell_u q)) f → ⊥
-    rests f (in_unicode a b s) =
+    rests f (in_unicode a b _ _ from _ s) =
         let own : IsUnicode (spell_u q) q = record { shaped = star_keeps IsU u_shaped n.reached k.shaped; spelled = refl } in
-        n.at_rest b (subst (λ x. UnicodeStep x b) (one_unicode (spell_u q) a q s.from own) s.step)
-    rests f (in_transform a b s) = absurd (omega (arith, s.is_t))
+        n.at_rest b (subst (λ x. UnicodeStep x b) (one_unicode (spell_u q) a q from own) s)
+    rests f (in_transform a b is_t _ _ _ _) = absurd (omega (arith, is_t))
 
 -- the t extension of settled parts is the normal form
 pub transform_settled : (R : List EntryParts) → IsRegistry R → (e : ExtensionParts) (p q : TForm) → e.singleton ≡ transform → IsTransform e.subtags p → IsNormalForm (TransformStep R) p q → IsNormalForm (ExtensionStep R) e (of_subtags transform (spell_t q))
@@ -56,16 +56,16 @@ transform_settled R G e p q u k n = record {
       let same : of_subtags transform (spell_t p) ≡ e = λ i. of_subtags (sym u i) (k.spelled (i)) in
       subst (λ x. Star (ExtensionStep R) x (of_subtags transform (spell_t q))) same
       (star_map_while IsT (λ x. of_subtags transform (spell_t x)) (t_shaped R (step_shaped R G))
-      (λ a b s i j. in_transform a b (record { is_t = refl; singleton = refl; from = record { shaped = i; spelled = refl }; to = record { shaped = j; spelled = refl }; step = s }))
+      (λ a b s i j. in_transform a b refl refl (record { shaped = i; spelled = refl }) (record { shaped = j; spelled = refl }) s)
       n.reached k.shaped);
   at_rest = rests;
 }
   where
     rests : (f : ExtensionParts) → ExtensionStep R (of_subtags transform (spell_t q)) f → ⊥
-    rests f (in_unicode a b s) = absurd (omega (arith, s.is_u))
-    rests f (in_transform a b s) =
+    rests f (in_unicode a b is_u _ _ _ _) = absurd (omega (arith, is_u))
+    rests f (in_transform a b _ _ from _ s) =
         let own : IsTransform (spell_t q) q = record { shaped = star_keeps IsT (t_shaped R (step_shaped R G)) n.reached k.shaped; spelled = refl } in
-        n.at_rest b (subst (λ x. TransformStep R x b) (one_transform (spell_t q) a q s.from own) s.step)
+        n.at_rest b (subst (λ x. TransformStep R x b) (one_transform (spell_t q) a q from own) s)
 
 -- where the first extension of a singleton is
 
@@ -166,8 +166,8 @@ settles_still R n m ne es (Some o) (Some p) s t =
 
 -- a step needs a u or a t extension
 pub each_rests : (R : List EntryParts) (e : ExtensionParts) → (e.singleton ≡ unicode → Rests (ExtensionStep R) e) → (e.singleton ≡ transform → Rests (ExtensionStep R) e) → Rests (ExtensionStep R) e
-each_rests R e u t f (in_unicode p q s) = u s.is_u f (in_unicode p q s)
-each_rests R e u t f (in_transform p q s) = t s.is_t f (in_transform p q s)
+each_rests R e u t f (in_unicode p q is_u kept from to s) = u is_u f (in_unicode p q is_u kept from to s)
+each_rests R e u t f (in_transform p q is_t kept from to s) = t is_t f (in_transform p q is_t kept from to s)
 
 -- extensions whose u and t extensions are settled, in order
 pub extensions_settle : (R : List EntryParts) (es fs : List ExtensionParts) (u t : Option (ℕ × ExtensionParts)) → Distinct (map singleton_of es) → Settles R unicode es u → Settles R transform es t → IsNormalForm (ListStep false singleton_cmp) (placed t (placed u es)) fs → IsNormalForm (ExtensionsStep R) es fs

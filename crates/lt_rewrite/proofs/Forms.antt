@@ -1,19 +1,19 @@
 -- What the forms of entries say of names and values.
 use Rattle.std.proofs.Common.{◌≡◌, ℕ, ◌⊎◌, inl, inr, true, false, ◌&&◌, List, Option, Some, None, refl, sym, ap, ◌∙◌, subst, length, bytes_eq, arith, IfSome}
-use Rattle.std.specs.Prelude.{nat_le, is_some}
+use Rattle.std.specs.Prelude.{nat_le, is_some, unwrap_or}
 use Rattle.std.proofs.lemmas.Slice.Eq.{bytes_eq-Decides}
 use Rattle.std.proofs.lemmas.Bool.{and_parts, and_from, or_cases, lt-leb}
 use Rattle.lt_subtag.specs.Shapes.{is_alphabetic, is_language, is_extlang, is_variant}
 use Rattle.lt_tag.proofs.Apart.{extlang_is, variant_is}
 use Rattle.lt_registry.specs.Parts.{EntryParts}
-use Rattle.lt_registry.specs.Entries.{has_value_form, FitsValue, IsEntry, is_named, holds, one_of, entry, value, value_or, variant_value, language_value, is_registered, is_short, replacement, IsRegistry}
+use Rattle.lt_registry.specs.Entries.{has_value_form, FitsValue, IsEntry, is_named, holds, one_of, entry, preferred_value, variant_value, language_value, is_registered, is_short, replacement, IsRegistry}
 use Rattle.lt_registry.specs.declared.entries.Kind.{Kind}
 use Rattle.lt_registry.specs.declared.entries.Kind.TheVariants as kinds
 use Rattle.lt_registry.specs.declared.entries.EntryName.{EntryName}
 use Rattle.lt_registry.specs.declared.entries.EntryName.TheVariants as names
 use Rattle.lt_registry.specs.declared.entries.EntryValue.{EntryValue}
 use Rattle.lt_registry.specs.declared.entries.EntryValue.TheVariants as values
-use Rattle.lt_rewrite.specs.Conditions.{IsFittingExtlang, FitsAsExtlang, HasRegisteredValue, keeps_kind, MeetsCoreConditions}
+use Rattle.lt_rewrite.specs.Conditions.{IsFittingExtlang, HasFittingExtlang, HasRegisteredValue, has_value_of_own_kind, MeetsCoreConditions}
 use Rattle.lt_rewrite.proofs.Entries.{IsEntryOf, entry_has, ValuedEntry, valued, valued_has, variant_value_is, language_value_is}
 
 pub some_at : {A : Type 0} (o : Option A) → is_some o ≡ true → (a : A) × (o ≡ Some a)
@@ -30,18 +30,18 @@ value_form_at k (Some (values.One s)) v h e = let same : s ≡ v = cc in subst (
 value_form_at k (Some (values.Whole t)) v h e = cc
 
 -- a value has the form of its kind
-pub value_form : (R : List EntryParts) → IsRegistry R → (k : Kind) (s v : List ℕ) → value R k s ≡ Some v → has_value_form k v ≡ true
+pub value_form : (R : List EntryParts) → IsRegistry R → (k : Kind) (s v : List ℕ) → preferred_value R k s ≡ Some v → has_value_form k v ≡ true
 value_form R G k s v e =
     let en : ValuedEntry R k s v = valued R k s v e in
     let has : IsEntry en.at = valued_has R k s v IsEntry G.forms en in
     subst (λ k. has_value_form k v ≡ true) en.of_kind (value_form_at en.at.kind en.at.value v has.value en.gives)
 
 -- what a language, script or region has as its value is registered
-pub value_registered : (R : List EntryParts) → MeetsCoreConditions R → (k : Kind) (s v : List ℕ) → keeps_kind k ≡ true → value R k s ≡ Some v → is_registered R k v ≡ true
+pub value_registered : (R : List EntryParts) → MeetsCoreConditions R → (k : Kind) (s v : List ℕ) → has_value_of_own_kind k ≡ true → preferred_value R k s ≡ Some v → is_registered R k v ≡ true
 value_registered R C k s v keeps e =
     let en : ValuedEntry R k s v = valued R k s v e in
     let has : HasRegisteredValue R en.at = valued_has R k s v (HasRegisteredValue R) C.values en in
-    let own : keeps_kind en.at.kind ≡ true = ap keeps_kind en.of_kind ∙ keeps in
+    let own : has_value_of_own_kind en.at.kind ≡ true = ap has_value_of_own_kind en.of_kind ∙ keeps in
     subst (λ k. is_registered R k v ≡ true) en.of_kind (has own v en.gives)
 
 pub single_name : (s t : List ℕ) (n : EntryName) → n ≡ names.Single t → (is_named s n ≡ true) ⊎ (holds s n ≡ true) → t ≡ s
@@ -61,22 +61,22 @@ pub record ExtlangEntry (R : List EntryParts) (x : List ℕ) : Type 0 where
 pub extlang_entry : (R : List EntryParts) → MeetsCoreConditions R → (x : List ℕ) → is_registered R kinds.Extlang x ≡ true → ExtlangEntry R x
 extlang_entry R C x h =
     let en = registered_entry R kinds.Extlang x h in
-    let has = entry_has R kinds.Extlang x (FitsAsExtlang R) C.extlangs en.0 en.1 in
+    let has = entry_has R kinds.Extlang x (HasFittingExtlang R) C.extlangs en.0 en.1 in
     let of : IsEntryOf kinds.Extlang x en.0 = has.1 in
     let fits : IsFittingExtlang R en.0 = has.0 of.of_kind in
     record { at = en.0; found = en.1; fits = fits; same = single_name x fits.subtag en.0.name fits.single of.names }
 
-pub replacement_at : (R : List EntryParts) (x : List ℕ) (e : EntryParts) → entry R kinds.Extlang x ≡ Some e → replacement R x ≡ value_or (one_of e.value) x
-replacement_at R x e h = ap (λ (o : Option (List ℕ)). value_or o x) (value_at h)
+pub replacement_at : (R : List EntryParts) (x : List ℕ) (e : EntryParts) → entry R kinds.Extlang x ≡ Some e → replacement R x ≡ unwrap_or (one_of e.value) x
+replacement_at R x e h = ap (λ (o : Option (List ℕ)). unwrap_or o x) (value_at h)
   where
-    value_at : entry R kinds.Extlang x ≡ Some e → value R kinds.Extlang x ≡ one_of e.value
+    value_at : entry R kinds.Extlang x ≡ Some e → preferred_value R kinds.Extlang x ≡ one_of e.value
     value_at h = rw h refl
 
 -- the replacement of an extlang is a registered language
 pub replacement_registered : (R : List EntryParts) → MeetsCoreConditions R → (x : List ℕ) → is_registered R kinds.Extlang x ≡ true → is_registered R kinds.Language (replacement R x) ≡ true
 replacement_registered R C x h =
     let en : ExtlangEntry R x = extlang_entry R C x h in
-    ap (λ s. is_registered R kinds.Language s) (replacement_at R x en.at en.found ∙ ap (value_or (one_of en.at.value)) (sym en.same)) ∙ en.fits.replacement_registered
+    ap (λ s. is_registered R kinds.Language s) (replacement_at R x en.at en.found ∙ ap (unwrap_or (one_of en.at.value)) (sym en.same)) ∙ en.fits.replacement_registered
 
 pub extlang_is_language : (x : List ℕ) → is_extlang x ≡ true → is_language x ≡ true
 unfolding is_language
@@ -84,13 +84,13 @@ extlang_is_language x h =
     let p = extlang_is x h in
     and_from (is_alphabetic x) (nat_le 2 (length x) && nat_le (length x) 8) p.0 (ap (λ m. nat_le 2 m && nat_le m 8) p.1)
 
-replacement_form_at : (x : List ℕ) (o : Option (List ℕ)) → is_language x ≡ true → ((v : List ℕ) → o ≡ Some v → is_language v ≡ true) → is_language (value_or o x) ≡ true
+replacement_form_at : (x : List ℕ) (o : Option (List ℕ)) → is_language x ≡ true → ((v : List ℕ) → o ≡ Some v → is_language v ≡ true) → is_language (unwrap_or o x) ≡ true
 replacement_form_at x None h f = h
 replacement_form_at x (Some v) h f = f v refl
 
 -- the replacement of an extlang has the form of a language
 pub replacement_form : (R : List EntryParts) → IsRegistry R → (x : List ℕ) → is_extlang x ≡ true → is_language (replacement R x) ≡ true
-replacement_form R G x h = replacement_form_at x (value R kinds.Extlang x) (extlang_is_language x h) (value_form R G kinds.Extlang x)
+replacement_form R G x h = replacement_form_at x (preferred_value R kinds.Extlang x) (extlang_is_language x h) (value_form R G kinds.Extlang x)
 
 -- no variant is as short as a language of 2 or 3 letters
 pub variant_not_short : (v : List ℕ) → is_variant v ≡ true → is_short v ≡ false

@@ -3,14 +3,14 @@ use Rattle.std.proofs.Common.{◌≡◌, ◌≢◌, ℕ, ◌+◌, ◌≤◌, ◌
 use Rattle.std.specs.Prelude.{option_to_list, flat_map}
 use Rattle.lt_tag.specs.Parts.{CoreParts, ExtensionParts, UForm, TForm, TagForm, LangTag}
 use Rattle.lt_tag.specs.Spelling.{spell_core, spell_extension, spell_extensions}
-use Rattle.lt_tag.specs.Extensions.{spell_keyword, spell_u, spell_field, spell_source, spell_t, transform, unicode}
+use Rattle.lt_tag.specs.Extensions.{spell_keyword, spell_u, spell_field, spell_t, transform, unicode}
 use Rattle.lt_tag.proofs.PartsLaws.{u_unique, t_unique}
 use Rattle.lt_registry.specs.Parts.{EntryParts}
 use Rattle.lt_registry.specs.Entries.{entry, whole_value, number_of}
 use Rattle.lt_registry.specs.Faults.{before_variants}
 use Rattle.lt_registry.specs.Validity.{Distinct, IsProperLangTag, HasProperParts}
 use Rattle.lt_registry.specs.declared.entries.Kind.TheVariants as kinds
-use Rattle.lt_rewrite.specs.CoreSteps.{values_of, CoreStep, by_extlang, by_language, by_script, by_region, by_variant, by_turn}
+use Rattle.lt_rewrite.specs.CoreSteps.{values_of, CoreStep, by_extlang, by_language, by_script, by_region, by_variant, by_variant_language}
 use Rattle.lt_rewrite.specs.Orderings.{ListStep, by_swap, by_drop}
 use Rattle.lt_rewrite.specs.Extensions.{text_cmp, key_cmp, separator_cmp, singleton_cmp, UnicodeStep, on_attributes, on_keywords, on_types, TransformStep, on_source, on_fields, ExtensionStep, in_unicode, in_transform, ExtensionsStep, inside, among}
 use Rattle.lt_rewrite.specs.TagSteps.{TagChange, on_core, on_extensions, on_whole}
@@ -21,6 +21,7 @@ use Rattle.lt_rewrite.specs.declared.steps.StepKind.{StepKind}
 use Rattle.lt_rewrite.specs.declared.steps.StepKind.TheVariants as steps
 use Rattle.lt_rewrite.proofs.CoreForm.{core}
 use Rattle.lt_rewrite.proofs.SameCuts.{SameCut, same_cut, same_flat, flat_length, distinct_cut}
+use Rattle.lt_tag.specs.Splitting.{spell_source}
 
 -- two steps of one kind at one place
 record SameSpot (step other : Step) : Type 0 where
@@ -68,11 +69,11 @@ one_core_result R start c d e (by_variant before v w after s) (by_variant before
       number = ap (λ z. number_of (entry R kinds.Variant z)) k.at;
       result = s.result ∙ (λ i. core c.language c.extlangs c.script c.region (k.front i ++ q i ∷ k.rest i)) ∙ sym u.result;
     }
-one_core_result R start c d e (by_turn before v m after s) (by_turn before' v' m' after' u) h =
+one_core_result R start c d e (by_variant_language before v m after s) (by_variant_language before' v' m' after' u) h =
     let p : start + before_variants c + length before + 1 ≡ start + before_variants c + length before' + 1 = h.place in
     let l : length before ≡ length before' = omega (arith, p) in
     let k : SameCut before before' v v' after after' = same_cut before before' v v' after after' (sym s.there ∙ u.there) l in
-    let q : m ≡ m' = same_some ((values_of R).turn c.language v) m m' s.has (ap ((values_of R).turn c.language) k.at ∙ u.has) in
+    let q : m ≡ m' = same_some ((values_of R).variant_language c.language v) m m' s.has (ap ((values_of R).variant_language c.language) k.at ∙ u.has) in
     record {
       number = ap (λ z. number_of (entry R kinds.Variant z)) k.at;
       result = s.result ∙ (λ i. core (q i) c.extlangs c.script c.region (k.front i ++ k.rest i)) ∙ sym u.result;
@@ -128,7 +129,7 @@ core_class R start c d (by_language v s) = refl
 core_class R start c d (by_script a v s) = refl
 core_class R start c d (by_region a v s) = refl
 core_class R start c d (by_variant before v w after s) = refl
-core_class R start c d (by_turn before v m after s) = refl
+core_class R start c d (by_variant_language before v m after s) = refl
 
 core_low : (R : List EntryParts) (start : ℕ) (c d : CoreParts) (k : CoreStep (values_of R) c d) → start < (core_label R start k).place
 core_low R start c d (by_extlang x k) = omega arith
@@ -136,7 +137,7 @@ core_low R start c d (by_language v k) = omega arith
 core_low R start c d (by_script a v k) = omega arith
 core_low R start c d (by_region a v k) = omega arith
 core_low R start c d (by_variant before v w after k) = omega arith
-core_low R start c d (by_turn before v m after k) = omega arith
+core_low R start c d (by_variant_language before v m after k) = omega arith
 
 core_length : (c : CoreParts) → length (spell_core c) ≡ before_variants c + length c.variants
 core_length c = omega (arith, length-append c.extlangs (option_to_list c.script ++ (option_to_list c.region ++ c.variants)), length-append (option_to_list c.script) (option_to_list c.region ++ c.variants), length-append (option_to_list c.region) c.variants)
@@ -147,7 +148,7 @@ core_high R c d (by_language v k) = omega (arith, core_length c)
 core_high R c d (by_script a v k) = omega (arith, core_length c, ap (λ o. length (option_to_list o)) k.there)
 core_high R c d (by_region a v k) = omega (arith, core_length c, ap (λ o. length (option_to_list o)) k.there)
 core_high R c d (by_variant before v w after k) = omega (arith, core_length c, ap length k.there, length-append before (v ∷ after))
-core_high R c d (by_turn before v m after k) = omega (arith, core_length c, ap length k.there, length-append before (v ∷ after))
+core_high R c d (by_variant_language before v m after k) = omega (arith, core_length c, ap length k.there, length-append before (v ∷ after))
 
 list_class : {A : Type 0} {once : Bool} {cmp : A → A → Ordering} {xs ys : List A} (swap drop : StepKind) (k : ℕ) → class swap ≡ k → class drop ≡ k → (spell : A → List (List ℕ)) (start : ℕ) (s : ListStep once cmp xs ys) → class (list_label swap drop spell start s).kind ≡ k
 list_class swap drop k a b spell start (by_swap before x y after s) = a
@@ -206,11 +207,11 @@ unfolding class
 fields_class start p q h = list_class steps.SwapFields steps.SwapFields 4 refl refl spell_field start h
 
 one_transform : (R : List EntryParts) (start : ℕ) (p q r : TForm) (s : TransformStep R p q) (u : TransformStep R p r) → SameSpot (transform_label R start s) (transform_label R start u) → SameEnd (transform_label R start s) (transform_label R start u) q r
-one_transform R start p q r (on_source c d s) (on_source c' d' u) h =
-    let e : c ≡ c' = same_some p.source c c' s.from u.from in
-    let k : SameEnd (core_label R start s.step) (core_label R start u.step) d d' = one_core_any R start c c' d d' e s.step u.step h in
-    let a : q.source ≡ r.source = s.to ∙ ap Some k.result ∙ sym u.to in
-    let b : q.fields ≡ r.fields = s.fields ∙ sym u.fields in
+one_transform R start p q r (on_source c d from to s same_fields) (on_source c' d' begins ends u kept_fields) h =
+    let e : c ≡ c' = same_some p.source c c' from begins in
+    let k : SameEnd (core_label R start s) (core_label R start u) d d' = one_core_any R start c c' d d' e s u h in
+    let a : q.source ≡ r.source = to ∙ ap Some k.result ∙ sym ends in
+    let b : q.fields ≡ r.fields = same_fields ∙ sym kept_fields in
     record { number = k.number; result = λ i. record { source = a i; fields = b i } }
 one_transform R start p q r (on_fields x s) (on_fields y u) h =
     let a : q.source ≡ r.source = x ∙ sym y in
@@ -221,14 +222,14 @@ one_transform R start p q r (on_fields x s) (on_fields y u) h =
       number = list_number steps.SwapFields steps.SwapFields n l s ∙ sym (list_number steps.SwapFields steps.SwapFields n l u);
       result = λ i. record { source = a i; fields = b i };
     }
-one_transform R start p q r (on_source c d s) (on_fields y u) h =
-    let a = core_class R start c d s.step in
+one_transform R start p q r (on_source c d _ _ s _) (on_fields y u) h =
+    let a = core_class R start c d s in
     let b = fields_class (start + length (spell_source p.source)) p r u in
     let c = ap class h.kind in
     absurd (omega (arith, a, b, c))
-one_transform R start p q r (on_fields x s) (on_source c d u) h =
+one_transform R start p q r (on_fields x s) (on_source c d _ _ u _) h =
     let a = fields_class (start + length (spell_source p.source)) p q s in
-    let b = core_class R start c d u.step in
+    let b = core_class R start c d u in
     let c = ap class h.kind in
     absurd (omega (arith, a, b, c))
 
@@ -237,24 +238,24 @@ same_extension f g a b = λ i. record { singleton = a i; subtags = b i }
 
 -- on one extension
 one_extension_result : (R : List EntryParts) (start : ℕ) (e f g : ExtensionParts) (s : ExtensionStep R e f) (u : ExtensionStep R e g) → SameSpot (extension_label R start s) (extension_label R start u) → SameEnd (extension_label R start s) (extension_label R start u) f g
-one_extension_result R start e f g (in_unicode p q s) (in_unicode p' q' u) h =
-    let same : p ≡ p' = u_unique e.subtags p p' s.from u.from in
-    let P : UForm → Type 0 = λ x. (k : UnicodeStep x q') → SameSpot (unicode_label start s.step) (unicode_label start k) → q ≡ q' in
-    let k : q ≡ q' = subst P same (λ k h. one_unicode start p q q' s.step k h) u.step h in
+one_extension_result R start e f g (in_unicode p q _ kept from to s) (in_unicode p' q' _ same_singleton begins ends u) h =
+    let same : p ≡ p' = u_unique e.subtags p p' from begins in
+    let P : UForm → Type 0 = λ x. (k : UnicodeStep x q') → SameSpot (unicode_label start s) (unicode_label start k) → q ≡ q' in
+    let k : q ≡ q' = subst P same (λ k h. one_unicode start p q q' s k h) u h in
     record {
-      number = unicode_number start p q s.step ∙ sym (unicode_number start p' q' u.step);
-      result = same_extension f g (s.singleton ∙ sym u.singleton) (sym s.to.spelled ∙ ap spell_u k ∙ u.to.spelled);
+      number = unicode_number start p q s ∙ sym (unicode_number start p' q' u);
+      result = same_extension f g (kept ∙ sym same_singleton) (sym to.spelled ∙ ap spell_u k ∙ ends.spelled);
     }
-one_extension_result R start e f g (in_transform p q s) (in_transform p' q' u) h =
-    let same : p ≡ p' = t_unique e.subtags p p' s.from u.from in
-    let P : TForm → Type 0 = λ x. (k : TransformStep R x q') → SameSpot (transform_label R start s.step) (transform_label R start k) → SameEnd (transform_label R start s.step) (transform_label R start k) q q' in
-    let k : SameEnd (transform_label R start s.step) (transform_label R start u.step) q q' = subst P same (λ k h. one_transform R start p q q' s.step k h) u.step h in
+one_extension_result R start e f g (in_transform p q _ kept from to s) (in_transform p' q' _ same_singleton begins ends u) h =
+    let same : p ≡ p' = t_unique e.subtags p p' from begins in
+    let P : TForm → Type 0 = λ x. (k : TransformStep R x q') → SameSpot (transform_label R start s) (transform_label R start k) → SameEnd (transform_label R start s) (transform_label R start k) q q' in
+    let k : SameEnd (transform_label R start s) (transform_label R start u) q q' = subst P same (λ k h. one_transform R start p q q' s k h) u h in
     record {
       number = k.number;
-      result = same_extension f g (s.singleton ∙ sym u.singleton) (sym s.to.spelled ∙ ap spell_t k.result ∙ u.to.spelled);
+      result = same_extension f g (kept ∙ sym same_singleton) (sym to.spelled ∙ ap spell_t k.result ∙ ends.spelled);
     }
-one_extension_result R start e f g (in_unicode p q s) (in_transform p' q' u) h = absurd (omega (arith, s.is_u, u.is_t))
-one_extension_result R start e f g (in_transform p q s) (in_unicode p' q' u) h = absurd (omega (arith, s.is_t, u.is_u))
+one_extension_result R start e f g (in_unicode p q is_u _ _ _ _) (in_transform p' q' is_t _ _ _ _) h = absurd (omega (arith, is_u, is_t))
+one_extension_result R start e f g (in_transform p q is_t _ _ _ _) (in_unicode p' q' is_u _ _ _ _) h = absurd (omega (arith, is_t, is_u))
 
 one_extension_any : (R : List EntryParts) (start start' : ℕ) (e e' f g : ExtensionParts) → start ≡ start' → e ≡ e' → (s : ExtensionStep R e f) (u : ExtensionStep R e' g) → SameSpot (extension_label R start s) (extension_label R start' u) → SameEnd (extension_label R start s) (extension_label R start' u) f g
 one_extension_any R start start' e e' f g n k s u h =
@@ -269,15 +270,15 @@ data Tells (start : ℕ) (e : ExtensionParts) (kind : ℕ) (place : ℕ) : Type 
   of_source : e.singleton ≡ transform → kind ≡ 0 → start < place → Tells start e kind place
 
 extension_tells : (R : List EntryParts) (start : ℕ) (e f : ExtensionParts) (s : ExtensionStep R e f) → Tells start e (class (extension_label R start s).kind) (extension_label R start s).place
-extension_tells R start e f (in_unicode p q s) =
-    let k = unicode_class start p q s.step in
-    let r = unicode_range p q s.step in
-    of_unicode s.is_u (omega (arith, k, r.0)) (omega (arith, k, r.1))
-extension_tells R start e f (in_transform p q s) = by s.step
+extension_tells R start e f (in_unicode p q is_u _ _ _ s) =
+    let k = unicode_class start p q s in
+    let r = unicode_range p q s in
+    of_unicode is_u (omega (arith, k, r.0)) (omega (arith, k, r.1))
+extension_tells R start e f (in_transform p q is_t _ _ _ s) = by s
   where
     by : (k : TransformStep R p q) → Tells start e (class (transform_label R start k).kind) (transform_label R start k).place
-    by (on_source c d k) = of_source s.is_t (core_class R start c d k.step) (core_low R start c d k.step)
-    by (on_fields a k) = of_fields s.is_t (fields_class (start + length (spell_source p.source)) p q k)
+    by (on_source c d _ _ k _) = of_source is_t (core_class R start c d k) (core_low R start c d k)
+    by (on_fields a k) = of_fields is_t (fields_class (start + length (spell_source p.source)) p q k)
 
 tells_low : (start : ℕ) (e : ExtensionParts) (kind place : ℕ) → Tells start e kind place → (kind ≤ 4) × (kind ≡ 0 → start < place)
 tells_low start e kind place (of_unicode s a b) = (omega arith, λ z. absurd (omega (arith, z, a)))
@@ -351,43 +352,43 @@ extensions_low R start es fs (among s) =
 
 -- the kind and the place determine the record of a step on a tag, and what it leads to
 one_result : (R : List EntryParts) (t u v : TagForm) → HasProperParts R t → (s : TagChange R t u) (r : TagChange R t v) → SameSpot (tag_label R s) (tag_label R r) → SameEnd (tag_label R s) (tag_label R r) u v
-one_result R t u v P (on_core c d es ps s) (on_core c' d' es' ps' r) h =
-    let e : LangTag c es ps ≡ LangTag c' es' ps' = sym s.from ∙ r.from in
+one_result R t u v P (on_core c d es ps from to s) (on_core c' d' es' ps' begins ends r) h =
+    let e : LangTag c es ps ≡ LangTag c' es' ps' = sym from ∙ begins in
     let ec : c ≡ c' = cc in
     let ee : es ≡ es' = cc in
     let ep : ps ≡ ps' = cc in
-    let k : SameEnd (core_label R 0 s.step) (core_label R 0 r.step) d d' = one_core_any R 0 c c' d d' ec s.step r.step h in
+    let k : SameEnd (core_label R 0 s) (core_label R 0 r) d d' = one_core_any R 0 c c' d d' ec s r h in
     let ed : d ≡ d' = k.result in
-    record { number = k.number; result = s.to ∙ (λ i. LangTag (ed i) (ee i) (ep i)) ∙ sym r.to }
-one_result R t u v P (on_extensions c es fs ps s) (on_extensions c' es' fs' ps' r) h =
-    let e : LangTag c es ps ≡ LangTag c' es' ps' = sym s.from ∙ r.from in
+    record { number = k.number; result = to ∙ (λ i. LangTag (ed i) (ee i) (ep i)) ∙ sym ends }
+one_result R t u v P (on_extensions c es fs ps from to s) (on_extensions c' es' fs' ps' begins ends r) h =
+    let e : LangTag c es ps ≡ LangTag c' es' ps' = sym from ∙ begins in
     let ec : c ≡ c' = cc in
     let ee : es ≡ es' = cc in
     let ep : ps ≡ ps' = cc in
-    let L : IsProperLangTag R c es = subst (HasProperParts R) s.from P in
+    let L : IsProperLangTag R c es = subst (HasProperParts R) from P in
     let n : length (spell_core c) ≡ length (spell_core c') = ap (λ x. length (spell_core x)) ec in
-    let k : SameEnd (extensions_label R (length (spell_core c)) s.step) (extensions_label R (length (spell_core c')) r.step) fs fs' = one_extensions_any R (length (spell_core c)) (length (spell_core c')) es es' fs fs' n ee L.singletons s.step r.step h in
+    let k : SameEnd (extensions_label R (length (spell_core c)) s) (extensions_label R (length (spell_core c')) r) fs fs' = one_extensions_any R (length (spell_core c)) (length (spell_core c')) es es' fs fs' n ee L.singletons s r h in
     let ef : fs ≡ fs' = k.result in
-    record { number = k.number; result = s.to ∙ (λ i. LangTag (ec i) (ef i) (ep i)) ∙ sym r.to }
-one_result R t u v P (on_whole s) (on_whole r) h = record { number = refl; result = same_some (whole_value R t) u v s.has r.has }
-one_result R t u v P (on_core c d es ps s) (on_whole r) h = absurd (omega (arith, core_class R 0 c d s.step, whole_class, ap class h.kind))
-one_result R t u v P (on_whole r) (on_core c d es ps s) h = absurd (omega (arith, core_class R 0 c d s.step, whole_class, ap class h.kind))
-one_result R t u v P (on_extensions c es fs ps s) (on_whole r) h = absurd (omega (arith, (extensions_low R (length (spell_core c)) es fs s.step).0, whole_class, ap class h.kind))
-one_result R t u v P (on_whole r) (on_extensions c es fs ps s) h = absurd (omega (arith, (extensions_low R (length (spell_core c)) es fs s.step).0, whole_class, ap class h.kind))
-one_result R t u v P (on_core c d es ps s) (on_extensions c' es' fs ps' r) h =
-    let same : LangTag c es ps ≡ LangTag c' es' ps' = sym s.from ∙ r.from in
+    record { number = k.number; result = to ∙ (λ i. LangTag (ec i) (ef i) (ep i)) ∙ sym ends }
+one_result R t u v P (on_whole _ has) (on_whole _ valued) h = record { number = refl; result = same_some (whole_value R t) u v has valued }
+one_result R t u v P (on_core c d es ps _ _ s) (on_whole _ _) h = absurd (omega (arith, core_class R 0 c d s, whole_class, ap class h.kind))
+one_result R t u v P (on_whole _ _) (on_core c d es ps _ _ s) h = absurd (omega (arith, core_class R 0 c d s, whole_class, ap class h.kind))
+one_result R t u v P (on_extensions c es fs ps _ _ s) (on_whole _ _) h = absurd (omega (arith, (extensions_low R (length (spell_core c)) es fs s).0, whole_class, ap class h.kind))
+one_result R t u v P (on_whole _ _) (on_extensions c es fs ps _ _ s) h = absurd (omega (arith, (extensions_low R (length (spell_core c)) es fs s).0, whole_class, ap class h.kind))
+one_result R t u v P (on_core c d es ps from _ s) (on_extensions c' es' fs ps' begins _ r) h =
+    let same : LangTag c es ps ≡ LangTag c' es' ps' = sym from ∙ begins in
     let ec : c ≡ c' = cc in
-    let k = core_class R 0 c d s.step in
+    let k = core_class R 0 c d s in
     let m = ap class h.kind in
-    let l = (extensions_low R (length (spell_core c')) es' fs r.step).1 (sym m ∙ k) in
-    absurd (omega (arith, core_high R c d s.step, ap (λ x. length (spell_core x)) ec, l, h.place))
-one_result R t u v P (on_extensions c' es' fs ps' r) (on_core c d es ps s) h =
-    let same : LangTag c es ps ≡ LangTag c' es' ps' = sym s.from ∙ r.from in
+    let l = (extensions_low R (length (spell_core c')) es' fs r).1 (sym m ∙ k) in
+    absurd (omega (arith, core_high R c d s, ap (λ x. length (spell_core x)) ec, l, h.place))
+one_result R t u v P (on_extensions c' es' fs ps' from _ r) (on_core c d es ps begins _ s) h =
+    let same : LangTag c es ps ≡ LangTag c' es' ps' = sym begins ∙ from in
     let ec : c ≡ c' = cc in
-    let k = core_class R 0 c d s.step in
+    let k = core_class R 0 c d s in
     let m = ap class h.kind in
-    let l = (extensions_low R (length (spell_core c')) es' fs r.step).1 (m ∙ k) in
-    absurd (omega (arith, core_high R c d s.step, ap (λ x. length (spell_core x)) ec, l, h.place))
+    let l = (extensions_low R (length (spell_core c')) es' fs r).1 (m ∙ k) in
+    absurd (omega (arith, core_high R c d s, ap (λ x. length (spell_core x)) ec, l, h.place))
 
 pub steps_determined : (R : List EntryParts) → StepsAreDetermined R
 steps_determined R t u v step other a b k p =

@@ -4,10 +4,11 @@ use Rattle.std.specs.Prelude.{option_to_list}
 use Rattle.std.specs.List.{AllByRecursion, list_all}
 use Rattle.std.proofs.lemmas.Slice.Eq.{bytes_eq-Decides}
 use Rattle.std.proofs.lemmas.Bool.{and_parts, and_from, not-true}
+use Rattle.std.specs.Option.{option_map_or}
 use Rattle.lt_subtag.specs.Shapes.{is_extlang, is_script, is_region, is_variant}
 use Rattle.lt_tag.specs.Parts.{CoreParts}
 use Rattle.lt_tag.specs.Lists.{pieces}
-use Rattle.lt_tag.specs.Spelling.{spell_core, has_shape, IsCore}
+use Rattle.lt_tag.specs.Spelling.{spell_core, IsCore}
 use Rattle.lt_tag.specs.Grandfathered.{grandfathered_texts, grandfathered_list, IsGrandfathered}
 use Rattle.lt_tag.proofs.TagLemmas.{table_length, list_all-at}
 use Rattle.lt_registry.specs.Parts.{EntryParts}
@@ -15,8 +16,8 @@ use Rattle.lt_registry.specs.Entries.{is_registered, IsRegistry}
 use Rattle.lt_registry.specs.Validity.{ExtlangsFit, IsProperCore, Distinct}
 use Rattle.lt_registry.specs.declared.entries.Kind.TheVariants as kinds
 use Rattle.lt_tag.specs.WellFormed.{IsNotGrandfathered}
-use Rattle.lt_rewrite.specs.CoreSteps.{values_of, CoreStep, by_extlang, by_language, by_script, by_region, by_variant, by_turn}
-use Rattle.lt_rewrite.specs.Conditions.{FitsGrandfathered, second_entry, MeetsCoreConditions}
+use Rattle.lt_rewrite.specs.CoreSteps.{values_of, CoreStep, by_extlang, by_language, by_script, by_region, by_variant, by_variant_language}
+use Rattle.lt_rewrite.specs.Conditions.{HasFittingGrandfathered, second_entry, MeetsCoreConditions}
 use Rattle.lt_rewrite.specs.Laws.{StepsKeepProper, ProperCoresSpellNone}
 use Rattle.lt_rewrite.proofs.CoreLengths.{core_step_no_longer}
 use Rattle.lt_rewrite.proofs.PartLists.{all_replaced, all_without}
@@ -55,7 +56,7 @@ step_shaped R G c d S (by_region a v s) =
     subst IsCore (sym s.result) (record { language = S.language; extlangs = S.extlangs; up_to_three = S.up_to_three; after_short = S.after_short; script = S.script; region = value_form R G kinds.Region a v s.has; variants = S.variants })
 step_shaped R G c d S (by_variant before v w after s) =
     subst IsCore (sym s.result) (record { language = S.language; extlangs = S.extlangs; up_to_three = S.up_to_three; after_short = S.after_short; script = S.script; region = S.region; variants = test_replaced is_variant before v w after (ap (list_all is_variant) (sym s.there) ∙ S.variants) (variant_value_form R G v w s.has) })
-step_shaped R G c d S (by_turn before v m after s) =
+step_shaped R G c d S (by_variant_language before v m after s) =
     let t = (turn_is R c.language v m s.has).1 in
     subst IsCore (sym s.result) (record { language = language_value_form R G v m t; extlangs = S.extlangs; up_to_three = S.up_to_three; after_short = short_none m c.extlangs s.alone; script = S.script; region = S.region; variants = test_without is_variant before v after (ap (list_all is_variant) (sym s.there) ∙ S.variants) })
 
@@ -76,7 +77,7 @@ step_proper R C c d P (by_region a v s) =
 step_proper R C c d P (by_variant before v w after s) =
     let all = subst (AllByRecursion (RegisteredVariant R)) s.there P.variants in
     subst (IsProperCore R) (sym s.result) (record { language = P.language; extlangs = P.extlangs; script = P.script; region = P.region; variants = all_replaced (RegisteredVariant R) before v w after all (variant_value_fits R C v w s.has).0 })
-step_proper R C c d P (by_turn before v m after s) =
+step_proper R C c d P (by_variant_language before v m after s) =
     let t = (turn_is R c.language v m s.has).1 in
     let all = subst (AllByRecursion (RegisteredVariant R)) s.there P.variants in
     subst (IsProperCore R) (sym s.result) (record { language = language_value_fits R C v m t; extlangs = fit_none R m c.extlangs s.alone; script = P.script; region = P.region; variants = all_without (RegisteredVariant R) before v after all })
@@ -145,7 +146,7 @@ spelled_distinct c number g =
     let d : Distinct (spell_core c) = (grandfathered_is (spell_core c) number g).0 in
     distinct_rest (option_to_list c.region) c.variants (distinct_rest (option_to_list c.script) (option_to_list c.region ++ c.variants) (distinct_rest c.extlangs (option_to_list c.script ++ (option_to_list c.region ++ c.variants)) d.1))
 
-bare_test : (l : List ℕ) (sc re : Option (List ℕ)) → has_shape is_script sc ≡ true → has_shape is_region re ≡ true → three_at_most (l ∷ (option_to_list sc ++ (option_to_list re ++ []))) ≡ true
+bare_test : (l : List ℕ) (sc re : Option (List ℕ)) → option_map_or is_script sc true ≡ true → option_map_or is_region re true ≡ true → three_at_most (l ∷ (option_to_list sc ++ (option_to_list re ++ []))) ≡ true
 unfolding three_at_most
 bare_test l None None s r = refl
 bare_test l (Some a) None s r = rw s refl
@@ -173,11 +174,11 @@ second_has R P h (x ∷ xs) vs e q = (entry_has R kinds.Extlang x P h e q).0
 second_has R P h [] (v ∷ vs) e q = (entry_has R kinds.Variant v P h e q).0
 
 -- a proper core spells no grandfathered tag
-pub proper_not_grandfathered : (R : List EntryParts) → All (FitsGrandfathered R) R → (c : CoreParts) → IsCore c → IsProperCore R c → IsNotGrandfathered (spell_core c)
+pub proper_not_grandfathered : (R : List EntryParts) → All (HasFittingGrandfathered R) R → (c : CoreParts) → IsCore c → IsProperCore R c → IsNotGrandfathered (spell_core c)
 proper_not_grandfathered R H c S P number g =
     let en : (e : EntryParts) × (second_entry R c.extlangs c.variants ≡ Some e) = second_registered R c number c.extlangs c.variants S refl refl P.extlangs P.variants g in
-    let fits : FitsGrandfathered R en.0 = second_has R (FitsGrandfathered R) H c.extlangs c.variants en.0 en.1 in
-    fits.regular c number S g (record { proper = P; distinct = spelled_distinct c number g }) en.1
+    let fits : HasFittingGrandfathered R en.0 = second_has R (HasFittingGrandfathered R) H c.extlangs c.variants en.0 en.1 in
+    fits.regular c number S g P (spelled_distinct c number g) en.1
 
-pub proper_spells_none : (R : List EntryParts) → All (FitsGrandfathered R) R → ProperCoresSpellNone R
+pub proper_spells_none : (R : List EntryParts) → All (HasFittingGrandfathered R) R → ProperCoresSpellNone R
 proper_spells_none R H c P = proper_not_grandfathered R H c P.value.shaped P.proper

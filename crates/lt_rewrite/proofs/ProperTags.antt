@@ -5,7 +5,7 @@ use Rattle.std.proofs.lemmas.List.{map-append}
 use Rattle.lt_tag.specs.Parts.{CoreParts, ExtensionParts, TForm, LangTag}
 use Rattle.lt_tag.specs.Spelling.{spell_core, IsExtension, IsPrivate}
 use Rattle.lt_tag.specs.Extensions.{transform, IsTransform}
-use Rattle.lt_tag.specs.Values.{IsExtensionValue, most_parts}
+use Rattle.lt_tag.specs.Values.{IsExtensionValue}
 use Rattle.lt_tag.specs.WellFormed.{IsLangTag, IsNotGrandfathered}
 use Rattle.lt_tag.proofs.TagLemmas.{not_grandfathered, AllByRecursion-weaker}
 use Rattle.lt_registry.specs.Parts.{EntryParts}
@@ -14,21 +14,22 @@ use Rattle.lt_rewrite.specs.CoreSteps.{values_of, CoreStep}
 use Rattle.lt_rewrite.specs.Orderings.{ListStep, by_swap, by_drop}
 use Rattle.lt_rewrite.specs.Extensions.{singleton_cmp, TransformStep, on_source, on_fields, ExtensionStep, in_unicode, in_transform, ExtensionsStep, inside, among}
 use Rattle.lt_registry.specs.Entries.{IsRegistry}
-use Rattle.lt_rewrite.specs.Conditions.{FitsGrandfathered, MeetsCoreConditions}
+use Rattle.lt_rewrite.specs.Conditions.{HasFittingGrandfathered, MeetsCoreConditions}
 use Rattle.lt_rewrite.specs.Laws.{IsProperValue, StepsKeepTagsProper}
 use Rattle.lt_rewrite.proofs.Proper.{steps_keep_proper}
 use Rattle.lt_rewrite.proofs.PartLists.{all_both, all_step, all_middle, all_replaced, if_some_is, is_if_some}
 use Rattle.lt_rewrite.proofs.FoundParts.{one_transform}
 use Rattle.lt_rewrite.proofs.ExtensionShapes.{extension_step_singleton, extensions_step_values, extensions_step_count}
+use Rattle.lt_tag.specs.Lists.{longest_text}
 pub use Rattle.lt_rewrite.proofs.Proper.{step_proper, proper_not_grandfathered, proper_spells_none}
 
 -- the parts of a proper langtag
 pub record ProperParts (R : List EntryParts) (c : CoreParts) (es : List ExtensionParts) (ps : List (List ℕ)) : Type 0 where
   pub core : IsProperValue R c
   pub values : AllByRecursion IsExtensionValue es
-  pub count : length es ≤ most_parts
+  pub count : length es ≤ longest_text
   pub private : IsPrivate ps
-  pub private_count : length ps ≤ most_parts
+  pub private_count : length ps ≤ longest_text
   pub extensions : AllByRecursion (IsProperExtension R) es
   pub singletons : Distinct (map (λ (e : ExtensionParts). e.singleton) es)
 
@@ -38,7 +39,7 @@ proper_parts R c es ps P =
     let counts = P.tag.counts in
     record {
       core = record { value = record { shaped = shaped.shaped_core; variants = counts.0 }; proper = P.parts.core };
-      values = all_both IsExtension (λ (e : ExtensionParts). length e.subtags ≤ most_parts) IsExtensionValue (λ e a b. record { shaped = a; subtags = b }) es shaped.shaped_extensions counts.2;
+      values = all_both IsExtension (λ (e : ExtensionParts). length e.subtags ≤ longest_text) IsExtensionValue (λ e a b. record { shaped = a; subtags = b }) es shaped.shaped_extensions counts.2;
       count = counts.1;
       private = shaped.shaped_private;
       private_count = counts.3;
@@ -58,7 +59,7 @@ proper_langtag R c es ps n P = record {
       },
       not_grandfathered c es ps (inl n),
     );
-    counts = (P.core.value.variants, P.count, AllByRecursion-weaker IsExtensionValue (λ (e : ExtensionParts). length e.subtags ≤ most_parts) (λ e k. k.subtags) es P.values, P.private_count);
+    counts = (P.core.value.variants, P.count, AllByRecursion-weaker IsExtensionValue (λ (e : ExtensionParts). length e.subtags ≤ longest_text) (λ e k. k.subtags) es P.values, P.private_count);
   };
   parts = record { core = P.core.proper; extensions = P.extensions; singletons = P.singletons };
 }
@@ -102,15 +103,15 @@ proper_source R e p P h k =
 pub source_proper : (R : List EntryParts) (e : ExtensionParts) (p : TForm) (c : CoreParts) → IsProperExtension R e → e.singleton ≡ transform → IsTransform e.subtags p → p.source ≡ Some c → IsProperCore R c
 source_proper R e p c P h k there = if_some_is (IsProperCore R) p.source c there (proper_source R e p P h k)
 
-module _ (R : List EntryParts) (G : IsRegistry R) (C : MeetsCoreConditions R) (H : All (FitsGrandfathered R) R) where
+module _ (R : List EntryParts) (G : IsRegistry R) (C : MeetsCoreConditions R) (H : All (HasFittingGrandfathered R) R) where
   transform_step_proper : (p q : TForm) → TransformStep R p q → IfSome p.source (IsProperCore R) → IfSome q.source (IsProperCore R)
-  transform_step_proper p q (on_source c d s) P =
-      is_if_some (IsProperCore R) q.source d s.to (step_proper R C c d (if_some_is (IsProperCore R) p.source c s.from P) s.step)
+  transform_step_proper p q (on_source c d from to s _) P =
+      is_if_some (IsProperCore R) q.source d to (step_proper R C c d (if_some_is (IsProperCore R) p.source c from P) s)
   transform_step_proper p q (on_fields h s) P = let Q : Option CoreParts → Type 0 = λ o. IfSome o (IsProperCore R) in subst Q (sym h) P
 
   extension_step_proper : (e f : ExtensionParts) → ExtensionStep R e f → IsProperExtension R e → IsProperExtension R f
-  extension_step_proper e f (in_unicode p q s) P h = absurd (omega (arith, h, s.singleton, s.is_u))
-  extension_step_proper e f (in_transform p q s) P h = (q, s.to, transform_step_proper p q s.step (proper_source R e p P s.is_t s.from))
+  extension_step_proper e f (in_unicode p q is_u kept _ _ _) P h = absurd (omega (arith, h, kept, is_u))
+  extension_step_proper e f (in_transform p q is_t _ from to s) P h = (q, to, transform_step_proper p q s (proper_source R e p P is_t from))
 
   extensions_step_proper : (es fs : List ExtensionParts) → ExtensionsStep R es fs → AllByRecursion (IsProperExtension R) es → AllByRecursion (IsProperExtension R) fs
   extensions_step_proper es fs (inside before e f after w s) P =

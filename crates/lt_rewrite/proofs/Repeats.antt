@@ -9,7 +9,7 @@ use Rattle.lt_tag.proofs.TagLemmas.{AllByRecursion-weaker}
 use Rattle.lt_registry.specs.Parts.{EntryParts}
 use Rattle.lt_registry.specs.Entries.{variant_value, language_value, replacement}
 use Rattle.lt_registry.specs.Validity.{Distinct}
-use Rattle.lt_rewrite.specs.CoreSteps.{values_of, CoreStep, by_extlang, by_language, by_script, by_region, by_variant, by_turn}
+use Rattle.lt_rewrite.specs.CoreSteps.{values_of, CoreStep, by_extlang, by_language, by_script, by_region, by_variant, by_variant_language}
 use Rattle.lt_rewrite.specs.Conditions.{MeetsCoreConditions}
 use Rattle.lt_rewrite.proofs.Chains.{end_same, end_keeps}
 use Rattle.lt_rewrite.proofs.CoreForm.{pick, settled, form_on, form}
@@ -88,7 +88,7 @@ module _ (R : List EntryParts) (C : MeetsCoreConditions R) where
   unfolding turning
   stays v e = ap is_some e
 
-  turns : (l v m : List ℕ) → (values_of R).turn l v ≡ Some m → turning R v ≡ true
+  turns : (l v m : List ℕ) → (values_of R).variant_language l v ≡ Some m → turning R v ≡ true
   unfolding turning
   turns l v m e = ap is_some (turn_is R l v m e).1
 
@@ -117,7 +117,7 @@ module _ (R : List EntryParts) (C : MeetsCoreConditions R) where
       ∙ sym (filter_middle_out (turning R) before w after (stays w n.1))
       ∙ sym (ap (λ (x : CoreParts). filter (turning R) x.variants) s.result) in
       subst Distinct e h
-  turns_once_kept c d (by_turn before v m after s) h =
+  turns_once_kept c d (by_variant_language before v m after s) h =
       let e : filter (turning R) c.variants ≡ filter (turning R) before ++ v ∷ filter (turning R) after =
       ap (filter (turning R)) s.there ∙ filter_middle_in (turning R) before v after (turns c.language v m s.has) in
       let f : filter (turning R) before ++ filter (turning R) after ≡ filter (turning R) d.variants =

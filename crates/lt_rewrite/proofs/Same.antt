@@ -4,13 +4,14 @@ use Rattle.std.specs.Bool.{Decides}
 use Rattle.std.specs.Cmp.Lexicographic.{pointwise}
 use Rattle.std.proofs.lemmas.Slice.Eq.{bytes_eq-Decides, slice_eq-Decides}
 use Rattle.std.proofs.lemmas.Bool.{and_parts, and_from, eqb-true}
+use Rattle.std.specs.Option.{option_eq}
 use Rattle.lt_tag.specs.Parts.{CoreParts, ExtensionParts, TagForm, LangTag, PrivateUse, Grandfathered}
-use Rattle.lt_registry.specs.Same.{same_option, same_core, same_extension, same_tag}
+use Rattle.lt_registry.specs.Same.{same_core, same_extension, same_tag}
 
 same_list-Decides : (xs ys : List (List ℕ)) → Decides (pointwise bytes_eq xs ys) (xs ≡ ys)
 same_list-Decides xs ys = slice_eq-Decides bytes_eq-Decides xs ys (pointwise bytes_eq xs ys) refl
 
-same_option-Decides : (a b : Option (List ℕ)) → Decides (same_option a b) (a ≡ b)
+same_option-Decides : (a b : Option (List ℕ)) → Decides (option_eq bytes_eq a b) (a ≡ b)
 same_option-Decides None None = ((λ _. refl), (λ _. refl))
 same_option-Decides (Some a) (Some b) = ((λ h. ap Some ((bytes_eq-Decides a b).0 h)), (λ e. (bytes_eq-Decides a b).1 (cc)))
 same_option-Decides None (Some b) = ((λ h. cc), (λ e. cc))
@@ -18,23 +19,23 @@ same_option-Decides (Some a) None = ((λ h. cc), (λ e. cc))
 
 same_core_itself : (c : CoreParts) → same_core c c ≡ true
 same_core_itself c =
-    and_from (bytes_eq c.language c.language) (pointwise bytes_eq c.extlangs c.extlangs && (same_option c.script c.script && (same_option c.region c.region && pointwise bytes_eq c.variants c.variants)))
+    and_from (bytes_eq c.language c.language) (pointwise bytes_eq c.extlangs c.extlangs && (option_eq bytes_eq c.script c.script && (option_eq bytes_eq c.region c.region && pointwise bytes_eq c.variants c.variants)))
     ((bytes_eq-Decides c.language c.language).1 refl)
-    (and_from (pointwise bytes_eq c.extlangs c.extlangs) (same_option c.script c.script && (same_option c.region c.region && pointwise bytes_eq c.variants c.variants))
+    (and_from (pointwise bytes_eq c.extlangs c.extlangs) (option_eq bytes_eq c.script c.script && (option_eq bytes_eq c.region c.region && pointwise bytes_eq c.variants c.variants))
     ((same_list-Decides c.extlangs c.extlangs).1 refl)
-    (and_from (same_option c.script c.script) (same_option c.region c.region && pointwise bytes_eq c.variants c.variants)
+    (and_from (option_eq bytes_eq c.script c.script) (option_eq bytes_eq c.region c.region && pointwise bytes_eq c.variants c.variants)
     ((same_option-Decides c.script c.script).1 refl)
-    (and_from (same_option c.region c.region) (pointwise bytes_eq c.variants c.variants)
+    (and_from (option_eq bytes_eq c.region c.region) (pointwise bytes_eq c.variants c.variants)
     ((same_option-Decides c.region c.region).1 refl)
     ((same_list-Decides c.variants c.variants).1 refl))))
 
 pub same_core-Decides : (c d : CoreParts) → Decides (same_core c d) (c ≡ d)
 same_core-Decides c d = (
   (λ h.
-      let p = and_parts (bytes_eq c.language d.language) (pointwise bytes_eq c.extlangs d.extlangs && (same_option c.script d.script && (same_option c.region d.region && pointwise bytes_eq c.variants d.variants))) h in
-      let q = and_parts (pointwise bytes_eq c.extlangs d.extlangs) (same_option c.script d.script && (same_option c.region d.region && pointwise bytes_eq c.variants d.variants)) p.1 in
-      let r = and_parts (same_option c.script d.script) (same_option c.region d.region && pointwise bytes_eq c.variants d.variants) q.1 in
-      let s = and_parts (same_option c.region d.region) (pointwise bytes_eq c.variants d.variants) r.1 in
+      let p = and_parts (bytes_eq c.language d.language) (pointwise bytes_eq c.extlangs d.extlangs && (option_eq bytes_eq c.script d.script && (option_eq bytes_eq c.region d.region && pointwise bytes_eq c.variants d.variants))) h in
+      let q = and_parts (pointwise bytes_eq c.extlangs d.extlangs) (option_eq bytes_eq c.script d.script && (option_eq bytes_eq c.region d.region && pointwise bytes_eq c.variants d.variants)) p.1 in
+      let r = and_parts (option_eq bytes_eq c.script d.script) (option_eq bytes_eq c.region d.region && pointwise bytes_eq c.variants d.variants) q.1 in
+      let s = and_parts (option_eq bytes_eq c.region d.region) (pointwise bytes_eq c.variants d.variants) r.1 in
       let e1 : c.language ≡ d.language = (bytes_eq-Decides c.language d.language).0 p.0 in
       let e2 : c.extlangs ≡ d.extlangs = (same_list-Decides c.extlangs d.extlangs).0 q.0 in
       let e3 : c.script ≡ d.script = (same_option-Decides c.script d.script).0 r.0 in

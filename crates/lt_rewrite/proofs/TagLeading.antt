@@ -4,12 +4,12 @@ use Rattle.std.specs.Prelude.{Result, Ok, Err, IfOk, MatchOption}
 use Rattle.std.specs.List.{AllByRecursion}
 use Rattle.lt_tag.specs.Parts.{CoreParts, ExtensionParts, TForm, TagForm, LangTag, PrivateUse, Grandfathered}
 use Rattle.lt_tag.specs.Spelling.{spell_core, spell_extension, spell_extensions}
-use Rattle.lt_tag.specs.Values.{IsTagValue, FitsCounts, core_of, extensions_of, private_of, most_parts}
+use Rattle.lt_tag.specs.Values.{IsTagValue, FitsCounts, core_of, extensions_of, private_of}
 use Rattle.lt_registry.specs.Parts.{EntryParts}
 use Rattle.lt_registry.specs.Validity.{IsProper}
 use Rattle.lt_rewrite.specs.Orderings.{by_swap, by_drop}
 use Rattle.lt_rewrite.specs.Extensions.{TransformStep, on_source, on_fields, ExtensionStep, in_unicode, in_transform, ExtensionsStep, inside, among}
-use Rattle.lt_rewrite.specs.TagSteps.{IsPlain, TagChange, on_core, on_extensions, on_whole}
+use Rattle.lt_rewrite.specs.TagSteps.{CanBeReplacedWhole, TagChange, on_core, on_extensions, on_whole}
 use Rattle.lt_rewrite.specs.Labels.{transform_label, extension_label, extensions_label, tag_label, LeadsBy}
 use Rattle.lt_rewrite.specs.Applying.{Changes, CoreLeads, ExtensionsLeads, IsWholeValueBy, TagLeads}
 use Rattle.lt_rewrite.specs.declared.steps.Step.{Step}
@@ -18,6 +18,7 @@ use Rattle.lt_rewrite.proofs.CoreLeading.{same_step, kind_of, place_of, number_a
 use Rattle.lt_rewrite.proofs.OneStep.{one_labelled}
 use Rattle.lt_rewrite.proofs.PartLists.{length_step, length_replaced}
 use Rattle.lt_rewrite.proofs.UnicodeLeading.{unicode_other}
+use Rattle.lt_tag.specs.Lists.{longest_text}
 
 -- a langtag of its parts
 pub langtag_is : (t : TagForm) (c : CoreParts) → core_of t ≡ Some c → t ≡ LangTag c (extensions_of t) (private_of t)
@@ -26,7 +27,7 @@ langtag_is (PrivateUse ps) c h = cc
 langtag_is (Grandfathered n) c h = cc
 
 -- extensions have few subtags
-pub few_subtags : (es : List ExtensionParts) → AllByRecursion (λ (e : ExtensionParts). length e.subtags ≤ most_parts) es → length (spell_extensions es) ≤ 1025 * length es
+pub few_subtags : (es : List ExtensionParts) → AllByRecursion (λ (e : ExtensionParts). length e.subtags ≤ longest_text) es → length (spell_extensions es) ≤ 1025 * length es
 few_subtags [] h = omega arith
 few_subtags (e ∷ es) h =
     let r = few_subtags es h.1 in
@@ -35,7 +36,7 @@ few_subtags (e ∷ es) h =
     omega (arith, r, k, m)
 
 -- the counts of a tag's extensions
-pub fits : (t : TagForm) → FitsCounts t → (length (extensions_of t) ≤ 1024) × AllByRecursion (λ (e : ExtensionParts). length e.subtags ≤ most_parts) (extensions_of t)
+pub fits : (t : TagForm) → FitsCounts t → (length (extensions_of t) ≤ 1024) × AllByRecursion (λ (e : ExtensionParts). length e.subtags ≤ longest_text) (extensions_of t)
 fits (LangTag c es ps) h = (h.1, h.2)
 fits (PrivateUse ps) h = (omega arith, tt)
 fits (Grandfathered n) h = (omega arith, tt)
@@ -47,31 +48,31 @@ no_more R es fs (among s) = length_step es fs s
 
 module _ (R : List EntryParts) (t : TagForm) (step : Step) where
   pub core_changed : (c d : CoreParts) → core_of t ≡ Some c → CoreLeads R 0 c step d → TagLeads R t step (LangTag d (extensions_of t) (private_of t))
-  core_changed c d h l = (on_core c d (extensions_of t) (private_of t) (record { from = langtag_is t c h; to = refl; step = l.0 }), l.1)
+  core_changed c d h l = (on_core c d (extensions_of t) (private_of t) (langtag_is t c h) refl l.0, l.1)
 
   pub extensions_changed : (c : CoreParts) (fs : List ExtensionParts) → core_of t ≡ Some c → ExtensionsLeads R (length (spell_core c)) (extensions_of t) step fs → TagLeads R t step (LangTag c fs (private_of t))
-  extensions_changed c fs h l = (on_extensions c (extensions_of t) fs (private_of t) (record { from = langtag_is t c h; to = refl; step = l.0 }), l.1)
+  extensions_changed c fs h l = (on_extensions c (extensions_of t) fs (private_of t) (langtag_is t c h) refl l.0, l.1)
 
-  pub extensions_few : (start : ℕ) (es fs : List ExtensionParts) → length es ≤ most_parts → ExtensionsLeads R start es step fs → length fs ≤ most_parts
+  pub extensions_few : (start : ℕ) (es fs : List ExtensionParts) → length es ≤ longest_text → ExtensionsLeads R start es step fs → length fs ≤ longest_text
   extensions_few start es fs h l = let n = no_more R es fs l.0 in omega (arith, n, h)
 
   kept_by : (c : CoreParts) → core_of t ≡ Some c → step.kind ≢ steps.Whole → ((d : CoreParts) → CoreLeads R 0 c step d → ⊥) → ((fs : List ExtensionParts) → ExtensionsLeads R (length (spell_core c)) (extensions_of t) step fs → ⊥) → (u : TagForm) (s : TagChange R t u) → tag_label R s ≡ step → ⊥
-  kept_by c e k none nowhere u (on_core b d es ps s) h =
-      let same : b ≡ c = let a = ap core_of s.from in cc in
-      none d (subst (λ x. CoreLeads R 0 x step d) same (s.step, h))
-  kept_by c e k none nowhere u (on_extensions b es fs ps s) h =
-      let same : b ≡ c = let a = ap core_of s.from in cc in
-      let all : es ≡ extensions_of t = sym (ap extensions_of s.from) in
-      nowhere fs (subst (λ x. ExtensionsLeads R (length (spell_core x)) (extensions_of t) step fs) same (subst (λ x. ExtensionsLeads R (length (spell_core b)) x step fs) all (s.step, h)))
-  kept_by c e k none nowhere u (on_whole s) h = k (sym (kind_of _ step h))
+  kept_by c e k none nowhere u (on_core b d es ps from _ s) h =
+      let same : b ≡ c = let a = ap core_of from in cc in
+      none d (subst (λ x. CoreLeads R 0 x step d) same (s, h))
+  kept_by c e k none nowhere u (on_extensions b es fs ps from _ s) h =
+      let same : b ≡ c = let a = ap core_of from in cc in
+      let all : es ≡ extensions_of t = sym (ap extensions_of from) in
+      nowhere fs (subst (λ x. ExtensionsLeads R (length (spell_core x)) (extensions_of t) step fs) same (subst (λ x. ExtensionsLeads R (length (spell_core b)) x step fs) all (s, h)))
+  kept_by c e k none nowhere u (on_whole _ _) h = k (sym (kind_of _ step h))
 
   pub kept : (c : CoreParts) → core_of t ≡ Some c → step.kind ≢ steps.Whole → ((d : CoreParts) → CoreLeads R 0 c step d → ⊥) → ((fs : List ExtensionParts) → ExtensionsLeads R (length (spell_core c)) (extensions_of t) step fs → ⊥) → (u : TagForm) → TagLeads R t step u → ⊥
   kept c e k none nowhere u l = kept_by c e k none nowhere u l.0 l.1
 
   coreless_by : core_of t ≡ None → step.kind ≢ steps.Whole → (u : TagForm) (s : TagChange R t u) → tag_label R s ≡ step → ⊥
-  coreless_by e k u (on_core b d es ps s) h = let a = ap core_of s.from in cc
-  coreless_by e k u (on_extensions b es fs ps s) h = let a = ap core_of s.from in cc
-  coreless_by e k u (on_whole s) h = k (sym (kind_of _ step h))
+  coreless_by e k u (on_core b d es ps from _ _) h = let a = ap core_of from in cc
+  coreless_by e k u (on_extensions b es fs ps from _ _) h = let a = ap core_of from in cc
+  coreless_by e k u (on_whole _ _) h = k (sym (kind_of _ step h))
 
   -- other tags than langtags have whole steps alone
   pub coreless : core_of t ≡ None → step.kind ≢ steps.Whole → (u : TagForm) → TagLeads R t step u → ⊥
@@ -79,11 +80,11 @@ module _ (R : List EntryParts) (t : TagForm) (step : Step) where
 
   -- inside a tag no step is a whole one
   whole_inside : step.kind ≡ steps.Whole → (start : ℕ) (e f : ExtensionParts) (s : ExtensionStep R e f) → extension_label R start s ≡ step → ⊥
-  whole_inside k start e f (in_unicode p q s) h = unicode_other start p step (λ m. cc) (λ m. cc) (λ m. cc) (λ m. cc) (λ m. cc) q (s.step, h)
-  whole_inside k start e f (in_transform p q s) h = by p q s.step h
+  whole_inside k start e f (in_unicode p q _ _ _ _ s) h = unicode_other start p step (λ m. cc) (λ m. cc) (λ m. cc) (λ m. cc) (λ m. cc) q (s, h)
+  whole_inside k start e f (in_transform p q _ _ _ _ s) h = by p q s h
     where
       by : (p q : TForm) (s : TransformStep R p q) → transform_label R start s ≡ step → ⊥
-      by p q (on_source c d s) h = other_kind R start c step d (λ m. cc) (λ m. cc) (λ m. cc) (λ m. cc) (λ m. cc) (λ m. cc) s.step h
+      by p q (on_source c d _ _ s _) h = other_kind R start c step d (λ m. cc) (λ m. cc) (λ m. cc) (λ m. cc) (λ m. cc) (λ m. cc) s h
       by p q (on_fields a (by_swap before x y after s)) h = let m = kind_of _ step h ∙ k in cc
       by p q (on_fields a (by_drop before x between y after o s)) h = cc
 
@@ -94,19 +95,19 @@ module _ (R : List EntryParts) (t : TagForm) (step : Step) where
 
   pub record WholeLeads (u : TagForm) : Type 0 where
     pub place : step.place ≡ 1
-    pub plain : IsPlain t
+    pub plain : CanBeReplacedWhole t
     pub value : IsWholeValueBy R t step.number u
 
   to_whole : step.kind ≡ steps.Whole → (u : TagForm) (s : TagChange R t u) → tag_label R s ≡ step → WholeLeads u
-  to_whole k u (on_core c d es ps s) h = absurd (other_kind R 0 c step d (λ m. cc) (λ m. cc) (λ m. cc) (λ m. cc) (λ m. cc) (λ m. cc) s.step h)
-  to_whole k u (on_extensions c es fs ps s) h = absurd (whole_among k (length (spell_core c)) es fs s.step h)
-  to_whole k u (on_whole s) h = record { place = place_of _ step h; plain = s.plain; value = record { has = s.has; by = number_at _ step h } }
+  to_whole k u (on_core c d es ps _ _ s) h = absurd (other_kind R 0 c step d (λ m. cc) (λ m. cc) (λ m. cc) (λ m. cc) (λ m. cc) (λ m. cc) s h)
+  to_whole k u (on_extensions c es fs ps _ _ s) h = absurd (whole_among k (length (spell_core c)) es fs s h)
+  to_whole k u (on_whole is_plain valued) h = record { place = place_of _ step h; plain = is_plain; value = record { has = valued; by = number_at _ step h } }
 
   pub of_whole : step.kind ≡ steps.Whole → (u : TagForm) → TagLeads R t step u → WholeLeads u
   of_whole k u l = to_whole k u l.0 l.1
 
   pub from_whole : step.kind ≡ steps.Whole → (u : TagForm) → WholeLeads u → TagLeads R t step u
-  from_whole k u w = (on_whole (record { plain = w.plain; has = w.value.has }), same_step _ _ _ step k w.place (sym w.value.by))
+  from_whole k u w = (on_whole w.plain w.value.has, same_step _ _ _ step k w.place (sym w.value.by))
 
   module _ (P : IsProper R t) where
     -- what it leads to is no tag, so it leads to none

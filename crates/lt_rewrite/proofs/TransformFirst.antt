@@ -2,11 +2,11 @@
 -- its fields, where the source is at rest.
 use Rattle.std.proofs.Common.{◌≡◌, ℕ, ◌+◌, ◌<◌, inl, inr, false, List, Option, Some, refl, sym, ap, ◌∙◌, subst, length, arith}
 use Rattle.lt_tag.specs.Parts.{CoreParts, FieldParts, TForm}
-use Rattle.lt_tag.specs.Extensions.{spell_field, spell_source, IsT}
+use Rattle.lt_tag.specs.Extensions.{spell_field, IsT}
 use Rattle.lt_registry.specs.Parts.{EntryParts}
 use Rattle.lt_registry.specs.Entries.{IsRegistry}
 use Rattle.lt_rewrite.specs.Orderings.{by_swap, by_drop}
-use Rattle.lt_rewrite.specs.CoreSteps.{values_of, CoreStep, by_extlang, by_language, by_script, by_region, by_variant, by_turn}
+use Rattle.lt_rewrite.specs.CoreSteps.{values_of, CoreStep, by_extlang, by_language, by_script, by_region, by_variant, by_variant_language}
 use Rattle.lt_rewrite.specs.Extensions.{separator_cmp, TransformStep, on_source, on_fields}
 use Rattle.lt_rewrite.specs.Labels.{core_label, transform_label}
 use Rattle.lt_rewrite.specs.Applying.{CoreLeads, TransformLeads}
@@ -19,6 +19,7 @@ use Rattle.lt_rewrite.proofs.Proper.{step_shaped}
 use Rattle.lt_rewrite.proofs.TransformForms.{t_shaped}
 use Rattle.lt_rewrite.proofs.FirstSteps.{adds_all}
 use Rattle.lt_rewrite.proofs.RunLifts.{run_keeps, adds_lift, leftmost_first}
+use Rattle.lt_tag.specs.Splitting.{spell_source}
 
 abbrev pub t_parts : Option CoreParts → List FieldParts → TForm
 t_parts source fields = record { source = source; fields = fields }
@@ -30,7 +31,7 @@ core_rank R start c d step (by_language v s) h = omega (arith, ap kind_rank h)
 core_rank R start c d step (by_script a v s) h = omega (arith, ap kind_rank h)
 core_rank R start c d step (by_region a v s) h = omega (arith, ap kind_rank h)
 core_rank R start c d step (by_variant before v w after s) h = omega (arith, ap kind_rank h)
-core_rank R start c d step (by_turn before v m after s) h = omega (arith, ap kind_rank h)
+core_rank R start c d step (by_variant_language before v m after s) h = omega (arith, ap kind_rank h)
 
 -- no step leads on from the source, if there is one
 abbrev pub IsSourceAtRest : List EntryParts → ℕ → Option CoreParts → Type 0
@@ -43,7 +44,7 @@ module _ (R : List EntryParts) (start : ℕ) (p : TForm) where
 
   -- what a step is, where no step leads on from the source
   as_swap : IsSourceAtRest R start p.source → (step : Step) (q : TForm) (s : TransformStep R p q) → transform_label R start s ≡ step → FieldSwaps step q.fields
-  as_swap rest step q (on_source c d s) h = absurd (rest c s.from step d (s.step, h))
+  as_swap rest step q (on_source c d from _ s _) h = absurd (rest c from step d (s, h))
   as_swap rest step q (on_fields e (by_swap before a b after s)) h =
       record { of_kind = sym (kind_of _ step h); unnumbered = sym (number_at _ step h); leads = record { before = before; first = a; second = b; after = after; swaps = s; at = place_of _ step h } }
   as_swap rest step q (on_fields e (by_drop before a between b after o s)) h = cc
@@ -64,16 +65,16 @@ module _ (R : List EntryParts) (start : ℕ) (p : TForm) where
       }
 
   source_no_later : (c d : CoreParts) (step : Step) → p.source ≡ Some c → IsFirst (CoreLeads R start c) kind_rank step d → (other : Step) (q : TForm) (s : TransformStep R p q) → transform_label R start s ≡ other → IsNoLater kind_rank step other
-  source_no_later c d step e h other q (on_source b a s) k =
-      let same : b ≡ c = let f = s.from in cc in
-      h.first other a (subst (λ x. CoreLeads R start x other a) same (s.step, k))
+  source_no_later c d step e h other q (on_source b a from _ s _) k =
+      let same : b ≡ c = let f = from in cc in
+      h.first other a (subst (λ x. CoreLeads R start x other a) same (s, k))
   source_no_later c d step e h other q (on_fields f (by_swap before a b after s)) k =
       inl (omega (arith, core_rank R start c d step h.leads.0 h.leads.1, ap kind_rank k))
   source_no_later c d step e h other q (on_fields f (by_drop before a between b after o s)) k = cc
 
   pub source_first : (c d : CoreParts) (step : Step) → p.source ≡ Some c → IsFirst (CoreLeads R start c) kind_rank step d → IsFirst (TransformLeads R start p) kind_rank step (t_parts (Some d) p.fields)
   source_first c d step e h = record {
-    leads = (on_source c d (record { from = e; to = refl; step = h.leads.0; fields = refl }), h.leads.1);
+    leads = (on_source c d e refl h.leads.0 refl, h.leads.1);
     first = λ other q m. source_no_later c d step e h other q m.0 m.1;
   }
 

@@ -7,7 +7,7 @@ use Rattle.std.proofs.lemmas.Cmp.{on_total}
 use Rattle.std.proofs.lemmas.List.{length-append}
 use Rattle.lt_tag.specs.Parts.{CoreParts, FieldParts, TForm}
 use Rattle.lt_tag.specs.Spelling.{IsCore}
-use Rattle.lt_tag.specs.Extensions.{spell_field, spell_source, spell_t, IsField, IsT}
+use Rattle.lt_tag.specs.Extensions.{spell_field, spell_t, IsField, IsT}
 use Rattle.lt_registry.specs.Parts.{EntryParts}
 use Rattle.lt_rewrite.specs.Rewriting.{Star, done}
 use Rattle.lt_rewrite.specs.CoreSteps.{values_of, CoreStep}
@@ -18,6 +18,7 @@ use Rattle.lt_rewrite.proofs.Sorting.{sorted, list_step_keeps, sorted_reached, s
 use Rattle.lt_rewrite.proofs.PartLists.{all_step, step_some, spelled_step, if_some_is, is_if_some}
 use Rattle.lt_rewrite.proofs.CoreLengths.{core_step_no_longer, spelled_no_longer}
 use Rattle.lt_rewrite.proofs.UnicodeForms.{text_total}
+use Rattle.lt_tag.specs.Splitting.{spell_source}
 
 pub separator_total : IsTotalOrder separator_cmp
 separator_total = on_total (λ (f : FieldParts). f.separator) text_total
@@ -30,9 +31,9 @@ module _ (R : List EntryParts) (core_form : CoreParts → CoreParts) (K : IsForm
   t_form p = record { source = option_map core_form p.source; fields = sorted false separator_cmp p.fields }
 
   t_kept : (p q : TForm) → TransformStep R p q → t_form p ≡ t_form q
-  t_kept p q (on_source c d s) =
-      let a = ap (option_map core_form) s.from ∙ ap Some (K.kept c d s.step) ∙ sym (ap (option_map core_form) s.to) in
-      let b = ap (sorted false separator_cmp) (sym s.fields) in
+  t_kept p q (on_source c d from to s same_fields) =
+      let a = ap (option_map core_form) from ∙ ap Some (K.kept c d s) ∙ sym (ap (option_map core_form) to) in
+      let b = ap (sorted false separator_cmp) (sym same_fields) in
       λ i. with_parts (a i) (b i)
   t_kept p q (on_fields h s) =
       let a = ap (option_map core_form) (sym h) in
@@ -41,7 +42,7 @@ module _ (R : List EntryParts) (core_form : CoreParts → CoreParts) (K : IsForm
 
   source_reached : (o : Option CoreParts) (fs : List FieldParts) → Star (TransformStep R) (with_parts o fs) (with_parts (option_map core_form o) fs)
   source_reached None fs = done
-  source_reached (Some c) fs = star_map (λ x. with_parts (Some x) fs) (λ x y s. on_source x y (record { from = refl; to = refl; step = s; fields = refl })) (K.reached c)
+  source_reached (Some c) fs = star_map (λ x. with_parts (Some x) fs) (λ x y s. on_source x y refl refl s refl) (K.reached c)
 
   t_reached : (p : TForm) → Star (TransformStep R) p (t_form p)
   t_reached p =
@@ -55,7 +56,7 @@ module _ (R : List EntryParts) (core_form : CoreParts → CoreParts) (K : IsForm
       K.rests b d (subst (λ x. CoreStep (values_of R) x d) (sym same) s)
 
   t_rests : (p q : TForm) → TransformStep R (t_form p) q → ⊥
-  t_rests p q (on_source c d s) = source_rests p.source c d s.from s.step
+  t_rests p q (on_source c d from _ s _) = source_rests p.source c d from s
   t_rests p q (on_fields h s) = (sorting_is_form false separator_cmp separator_total).rests p.fields q.fields s
 
   -- each step keeps it, steps reach it, none leads from it
@@ -77,11 +78,11 @@ some_source (Some b) c fs e = omega arith
 module _ (R : List EntryParts) (S : (c d : CoreParts) → IsCore c → CoreStep (values_of R) c d → IsCore d) where
   -- a step keeps the shapes of the parts
   pub t_shaped : (p q : TForm) → TransformStep R p q → IsT p → IsT q
-  t_shaped p q (on_source c d s) k =
+  t_shaped p q (on_source c d from to s same_fields) k =
       record {
-        source = is_if_some IsCore q.source d s.to (S c d (if_some_is IsCore p.source c s.from k.source) s.step);
-        fields = subst (AllByRecursion IsField) (sym s.fields) k.fields;
-        some = some_source q.source d q.fields s.to;
+        source = is_if_some IsCore q.source d to (S c d (if_some_is IsCore p.source c from k.source) s);
+        fields = subst (AllByRecursion IsField) (sym same_fields) k.fields;
+        some = some_source q.source d q.fields to;
       }
   t_shaped p q (on_fields h s) k =
       record {
@@ -91,15 +92,15 @@ module _ (R : List EntryParts) (S : (c d : CoreParts) → IsCore c → CoreStep 
       }
 
 source_no_more : (R : List EntryParts) (p q : TForm) → TransformStep R p q → length (spell_source q.source) ≤ length (spell_source p.source)
-source_no_more R p q (on_source c d s) =
-    let n = spelled_no_longer c d (core_step_no_longer (values_of R) c d s.step) in
-    let a = ap (λ o. length (spell_source o)) s.from in
-    let b = ap (λ o. length (spell_source o)) s.to in
+source_no_more R p q (on_source c d from to s _) =
+    let n = spelled_no_longer c d (core_step_no_longer (values_of R) c d s) in
+    let a = ap (λ o. length (spell_source o)) from in
+    let b = ap (λ o. length (spell_source o)) to in
     omega (arith, n, a, b)
 source_no_more R p q (on_fields h s) = omega (arith, ap (λ o. length (spell_source o)) h)
 
 fields_no_more : (R : List EntryParts) (p q : TForm) → TransformStep R p q → length (flat_map spell_field q.fields) ≤ length (flat_map spell_field p.fields)
-fields_no_more R p q (on_source c d s) = omega (arith, ap (λ fs. length (flat_map spell_field fs)) s.fields)
+fields_no_more R p q (on_source c d _ _ _ same_fields) = omega (arith, ap (λ fs. length (flat_map spell_field fs)) same_fields)
 fields_no_more R p q (on_fields h s) = spelled_step spell_field p.fields q.fields s
 
 -- a step makes the subtags no more

@@ -1,7 +1,7 @@
 -- What a step of a kind is on the parts of a t extension.
 use Rattle.std.proofs.Common.{◌≡◌, ◌≢◌, ℕ, ◌+◌, Bool, false, List, Some, None, refl, sym, subst, length}
 use Rattle.lt_tag.specs.Parts.{CoreParts, FieldParts, TForm}
-use Rattle.lt_tag.specs.Extensions.{spell_field, spell_source}
+use Rattle.lt_tag.specs.Extensions.{spell_field}
 use Rattle.lt_registry.specs.Parts.{EntryParts}
 use Rattle.lt_rewrite.specs.Orderings.{by_swap, by_drop}
 use Rattle.lt_rewrite.specs.CoreSteps.{values_of, CoreStep}
@@ -12,6 +12,7 @@ use Rattle.lt_rewrite.specs.declared.steps.Step.{Step}
 use Rattle.lt_rewrite.specs.declared.steps.StepKind.TheVariants as steps
 use Rattle.lt_rewrite.proofs.CoreLeading.{kind_of, place_of, number_at, other_kind}
 use Rattle.lt_rewrite.proofs.UnicodeLeading.{answers_by, from_swap}
+use Rattle.lt_tag.specs.Splitting.{spell_source}
 
 module _ (R : List EntryParts) (start : ℕ) (p : TForm) (step : Step) where
   no_core : step.kind ≡ steps.SwapFields → (c d : CoreParts) (s : CoreStep (values_of R) c d) → core_label R start s ≡ step → ⊥
@@ -21,7 +22,7 @@ module _ (R : List EntryParts) (start : ℕ) (p : TForm) (step : Step) where
   FieldsLead = SwapLeads separator_cmp spell_field (start + length (spell_source p.source)) step.place p.fields
 
   to_fields : step.kind ≡ steps.SwapFields → (q : TForm) (s : TransformStep R p q) → transform_label R start s ≡ step → FieldsLead q.fields
-  to_fields k q (on_source c d s) h = absurd (no_core k c d s.step h)
+  to_fields k q (on_source c d _ _ s _) h = absurd (no_core k c d s h)
   to_fields k q (on_fields e (by_swap before a b after s)) h = record { before = before; first = a; second = b; after = after; swaps = s; at = place_of _ step h }
   to_fields k q (on_fields e (by_drop before a between b after o s)) h = cc
 
@@ -32,7 +33,7 @@ module _ (R : List EntryParts) (start : ℕ) (p : TForm) (step : Step) where
       (λ q l. (q.fields, to_fields k q l.0 l.1)) r h
 
   number_of_fields : step.kind ≡ steps.SwapFields → (q : TForm) (s : TransformStep R p q) → transform_label R start s ≡ step → step.number ≡ 0
-  number_of_fields k q (on_source c d s) h = absurd (no_core k c d s.step h)
+  number_of_fields k q (on_source c d _ _ s _) h = absurd (no_core k c d s h)
   number_of_fields k q (on_fields e (by_swap before a b after s)) h = sym (number_at _ step h)
   number_of_fields k q (on_fields e (by_drop before a between b after o s)) h = cc
 
@@ -40,20 +41,20 @@ module _ (R : List EntryParts) (start : ℕ) (p : TForm) (step : Step) where
   fields_numbered k n q l = n (number_of_fields k q l.0 l.1)
 
   to_source : step.kind ≢ steps.SwapFields → (c : CoreParts) → p.source ≡ Some c → (q : TForm) (s : TransformStep R p q) → transform_label R start s ≡ step → (d : CoreParts) × CoreLeads R start c step d
-  to_source k c e q (on_source b d s) h =
-      let same : b ≡ c = let f = s.from in cc in
-      (d, subst (λ x. CoreLeads R start x step d) same (s.step, h))
+  to_source k c e q (on_source b d from _ s _) h =
+      let same : b ≡ c = let f = from in cc in
+      (d, subst (λ x. CoreLeads R start x step d) same (s, h))
   to_source k c e q (on_fields f (by_swap before a b after s)) h = absurd (k (sym (kind_of _ step h)))
   to_source k c e q (on_fields f (by_drop before a between b after o s)) h = cc
 
   pub source_answers : step.kind ≢ steps.SwapFields → (c : CoreParts) → p.source ≡ Some c → (d : CoreParts) (r : Bool) → Answers (CoreLeads R start c step) d r → Answers (TransformLeads R start p step) (record { source = Some d; fields = p.fields }) r
   source_answers k c e d r h =
       answers_by (CoreLeads R start c step) (TransformLeads R start p step) d (record { source = Some d; fields = p.fields })
-      (λ l. (on_source c d (record { from = e; to = refl; step = l.0; fields = refl }), l.1))
+      (λ l. (on_source c d e refl l.0 refl, l.1))
       (λ q l. to_source k c e q l.0 l.1) r h
 
   without_source : step.kind ≢ steps.SwapFields → p.source ≡ None → (q : TForm) (s : TransformStep R p q) → transform_label R start s ≡ step → ⊥
-  without_source k e q (on_source b d s) h = let f = s.from in cc
+  without_source k e q (on_source b d from _ _ _) h = let f = from in cc
   without_source k e q (on_fields f (by_swap before a b after s)) h = k (sym (kind_of _ step h))
   without_source k e q (on_fields f (by_drop before a between b after o s)) h = cc
 

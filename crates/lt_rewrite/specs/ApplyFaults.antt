@@ -7,10 +7,12 @@ use Rattle.lt_rewrite.specs.declared.steps.Step.{Step}
 use Rattle.lt_rewrite.specs.declared.apply_faults.ApplyFault.{ApplyFault}
 use Rattle.lt_rewrite.specs.declared.apply_faults.ApplyFault.TheVariants as faults
 
+-- the names of the faults
 abbrev pub fault_name_of : ApplyFault → List ℕ
 fault_name_of faults.NoSuchStep = codes "NoSuchStep"
 fault_name_of faults.OutOfMemory = codes "OutOfMemory"
 
+-- running out of memory
 abbrev pub no_memory : ApplyFault
 no_memory = faults.OutOfMemory
 

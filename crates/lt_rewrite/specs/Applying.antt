@@ -5,7 +5,7 @@ use Rattle.lt_tag.specs.Parts.{CoreParts, ExtensionParts, KeywordParts, UForm, T
 use Rattle.lt_tag.specs.Spelling.{spell_extensions}
 use Rattle.lt_tag.specs.Extensions.{spell_keyword}
 use Rattle.lt_registry.specs.Parts.{EntryParts}
-use Rattle.lt_registry.specs.Entries.{entry, value, whole, whole_value, number_of}
+use Rattle.lt_registry.specs.Entries.{entry, preferred_value, whole, whole_value, number_of}
 use Rattle.lt_registry.specs.declared.entries.Kind.{Kind}
 use Rattle.lt_rewrite.specs.CoreSteps.{values_of, CoreStep}
 use Rattle.lt_rewrite.specs.TagSteps.{TagChange}
@@ -26,7 +26,7 @@ Changes {A} Leads None = (other : A) → Leads other → ⊥
 
 -- the value of a subtag, from the record of a number
 pub record IsValueBy (R : List EntryParts) (kind : Kind) (s : List ℕ) (number : ℕ) (v : List ℕ) : Type 0 where
-  pub has : value R kind s ≡ Some v
+  pub has : preferred_value R kind s ≡ Some v
   pub by : number_of (entry R kind s) ≡ number
 
 -- on a core that begins after this many subtags
@@ -52,7 +52,7 @@ pub record SwapLeads {A : Type 0} (cmp : A → A → Ordering) (spell : A → Li
   pub swaps : SwapsAt cmp before first second after xs ys
   pub at : place ≡ start + length (flat_map spell before) + 1
 
--- a part that begins at a place goes, whose like is before it
+-- a part that begins at a place is dropped, whose like is before it
 pub record DropLeads {A : Type 0} (cmp : A → A → Ordering) (spell : A → List (List ℕ)) (start place : ℕ) (xs ys : List A) : Type 0 where
   pub before : List A
   pub first : A
@@ -70,13 +70,15 @@ pub record TrueLeads (start place : ℕ) (ks ls : List KeywordParts) : Type 0 wh
   pub drops : DropsTrue before keyword after ks ls
   pub at : place ≡ start + length (flat_map spell_keyword before) + 2
 
--- on the parts of an extension, and on an extension, whose singleton is at a place
+-- on the parts of a u extension whose singleton is at a place
 abbrev pub UnicodeLeads : ℕ → UForm → Step → UForm → Type 0
 UnicodeLeads start p step q = (s : UnicodeStep p q) × (unicode_label start s ≡ step)
 
+-- on the parts of a t extension whose singleton is at a place
 abbrev pub TransformLeads : List EntryParts → ℕ → TForm → Step → TForm → Type 0
 TransformLeads R start p step q = (s : TransformStep R p q) × (transform_label R start s ≡ step)
 
+-- on an extension whose singleton is at a place
 abbrev pub ExtensionLeads : List EntryParts → ℕ → ExtensionParts → Step → ExtensionParts → Type 0
 ExtensionLeads R start e step f = (s : ExtensionStep R e f) × (extension_label R start s ≡ step)
 

@@ -1,14 +1,14 @@
--- What the steps on cores need of a registry: conditions on a record among all. A registry meets a condition if
--- each of its records does.
-use Rattle.std.specs.Prelude.{ℕ, ◌≡◌, ◌≢◌, ◌<◌, ◌⊎◌, Bool, true, false, if◌then◌else◌, List, [], ◌∷◌, Option, Some, None, All, Contains}
+-- The conditions C1 to C8 and C12, each on a record among all. A registry meets a condition if each of its records
+-- does.
+use Rattle.std.specs.Prelude.{ℕ, ◌≡◌, ◌≢◌, ◌<◌, ◌⊎◌, Bool, true, false, if◌then◌else◌, List, [], ◌∷◌, Option, Some, None, All, Contains, unwrap_or}
 use Rattle.std.specs.List.{AllByRecursion}
 use Rattle.lt_tag.specs.Parts.{CoreParts, TagForm, Grandfathered}
 use Rattle.lt_tag.specs.Spelling.{spell_core, IsCore}
 use Rattle.lt_tag.specs.Grandfathered.{IsGrandfathered}
 use Rattle.lt_tag.specs.WellFormed.{IsNotGrandfathered}
 use Rattle.lt_registry.specs.Parts.{EntryParts}
-use Rattle.lt_registry.specs.Entries.{entry, one_of, value_or, is_registered, is_short, value, variant_value, language_value}
-use Rattle.lt_registry.specs.Validity.{IsValidCore}
+use Rattle.lt_registry.specs.Entries.{entry, one_of, is_registered, is_short, preferred_value, variant_value, language_value}
+use Rattle.lt_registry.specs.Validity.{IsProperCore, Distinct}
 use Rattle.lt_registry.specs.declared.entries.Kind.{Kind}
 use Rattle.lt_registry.specs.declared.entries.Kind.TheVariants as kinds
 use Rattle.lt_registry.specs.declared.entries.EntryName.TheVariants as names
@@ -24,22 +24,22 @@ abbrev pub HasOwnName : List EntryParts → EntryParts → Type 0
 HasOwnName R e = (f : EntryParts) → Contains R f → f.number < e.number → Clash f e → ⊥
 
 -- the kinds whose values are of their own kind (RFC 5646, 3.1.7)
-abbrev pub keeps_kind : Kind → Bool
-keeps_kind kinds.Language = true
-keeps_kind kinds.Script = true
-keeps_kind kinds.Region = true
-keeps_kind _ = false
+abbrev pub has_value_of_own_kind : Kind → Bool
+has_value_of_own_kind kinds.Language = true
+has_value_of_own_kind kinds.Script = true
+has_value_of_own_kind kinds.Region = true
+has_value_of_own_kind _ = false
 
 -- If a language, script or region has a value, then that value is registered too, as the same kind (C2; RFC 5646,
 -- 3.1.7).
 abbrev pub HasRegisteredValue : List EntryParts → EntryParts → Type 0
 HasRegisteredValue R e =
-    keeps_kind e.kind ≡ true → (v : List ℕ) → one_of e.value ≡ Some v → is_registered R e.kind v ≡ true
+    has_value_of_own_kind e.kind ≡ true → (v : List ℕ) → one_of e.value ≡ Some v → is_registered R e.kind v ≡ true
 
 -- the value that follows in a chain: after a variant only a variant, and none after an extlang (RFC 5646, 3.1.7)
 abbrev pub next_value : List EntryParts → Kind → List ℕ → Option (List ℕ)
 next_value R kinds.Variant s = variant_value R s
-next_value R kind s = if keeps_kind kind then value R kind s else None
+next_value R kind s = if has_value_of_own_kind kind then preferred_value R kind s else None
 
 -- If a language, script, region or variant has a value, the chain of values that begins with this value ends (C3; RFC
 -- 5646, 3.1.7).
@@ -49,7 +49,7 @@ HasEndingChain R e = (v : List ℕ) → one_of e.value ≡ Some v → Ends (next
 -- a registered language without a value (RFC 5646, 3.1.7)
 pub record IsFinalLanguage (R : List EntryParts) (l : List ℕ) : Type 0 where
   pub registered : is_registered R kinds.Language l ≡ true
-  pub final : value R kinds.Language l ≡ None
+  pub final : preferred_value R kinds.Language l ≡ None
 
 -- one subtag with one Prefix of one subtag, a final language; itself and its replacement are languages whose chains
 -- end alike (RFC 5646, 2.2.2)
@@ -60,14 +60,14 @@ pub record IsFittingExtlang (R : List EntryParts) (e : EntryParts) : Type 0 wher
   pub one_prefix : e.prefixes ≡ (prefix ∷ []) ∷ []
   pub final_prefix : IsFinalLanguage R prefix
   pub registered : is_registered R kinds.Language subtag ≡ true
-  pub replacement_registered : is_registered R kinds.Language (value_or (one_of e.value) subtag) ≡ true
+  pub replacement_registered : is_registered R kinds.Language (unwrap_or (one_of e.value) subtag) ≡ true
   pub end : List ℕ
-  pub ends : EndsIn (value R kinds.Language) subtag end
-  pub replacement_ends : EndsIn (value R kinds.Language) (value_or (one_of e.value) subtag) end
+  pub ends : EndsIn (preferred_value R kinds.Language) subtag end
+  pub replacement_ends : EndsIn (preferred_value R kinds.Language) (unwrap_or (one_of e.value) subtag) end
 
 -- an extlang is a fitting one (C4; RFC 5646, 2.2.2)
-abbrev pub FitsAsExtlang : List EntryParts → EntryParts → Type 0
-FitsAsExtlang R e = e.kind ≡ kinds.Extlang → IsFittingExtlang R e
+abbrev pub HasFittingExtlang : List EntryParts → EntryParts → Type 0
+HasFittingExtlang R e = e.kind ≡ kinds.Extlang → IsFittingExtlang R e
 
 -- If a variant has a value, that value is registered: one of 2 or 3 letters as a language, a longer one as a variant,
 -- whose own value, if any, is no language (C5; RFC 5646, 3.1.7).
@@ -79,8 +79,8 @@ HasFittingVariantValue R e =
 
 -- If the value of a variant is a language, the variant names one Prefix or more, and every one of them is a single
 -- subtag, a final language (C6; RFC 5646, 3.1.8).
-abbrev pub StandsBesideFinalLanguages : List EntryParts → EntryParts → Type 0
-StandsBesideFinalLanguages R e =
+abbrev pub HasFinalPrefixes : List EntryParts → EntryParts → Type 0
+HasFinalPrefixes R e =
     e.kind ≡ kinds.Variant → (v : List ℕ) → one_of e.value ≡ Some v → is_short v ≡ true →
     (e.prefixes ≢ [])
     × AllByRecursion (λ (p : List (List ℕ)). (l : List ℕ) × (p ≡ l ∷ []) × IsFinalLanguage R l) e.prefixes
@@ -100,10 +100,10 @@ second_entry R [] [] = None
 
 -- A grandfathered record has one of the 26 tags; and this record is not the entry of the second subtag of a regular
 -- one of them that is valid, read as a langtag (C8; RFC 5646, 2.2.8).
-pub record FitsGrandfathered (R : List EntryParts) (e : EntryParts) : Type 0 where
+pub record HasFittingGrandfathered (R : List EntryParts) (e : EntryParts) : Type 0 where
   pub named : e.kind ≡ kinds.Grandfathered → (number : ℕ) × (e.name ≡ names.Whole (Grandfathered number))
-  pub regular : (c : CoreParts) (number : ℕ) → IsCore c → IsGrandfathered (spell_core c) number → IsValidCore R c →
-      second_entry R c.extlangs c.variants ≢ Some e
+  pub regular : (c : CoreParts) (number : ℕ) → IsCore c → IsGrandfathered (spell_core c) number → IsProperCore R c →
+      Distinct c.variants → second_entry R c.extlangs c.variants ≢ Some e
 
 -- A range has no value (C12; RFC 5646, 3.1.7).
 abbrev pub HasNoRangeValue : EntryParts → Type 0
@@ -114,6 +114,6 @@ pub record MeetsCoreConditions (R : List EntryParts) : Type 0 where
   pub names : All (HasOwnName R) R
   pub values : All (HasRegisteredValue R) R
   pub chains : All (HasEndingChain R) R
-  pub extlangs : All (FitsAsExtlang R) R
+  pub extlangs : All (HasFittingExtlang R) R
   pub variants : All (HasFittingVariantValue R) R
-  pub turns : All (StandsBesideFinalLanguages R) R
+  pub turns : All (HasFinalPrefixes R) R

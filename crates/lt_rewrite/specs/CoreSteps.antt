@@ -4,7 +4,7 @@ use Rattle.std.specs.Option.{option_map_or}
 use Rattle.std.specs.List.{AllByRecursion}
 use Rattle.lt_tag.specs.Parts.{CoreParts}
 use Rattle.lt_registry.specs.Parts.{EntryParts}
-use Rattle.lt_registry.specs.Entries.{value, variant_value, language_value, replacement, prefixes, lists}
+use Rattle.lt_registry.specs.Entries.{preferred_value, variant_value, language_value, replacement, prefixes, has_prefix}
 use Rattle.lt_registry.specs.declared.entries.Kind.TheVariants as kinds
 use Rattle.lt_rewrite.specs.Rewriting.{IsNormalForm}
 
@@ -15,18 +15,18 @@ pub record Values : Type 0 where
   pub script : List ℕ → Option (List ℕ)
   pub region : List ℕ → Option (List ℕ)
   pub variant : List ℕ → Option (List ℕ)
-  -- the language that a variant turns into beside a language
-  pub turn : List ℕ → List ℕ → Option (List ℕ)
+  -- the language that becomes the language in place of a variant and the language beside it
+  pub variant_language : List ℕ → List ℕ → Option (List ℕ)
 
 -- the same, by the entries of a registry (RFC 5646, 3.1.7)
 abbrev pub values_of : List EntryParts → Values
 values_of R = record {
   replacement = replacement R;
-  language = value R kinds.Language;
-  script = value R kinds.Script;
-  region = value R kinds.Region;
+  language = preferred_value R kinds.Language;
+  script = preferred_value R kinds.Script;
+  region = preferred_value R kinds.Region;
   variant = variant_value R;
-  turn = λ l v. if lists (prefixes R kinds.Variant v) l then language_value R v else None;
+  variant_language = λ l v. if has_prefix (prefixes R kinds.Variant v) l then language_value R v else None;
 }
 
 -- the one extlang's replacement becomes the language (RFC 5646, 4.5, rule 3)
@@ -59,14 +59,14 @@ pub record VariantStep (V : Values) (c : CoreParts) (before : List (List ℕ)) (
   pub has : V.variant v ≡ Some w
   pub result : d ≡ record c { variants = before ++ w ∷ after }
 
--- the leftmost of the variants that turn into a language beside this one becomes the language (RFC 5646, 4.5, rule 3,
--- and 3.1.8)
-pub record TurnStep (V : Values) (c : CoreParts) (before : List (List ℕ)) (v m : List ℕ) (after : List (List ℕ))
-    (d : CoreParts) : Type 0 where
+-- A variant is dropped, and its preferred value takes the place of the language, which is one of its Prefixes; of
+-- several such variants the leftmost (this project's own).
+pub record VariantLanguageStep (V : Values) (c : CoreParts) (before : List (List ℕ)) (v m : List ℕ)
+    (after : List (List ℕ)) (d : CoreParts) : Type 0 where
   pub alone : c.extlangs ≡ []
   pub there : c.variants ≡ before ++ v ∷ after
-  pub has : V.turn c.language v ≡ Some m
-  pub leftmost : AllByRecursion (λ u. V.turn c.language u ≡ None) before
+  pub has : V.variant_language c.language v ≡ Some m
+  pub leftmost : AllByRecursion (λ u. V.variant_language c.language u ≡ None) before
   pub result : d ≡ record c { language = m; variants = before ++ after }
 
 -- one kind of replacement at one place (RFC 5646, 4.5, rule 3)
@@ -77,8 +77,8 @@ pub data CoreStep (V : Values) (c d : CoreParts) : Type 0 where
   by_region : (s v : List ℕ) → RegionStep V c s v d → CoreStep V c d
   by_variant : (before : List (List ℕ)) (v w : List ℕ) (after : List (List ℕ)) → VariantStep V c before v w after d →
       CoreStep V c d
-  by_turn : (before : List (List ℕ)) (v m : List ℕ) (after : List (List ℕ)) → TurnStep V c before v m after d →
-      CoreStep V c d
+  by_variant_language : (before : List (List ℕ)) (v m : List ℕ) (after : List (List ℕ)) →
+      VariantLanguageStep V c before v m after d → CoreStep V c d
 
 -- core steps reach d, and none leads from it (RFC 5646, 4.5)
 abbrev pub IsCoreNormalForm : Values → CoreParts → CoreParts → Type 0

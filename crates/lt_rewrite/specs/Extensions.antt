@@ -25,7 +25,7 @@ separator_cmp a b = text_cmp a.separator b.separator
 abbrev pub singleton_cmp : ExtensionParts → ExtensionParts → Ordering
 singleton_cmp a b = nat_cmp a.singleton b.singleton
 
--- true goes where it is all the types of a keyword (RFC 6067, 2.1.1)
+-- true is dropped where it is all the types of a keyword (this project's own)
 pub record DropsTrue (before : List KeywordParts) (k : KeywordParts) (after : List KeywordParts)
     (p q : List KeywordParts) : Type 0 where
   pub there : p ≡ before ++ k ∷ after
@@ -39,38 +39,18 @@ pub data UnicodeStep (p q : UForm) : Type 0 where
   on_types : q.attributes ≡ p.attributes → (before : List KeywordParts) (k : KeywordParts) (after : List KeywordParts) →
       DropsTrue before k after p.keywords q.keywords → UnicodeStep p q
 
--- a core step on the source (RFC 6497, 2.3)
-pub record SourceStep (R : List EntryParts) (c d : CoreParts) (p q : TForm) : Type 0 where
-  pub from : p.source ≡ Some c
-  pub to : q.source ≡ Some d
-  pub step : CoreStep (values_of R) c d
-  pub fields : q.fields ≡ p.fields
-
--- one step on the parts of a t extension (RFC 6497, 2.3)
+-- one step on the parts of a t extension: on its source, or two fields change places (RFC 6497, 2.2 and 2.3)
 pub data TransformStep (R : List EntryParts) (p q : TForm) : Type 0 where
-  on_source : (c d : CoreParts) → SourceStep R c d p q → TransformStep R p q
+  on_source : (c d : CoreParts) → p.source ≡ Some c → q.source ≡ Some d → CoreStep (values_of R) c d →
+      q.fields ≡ p.fields → TransformStep R p q
   on_fields : q.source ≡ p.source → ListStep false separator_cmp p.fields q.fields → TransformStep R p q
 
--- a step on parts that spell the subtags of two u extensions (RFC 6067, 2.1.1)
-pub record InUnicode (p q : UForm) (e f : ExtensionParts) : Type 0 where
-  pub is_u : e.singleton ≡ unicode
-  pub singleton : f.singleton ≡ e.singleton
-  pub from : IsUnicode e.subtags p
-  pub to : IsUnicode f.subtags q
-  pub step : UnicodeStep p q
-
--- a step on parts that spell the subtags of two t extensions (RFC 6497, 2.3)
-pub record InTransform (R : List EntryParts) (p q : TForm) (e f : ExtensionParts) : Type 0 where
-  pub is_t : e.singleton ≡ transform
-  pub singleton : f.singleton ≡ e.singleton
-  pub from : IsTransform e.subtags p
-  pub to : IsTransform f.subtags q
-  pub step : TransformStep R p q
-
--- one step inside an extension (RFC 5646, 4.5)
+-- one step inside an extension, on parts that spell its subtags (RFC 6067, 2.1.1; RFC 6497, 2.3)
 pub data ExtensionStep (R : List EntryParts) (e f : ExtensionParts) : Type 0 where
-  in_unicode : (p q : UForm) → InUnicode p q e f → ExtensionStep R e f
-  in_transform : (p q : TForm) → InTransform R p q e f → ExtensionStep R e f
+  in_unicode : (p q : UForm) → e.singleton ≡ unicode → f.singleton ≡ e.singleton → IsUnicode e.subtags p →
+      IsUnicode f.subtags q → UnicodeStep p q → ExtensionStep R e f
+  in_transform : (p q : TForm) → e.singleton ≡ transform → f.singleton ≡ e.singleton → IsTransform e.subtags p →
+      IsTransform f.subtags q → TransformStep R p q → ExtensionStep R e f
 
 -- the extension e among others becomes f (RFC 5646, 4.5)
 pub record Within (before : List ExtensionParts) (e f : ExtensionParts) (after : List ExtensionParts)

@@ -9,8 +9,8 @@ use Rattle.lt_rewrite.specs.Runs.{extension_rank, Adds}
 use Rattle.lt_rewrite.specs.ExtensionsSettling.{SettlesAt}
 use Rattle.lt_rewrite.specs.declared.steps.Step.{Step}
 
--- the steps from the extension at an index to its normal form f are added to others; the extensions begin after so
--- many subtags
+-- the steps from the extension at an index to its normal form f are added to others; the extensions begin after
+-- this many subtags
 pub record ExplainsAt (R : List EntryParts) (singleton start : ℕ) (es : List ExtensionParts) (index : ℕ) (f : ExtensionParts) (old new : List Step) : Type 0 where
   pub settles : SettlesAt R singleton es index f
   pub adds : Adds (ExtensionLeads R (start + length (spell_extensions (take index es)) + 1)) (λ _ step. extension_rank step) settles.from f old new

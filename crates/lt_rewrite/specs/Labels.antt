@@ -3,19 +3,21 @@ use Rattle.std.specs.Prelude.{ℕ, ◌≡◌, ◌+◌, Bool, List, [], ◌∷◌
 use Rattle.std.proofs.Common.{Ordering}
 use Rattle.lt_tag.specs.Parts.{CoreParts, ExtensionParts, UForm, TForm, TagForm}
 use Rattle.lt_tag.specs.Spelling.{spell_core, spell_extension, spell_extensions}
-use Rattle.lt_tag.specs.Extensions.{spell_keyword, spell_field, spell_source}
+use Rattle.lt_tag.specs.Extensions.{spell_keyword, spell_field}
 use Rattle.lt_registry.specs.Parts.{EntryParts}
 use Rattle.lt_registry.specs.Entries.{entry, whole, number_of}
 use Rattle.lt_registry.specs.Faults.{before_script, before_region, before_variants}
 use Rattle.lt_registry.specs.declared.entries.Kind.TheVariants as kinds
-use Rattle.lt_rewrite.specs.CoreSteps.{values_of, CoreStep, by_extlang, by_language, by_script, by_region, by_variant, by_turn}
+use Rattle.lt_rewrite.specs.CoreSteps.{values_of, CoreStep, by_extlang, by_language, by_script, by_region, by_variant, by_variant_language}
 use Rattle.lt_rewrite.specs.Orderings.{ListStep, by_swap, by_drop}
 use Rattle.lt_rewrite.specs.Extensions.{UnicodeStep, on_attributes, on_keywords, on_types, TransformStep, on_source, on_fields, ExtensionStep, in_unicode, in_transform, ExtensionsStep, inside, among}
 use Rattle.lt_rewrite.specs.TagSteps.{TagChange, on_core, on_extensions, on_whole, TagStep}
 use Rattle.lt_rewrite.specs.declared.steps.Step.{Step}
 use Rattle.lt_rewrite.specs.declared.steps.StepKind.{StepKind}
 use Rattle.lt_rewrite.specs.declared.steps.StepKind.TheVariants as steps
+use Rattle.lt_tag.specs.Splitting.{spell_source}
 
+-- the step of a kind, at a place, by the record of a number
 abbrev pub step_at : StepKind → ℕ → ℕ → Step
 step_at kind place number = record { kind = kind; place = place; number = number }
 
@@ -27,7 +29,7 @@ core_label R start {c} (by_script a v s) = step_at steps.Script (start + before_
 core_label R start {c} (by_region a v s) = step_at steps.Region (start + before_region c + 1) (number_of (entry R kinds.Region a))
 core_label R start {c} (by_variant before v w after s) =
     step_at steps.Variant (start + before_variants c + length before + 1) (number_of (entry R kinds.Variant v))
-core_label R start {c} (by_turn before v m after s) =
+core_label R start {c} (by_variant_language before v m after s) =
     step_at steps.VariantLanguage (start + before_variants c + length before + 1) (number_of (entry R kinds.Variant v))
 
 -- of a list of parts that begins after this many subtags: the kinds of a swap and of a drop, and the subtags of a part
@@ -45,22 +47,24 @@ unicode_label start {p} (on_types a before k after s) =
 
 -- of a t extension whose singleton is at a place
 abbrev pub transform_label : (R : List EntryParts) → ℕ → {p q : TForm} → TransformStep R p q → Step
-transform_label R start (on_source c d s) = core_label R start s.step
+transform_label R start (on_source c d _ _ s _) = core_label R start s
 transform_label R start {p} (on_fields a s) = list_label steps.SwapFields steps.SwapFields spell_field (start + length (spell_source p.source)) s
 
+-- of an extension whose singleton is at a place
 abbrev pub extension_label : (R : List EntryParts) → ℕ → {e f : ExtensionParts} → ExtensionStep R e f → Step
-extension_label R start (in_unicode p q s) = unicode_label start s.step
-extension_label R start (in_transform p q s) = transform_label R start s.step
+extension_label R start (in_unicode p q _ _ _ _ s) = unicode_label start s
+extension_label R start (in_transform p q _ _ _ _ s) = transform_label R start s
 
 -- of extensions that begin after this many subtags
 abbrev pub extensions_label : (R : List EntryParts) → ℕ → {es fs : List ExtensionParts} → ExtensionsStep R es fs → Step
 extensions_label R start (inside before e f after w s) = extension_label R (start + length (spell_extensions before) + 1) s
 extensions_label R start (among s) = list_label steps.SwapExtensions steps.SwapExtensions spell_extension start s
 
+-- of a tag
 abbrev pub tag_label : (R : List EntryParts) {t u : TagForm} → TagChange R t u → Step
-tag_label R (on_core c d es ps s) = core_label R 0 s.step
-tag_label R (on_extensions c es fs ps s) = extensions_label R (length (spell_core c)) s.step
-tag_label R {t} (on_whole s) = step_at steps.Whole 1 (number_of (whole R t))
+tag_label R (on_core c d es ps _ _ s) = core_label R 0 s
+tag_label R (on_extensions c es fs ps _ _ s) = extensions_label R (length (spell_core c)) s
+tag_label R {t} (on_whole _ _) = step_at steps.Whole 1 (number_of (whole R t))
 
 -- the step leads from t to u
 abbrev pub LeadsBy : List EntryParts → TagForm → Step → TagForm → Type 0

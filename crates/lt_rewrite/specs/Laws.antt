@@ -61,7 +61,7 @@ pub record AreOneStep (step other : Step) (u v : TagForm) : Type 0 where
   pub same : step ≡ other
   pub result : u ≡ v
 
--- the kind and the place determine a step, the number of its record among it, and what it leads to
+-- the kind and the place determine a step, with the number of its record, and what it leads to
 abbrev pub StepsAreDetermined : List EntryParts → Type 0
 StepsAreDetermined R =
     (t u v : TagForm) (step other : Step) → LeadsBy R t step u → LeadsBy R t other v → step.kind ≡ other.kind → step.place ≡ other.place → AreOneStep step other u v

@@ -3,6 +3,7 @@ use Rattle.std.specs.Prelude.{ℕ, List, codes}
 use Rattle.lt_rewrite.specs.declared.steps.StepKind.{StepKind}
 use Rattle.lt_rewrite.specs.declared.steps.StepKind.TheVariants as steps
 
+-- the name of a kind of step
 abbrev pub name_of : StepKind → List ℕ
 name_of steps.Extlang = codes "Extlang"
 name_of steps.Language = codes "Language"

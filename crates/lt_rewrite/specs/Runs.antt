@@ -25,6 +25,7 @@ rank_of steps.SwapKeywords = 12
 rank_of steps.DropTrue = 13
 rank_of steps.SwapFields = 20
 
+-- the rank of a step's kind
 abbrev pub kind_rank : Step → ℕ
 kind_rank step = rank_of step.kind
 
@@ -67,17 +68,20 @@ pub record Adds {A : Type 0} (Leads : A → Step → A → Type 0) (rank : A →
   pub added : new ≡ old ++ run
   pub is_run : IsRun Leads rank a run b
 
--- on a core that begins after this many subtags
+-- the leftmost step of a rank on a core that begins after this many subtags
 abbrev pub IsLeftmostOnCore : List EntryParts → ℕ → CoreParts → ℕ → Step → Type 0
 IsLeftmostOnCore R start c n step = IsLeftmost (CoreLeads R start c) kind_rank n step
 
+-- no step of a rank leads on from the core
 abbrev pub NoneOnCore : List EntryParts → ℕ → CoreParts → ℕ → Type 0
 NoneOnCore R start c n = NoneOfRank (CoreLeads R start c) kind_rank n
 
+-- of the steps on the core, the first
 pub record IsFirstOnCore (R : List EntryParts) (start : ℕ) (c : CoreParts) (step : Step) : Type 0 where
   pub to : CoreParts
   pub is_first : IsFirst (CoreLeads R start c) kind_rank step to
 
+-- the steps from one core to the other are added, each the first
 abbrev pub AddsOnCore : List EntryParts → ℕ → CoreParts → CoreParts → List Step → List Step → Type 0
 AddsOnCore R start c d old new = Adds (CoreLeads R start) (λ _ step. kind_rank step) c d old new
 
@@ -87,7 +91,7 @@ pub record SwapsBy {A : Type 0} (cmp : A → A → Ordering) (spell : A → List
   pub unnumbered : step.number ≡ 0
   pub leads : SwapLeads cmp spell start step.place xs ys
 
--- a part of the list goes, by a step of a kind
+-- a part of the list is dropped, by a step of a kind
 pub record DropsBy {A : Type 0} (cmp : A → A → Ordering) (spell : A → List (List ℕ)) (kind : StepKind) (start : ℕ) (xs : List A) (step : Step) (ys : List A) : Type 0 where
   pub of_kind : step.kind ≡ kind
   pub unnumbered : step.number ≡ 0
@@ -115,10 +119,11 @@ pub record DropsTrueBy (start : ℕ) (ks : List KeywordParts) (step : Step) (ls 
   pub unnumbered : step.number ≡ 0
   pub leads : TrueLeads start step.place ks ls
 
--- on the parts of a u extension and of a t extension whose singleton is at a place
+-- on the parts of a u extension whose singleton is at a place
 abbrev pub AddsOnUnicode : ℕ → UForm → UForm → List Step → List Step → Type 0
 AddsOnUnicode start p q old new = Adds (UnicodeLeads start) (λ _ step. kind_rank step) p q old new
 
+-- on the parts of a t extension whose singleton is at a place
 abbrev pub AddsOnTransform : List EntryParts → ℕ → TForm → TForm → List Step → List Step → Type 0
 AddsOnTransform R start p q old new = Adds (TransformLeads R start) (λ _ step. kind_rank step) p q old new
 

@@ -8,38 +8,20 @@ use Rattle.lt_rewrite.specs.Rewriting.{Star, Rests, Equivalent}
 use Rattle.lt_rewrite.specs.CoreSteps.{values_of, CoreStep}
 use Rattle.lt_rewrite.specs.Extensions.{ExtensionsStep}
 
--- a tag that is grandfathered, or a langtag and a core alone (RFC 5646, 4.5, rule 2)
-abbrev pub IsPlain : TagForm → Type 0
-IsPlain (Grandfathered n) = Unit {0}
-IsPlain (LangTag c es ps) = (es ≡ []) × (ps ≡ [])
-IsPlain (PrivateUse ps) = ⊥
+-- a tag that is grandfathered, or a langtag and a core alone (RFC 5646, 4.5, rule 2; that no other is replaced is
+-- this project's own)
+abbrev pub CanBeReplacedWhole : TagForm → Type 0
+CanBeReplacedWhole (Grandfathered n) = Unit {0}
+CanBeReplacedWhole (LangTag c es ps) = (es ≡ []) × (ps ≡ [])
+CanBeReplacedWhole (PrivateUse ps) = ⊥
 
--- a core step on the core (RFC 5646, 4.5, rule 3)
-pub record CoreChange (R : List EntryParts) (c d : CoreParts) (es : List ExtensionParts) (ps : List (List ℕ))
-    (t u : TagForm) : Type 0 where
-  pub from : t ≡ LangTag c es ps
-  pub to : u ≡ LangTag d es ps
-  pub step : CoreStep (values_of R) c d
-
--- a step on the extensions (RFC 5646, 4.5, rule 1)
-pub record ExtensionsChange (R : List EntryParts) (c : CoreParts) (es fs : List ExtensionParts) (ps : List (List ℕ))
-    (t u : TagForm) : Type 0 where
-  pub from : t ≡ LangTag c es ps
-  pub to : u ≡ LangTag c fs ps
-  pub step : ExtensionsStep R es fs
-
--- the whole tag becomes the value of its record (RFC 5646, 4.5, rule 2)
-pub record WholeChange (R : List EntryParts) (t u : TagForm) : Type 0 where
-  pub plain : IsPlain t
-  pub has : whole_value R t ≡ Some u
-
--- a change of the core, of the extensions, or of the whole tag (RFC 5646, 4.5)
+-- a step on the core, on the extensions, or of the whole tag to the value of its record (RFC 5646, 4.5, rules 3, 1, 2)
 pub data TagChange (R : List EntryParts) (t u : TagForm) : Type 0 where
-  on_core : (c d : CoreParts) (es : List ExtensionParts) (ps : List (List ℕ)) → CoreChange R c d es ps t u →
-      TagChange R t u
-  on_extensions : (c : CoreParts) (es fs : List ExtensionParts) (ps : List (List ℕ)) →
-      ExtensionsChange R c es fs ps t u → TagChange R t u
-  on_whole : WholeChange R t u → TagChange R t u
+  on_core : (c d : CoreParts) (es : List ExtensionParts) (ps : List (List ℕ)) → t ≡ LangTag c es ps →
+      u ≡ LangTag d es ps → CoreStep (values_of R) c d → TagChange R t u
+  on_extensions : (c : CoreParts) (es fs : List ExtensionParts) (ps : List (List ℕ)) → t ≡ LangTag c es ps →
+      u ≡ LangTag c fs ps → ExtensionsStep R es fs → TagChange R t u
+  on_whole : CanBeReplacedWhole t → whole_value R t ≡ Some u → TagChange R t u
 
 -- A step makes a proper tag of a proper tag. So no core step leads to what spells a grandfathered tag (RFC 5646,
 -- 4.5).
@@ -56,7 +38,8 @@ IsReached R t u = Star (TagStep R) t u
 abbrev pub AreEquivalent : List EntryParts → TagForm → TagForm → Type 0
 AreEquivalent R t u = Equivalent (TagStep R) t u
 
--- a valid tag that no step leaves (RFC 5646, 4.5)
+-- A valid tag that no step leaves (RFC 5646, 4.5, where the steps are taken once, in order; that they are taken until
+-- none leads on is this project's own).
 pub record IsCanonical (R : List EntryParts) (t : TagForm) : Type 0 where
   pub valid : IsValid R t
   pub at_rest : Rests (TagStep R) t

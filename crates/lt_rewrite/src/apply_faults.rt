@@ -8,14 +8,15 @@ use std::fmt;
 /// Why a step is not applied to a tag.
 #[derive(Clone, Copy, Debug, Drop, PartialEq, Eq)]
 pub enum ApplyFault {
-    /// The step leads from the tag nowhere, or to no proper tag.
+    /// The step, by its kind, its place and the number of its record, leads from the tag nowhere, or to no
+    /// proper tag.
     NoSuchStep,
     /// A growth of memory was refused.
     OutOfMemory,
 }
 
 impl ApplyFault {
-    /// The fault's name, as it is written here.
+    /// The fault's name, as it is written here: `NoSuchStep` or `OutOfMemory`.
     pub fn name(self) -> &'static str
         ensures { result.now ≡ fault_name_of self }
     {

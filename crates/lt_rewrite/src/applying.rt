@@ -2,13 +2,14 @@
 ghost use Rattle.std.specs.Prelude.{◌≡◌, ◌≢◌, ◌≤◌, ◌+◌, List, Some, IfOk, IfErr, MatchBool, MatchOption, length};
 ghost use Rattle.lt_tag.specs.Parts.{CoreParts, ExtensionParts, TagForm, LangTag};
 ghost use Rattle.lt_tag.specs.Spelling.{spell_extensions};
-ghost use Rattle.lt_tag.specs.Values.{IsTagValue, core_of, private_of, most_parts};
+ghost use Rattle.lt_tag.specs.Values.{IsTagValue, core_of, private_of};
 ghost use Rattle.lt_registry.specs.Validity.{IsProper};
-ghost use Rattle.lt_rewrite.specs.TagSteps.{IsPlain};
+ghost use Rattle.lt_rewrite.specs.TagSteps.{CanBeReplacedWhole};
 ghost use Rattle.lt_rewrite.specs.Labels.{LeadsBy};
 ghost use Rattle.lt_rewrite.specs.Applying.{Changes, CoreLeads, ExtensionsLeads, IsWholeValueBy, TagLeads};
 ghost use Rattle.lt_rewrite.specs.ApplyFaults.{IsApplyFault};
 ghost use Rattle.lt_rewrite.specs.declared.steps.StepKind.TheVariants as kinds;
+ghost use Rattle.lt_tag.specs.Lists.{longest_text};
 
 use crate::apply_faults::ApplyFault;
 use crate::core_applying::apply_to_core;
@@ -21,11 +22,11 @@ use lt_tag::{Class, Core, Extension, OutOfMemory, Tag, copy_extensions, copy_sub
 use std::alloc::Global;
 
 /// Whether a tag is grandfathered, or a langtag and a core alone.
-fn is_plain(tag: &Tag) -> bool
-    ensures { MatchBool result (IsPlain tag.now) (IsPlain tag.now → ⊥) }
+fn can_be_replaced_whole(tag: &Tag) -> bool
+    ensures { MatchBool result (CanBeReplacedWhole tag.now) (CanBeReplacedWhole tag.now → ⊥) }
 {
     match tag.class() {
-        Class::LangTag => tag.extensions().is_empty() && tag.private().is_empty(),
+        Class::LangTag => tag.core_alone().is_some(),
         Class::PrivateUse => false,
         Class::Grandfathered => true,
     }
@@ -60,7 +61,7 @@ fn change_whole<L: Lookup>(
     if step.place != 1 {
         return Ok(None);
     }
-    if !is_plain(tag) {
+    if !can_be_replaced_whole(tag) {
         return Ok(None);
     }
     match whole_value_by(table, tag, step.number) {
@@ -120,7 +121,7 @@ fn change_parts<L: Lookup>(
     ensures { IfOk result (λ changed. MatchOption changed
         ((other : TagForm) → TagLeads (L.listed table.now) tag.now step other → ⊥)
         (λ parts. TagLeads (L.listed table.now) tag.now step (LangTag parts.0 parts.1.items (private_of tag.now))
-        × (length parts.1.items ≤ most_parts))) }
+        × (length parts.1.items ≤ longest_text))) }
 {
     if let Some(changed) = change_core(alloc, table, core, step)? {
         return Ok(Some((changed, copy_extensions(alloc, tag.extensions())?)));
@@ -133,8 +134,8 @@ fn change_parts<L: Lookup>(
 
 /// The langtag of these parts, unless it spells a grandfathered tag.
 fn langtag(core: Core, extensions: Vec<Extension>, private: Vec<Subtag>) -> Option<Tag>
-    requires few_extensions { length extensions.items ≤ most_parts }
-    requires few_private { length private.items ≤ most_parts }
+    requires few_extensions { length extensions.items ≤ longest_text }
+    requires few_private { length private.items ≤ longest_text }
     ensures { MatchOption result
         (IsTagValue (LangTag core extensions.items private.items) → ⊥)
         (λ tag. tag ≡ LangTag core extensions.items private.items) }
@@ -172,10 +173,9 @@ fn change<L: Lookup>(
     }
 }
 
-/// The tag to which a step leads from a proper tag (RFC 5646, 4.5): Ok exactly where it leads to a
-/// proper tag, which is then the only one. NoSuchStep comes exactly where the step, by its kind, its
-/// place and the number of its record, leads to none; OutOfMemory where memory ran out. The tag
-/// stays as it is.
+/// The tag to which a step leads from a proper tag (RFC 5646, 4.5): Ok exactly where it leads to a proper tag,
+/// which is then the only one. `NoSuchStep` comes exactly where the step, by its kind, its place and the number
+/// of its record, leads to none; `OutOfMemory` where memory runs out. The tag stays as it is.
 pub fn apply<L: Lookup>(alloc: Global, table: &L, tag: &Tag, step: &Step) -> Result<Tag, ApplyFault>
     requires { IsProper (L.listed table.now) tag.now }
     ensures ok { IfOk result (λ changed. LeadsBy (L.listed table.now) tag.now step.now changed) }

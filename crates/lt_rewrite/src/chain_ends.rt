@@ -18,7 +18,7 @@ use std::fmt;
 pub struct Cycle;
 
 impl Cycle {
-    /// The fault's name, as it is written here.
+    /// The fault's name: `Cycle`.
     pub fn name(self) -> &'static str
         ensures { result.now ≡ codes "Cycle" }
     {
@@ -100,11 +100,13 @@ pub(crate) fn replacement<L: Lookup>(table: &L, extlang: &Subtag) -> Subtag
     }
 }
 
-/// Where the chain of values that begins with a subtag of a kind comes to an end: the subtag that no
-/// value follows. From a variant only variants follow. In place of an extlang the chain begins with
-/// the language that replaces it, which is the extlang itself where it has no value or no entry.
-/// Refused exactly where the chain has no end. Takes no memory; it looks up at most one subtag more
-/// than there are entries.
+/// Where the chain of values that begins with a subtag of a kind comes to an end: the subtag that no value
+/// follows (RFC 5646, 3.1.7). If `a` has the value `b`, and `b` the value `c`, which has none, that is `c`.
+/// From a variant only variants follow. In place of an extlang the chain begins with the language that replaces
+/// it, which is the extlang itself where it has no value or no entry.
+///
+/// Refused exactly where the chain has no end. Takes no memory; it looks up at most one subtag more than there
+/// are entries.
 pub fn chain_end<L: Lookup>(table: &L, kind: Kind, subtag: &Subtag) -> Result<Subtag, Cycle>
     ensures end { IfOk result (λ end. ChainEndsIn (L.listed table.now) kind subtag.now end) }
     ensures cycle { OnErr result (ChainEnds (L.listed table.now) kind subtag.now → ⊥) }

@@ -190,7 +190,8 @@ fn replace_variant<L: Lookup>(table: &L, core: &mut Core, start: usize, step: St
     true
 }
 
-/// The leftmost variant that turns beside the language goes, and its value becomes the language.
+/// A VariantLanguage step: the leftmost variant that has a language as its value, and the core's language as a
+/// Prefix, is dropped, and its value becomes the language.
 fn turn_variant<L: Lookup>(table: &L, core: &mut Core, start: usize, step: Step) -> bool
     requires kind { step.kind ≡ kinds.VariantLanguage }
     requires few { start ≤ 1200000 }

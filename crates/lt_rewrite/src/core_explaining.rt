@@ -103,7 +103,8 @@ fn variant_step<L: Lookup>(table: &L, core: &Core, start: usize) -> Option<Step>
     None
 }
 
-/// The step by which the leftmost variant that turns beside the language becomes the language.
+/// The VariantLanguage step: that of the leftmost variant that has a language as its value, and the core's
+/// language as a Prefix.
 fn turn_step<L: Lookup>(table: &L, core: &Core, start: usize) -> Option<Step>
     requires { start ≤ 1200000 }
     ensures { MatchOption result
@@ -168,10 +169,9 @@ pub(crate) fn take_core_steps<L: Lookup>(
     Ok(())
 }
 
-/// Takes the steps on a core that begins after this many subtags, each the first that leads on, until
-/// none does, and adds them to others. It gives back the core to which they lead, and all the steps.
-/// The chains of the registry end, as they do where `first_cycle` is None. It is refused for want of
-/// memory alone.
+/// Takes the steps on a core that begins after this many subtags, each the first that leads on, until none
+/// does, and adds them to others. It gives back the core to which they lead, and all the steps. The chains of
+/// the registry end, as they do where `first_cycle` is None. The only refusal is running out of memory.
 pub fn explain_core<L: Lookup>(
     table: &L,
     mut core: Core,

@@ -122,9 +122,10 @@ fn settle_language<L: Lookup>(table: &L, shortcuts: Option<&Shortcuts>, core: &m
     core.set_language(end);
 }
 
-/// The language that a variant turns into beside a language.
+/// The language to which a variant leads beside a language by a VariantLanguage step: its value, if that is a
+/// language and the language beside it one of its Prefixes.
 fn turn<'a, L: Lookup>(table: &'a L, language: &Subtag, variant: &Subtag) -> Option<&'a Subtag>
-    ensures value { option_copied result ≡ (values_of (L.listed table.now)).turn language.now variant.now }
+    ensures value { option_copied result ≡ (values_of (L.listed table.now)).variant_language language.now variant.now }
     ensures form { IfSome result (λ value. is_language value.now ≡ true) }
 {
     match table.entry(Kind::Variant, variant) {
@@ -136,7 +137,8 @@ fn turn<'a, L: Lookup>(table: &'a L, language: &Subtag, variant: &Subtag) -> Opt
     }
 }
 
-/// The leftmost variant that turns beside the language: its index, and what it turns into.
+/// The leftmost variant with a VariantLanguage step: its index, counted from 0, and the language to which it
+/// leads.
 pub(crate) fn first_turn<L: Lookup>(table: &L, core: &Core) -> Option<(usize, Subtag)>
     ensures turn { MatchOption result
         (HasNoTurn (values_of (L.listed table.now)) core.now)
@@ -151,8 +153,8 @@ pub(crate) fn first_turn<L: Lookup>(table: &L, core: &Core) -> Option<(usize, Su
     None
 }
 
-/// Replaces a language without extlangs by the end of its chain; and as long as a variant turns
-/// beside it, the leftmost becomes the language, whose chain is followed again.
+/// Replaces a language without extlangs by the end of its chain; and as long as there is a VariantLanguage
+/// step, takes it, and follows the chain of the new language.
 fn settle_turns<L: Lookup>(table: &L, shortcuts: Option<&Shortcuts>, core: &mut Core)
     requires chains { All (HasEndingChain (L.listed table.now)) (L.listed table.now) }
     requires shortcuts { IfSome shortcuts (λ s. AreShortcuts (L.listed table.now) s.now) }
@@ -172,7 +174,7 @@ fn settle_turns<L: Lookup>(table: &L, shortcuts: Option<&Shortcuts>, core: &mut 
     }
 }
 
-/// The same of few variants, which are looked up once.
+/// The same of at most 256 variants, which are looked up once.
 fn settle_few_turns<L: Lookup>(table: &L, shortcuts: Option<&Shortcuts>, core: &mut Core)
     requires chains { All (HasEndingChain (L.listed table.now)) (L.listed table.now) }
     requires shortcuts { IfSome shortcuts (λ s. AreShortcuts (L.listed table.now) s.now) }
@@ -230,14 +232,14 @@ pub(crate) fn settle_along<L: Lookup>(table: &L, shortcuts: Option<&Shortcuts>, 
     }
 }
 
-/// Puts a core into its core normal form: each subtag is replaced by the end of its chain of values,
-/// a sole extlang by its replacement as the language, and a variant beside the language that its
-/// value replaces becomes that value. A core with more extlangs keeps them and its language. The
-/// chains of the registry end, as they do where `first_cycle` is None.
+/// Puts a core into its core normal form (RFC 5646, 4.5): each subtag is replaced by the end of its chain of
+/// values, a sole extlang by its replacement as the language, and a variant beside a language that is one of
+/// its Prefixes by its value as the language, if that is one. A core with more extlangs keeps them and its
+/// language. The chains of the registry end, as they do where `first_cycle` is None.
 ///
-/// Takes no memory. Each subtag is looked up once, and once more for each value that replaces it;
-/// beside a language without extlangs each of 4 to 256 variants is looked up once more, and each of
-/// fewer or more once more for each language that stands there, to see whether it turns into one.
+/// Takes no memory. Each subtag is looked up once, and once more for each value that replaces it. Where the
+/// core has no extlang then, each of 4 to 256 variants is looked up once more, and each of fewer or more once
+/// more for each language that the core comes to have, to find the VariantLanguage steps.
 pub fn settle_core<L: Lookup>(table: &L, core: &mut Core)
     requires { All (HasEndingChain (L.listed table.now)) (L.listed table.now) }
     ensures { IsCoreNormalForm (values_of (L.listed table.now)) core.old core.new }

@@ -36,8 +36,7 @@ fn subtags_before(extensions: &[Extension], index: usize) -> usize
     count
 }
 
-/// What the `u` extension comes to by its steps, and where it is. The extensions begin after so
-/// many subtags.
+/// What the `u` extension comes to by its steps, and its index. The extensions begin after this many subtags.
 fn explained_unicode(
     alloc: Global,
     extensions: &[Extension],
@@ -56,8 +55,7 @@ fn explained_unicode(
     Ok(Some((index, join_u(alloc, &parts)?)))
 }
 
-/// What the `t` extension comes to by its steps, and where it is. The extensions begin after so
-/// many subtags.
+/// What the `t` extension comes to by its steps, and its index. The extensions begin after this many subtags.
 fn explained_transform<L: Lookup>(
     alloc: Global,
     table: &L,

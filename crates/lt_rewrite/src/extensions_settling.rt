@@ -99,11 +99,11 @@ pub(crate) fn settle_all<L: Lookup>(
     Ok(())
 }
 
-/// Puts a list of extensions into its normal form: the `u` and the `t` extension come to theirs, and
-/// the extensions are in the order of their singletons. Each singleton occurs once, a `t` extension
-/// has the form of one, and the chains of the registry end, as they do where `first_cycle` is None.
-/// Memory is taken only for a `u` or a `t` extension, and nothing else is refused; the list is then
-/// what it was.
+/// Puts a list of extensions into its normal form (RFC 5646, 4.5, rule 1): the `u` and the `t` extension come
+/// to theirs, and the extensions are in the order of their singletons. Each singleton occurs once, a `t`
+/// extension has the form of one, and the chains of the registry end, as they do where `first_cycle` is None.
+/// Memory is taken only for a `u` or a `t` extension. The only refusal is running out of memory; the list is
+/// then what it was.
 pub fn settle_extensions<L: Lookup>(
     alloc: Global,
     table: &L,

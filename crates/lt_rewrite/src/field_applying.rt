@@ -1,10 +1,11 @@
 //! One step on the parts of a `t` extension (RFC 5646, 4.5; RFC 6497).
 ghost use Rattle.std.specs.Prelude.{◌≡◌, ◌≤◌, ◌+◌, List, length};
 ghost use Rattle.lt_tag.specs.Spelling.{spell_core};
-ghost use Rattle.lt_tag.specs.Extensions.{spell_source, spell_t};
+ghost use Rattle.lt_tag.specs.Extensions.{spell_t};
 ghost use Rattle.lt_registry.specs.Parts.{EntryParts};
 ghost use Rattle.lt_rewrite.specs.Applying.{Answers, TransformLeads};
 ghost use Rattle.lt_rewrite.specs.declared.steps.StepKind.TheVariants as kinds;
+ghost use Rattle.lt_tag.specs.Splitting.{spell_source};
 
 use crate::core_applying::{apply_to_core, before_variants};
 use crate::part_applying::swap_at;

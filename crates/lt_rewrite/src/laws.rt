@@ -2,7 +2,7 @@
 ghost use Rattle.std.specs.Prelude.{List, All};
 ghost use Rattle.lt_registry.specs.Parts.{EntryParts};
 ghost use Rattle.lt_registry.specs.Entries.{IsRegistry};
-ghost use Rattle.lt_rewrite.specs.Conditions.{HasEndingChain, FitsGrandfathered, MeetsCoreConditions};
+ghost use Rattle.lt_rewrite.specs.Conditions.{HasEndingChain, HasFittingGrandfathered, MeetsCoreConditions};
 ghost use Rattle.lt_rewrite.specs.Laws.{HasOneNormalForm, StepsKeepNormalForm, StepsKeepProper, StepsKeepTagsProper, ProperCoresSpellNone, EndingChainsAreShort, ChainsEnd, StepsAreDetermined};
 
 /// A chain of values that comes to an end has done so after as many values as there are records;
@@ -24,8 +24,8 @@ pub fn one_core_normal_form()
 /// any step on its extensions.
 pub fn core_steps_stay_proper()
     ensures proper { (R : List EntryParts) → IsRegistry R → MeetsCoreConditions R → StepsKeepProper R }
-    ensures tags { (R : List EntryParts) → IsRegistry R → MeetsCoreConditions R → All (FitsGrandfathered R) R → StepsKeepTagsProper R }
-    ensures spelled { (R : List EntryParts) → All (FitsGrandfathered R) R → ProperCoresSpellNone R }
+    ensures tags { (R : List EntryParts) → IsRegistry R → MeetsCoreConditions R → All (HasFittingGrandfathered R) R → StepsKeepTagsProper R }
+    ensures spelled { (R : List EntryParts) → All (HasFittingGrandfathered R) R → ProperCoresSpellNone R }
 {}
 
 /// In every registry the kind and the place of a step determine its record and what it leads to.

@@ -107,8 +107,8 @@ pub(crate) fn swap_at<P: Spelled>(parts: &mut Vec<P>, start: usize, place: u32) 
     }
 }
 
-/// The part whose first subtag is at a place goes, if its like is before it. The list begins
-/// after this many subtags.
+/// The part whose first subtag is at a place is dropped, if its like is before it. The list begins after this
+/// many subtags.
 pub(crate) fn drop_at<P: Spelled>(parts: &mut Vec<P>, start: usize, place: u32) -> bool
     requires { start + length (flat_map P.spell parts.old.items) < 2 ^ 32 }
     ensures { Answers (DropLeads P.order P.spell start place parts.old.items) parts.new.items result }

@@ -2,41 +2,42 @@
 ghost use Rattle.std.specs.Prelude.{◌≡◌};
 ghost use Rattle.lt_rewrite.specs.Names.{name_of};
 
-/// The kinds of step.
+/// The kinds of step (RFC 5646, 4.5; RFC 6067; RFC 6497).
 #[derive(Clone, Copy, Debug, PartialEq, Eq)]
 pub enum StepKind {
-    /// The one extlang's replacement becomes the language.
+    /// The one extlang's replacement becomes the language: `zh-yue` to `yue`.
     Extlang,
-    /// The language is replaced by its value.
+    /// The language is replaced by its value: `iw` to `he`.
     Language,
-    /// The script is replaced by its value.
+    /// The script is replaced by its value (RFC 5646, 3.1.7).
     Script,
-    /// The region is replaced by its value.
+    /// The region is replaced by its value: `sgn-DD` to `sgn-DE`.
     Region,
-    /// A variant is replaced by its value in its place.
+    /// A variant is replaced by its value, which is a variant, in its place: `heploc` by `alalc97`.
     Variant,
-    /// A variant's value becomes the language, and the variant goes.
+    /// A variant is dropped, and its value, which is a language, takes the place of the language before it, one
+    /// of its Prefixes (this project's own).
     VariantLanguage,
-    /// The whole tag is replaced by its value.
+    /// The whole tag is replaced by its value: `i-klingon` to `tlh`.
     Whole,
-    /// Two neighbouring extensions in falling order of their singletons change places.
+    /// Two neighbouring extensions in falling order of their singletons change places: `t`, `a` to `a`, `t`.
     SwapExtensions,
-    /// An attribute goes that is earlier too.
+    /// An attribute is dropped, if an equal one is before it.
     DropAttribute,
     /// Two neighbouring attributes in falling order change places.
     SwapAttributes,
-    /// A keyword goes whose key is earlier too.
+    /// A keyword is dropped, if one of its key is before it.
     DropKeyword,
     /// Two neighbouring keywords in falling order of their keys change places.
     SwapKeywords,
-    /// `true` goes where it is all the types of a keyword.
+    /// `true` is dropped where it is all the types of a keyword: `u-kn-true` to `u-kn` (this project's own).
     DropTrue,
     /// Two neighbouring fields in falling order of their separators change places.
     SwapFields,
 }
 
 impl StepKind {
-    /// The kind's name, as it is written here.
+    /// The kind's name, as it is written here: `Extlang`.
     pub fn name(self) -> &'static str
         ensures { result.now ≡ name_of self }
     {
@@ -59,12 +60,15 @@ impl StepKind {
     }
 }
 
-/// A step: its kind; the place of the subtag that is replaced or dropped, of the key that is dropped
-/// with its types, or of the first subtag of the first of two parts that change places, counted
-/// from 1 (1 for a whole tag); and the number of the record that it uses (0 where it uses none).
+/// A step on a tag: its kind, where it is, and the record that it uses.
 #[derive(Clone, Copy, Debug, PartialEq, Eq)]
 pub struct Step {
+    /// What it does.
     pub kind: StepKind,
+    /// The number in the tag, counted from 1, of the subtag that is replaced or dropped, of the key that is
+    /// dropped with its types, or of the first subtag of the first of two parts that change places; 1 for a
+    /// whole tag.
     pub place: u32,
+    /// The number in the file of the record that it uses, counted from 1, and 0 where it uses none.
     pub number: u32,
 }

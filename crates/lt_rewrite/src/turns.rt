@@ -1,4 +1,4 @@
-//! Variants that turn into languages one after another: each is looked up once (RFC 5646, 4.5).
+//! VariantLanguage steps one after another, where each variant is looked up once.
 ghost use Rattle.std.specs.Prelude.{◌≡◌, ◌≤◌, true, IfSome, MatchOption, length};
 ghost use Rattle.std.specs.List.{slice_get};
 ghost use Rattle.std.specs.Option.{option_copied};
@@ -16,7 +16,7 @@ use lt_registry::{Entry, Kind, Lookup};
 use lt_subtag::Subtag;
 use lt_tag::Core;
 
-/// Where the entry of a variant stands, or behind the last where it has none.
+/// The place of a variant's entry, or one after the last where it has none.
 fn variant_place<L: Lookup>(table: &L, variant: &Subtag) -> usize
     ensures { slice_get (L.listed table.now) result ≡ entry (L.listed table.now) kinds.Variant variant.now }
 {
@@ -27,7 +27,7 @@ fn variant_place<L: Lookup>(table: &L, variant: &Subtag) -> usize
     }
 }
 
-/// Where the entries of variants stand.
+/// The places of the entries of variants.
 pub(crate) fn places_of<L: Lookup>(table: &L, variants: &[Subtag]) -> ArrayVec<usize, 256>
     requires { length variants.now ≤ 256 }
     ensures { ArePlaces (L.listed table.now) variants.now result.items }
@@ -47,7 +47,8 @@ fn entry_at<'a, L: Lookup>(table: &'a L, place: usize) -> Option<&'a Entry>
     table.entries().get(place)
 }
 
-/// The language that a variant, whose entry stands at a place, turns into beside a language.
+/// The language to which a variant, whose entry is at a place, leads beside a language by a VariantLanguage
+/// step.
 fn turn_at<'a, L: Lookup>(
     table: &'a L,
     place: usize,
@@ -55,7 +56,7 @@ fn turn_at<'a, L: Lookup>(
     _variant: &Subtag,
 ) -> Option<&'a Subtag>
     requires { slice_get (L.listed table.now) place ≡ entry (L.listed table.now) kinds.Variant _variant.now }
-    ensures value { option_copied result ≡ (values_of (L.listed table.now)).turn language.now _variant.now }
+    ensures value { option_copied result ≡ (values_of (L.listed table.now)).variant_language language.now _variant.now }
     ensures form { IfSome result (λ value. is_language value.now ≡ true) }
 {
     match entry_at(table, place) {
@@ -67,8 +68,8 @@ fn turn_at<'a, L: Lookup>(
     }
 }
 
-/// The leftmost variant that turns beside the language, by the places of their entries: its index, and what
-/// it turns into.
+/// The leftmost variant with a VariantLanguage step, by the places of their entries: its index, counted from 0,
+/// and the language to which it leads.
 pub(crate) fn first_turn_at<L: Lookup>(
     table: &L,
     places: &[usize],

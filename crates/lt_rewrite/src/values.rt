@@ -1,4 +1,4 @@
-//! What the entries of a table give as values.
+//! What the entries of a table give as preferred values (RFC 5646, 3.1.7).
 ghost use Rattle.std.specs.Prelude.{◌≡◌, Some, true, is_some, IfSome, MatchOption};
 ghost use Rattle.std.specs.Option.{option_copied};
 ghost use Rattle.lt_tag.specs.Parts.{TagForm};
@@ -10,7 +10,7 @@ use lt_registry::{Entry, EntryName, EntryValue, Kind, Lookup};
 use lt_subtag::Subtag;
 use lt_tag::Tag;
 
-/// The one subtag that an entry gives as its value.
+/// The one subtag that an entry gives as its value, if it has such a value.
 pub fn one_value(entry: &Entry) -> Option<&Subtag>
     ensures value { option_copied result ≡ one_of entry.now.value }
     ensures form { IfSome result (λ value. has_value_form entry.now.kind value.now ≡ true) }
@@ -21,7 +21,7 @@ pub fn one_value(entry: &Entry) -> Option<&Subtag>
     }
 }
 
-/// The whole tag that an entry gives as its value.
+/// The whole tag that an entry gives as its value, if it has such a value.
 pub fn tag_value(entry: &Entry) -> Option<&Tag>
     ensures { option_copied result ≡ tag_of entry.now.value }
 {
@@ -31,7 +31,7 @@ pub fn tag_value(entry: &Entry) -> Option<&Tag>
     }
 }
 
-/// The tag and the value of a whole record that has a value.
+/// The tag and the value of a whole record that has a value. Other records give none.
 pub fn tag_and_value(entry: &Entry) -> Option<(&Tag, &Tag)>
     ensures { MatchOption result
         ((t u : TagForm) → entry.now.name ≡ names.Whole t → tag_of entry.now.value ≡ Some u → ⊥)
@@ -43,7 +43,7 @@ pub fn tag_and_value(entry: &Entry) -> Option<(&Tag, &Tag)>
     }
 }
 
-/// Whether a value of a variant is a language: it has 2 or 3 letters.
+/// Whether a value of a variant is a language: it has at most 3 letters.
 pub fn is_short(subtag: &Subtag) -> bool
     ensures { result ≡ entries.is_short subtag.now }
 {
@@ -57,9 +57,9 @@ pub fn is_registered<L: Lookup>(table: &L, kind: Kind, subtag: &Subtag) -> bool
     table.entry(kind, subtag).is_some()
 }
 
-/// The value of a subtag under a kind.
+/// The value of a subtag under a kind, if it is registered and has one.
 pub fn value<'a, L: Lookup>(table: &'a L, kind: Kind, subtag: &Subtag) -> Option<&'a Subtag>
-    ensures value { option_copied result ≡ entries.value (L.listed table.now) kind subtag.now }
+    ensures value { option_copied result ≡ entries.preferred_value (L.listed table.now) kind subtag.now }
     ensures form { IfSome result (λ value. has_value_form kind value.now ≡ true) }
 {
     match table.entry(kind, subtag) {
@@ -68,7 +68,7 @@ pub fn value<'a, L: Lookup>(table: &'a L, kind: Kind, subtag: &Subtag) -> Option
     }
 }
 
-/// The value of a tag as a whole record.
+/// The value of a tag by its whole record, if it has both.
 pub fn whole_value<'a, L: Lookup>(table: &'a L, tag: &Tag) -> Option<&'a Tag>
     ensures { option_copied result ≡ entries.whole_value (L.listed table.now) tag.now }
 {
@@ -78,7 +78,7 @@ pub fn whole_value<'a, L: Lookup>(table: &'a L, tag: &Tag) -> Option<&'a Tag>
     }
 }
 
-/// Whether a variant has a language value.
+/// Whether a variant has a language as its value.
 pub fn has_language_value<L: Lookup>(table: &L, variant: &Subtag) -> bool
     ensures { result ≡ is_some (language_value (L.listed table.now) variant.now) }
 {

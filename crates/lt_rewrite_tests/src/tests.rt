@@ -1,3 +1,4 @@
+//! Cores and extensions with their normal forms, and steps.
 mod applying;
 mod core_explaining;
 mod extensions_explaining;

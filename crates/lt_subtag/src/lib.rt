@@ -1,4 +1,5 @@
-//! Subtags of BCP 47 language tags: 1 to 8 letters or digits, whose case doesn't matter.
+//! Subtags of BCP 47 language tags (RFC 5646, 2.1): 1 to 8 letters or digits, whose case doesn't matter. A
+//! program begins with the crate `bcp47`, which gives these types too.
 #![tactic(auto)]
 
 ghost use Rattle.std.specs.Prelude.{◌≡◌, ◌≤◌, ◌<◌, [], ◌∷◌, ◌++◌, true, length, take, drop, Err, Some};
@@ -31,7 +32,7 @@ pub enum SubtagFault {
 }
 
 impl SubtagFault {
-    /// The fault's name, as it is written here.
+    /// The fault's name, as it is written here: `Empty`, `BadByte` or `TooLong`.
     pub fn name(self) -> &'static str
         ensures { result.now ≡ reading.name_of self }
     {
@@ -56,19 +57,22 @@ impl Error for SubtagFault {}
 /// How the letters of a subtag are shown (RFC 5646, 2.1.1).
 #[derive(Clone, Copy, Debug, PartialEq, Eq)]
 pub enum Case {
+    /// All letters in lower case: `hant`.
     Lower,
+    /// All letters in upper case: `HANT`.
     Upper,
-    /// The first letter alone in upper case.
+    /// The first byte, where it is a letter, in upper case and the others in lower case: `Hant`.
     Title,
 }
 
-/// A subtag: 1 to 8 letters or digits (RFC 5646, 2.1). Letter case never matters: a contract sees
-/// the lower-case bytes, and equality, order and hash are theirs.
+/// A subtag: 1 to 8 ASCII letters or digits (RFC 5646, 2.1). Letter case never matters: a contract sees the
+/// lower-case bytes, and equality, order and hash are theirs. It is printed as them.
 #[derive(Debug, Drop, PartialEq, Eq, PartialOrd, Ord, Hash)]
 pub struct Subtag {
     letters: ArrayVec<u8, 8>,
 }
 
+// A contract sees a subtag as its lower-case bytes (RFC 5646, 2.1.1).
 impl Model for Subtag {
     ghost use Rattle.std.specs.Prelude.{◌≡◌, ℕ, List, true};
     ghost use Rattle.lt_subtag.specs.Bytes.{is_subtag};
@@ -107,8 +111,9 @@ impl fmt::Display for Subtag {
 }
 
 impl Subtag {
-    /// The subtag that the bytes spell, whatever the case of their letters. Refused as `Empty`, else
-    /// as `BadByte` where one is no ASCII letter or digit, else as `TooLong` above 8 bytes.
+    /// The subtag that the bytes spell, whatever the case of their letters: `Hant` and `HANT` give the same.
+    /// Refused as `Empty` where there is no byte, else as `BadByte` where one is no ASCII letter or digit, else
+    /// as `TooLong` above 8 bytes.
     #[tactic(auto, using(crate::proofs::BytesLemmas::piece_folds))]
     pub fn read(bytes: &[u8]) -> Result<Subtag, SubtagFault>
         ensures { result ≡ subtag_of bytes.now }
@@ -147,7 +152,7 @@ impl Subtag {
         Subtag { letters }
     }
 
-    /// The bytes with the letters in a case.
+    /// The bytes with the letters in a case (RFC 5646, 2.1.1).
     #[tactic(auto, using(crate::proofs::BytesLemmas::subtag_length))]
     pub fn cased(&self, case: Case) -> ArrayVec<u8, 8>
         ensures { result.items ≡ reading.cased case self.now }
@@ -205,7 +210,7 @@ impl Subtag {
     }
 
     /// Whether it is a singleton: a single digit or letter, but not `x` (RFC 5646, 2.2.6).
-    #[tactic(auto, unfolding(crate::specs::Shapes::is_single, crate::specs::Shapes::is_singleton))]
+    #[tactic(auto, unfolding(crate::specs::Shapes::is_singleton))]
     pub fn is_singleton(&self) -> bool
         ensures { result ≡ shapes.is_singleton self.now }
     {

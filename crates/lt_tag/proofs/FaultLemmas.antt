@@ -11,10 +11,10 @@ use Rattle.lt_subtag.specs.declared.SubtagFault.TheVariants as subtag_faults
 use Rattle.lt_tag.specs.declared.faults.TagFaultKind.{TagFaultKind}
 use Rattle.lt_tag.specs.declared.faults.TagFaultKind.TheVariants as kinds
 use Rattle.lt_tag.specs.Parts.{TagForm, LangTag, PrivateUse, Grandfathered}
-use Rattle.lt_tag.specs.Lists.{pieces, list_of}
+use Rattle.lt_tag.specs.Lists.{pieces, list_of, longest_text}
 use Rattle.lt_tag.specs.Listing.{kind_of}
 use Rattle.lt_tag.specs.WellFormed.{spell, IsTag, IsWellFormed, Begins, IsFirstMisplaced}
-use Rattle.lt_tag.specs.Faults.{IsFault, IsFirstBadPiece, HasList, HasBadList, HasFault, HasTag, longest_text}
+use Rattle.lt_tag.specs.Faults.{IsFault, IsFirstBadPiece, HasList, HasBadList, HasFault, HasTag}
 use Rattle.lt_tag.proofs.DraftResults.{Begins-take}
 use Rattle.lt_tag.proofs.LetterLemmas.{to_HasList}
 use Rattle.lt_tag.proofs.ShapeLemmas.{tag_subtags}

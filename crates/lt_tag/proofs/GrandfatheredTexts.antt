@@ -2,11 +2,11 @@
 use Rattle.std.proofs.Common.{◌≡◌, true, false, ℕ, ◌≤◌, ◌<◌, ◌-◌, List, [], length, map, refl, sym, ap, ◌∙◌, arith, ◌+◌, ◌==◌, ◌∷◌, inl, inr}
 use Rattle.std.specs.Prelude.{Some, None, slice_get, slice_index_or, sum_by}
 use Rattle.std.specs.Char.{to_ascii_lowercase}
-use Rattle.std.specs.List.{list_all, join_with_byte}
+use Rattle.std.specs.List.{list_all, join_with_byte, onto_first}
 use Rattle.std.proofs.lemmas.List.{get_or-map, length-map}
 use Rattle.lt_subtag.specs.Bytes.{is_subtag, folded}
 use Rattle.lt_tag.specs.Parts.{Grandfathered}
-use Rattle.lt_tag.specs.Lists.{pieces, list_of, onto_first}
+use Rattle.lt_tag.specs.Lists.{pieces, list_of}
 use Rattle.lt_tag.specs.GrandfatheredFronts.{begins_listed}
 use Rattle.lt_tag.specs.Grandfathered.{grandfathered_texts, grandfathered_list, IsGrandfathered}
 use Rattle.lt_tag.specs.Faults.{HasList}

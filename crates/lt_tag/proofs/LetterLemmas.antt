@@ -1,14 +1,14 @@
 -- Letter case and the list of a text.
 use Rattle.std.proofs.Common.{◌≡◌, ℕ, ◌≤◌, ◌<◌, ◌==◌, true, false, suc, List, [], ◌∷◌, length, map, refl, sym, ap, ◌∙◌, arith, inl, inr}
 use Rattle.std.specs.Prelude.{IsOk, slice_index_or, nat_le, ◌↔◌}
-use Rattle.std.specs.List.{list_all, join_with_byte}
+use Rattle.std.specs.List.{list_all, join_with_byte, onto_first}
 use Rattle.std.specs.Char.{is_ascii_alphanumeric, to_ascii_lowercase}
 use Rattle.std.proofs.lemmas.Bool.{cases_Bool, and_parts, and_from, ltb-true, leb-true, lt-ltb, le-leb, ne_eqb, eqb-true}
 use Rattle.std.proofs.lemmas.Bool.Decides.{nat_tests}
 use Rattle.std.proofs.lemmas.List.{length-map, get_or-map}
 use Rattle.lt_subtag.specs.Bytes.{is_subtag, is_subtag_byte, folded}
 use Rattle.lt_subtag.specs.Reading.{subtag_of}
-use Rattle.lt_tag.specs.Lists.{pieces, onto_first, list_of}
+use Rattle.lt_tag.specs.Lists.{pieces, list_of}
 use Rattle.lt_tag.specs.Faults.{HasList}
 use Rattle.lt_tag.specs.Conventional.{conventional}
 use Rattle.lt_tag.proofs.TagLemmas.{list_all-at}

@@ -7,12 +7,12 @@ use Rattle.std.proofs.lemmas.List.{append_assoc}
 use Rattle.lt_subtag.specs.Bytes.{is_subtag}
 use Rattle.lt_subtag.specs.Shapes.{is_x, is_singleton}
 use Rattle.lt_tag.specs.Parts.{CoreParts, ExtensionParts, TagForm, LangTag, PrivateUse, Grandfathered}
-use Rattle.lt_tag.specs.Lists.{pieces, list_of}
+use Rattle.lt_tag.specs.Lists.{pieces, list_of, longest_text}
 use Rattle.lt_tag.specs.Grandfathered.{grandfathered_texts, grandfathered_list, IsGrandfathered}
 use Rattle.lt_tag.specs.Spelling.{spell_core, spell_extension, spell_extensions, spell_private, x_subtag, IsCore, IsExtension}
 use Rattle.lt_tag.specs.WellFormed.{spell, IsTag, IsNotGrandfathered}
 use Rattle.lt_tag.specs.Conventional.{conventional}
-use Rattle.lt_tag.specs.Faults.{HasList, HasTag, longest_text}
+use Rattle.lt_tag.specs.Faults.{HasList, HasTag}
 use Rattle.lt_tag.proofs.TagLemmas.{list_all-at, table_length}
 use Rattle.lt_tag.proofs.CompleteLemmas.{one_core}
 use Rattle.lt_tag.proofs.ShapeLemmas.{IsLong, core_all, extension_all, language_long, tag_subtags}

@@ -6,21 +6,23 @@ use Rattle.std.specs.Char.{is_ascii_lowercase, is_ascii_digit}
 use Rattle.std.proofs.lemmas.Bool.{and_parts, and_from, cases_Bool, eqb-true, leb-true, le-leb, lt-ltb, ltb-true, not_from_false, both_ways}
 use Rattle.std.proofs.lemmas.Bool.Decides.{nat_tests}
 use Rattle.std.proofs.lemmas.List.{append-nil}
+use Rattle.std.specs.Option.{option_map_or}
 use Rattle.lt_subtag.specs.Bytes.{is_subtag, is_subtag_byte}
-use Rattle.lt_subtag.specs.Shapes.{is_alphabetic, is_numeric, is_language, is_extlang, is_script, is_region, is_variant, is_single, is_singleton, is_key, is_separator}
+use Rattle.lt_subtag.specs.Shapes.{is_alphabetic, is_numeric, is_language, is_extlang, is_script, is_region, is_variant, is_singleton, is_key, is_separator}
 use Rattle.lt_tag.specs.Parts.{CoreParts, ExtensionParts, KeywordParts, FieldParts, UForm, TForm}
-use Rattle.lt_tag.specs.Spelling.{spell_core, has_shape, IsCore, IsExtension, is_extension_subtag}
-use Rattle.lt_tag.specs.Extensions.{is_long, spell_keyword, spell_u, IsKeyword, IsU, IsUnicode, spell_field, spell_source, spell_t, IsField, IsT, IsTransform}
-use Rattle.lt_tag.specs.Values.{IsExtensionValue, most_parts}
+use Rattle.lt_tag.specs.Spelling.{spell_core, IsCore, IsExtension, is_extension_subtag}
+use Rattle.lt_tag.specs.Extensions.{is_long, spell_keyword, spell_u, IsKeyword, IsU, IsUnicode, spell_field, spell_t, IsField, IsT, IsTransform}
+use Rattle.lt_tag.specs.Values.{IsExtensionValue}
 use Rattle.lt_tag.specs.Transform.{IsTransformFault, IsFieldFault, IsSourceFault}
 use Rattle.lt_tag.specs.declared.faults.TransformFault.{TransformFault}
 use Rattle.lt_tag.specs.declared.faults.TransformFault.TheVariants as faults
-use Rattle.lt_tag.specs.Splitting.{before, onward, keywords_of, fields_of, core_of_list, source_of_list, are_values, has_values}
+use Rattle.lt_tag.specs.Splitting.{before, onward, keywords_of, fields_of, core_of_list, source_of_list, are_values, has_values, spell_source}
 use Rattle.lt_tag.proofs.ListLemmas.{list_all-append}
 use Rattle.lt_tag.proofs.TagLemmas.{AllByRecursion-weaker}
 use Rattle.lt_tag.proofs.Apart.{false_if, extlang_is, script_is, region_is, variant_is}
 use Rattle.lt_tag.proofs.CompleteLemmas.{reached, grown_is}
 use Rattle.lt_tag.proofs.SplitLemmas.{before-append, keywords-append, fields-append, keywords-onward, fields-onward, keywords-spelled, fields-spelled, IsKeyed, IsSeparated, before-keywords, before-fields, keywords-again, fields-again}
+use Rattle.lt_tag.specs.Lists.{longest_text}
 
 -- a test that is weaker holds of each element too
 pub list_all-weaker : {X : Type 0} (p q : X → Bool) → ((x : X) → p x ≡ true → q x ≡ true) → (xs : List X) → list_all p xs ≡ true → list_all q xs ≡ true
@@ -113,7 +115,7 @@ core_all test l x sc r v core k =
     (list_all-append test (option_to_list core.region) _ (of_option is_region r core.region k.region)
     (list_all-weaker is_variant test v core.variants k.variants))))
   where
-    of_option : (shape : List ℕ → Bool) → ((s : List ℕ) → shape s ≡ true → test s ≡ true) → (o : Option (List ℕ)) → has_shape shape o ≡ true → list_all test (option_to_list o) ≡ true
+    of_option : (shape : List ℕ → Bool) → ((s : List ℕ) → shape s ≡ true → test s ≡ true) → (o : Option (List ℕ)) → option_map_or shape o true ≡ true → list_all test (option_to_list o) ≡ true
     of_option shape w None h = refl
     of_option shape w (Some s) h = and_from (test s) true (w s h) refl
 
@@ -376,16 +378,16 @@ length-before mark (s ∷ ss) =
 
 -- what parts spell is an extension
 pub u_is_extension : (p : UForm) → IsU p → IsExtension (record { singleton = 117; subtags = spell_u p })
-unfolding is_singleton is_single is_subtag
+unfolding is_singleton is_subtag
 u_is_extension p h = record { singleton = refl; subtags = u_extension p h; some = h.some }
 
 pub t_is_extension : (p : TForm) → IsT p → IsExtension (record { singleton = 116; subtags = spell_t p })
-unfolding is_singleton is_single is_subtag
+unfolding is_singleton is_subtag
 t_is_extension p h = record { singleton = refl; subtags = t_extension p h; some = h.some }
 
 -- and one that a value holds, if it has few subtags
-pub u_value : (p : UForm) (subtags : List (List ℕ)) → IsU p → length (spell_u p) ≤ most_parts → subtags ≡ spell_u p → IsExtensionValue (record { singleton = 117; subtags = subtags })
+pub u_value : (p : UForm) (subtags : List (List ℕ)) → IsU p → length (spell_u p) ≤ longest_text → subtags ≡ spell_u p → IsExtensionValue (record { singleton = 117; subtags = subtags })
 u_value p subtags h few e = rw e (record { shaped = u_is_extension p h; subtags = few })
 
-pub t_value : (p : TForm) (subtags : List (List ℕ)) → IsT p → length (spell_t p) ≤ most_parts → subtags ≡ spell_t p → IsExtensionValue (record { singleton = 116; subtags = subtags })
+pub t_value : (p : TForm) (subtags : List (List ℕ)) → IsT p → length (spell_t p) ≤ longest_text → subtags ≡ spell_t p → IsExtensionValue (record { singleton = 116; subtags = subtags })
 t_value p subtags h few e = rw e (record { shaped = t_is_extension p h; subtags = few })

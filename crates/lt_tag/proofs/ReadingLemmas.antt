@@ -4,10 +4,10 @@ use Rattle.std.specs.Prelude.{Result, Ok, Err, IsOk, Some, None, option_and_then
 use Rattle.std.proofs.lemmas.List.{append_assoc, length-append, take_at, length_push}
 use Rattle.lt_tag.specs.declared.faults.TagFault.{TagFault}
 use Rattle.lt_tag.specs.Parts.{TagForm}
-use Rattle.lt_tag.specs.Lists.{pieces, list_of}
+use Rattle.lt_tag.specs.Lists.{pieces, list_of, longest_text}
 use Rattle.lt_tag.specs.Listing.{listed, with_front, read_at}
 use Rattle.lt_tag.specs.WellFormed.{spell, IsShaped, IsNotGrandfathered, IsFirstMisplaced, Begins}
-use Rattle.lt_tag.specs.Faults.{HasList, HasBadList, longest_text}
+use Rattle.lt_tag.specs.Faults.{HasList, HasBadList}
 use Rattle.lt_tag.specs.Draft.{Draft, begun, drafted, finished, spell_draft}
 use Rattle.lt_tag.proofs.DraftLists.{drafted_by, draft_of}
 use Rattle.lt_tag.specs.DraftShapes.{IsDraft}

@@ -4,12 +4,13 @@ use Rattle.std.specs.Prelude.{Option, Some, None, option_to_list}
 use Rattle.std.specs.List.{list_all, AllByRecursion}
 use Rattle.std.specs.Char.{is_ascii_lowercase, is_ascii_digit}
 use Rattle.std.proofs.lemmas.Bool.{and_parts, and_from, lt-ltb, le-leb, leb-true}
+use Rattle.std.specs.Option.{option_map_or}
 use Rattle.lt_subtag.specs.Bytes.{is_subtag, is_subtag_byte}
-use Rattle.lt_subtag.specs.Shapes.{is_alphabetic, is_language, is_extlang, is_script, is_region, is_variant, is_single, is_singleton}
+use Rattle.lt_subtag.specs.Shapes.{is_alphabetic, is_language, is_extlang, is_script, is_region, is_variant, is_singleton}
 use Rattle.lt_tag.specs.Parts.{CoreParts, ExtensionParts, TagForm, LangTag, PrivateUse, Grandfathered}
 use Rattle.lt_tag.specs.Lists.{pieces}
 use Rattle.lt_tag.specs.Grandfathered.{grandfathered_texts, grandfathered_list}
-use Rattle.lt_tag.specs.Spelling.{spell_core, spell_extension, spell_extensions, spell_private, x_subtag, has_shape, is_extension_subtag, IsCore, IsExtension, IsPrivate}
+use Rattle.lt_tag.specs.Spelling.{spell_core, spell_extension, spell_extensions, spell_private, x_subtag, is_extension_subtag, IsCore, IsExtension, IsPrivate}
 use Rattle.lt_tag.specs.WellFormed.{spell, IsTag}
 use Rattle.lt_tag.proofs.ListLemmas.{list_all-append}
 use Rattle.lt_tag.proofs.Apart.{extlang_is, script_is, region_is, variant_is}
@@ -73,7 +74,7 @@ unfolding is_extension_subtag
 extension_long s h = let p = and_parts (is_subtag s) _ h in record { subtag = p.0; long = leb-true 2 (length s) p.1 }
 
 pub singleton_is : (s : List ℕ) → is_singleton s ≡ true → is_subtag s ≡ true
-unfolding is_singleton is_single
+unfolding is_singleton
 singleton_is s h = (and_parts (is_subtag s) _ (and_parts _ _ h).0).0
 
 -- what holds of each subtag of 2 to 8 holds of each subtag of a core
@@ -81,7 +82,7 @@ module _ (test : List ℕ → Bool) (holds : (s : List ℕ) → IsLong s → tes
   all_of : (shape : List ℕ → Bool) → ((s : List ℕ) → shape s ≡ true → IsLong s) → (ss : List (List ℕ)) → list_all shape ss ≡ true → list_all test ss ≡ true
   all_of shape long ss h = all_weaker shape test (λ s k. holds s (long s k)) ss h
 
-  one_of : (shape : List ℕ → Bool) → ((s : List ℕ) → shape s ≡ true → IsLong s) → (o : Option (List ℕ)) → has_shape shape o ≡ true → list_all test (option_to_list o) ≡ true
+  one_of : (shape : List ℕ → Bool) → ((s : List ℕ) → shape s ≡ true → IsLong s) → (o : Option (List ℕ)) → option_map_or shape o true ≡ true → list_all test (option_to_list o) ≡ true
   one_of shape long None h = refl
   one_of shape long (Some s) h = and_from (test s) true (holds s (long s h)) refl
 

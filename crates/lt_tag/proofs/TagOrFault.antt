@@ -9,11 +9,11 @@ use Rattle.lt_tag.specs.declared.faults.TagFault.{TagFault}
 use Rattle.lt_tag.specs.declared.faults.TagFaultKind.{TagFaultKind}
 use Rattle.lt_tag.specs.declared.faults.TagFaultKind.TheVariants as kinds
 use Rattle.lt_tag.specs.Parts.{TagForm, LangTag, PrivateUse, Grandfathered}
-use Rattle.lt_tag.specs.Lists.{pieces, list_of}
+use Rattle.lt_tag.specs.Lists.{pieces, list_of, longest_text}
 use Rattle.lt_tag.specs.Listing.{listed, kind_of}
 use Rattle.lt_tag.specs.Grandfathered.{grandfathered_list, IsGrandfathered}
 use Rattle.lt_tag.specs.WellFormed.{spell, IsTag, IsShaped, IsNotGrandfathered, IsFirstMisplaced, Begins}
-use Rattle.lt_tag.specs.Faults.{HasFault, HasTag, longest_text}
+use Rattle.lt_tag.specs.Faults.{HasFault, HasTag}
 use Rattle.lt_tag.specs.Draft.{Draft, begun, drafted, finished}
 use Rattle.lt_tag.proofs.DraftLists.{draft_of}
 use Rattle.lt_tag.proofs.ListedLemmas.{listed-Err}

@@ -2,11 +2,11 @@
 use Rattle.std.specs.Prelude.{ℕ, ◌≡◌, ◌≤◌, ◌↔◌, List, length}
 use Rattle.lt_subtag.specs.Bytes.{folded}
 use Rattle.lt_tag.specs.Parts.{CoreParts, TagForm}
-use Rattle.lt_tag.specs.Lists.{list_of}
+use Rattle.lt_tag.specs.Lists.{list_of, longest_text}
 use Rattle.lt_tag.specs.Grandfathered.{IsGrandfathered}
 use Rattle.lt_tag.specs.Spelling.{spell_core, IsCore}
 use Rattle.lt_tag.specs.WellFormed.{spell, IsTag}
-use Rattle.lt_tag.specs.Faults.{HasList, HasTag, longest_text}
+use Rattle.lt_tag.specs.Faults.{HasList, HasTag}
 use Rattle.lt_tag.specs.Conventional.{conventional}
 
 -- A list is spelled by one core at most.

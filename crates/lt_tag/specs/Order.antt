@@ -12,9 +12,11 @@ use Rattle.lt_tag.specs.Values.{core_of, extensions_of, private_of, number_of}
 abbrev pub subtag_cmp : List ℕ → List ℕ → Ordering
 subtag_cmp = slice_cmp nat_cmp
 
+-- the order of lists of subtags, one subtag after another
 abbrev pub list_cmp : List (List ℕ) → List (List ℕ) → Ordering
 list_cmp = slice_cmp subtag_cmp
 
+-- the order of cores: language, extlangs, script, region, variants
 abbrev pub core_cmp : CoreParts → CoreParts → Ordering
 core_cmp c d =
     ordering_then (subtag_cmp c.language d.language)
@@ -22,9 +24,11 @@ core_cmp c d =
     (ordering_then (option_cmp subtag_cmp c.script d.script)
     (ordering_then (option_cmp subtag_cmp c.region d.region) (list_cmp c.variants d.variants))))
 
+-- the order of extensions: the singleton, then the subtags
 abbrev pub extension_cmp : ExtensionParts → ExtensionParts → Ordering
 extension_cmp a b = ordering_then (nat_cmp a.singleton b.singleton) (list_cmp a.subtags b.subtags)
 
+-- the order of tags: core, extensions, private use, and the number of a grandfathered tag
 abbrev pub tag_cmp : TagForm → TagForm → Ordering
 tag_cmp t u =
     ordering_then (option_cmp core_cmp (core_of t) (core_of u))
@@ -33,17 +37,21 @@ tag_cmp t u =
 
 -- ---- what is fed to a hasher: the parts in that order
 
+-- what is fed of a subtag
 abbrev pub subtag_writes : List ℕ → fed.HashWrites
 subtag_writes = fed.slice fed.u8
 
+-- what is fed of a core
 abbrev pub core_writes : CoreParts → fed.HashWrites
 core_writes c =
     subtag_writes c.language ++ fed.slice subtag_writes c.extlangs ++ fed.option subtag_writes c.script
     ++ fed.option subtag_writes c.region ++ fed.slice subtag_writes c.variants
 
+-- what is fed of an extension
 abbrev pub extension_writes : ExtensionParts → fed.HashWrites
 extension_writes e = fed.u8 e.singleton ++ fed.slice subtag_writes e.subtags
 
+-- what is fed of a tag
 abbrev pub tag_writes : TagForm → fed.HashWrites
 tag_writes t =
     fed.option core_writes (core_of t) ++ fed.slice extension_writes (extensions_of t)

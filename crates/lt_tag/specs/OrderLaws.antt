@@ -12,6 +12,7 @@ use Rattle.lt_tag.specs.Parts.{CoreParts, ExtensionParts, LangTag, PrivateUse, G
 use Rattle.lt_tag.specs.Values.{core_of, extensions_of, private_of, number_of}
 use Rattle.lt_tag.specs.Order.{subtag_cmp, list_cmp, core_cmp, extension_cmp, tag_cmp}
 
+-- the order of cores is total
 pub core_total : IsTotalOrder core_cmp
 core_total =
     then_total (on_total (λ (c : CoreParts). c.language) nat_list_cmp_total)
@@ -19,42 +20,51 @@ core_total =
     (then_total (on_total (λ (c : CoreParts). c.script) (options_total nat_list_cmp_total))
     (then_total (on_total (λ (c : CoreParts). c.region) (options_total nat_list_cmp_total)) (on_total (λ (c : CoreParts). c.variants) (lists_total nat_list_cmp_total)))))
 
+-- the order of extensions is total
 pub extension_total : IsTotalOrder extension_cmp
 extension_total = then_total (on_total (λ (e : ExtensionParts). e.singleton) nat_cmp_total) (on_total (λ (e : ExtensionParts). e.subtags) (lists_total nat_list_cmp_total))
 
+-- the order of tags is total
 pub tag_total : IsTotalOrder tag_cmp
 tag_total =
     then_total (on_total core_of (options_total core_total))
     (then_total (on_total extensions_of (lists_total extension_total))
     (then_total (on_total private_of (lists_total nat_list_cmp_total)) (on_total number_of (options_total nat_cmp_total))))
 
--- what a comparison of two parts says of each
+-- ---- what a comparison of two parts says of each
 
+-- that false is true gives anything
 unequal : {A : Type 0} → false ≡ true → A
 unequal e = absurd (true≢false (sym e))
 
+-- what is equal by two orders is so by the first
 then_first : (r s : Ordering) → ordering_then r s ≡ Equal → r ≡ Equal
 then_first Less s e = unequal (ap is_eq e)
 then_first Equal s e = refl
 then_first Greater s e = unequal (ap is_eq e)
 
+-- and by the second
 then_second : (r s : Ordering) → ordering_then r s ≡ Equal → s ≡ Equal
 then_second Less s e = unequal (ap is_eq e)
 then_second Equal s e = e
 then_second Greater s e = unequal (ap is_eq e)
 
+-- an order that tells any two apart does so too where one may be missing
 options_apart : {A : Type 0} {R : A → A → Ordering} → IsAntisymmetric R → IsAntisymmetric (option_cmp R)
 options_apart same None None e = refl
 options_apart same None (Some y) e = unequal (ap is_eq e)
 options_apart same (Some x) None e = unequal (ap is_eq e)
 options_apart same (Some x) (Some y) e = ap Some (same x y e)
 
+-- the order of subtags tells any two apart
 subtags_apart : IsAntisymmetric subtag_cmp
 subtags_apart = slice_cmp-IsAntisymmetric nat_cmp-IsAntisymmetric
 
+-- and that of lists of subtags
 lists_apart : IsAntisymmetric list_cmp
 lists_apart = slice_cmp-IsAntisymmetric subtags_apart
 
+-- and that of cores
 pub cores_apart : IsAntisymmetric core_cmp
 cores_apart c d e =
     let after_language = then_second _ _ e in
@@ -67,12 +77,14 @@ cores_apart c d e =
     let v = lists_apart c.variants d.variants (then_second _ _ after_script) in
     λ i. record { language = a i; extlangs = b i; script = s i; region = r i; variants = v i }
 
+-- and that of extensions
 pub extensions_apart : IsAntisymmetric extension_cmp
 extensions_apart a b e =
     let s = nat_cmp-IsAntisymmetric a.singleton b.singleton (then_first _ _ e) in
     let l = lists_apart a.subtags b.subtags (then_second _ _ e) in
     λ i. record { singleton = s i; subtags = l i }
 
+-- and that of tags
 pub tags_apart : IsAntisymmetric tag_cmp
 tags_apart (LangTag c es ps) (LangTag d fs qs) e =
     let after_core = then_second _ _ e in

@@ -2,9 +2,10 @@
 -- the relations: what is found is what parts that have their forms spell, and there are no others.
 use Rattle.std.specs.Prelude.{ℕ, Bool, ◌&&◌, if◌then◌else◌, List, [], ◌∷◌, length, Option, Some, None, option_map, nat_lt}
 use Rattle.std.specs.List.{list_all}
+use Rattle.std.specs.Option.{option_map_or}
 use Rattle.lt_subtag.specs.Shapes.{is_language, is_key, is_separator}
 use Rattle.lt_tag.specs.Parts.{CoreParts, KeywordParts, UForm, FieldParts, TForm}
-use Rattle.lt_tag.specs.Spelling.{is_extension_subtag}
+use Rattle.lt_tag.specs.Spelling.{spell_core, is_extension_subtag}
 use Rattle.lt_tag.specs.Extensions.{is_long}
 use Rattle.lt_tag.specs.Growth.{of_language, grown_by}
 
@@ -42,6 +43,7 @@ source_of_list (s ∷ ss) = option_map Some (core_of_list (s ∷ ss))
 abbrev pub are_values : List (List ℕ) → Bool
 are_values values = nat_lt 0 (length values) && list_all is_long values
 
+-- the field has at least one value, and each has its form
 abbrev pub has_values : FieldParts → Bool
 has_values field = are_values field.values
 
@@ -62,3 +64,7 @@ transform_of subtags =
     if nat_lt 0 (length subtags) && list_all has_values (fields_of subtags)
     then option_map (with_fields (fields_of subtags)) (source_of_list (before is_separator subtags))
     else None
+
+-- the subtags of a source, if any (RFC 6497, 2.2)
+abbrev pub spell_source : Option CoreParts → List (List ℕ)
+spell_source source = option_map_or spell_core source []

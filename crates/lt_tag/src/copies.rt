@@ -6,7 +6,8 @@ use crate::faults::OutOfMemory;
 use lt_subtag::Subtag;
 use std::alloc::Global;
 
-/// Equal subtags. Where there are none it takes no memory; it is refused for memory alone.
+/// Equal subtags in a new vector, which takes no memory where there are none. The only refusal is running out
+/// of memory.
 pub fn copy_subtags(alloc: Global, subtags: &[Subtag]) -> Result<Vec<Subtag>, OutOfMemory>
     ensures { IfOk result (λ copy. copy.items ≡ subtags.now) }
 {
@@ -17,7 +18,8 @@ pub fn copy_subtags(alloc: Global, subtags: &[Subtag]) -> Result<Vec<Subtag>, Ou
     Ok(copy)
 }
 
-/// Equal extensions. Where there are none it takes no memory; it is refused for memory alone.
+/// Equal extensions in a new vector, which takes no memory where there are none. The only refusal is running
+/// out of memory.
 pub fn copy_extensions(
     alloc: Global,
     extensions: &[Extension],

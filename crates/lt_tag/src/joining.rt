@@ -1,8 +1,8 @@
 //! Joining parts to `u` and `t` extensions.
 ghost use Rattle.std.specs.Prelude.{◌≡◌, ◌≤◌, ◌++◌, length, flat_map, IfOk, OnOk};
 ghost use Rattle.lt_tag.specs.Spelling.{spell_core};
-ghost use Rattle.lt_tag.specs.Extensions.{unicode, transform, spell_keyword, spell_u, IsU, spell_field, spell_source, spell_t, IsT};
-ghost use Rattle.lt_tag.specs.Values.{most_parts};
+ghost use Rattle.lt_tag.specs.Extensions.{unicode, transform, spell_keyword, spell_u, IsU, spell_field, spell_t, IsT};
+ghost use Rattle.lt_tag.specs.Lists.{longest_text};
 
 use crate::cores::Core;
 use crate::extensions::Extension;
@@ -49,11 +49,12 @@ fn append_core(list: &mut Vec<Subtag>, core: &Core) -> Result<(), OutOfMemory>
     append(list, core.variants())
 }
 
-/// The `u` extension that parts spell (RFC 6067): attributes, then each key and its types. The parts have
-/// their forms, there is at least one, and there are at most 1,024 subtags. The only refusal is running out of memory.
+/// The `u` extension that parts spell (RFC 6067, 2.1): attributes, then each key and its types. The parts have
+/// their forms, there is at least one, and there are at most 1,024 subtags. The only refusal is running out of
+/// memory.
 pub fn join_u(alloc: Global, parts: &UParts) -> Result<Extension, OutOfMemory>
     requires shaped { IsU parts.now }
-    requires few { length (spell_u parts.now) ≤ most_parts }
+    requires few { length (spell_u parts.now) ≤ longest_text }
     ensures { IfOk result (λ extension. extension ≡ record { singleton = unicode; subtags = spell_u parts.now }) }
 {
     let mut subtags = Vec::new(alloc);
@@ -62,12 +63,12 @@ pub fn join_u(alloc: Global, parts: &UParts) -> Result<Extension, OutOfMemory>
     Ok(Extension::of_parts(b'u', subtags))
 }
 
-/// The `t` extension that parts spell (RFC 6497): the source, then each separator and its values. The parts
-/// have their forms, there is at least one, and there are at most 1,024 subtags. The only refusal is want of
-/// memory.
+/// The `t` extension that parts spell (RFC 6497, 2.2): the source, then each separator and its values. The
+/// parts have their forms, there is at least one, and there are at most 1,024 subtags. The only refusal is
+/// running out of memory.
 pub fn join_t(alloc: Global, parts: &TParts) -> Result<Extension, OutOfMemory>
     requires shaped { IsT parts.now }
-    requires few { length (spell_t parts.now) ≤ most_parts }
+    requires few { length (spell_t parts.now) ≤ longest_text }
     ensures { IfOk result (λ extension. extension ≡ record { singleton = transform; subtags = spell_t parts.now }) }
 {
     let mut subtags = Vec::new(alloc);

@@ -33,8 +33,9 @@ impl Room {
     }
 }
 
-/// Whether these are the subtags of a langtag without extensions and private use. A list of one of the
-/// 26 grandfathered tags is none. Takes no memory, and a list of any length.
+/// Whether these are the subtags of a langtag without extensions and private use (RFC 5646, 2.1), as those of
+/// `zh-Hant` are. A list of one of the 26 grandfathered tags is none. It takes a list of any length, and no
+/// memory.
 pub fn is_plain_langtag(subtags: &[Subtag]) -> bool
     ensures { IsTrue result ↔ IsPlainLangTag subtags.now }
 {

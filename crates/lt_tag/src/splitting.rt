@@ -6,8 +6,8 @@ ghost use Rattle.lt_tag.specs.Extensions.{unicode, transform, spell_u, spell_t, 
 ghost use Rattle.lt_tag.specs.Extensions as extensions;
 ghost use Rattle.lt_tag.specs.Splitting.{before, onward, keywords_of, fields_of, has_values, source_of_list};
 ghost use Rattle.lt_tag.specs.Splitting as splitting;
-ghost use Rattle.lt_tag.specs.Values.{most_parts};
 ghost use Rattle.lt_tag.specs.Transform.{IsTransformFault, IsFieldFault, IsSourceFault, no_memory};
+ghost use Rattle.lt_tag.specs.Lists.{longest_text};
 
 use crate::copies::copy_subtags;
 use crate::cores::Core;
@@ -120,7 +120,7 @@ fn read_fields(alloc: Global, subtags: &[Subtag]) -> Result<Vec<Field>, Transfor
 
 /// Reads subtags as a source. Without a subtag there is none.
 fn read_source(alloc: Global, subtags: &[Subtag]) -> Result<Option<Core>, TransformFault>
-    requires { length subtags.now ≤ most_parts }
+    requires { length subtags.now ≤ longest_text }
     ensures source { IfOk result (λ source. source_of_list subtags.now ≡ Some source) }
     ensures fault { IfErr result (λ fault. IsSourceFault fault subtags.now) }
 {
@@ -139,13 +139,14 @@ fn read_source(alloc: Global, subtags: &[Subtag]) -> Result<Option<Core>, Transf
     Ok(Some(core))
 }
 
-/// The parts that spell a `u` extension (RFC 6067). There is one such value for each `u` extension: its keys
-/// are the subtags of 2, its attributes what is before the first key, and what is between a key and
-/// the next are the types of the key. The only refusal is running out of memory.
+/// The parts that spell a `u` extension (RFC 6067, 2.1). There is one such value for each `u` extension: its
+/// keys are the subtags of 2, its attributes what is before the first key, and what is between a key and the
+/// next are the types of the key. So `u-attr-co-trad` has the attribute `attr` and the keyword `co-trad`. The
+/// only refusal is running out of memory.
 pub fn split_u(alloc: Global, extension: &Extension) -> Result<UParts, OutOfMemory>
     requires { extension.now.singleton ≡ unicode }
     ensures parts { IfOk result (λ parts. IsUnicode extension.now.subtags parts) }
-    ensures few { IfOk result (λ parts. length (spell_u parts) ≤ most_parts) }
+    ensures few { IfOk result (λ parts. length (spell_u parts) ≤ longest_text) }
 {
     let subtags = extension.subtags();
     let (attributes, keywords) = before_key(subtags);
@@ -155,13 +156,14 @@ pub fn split_u(alloc: Global, extension: &Extension) -> Result<UParts, OutOfMemo
     })
 }
 
-/// The parts that spell a `t` extension (RFC 6497): a source, fields, or a source and fields after it. There is
-/// at most one such value. BadTransform comes exactly where there is none; the tag is well-formed all the same.
-/// A separator may occur twice.
+/// The parts that spell a `t` extension (RFC 6497, 2.2): a source, fields, or a source and fields after it. So
+/// `t-he-m0-true` has the source `he` and the field `m0-true`. There is at most one such value. `BadTransform`
+/// comes exactly where there is none; the tag is well-formed all the same. A separator may occur twice. The
+/// other refusal is running out of memory.
 pub fn split_t(alloc: Global, extension: &Extension) -> Result<TParts, TransformFault>
     requires { extension.now.singleton ≡ transform }
     ensures parts { IfOk result (λ parts. IsTransform extension.now.subtags parts) }
-    ensures few { IfOk result (λ parts. length (spell_t parts) ≤ most_parts) }
+    ensures few { IfOk result (λ parts. length (spell_t parts) ≤ longest_text) }
     ensures fault { IfErr result (λ fault. IsTransformFault fault extension.now.subtags) }
 {
     let subtags = extension.subtags();

@@ -1,3 +1,4 @@
+//! Subtags and tags, by their topics.
 mod cores;
 mod displays;
 mod growths;

@@ -1,7 +1,7 @@
 //! A small registry, modelled on IANA's: `examples/sample-registry.txt` has its text.
 use std::alloc::{AllocError, Global};
 
-/// A record: type, name, preferred value and prefix. An empty text stands for no field.
+/// A record: type, name, preferred value and prefix. Where there is no such field its text is empty.
 pub type Row = (&'static str, &'static str, &'static str, &'static str);
 
 /// The records after the header, 2 to 47.

@@ -6,4 +6,5 @@ pub mod Printed
 pub mod Registries
 pub mod TagCommands
 pub mod UpgradeCommand
+pub mod Verified
 pub mod Program

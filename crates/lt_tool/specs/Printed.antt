@@ -28,6 +28,7 @@ use Rattle.lt_tool.specs.declared.lines.Answer.{Answer}
 use Rattle.lt_tag.specs.declared.faults.OutOfMemory.{OutOfMemory}
 use Rattle.lt_tool.specs.TagCommands.{Compares, Explains, FormsExtlang}
 use Rattle.lt_tool.specs.UpgradeCommand.{UpgradesFiles}
+use Rattle.lt_tool.specs.Verified.{Verifies}
 use Rattle.lt_tool.specs.Streams.{IsUntouched, Stream}
 use Rattle.lt_tool.specs.Written.{LacksMemory, Prints, Says}
 use Rattle.lt_tool.specs.declared.status.Status.{Status}
@@ -93,7 +94,8 @@ abbrev pub PrintsByFile : {F O E : Type 0} → (Reading → List ℕ → Status 
 PrintsByFile IsAnswer file output errors result =
     ReadsFile file (λ reading. PrintsOrLacks (IsAnswer reading) output errors result)
 
--- what a run of a command read of the files and of its input, what it wrote to its output and its errors, and its exit status
+-- what a run of a command read of the files and of its input, what it wrote to its output and its errors, and its
+-- exit status
 abbrev pub Performs : {F G I O E : Type 0} → Command → Stream F → Stream G → Stream I → Stream O → Stream E → ℕ → Type 0
 Performs (command.Classify tag) first second input output errors result =
     IsUntouched first × IsUntouched second × IsUntouched input
@@ -113,6 +115,9 @@ Performs (command.Equal name tag other) first second input output errors result 
 Performs (command.Explain name tag) first second input output errors result =
     IsUntouched second × IsUntouched input
     × PrintsByFile (ByRegistry (λ R. Explains R (string_bytes tag))) first output errors result
+Performs (command.Verify name tag) first second input output errors result =
+    IsUntouched second
+    × ReadsFile first (Verifies (λ IsAnswer. PrintsOrLacks IsAnswer output errors result) (string_bytes tag) input output errors result)
 Performs (command.Upgrade old new) first second input output errors result =
     IsUntouched input × UpgradesFiles first second (λ IsAnswer. PrintsOrLacks IsAnswer output errors result)
 

@@ -48,6 +48,7 @@ pub record Opener (P F : Type 0) : Type 1 where
   pub before : P
   pub after : P
 
+-- what opens files, by its calls, the bytes of a file, and its two states
 abbrev pub opener_of : {P F : Type 0} → (P → List ℕ → Result F Error → P → Type 0) → (F → Option (List ℕ)) → (before after : P) → Opener P F
 opener_of calls bytes before after = record { calls = calls; bytes = bytes; before = before; after = after }
 
@@ -74,13 +75,13 @@ abbrev pub GoesOn : {F : Type 0} → Result F Error → (Device F → Type 0) �
 GoesOn {F} (Ok file) Goes Ends = (device : Device F) × IsNew file device × Goes device
 GoesOn {F} (Err error) Goes Ends = Ends error
 
--- the file that a name stands for: `-` is the standard input, unless that is read otherwise
+-- the path of the file that a name means: `-` is the standard input, unless that is read otherwise
 abbrev pub IsPath : (taken : Bool) → (name path : List ℕ) → Type 0
 IsPath taken name path =
     ((taken ≡ false) × (name ≡ codes "-") × (path ≡ codes "/dev/stdin"))
     ⊎ (((taken ≡ true) ⊎ (name ≢ codes "-")) × (path ≡ name))
 
--- the file that a name stands for is opened, and then the run goes on so, or ends so, from this state of the opener
+-- the file that a name means is opened, and then the run goes on so, or ends so, from this state of the opener
 pub record Opens {P F : Type 0} (calls : P → List ℕ → Result F Error → P → Type 0) (before : P) (taken : Bool) (name : List ℕ)
     (Goes : P → Device F → Type 0) (Ends : P → Error → Type 0) : Type 0 where
   pub path : List ℕ

@@ -25,7 +25,8 @@ use Rattle.lt_tool.specs.declared.status.Status.TheVariants as status
 abbrev pub Reading : Type 0
 Reading = Result (List EntryParts) RegistryFault
 
--- A file was read, and this holds of what the reading gave. `ReadsRegistry` says what that is for the bytes that were read.
+-- A file was read, and this holds of what the reading gave. `ReadsRegistry` says what that is for the bytes that
+-- were read.
 pub record ReadsFile {F : Type 0} (file : Stream F) (Holds : Reading → Type 0) : Type 0 where
   pub reading : Reading
   pub reads : ReadsRegistry file.bytes file.before file.after reading
@@ -56,12 +57,15 @@ IsJudged reading (Err refusal) = IsRegistryRefusal reading refusal
 
 -- ---- what is printed
 
+-- the line for a fault of the file
 abbrev pub jar_line : List ℕ → ℕ → List ℕ
 jar_line name line = codes "jar " ++ name ++ codes " line " ++ decimal line ++ 10 ∷ []
 
+-- the line for a fault of a record
 abbrev pub record_line : ℕ → List ℕ → List ℕ
 record_line number name = codes "record " ++ decimal number ++ 32 ∷ [] ++ name ++ 10 ∷ []
 
+-- the line for a condition that is not met
 abbrev pub check_line : List ℕ → ℕ → List ℕ
 check_line code number = codes "check " ++ code ++ codes " record " ++ decimal number ++ 10 ∷ []
 

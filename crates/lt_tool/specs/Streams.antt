@@ -8,6 +8,7 @@ pub record Stream (T : Type 0) : Type 0 where
   pub before : Device T
   pub after : Device T
 
+-- a device, by its bytes and what it was before and after
 abbrev pub stream : {T : Type 0} → (T → Option (List ℕ)) → (before after : Device T) → Stream T
 stream bytes before after = record { bytes = bytes; before = before; after = after }
 

@@ -56,6 +56,7 @@ abbrev pub equality_line : Bool → List ℕ
 equality_line true = codes "equal" ++ 10 ∷ []
 equality_line false = codes "different" ++ 10 ∷ []
 
+-- whether the tags of two texts are equivalent, and the line that says so
 pub record PrintsEquality (R : List EntryParts) (first second line : List ℕ) (answer : Bool) : Type 0 where
   pub is_answer : IsEqualityOf R first second answer
   pub line_is : line ≡ equality_line answer

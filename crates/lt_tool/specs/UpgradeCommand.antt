@@ -27,9 +27,11 @@ pub record RefusesMarked (mark : List ℕ) (reading : Reading) (line : List ℕ)
   pub refuses : RefusesRegistry reading rest end
   pub marked : line ≡ mark ++ rest
 
+-- the mark of the older registry
 abbrev pub old_mark : List ℕ
 old_mark = codes "old "
 
+-- the mark of the newer registry
 abbrev pub new_mark : List ℕ
 new_mark = codes "new "
 

@@ -16,13 +16,15 @@ pub record Says {E : Type 0} (errors : Stream E) (text : List ℕ) : Type 0 wher
   pub all : ((written ≡ text) × (failures_of errors.after ≡ failures_of errors.before))
       ⊎ HasFailed errors.before errors.after
 
--- the lines that name a failure
+-- the line for an output that fails
 abbrev pub write_line : List ℕ
 write_line = codes "! Write" ++ 10 ∷ []
 
+-- the line for a file that can't be opened
 abbrev pub file_line : List ℕ
 file_line = codes "! File" ++ 10 ∷ []
 
+-- the line for running out of memory
 abbrev pub memory_line : List ℕ
 memory_line = codes "! OutOfMemory" ++ 10 ∷ []
 

@@ -1,4 +1,5 @@
-//! The program `langtag`: what its commands print, and its statuses.
+//! The program `langtag`: what its commands print, and its statuses. A program of your own begins with the
+//! crate `bcp47`.
 #![tactic(auto)]
 
 mod lines;
@@ -8,6 +9,7 @@ mod registries;
 mod status;
 mod tag_commands;
 mod upgrade_command;
+mod verifying;
 
 pub use lt_lines::{Counts, LineForm, ToolFault, run_lines};
 pub use lt_words::{Command, WordsFault, read_words};

@@ -13,11 +13,13 @@ use std::alloc::Global;
 /// A line, and the status of a run that prints it.
 #[derive(Drop)]
 pub struct Answer {
+    /// The bytes that are printed, with the line feed.
     pub line: Vec<u8>,
+    /// How the run ends.
     pub status: Status,
 }
 
-/// The word for a class.
+/// The word for a class: `langtag`, `privateuse` or `grandfathered`.
 fn class_name(class: Class) -> &'static str
     ensures { result.now ≡ class_word class }
 {
@@ -54,7 +56,8 @@ pub(crate) fn answer_refusal(alloc: Global, refusal: &TextRefusal) -> Result<Ans
     })
 }
 
-/// What `classify` answers to a text.
+/// What `classify` answers to a text: `grandfathered en-GB-oed` to `EN-gb-OED`, or the line of a refusal. The
+/// only refusal of its own is running out of memory.
 pub fn classify(alloc: Global, text: &[u8]) -> Result<Answer, OutOfMemory>
     ensures { IfOk result (λ answer. Classifies text.now answer.line.items answer.status) }
 {

@@ -12,6 +12,7 @@ use crate::registries::{check, read_registry, refuse};
 use crate::status::Status;
 use crate::tag_commands::{equal, explain, extlang};
 use crate::upgrade_command::upgrade;
+use crate::verifying::verify;
 use lt_jar::Device;
 use lt_lines::{Counts, LineForm, ToolFault, run_lines, write_text};
 use lt_tag::OutOfMemory;
@@ -68,7 +69,7 @@ fn end_run<E: Write>(end: Result<Counts, ToolFault>, errors: &mut Device<E>) -> 
 }
 
 /// Prints an answer, or says that memory ran out.
-fn print_answer<O: Write, E: Write>(
+pub(crate) fn print_answer<O: Write, E: Write>(
     answer: Result<Answer, OutOfMemory>,
     output: &mut Device<O>,
     errors: &mut Device<E>,
@@ -131,18 +132,21 @@ fn run<F: Read, G: Read, I: Read, O: Write, E: Write>(
         Command::Explain(_, tag) => {
             print_answer(explain(alloc, first, tag.as_bytes()), output, errors)
         }
+        Command::Verify(_, tag) => verify(alloc, first, tag.as_bytes(), input, output, errors),
         Command::Upgrade(_, _) => print_answer(upgrade(alloc, first, second), output, errors),
     }
 }
 
-/// Does what a command asks for, and answers the exit status.
+/// Does what a command asks for, and answers the exit status, 0 to 4.
 ///
-/// `first` and `second` are the files that the command names, in order; one that it does not name is left as it is,
-/// and so is the second of `upgrade` where the first is refused. A file is read record by record, up to its end or
-/// the first line at fault. The answer is written to `output` at once; `canon` and `tsv` answer the lines of `input` as
-/// they come. A read of a file that fails, or is one too many, is answered as a fault of the file. A write to `output` that
-/// fails, a read of `input` that fails, and an allocation that fails are named on `errors`; a write
-/// there that fails is counted by the device alone.
+/// `first` and `second` are the files that the command names, in order; one that it does not name is left as it
+/// is, and so is the second of `upgrade` where the first is refused. A file is read record by record, up to its
+/// end or the first line at fault. The answer is written to `output` at once; `canon` and `tsv` answer the
+/// lines of `input` as they come, and `verify` reads them up to the first that settles its answer.
+///
+/// A read of a file that fails, or is one too many, is answered as a fault of the file. A write to `output`
+/// that fails, a read of `input` that fails, and an allocation that fails are named on `errors`; a write there
+/// that fails is counted by the device alone.
 pub fn perform<F: Read, G: Read, I: Read, O: Write, E: Write>(
     alloc: Global,
     command: &Command,
@@ -159,7 +163,7 @@ pub fn perform<F: Read, G: Read, I: Read, O: Write, E: Write>(
     run(alloc, command, first, second, input, output, errors).code()
 }
 
-/// Says that a file can't be read, and answers the exit status.
+/// Says that a file can't be opened, by `! File` on `errors`, and answers the exit status, 4.
 pub fn report_file<E: Write>(errors: &mut Device<E>) -> u8
     ensures status { result ≡ code_of Failed }
     ensures said { Says (stream E.contents errors.old errors.new) file_line }
@@ -168,7 +172,8 @@ pub fn report_file<E: Write>(errors: &mut Device<E>) -> u8
     Status::Failed.code()
 }
 
-/// Says why the words are no command, and answers the exit status.
+/// Says why the words are no command, and answers the exit status: 0 for help and the version, 3 for words that
+/// name no command, 4 where memory ran out or a write to `output` failed.
 ///
 /// Help and the version go to `output`, and any other fault to `errors`.
 pub fn report<O: Write, E: Write>(

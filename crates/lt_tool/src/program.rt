@@ -34,7 +34,7 @@ fn command_of(alloc: Global, words: io::Result<Vec<String>>) -> Result<Command, 
 /// The path of the standard input.
 const INPUT_PATH: &str = "/dev/stdin";
 
-/// The file that a name stands for: `-` is the standard input, unless that is read otherwise.
+/// The path of the file that a name means: `-` is the standard input, unless that is read otherwise.
 fn path_of<'a>(name: &'a str, is_taken: bool) -> &'a str
     ensures { IsPath is_taken name.entry.now result.now }
 {
@@ -160,14 +160,15 @@ fn run_command<F: Read + Drop, P: FnMut(&str) -> io::Result<F>, I: Read, O: Writ
     }
 }
 
-/// Runs the program by the words of its command line, of which the first is its name, and answers the exit status.
+/// Runs the program by the words of its command line, of which the first is its name, and answers the exit
+/// status, 0 to 4.
 ///
-/// `opener` opens the files that the words name: the first, and then the second, where a command names two. One that
-/// can't be opened ends the run by `! File` on `errors`, and the status 4. The name `-` stands for the standard input
-/// where the command doesn't read `input`. Where the command reads `input`, it is
-/// asked for no bytes before a file is opened, so that one that is closed is not taken for a file that is opened in
-/// its place: it ends the run by `! Read`, and the status 4. Then [`perform`] does what the command asks for, or
-/// [`report`] says why the words name none.
+/// `opener` opens the files that the words name: the first, and then the second, where a command names two. One
+/// that can't be opened ends the run by `! File` on `errors`, and the status 4. The name `-` is the standard
+/// input where the command doesn't read `input`. Where the command reads `input`, it is asked for no bytes
+/// before a file is opened, so that one that is closed is not taken for a file that is opened in its place: it
+/// ends the run by `! Read`, and the status 4. Then [`perform`] does what the command asks for, or [`report`]
+/// says why the words name none.
 pub fn run_program<F: Read + Drop, P: FnMut(&str) -> io::Result<F>, I: Read, O: Write, E: Write>(
     alloc: Global,
     words: io::Result<Vec<String>>,

@@ -5,9 +5,9 @@ ghost use Rattle.lt_tool.specs.Codes.{code_of};
 /// How a run of the program ended.
 #[derive(Clone, Copy, Debug, PartialEq, Eq)]
 pub enum Status {
-    /// All that was asked for was done.
+    /// All that was asked for was done, help and the version included.
     Done = 0,
-    /// A tag was refused.
+    /// A tag or a row was refused, two tags are different, or lines explain no tag.
     Refused = 1,
     /// A registry or an upgrade was refused.
     RegistryRefused = 2,
@@ -18,7 +18,7 @@ pub enum Status {
 }
 
 impl Status {
-    /// The exit status.
+    /// The exit status, 0 to 4.
     pub fn code(self) -> u8
         ensures { result ≡ code_of self }
     {

@@ -7,6 +7,7 @@ mod rows;
 mod sample;
 mod tags;
 mod upgrades;
+mod verified;
 
 use lt_jar::Device;
 use lt_tool::{Command, Status, ToolFault, WordsFault, perform, read_words, report, report_file};
@@ -85,7 +86,7 @@ const HELPS: [(&[&str], &str); 6] = [
     (&["classify", "--help"], "Usage: langtag classify <TAG>"),
     (
         &["canon", "--help"],
-        "  1  a tag was refused, or the tags are different\n",
+        "  1  a tag was refused, or the tags are different, or the steps are no explanation\n",
     ),
 ];
 
@@ -113,7 +114,7 @@ fn words_that_ask_for_the_version(rt: HostRuntime) {
 }
 
 /// Words, and the file that their command names first.
-const FILES: [(&[&str], Option<&str>); 8] = [
+const FILES: [(&[&str], Option<&str>); 9] = [
     (&["classify", "en"], None),
     (&["check", "registry"], Some("registry")),
     (&["canon", "registry"], Some("registry")),
@@ -121,6 +122,7 @@ const FILES: [(&[&str], Option<&str>); 8] = [
     (&["extlang", "registry", "en"], Some("registry")),
     (&["equal", "registry", "en", "fr"], Some("registry")),
     (&["explain", "registry", "en"], Some("registry")),
+    (&["verify", "registry", "en"], Some("registry")),
     (&["upgrade", "registry", "newer"], Some("registry")),
 ];
 
@@ -145,6 +147,7 @@ fn reads_input(read: &Result<Command, WordsFault>) -> bool {
 fn commands_that_read_the_input(rt: HostRuntime) {
     assert!(rt; reads_input(&read(rt.alloc(), &["canon", "registry"])));
     assert!(rt; reads_input(&read(rt.alloc(), &["tsv", "registry", "1"])));
+    assert!(rt; reads_input(&read(rt.alloc(), &["verify", "registry", "en"])));
     assert!(rt; !reads_input(&read(rt.alloc(), &["check", "registry"])));
 }
 

@@ -1,11 +1,11 @@
 -- What decides the conditions on an upgrade that speak of one subtag after another.
 use Rattle.std.proofs.Common.{◌≡◌, ◌↔◌, ℕ, Bool, true, false, ◌&&◌, cond, List, [], ◌∷◌, length, Option, Some, None, refl, sym, ap, ◌∙◌, subst, IsTrue, is_some, bytes_eq, arith}
-use Rattle.std.specs.Prelude.{slice_index_or}
+use Rattle.std.specs.Prelude.{slice_index_or, unwrap_or}
 use Rattle.std.specs.List.{list_all, list_any}
-use Rattle.std.specs.Option.{option_and_then}
+use Rattle.std.specs.Option.{option_and_then, option_map_or}
 use Rattle.std.proofs.lemmas.Slice.Eq.{bytes_eq-Decides}
 use Rattle.lt_registry.specs.Parts.{EntryParts}
-use Rattle.lt_registry.specs.Entries.{value, one_of, value_or, entry, is_short, is_registered, language_value, prefixes_of, lists}
+use Rattle.lt_registry.specs.Entries.{preferred_value, one_of, entry, is_short, is_registered, language_value, has_prefix}
 use Rattle.lt_registry.specs.Same.{same_kind, same_list}
 use Rattle.lt_registry.specs.declared.entries.Kind.{Kind}
 use Rattle.lt_registry.specs.declared.entries.Kind.TheVariants as kinds
@@ -74,47 +74,47 @@ ends_kept B e s v b n o k h = (
 )
 
 -- an extlang in the newer registry
-pub extlang_compared : (B : List EntryParts) (e f : EntryParts) (s old new : List ℕ) (b : Bool) → entry B kinds.Extlang s ≡ Some f → f.prefixes ≡ e.prefixes → old ≡ value_or (one_of e.value) s → new ≡ value_or (one_of f.value) s → IsTrue b ↔ SameEnd (next_value B kinds.Language) old new → IsTrue b ↔ IsSameExtlang B e s
+pub extlang_compared : (B : List EntryParts) (e f : EntryParts) (s old new : List ℕ) (b : Bool) → entry B kinds.Extlang s ≡ Some f → f.prefixes ≡ e.prefixes → old ≡ unwrap_or (one_of e.value) s → new ≡ unwrap_or (one_of f.value) s → IsTrue b ↔ SameEnd (next_value B kinds.Language) old new → IsTrue b ↔ IsSameExtlang B e s
 extlang_compared B e f s old new b there same o n h = (
-  (λ x. record { newer = f; there = there; prefixes = same; ends = subst (λ z. SameEnd (value B kinds.Language) z (value_or (one_of f.value) s)) o (subst (λ z. SameEnd (value B kinds.Language) old z) n (h.0 x)) }),
+  (λ x. record { newer = f; there = there; prefixes = same; ends = subst (λ z. SameEnd (preferred_value B kinds.Language) z (unwrap_or (one_of f.value) s)) o (subst (λ z. SameEnd (preferred_value B kinds.Language) old z) n (h.0 x)) }),
   (λ (k : IsSameExtlang B e s).
       let t = k.there in
       let is : k.newer ≡ f = cc in
-      let right : value_or (one_of k.newer.value) s ≡ new = ap (λ (z : EntryParts). value_or (one_of z.value) s) is ∙ sym n in
-      h.1 (subst (λ z. SameEnd (value B kinds.Language) z new) (sym o) (subst (λ z. SameEnd (value B kinds.Language) (value_or (one_of e.value) s) z) right k.ends))),
+      let right : unwrap_or (one_of k.newer.value) s ≡ new = ap (λ (z : EntryParts). unwrap_or (one_of z.value) s) is ∙ sym n in
+      h.1 (subst (λ z. SameEnd (preferred_value B kinds.Language) z new) (sym o) (subst (λ z. SameEnd (preferred_value B kinds.Language) (unwrap_or (one_of e.value) s) z) right k.ends))),
 )
 
 -- sets of Prefixes
 
 within_each : (ps qs : List (List (List ℕ))) → within_test ps qs ≡ list_all (is_among qs) ps
 within_each [] qs = refl
-within_each ((l ∷ []) ∷ ps) qs = ap (λ b. lists qs l && b) (within_each ps qs)
+within_each ((l ∷ []) ∷ ps) qs = ap (λ b. has_prefix qs l && b) (within_each ps qs)
 within_each ([] ∷ ps) qs = within_each ps qs
 within_each ((l ∷ m ∷ r) ∷ ps) qs = within_each ps qs
 
-pub languages_compared : (ps qs : List (List (List ℕ))) (r : Bool) → list_all (is_among qs) ps ≡ true → r ≡ list_all (is_among ps) qs → IsTrue r ↔ ((l : List ℕ) → lists ps l ≡ lists qs l)
+pub languages_compared : (ps qs : List (List (List ℕ))) (r : Bool) → list_all (is_among qs) ps ≡ true → r ≡ list_all (is_among ps) qs → IsTrue r ↔ ((l : List ℕ) → has_prefix ps l ≡ has_prefix qs l)
 languages_compared ps qs r all same =
     let d = Decides-same_prefix ps qs in
     let t : same_prefix_test ps qs ≡ r = ap (λ b. b && within_test qs ps) (within_each ps qs ∙ all) ∙ within_each qs ps ∙ sym same in
     ((λ h. d.0 (t ∙ h)), (λ k. sym t ∙ d.1 k))
 
-pub languages_apart : (ps qs : List (List (List ℕ))) (r : Bool) → r ≡ list_all (is_among qs) ps → r ≡ false → IsTrue r ↔ ((l : List ℕ) → lists ps l ≡ lists qs l)
+pub languages_apart : (ps qs : List (List (List ℕ))) (r : Bool) → r ≡ list_all (is_among qs) ps → r ≡ false → IsTrue r ↔ ((l : List ℕ) → has_prefix ps l ≡ has_prefix qs l)
 languages_apart ps qs r same none =
     let d = Decides-same_prefix ps qs in
     let t : same_prefix_test ps qs ≡ r = ap (λ b. b && within_test qs ps) (within_each ps qs ∙ sym same ∙ none) ∙ sym none in
     ((λ h. d.0 (t ∙ h)), (λ k. sym t ∙ d.1 k))
 
 -- a variant with a language value in the newer registry
-pub turn_compared : (B : List EntryParts) (e f : EntryParts) (s v w : List ℕ) (b : Bool) → entry B kinds.Variant s ≡ Some f → one_of f.value ≡ Some w → is_short w ≡ true → ((l : List ℕ) → lists f.prefixes l ≡ lists e.prefixes l) → IsTrue b ↔ SameEnd (next_value B kinds.Language) v w → IsTrue b ↔ IsSameTurn B e s v
+pub turn_compared : (B : List EntryParts) (e f : EntryParts) (s v w : List ℕ) (b : Bool) → entry B kinds.Variant s ≡ Some f → one_of f.value ≡ Some w → is_short w ≡ true → ((l : List ℕ) → has_prefix f.prefixes l ≡ has_prefix e.prefixes l) → IsTrue b ↔ SameEnd (next_value B kinds.Language) v w → IsTrue b ↔ IsSameTurn B e s v
 turn_compared B e f s v w b there gives short same h =
     let short_of : List ℕ → Option (List ℕ) = λ x. cond (is_short x) (Some x) None in
     let has : language_value B s ≡ Some w =
     ap (λ o. option_and_then short_of (option_and_then (λ (x : EntryParts). one_of x.value) o)) there ∙ ap (option_and_then short_of) gives ∙ ap (λ b. cond b (Some w) None) short in (
-      (λ x. record { newer = w; has = has; prefixes = λ l. ap (λ o. lists (prefixes_of o) l) there ∙ same l; ends = h.0 x }),
+      (λ x. record { newer = w; has = has; prefixes = λ l. ap (λ o. has_prefix (option_map_or (λ (e : EntryParts). e.prefixes) o []) l) there ∙ same l; ends = h.0 x }),
       (λ (k : IsSameTurn B e s v).
           let t = k.has in
           let is : k.newer ≡ w = cc in
-          h.1 (subst (λ z. SameEnd (value B kinds.Language) v z) is k.ends)),
+          h.1 (subst (λ z. SameEnd (preferred_value B kinds.Language) v z) is k.ends)),
     )
 
 -- a variant with a language value that the older registry has

@@ -2,15 +2,16 @@
 use Rattle.std.proofs.Common.{◌≡◌, ℕ, ◌⊎◌, inl, inr, true, cond, List, [], ◌∷◌, ◌++◌, Option, Some, None, refl, sym, ap, ◌∙◌, subst}
 use Rattle.std.specs.List.{AllByRecursion}
 use Rattle.std.proofs.lemmas.Slice.Eq.{bytes_eq-Decides}
+use Rattle.std.specs.Prelude.{unwrap_or}
 use Rattle.lt_tag.specs.Parts.{CoreParts}
 use Rattle.lt_registry.specs.Parts.{EntryParts}
-use Rattle.lt_registry.specs.Entries.{is_named, holds, one_of, value, value_or, prefixes, lists, variant_value, language_value, replacement, is_registered}
+use Rattle.lt_registry.specs.Entries.{is_named, holds, one_of, preferred_value, prefixes, has_prefix, variant_value, language_value, replacement, is_registered}
 use Rattle.lt_registry.specs.Validity.{ExtlangsFit, IsProperCore}
 use Rattle.lt_registry.specs.declared.entries.Kind.{Kind}
 use Rattle.lt_registry.specs.declared.entries.Kind.TheVariants as kinds
 use Rattle.lt_registry.specs.declared.entries.EntryName.{EntryName}
 use Rattle.lt_registry.specs.declared.entries.EntryName.TheVariants as names
-use Rattle.lt_rewrite.specs.CoreSteps.{values_of, CoreStep, by_extlang, by_language, by_script, by_region, by_variant, by_turn}
+use Rattle.lt_rewrite.specs.CoreSteps.{values_of, CoreStep, by_extlang, by_language, by_script, by_region, by_variant, by_variant_language}
 use Rattle.lt_rewrite.specs.Conditions.{next_value, HasNoRangeValue}
 use Rattle.lt_rewrite.proofs.CoreLaws.{normal_core, cores_formed, one_end_one_form}
 use Rattle.lt_rewrite.proofs.Entries.{entry_of, ValuedEntry, valued, valued_has, variant_value_is, language_value_is, turn_is, prefixes_at}
@@ -49,27 +50,27 @@ module _ (A B : List EntryParts) (CA : IsChecked A) (CB : IsChecked B) (U : Upgr
   one_end : (f : List ℕ → Option (List ℕ)) (at : List ℕ → CoreParts) → ((s t : List ℕ) → f s ≡ Some t → CoreStep (values_of B) (at s) (at t)) → (s t : List ℕ) → SameEnd f s t → new_form (at s) ≡ new_form (at t)
   one_end f at step s t h = one_end_one_form B (core_conditions B CB.passes) f at step s t h.end h.left h.right
 
-  language_same : (c : CoreParts) (a b : List ℕ) → SameEnd (value B kinds.Language) a b → c.extlangs ≡ [] → new_form (record c { language = a }) ≡ new_form (record c { language = b })
-  language_same c a b h alone = one_end (value B kinds.Language) (λ u. record c { language = u }) (λ s t e. by_language t (record { alone = alone; has = e; result = refl })) a b h
+  language_same : (c : CoreParts) (a b : List ℕ) → SameEnd (preferred_value B kinds.Language) a b → c.extlangs ≡ [] → new_form (record c { language = a }) ≡ new_form (record c { language = b })
+  language_same c a b h alone = one_end (preferred_value B kinds.Language) (λ u. record c { language = u }) (λ s t e. by_language t (record { alone = alone; has = e; result = refl })) a b h
 
   same_turn : (v m : List ℕ) → language_value A v ≡ Some m → (n : ValuedEntry A kinds.Variant v m) → IsSameTurn B n.at v m
   same_turn v m h n =
       let has : KeepsTurn B n.at = valued_has A kinds.Variant v m (KeepsTurn B) (U upgrades.SameTurn) n in
       has v m n.of_kind (valued_single A CA kinds.Variant v m n) n.gives (language_value_is A v m h).1
 
-  turn_both : (l v m : List ℕ) → (values_of A).turn l v ≡ Some m → (w : List ℕ) × ((values_of B).turn l v ≡ Some w) × SameEnd (value B kinds.Language) m w
+  turn_both : (l v m : List ℕ) → (values_of A).variant_language l v ≡ Some m → (w : List ℕ) × ((values_of B).variant_language l v ≡ Some w) × SameEnd (preferred_value B kinds.Language) m w
   turn_both l v m h =
       let t = turn_is A l v m h in
       let n : ValuedEntry A kinds.Variant v m = valued A kinds.Variant v m (language_value_is A v m t.1).0 in
       let k : IsSameTurn B n.at v m = same_turn v m t.1 n in
-      let listed : lists (prefixes B kinds.Variant v) l ≡ true = k.prefixes l ∙ ap (λ ps. lists ps l) (sym (prefixes_at A kinds.Variant v n.at n.found)) ∙ t.0 in
+      let listed : has_prefix (prefixes B kinds.Variant v) l ≡ true = k.prefixes l ∙ ap (λ ps. has_prefix ps l) (sym (prefixes_at A kinds.Variant v n.at n.found)) ∙ t.0 in
       (k.newer, ap (λ b. cond b (language_value B v) None) listed ∙ k.has, k.ends)
 
   -- what turns by the new registry turns by the old one
-  turn_back : (l u : List ℕ) → is_registered A kinds.Variant u ≡ true → (values_of A).turn l u ≡ None → (values_of B).turn l u ≡ None
-  turn_back l u r h = by ((values_of B).turn l u) refl
+  turn_back : (l u : List ℕ) → is_registered A kinds.Variant u ≡ true → (values_of A).variant_language l u ≡ None → (values_of B).variant_language l u ≡ None
+  turn_back l u r h = by ((values_of B).variant_language l u) refl
     where
-      old : (w : List ℕ) → (values_of B).turn l u ≡ Some w → (x : List ℕ) × (language_value A u ≡ Some x)
+      old : (w : List ℕ) → (values_of B).variant_language l u ≡ Some w → (x : List ℕ) × (language_value A u ≡ Some x)
       old w e =
           let t = turn_is B l u w e in
           let p = language_value_is B u w t.1 in
@@ -77,24 +78,24 @@ module _ (A B : List EntryParts) (CA : IsChecked A) (CB : IsChecked B) (U : Upgr
           let had : HadTurn A n.at = valued_has B kinds.Variant u w (HadTurn A) (U upgrades.NoNewTurn) n in
           had u w n.of_kind (valued_single B CB kinds.Variant u w n) n.gives p.1 r
 
-      again : (w : List ℕ) → (values_of B).turn l u ≡ Some w → ⊥
+      again : (w : List ℕ) → (values_of B).variant_language l u ≡ Some w → ⊥
       again w e =
           let x = old w e in
           let n : ValuedEntry A kinds.Variant u x.0 = valued A kinds.Variant u x.0 (language_value_is A u x.0 x.1).0 in
           let k : IsSameTurn B n.at u x.0 = same_turn u x.0 x.1 n in
-          let listed : lists (prefixes A kinds.Variant u) l ≡ true = ap (λ ps. lists ps l) (prefixes_at A kinds.Variant u n.at n.found) ∙ sym (k.prefixes l) ∙ (turn_is B l u w e).0 in
-          let some : (values_of A).turn l u ≡ Some x.0 = ap (λ b. cond b (language_value A u) None) listed ∙ x.1 in
+          let listed : has_prefix (prefixes A kinds.Variant u) l ≡ true = ap (λ ps. has_prefix ps l) (prefixes_at A kinds.Variant u n.at n.found) ∙ sym (k.prefixes l) ∙ (turn_is B l u w e).0 in
+          let some : (values_of A).variant_language l u ≡ Some x.0 = ap (λ b. cond b (language_value A u) None) listed ∙ x.1 in
           cc
 
-      by : (o : Option (List ℕ)) → (values_of B).turn l u ≡ o → (values_of B).turn l u ≡ None
+      by : (o : Option (List ℕ)) → (values_of B).variant_language l u ≡ o → (values_of B).variant_language l u ≡ None
       by None e = e
       by (Some w) e = absurd (again w e)
 
-  turns_back : (l : List ℕ) (before after : List (List ℕ)) → AllByRecursion (λ v. is_registered A kinds.Variant v ≡ true) (before ++ after) → AllByRecursion (λ u. (values_of A).turn l u ≡ None) before → AllByRecursion (λ u. (values_of B).turn l u ≡ None) before
+  turns_back : (l : List ℕ) (before after : List (List ℕ)) → AllByRecursion (λ v. is_registered A kinds.Variant v ≡ true) (before ++ after) → AllByRecursion (λ u. (values_of A).variant_language l u ≡ None) before → AllByRecursion (λ u. (values_of B).variant_language l u ≡ None) before
   turns_back l [] after r h = tt
   turns_back l (u ∷ us) after r h = (turn_back l u r.0 h.0, turns_back l us after r.1 h.1)
 
-  value_same : (k : Kind) (s v : List ℕ) → KeepsKind k v → value A k s ≡ Some v → SameEnd (next_value B k) s v
+  value_same : (k : Kind) (s v : List ℕ) → KeepsKind k v → preferred_value A k s ≡ Some v → SameEnd (next_value B k) s v
   value_same k s v keeps h =
       let n : ValuedEntry A k s v = valued A k s v h in
       let has : KeepsEnds B n.at = valued_has A k s v (KeepsEnds B) (U upgrades.SameEnds) n in
@@ -107,33 +108,33 @@ module _ (A B : List EntryParts) (CA : IsChecked A) (CB : IsChecked B) (U : Upgr
       let fit : ExtlangsFit A c.language (x ∷ []) = subst (ExtlangsFit A c.language) s.one P.extlangs in
       let en : ExtlangEntry A x = extlang_entry A (core_conditions A CA.passes) x fit.0 in
       let k : IsSameExtlang B en.at x = same_extlang A B (core_conditions A CA.passes) U x en in
-      let to : replacement A x ≡ value_or (one_of en.at.value) x = replacement_at A x en.at en.found in
-      let from : replacement B x ≡ value_or (one_of k.newer.value) x = replacement_at B x k.newer k.there in
+      let to : replacement A x ≡ unwrap_or (one_of en.at.value) x = replacement_at A x en.at en.found in
+      let from : replacement B x ≡ unwrap_or (one_of k.newer.value) x = replacement_at B x k.newer k.there in
       let mid : CoreParts = record c { language = replacement B x; extlangs = [] } in
       new_step c mid (by_extlang x (record { one = s.one; result = refl }))
       ∙ ap (λ u. new_form (record c { language = u; extlangs = [] })) from
-      ∙ sym (language_same (record c { extlangs = [] }) (value_or (one_of en.at.value) x) (value_or (one_of k.newer.value) x) k.ends refl)
+      ∙ sym (language_same (record c { extlangs = [] }) (unwrap_or (one_of en.at.value) x) (unwrap_or (one_of k.newer.value) x) k.ends refl)
       ∙ ap (λ u. new_form (record c { language = u; extlangs = [] })) (sym to)
       ∙ sym (ap new_form s.result)
   old_core_step c d P (by_language v s) =
       language_same c c.language v (value_same kinds.Language c.language v tt s.has) s.alone ∙ sym (ap new_form s.result)
   old_core_step c d P (by_script a v s) =
       ap (λ o. new_form (record c { script = o })) s.there
-      ∙ one_end (value B kinds.Script) (λ u. record c { script = Some u }) (λ s t e. by_script s t (record { there = refl; has = e; result = refl })) a v (value_same kinds.Script a v tt s.has)
+      ∙ one_end (preferred_value B kinds.Script) (λ u. record c { script = Some u }) (λ s t e. by_script s t (record { there = refl; has = e; result = refl })) a v (value_same kinds.Script a v tt s.has)
       ∙ sym (ap new_form s.result)
   old_core_step c d P (by_region a v s) =
       ap (λ o. new_form (record c { region = o })) s.there
-      ∙ one_end (value B kinds.Region) (λ u. record c { region = Some u }) (λ s t e. by_region s t (record { there = refl; has = e; result = refl })) a v (value_same kinds.Region a v tt s.has)
+      ∙ one_end (preferred_value B kinds.Region) (λ u. record c { region = Some u }) (λ s t e. by_region s t (record { there = refl; has = e; result = refl })) a v (value_same kinds.Region a v tt s.has)
       ∙ sym (ap new_form s.result)
   old_core_step c d P (by_variant before v w after s) =
       let p = variant_value_is A v w s.has in
       ap (λ vs. new_form (record c { variants = vs })) s.there
       ∙ one_end (variant_value B) (λ u. record c { variants = before ++ u ∷ after }) (λ s t e. by_variant before s t after (record { there = refl; has = e; result = refl })) v w (value_same kinds.Variant v w p.1 p.0)
       ∙ sym (ap new_form s.result)
-  old_core_step c d P (by_turn before v m after s) =
+  old_core_step c d P (by_variant_language before v m after s) =
       let k = turn_both c.language v m s.has in
       let r : AllByRecursion (λ v. is_registered A kinds.Variant v ≡ true) (before ++ v ∷ after) = subst (AllByRecursion (λ v. is_registered A kinds.Variant v ≡ true)) s.there P.variants in
       let left : CoreParts = record c { variants = before ++ after } in
-      new_step c (record left { language = k.0 }) (by_turn before v k.0 after (record { alone = s.alone; there = s.there; has = k.1; leftmost = turns_back c.language before (v ∷ after) r s.leftmost; result = refl }))
+      new_step c (record left { language = k.0 }) (by_variant_language before v k.0 after (record { alone = s.alone; there = s.there; has = k.1; leftmost = turns_back c.language before (v ∷ after) r s.leftmost; result = refl }))
       ∙ sym (language_same left m k.0 k.2 s.alone)
       ∙ sym (ap new_form s.result)

@@ -7,7 +7,7 @@ use Rattle.std.proofs.lemmas.List.Elements.{All-contains}
 use Rattle.lt_registry.specs.Parts.{EntryParts}
 use Rattle.lt_registry.specs.Entries.{NumbersRise}
 use Rattle.lt_registry.specs.declared.entries.Kind.TheVariants as kinds
-use Rattle.lt_rewrite.specs.Conditions.{FitsAsExtlang}
+use Rattle.lt_rewrite.specs.Conditions.{HasFittingExtlang}
 use Rattle.lt_check.specs.Conditions.{IsChecked}
 use Rattle.lt_upgrade.specs.Upgrade.{MeetsUpgrade, records_of, upgrade_rank_of, Upgrades, IsAtUpgradeFault, IsUpgradeFinding}
 use Rattle.lt_upgrade.specs.UpgradeChecking.{is_of_newer, IsFirstAtUpgradeFault, MeetsUpgradeBelow}
@@ -79,7 +79,7 @@ answered_at A B e k j s r h = subst (λ c. IfOk r (λ b. IsTrue b ↔ MeetsUpgra
 -- an extlang of a registry that passes the check has one Prefix
 pub one_prefix : (A : List EntryParts) → IsChecked A → (e : EntryParts) → Contains A e → e.kind ≡ kinds.Extlang → length e.prefixes ≡ 1
 one_prefix A C e c k =
-    let fits : FitsAsExtlang A e = All-contains (FitsAsExtlang A) A e (C.passes.fitting_extlang) c in
+    let fits : HasFittingExtlang A e = All-contains (HasFittingExtlang A) A e (C.passes.fitting_extlang) c in
     ap length (fits k).one_prefix
 
 -- ranks

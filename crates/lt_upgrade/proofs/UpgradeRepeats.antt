@@ -10,12 +10,12 @@ use Rattle.lt_rewrite.specs.Rewriting.{Star, done, then}
 use Rattle.lt_rewrite.specs.CoreSteps.{values_of, IsCoreNormalForm}
 use Rattle.lt_rewrite.specs.Orderings.{ListStep, by_swap, by_drop}
 use Rattle.lt_rewrite.specs.Extensions.{singleton_cmp, TransformStep, on_source, on_fields, ExtensionStep, in_unicode, in_transform, ExtensionsStep, inside, among}
-use Rattle.lt_rewrite.specs.TagSteps.{IsPlain, TagChange, on_core, on_extensions, on_whole, TagStep}
+use Rattle.lt_rewrite.specs.TagSteps.{CanBeReplacedWhole, TagChange, on_core, on_extensions, on_whole, TagStep}
 use Rattle.lt_rewrite.proofs.NormalForms.{form_is_normal, normal_is_form}
 use Rattle.lt_rewrite.proofs.PartLists.{all_middle, empty_middle}
 use Rattle.lt_rewrite.proofs.ExtensionLaws.{one_transform}
 use Rattle.lt_rewrite.proofs.ProperTags.{source_proper}
-use Rattle.lt_check.specs.Conditions.{plain, IsValidPlain, IsChecked}
+use Rattle.lt_check.specs.Conditions.{IsValidCoreAlone, IsChecked}
 use Rattle.lt_canon.specs.Answers.{IsRepeatOfCore, IsRepeatOfSource, HasDistinctForm, IsNamedRepeat}
 use Rattle.lt_upgrade.specs.Upgrade.{MeetInCanonical, KeepsWhole, Upgrades}
 use Rattle.lt_upgrade.specs.declared.conditions.UpgradeCondition.TheVariants as upgrades
@@ -24,6 +24,7 @@ use Rattle.lt_canon.proofs.Distinctness.{second_repeats}
 use Rattle.lt_canon.proofs.EndForms.{star_end, rest_is_end}
 use Rattle.lt_canon.proofs.TagForm.{or_value, core_end, cores_formed, value_end, tag_end, end_form}
 use Rattle.lt_upgrade.proofs.UpgradeCores.{old_core_step}
+use Rattle.lt_tag.specs.Values.{core_alone}
 
 -- members of lists
 
@@ -91,23 +92,23 @@ module _ (A B : List EntryParts) (CA : IsChecked A) (CB : IsChecked B) (U : Upgr
   distinct_moves c d e r = record { form = r.form; normal = normal_moves c d r.form e r.normal; distinct = r.distinct }
 
   carried : (v : List ℕ) (e f : ExtensionParts) → IsProperExtension A e → ExtensionStep A e f → Carries B v e → Carries B v f
-  carried v e f P (in_unicode p q s) k = absurd (omega (arith, k.has_source.transforms, s.is_u))
-  carried v e f P (in_transform p q s) k = by s.step
+  carried v e f P (in_unicode p q is_u _ _ _ _) k = absurd (omega (arith, k.has_source.transforms, is_u))
+  carried v e f P (in_transform p q is_t kept from to s) k = by s
     where
       there : p.source ≡ Some k.source
-      there = ap (λ (z : TForm). z.source) (sym (one_transform e.subtags k.has_source.parts p k.has_source.formed s.from)) ∙ k.has_source.there
+      there = ap (λ (z : TForm). z.source) (sym (one_transform e.subtags k.has_source.parts p k.has_source.formed from)) ∙ k.has_source.there
 
       by : TransformStep A p q → Carries B v f
-      by (on_source c d j) =
-          let same : k.source ≡ c = let a = there in let b = j.from in cc in
+      by (on_source c d begins ends j _) =
+          let same : k.source ≡ c = let a = there in let b = begins in cc in
           let r : IsRepeatOfCore B c v = subst (λ x. IsRepeatOfCore B x v) same k.repeat in
           record {
             source = d;
-            has_source = record { transforms = s.singleton ∙ s.is_t; parts = q; formed = s.to; there = j.to };
-            repeat = repeat_moves c d v (old_core_step A B CA CB U c d (source_proper A e p c P s.is_t s.from j.from) j.step) r;
+            has_source = record { transforms = kept ∙ is_t; parts = q; formed = to; there = ends };
+            repeat = repeat_moves c d v (old_core_step A B CA CB U c d (source_proper A e p c P is_t from begins) j) r;
           }
       by (on_fields a j) =
-          record { source = k.source; has_source = record { transforms = s.singleton ∙ s.is_t; parts = q; formed = s.to; there = a ∙ there }; repeat = k.repeat }
+          record { source = k.source; has_source = record { transforms = kept ∙ is_t; parts = q; formed = to; there = a ∙ there }; repeat = k.repeat }
 
   to_carrier : (v : List ℕ) (es : List ExtensionParts) → IsRepeatOfSource B es v → Carrier B v es
   to_carrier v es r = record {
@@ -137,19 +138,19 @@ module _ (A B : List EntryParts) (CA : IsChecked A) (CB : IsChecked B) (U : Upgr
       by (inr (inr m)) = put k.extension k.carries (on_right k.extension before (f ∷ after) (inr m))
 
   -- a plain core whose end repeats no variant
-  end_distinct : (d : CoreParts) → (o : Option TagForm) → whole_value B (plain d) ≡ o → RepeatsNoVariant (or_value (plain d) (value_end B CB) o) → Distinct d.variants
+  end_distinct : (d : CoreParts) → (o : Option TagForm) → whole_value B (core_alone d) ≡ o → RepeatsNoVariant (or_value (core_alone d) (value_end B CB) o) → Distinct d.variants
   end_distinct d None e h = h.0
-  end_distinct d (Some u) e h = by (tag_plain B CB (plain d) u e)
+  end_distinct d (Some u) e h = by (tag_plain B CB (core_alone d) u e)
     where
-      by : IsGrandfatheredTag (plain d) ⊎ IsValidPlain B (plain d) → Distinct d.variants
+      by : IsGrandfatheredTag (core_alone d) ⊎ IsValidCoreAlone B (core_alone d) → Distinct d.variants
       by (inl g) = let x = g.is in cc
       by (inr g) = g.valid.distinct.0
 
   -- the tag of a whole record with a value is refused for no repeat
-  plain_unnamed : (t : TagForm) (v : List ℕ) → IsPlain t → RepeatsNoVariant (tag_end B CB t) → IsNamedRepeat B t v → ⊥
+  plain_unnamed : (t : TagForm) (v : List ℕ) → CanBeReplacedWhole t → RepeatsNoVariant (tag_end B CB t) → IsNamedRepeat B t v → ⊥
   plain_unnamed (LangTag c [] []) v p d (inl r) =
       let one : core_end B CB c ≡ r.form = normal_is_form (cores_formed B CB) c r.form r.normal in
-      let distinct : Distinct (core_end B CB c).variants = end_distinct (core_end B CB c) (whole_value B (plain (core_end B CB c))) refl d in
+      let distinct : Distinct (core_end B CB c).variants = end_distinct (core_end B CB c) (whole_value B (core_alone (core_end B CB c))) refl d in
       second_repeats r.form.variants v r.second (subst (λ (x : CoreParts). Distinct x.variants) one distinct)
   plain_unnamed (LangTag c [] []) v p d (inr r) = empty_middle r.1.before r.1.extension r.1.after (sym r.1.there)
   plain_unnamed (LangTag c [] (q ∷ qs)) v p d r = let a = p.1 in cc
@@ -161,22 +162,22 @@ module _ (A B : List EntryParts) (CA : IsChecked A) (CB : IsChecked B) (U : Upgr
   step_named t u v s r = by s.change
     where
       by : TagChange A t u → IsNamedRepeat B u v
-      by (on_core c d es ps k) =
-          let P : IsProperLangTag A c es = subst (HasProperParts A) k.from s.from.parts in
-          let e : core_end B CB c ≡ core_end B CB d = old_core_step A B CA CB U c d P.core k.step in
-          let old : IsNamedRepeat B (LangTag c es ps) v = subst (λ x. IsNamedRepeat B x v) k.from r in
+      by (on_core c d es ps from to k) =
+          let P : IsProperLangTag A c es = subst (HasProperParts A) from s.from.parts in
+          let e : core_end B CB c ≡ core_end B CB d = old_core_step A B CA CB U c d P.core k in
+          let old : IsNamedRepeat B (LangTag c es ps) v = subst (λ x. IsNamedRepeat B x v) from r in
           let new : IsNamedRepeat B (LangTag d es ps) v = elim old [ inl x ↦ inl (repeat_moves c d v e x) | inr x ↦ inr (distinct_moves c d e x.0, x.1) ] in
-          subst (λ x. IsNamedRepeat B x v) (sym k.to) new
-      by (on_extensions c es fs ps k) =
-          let P : IsProperLangTag A c es = subst (HasProperParts A) k.from s.from.parts in
-          let old : IsNamedRepeat B (LangTag c es ps) v = subst (λ x. IsNamedRepeat B x v) k.from r in
-          let new : IsNamedRepeat B (LangTag c fs ps) v = elim old [ inl x ↦ inl x | inr x ↦ inr (x.0, from_carrier v fs (carrier_moves v es fs P.extensions k.step (to_carrier v es x.1))) ] in
-          subst (λ x. IsNamedRepeat B x v) (sym k.to) new
-      by (on_whole k) =
-          let w = valued_whole A t u k.has in
+          subst (λ x. IsNamedRepeat B x v) (sym to) new
+      by (on_extensions c es fs ps from to k) =
+          let P : IsProperLangTag A c es = subst (HasProperParts A) from s.from.parts in
+          let old : IsNamedRepeat B (LangTag c es ps) v = subst (λ x. IsNamedRepeat B x v) from r in
+          let new : IsNamedRepeat B (LangTag c fs ps) v = elim old [ inl x ↦ inl x | inr x ↦ inr (x.0, from_carrier v fs (carrier_moves v es fs P.extensions k (to_carrier v es x.1))) ] in
+          subst (λ x. IsNamedRepeat B x v) (sym to) new
+      by (on_whole is_plain has) =
+          let w = valued_whole A t u has in
           let m : MeetInCanonical B t u = whole_has A t u (KeepsWhole B) (U upgrades.SameWhole) w t u w.named w.gives in
           let end : tag_end B CB t ≡ m.tag = star_end (end_form B CB) m.left ∙ rest_is_end (end_form B CB) m.tag m.canonical.valid.proper m.canonical.at_rest in
-          absurd (plain_unnamed t v k.plain (subst RepeatsNoVariant (sym end) m.canonical.valid.distinct) r)
+          absurd (plain_unnamed t v is_plain (subst RepeatsNoVariant (sym end) m.canonical.valid.distinct) r)
 
   -- old steps keep the variant that a new refusal names
   pub steps_named : {t u : TagForm} (v : List ℕ) → Star (TagStep A) t u → IsNamedRepeat B t v → IsNamedRepeat B u v

@@ -7,7 +7,7 @@ use Rattle.lt_tag.specs.Parts.{CoreParts, ExtensionParts, TForm, TagForm, LangTa
 use Rattle.lt_registry.specs.Parts.{EntryParts}
 use Rattle.lt_registry.specs.Validity.{IsProperCore, IsProperExtension, HasProperParts, IsProperLangTag}
 use Rattle.lt_rewrite.specs.Rewriting.{Equivalent, same, forth, back}
-use Rattle.lt_rewrite.specs.Extensions.{singleton_cmp, separator_cmp, TransformStep, on_source, on_fields, InTransform, ExtensionStep, in_unicode, in_transform, ExtensionsStep, inside, among}
+use Rattle.lt_rewrite.specs.Extensions.{singleton_cmp, separator_cmp, TransformStep, on_source, on_fields, ExtensionStep, in_unicode, in_transform, ExtensionsStep, inside, among}
 use Rattle.lt_rewrite.specs.TagSteps.{TagChange, on_core, on_extensions, on_whole, TagStep}
 use Rattle.lt_rewrite.proofs.PartLists.{all_middle}
 use Rattle.lt_rewrite.proofs.ExtensionLaws.{extension_formed, one_by_one, same_source}
@@ -26,16 +26,16 @@ module _ (A B : List EntryParts) (CA : IsChecked A) (CB : IsChecked B) (U : Upgr
   new_extension_step = (extension_formed B CB.registry (core_conditions B CB.passes)).kept
 
   old_extension_step : (e f : ExtensionParts) → IsProperExtension A e → ExtensionStep A e f → extension_end B CB e ≡ extension_end B CB f
-  old_extension_step e f P (in_unicode p q s) = new_extension_step e f (in_unicode p q s)
-  old_extension_step e f P (in_transform p q s) = by s.step
+  old_extension_step e f P (in_unicode p q is_u kept from to s) = new_extension_step e f (in_unicode p q is_u kept from to s)
+  old_extension_step e f P (in_transform p q is_t kept from to s) = by s
     where
       by : TransformStep A p q → extension_end B CB e ≡ extension_end B CB f
-      by (on_source c d k) =
-          let one : core_end B CB c ≡ core_end B CB d = old_core_step A B CA CB U c d (source_proper A e p c P s.is_t s.from k.from) k.step in
+      by (on_source c d begins ends k same_fields) =
+          let one : core_end B CB c ≡ core_end B CB d = old_core_step A B CA CB U c d (source_proper A e p c P is_t from begins) k in
           let source : option_map (core_end B CB) p.source ≡ option_map (core_end B CB) q.source =
-          ap (option_map (core_end B CB)) k.from ∙ ap Some one ∙ sym (ap (option_map (core_end B CB)) k.to) in
-          same_source B CB.registry (core_conditions B CB.passes) e f p q s.is_t (s.singleton ∙ s.is_t) s.from s.to source (sym k.fields)
-      by (on_fields a k) = new_extension_step e f (in_transform p q (record { is_t = s.is_t; singleton = s.singleton; from = s.from; to = s.to; step = on_fields a k }))
+          ap (option_map (core_end B CB)) begins ∙ ap Some one ∙ sym (ap (option_map (core_end B CB)) ends) in
+          same_source B CB.registry (core_conditions B CB.passes) e f p q is_t (kept ∙ is_t) from to source (sym same_fields)
+      by (on_fields a k) = new_extension_step e f (in_transform p q is_t kept from to (on_fields a k))
 
   old_extensions_step : (es fs : List ExtensionParts) → AllByRecursion (IsProperExtension A) es → ExtensionsStep A es fs → extensions_end B CB es ≡ extensions_end B CB fs
   old_extensions_step es fs P (inside before e f after w s) =
@@ -54,19 +54,19 @@ module _ (A B : List EntryParts) (CA : IsChecked A) (CB : IsChecked B) (U : Upgr
   old_step t u s = by s.change
     where
       by : TagChange A t u → tag_end B CB t ≡ tag_end B CB u
-      by (on_core c d es ps k) =
-          let P : IsProperLangTag A c es = subst (HasProperParts A) k.from s.from.parts in
-          ap (tag_end B CB) k.from ∙ ap (λ x. lang_end B CB x es ps) (old_core_step A B CA CB U c d P.core k.step) ∙ sym (ap (tag_end B CB) k.to)
-      by (on_extensions c es fs ps k) =
-          let P : IsProperLangTag A c es = subst (HasProperParts A) k.from s.from.parts in
+      by (on_core c d es ps from to k) =
+          let P : IsProperLangTag A c es = subst (HasProperParts A) from s.from.parts in
+          ap (tag_end B CB) from ∙ ap (λ x. lang_end B CB x es ps) (old_core_step A B CA CB U c d P.core k) ∙ sym (ap (tag_end B CB) to)
+      by (on_extensions c es fs ps from to k) =
+          let P : IsProperLangTag A c es = subst (HasProperParts A) from s.from.parts in
           let d = core_end B CB c in
-          ap (tag_end B CB) k.from
-          ∙ lang_end_some B CB d es ps (extensions_step_from A es fs k.step)
-          ∙ ap (λ l. LangTag d l ps) (old_extensions_step es fs P.extensions k.step)
-          ∙ sym (lang_end_some B CB d fs ps (extensions_step_to A es fs k.step))
-          ∙ sym (ap (tag_end B CB) k.to)
-      by (on_whole k) =
-          let w = valued_whole A t u k.has in
+          ap (tag_end B CB) from
+          ∙ lang_end_some B CB d es ps (extensions_step_from A es fs k)
+          ∙ ap (λ l. LangTag d l ps) (old_extensions_step es fs P.extensions k)
+          ∙ sym (lang_end_some B CB d fs ps (extensions_step_to A es fs k))
+          ∙ sym (ap (tag_end B CB) to)
+      by (on_whole _ has) =
+          let w = valued_whole A t u has in
           let m : MeetInCanonical B t u = whole_has A t u (KeepsWhole B) (U upgrades.SameWhole) w t u w.named w.gives in
           star_end (end_form B CB) m.left ∙ sym (star_end (end_form B CB) m.right)
 

@@ -7,7 +7,7 @@ use Rattle.std.proofs.lemmas.Bool.{and_parts, and_from, or_cases}
 use Rattle.std.proofs.lemmas.Bool.Decides.{Decides-like, Decides-and, Decides-eqb}
 use Rattle.lt_registry.specs.Parts.{EntryParts}
 use Rattle.lt_registry.specs.Same.{same_list, same_kind}
-use Rattle.lt_registry.specs.Entries.{is_registered, lists, letters_le}
+use Rattle.lt_registry.specs.Entries.{is_registered, has_prefix, letters_le}
 use Rattle.lt_registry.specs.declared.entries.Kind.{Kind}
 use Rattle.lt_registry.specs.declared.entries.EntryName.{EntryName}
 use Rattle.lt_registry.specs.declared.entries.EntryName.TheVariants as names
@@ -85,31 +85,31 @@ Decides-stays B e =
 -- each Prefix of one subtag among some is among others
 abbrev pub within_test : List (List (List ℕ)) → List (List (List ℕ)) → Bool
 within_test [] qs = true
-within_test ((l ∷ []) ∷ ps) qs = lists qs l && within_test ps qs
+within_test ((l ∷ []) ∷ ps) qs = has_prefix qs l && within_test ps qs
 within_test ([] ∷ ps) qs = within_test ps qs
 within_test ((l ∷ m ∷ r) ∷ ps) qs = within_test ps qs
 
 abbrev Within : List (List (List ℕ)) → List (List (List ℕ)) → Type 0
-Within ps qs = (l : List ℕ) → lists ps l ≡ true → lists qs l ≡ true
+Within ps qs = (l : List ℕ) → has_prefix ps l ≡ true → has_prefix qs l ≡ true
 
-head_or : (p : List (List ℕ)) (ps : List (List (List ℕ))) (l : List ℕ) → lists (p ∷ ps) l ≡ true → (p ≡ l ∷ []) ⊎ (lists ps l ≡ true)
-head_or p ps l h = elim (or_cases (same_list p (l ∷ [])) (lists ps l) h) [ inl e ↦ inl ((Decides-list p (l ∷ [])).0 e) | inr e ↦ inr e ]
+head_or : (p : List (List ℕ)) (ps : List (List (List ℕ))) (l : List ℕ) → has_prefix (p ∷ ps) l ≡ true → (p ≡ l ∷ []) ⊎ (has_prefix ps l ≡ true)
+head_or p ps l h = elim (or_cases (same_list p (l ∷ [])) (has_prefix ps l) h) [ inl e ↦ inl ((Decides-list p (l ∷ [])).0 e) | inr e ↦ inr e ]
 
-lists_head : (l : List ℕ) (ps : List (List (List ℕ))) → lists ((l ∷ []) ∷ ps) l ≡ true
-lists_head l ps = ap (λ b. b || lists ps l) ((Decides-list (l ∷ []) (l ∷ [])).1 refl)
+lists_head : (l : List ℕ) (ps : List (List (List ℕ))) → has_prefix ((l ∷ []) ∷ ps) l ≡ true
+lists_head l ps = ap (λ b. b || has_prefix ps l) ((Decides-list (l ∷ []) (l ∷ [])).1 refl)
 
-lists_more : (p : List (List ℕ)) (ps : List (List (List ℕ))) (l : List ℕ) → lists ps l ≡ true → lists (p ∷ ps) l ≡ true
-lists_more p ps l h = elim (same_list p (l ∷ [])) as (λ b. (b || lists ps l) ≡ true) [ true ↦ refl | false ↦ h ]
+lists_more : (p : List (List ℕ)) (ps : List (List (List ℕ))) (l : List ℕ) → has_prefix ps l ≡ true → has_prefix (p ∷ ps) l ≡ true
+lists_more p ps l h = elim (same_list p (l ∷ [])) as (λ b. (b || has_prefix ps l) ≡ true) [ true ↦ refl | false ↦ h ]
 
-within_one : (l : List ℕ) (ps qs : List (List (List ℕ))) → lists qs l ≡ true → Within ps qs → Within ((l ∷ []) ∷ ps) qs
+within_one : (l : List ℕ) (ps qs : List (List (List ℕ))) → has_prefix qs l ≡ true → Within ps qs → Within ((l ∷ []) ∷ ps) qs
 within_one l ps qs h rest m k =
-    elim (head_or (l ∷ []) ps m k) [ inl e ↦ let same : l ≡ m = cc in subst (λ x. lists qs x ≡ true) same h | inr e ↦ rest m e ]
+    elim (head_or (l ∷ []) ps m k) [ inl e ↦ let same : l ≡ m = cc in subst (λ x. has_prefix qs x ≡ true) same h | inr e ↦ rest m e ]
 
 Decides-within : (ps qs : List (List (List ℕ))) → Decides (within_test ps qs) (Within ps qs)
 Decides-within [] qs = ((λ h l k. cc), (λ f. refl))
 Decides-within ((l ∷ []) ∷ ps) qs =
     Decides-like (within_test ((l ∷ []) ∷ ps) qs) (λ p. within_one l ps qs p.0 p.1) (λ f. (f l (lists_head l ps), λ m k. f m (lists_more (l ∷ []) ps m k)))
-    (Decides-and _ _ (Decides-true (lists qs l)) (Decides-within ps qs))
+    (Decides-and _ _ (Decides-true (has_prefix qs l)) (Decides-within ps qs))
 Decides-within ([] ∷ ps) qs =
     Decides-like (within_test ps qs) (λ f m k. elim (head_or [] ps m k) [ inl e ↦ cc | inr e ↦ f m e ]) (λ f m k. f m (lists_more [] ps m k)) (Decides-within ps qs)
 Decides-within ((l ∷ n ∷ r) ∷ ps) qs =
@@ -123,9 +123,9 @@ both_same false false f g = refl
 abbrev pub same_prefix_test : List (List (List ℕ)) → List (List (List ℕ)) → Bool
 same_prefix_test ps qs = within_test ps qs && within_test qs ps
 
-pub Decides-same_prefix : (ps qs : List (List (List ℕ))) → Decides (same_prefix_test ps qs) ((l : List ℕ) → lists ps l ≡ lists qs l)
+pub Decides-same_prefix : (ps qs : List (List (List ℕ))) → Decides (same_prefix_test ps qs) ((l : List ℕ) → has_prefix ps l ≡ has_prefix qs l)
 Decides-same_prefix ps qs =
-    Decides-like (same_prefix_test ps qs) (λ p l. both_same (lists ps l) (lists qs l) (p.0 l) (p.1 l)) (λ f. ((λ l h. sym (f l) ∙ h), (λ l h. f l ∙ h)))
+    Decides-like (same_prefix_test ps qs) (λ p l. both_same (has_prefix ps l) (has_prefix qs l) (p.0 l) (p.1 l)) (λ f. ((λ l h. sym (f l) ∙ h), (λ l h. f l ∙ h)))
     (Decides-and _ _ (Decides-within ps qs) (Decides-within qs ps))
 
 pub Decides-is_some : {A : Type 0} → (o : Option A) → Decides (is_some o) ((a : A) × (o ≡ Some a))

@@ -3,12 +3,13 @@ use Rattle.std.proofs.Common.{◌≡◌, ℕ, zero, suc, ◌<◌, ◌==◌, ◌�
 use Rattle.std.specs.Prelude.{nat_lt, Contains}
 use Rattle.std.proofs.lemmas.Bool.{and_parts, and_from, eqb-true, eq-eqb, ne_eqb, lt-ltb, ltb-true}
 use Rattle.std.proofs.lemmas.Slice.Eq.{bytes_eq-Decides}
+use Rattle.std.specs.Option.{option_or}
 use Rattle.lt_subtag.specs.Shapes.{is_alphabetic}
 use Rattle.lt_tag.specs.Parts.{CoreParts, ExtensionParts, TagForm, LangTag, PrivateUse, Grandfathered}
 use Rattle.lt_tag.proofs.TagLemmas.{AllByRecursion-weaker}
 use Rattle.lt_registry.specs.Parts.{EntryParts}
 use Rattle.lt_registry.specs.Same.{same_kind}
-use Rattle.lt_registry.specs.Entries.{is_named, holds, letters_le, or_else, lists, is_registered}
+use Rattle.lt_registry.specs.Entries.{is_named, holds, letters_le, has_prefix, is_registered}
 use Rattle.lt_registry.specs.Validity.{ExtlangsFit, IsProperCore, IsProperExtension, HasProperParts, IsProper, IsValid}
 use Rattle.lt_registry.specs.declared.entries.Kind.{Kind}
 use Rattle.lt_registry.specs.declared.entries.Kind.TheVariants as kinds
@@ -58,7 +59,7 @@ find_some test [] a h t = absurd (omega (arith, h.1))
 find_some test (x ∷ xs) a (zero, n, e) t = ap (λ b. is_some (cond b (Some x) (find test xs))) (ap test e ∙ t)
 find_some test (x ∷ xs) a (suc k, n, e) t = find_some_at test x xs (test x) (find_some test xs a (k, omega (arith, n), e) t)
 
-by_range_at : (B : List EntryParts) (k : Kind) (s : List ℕ) → is_some (find (λ (e : EntryParts). same_kind e.kind k && holds s e.name) B) ≡ true → (o : Option EntryParts) → is_some (or_else o (find (λ (e : EntryParts). same_kind e.kind k && holds s e.name) B)) ≡ true
+by_range_at : (B : List EntryParts) (k : Kind) (s : List ℕ) → is_some (find (λ (e : EntryParts). same_kind e.kind k && holds s e.name) B) ≡ true → (o : Option EntryParts) → is_some (option_or o (find (λ (e : EntryParts). same_kind e.kind k && holds s e.name) B)) ≡ true
 by_range_at B k s h None = h
 by_range_at B k s h (Some e) = refl
 
@@ -107,7 +108,7 @@ module _ (A B : List EntryParts) (CA : MeetsCoreConditions A) (U : Upgrades A B)
   fit_stays l (x ∷ []) h =
       let en : ExtlangEntry A x = extlang_entry A CA x h.0 in
       let k : IsSameExtlang B en.at x = same_extlang x en in
-      (stays kinds.Extlang x h.0, ap (λ ps. lists ps l) (prefixes_at B kinds.Extlang x k.newer k.there ∙ k.prefixes ∙ sym (prefixes_at A kinds.Extlang x en.at en.found)) ∙ h.1)
+      (stays kinds.Extlang x h.0, ap (λ ps. has_prefix ps l) (prefixes_at B kinds.Extlang x k.newer k.there ∙ k.prefixes ∙ sym (prefixes_at A kinds.Extlang x en.at en.found)) ∙ h.1)
   fit_stays l (x ∷ y ∷ r) h = h
 
   some_weaker : {X : Type 0} (P Q : X → Type 0) → ((a : X) → P a → Q a) → (o : Option X) → IfSome o P → IfSome o Q

@@ -10,9 +10,9 @@ use Rattle.lt_registry.proofs.ValidityLaws.{valid_law}
 use Rattle.lt_registry.specs.declared.entries.Kind.{Kind}
 use Rattle.lt_registry.specs.declared.entries.Kind.TheVariants as kinds
 use Rattle.lt_registry.specs.declared.entries.EntryName.TheVariants as names
-use Rattle.lt_rewrite.specs.Conditions.{FitsGrandfathered}
+use Rattle.lt_rewrite.specs.Conditions.{HasFittingGrandfathered}
 use Rattle.lt_rewrite.specs.TagSteps.{IsReached, IsCanonical}
-use Rattle.lt_check.specs.Conditions.{IsValidPlain, HasValidWhole, IsChecked}
+use Rattle.lt_check.specs.Conditions.{IsValidCoreAlone, HasValidWhole, IsChecked}
 use Rattle.lt_canon.specs.Equivalence.{IsEquivalenceAnswer, IsFirstRefusal}
 use Rattle.lt_canon.specs.Refusals.{IsRefusedWith}
 use Rattle.lt_upgrade.specs.Upgrade.{MeetInCanonical}
@@ -62,12 +62,12 @@ module _ (R : List EntryParts) (C : IsChecked R) where
       form : IsEntry e
       form = All-contains IsEntry R e C.registry.forms c
 
-      whole : IsValidPlain R u × (e.kind ≡ kinds.Redundant → IsValidPlain R t)
+      whole : IsValidCoreAlone R u × (e.kind ≡ kinds.Redundant → IsValidCoreAlone R t)
       whole = All-contains (HasValidWhole R) R e (C.passes.valid_whole) c t u n o
 
       named : e.kind ≡ kinds.Grandfathered → RepeatsNoVariant t
       named k =
-          let g = (All-contains (FitsGrandfathered R) R e (grandfathered_fit R C) c).named k in
+          let g = (All-contains (HasFittingGrandfathered R) R e (grandfathered_fit R C) c).named k in
           let same : names.Whole t ≡ names.Whole (Grandfathered g.0) = sym n ∙ g.1 in
           let is : t ≡ Grandfathered g.0 = cc in
           subst RepeatsNoVariant (sym is) tt

@@ -3,6 +3,7 @@ use Rattle.std.specs.Prelude.{ℕ, List, codes}
 use Rattle.lt_upgrade.specs.declared.conditions.UpgradeCondition.{UpgradeCondition}
 use Rattle.lt_upgrade.specs.declared.conditions.UpgradeCondition.TheVariants as upgrades
 
+-- the code of a condition
 abbrev pub upgrade_code_of : UpgradeCondition → List ℕ
 upgrade_code_of upgrades.StaysRegistered = codes "U1"
 upgrade_code_of upgrades.SameEnds = codes "U2"

@@ -1,9 +1,9 @@
 -- The six conditions on a newer registry B beside an older one A. The first four and the last speak of a record of
 -- A, the fifth of a record of B.
-use Rattle.std.specs.Prelude.{ℕ, ◌≡◌, ◌<◌, ◌≤◌, true, false, List, Option, Some, All, Contains, length}
+use Rattle.std.specs.Prelude.{ℕ, ◌≡◌, ◌<◌, ◌≤◌, true, false, List, Option, Some, All, Contains, length, unwrap_or}
 use Rattle.lt_tag.specs.Parts.{TagForm}
 use Rattle.lt_registry.specs.Parts.{EntryParts}
-use Rattle.lt_registry.specs.Entries.{one_of, value_or, entry, value, language_value, is_registered, is_short, prefixes, lists, letters_le}
+use Rattle.lt_registry.specs.Entries.{one_of, entry, preferred_value, language_value, is_registered, is_short, prefixes, has_prefix, letters_le}
 use Rattle.lt_registry.specs.declared.entries.Kind.{Kind}
 use Rattle.lt_registry.specs.declared.entries.Kind.TheVariants as kinds
 use Rattle.lt_registry.specs.declared.entries.EntryName.TheVariants as names
@@ -32,7 +32,7 @@ pub record IsCovered (B : List EntryParts) (kind : Kind) (first last : List ℕ)
   pub from : letters_le low first ≡ true
   pub to : letters_le last high ≡ true
 
--- What the old registry names is registered in the new one.
+-- What the older registry names is registered in the newer one.
 pub record StaysRegistered (B : List EntryParts) (e : EntryParts) : Type 0 where
   pub single : (s : List ℕ) → e.name ≡ names.Single s → is_registered B e.kind s ≡ true
   pub range : (first last : List ℕ) → e.name ≡ names.Range first last → IsCovered B e.kind first last
@@ -47,7 +47,7 @@ KeepsKind kinds.Variant v = is_short v ≡ false
 KeepsKind kinds.Grandfathered v = ⊥
 KeepsKind kinds.Redundant v = ⊥
 
--- A subtag and its old value come to one end.
+-- A subtag and its older value come to one end.
 abbrev pub KeepsEnds : List EntryParts → EntryParts → Type 0
 KeepsEnds B e =
     (s v : List ℕ) → e.name ≡ names.Single s → one_of e.value ≡ Some v → KeepsKind e.kind v → SameEnd (next_value B e.kind) s v
@@ -57,18 +57,18 @@ pub record IsSameExtlang (B : List EntryParts) (e : EntryParts) (s : List ℕ) :
   pub newer : EntryParts
   pub there : entry B kinds.Extlang s ≡ Some newer
   pub prefixes : newer.prefixes ≡ e.prefixes
-  pub ends : SameEnd (value B kinds.Language) (value_or (one_of e.value) s) (value_or (one_of newer.value) s)
+  pub ends : SameEnd (preferred_value B kinds.Language) (unwrap_or (one_of e.value) s) (unwrap_or (one_of newer.value) s)
 
 -- An extlang keeps its Prefix and the end of its replacement.
 abbrev pub KeepsExtlang : List EntryParts → EntryParts → Type 0
 KeepsExtlang B e = (s : List ℕ) → e.kind ≡ kinds.Extlang → e.name ≡ names.Single s → IsSameExtlang B e s
 
--- the variant turns into a language of the same end beside the same languages
+-- the variant has a language value of the same end, and Prefixes of the same languages
 pub record IsSameTurn (B : List EntryParts) (e : EntryParts) (s v : List ℕ) : Type 0 where
   pub newer : List ℕ
   pub has : language_value B s ≡ Some newer
-  pub prefixes : (l : List ℕ) → lists (prefixes B kinds.Variant s) l ≡ lists e.prefixes l
-  pub ends : SameEnd (value B kinds.Language) v newer
+  pub prefixes : (l : List ℕ) → has_prefix (prefixes B kinds.Variant s) l ≡ has_prefix e.prefixes l
+  pub ends : SameEnd (preferred_value B kinds.Language) v newer
 
 -- A variant with a language value keeps one of the same end, and its Prefixes.
 abbrev pub KeepsTurn : List EntryParts → EntryParts → Type 0
@@ -89,7 +89,7 @@ pub record MeetInCanonical (B : List EntryParts) (t u : TagForm) : Type 0 where
   pub left : IsReached B t tag
   pub right : IsReached B u tag
 
--- An old whole tag and its old value come to the same canonical tag.
+-- An older whole tag and its older value come to the same canonical tag.
 abbrev pub KeepsWhole : List EntryParts → EntryParts → Type 0
 KeepsWhole B e = OfWhole e (MeetInCanonical B)
 
@@ -102,10 +102,12 @@ MeetsUpgrade upgrades.SameTurn A B e = KeepsTurn B e
 MeetsUpgrade upgrades.NoNewTurn A B e = HadTurn A e
 MeetsUpgrade upgrades.SameWhole A B e = KeepsWhole B e
 
+-- the records that a condition speaks of
 abbrev pub records_of : UpgradeCondition → List EntryParts → List EntryParts → List EntryParts
 records_of upgrades.NoNewTurn A B = B
 records_of _ A B = A
 
+-- each record that a condition speaks of meets it, for each of the six conditions
 abbrev pub Upgrades : List EntryParts → List EntryParts → Type 0
 Upgrades A B = (condition : UpgradeCondition) → All (MeetsUpgrade condition A B) (records_of condition A B)
 

@@ -4,7 +4,7 @@ use Rattle.std.specs.List.{list_any}
 use Rattle.lt_registry.specs.Parts.{EntryParts}
 use Rattle.lt_registry.specs.Same.{same_kind}
 use Rattle.lt_registry.specs.declared.entries.Kind.{Kind}
-use Rattle.lt_registry.specs.Entries.{letters_le, lists}
+use Rattle.lt_registry.specs.Entries.{letters_le, has_prefix}
 use Rattle.lt_registry.specs.declared.entries.EntryName.{EntryName}
 use Rattle.lt_registry.specs.declared.entries.EntryName.TheVariants as names
 use Rattle.lt_upgrade.specs.Upgrade.{MeetsUpgrade, records_of, upgrade_rank_of, IsAtUpgradeFault, IsUpgradeFinding}
@@ -38,6 +38,7 @@ abbrev pub IsUpgradeFault : List EntryParts → List EntryParts → UpgradeFault
 IsUpgradeFault A B (faults.Fails condition number) = IsUpgradeFinding A B condition number
 IsUpgradeFault A B faults.OutOfMemory = Unit {0}
 
+-- running out of memory
 abbrev pub no_upgrade_memory : UpgradeFault
 no_upgrade_memory = faults.OutOfMemory
 
@@ -57,7 +58,7 @@ covers _ first last = false
 abbrev pub some_covers : List EntryParts → Kind → List ℕ → List ℕ → Bool
 some_covers R kind first last = list_any (λ (e : EntryParts). same_kind e.kind kind && covers e.name first last) R
 
--- a Prefix of one subtag is among others
+-- a Prefix is among others, if it is one subtag
 abbrev pub is_among : List (List (List ℕ)) → List (List ℕ) → Bool
-is_among others (language ∷ []) = lists others language
+is_among others (language ∷ []) = has_prefix others language
 is_among others _ = true

@@ -13,6 +13,7 @@ use Rattle.lt_upgrade.specs.UpgradeChecking.{some_covers}
 use Rattle.lt_upgrade.specs.declared.widest_ranges.RangeEnd.{RangeEnd}
 use Rattle.lt_upgrade.specs.declared.widest_ranges.RangeRow.{RangeRow}
 
+-- the end of a range of a kind
 abbrev pub range_end : Kind → List ℕ → RangeEnd
 range_end kind subtag = record { kind = kind_number kind; length = length subtag; subtag = subtag }
 

@@ -2,20 +2,23 @@
 ghost use Rattle.std.specs.Prelude.{◌≡◌};
 ghost use Rattle.lt_upgrade.specs.Codes.{upgrade_code_of};
 
-/// The conditions on a newer registry beside an older one, in the order in which they are judged.
+/// The conditions on a newer registry beside an older one, in the order in which they are judged. `NoNewTurn`
+/// speaks of a record of the newer registry, the others of one of the older. They are this project's own. The
+/// end of a chain of values is that by the newer registry.
 #[derive(Clone, Copy, Debug, PartialEq, Eq)]
 pub enum UpgradeCondition {
-    /// What the old registry names is registered in the new one.
+    /// U1: a subtag that an older record names is registered as the same kind, and a range that one names is
+    /// within one range of that kind.
     StaysRegistered,
-    /// A subtag and its old value come to one end in the new registry.
+    /// U2: a subtag and its older value of its own kind come to one end.
     SameEnds,
-    /// An extlang keeps its Prefix and the end of its replacement.
+    /// U3: an extlang keeps its Prefix and the end of its replacement.
     SameExtlang,
-    /// A variant with a language value keeps one of the same end, and its Prefixes.
+    /// U4: a variant with a language as its value keeps one of the same end, and its Prefixes.
     SameTurn,
-    /// No variant that the old registry has without a language value gets one.
+    /// U5: no variant that the older registry has without a language as its value gets one.
     NoNewTurn,
-    /// An old whole tag and its old value come to the same canonical tag in the new registry.
+    /// U6: an older whole tag and its older value come to the same canonical tag.
     SameWhole,
 }
 

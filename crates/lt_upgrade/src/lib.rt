@@ -1,4 +1,5 @@
-//! The check of a newer registry beside an older one by six conditions, and what follows for tags.
+//! The check of a newer registry beside an older one by six conditions, which are this project's own, and what
+//! follows for tags. A program begins with the crate `bcp47`: its `Registry::upgrade_check` is this call.
 #![tactic(auto)]
 
 mod conditions;

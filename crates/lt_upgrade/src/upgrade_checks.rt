@@ -1,5 +1,5 @@
 //! Whether a record meets a condition on a newer registry beside an older one.
-ghost use Rattle.std.specs.Prelude.{◌≡◌, ◌≢◌, ◌↔◌, List, ℕ, length, IsTrue, IfOk, Contains};
+ghost use Rattle.std.specs.Prelude.{◌≡◌, ◌≢◌, ◌↔◌, List, ℕ, length, IsTrue, IfOk, Contains, unwrap_or};
 ghost use Rattle.std.specs.List.{list_all};
 ghost use Rattle.lt_registry.specs.Entries as entries;
 ghost use Rattle.lt_registry.specs.Same.{same_list};
@@ -65,7 +65,7 @@ fn keeps_kind(kind: Kind, value: &Subtag) -> bool
     }
 }
 
-/// Whether a subtag and its old value come to one end in the newer registry.
+/// Whether a subtag and its older value come to one end in the newer registry.
 pub(crate) fn keeps_ends<L: Lookup>(newer: &L, shortcuts: &Shortcuts, entry: &Entry) -> bool
     requires { AreShortcuts (L.listed newer.now) shortcuts.now }
     ensures { IsTrue result ↔ KeepsEnds (L.listed newer.now) entry.now }
@@ -98,7 +98,7 @@ fn same_prefixes(left: &[Prefix], right: &[Prefix]) -> bool
 
 /// The value of an extlang, or itself.
 fn replacement<'a>(entry: &'a Entry, subtag: &'a Subtag) -> &'a Subtag
-    ensures { result.now ≡ entries.value_or (entries.one_of entry.now.value) subtag.now }
+    ensures { result.now ≡ unwrap_or (entries.one_of entry.now.value) subtag.now }
 {
     match one_value(entry) {
         Some(value) => value,
@@ -159,7 +159,7 @@ fn are_among(prefixes: &[Prefix], entry: &Entry) -> bool
 
 /// Whether the Prefixes of two records have the same languages.
 fn same_languages(left: &Entry, right: &Entry) -> bool
-    ensures { IsTrue result ↔ ((l : List ℕ) → entries.lists left.now.prefixes l ≡ entries.lists right.now.prefixes l) }
+    ensures { IsTrue result ↔ ((l : List ℕ) → entries.has_prefix left.now.prefixes l ≡ entries.has_prefix right.now.prefixes l) }
 {
     are_among(left.prefixes(), right) && are_among(right.prefixes(), left)
 }
@@ -178,7 +178,8 @@ pub(crate) fn keeps_turn<L: Lookup>(newer: &L, shortcuts: &Shortcuts, entry: &En
     }
 }
 
-/// Whether a variant turns into a language of the same end beside the same languages.
+/// Whether the variant of a record has, in the newer registry, a language value of the same end, and Prefixes
+/// of the same languages: so whether VariantLanguage steps lead to the same end beside the same languages.
 fn turns_alike<L: Lookup>(
     newer: &L,
     shortcuts: &Shortcuts,

@@ -21,8 +21,8 @@ use thiserror::Error;
 /// Why a newer registry is no upgrade of an older one.
 #[derive(Clone, Copy, Debug, Drop, Error, PartialEq, Eq)]
 pub enum UpgradeFault {
-    /// The first condition that some record does not meet, and of those records the lowest number: of
-    /// the older registry's, but for `NoNewTurn` of the newer's.
+    /// The first condition that some record does not meet, and the lowest number of those records, counted from
+    /// 1 with the header: of the older registry's, but for `NoNewTurn` of the newer's.
     #[error("record {number} does not meet {condition:?}: keep the older registry, or mend the newer")]
     Fails {
         condition: UpgradeCondition,
@@ -34,7 +34,7 @@ pub enum UpgradeFault {
 }
 
 impl UpgradeFault {
-    /// The fault's name, as it is written here.
+    /// The fault's name, as it is written here: `Fails` or `OutOfMemory`.
     pub fn name(self) -> &'static str
         ensures { result.now ≡ upgrade_fault_name_of self }
     {
@@ -169,12 +169,13 @@ fn lowest_fault<A: Lookup, B: Lookup>(
 }
 
 /// Whether a newer registry upgrades an older one: whether it meets each of the six
-/// [conditions](UpgradeCondition) beside it. They are judged in order, and a condition only where all
-/// records meet those before it.
+/// [conditions](UpgradeCondition) beside it. They are judged in order, and a condition only where all records
+/// meet those before it. `Fails` is the first that is not met, and there the lowest record at fault;
+/// `OutOfMemory` comes where memory runs out.
 ///
-/// A tag is then valid by the newer registry if it is so by the older one, and two tags are equivalent if
-/// they are so by the older. Of a tag with a canonical form by the older registry, the newer one makes
-/// what it makes of that form: one canonical form, or a refusal that names one variant.
+/// A tag is then valid by the newer registry if it is so by the older one, and two tags are equivalent if they
+/// are so by the older. Of a tag with a canonical form by the older registry, the newer one makes what it makes
+/// of that form: one canonical form, or a refusal that names one variant.
 pub fn upgrade_check<A: Lookup, B: Lookup>(
     alloc: Global,
     older: &Checked<A>,

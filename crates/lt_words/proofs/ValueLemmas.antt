@@ -1,5 +1,5 @@
 -- The values of positionals.
-use Rattle.std.proofs.Common.{◌≡◌, ◌∙◌, ℕ, List, [], ◌∷◌, Option, Some, None, map, sym, ap, refl, subst, slice_index, ◌==◌, Bool, if◌then◌else◌}
+use Rattle.std.proofs.Common.{◌≡◌, ◌∙◌, ℕ, List, [], ◌∷◌, Option, Some, None, map, sym, ap, refl, subst, slice_index, ◌==◌, if◌then◌else◌}
 use Rattle.clap.specs.Words.{Row, Text, first_of}
 use Rattle.lt_words.specs.CommandLine.{name_of, positionals_of}
 use Rattle.lt_words.specs.Reading.{AreGiven, IsNamed, LacksValue, NamesNone}
@@ -61,6 +61,7 @@ by_letters a =
     else if a == 116 then sub.Extlang
     else if a == 117 then sub.Equal
     else if a == 112 then sub.Explain
+    else if a == 114 then sub.Verify
     else sub.Upgrade
 
 named_back : (s : Subcommand) → by_letters (slice_index (name_of s) 2) ≡ s
@@ -72,6 +73,7 @@ named_back sub.Tsv = refl
 named_back sub.Extlang = refl
 named_back sub.Equal = refl
 named_back sub.Explain = refl
+named_back sub.Verify = refl
 named_back sub.Upgrade = refl
 
 -- a name is that of one subcommand

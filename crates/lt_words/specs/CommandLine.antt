@@ -33,6 +33,7 @@ name_of sub.Tsv = codes "tsv"
 name_of sub.Extlang = codes "extlang"
 name_of sub.Equal = codes "equal"
 name_of sub.Explain = codes "explain"
+name_of sub.Verify = codes "verify"
 name_of sub.Upgrade = codes "upgrade"
 
 -- the names of its positionals
@@ -44,13 +45,15 @@ positionals_of sub.Tsv = codes "REGISTRY" ∷ codes "COLUMN" ∷ []
 positionals_of sub.Extlang = codes "REGISTRY" ∷ codes "TAG" ∷ []
 positionals_of sub.Equal = codes "REGISTRY" ∷ codes "TAG" ∷ codes "OTHER" ∷ []
 positionals_of sub.Explain = codes "REGISTRY" ∷ codes "TAG" ∷ []
+positionals_of sub.Verify = codes "REGISTRY" ∷ codes "TAG" ∷ []
 positionals_of sub.Upgrade = codes "OLD" ∷ codes "NEW" ∷ []
 
 -- the subcommands, in the order in which help names them
 abbrev pub subcommands : List Subcommand
 subcommands =
-    sub.Classify ∷ sub.Check ∷ sub.Canon ∷ sub.Tsv ∷ sub.Extlang ∷ sub.Equal ∷ sub.Explain ∷ sub.Upgrade ∷ []
+    sub.Classify ∷ sub.Check ∷ sub.Canon ∷ sub.Tsv ∷ sub.Extlang ∷ sub.Equal ∷ sub.Explain ∷ sub.Verify ∷ sub.Upgrade ∷ []
 
+-- a program with these subcommands, in this order
 abbrev pub with_subcommands : App → List Subcommand → App
 with_subcommands app [] = app
 with_subcommands app (s ∷ more) =

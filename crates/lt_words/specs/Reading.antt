@@ -21,6 +21,7 @@ subcommand_for (command.Tsv file column) = sub.Tsv
 subcommand_for (command.Extlang file tag) = sub.Extlang
 subcommand_for (command.Equal file tag other) = sub.Equal
 subcommand_for (command.Explain file tag) = sub.Explain
+subcommand_for (command.Verify file tag) = sub.Verify
 subcommand_for (command.Upgrade old new) = sub.Upgrade
 
 -- the text is a decimal number from 1, and this is the number
@@ -39,6 +40,7 @@ AreValues (command.Tsv file column) texts = (text : Text) × IsColumn text colum
 AreValues (command.Extlang file tag) texts = texts ≡ string_bytes file ∷ string_bytes tag ∷ []
 AreValues (command.Equal file tag other) texts = texts ≡ string_bytes file ∷ string_bytes tag ∷ string_bytes other ∷ []
 AreValues (command.Explain file tag) texts = texts ≡ string_bytes file ∷ string_bytes tag ∷ []
+AreValues (command.Verify file tag) texts = texts ≡ string_bytes file ∷ string_bytes tag ∷ []
 AreValues (command.Upgrade old new) texts = texts ≡ string_bytes old ∷ string_bytes new ∷ []
 
 -- these are the values of positionals
@@ -62,6 +64,7 @@ first_file_of (command.Tsv file column) = Some (string_bytes file)
 first_file_of (command.Extlang file tag) = Some (string_bytes file)
 first_file_of (command.Equal file tag other) = Some (string_bytes file)
 first_file_of (command.Explain file tag) = Some (string_bytes file)
+first_file_of (command.Verify file tag) = Some (string_bytes file)
 first_file_of (command.Upgrade old new) = Some (string_bytes old)
 
 -- and the one after it
@@ -69,11 +72,18 @@ abbrev pub second_file_of : Command → Option (List ℕ)
 second_file_of (command.Upgrade old new) = Some (string_bytes new)
 second_file_of _ = None
 
--- whether the command answers the lines of the standard input
+-- whether the command reads the standard input, whatever file it names
 abbrev pub reads_input_of : Command → Bool
 reads_input_of (command.Canon file) = true
 reads_input_of (command.Tsv file column) = true
+reads_input_of (command.Verify file tag) = true
 reads_input_of _ = false
+
+-- whether it answers each of its lines
+abbrev pub answers_lines_of : Command → Bool
+answers_lines_of (command.Canon file) = true
+answers_lines_of (command.Tsv file column) = true
+answers_lines_of _ = false
 
 -- the words name this command, by what `clap` defines as the matches of a command
 abbrev pub Names : List Text → Command → Type 0
@@ -84,8 +94,8 @@ pub record Reads (words : List Text) (command : Command) : Type 0 where
   pub right : fault_of langtag words ≡ []
   pub names : Names words command
 
--- Running out of memory aside: help answers a request for help, the version one for the version, and words that are that alone
--- are answered by nothing else; words that name a command are no fault of usage.
+-- Running out of memory aside: help answers a request for help, the version one for the version, and words that are
+-- that alone are answered by nothing else; words that name a command are no fault of usage.
 abbrev pub IsRefused : List Text → WordsFault → Type 0
 IsRefused words (fault.Help text) = IsAmong kind.DisplayHelp (fault_of langtag words)
 IsRefused words (fault.Version text) = IsAmong kind.DisplayVersion (fault_of langtag words)

@@ -1,7 +1,7 @@
 //! The commands of the program.
 ghost use Rattle.std.specs.Prelude.{◌≡◌};
 ghost use Rattle.std.specs.Option.{option_map};
-ghost use Rattle.lt_words.specs.Reading.{first_file_of, reads_input_of, second_file_of};
+ghost use Rattle.lt_words.specs.Reading.{answers_lines_of, first_file_of, reads_input_of, second_file_of};
 
 /// What the words ask for.
 #[derive(Debug, Drop)]
@@ -12,8 +12,8 @@ pub enum Command {
     Check(String),
     /// The canonical form of each line of the input, by the registry of this file.
     Canon(String),
-    /// The rows of the input, the field of this number (counted from 1) in canonical form, by the registry of this file,
-    /// which comes first.
+    /// The rows of the input, the field of this number (counted from 1) in canonical form, by the registry of
+    /// this file, which comes first.
     Tsv(String, usize),
     /// The extlang form of this tag, by the registry of this file, which comes first.
     Extlang(String, String),
@@ -21,12 +21,14 @@ pub enum Command {
     Equal(String, String, String),
     /// The steps from this tag to its canonical form, by the registry of this file, which comes first.
     Explain(String, String),
+    /// Whether the input explains this tag, by the registry of this file, which comes first.
+    Verify(String, String),
     /// Whether the registry of the second file upgrades that of the first.
     Upgrade(String, String),
 }
 
 impl Command {
-    /// The file that the command names first, if it names one.
+    /// The file that the command names first, if it names one: that of the registry, or of the older one.
     pub fn first_file(&self) -> Option<&str>
         ensures { option_map (λ file. file.now) result ≡ first_file_of self.now }
     {
@@ -36,13 +38,24 @@ impl Command {
                 Some(file.as_str())
             }
             Command::Extlang(file, _) | Command::Explain(file, _) => Some(file.as_str()),
+            Command::Verify(file, _) => Some(file.as_str()),
             Command::Equal(file, _, _) | Command::Upgrade(file, _) => Some(file.as_str()),
         }
     }
 
-    /// Whether the command answers the lines of the standard input.
+    /// Whether the command reads the standard input, whatever file it names: `canon`, `tsv` and `verify` do.
     pub fn reads_input(&self) -> bool
         ensures { result ≡ reads_input_of self.now }
+    {
+        match self {
+            Command::Canon(_) | Command::Tsv(_, _) | Command::Verify(_, _) => true,
+            _ => false,
+        }
+    }
+
+    /// Whether the command answers each line of the standard input: `canon` and `tsv` do.
+    pub fn answers_lines(&self) -> bool
+        ensures { result ≡ answers_lines_of self.now }
     {
         match self {
             Command::Canon(_) | Command::Tsv(_, _) => true,
@@ -50,7 +63,7 @@ impl Command {
         }
     }
 
-    /// The file that the command names after it, if it names one.
+    /// The file that the command names after it, if it names one: that of the newer registry, of `upgrade`.
     pub fn second_file(&self) -> Option<&str>
         ensures { option_map (λ file. file.now) result ≡ second_file_of self.now }
     {

@@ -1,4 +1,5 @@
-//! The words of the command line of `langtag`, and the command that they name.
+//! The words of the command line of the program `langtag`, and the command that they name. A program of your
+//! own begins with the crate `bcp47`.
 #![tactic(auto)]
 
 mod commands;

@@ -47,7 +47,7 @@ pub(crate) static NEW: Positional = Positional {
 const STATUSES: &str = "\
 Status:
   0  done
-  1  a tag was refused, or the tags are different
+  1  a tag was refused, or the tags are different, or the steps are no explanation
   2  a registry or an upgrade was refused
   3  the words name no command
   4  a file, the output or memory failed";
@@ -128,6 +128,8 @@ pub(crate) fn new_langtag<'a>(alloc: Global) -> Result<Command<'a>, AllocError>
     let program = with_new(alloc, program, "equal", about, &[&REGISTRY, &TAG, &OTHER])?;
     let about = "Prints the steps from a tag to its canonical form";
     let program = with_new(alloc, program, "explain", about, &[&REGISTRY, &TAG])?;
+    let about = "Tells whether the standard input explains a tag, as `explain` prints it";
+    let program = with_new(alloc, program, "verify", about, &[&REGISTRY, &TAG])?;
     let about = "Tells whether a newer registry upgrades an older one";
     with_new(alloc, program, "upgrade", about, &[&OLD, &NEW])
 }

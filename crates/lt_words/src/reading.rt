@@ -57,6 +57,10 @@ fn read_command(
             let (file, tag) = two_values(alloc, values, &REGISTRY, &TAG)?;
             Ok(Command::Explain(file, tag))
         }
+        Subcommand::Verify => {
+            let (file, tag) = two_values(alloc, values, &REGISTRY, &TAG)?;
+            Ok(Command::Verify(file, tag))
+        }
         Subcommand::Upgrade => {
             let (old, new) = two_values(alloc, values, &OLD, &NEW)?;
             Ok(Command::Upgrade(old, new))
@@ -95,10 +99,12 @@ fn fault_of<D: Display>(alloc: Global, kind: ErrorKind, error: &D) -> WordsFault
     }
 }
 
-/// Reads the words of the command line, of which the first is the program's name.
+/// Reads the words of the command line, of which the first is the program's name: `langtag`, `classify` and
+/// `zh-Hant` name the command `Classify` of `zh-Hant`.
 ///
-/// A request for help is answered by its text, one for the version by that, and any other words that name no command
-/// by `Usage`.
+/// A request for help is answered by `Help` with its text, one for the version by `Version` with that, and any
+/// other words that name no command by `Usage` with a text that says why; `OutOfMemory` comes where memory runs
+/// out.
 pub fn read_words(alloc: Global, words: &[String]) -> Result<Command, WordsFault>
     ensures read { IfOk result (Reads (map string_bytes words.now)) }
     ensures refused { IfErr result (IsRefused (map string_bytes words.now)) }

@@ -13,6 +13,7 @@ pub(crate) enum Subcommand {
     Extlang,
     Equal,
     Explain,
+    Verify,
     Upgrade,
 }
 
@@ -28,6 +29,7 @@ pub(crate) fn subcommand_named(name: &str) -> Option<Subcommand>
         "extlang" => Some(Subcommand::Extlang),
         "equal" => Some(Subcommand::Equal),
         "explain" => Some(Subcommand::Explain),
+        "verify" => Some(Subcommand::Verify),
         "upgrade" => Some(Subcommand::Upgrade),
         _ => None,
     }

@@ -1,3 +1,4 @@
+//! Texts with the steps of their explanations.
 ghost use Rattle.std.specs.Prelude.{◌↔◌, IsTrue, IfOk};
 ghost use Rattle.lt_registry.specs.Validity.{IsProper};
 ghost use Rattle.lt_registry.specs.Faults.{RepeatsAtMost};

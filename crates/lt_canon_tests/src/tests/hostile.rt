@@ -18,7 +18,7 @@ fn a_value_of_itself_is_rejected(rt: HostRuntime) -> Result<(), Fail> {
     Ok(())
 }
 
-/// The letter that stands for the last digit of a number.
+/// The letter for the last digit of a number.
 fn letter(number: usize) -> char {
     char::from(b'a' + (number % 10) as u8)
 }

@@ -1,3 +1,4 @@
+//! Steps that lead from a tag to an end, or do not.
 use lt_canon::{Trace, TraceFault, verify};
 use lt_check::Checked;
 use lt_registry::{Lookup, ValidFault, ValidFaultKind};

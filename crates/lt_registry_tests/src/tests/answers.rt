@@ -176,16 +176,38 @@ fn has_sample<L: Lookup>(alloc: Global, table: &L) -> Result<bool, TagFault> {
     )
 }
 
+/// The sample's entries, sorted.
+fn sample_table(alloc: Global) -> Result<SortedTable, Fail> {
+    let text = sample_text(alloc)?;
+    sorted_table(alloc, text.as_bytes())
+}
+
+/// The sample's entries as a list.
+fn sample_list(alloc: Global) -> Result<ListTable, Fail> {
+    let text = sample_text(alloc)?;
+    list_table(alloc, text.as_bytes())
+}
+
+#[test]
+fn the_sample_has_its_entries(rt: HostRuntime) -> Result<(), Fail> {
+    assert!(rt; has_sample(rt.alloc(), &sample_table(rt.alloc())?)?);
+    assert!(rt; has_sample(rt.alloc(), &sample_list(rt.alloc())?)?);
+    Ok(())
+}
+
 /// Tags are judged by the other table where growths are refused.
 #[test]
-fn the_sample_is_answered(rt: HostRuntime) -> Result<(), Fail> {
-    let text = sample_text(rt.alloc())?;
-    let table = sorted_table(rt.alloc(), text.as_bytes())?;
-    assert!(rt; has_sample(rt.alloc(), &table)?);
-    assert!(rt; has_sample(rt.alloc(), &list_table(rt.alloc(), text.as_bytes())?)?);
+fn the_sample_judges_tags(rt: HostRuntime) -> Result<(), Fail> {
+    let table = sample_table(rt.alloc())?;
     for (text, told) in &JUDGED {
         assert!(rt; judges(rt.alloc(), &table, text, *told)?, "{text}");
     }
+    Ok(())
+}
+
+#[test]
+fn the_sample_tells_proper_tags(rt: HostRuntime) -> Result<(), Fail> {
+    let table = sample_table(rt.alloc())?;
     for (text, told) in &PROPER {
         assert!(rt; tells_proper(rt.alloc(), &table, text, *told)?, "{text}");
     }

@@ -263,20 +263,37 @@ fn is_proper(alloc: Global, table: &ListTable, tag: &Tag, told: bool) -> Result<
     )
 }
 
+/// Whether the tag of a text is judged so.
+fn is_text_judged(
+    alloc: Global,
+    table: &ListTable,
+    text: &str,
+    told: Option<(&'static str, u32)>,
+) -> Result<bool, Fail> {
+    let tag = tag_of(alloc, text)?;
+    Ok(is_judged(alloc, table, &tag, told)?)
+}
+
 #[test]
 fn tags_are_judged(rt: HostRuntime) -> Result<(), Fail> {
     let table = ListTable::new(sample(rt.alloc())?);
     for (text, told) in &JUDGED {
-        assert!(rt;
-            is_judged(rt.alloc(), &table, &tag_of(rt.alloc(), text)?, *told)?,
-            "{text}"
-        );
+        assert!(rt; is_text_judged(rt.alloc(), &table, text, *told)?, "{text}");
     }
+    Ok(())
+}
+
+/// Whether `proper` answers this for the tag of a text.
+fn is_text_proper(alloc: Global, table: &ListTable, text: &str, told: bool) -> Result<bool, Fail> {
+    let tag = tag_of(alloc, text)?;
+    Ok(is_proper(alloc, table, &tag, told)?)
+}
+
+#[test]
+fn tags_are_told_proper(rt: HostRuntime) -> Result<(), Fail> {
+    let table = ListTable::new(sample(rt.alloc())?);
     for (text, told) in &PROPER {
-        assert!(rt;
-            is_proper(rt.alloc(), &table, &tag_of(rt.alloc(), text)?, *told)?,
-            "{text}"
-        );
+        assert!(rt; is_text_proper(rt.alloc(), &table, text, *told)?, "{text}");
     }
     Ok(())
 }
@@ -286,18 +303,27 @@ fn finds_by_no_growth<L: Lookup>(table: &L, tag: &Tag, number: Option<u32>) -> b
     finds_each(table, &SUBTAGS) && whole_number(table, tag) == number && table.entries().len() == 46
 }
 
+/// Whether a table does so for a tag that it has, and for one that it has not.
+fn finds_both<L: Lookup>(table: &L, tag: &Tag, other: &Tag) -> bool {
+    finds_by_no_growth(table, tag, Some(44)) && finds_by_no_growth(table, other, None)
+}
+
 #[test]
-fn tables_without_growth(rt: HostRuntime) -> Result<(), Fail> {
-    let alloc = rt.alloc();
-    let registry = sample(alloc)?;
-    let sorted = table_of(alloc, sample(alloc)?)?;
-    let tag = tag_of(alloc, "sgn-DE")?;
-    let other = tag_of(alloc, "sgn-DE-x-a")?;
-    mark(alloc);
-    let list = ListTable::new(registry);
-    assert!(rt; finds_by_no_growth(&list, &tag, Some(44)));
-    assert!(rt; finds_by_no_growth(&list, &other, None));
-    assert!(rt; finds_by_no_growth(&sorted, &tag, Some(44)));
-    assert!(rt; finds_by_no_growth(&sorted, &other, None));
+fn lists_without_growth(rt: HostRuntime) -> Result<(), Fail> {
+    let registry = sample(rt.alloc())?;
+    let tag = tag_of(rt.alloc(), "sgn-DE")?;
+    let other = tag_of(rt.alloc(), "sgn-DE-x-a")?;
+    mark(rt.alloc());
+    assert!(rt; finds_both(&ListTable::new(registry), &tag, &other));
+    Ok(())
+}
+
+#[test]
+fn sorted_tables_without_growth(rt: HostRuntime) -> Result<(), Fail> {
+    let table = table_of(rt.alloc(), sample(rt.alloc())?)?;
+    let tag = tag_of(rt.alloc(), "sgn-DE")?;
+    let other = tag_of(rt.alloc(), "sgn-DE-x-a")?;
+    mark(rt.alloc());
+    assert!(rt; finds_both(&table, &tag, &other));
     Ok(())
 }

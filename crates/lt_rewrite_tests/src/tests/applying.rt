@@ -1,3 +1,4 @@
+//! One step on a tag, and what it leads to.
 ghost use Rattle.std.specs.Prelude.{◌↔◌, IsTrue, IfOk};
 ghost use Rattle.lt_registry.specs.Validity.{IsProper};
 ghost use Rattle.lt_registry.specs.Faults.{RepeatsAtMost};

@@ -1,3 +1,4 @@
+//! Tags with the steps on their cores.
 use super::core_of;
 use lt_registry::ListTable;
 use lt_rewrite::{Step, StepKind, explain_core, first_cycle};

@@ -1,3 +1,4 @@
+//! Tags with the steps on their extensions.
 ghost use Rattle.std.specs.Prelude.{All};
 ghost use Rattle.lt_registry.specs.Faults.{HasNoFault};
 ghost use Rattle.lt_rewrite.specs.Conditions.{HasEndingChain};

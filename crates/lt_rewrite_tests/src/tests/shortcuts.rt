@@ -1,3 +1,4 @@
+//! The ends of chains and normal forms, by shortcuts.
 use super::{CORES, core_of, same_core};
 use lt_registry::{Kind, ListTable};
 use lt_rewrite::{Shortcuts, first_cycle};

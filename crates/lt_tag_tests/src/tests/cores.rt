@@ -1,3 +1,4 @@
+//! The parts of a core are set, dropped and read.
 use super::words::put_core;
 use lt_subtag::Subtag;
 use lt_tag::{Core, OutOfMemory, TagFault, read_tag};

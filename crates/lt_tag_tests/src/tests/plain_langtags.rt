@@ -1,3 +1,4 @@
+//! Lists that are langtags without extensions and private use, and others.
 use lt_subtag::Subtag;
 use lt_tag::is_plain_langtag;
 use std::alloc::Global;

@@ -1,3 +1,4 @@
+//! Texts with their tags, or with their faults and places.
 use super::words::{has_class, has_words, long_text};
 use lt_tag::{Class, TagFault, read_tag};
 use std::alloc::{AllocError, Global};

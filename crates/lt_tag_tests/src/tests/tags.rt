@@ -1,3 +1,4 @@
+//! Tags are made of their parts, and give them again.
 use lt_subtag::Subtag;
 use lt_tag::{Core, OutOfMemory, Tag, TagFault, copy_subtags, read_tag, write_tag};
 use std::alloc::Global;
@@ -48,6 +49,22 @@ fn is_given_again(alloc: Global, text: &str) -> Result<bool, TagFault> {
 fn parts_give_a_tag(rt: HostRuntime) -> Result<(), TagFault> {
     for text in &["zh-min-x-a", "zh-cmn"] {
         assert!(rt; is_given_again(rt.alloc(), text)?, "{text}");
+    }
+    Ok(())
+}
+
+/// Whether the tag of a text is a core alone.
+fn is_core_alone(alloc: Global, text: &str) -> Result<bool, TagFault> {
+    Ok(read_tag(alloc, text.as_bytes())?.core_alone().is_some())
+}
+
+#[test]
+fn a_core_alone_has_neither_extensions_nor_private_use(rt: HostRuntime) -> Result<(), TagFault> {
+    for text in &["zh", "zh-Hant-HK", "sl-rozaj-1994"] {
+        assert!(rt; is_core_alone(rt.alloc(), text)?, "{text}");
+    }
+    for text in &["en-u-ca-buddhist", "en-x-a", "x-a", "i-klingon"] {
+        assert!(rt; !is_core_alone(rt.alloc(), text)?, "{text}");
     }
     Ok(())
 }

@@ -1,3 +1,4 @@
+//! Tags with the texts that are printed of them.
 use super::words::long_text;
 use lt_tag::{OutOfMemory, Tag, TagFault, append_tag, read_tag, write_tag};
 use std::alloc::Global;

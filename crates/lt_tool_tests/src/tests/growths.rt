@@ -1,6 +1,6 @@
-//! What a run does where a growth of memory is refused. `bench/growth.py` runs each test here once for each growth in
-//! it, and refuses that one alone; the gate refuses none. So a call that is not itself under test is made twice where it
-//! is refused.
+//! What a run does where a growth of memory is refused. `bench/growth.py` runs each test here once for each
+//! growth in it, and refuses that one alone; the gate refuses none. So a call that is not itself under test is
+//! made twice where it is refused.
 use super::registries::{LINES, OWED, checked};
 use super::sample::sample_text;
 use super::{command_line, read};

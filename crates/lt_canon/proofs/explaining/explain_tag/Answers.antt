@@ -3,13 +3,12 @@ use Rattle.std.specs.List.{AllByRecursion}
 use Rattle.lt_tag.specs.Parts.{CoreParts, ExtensionParts, TForm, TagForm}
 use Rattle.lt_tag.specs.Spelling.{spell_extensions}
 use Rattle.lt_tag.specs.Extensions.{transform, IsTransform}
-use Rattle.lt_tag.specs.Values.{core_of, extensions_of, number_of}
+use Rattle.lt_tag.specs.Values.{core_of, extensions_of, number_of, core_alone}
 use Rattle.lt_registry.specs.Validity.{IsProper}
 use Rattle.lt_rewrite.specs.Applying.{CoreLeads}
 use Rattle.lt_rewrite.specs.Runs.{NoneLeads, AddsOnCore}
 use Rattle.lt_rewrite.specs.declared.steps.Step.{Step}
 use Rattle.lt_rewrite.proofs.StepLaws.{fits, few_subtags}
-use Rattle.lt_check.specs.Conditions.{plain}
 use Rattle.lt_canon.specs.Explaining.{LeadsToRest}
 use Rattle.lt_rewrite.proofs.ProperTags.{proper_parts}
 use Rattle.lt_canon.proofs.TagProper.{core_spells_none}
@@ -72,7 +71,7 @@ returns-then-is_empty-2 g c =
     let on = plain_explained R c.requires.checked t c.in-Some.core.now d es ps old mid c.requires.proper (c.in-Some.ensures {u = tt}).value c.extensions-extensions.ensures.value c.private-private.ensures.value (nothing_of_test es (c.if-is_empty.ensures {u = tt})) (nothing_of_test ps (c.if-is_empty-2.ensures {u = tt})) adds in
     let same = plain_made c.from_parts-settled.result d c.new.result.items c.new-then-is_empty-2.result.items c.from_parts-settled.ensures c.new.ensures.items c.new-then-is_empty-2.ensures.items in
     if_ok _ _ c.explain_whole-then-is_empty-2.result
-    (λ taken rest. first_adds R c.requires.checked t (plain d) old mid taken.items on.1 (subst (λ (x : TagForm). LeadsToRest R x mid taken.items) same rest))
+    (λ taken rest. first_adds R c.requires.checked t (core_alone d) old mid taken.items on.1 (subst (λ (x : TagForm). LeadsToRest R x mid taken.items) same rest))
     c.explain_whole-then-is_empty-2.ensures
 
 pub explain_extensions-requires-clause-chains : goal.explain_extensions-requires-clause-chains

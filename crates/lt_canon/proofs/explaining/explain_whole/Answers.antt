@@ -7,11 +7,11 @@ use Rattle.lt_rewrite.specs.Labels.{step_at}
 use Rattle.lt_rewrite.specs.Runs.{AddsOnCore}
 use Rattle.lt_rewrite.specs.declared.steps.Step.{Step}
 use Rattle.lt_rewrite.specs.declared.steps.StepKind.TheVariants as steps
-use Rattle.lt_check.specs.Conditions.{plain}
 use Rattle.lt_check.proofs.CheckedRegistry.{value_plain}
 use Rattle.lt_canon.proofs.CanonicalForms.{plain_of_core, plain_has_core}
 use Rattle.lt_canon.proofs.Explained.{rests, whole_at_rest, value_rests_by}
 use Rattle.lt_canon.proofs.explaining.explain_whole.Goals as goal
+use Rattle.lt_tag.specs.Values.{core_alone}
 
 pub returns-in_default : goal.returns-in_default
 returns-in_default g c =
@@ -50,7 +50,7 @@ returns g c =
     let mid : List Step = c.push.new.self.items in
     let new : List Step = c.in_ok-steps.steps.items in
     let has : whole_value R t ≡ Some value = ap (option_and_then (λ (e : EntryParts). tag_of e.value)) (sym (c.in-Some.ensures {u = tt})) ∙ sym (c.in-Some-tag_value.ensures {u = tt}) in
-    let is : value ≡ plain core = plain_of_core R value core (value_plain R c.requires.checked t value has) (sym (c.in-Some-core.ensures {u = tt}).value) in
+    let is : value ≡ core_alone core = plain_of_core R value core (value_plain R c.requires.checked t value has) (sym (c.in-Some-core.ensures {u = tt}).value) in
     let numbered = ap (step_at steps.Whole 1) (c.number.ensures.value ∙ ap number_of (c.in-Some.ensures {u = tt})) in
     let given = c.in_ok-steps.ensures {u = tt} in
     value_rests_by R c.requires.checked t core form step old mid new c.requires.proper c.requires.plain c.requires.at_rest (has ∙ ap Some is) numbered (c.in_ok-push.ensures {u = tt}).items

@@ -18,7 +18,7 @@ returns g c = record {
     new = record { holds = refl; failures = c.new-errors.ensures.failures; reads = c.new-errors.ensures.reads };
   };
   runs = c.run_program-status.ensures;
-  asked = c.reads_input-reads_input.result;
-  is_asked = c.reads_input-reads_input.ensures;
+  asked = c.answers_lines-answers_lines.result;
+  is_asked = c.answers_lines-answers_lines.ensures;
   tells = c.tell.ensures;
 }

@@ -1,6 +1,6 @@
 use Rattle.std.proofs.Common.{refl, sym, ap, ◌∙◌}
 use Rattle.std.specs.Option.{option_copied}
-use Rattle.lt_registry.specs.Entries.{entry, value, number_of}
+use Rattle.lt_registry.specs.Entries.{entry, preferred_value, number_of}
 use Rattle.lt_registry.specs.declared.entries.Kind.TheVariants as kinds
 use Rattle.lt_rewrite.proofs.CoreSettled.{is_none}
 use Rattle.lt_rewrite.proofs.CoreFirst.{first_language}
@@ -14,4 +14,4 @@ returns g c =
     first_language R c.args.start core _ c.in_ok-value.field-0.now refl refl
     (c.record_number.ensures ∙ ap (λ l. number_of (entry R kinds.Language l)) same)
     (sym c.extlangs.ensures.value ∙ is_none c.extlangs.result.now (sym c.is_empty.ensures ∙ c.if-not-is_empty.false))
-    (ap (value R kinds.Language) (sym same) ∙ sym c.value.ensures.value ∙ ap option_copied c.in_ok-value.was)
+    (ap (preferred_value R kinds.Language) (sym same) ∙ sym c.value.ensures.value ∙ ap option_copied c.in_ok-value.was)

@@ -18,7 +18,7 @@ pub returns-in-Some-clause-turn : goal.returns-in-Some-clause-turn
 returns-in-Some-clause-turn g c =
     let V = values_of (g.L.Lookup.listed c.args.table.now) in
     first_turn_at V c.args.core.now c.loop-index.index c.variant-item.result c.copy.result c.variants-variant-items.result.now c.variants-variant-items.ensures.value c.loop-index-test.true c.variant-item.is
-    (ap (λ l. V.turn l c.variant-item.result) (sym c.language.ensures.value) ∙ sym c.turn_at.ensures.value ∙ ap option_copied c.in-Some.is ∙ sym (ap some c.copy.ensures))
+    (ap (λ l. V.variant_language l c.variant-item.result) (sym c.language.ensures.value) ∙ sym c.turn_at.ensures.value ∙ ap option_copied c.in-Some.is ∙ sym (ap some c.copy.ensures))
     c.loop-index.invariant
   where
     some : List ℕ → Option (List ℕ)
@@ -28,12 +28,12 @@ pub loop-index-preserved : goal.loop-index-preserved
 loop-index-preserved g c =
     let V = values_of (g.L.Lookup.listed c.args.table.now) in
     none_more V c.args.core.now c.loop-index.index c.variant-item.result c.variants-variant-items.result.now c.loop-index-test.true c.variant-item.is
-    (ap (λ l. V.turn l c.variant-item.result) (sym c.language.ensures.value) ∙ sym c.turn_at.ensures.value ∙ ap option_copied c.in_default.is)
+    (ap (λ l. V.variant_language l c.variant-item.result) (sym c.language.ensures.value) ∙ sym c.turn_at.ensures.value ∙ ap option_copied c.in_default.is)
     c.loop-index.invariant
 
 pub returns-clause-turn : goal.returns-clause-turn
 returns-clause-turn g c =
     let V = values_of (g.L.Lookup.listed c.args.table.now) in
-    let P : List ℕ → Type 0 = λ v. V.turn c.args.core.now.language v ≡ None in
+    let P : List ℕ → Type 0 = λ v. V.variant_language c.args.core.now.language v ≡ None in
     let all : take c.loop-index.index c.variants-variant-items.result.now ≡ c.variants-variant-items.result.now = take_all c.loop-index.index c.variants-variant-items.result.now c.loop-index-test.false in
     subst (All P) (all ∙ c.variants-variant-items.ensures.value) c.loop-index.invariant

@@ -40,6 +40,9 @@ returns-in-Explain g c =
     let printed = printed_by _ answers _ _ c.explain.result _ c.explain.ensures c.print_answer-in-Explain.ensures in
     rw c.in-Explain.is (refl, refl, rw c.as_bytes-in-Explain.ensures.value at printed)
 
+pub returns-in-Verify : goal.returns-in-Verify
+returns-in-Verify g c = rw c.in-Verify.is (refl, rw c.as_bytes-in-Verify.ensures.value at c.verify.ensures)
+
 pub returns-in-Upgrade : goal.returns-in-Upgrade
 returns-in-Upgrade g c =
     rw c.in-Upgrade.is (

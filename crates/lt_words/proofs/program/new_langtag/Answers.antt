@@ -16,4 +16,5 @@ returns c =
     let five = adds _ (app_of c.in_ok-program-5.program) _ _ four c.in_ok-program-5.ensures in
     let six = adds _ (app_of c.in_ok-program-6.program) _ _ five c.in_ok-program-6.ensures in
     let seven = adds _ (app_of c.in_ok-program-7.program) _ _ six c.in_ok-program-7.ensures in
-    IfOk-weaker c.with_new-8.result _ _ (λ r is. adds _ (app_of r) _ _ seven is) c.with_new-8.ensures
+    let eight = adds _ (app_of c.in_ok-program-8.program) _ _ seven c.in_ok-program-8.ensures in
+    IfOk-weaker c.with_new-9.result _ _ (λ r is. adds _ (app_of r) _ _ eight is) c.with_new-9.ensures

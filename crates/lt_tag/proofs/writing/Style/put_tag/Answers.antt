@@ -4,12 +4,12 @@ use Rattle.std.proofs.lemmas.Result.{IfOk-weaker}
 use Rattle.lt_tag.specs.Parts.{TagForm, LangTag, PrivateUse, Grandfathered}
 use Rattle.lt_tag.specs.Lists.{pieces}
 use Rattle.lt_tag.specs.Grandfathered.{grandfathered_texts, grandfathered_list}
-use Rattle.lt_tag.specs.Extensions.{spell_source}
 use Rattle.lt_tag.specs.Spelling.{spell_extensions, spell_private}
 use Rattle.lt_tag.specs.Values.{IsTagValue, core_of, extensions_of, private_of, number_of}
 use Rattle.lt_tag.specs.WellFormed.{spell}
 use Rattle.lt_tag.proofs.PrintingLemmas.{prints_append, prints_as}
 use Rattle.lt_tag.proofs.writing.Style.put_tag.Goals as goal
+use Rattle.lt_tag.specs.Splitting.{spell_source}
 
 -- a grandfathered tag spells the pieces of its text
 spelled : (form : TagForm) (number : ℕ) → Some number ≡ number_of form → pieces (slice_index_or grandfathered_texts (number - 1) []) ≡ spell form

@@ -1,0 +1,123 @@
+-- The lines of the text of an explanation.
+use Rattle.std.proofs.Common.{◌≡◌, ◌≢◌, ◌<◌, ◌++◌, ◌∷◌, ◌∙◌, ◌==◌, ℕ, List, [], Bool, true, false, Result, Ok, Err, IsOk, if◌then◌else◌, length, suc, slice_index_or, sym, ap, refl, subst, arith, append_assoc}
+use Rattle.std.specs.Prelude.{codes}
+use Rattle.std.specs.Char.{is_ascii_alphanumeric}
+use Rattle.std.specs.Fmt.{decimal}
+use Rattle.std.specs.List.{AllByRecursion, list_all, onto_first}
+use Rattle.std.proofs.lemmas.Bool.{and_parts, eqb-true}
+use Rattle.std.proofs.lemmas.List.Elements.{All-cons, All-head, All-nil, All-tail}
+use Rattle.lt_jar.proofs.CutLemmas.{lines_of-ended}
+use Rattle.lt_jar.specs.Lines.{IsOneLine, lines_of}
+use Rattle.lt_subtag.specs.Bytes.{folded}
+use Rattle.lt_subtag.specs.Reading.{subtag_of}
+use Rattle.lt_subtag.specs.declared.SubtagFault.{SubtagFault}
+use Rattle.lt_subtag.specs.declared.SubtagFault.TheVariants as faults
+use Rattle.lt_tag.proofs.OneTagLemmas.{one_tag_of_text, text_of_tag}
+use Rattle.lt_tag.specs.Lists.{pieces}
+use Rattle.lt_tag.specs.Parts.{TagForm}
+use Rattle.lt_tag.specs.WellFormed.{IsTag}
+use Rattle.lt_registry.specs.Parts.{EntryParts}
+use Rattle.lt_rewrite.specs.Names.{name_of}
+use Rattle.lt_rewrite.specs.declared.steps.Step.{Step}
+use Rattle.lt_canon.specs.ExplanationTexts as printed
+use Rattle.lt_canon.specs.ExplanationTexts.{AreLines, AreStepLines}
+use Rattle.lt_verify.proofs.FrontLemmas.{step_line-append}
+use Rattle.lt_verify.proofs.PlaceLemmas.{step_fits}
+use Rattle.lt_verify.proofs.StepLemmas.{step_is_line}
+use Rattle.lt_verify.specs.Laws.{ExplanationsAreRight, NumbersFit}
+use Rattle.lt_verify.specs.StepLines.{end_line, step_line, text_of}
+use Rattle.lt_verify.specs.Verdicts.{Explain, IsVerdict, Lead}
+use Rattle.lt_verify.specs.declared.verdicts.Verdict.TheVariants as verdicts
+
+abbrev IsNoFeed : ℕ → Type 0
+IsNoFeed byte = byte ≢ 10
+
+-- ---- the text of a tag is one line
+
+alphanumeric_line : (piece : List ℕ) → list_all is_ascii_alphanumeric piece ≡ true → IsOneLine piece
+alphanumeric_line [] h = All-nil IsNoFeed
+alphanumeric_line (b ∷ piece) h =
+    let k = and_parts (is_ascii_alphanumeric b) (list_all is_ascii_alphanumeric piece) h in
+    All-cons IsNoFeed b piece (λ e. let bad : is_ascii_alphanumeric 10 ≡ true = subst (λ x. is_ascii_alphanumeric x ≡ true) e k.0 in cc) (alphanumeric_line piece k.1)
+
+abbrev subtag_by : List ℕ → (none fine short : Bool) → Result (List ℕ) SubtagFault
+subtag_by piece none fine short = if none then Err faults.Empty else (if fine then (if short then Ok (folded piece) else Err faults.TooLong) else Err faults.BadByte)
+
+fine_by : (piece : List ℕ) (none fine short : Bool) → IsOk (subtag_by piece none fine short) → fine ≡ true
+fine_by piece true fine short h = cc
+fine_by piece false true short h = refl
+fine_by piece false false short h = cc
+
+pieces_lines : (ps : List (List ℕ)) → ((i : ℕ) → i < length ps → IsOk (subtag_of (slice_index_or ps i []))) → AllByRecursion IsOneLine ps
+pieces_lines [] h = tt
+pieces_lines (p ∷ ps) h = (alphanumeric_line p (fine_by p _ (list_all is_ascii_alphanumeric p) _ (h 0 (omega arith))), pieces_lines ps (λ i n. h (suc i) (omega arith)))
+
+text_line : (text : List ℕ) → AllByRecursion IsOneLine (pieces text) → IsOneLine text
+text_line [] h = All-nil IsNoFeed
+text_line (b ∷ text) h = by_test (b == 45) refl (text_line text) h
+  where
+    by_pieces : (ps : List (List ℕ)) → (AllByRecursion IsOneLine ps → IsOneLine text) → AllByRecursion IsOneLine (onto_first b ps) → IsOneLine (b ∷ text)
+    by_pieces [] rest h = All-cons IsNoFeed b text (All-head IsNoFeed b [] h.0) (rest tt)
+    by_pieces (p ∷ ps) rest h = All-cons IsNoFeed b text (All-head IsNoFeed b p h.0) (rest (All-tail IsNoFeed b p h.0, h.1))
+
+    by_test : (t : Bool) → (b == 45) ≡ t → (AllByRecursion IsOneLine (pieces text) → IsOneLine text) → AllByRecursion IsOneLine (if t then [] ∷ pieces text else onto_first b (pieces text)) → IsOneLine (b ∷ text)
+    by_test true is rest h = All-cons IsNoFeed b text (λ e. absurd (omega (arith, e, eqb-true b 45 is))) (rest h.1)
+    by_test false is rest h = by_pieces (pieces text) rest h
+
+tag_line : (t : TagForm) → IsTag t → IsOneLine (text_of t)
+tag_line t is = text_line (text_of t) (pieces_lines (pieces (text_of t)) (text_of_tag t is).0)
+
+-- ---- the lines
+
+-- the line of a step, ended by a line feed
+line_is : (step : Step) (after : TagForm) → printed.step_line step after ≡ step_line step (text_of after) ++ 10 ∷ []
+line_is step after =
+    let gap : List ℕ = 32 ∷ [] in
+    let name = name_of step.kind in
+    let place = decimal step.place in
+    let number = decimal step.number in
+    let text = text_of after ++ 10 ∷ [] in
+    append_assoc (name ++ gap ++ place ++ gap ++ number) gap text ∙ append_assoc (name ++ gap ++ place ++ gap) number (32 ∷ text)
+    ∙ append_assoc (name ++ gap ++ place) gap (number ++ 32 ∷ text) ∙ append_assoc (name ++ gap) place (32 ∷ (number ++ 32 ∷ text))
+    ∙ append_assoc name gap (place ++ 32 ∷ (number ++ 32 ∷ text)) ∙ sym (step_line-append step (text_of after) (10 ∷ []))
+
+-- lines that lead to a tag, and what follows their text
+record AreLed (R : List EntryParts) (t end : TagForm) (text : List ℕ) : Type 0 where
+  lines : List (List ℕ)
+  lead : Lead R t lines end
+  split : (more : List ℕ) → lines_of (text ++ more) ≡ lines ++ lines_of more
+
+steps_led : (R : List EntryParts) → NumbersFit R → (steps : List Step) (end t : TagForm) (text : List ℕ) → AreStepLines R steps end t text → AreLed R t end text
+steps_led R all [] end t text are = record { lines = []; lead = are.0; split = λ more. ap (λ (l : List ℕ). lines_of (l ++ more)) are.1 }
+steps_led R all (step ∷ steps) end t text are =
+    let after = are.after in
+    let rest = steps_led R all steps end after are.rest are.printed in
+    let fit = step_fits R all t after step are.leads in
+    let line = step_line step (text_of after) in
+    let one : IsOneLine line = step_is_line step (text_of after) fit.0 fit.1 (tag_line after are.leads.0.to.tag.tag) in
+    let whole : (more : List ℕ) → text ++ more ≡ line ++ 10 ∷ (are.rest ++ more) = λ more.
+    ap (λ (l : List ℕ). l ++ more) are.line_is ∙ ap (λ (l : List ℕ). (l ++ are.rest) ++ more) (line_is step after)
+    ∙ append_assoc (line ++ 10 ∷ []) are.rest more ∙ append_assoc line (10 ∷ []) (are.rest ++ more) in
+    record {
+      lines = line ∷ rest.lines;
+      lead = (after, record { step = step; leads = are.leads; is_line = record { place = fit.0; number = fit.1; line_is = refl } }, rest.lead);
+      split = λ more. ap lines_of (whole more) ∙ lines_of-ended line (are.rest ++ more) one ∙ ap (λ (l : List (List ℕ)). line ∷ l) (rest.split more);
+    }
+
+lines_explain : (R : List EntryParts) → NumbersFit R → (t end : TagForm) (steps : List Step) (text : List ℕ) → IsTag end → AreLines R t steps end text → Explain R t (lines_of text)
+lines_explain R all t end steps text is are =
+    let led = steps_led R all steps end t are.of_steps are.are_steps in
+    let last = end_line (text_of end) in
+    let one : IsOneLine last = All-cons IsNoFeed 61 (32 ∷ text_of end) (λ e. absurd (omega (arith, e))) (All-cons IsNoFeed 32 (text_of end) (λ e. absurd (omega (arith, e))) (tag_line end is)) in
+    record {
+      steps = led.lines;
+      end = end;
+      lead = led.lead;
+      all = ap lines_of (are.all ∙ append_assoc are.of_steps (codes "= ") (printed.tag_line end)) ∙ led.split (last ++ 10 ∷ []) ∙ ap (λ (l : List (List ℕ)). led.lines ++ l) (lines_of-ended last [] one);
+    }
+
+pub explanations_right : (R : List EntryParts) → NumbersFit R → ExplanationsAreRight R
+explanations_right R all text printed t read is =
+    let same : is.tag ≡ t = one_tag_of_text text is.tag t is.read read in
+    subst (λ (u : TagForm). IsVerdict R u (lines_of printed) verdicts.Right) same
+    (lines_explain R all is.tag is.end is.steps printed is.is_explanation.form.canonical.valid.proper.tag.tag is.are_lines)

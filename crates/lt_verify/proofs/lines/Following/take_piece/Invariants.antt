@@ -1,0 +1,9 @@
+use Rattle.std.proofs.Common.{length}
+use Rattle.lt_verify.proofs.FollowLemmas.{PieceTurn}
+use Rattle.lt_verify.proofs.lines.Following.take_piece.Given as goal
+
+abbrev pub invariant-loop-part : goal.invariant-loop-part
+invariant-loop-part g l = PieceTurn (g.L.Lookup.listed l.table) l.piece l.rest l.fn.self l.self
+
+abbrev pub decreases-loop-part : goal.decreases-loop-part
+decreases-loop-part g l = length l.rest

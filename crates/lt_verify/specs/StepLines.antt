@@ -1,0 +1,43 @@
+-- The lines of an explanation.
+use Rattle.std.specs.Prelude.{◌≡◌, ◌<◌, ◌^◌, ℕ, List, ◌∷◌, ◌++◌}
+use Rattle.std.specs.Fmt.{decimal}
+use Rattle.lt_tag.specs.Conventional.{conventional}
+use Rattle.lt_tag.specs.Parts.{TagForm}
+use Rattle.lt_tag.specs.WellFormed.{spell}
+use Rattle.lt_rewrite.specs.Names.{name_of}
+use Rattle.lt_rewrite.specs.declared.steps.Step.{Step}
+use Rattle.lt_rewrite.specs.declared.steps.StepKind.{StepKind}
+
+-- the text of a tag
+abbrev pub text_of : TagForm → List ℕ
+text_of t = conventional (spell t)
+
+-- the kind, the place and the number of a step, with a space after each, and then a text
+abbrev pub step_line : Step → List ℕ → List ℕ
+step_line step text = name_of step.kind ++ 32 ∷ (decimal step.place ++ 32 ∷ (decimal step.number ++ 32 ∷ text))
+
+-- the line of the end
+abbrev pub end_line : List ℕ → List ℕ
+end_line text = 61 ∷ 32 ∷ text
+
+-- the line names this step, whose place and number are of 32 bits, and goes on with this text
+pub record IsStepLine (line : List ℕ) (step : Step) (text : List ℕ) : Type 0 where
+  pub place : step.place < 2 ^ 32
+  pub number : step.number < 2 ^ 32
+  pub line_is : line ≡ step_line step text
+
+-- the line names no step
+abbrev pub IsNoName : List ℕ → Type 0
+IsNoName line = (step : Step) (text : List ℕ) → IsStepLine line step text → ⊥
+
+-- the line is not that of an end
+abbrev pub NamesNoEnd : List ℕ → Type 0
+NamesNoEnd line = (text : List ℕ) → line ≡ end_line text → ⊥
+
+-- no kind has this name
+abbrev pub NamesNoKind : List ℕ → Type 0
+NamesNoKind name = (kind : StepKind) → name_of kind ≡ name → ⊥
+
+-- no number of 32 bits is written so
+abbrev pub IsNoNumber : List ℕ → Type 0
+IsNoNumber digits = (n : ℕ) → n < 2 ^ 32 → decimal n ≡ digits → ⊥

@@ -1,0 +1,95 @@
+-- What a run over the lines of an explanation read, and what it judged.
+use Rattle.std.specs.Prelude.{◌≡◌, ◌≤◌, ◌<◌, ◌+◌, ℕ, List, [], ◌∷◌, ◌++◌, length, Option, Some, None, Result, Ok, Err}
+use Rattle.std.specs.Io.KnownBytes.{Consumes, IsAtEnd}
+use Rattle.lt_jar.specs.Devices.{HasFailed, failures_of, inner_of, last_given_of}
+use Rattle.lt_jar.specs.Lines.{HoldsOfWhole, IsOneLine, lines_of}
+use Rattle.lt_jar.specs.Sources.{most_reads}
+use Rattle.lt_jar.specs.declared.devices.Device.{Device}
+use Rattle.lt_tag.specs.Parts.{TagForm}
+use Rattle.lt_registry.specs.Parts.{EntryParts}
+use Rattle.lt_lines.specs.Running.{HasRead}
+use Rattle.lt_lines.specs.declared.faults.ToolFault.{ToolFault}
+use Rattle.lt_lines.specs.declared.faults.ToolFault.TheVariants as faults
+use Rattle.lt_verify.specs.Judging.{IsProperIf, Judges, KeepsFew}
+use Rattle.lt_verify.specs.Verdicts.{IsVerdict}
+use Rattle.lt_verify.specs.declared.lines.Following.{Following}
+use Rattle.lt_verify.specs.declared.verdicts.Verdict.{Verdict}
+
+-- the lines of the bytes explain the tag, or this is their first fault
+abbrev pub IsVerdictOf : List EntryParts → TagForm → Verdict → List ℕ → Type 0
+IsVerdictOf R t v bytes = IsVerdict R t (lines_of bytes) v
+
+-- how a run ended: the verdict is that of all that the reader gives, whatever follows what was read
+abbrev pub EndsAs : {I : Type 0} → List EntryParts → TagForm → (I → Option (List ℕ)) → (input input' : Device I) → ℕ → List ℕ
+    → Result Verdict ToolFault → Type 0
+EndsAs R t remaining input input' reads read (Ok v) = HoldsOfWhole (IsVerdictOf R t v) (IsAtEnd (remaining (inner_of input'))) read
+EndsAs R t remaining input input' reads read (Err faults.Read) = HasFailed input input'
+EndsAs R t remaining input input' reads read (Err faults.TooManyTurns) = (reads ≡ most_reads) × (0 < last_given_of input')
+EndsAs R t remaining input input' reads read (Err faults.Write) = ⊥
+EndsAs R t remaining input input' reads read (Err faults.OutOfMemory) = Unit {0}
+
+-- a run over the lines of a reader, which are to explain a tag
+pub record VerifiesLines {I : Type 0} (R : List EntryParts) (t : TagForm) (remaining : I → Option (List ℕ)) (input input' : Device I)
+    (result : Result Verdict ToolFault) : Type 0 where
+  pub read : List ℕ
+  pub reads : ℕ
+  pub consumes : Consumes (remaining (inner_of input)) (remaining (inner_of input')) read
+  pub calls : HasRead input input' reads
+  pub bounded : reads ≤ most_reads
+  pub ends : EndsAs R t remaining input input' reads read result
+  pub read_rises : failures_of input < failures_of input' → result ≡ Err faults.Read
+
+-- ---- the steps
+
+-- a run begins at a tag, after no line
+pub record Begins (t : TagForm) (start : Following) : Type 0 where
+  pub kept : start.kept.items ≡ []
+  pub here : start.here ≡ Some t
+  pub number : start.number ≡ 1
+
+-- the line goes on with this part
+pub record KeepsMore (part : List ℕ) (old new : Following) : Type 0 where
+  pub kept : new.kept.items ≡ old.kept.items ++ part
+  pub here : new.here ≡ old.here
+  pub number : new.number ≡ old.number
+
+-- a line was taken that leads here, or is the end
+pub record GoesTo (here : Option TagForm) (old new : Following) : Type 0 where
+  pub there : new.here ≡ here
+  pub emptied : new.kept.items ≡ []
+  pub counted : new.number ≡ old.number + 1
+
+-- the line that is kept was judged, and more lines are judged as they are after it
+pub record GoesOn (R : List EntryParts) (old new : Following) : Type 0 where
+  pub proper : IsProperIf R new.here
+  pub emptied : new.kept.items ≡ []
+  pub counted : new.number ≡ old.number + 1
+  pub follows : (lines : List (List ℕ)) (v : Verdict) → Judges R new.number new.here lines v → Judges R old.number old.here (old.kept.items ∷ lines) v
+
+-- this is judged of the line that is kept, whatever follows, or it goes on
+abbrev pub JudgesKept : List EntryParts → (old new : Following) → Option Verdict → Type 0
+JudgesKept R old new None = GoesOn R old new
+JudgesKept R old new (Some v) = (lines : List (List ℕ)) → Judges R old.number old.here (old.kept.items ∷ lines) v
+
+-- this is judged of a line of which this is kept, if anything is, however it goes on; or it is not too long to be kept
+abbrev pub SettlesKept : List EntryParts → Following → Option Verdict → Type 0
+SettlesKept R state None = KeepsFew R state.here (length state.kept.items)
+SettlesKept R state (Some v) = (more : List ℕ) → IsOneLine state.kept.items → Judges R state.number state.here (lines_of (state.kept.items ++ more)) v
+
+-- bytes were taken: the line that is kept goes on so, and more bytes are judged as they are after these
+pub record Takes (R : List EntryParts) (piece : List ℕ) (old new : Following) : Type 0 where
+  pub proper : IsProperIf R new.here
+  pub counted : new.number ≤ old.number + length piece
+  pub one : IsOneLine old.kept.items → IsOneLine new.kept.items
+  pub follows : (more : List ℕ) (v : Verdict) → IsOneLine old.kept.items
+      → Judges R new.number new.here (lines_of (new.kept.items ++ more)) v
+      → Judges R old.number old.here (lines_of (old.kept.items ++ (piece ++ more))) v
+
+-- this is judged whatever follows the bytes, or they were taken and no more of a line is kept than the right one has
+abbrev pub TakesPiece : List EntryParts → List ℕ → (old new : Following) → Option Verdict → Type 0
+TakesPiece R piece old new None = Takes R piece old new × KeepsFew R new.here (length new.kept.items)
+TakesPiece R piece old new (Some v) = (more : List ℕ) → IsOneLine old.kept.items → Judges R old.number old.here (lines_of (old.kept.items ++ (piece ++ more))) v
+
+-- this is judged where nothing follows
+abbrev pub JudgesEnd : List EntryParts → Following → Verdict → Type 0
+JudgesEnd R state v = IsOneLine state.kept.items → Judges R state.number state.here (lines_of state.kept.items) v

@@ -1,0 +1,84 @@
+//! The step that a line names.
+ghost use Rattle.std.specs.Prelude.{◌≡◌, ◌<◌, ◌^◌, MatchOption};
+ghost use Rattle.std.specs.Fmt.{decimal};
+ghost use Rattle.lt_rewrite.specs.Names.{name_of};
+ghost use Rattle.lt_verify.specs.StepLines.{IsStepLine, NamesNoEnd, IsNoName, IsNoNumber, NamesNoKind, end_line};
+
+use itoa::Buffer;
+use lt_lines::split_first;
+use lt_rewrite::{Step, StepKind};
+
+/// The kinds of step.
+static KINDS: [StepKind; 14] = [
+    StepKind::Extlang,
+    StepKind::Language,
+    StepKind::Script,
+    StepKind::Region,
+    StepKind::Variant,
+    StepKind::VariantLanguage,
+    StepKind::Whole,
+    StepKind::SwapExtensions,
+    StepKind::DropAttribute,
+    StepKind::SwapAttributes,
+    StepKind::DropKeyword,
+    StepKind::SwapKeywords,
+    StepKind::DropTrue,
+    StepKind::SwapFields,
+];
+
+/// The kind of step of this name.
+fn kind_named(name: &[u8]) -> Option<StepKind>
+    ensures { MatchOption result (NamesNoKind name.now) (λ kind. name_of kind ≡ name.now) }
+{
+    for kind in &KINDS {
+        if kind.name().as_bytes() == name {
+            return Some(*kind);
+        }
+    }
+    None
+}
+
+/// The number of 32 bits that is written so.
+fn number_of(digits: &[u8]) -> Option<u32>
+    ensures { MatchOption result (IsNoNumber digits.now) (λ n. (n < 2 ^ 32) × (decimal n ≡ digits.now)) }
+{
+    let Ok(text) = std::str::from_utf8(digits) else {
+        return None;
+    };
+    let Ok(number) = text.parse::<u32>() else {
+        return None;
+    };
+    if Buffer::new().format(number) == text {
+        Some(number)
+    } else {
+        None
+    }
+}
+
+/// The step that a line names, and the text after it.
+pub(crate) fn read_step(line: &[u8]) -> Option<(Step, &[u8])>
+    ensures { MatchOption result (IsNoName line.now) (λ p. IsStepLine line.now p.0 p.1.now) }
+{
+    let (name, places) = split_first(b' ', line)?;
+    let (place, numbers) = split_first(b' ', places)?;
+    let (number, text) = split_first(b' ', numbers)?;
+    let kind = kind_named(name)?;
+    let place = number_of(place)?;
+    let number = number_of(number)?;
+    let step = Step {
+        kind,
+        place,
+        number,
+    };
+    Some((step, text))
+}
+
+/// The text of an end, if the line is that of one.
+pub(crate) fn read_end(line: &[u8]) -> Option<&[u8]>
+    ensures { MatchOption result (NamesNoEnd line.now) (λ text. line.now ≡ end_line text.now) }
+{
+    match line {
+        [b'=', b' ', text @ ..] => Some(text),
+        _ => None,
+    }
+}

