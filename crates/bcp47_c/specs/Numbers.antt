@@ -86,8 +86,8 @@ abbrev pub upgrade_condition : UpgradeCondition → ℕ
 upgrade_condition upgrades.StaysRegistered = 47
 upgrade_condition upgrades.SameEnds = 48
 upgrade_condition upgrades.SameExtlang = 49
-upgrade_condition upgrades.SameTurn = 50
-upgrade_condition upgrades.NoNewTurn = 51
+upgrade_condition upgrades.SameVariantLanguage = 50
+upgrade_condition upgrades.NoNewVariantLanguage = 51
 upgrade_condition upgrades.SameWhole = 52
 
 -- the three kinds of tag (RFC 5646, 2.1)

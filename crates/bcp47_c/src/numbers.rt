@@ -131,8 +131,8 @@ pub(crate) fn upgrade_condition(condition: UpgradeCondition) -> u8
         UpgradeCondition::StaysRegistered => 47,
         UpgradeCondition::SameEnds => 48,
         UpgradeCondition::SameExtlang => 49,
-        UpgradeCondition::SameTurn => 50,
-        UpgradeCondition::NoNewTurn => 51,
+        UpgradeCondition::SameVariantLanguage => 50,
+        UpgradeCondition::NoNewVariantLanguage => 51,
         UpgradeCondition::SameWhole => 52,
     }
 }

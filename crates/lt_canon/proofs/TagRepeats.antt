@@ -16,7 +16,7 @@ use Rattle.lt_rewrite.specs.Extensions.{singleton_cmp, TransformStep, on_source,
 use Rattle.lt_rewrite.specs.TagSteps.{TagChange, on_core, on_extensions, on_whole, TagStep, CanRepeat}
 use Rattle.lt_rewrite.proofs.NormalForms.{star_keeps}
 use Rattle.lt_rewrite.proofs.PartLists.{all_both, all_step, all_middle, all_replaced, all_unmapped, if_some_is, is_if_some}
-use Rattle.lt_rewrite.proofs.CoreLaws.{TurnsOnce, turns_once, turns_once_kept, form_distinct}
+use Rattle.lt_rewrite.proofs.CoreLaws.{VariantLanguagesOnce, variant_languages_once, variant_languages_once_kept, form_distinct}
 use Rattle.lt_rewrite.proofs.ExtensionLaws.{one_transform, extensions_ordered, normal_parts, normal_singleton}
 use Rattle.lt_check.specs.Conditions.{IsValidCoreAlone, IsChecked}
 use Rattle.lt_canon.specs.Laws.{RepeatsWithoutForm, CanonicalOrRepeats}
@@ -49,53 +49,53 @@ abbrev HasDistinctVariants : CoreParts → Type 0
 HasDistinctVariants c = Distinct c.variants
 
 -- no variant with a language value occurs twice in the source
-abbrev TurnsOnceExtension : List EntryParts → ExtensionParts → Type 0
-TurnsOnceExtension R e = e.singleton ≡ transform → (p : TForm) → IsTransform e.subtags p → IfSome p.source (TurnsOnce R)
+abbrev VariantLanguagesOnceExtension : List EntryParts → ExtensionParts → Type 0
+VariantLanguagesOnceExtension R e = e.singleton ≡ transform → (p : TForm) → IsTransform e.subtags p → IfSome p.source (VariantLanguagesOnce R)
 
 -- nor in the core
-abbrev TurnsOnceTag : List EntryParts → TagForm → Type 0
-TurnsOnceTag R (LangTag c es ps) = TurnsOnce R c × AllByRecursion (TurnsOnceExtension R) es
-TurnsOnceTag R (PrivateUse ps) = Unit {0}
-TurnsOnceTag R (Grandfathered n) = Unit {0}
+abbrev VariantLanguagesOnceTag : List EntryParts → TagForm → Type 0
+VariantLanguagesOnceTag R (LangTag c es ps) = VariantLanguagesOnce R c × AllByRecursion (VariantLanguagesOnceExtension R) es
+VariantLanguagesOnceTag R (PrivateUse ps) = Unit {0}
+VariantLanguagesOnceTag R (Grandfathered n) = Unit {0}
 
-distinct_once : (R : List EntryParts) → MeetsCoreConditions R → (t : TagForm) → RepeatsNoVariant t → TurnsOnceTag R t
+distinct_once : (R : List EntryParts) → MeetsCoreConditions R → (t : TagForm) → RepeatsNoVariant t → VariantLanguagesOnceTag R t
 distinct_once R C (LangTag c es ps) h = (
-  turns_once R C c h.0,
-  AllByRecursion-weaker HasDistinctSource (TurnsOnceExtension R) (λ e d s p k. if_some_weaker HasDistinctVariants (TurnsOnce R) (turns_once R C) p.source (d s p k)) es h.1,
+  variant_languages_once R C c h.0,
+  AllByRecursion-weaker HasDistinctSource (VariantLanguagesOnceExtension R) (λ e d s p k. if_some_weaker HasDistinctVariants (VariantLanguagesOnce R) (variant_languages_once R C) p.source (d s p k)) es h.1,
 )
 distinct_once R C (PrivateUse ps) h = tt
 distinct_once R C (Grandfathered n) h = tt
 
 module _ (R : List EntryParts) (C : IsChecked R) where
-  transform_once : (p q : TForm) → TransformStep R p q → IfSome p.source (TurnsOnce R) → IfSome q.source (TurnsOnce R)
+  transform_once : (p q : TForm) → TransformStep R p q → IfSome p.source (VariantLanguagesOnce R) → IfSome q.source (VariantLanguagesOnce R)
   transform_once p q (on_source c d from to s _) h =
-      is_if_some (TurnsOnce R) q.source d to (turns_once_kept R (core_conditions R C.passes) c d s (if_some_is (TurnsOnce R) p.source c from h))
-  transform_once p q (on_fields g s) h = let Q : Option CoreParts → Type 0 = λ x. IfSome x (TurnsOnce R) in subst Q (sym g) h
+      is_if_some (VariantLanguagesOnce R) q.source d to (variant_languages_once_kept R (core_conditions R C.passes) c d s (if_some_is (VariantLanguagesOnce R) p.source c from h))
+  transform_once p q (on_fields g s) h = let Q : Option CoreParts → Type 0 = λ x. IfSome x (VariantLanguagesOnce R) in subst Q (sym g) h
 
-  extension_once : (e f : ExtensionParts) → ExtensionStep R e f → TurnsOnceExtension R e → TurnsOnceExtension R f
+  extension_once : (e f : ExtensionParts) → ExtensionStep R e f → VariantLanguagesOnceExtension R e → VariantLanguagesOnceExtension R f
   extension_once e f (in_unicode p q is_u kept _ _ _) h = λ x. absurd (omega (arith, x, kept, is_u))
-  extension_once e f (in_transform p q is_t _ from to s) h = λ x r k. subst (λ (z : TForm). IfSome z.source (TurnsOnce R)) (one_transform f.subtags q r to k) (transform_once p q s (h is_t p from))
+  extension_once e f (in_transform p q is_t _ from to s) h = λ x r k. subst (λ (z : TForm). IfSome z.source (VariantLanguagesOnce R)) (one_transform f.subtags q r to k) (transform_once p q s (h is_t p from))
 
-  extensions_once : (es fs : List ExtensionParts) → ExtensionsStep R es fs → AllByRecursion (TurnsOnceExtension R) es → AllByRecursion (TurnsOnceExtension R) fs
+  extensions_once : (es fs : List ExtensionParts) → ExtensionsStep R es fs → AllByRecursion (VariantLanguagesOnceExtension R) es → AllByRecursion (VariantLanguagesOnceExtension R) fs
   extensions_once es fs (inside before e f after w s) h =
-      let all = subst (AllByRecursion (TurnsOnceExtension R)) w.there h in
-      subst (AllByRecursion (TurnsOnceExtension R)) (sym w.result) (all_replaced (TurnsOnceExtension R) before e f after all (extension_once e f s (all_middle (TurnsOnceExtension R) before e after all)))
-  extensions_once es fs (among s) h = all_step (TurnsOnceExtension R) es fs s h
+      let all = subst (AllByRecursion (VariantLanguagesOnceExtension R)) w.there h in
+      subst (AllByRecursion (VariantLanguagesOnceExtension R)) (sym w.result) (all_replaced (VariantLanguagesOnceExtension R) before e f after all (extension_once e f s (all_middle (VariantLanguagesOnceExtension R) before e after all)))
+  extensions_once es fs (among s) h = all_step (VariantLanguagesOnceExtension R) es fs s h
 
-  change_once : (t u : TagForm) → TagChange R t u → TurnsOnceTag R t → TurnsOnceTag R u
+  change_once : (t u : TagForm) → TagChange R t u → VariantLanguagesOnceTag R t → VariantLanguagesOnceTag R u
   change_once t u (on_core c d es ps from to s) h =
-      let k : TurnsOnceTag R (LangTag c es ps) = subst (TurnsOnceTag R) from h in
-      subst (TurnsOnceTag R) (sym to) (turns_once_kept R (core_conditions R C.passes) c d s k.0, k.1)
+      let k : VariantLanguagesOnceTag R (LangTag c es ps) = subst (VariantLanguagesOnceTag R) from h in
+      subst (VariantLanguagesOnceTag R) (sym to) (variant_languages_once_kept R (core_conditions R C.passes) c d s k.0, k.1)
   change_once t u (on_extensions c es fs ps from to s) h =
-      let k : TurnsOnceTag R (LangTag c es ps) = subst (TurnsOnceTag R) from h in
-      subst (TurnsOnceTag R) (sym to) (k.0, extensions_once es fs s k.1)
+      let k : VariantLanguagesOnceTag R (LangTag c es ps) = subst (VariantLanguagesOnceTag R) from h in
+      subst (VariantLanguagesOnceTag R) (sym to) (k.0, extensions_once es fs s k.1)
   change_once t u (on_whole _ has) h =
       let v = value_plain R C t u has in
       let d : RepeatsNoVariant (core_alone v.core) = subst RepeatsNoVariant v.is v.valid.distinct in
-      subst (TurnsOnceTag R) (sym v.is) (turns_once R (core_conditions R C.passes) v.core d.0, tt)
+      subst (VariantLanguagesOnceTag R) (sym v.is) (variant_languages_once R (core_conditions R C.passes) v.core d.0, tt)
 
-  star_once : {t u : TagForm} → Star (TagStep R) t u → TurnsOnceTag R t → TurnsOnceTag R u
-  star_once r h = star_keeps (TurnsOnceTag R) (λ a b s k. change_once a b s.change k) r h
+  star_once : {t u : TagForm} → Star (TagStep R) t u → VariantLanguagesOnceTag R t → VariantLanguagesOnceTag R u
+  star_once r h = star_keeps (VariantLanguagesOnceTag R) (λ a b s k. change_once a b s.change k) r h
 
   -- a plain core whose end repeats no variant
   whole_distinct : (d : CoreParts) → (o : Option TagForm) → whole_value R (core_alone d) ≡ o → RepeatsNoVariant (or_value (core_alone d) (value_end R C) o) → Distinct d.variants
@@ -106,27 +106,27 @@ module _ (R : List EntryParts) (C : IsChecked R) where
       by (inl g) = let x = g.is in cc
       by (inr g) = g.valid.distinct.0
 
-  source_distinct : (o : Option CoreParts) → IfSome o (TurnsOnce R) → IfSome (option_map (core_end R C) o) HasDistinctVariants → IfSome o HasDistinctVariants
+  source_distinct : (o : Option CoreParts) → IfSome o (VariantLanguagesOnce R) → IfSome (option_map (core_end R C) o) HasDistinctVariants → IfSome o HasDistinctVariants
   source_distinct None h k = tt
   source_distinct (Some c) h k = form_distinct R (core_conditions R C.passes) c h k
 
-  extension_distinct : (e : ExtensionParts) → TurnsOnceExtension R e → HasDistinctSource (extension_end R C e) → HasDistinctSource e
+  extension_distinct : (e : ExtensionParts) → VariantLanguagesOnceExtension R e → HasDistinctSource (extension_end R C e) → HasDistinctSource e
   extension_distinct e h k = λ s p q.
       let n = normal_parts R C.registry (core_conditions R C.passes) e p s q in
       let Q : Option CoreParts → Type 0 = λ o. IfSome o HasDistinctVariants in
       source_distinct p.source (h s p q) (subst Q n.source (k (normal_singleton R C.registry (core_conditions R C.passes) e ∙ s) n.parts n.formed))
 
-  lang_distinct : (c : CoreParts) (es : List ExtensionParts) (ps : List (List ℕ)) → TurnsOnce R c → AllByRecursion (TurnsOnceExtension R) es → RepeatsNoVariant (lang_end R C (core_end R C c) es ps) → Distinct c.variants × AllByRecursion HasDistinctSource es
+  lang_distinct : (c : CoreParts) (es : List ExtensionParts) (ps : List (List ℕ)) → VariantLanguagesOnce R c → AllByRecursion (VariantLanguagesOnceExtension R) es → RepeatsNoVariant (lang_end R C (core_end R C c) es ps) → Distinct c.variants × AllByRecursion HasDistinctSource es
   lang_distinct c [] [] h k d = (form_distinct R (core_conditions R C.passes) c h (whole_distinct (core_end R C c) (whole_value R (core_alone (core_end R C c))) refl d), tt)
   lang_distinct c [] (p ∷ ps) h k d = (form_distinct R (core_conditions R C.passes) c h d.0, tt)
   lang_distinct c (e ∷ es) ps h k d = (
     form_distinct R (core_conditions R C.passes) c h d.0,
-    all_both (TurnsOnceExtension R) (λ e. HasDistinctSource (extension_end R C e)) HasDistinctSource extension_distinct (e ∷ es) k
+    all_both (VariantLanguagesOnceExtension R) (λ e. HasDistinctSource (extension_end R C e)) HasDistinctSource extension_distinct (e ∷ es) k
         (all_unmapped HasDistinctSource (extension_end R C) (e ∷ es) (unordered HasDistinctSource singleton_cmp (extensions_ordered R C.registry (core_conditions R C.passes) (e ∷ es)) d.1)),
   )
 
   -- where the end form repeats no variant, the tag repeats none
-  end_distinct : (t : TagForm) → TurnsOnceTag R t → RepeatsNoVariant (tag_end R C t) → RepeatsNoVariant t
+  end_distinct : (t : TagForm) → VariantLanguagesOnceTag R t → RepeatsNoVariant (tag_end R C t) → RepeatsNoVariant t
   end_distinct (LangTag c es ps) h d = lang_distinct c es ps h.0 h.1 d
   end_distinct (PrivateUse ps) h d = tt
   end_distinct (Grandfathered n) h d = tt
@@ -134,7 +134,7 @@ module _ (R : List EntryParts) (C : IsChecked R) where
   -- from a valid tag a repeat is reached only if its end form has one
   pub repeats_at_end : (t : TagForm) → IsValid R t → CanRepeat R t → RepeatsNoVariant (tag_end R C t) → ⊥
   repeats_at_end t V r d =
-      let once : TurnsOnceTag R r.tag = star_once r.reached (distinct_once R (core_conditions R C.passes) t V.distinct) in
+      let once : VariantLanguagesOnceTag R r.tag = star_once r.reached (distinct_once R (core_conditions R C.passes) t V.distinct) in
       let same : tag_end R C t ≡ tag_end R C r.tag = star_end (end_form R C) r.reached in
       r.repeats (end_distinct r.tag once (subst RepeatsNoVariant same d))
 

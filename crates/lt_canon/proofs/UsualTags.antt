@@ -108,7 +108,7 @@ core_without R c u h =
       script = part_without R kinds.Script faults.UnknownScript 2 c.script (b.1 ∙ ap Ok none.1);
       region = part_without R kinds.Region faults.UnknownRegion (2 + length (option_to_list c.script)) c.region (d.1 ∙ ap Ok none.2);
       variant = rw u.variants tt;
-      turn = λ _. rw u.variants tt;
+      variant_language = λ _. rw u.variants tt;
     }
 
 no_extension : (before : List ExtensionParts) (e : ExtensionParts) (after : List ExtensionParts) → [] ≡ before ++ e ∷ after → ⊥

@@ -12,5 +12,5 @@ core_conditions R P = record {
   chains = P.ending_chain;
   extlangs = P.fitting_extlang;
   variants = P.fitting_variant_value;
-  turns = P.final_prefixes;
+  variant_languages = P.final_prefixes;
 }

@@ -35,7 +35,7 @@ core_below R M = record {
   chains = M conditions.EndingChain (omega arith);
   extlangs = M conditions.FittingExtlang (omega arith);
   variants = M conditions.FittingVariantValue (omega arith);
-  turns = M conditions.FinalPrefixes (omega arith);
+  variant_languages = M conditions.FinalPrefixes (omega arith);
 }
 
 -- a core has one core normal form

@@ -64,7 +64,7 @@ pub fn run_lines<L: Lookup, R: Read, W: Write>(
 {
     let mut buffer = vec![in alloc; 0u8; PIECE]?;
     let mut answering = Answering::new(alloc);
-    for _turn in 0..MOST_READS {
+    for _read in 0..MOST_READS {
         match input.read(&mut buffer) {
             Ok(0) => return answering.finish(alloc, checked, form, output),
             Ok(count) => { answering.take_piece(alloc, checked, form, &buffer[..count], output)? }

@@ -8,7 +8,7 @@ use Rattle.lt_registry.specs.Entries.{entry, preferred_value, number_of, replace
 use Rattle.lt_registry.specs.Faults.{before_script, before_region, before_variants}
 use Rattle.lt_registry.specs.declared.entries.Kind.TheVariants as kinds
 use Rattle.lt_rewrite.specs.CoreSteps.{values_of, CoreStep, by_extlang, by_language, by_script, by_region, by_variant, by_variant_language}
-use Rattle.lt_rewrite.specs.CoreSettling.{IsFirstTurn, HasNoTurn}
+use Rattle.lt_rewrite.specs.CoreSettling.{IsFirstVariantLanguage, HasNoVariantLanguage}
 use Rattle.lt_rewrite.specs.Labels.{core_label}
 use Rattle.lt_rewrite.specs.Applying.{CoreLeads, Answers}
 use Rattle.lt_rewrite.specs.Runs.{rank_of, kind_rank, IsFirst, NoneLeads, NoneOnCore, IsLeftmostOnCore, IsFirstOnCore}
@@ -16,7 +16,7 @@ use Rattle.lt_rewrite.specs.declared.steps.Step.{Step}
 use Rattle.lt_rewrite.specs.declared.steps.StepKind.{StepKind}
 use Rattle.lt_rewrite.specs.declared.steps.StepKind.TheVariants as steps
 use Rattle.lt_rewrite.proofs.Cuts.{cut_at, cut_within}
-use Rattle.lt_rewrite.proofs.CoreLeading.{from_extlang, of_extlang, from_language, of_language, from_script, of_script, from_region, of_region, of_variant, turn_led, turn_elsewhere, none_turns, same_step, is_at}
+use Rattle.lt_rewrite.proofs.CoreLeading.{from_extlang, of_extlang, from_language, of_language, from_script, of_script, from_region, of_region, of_variant, variant_language_led, variant_language_elsewhere, none_has_variant_language, same_step, is_at}
 use Rattle.lt_rewrite.proofs.FirstSteps.{some_rank, compared, is_first}
 
 rank_1 : (k : StepKind) → rank_of k ≡ 1 → k ≡ steps.Extlang
@@ -115,16 +115,16 @@ module _ (R : List EntryParts) (start : ℕ) (c : CoreParts) (step : Step) where
           at (inr (inl same)) = omega (arith, a, b, same)
           at (inr (inr more)) = omega (arith, a, b, more)
 
-  pub first_turn : (i : ℕ) (m v : List ℕ) → step.kind ≡ steps.VariantLanguage → step.place ≡ start + before_variants c + i + 1 → step.number ≡ number_of (entry R kinds.Variant v) → c.extlangs ≡ [] → v ≡ get_or c.variants i v → IsFirstTurn (values_of R) c i m → IsLeftmostOnCore R start c 6 step
-  first_turn i m v k p n alone e t = record {
+  pub first_variant_language : (i : ℕ) (m v : List ℕ) → step.kind ≡ steps.VariantLanguage → step.place ≡ start + before_variants c + i + 1 → step.number ≡ number_of (entry R kinds.Variant v) → c.extlangs ≡ [] → v ≡ get_or c.variants i v → IsFirstVariantLanguage (values_of R) c i m → IsLeftmostOnCore R start c 6 step
+  first_variant_language i m v k p n alone e t = record {
     of_rank = ap rank_of k;
     to = record c { language = m; variants = remove c.variants i };
-    leads = turn_led R start c step k alone i m v t e p n;
+    leads = variant_language_led R start c step k alone i m v t e p n;
     leftmost = λ other b l r. same_place other b l (rank_6 other.kind r) (compared other.place step.place);
   }
     where
       same_place : (other : Step) (b : CoreParts) → CoreLeads R start c other b → other.kind ≡ steps.VariantLanguage → (other.place < step.place) ⊎ ((other.place ≡ step.place) ⊎ (step.place < other.place)) → step.place ≤ other.place
-      same_place other b l r (inl less) = absurd (turn_elsewhere R start c other r i m t (λ q. omega (arith, q, p, less)) b l)
+      same_place other b l r (inl less) = absurd (variant_language_elsewhere R start c other r i m t (λ q. omega (arith, q, p, less)) b l)
       same_place other b l r (inr (inl same)) = omega (arith, same)
       same_place other b l r (inr (inr more)) = omega (arith, more)
 
@@ -162,9 +162,9 @@ module _ (R : List EntryParts) (start : ℕ) (c : CoreParts) where
       core_rank step b (by_variant before v w after s) h = omega (arith, ap kind_rank h)
       core_rank step b (by_variant_language before v m after s) h = omega (arith, ap kind_rank h)
 
--- no variant turns
-pub none_turn : (R : List EntryParts) (start : ℕ) (c : CoreParts) → HasNoTurn (values_of R) c → NoneOnCore R start c 6
-none_turn R start c none step b l r = none_turns R start c step (rank_6 step.kind r) none b l
+-- no variant has a VariantLanguage step
+pub none_variant_language : (R : List EntryParts) (start : ℕ) (c : CoreParts) → HasNoVariantLanguage (values_of R) c → NoneOnCore R start c 6
+none_variant_language R start c none step b l r = none_has_variant_language R start c step (rank_6 step.kind r) none b l
 
 -- what is at the first kind of which a step leads on
 module _ (R : List EntryParts) (start : ℕ) (c : CoreParts) (step : Step) where

@@ -16,12 +16,12 @@ pub record Settles (V : Values) : Type 0 where
   pub script_end : IsEnd V.script script
   pub region_end : IsEnd V.region region
   pub variant_end : IsEnd V.variant variant
-  -- a language beside which a variant turns has no value
-  pub turns_at_rest : (l v m : List ℕ) → V.variant_language l v ≡ Some m → V.language l ≡ None
-  -- a variant with a variant value does not turn, and nor does its value
+  -- a language beside which a variant has a VariantLanguage step has no value
+  pub variant_languages_at_rest : (l v m : List ℕ) → V.variant_language l v ≡ Some m → V.language l ≡ None
+  -- a variant with a variant value has no VariantLanguage step, and nor has its value
   pub replaced : (v w : List ℕ) → V.variant v ≡ Some w → (l : List ℕ) → (V.variant_language l v ≡ None) × (V.variant_language l w ≡ None)
 
--- the leftmost variant that turns: its language, and the others
+-- the leftmost variant with a VariantLanguage step: its language, and the others
 abbrev pub pick_at : Option (List ℕ) → List ℕ → List (List ℕ) → Option (List ℕ × List (List ℕ)) → Option (List ℕ × List (List ℕ))
 pick_at (Some m) v vs r = Some (m, vs)
 pick_at None v vs r = option_map (λ (p : List ℕ × List (List ℕ)). (p.0, v ∷ p.1)) r
@@ -30,7 +30,7 @@ abbrev pub pick : Values → List ℕ → List (List ℕ) → Option (List ℕ �
 pick V l [] = None
 pick V l (v ∷ vs) = pick_at (V.variant_language l v) v vs (pick V l vs)
 
--- turns done, at most n, from a language that has no value
+-- VariantLanguage steps taken, at most n, from a language that has no value
 abbrev pub settled : (V : Values) → Settles V → ℕ → List ℕ → List (List ℕ) → List ℕ × List (List ℕ)
 settled V S zero x vs = (x, vs)
 settled V S (suc n) x vs = elim (pick V x vs) [ None ↦ (x, vs) | Some p ↦ settled V S n (S.language p.0) p.1 ]
@@ -53,15 +53,15 @@ pub none_or : (o : Option (List ℕ)) → (o ≡ None) ⊎ ((t : List ℕ) × (o
 none_or None = inl refl
 none_or (Some t) = inr (t, refl)
 
-turn_end_at : (V : Values) (S : Settles V) (l v : List ℕ) → (o : Option (List ℕ)) → V.variant v ≡ o → V.variant_language l (S.variant v) ≡ V.variant_language l v
-turn_end_at V S l v None e = ap (V.variant_language l) (end_same S.variant_end v e)
-turn_end_at V S l v (Some w) e =
+variant_language_end_at : (V : Values) (S : Settles V) (l v : List ℕ) → (o : Option (List ℕ)) → V.variant v ≡ o → V.variant_language l (S.variant v) ≡ V.variant_language l v
+variant_language_end_at V S l v None e = ap (V.variant_language l) (end_same S.variant_end v e)
+variant_language_end_at V S l v (Some w) e =
     let here : V.variant_language l v ≡ None = (S.replaced v w e l).0 in
     let P : List ℕ → Type 0 = λ s. V.variant_language l s ≡ None in
     end_keeps S.variant_end P (λ s t h p. (S.replaced s t h l).1) v here ∙ sym here
 
-pub turn_end : (V : Values) (S : Settles V) (l v : List ℕ) → V.variant_language l (S.variant v) ≡ V.variant_language l v
-turn_end V S l v = turn_end_at V S l v (V.variant v) refl
+pub variant_language_end : (V : Values) (S : Settles V) (l v : List ℕ) → V.variant_language l (S.variant v) ≡ V.variant_language l v
+variant_language_end V S l v = variant_language_end_at V S l v (V.variant v) refl
 
 abbrev mapped : (List ℕ → List ℕ) → List ℕ × List (List ℕ) → List ℕ × List (List ℕ)
 mapped g p = (p.0, map g p.1)
@@ -74,7 +74,7 @@ pick_at_map g None v vs (Some p) = refl
 pub pick_map : (V : Values) (S : Settles V) (l : List ℕ) (vs : List (List ℕ)) → pick V l (map S.variant vs) ≡ option_map (mapped S.variant) (pick V l vs)
 pick_map V S l [] = refl
 pick_map V S l (v ∷ vs) =
-    ap (λ o. pick_at o (S.variant v) (map S.variant vs) (pick V l (map S.variant vs))) (turn_end V S l v)
+    ap (λ o. pick_at o (S.variant v) (map S.variant vs) (pick V l (map S.variant vs))) (variant_language_end V S l v)
     ∙ ap (pick_at (V.variant_language l v) (S.variant v) (map S.variant vs)) (pick_map V S l vs)
     ∙ pick_at_map S.variant (V.variant_language l v) v vs (pick V l vs)
 
@@ -136,12 +136,12 @@ keeps_variant V S c d before v w after h =
     (ap (map S.variant) h.there ∙ map-append S.variant before (v ∷ after) ∙ ap (λ u. map S.variant before ++ u ∷ map S.variant after) (end_next S.variant_end v w h.has) ∙ sym (map-append S.variant before (w ∷ after)))
     ∙ sym (ap (form V S) h.result)
 
-keeps_turn : (V : Values) (S : Settles V) (c d : CoreParts) (before : List (List ℕ)) (v m : List ℕ) (after : List (List ℕ)) → VariantLanguageStep V c before v m after d → form V S c ≡ form V S d
-keeps_turn V S c d before v m after s =
+keeps_variant_language : (V : Values) (S : Settles V) (c d : CoreParts) (before : List (List ℕ)) (v m : List ℕ) (after : List (List ℕ)) → VariantLanguageStep V c before v m after d → form V S c ≡ form V S d
+keeps_variant_language V S c d before v m after s =
     let sc = option_map S.script c.script in
     let re = option_map S.region c.region in
     let vs = map S.variant c.variants in
-    let rest : S.language c.language ≡ c.language = end_same S.language_end c.language (S.turns_at_rest c.language v m s.has) in
+    let rest : S.language c.language ≡ c.language = end_same S.language_end c.language (S.variant_languages_at_rest c.language v m s.has) in
     let found : pick V c.language vs ≡ Some (m, map S.variant (before ++ after)) =
     pick_map V S c.language c.variants
     ∙ ap (λ us. option_map (mapped S.variant) (pick V c.language us)) s.there
@@ -159,4 +159,4 @@ step_keeps V S c d (by_language v s) = keeps_language V S c d v s
 step_keeps V S c d (by_script s v h) = keeps_script V S c d s v h
 step_keeps V S c d (by_region s v h) = keeps_region V S c d s v h
 step_keeps V S c d (by_variant before v w after h) = keeps_variant V S c d before v w after h
-step_keeps V S c d (by_variant_language before v m after s) = keeps_turn V S c d before v m after s
+step_keeps V S c d (by_variant_language before v m after s) = keeps_variant_language V S c d before v m after s

@@ -14,7 +14,7 @@ use Rattle.lt_rewrite.proofs.CoreRest as at_rest
 use Rattle.lt_rewrite.proofs.CoreSettles.{settles}
 use Rattle.lt_rewrite.proofs.Repeats as repeats
 pub use Rattle.lt_rewrite.proofs.CoreRest.{AtRest, rests}
-pub use Rattle.lt_rewrite.proofs.Repeats.{TurnsOnce, turns_once_kept}
+pub use Rattle.lt_rewrite.proofs.Repeats.{VariantLanguagesOnce, variant_languages_once_kept}
 
 -- the core normal form under the conditions
 pub normal_core : (R : List EntryParts) → MeetsCoreConditions R → CoreParts → CoreParts
@@ -47,10 +47,10 @@ module _ (R : List EntryParts) (C : MeetsCoreConditions R) where
       to s h ∙ sym (to t k)
 
   -- a core that repeats no variant repeats none with a language value
-  pub turns_once : (c : CoreParts) → Distinct c.variants → TurnsOnce R c
-  turns_once c h = repeats.distinct_filter (repeats.turning R) c.variants h
+  pub variant_languages_once : (c : CoreParts) → Distinct c.variants → VariantLanguagesOnce R c
+  variant_languages_once c h = repeats.distinct_filter (repeats.has_variant_language R) c.variants h
 
   -- where the normal form repeats no variant, such a core repeats none
-  pub form_distinct : (c : CoreParts) → TurnsOnce R c → Distinct (normal_core R C c).variants → Distinct c.variants
+  pub form_distinct : (c : CoreParts) → VariantLanguagesOnce R c → Distinct (normal_core R C c).variants → Distinct c.variants
   unfolding normal_core
   form_distinct c h k = repeats.form_distinct R C c h k

@@ -8,7 +8,7 @@ use Rattle.lt_registry.specs.Entries.{entry, preferred_value, number_of, replace
 use Rattle.lt_registry.specs.Faults.{before_script, before_region, before_variants}
 use Rattle.lt_registry.specs.declared.entries.Kind.TheVariants as kinds
 use Rattle.lt_rewrite.specs.CoreSteps.{values_of, CoreStep, by_extlang, by_language, by_script, by_region, by_variant, by_variant_language}
-use Rattle.lt_rewrite.specs.CoreSettling.{IsFirstTurn, HasNoTurn}
+use Rattle.lt_rewrite.specs.CoreSettling.{IsFirstVariantLanguage, HasNoVariantLanguage}
 use Rattle.lt_rewrite.specs.Labels.{core_label, step_at}
 use Rattle.lt_rewrite.specs.Applying.{IsValueBy, CoreLeads}
 use Rattle.lt_rewrite.specs.declared.steps.Step.{Step}
@@ -135,7 +135,7 @@ module _ (R : List EntryParts) (start : ℕ) (c : CoreParts) (step : Step) where
   pub of_variant : (d : CoreParts) → step.kind ≡ steps.Variant → CoreLeads R start c step d → VariantLeads d
   of_variant d k l = to_variant d k l.0 l.1
 
-  pub record TurnLeads (d : CoreParts) : Type 0 where
+  pub record VariantLanguageLeads (d : CoreParts) : Type 0 where
     pub before : List (List ℕ)
     pub variant : List ℕ
     pub after : List (List ℕ)
@@ -148,17 +148,17 @@ module _ (R : List EntryParts) (start : ℕ) (c : CoreParts) (step : Step) where
     pub leftmost : AllByRecursion (λ u. (values_of R).variant_language c.language u ≡ None) before
     pub result : d ≡ record c { language = language; variants = before ++ after }
 
-  pub from_turn : (d : CoreParts) → step.kind ≡ steps.VariantLanguage → TurnLeads d → CoreLeads R start c step d
-  from_turn d k l =
+  pub from_variant_language : (d : CoreParts) → step.kind ≡ steps.VariantLanguage → VariantLanguageLeads d → CoreLeads R start c step d
+  from_variant_language d k l =
       (by_variant_language l.before l.variant l.language l.after (record { alone = l.alone; there = l.there; has = l.has; leftmost = l.leftmost; result = l.result }), same_step _ _ _ step k l.place (sym l.number))
 
-  to_turn : (d : CoreParts) → step.kind ≡ steps.VariantLanguage → (s : CoreStep (values_of R) c d) → core_label R start s ≡ step → TurnLeads d
-  to_turn d k (by_variant_language before v m after s) h =
+  to_variant_language : (d : CoreParts) → step.kind ≡ steps.VariantLanguage → (s : CoreStep (values_of R) c d) → core_label R start s ≡ step → VariantLanguageLeads d
+  to_variant_language d k (by_variant_language before v m after s) h =
       record { before = before; variant = v; after = after; language = m; place = place_of _ step h; number = number_at _ step h; alone = s.alone; there = s.there; has = s.has; leftmost = s.leftmost; result = s.result }
-  to_turn d k s h = let m = kind_of _ step h ∙ k in cc
+  to_variant_language d k s h = let m = kind_of _ step h ∙ k in cc
 
-  pub of_turn : (d : CoreParts) → step.kind ≡ steps.VariantLanguage → CoreLeads R start c step d → TurnLeads d
-  of_turn d k l = to_turn d k l.0 l.1
+  pub of_variant_language : (d : CoreParts) → step.kind ≡ steps.VariantLanguage → CoreLeads R start c step d → VariantLanguageLeads d
+  of_variant_language d k l = to_variant_language d k l.0 l.1
 
   -- the kind is one of a core
   pub other_kind : (d : CoreParts) → step.kind ≢ steps.Extlang → step.kind ≢ steps.Language → step.kind ≢ steps.Script → step.kind ≢ steps.Region → step.kind ≢ steps.Variant → step.kind ≢ steps.VariantLanguage → (s : CoreStep (values_of R) c d) → core_label R start s ≡ step → ⊥
@@ -217,49 +217,49 @@ module _ (R : List EntryParts) (start : ℕ) (c : CoreParts) (step : Step) where
         result = ap (λ vs. record c { variants = vs }) (set_split c.variants i w h);
       })
 
-  -- another variant turns first
-  pub turn_elsewhere : step.kind ≡ steps.VariantLanguage → (i : ℕ) (m : List ℕ) → IsFirstTurn (values_of R) c i m → (step.place ≡ start + before_variants c + i + 1 → ⊥) → (d : CoreParts) → CoreLeads R start c step d → ⊥
-  turn_elsewhere k i m t n d l =
-      let r = of_turn R start c step d k l in
+  -- the leftmost VariantLanguage step is that of another variant
+  pub variant_language_elsewhere : step.kind ≡ steps.VariantLanguage → (i : ℕ) (m : List ℕ) → IsFirstVariantLanguage (values_of R) c i m → (step.place ≡ start + before_variants c + i + 1 → ⊥) → (d : CoreParts) → CoreLeads R start c step d → ⊥
+  variant_language_elsewhere k i m t n d l =
+      let r = of_variant_language R start c step d k l in
       let same = one_first ((values_of R).variant_language c.language) r.before r.variant r.language r.after (take i c.variants) t.variant m (drop (suc i) c.variants) (sym r.there ∙ t.there) r.has t.has r.leftmost t.leftmost in
       let front = length-take-le i c.variants (omega (arith, t.within)) in
       n (omega (arith, r.place, same, front))
 
-  turned_is : (i : ℕ) (m v : List ℕ) → v ≡ get_or c.variants i v → (t : IsFirstTurn (values_of R) c i m) → t.variant ≡ v
-  turned_is i m v e t =
+  first_variant_is : (i : ℕ) (m v : List ℕ) → v ≡ get_or c.variants i v → (t : IsFirstVariantLanguage (values_of R) c i m) → t.variant ≡ v
+  first_variant_is i m v e t =
       let front = length-take-le i c.variants (omega (arith, t.within)) in
       sym (cut_at (take i c.variants) t.variant (drop (suc i) c.variants) c.variants v t.there) ∙ ap (λ n. get_or c.variants n v) front ∙ sym e
 
-  -- it does not turn by this record
-  pub turn_by_another : step.kind ≡ steps.VariantLanguage → (i : ℕ) (m v : List ℕ) → IsFirstTurn (values_of R) c i m → v ≡ get_or c.variants i v → (step.number ≡ number_of (entry R kinds.Variant v) → ⊥) → (d : CoreParts) → CoreLeads R start c step d → ⊥
-  turn_by_another k i m v t e n d l =
-      let r = of_turn R start c step d k l in
+  -- its VariantLanguage step is not by this record
+  pub variant_language_by_another : step.kind ≡ steps.VariantLanguage → (i : ℕ) (m v : List ℕ) → IsFirstVariantLanguage (values_of R) c i m → v ≡ get_or c.variants i v → (step.number ≡ number_of (entry R kinds.Variant v) → ⊥) → (d : CoreParts) → CoreLeads R start c step d → ⊥
+  variant_language_by_another k i m v t e n d l =
+      let r = of_variant_language R start c step d k l in
       let same = one_first ((values_of R).variant_language c.language) r.before r.variant r.language r.after (take i c.variants) t.variant m (drop (suc i) c.variants) (sym r.there ∙ t.there) r.has t.has r.leftmost t.leftmost in
       let front = length-take-le i c.variants (omega (arith, t.within)) in
       let here : length r.before ≡ i = omega (arith, same, front) in
       let is : r.variant ≡ v = sym (cut_at r.before r.variant r.after c.variants v r.there) ∙ ap (λ n. get_or c.variants n v) here ∙ sym e in
       n (sym r.number ∙ ap (λ u. number_of (entry R kinds.Variant u)) is)
 
-  pub none_turns : step.kind ≡ steps.VariantLanguage → HasNoTurn (values_of R) c → (d : CoreParts) → CoreLeads R start c step d → ⊥
-  none_turns k none d l =
-      let r = of_turn R start c step d k l in
+  pub none_has_variant_language : step.kind ≡ steps.VariantLanguage → HasNoVariantLanguage (values_of R) c → (d : CoreParts) → CoreLeads R start c step d → ⊥
+  none_has_variant_language k none d l =
+      let r = of_variant_language R start c step d k l in
       let at = cut_at r.before r.variant r.after c.variants r.variant r.there in
       let a = none (length r.before) r.variant (cut_within r.before r.variant r.after c.variants r.there) in
       let b : (values_of R).variant_language c.language r.variant ≡ None = sym (ap ((values_of R).variant_language c.language) at) ∙ a in
       let h = r.has in
       cc
 
-  pub turn_led : step.kind ≡ steps.VariantLanguage → c.extlangs ≡ [] → (i : ℕ) (m v : List ℕ) → IsFirstTurn (values_of R) c i m → v ≡ get_or c.variants i v → step.place ≡ start + before_variants c + i + 1 → step.number ≡ number_of (entry R kinds.Variant v) → CoreLeads R start c step (record c { language = m; variants = remove c.variants i })
-  turn_led k alone i m v t e p n =
+  pub variant_language_led : step.kind ≡ steps.VariantLanguage → c.extlangs ≡ [] → (i : ℕ) (m v : List ℕ) → IsFirstVariantLanguage (values_of R) c i m → v ≡ get_or c.variants i v → step.place ≡ start + before_variants c + i + 1 → step.number ≡ number_of (entry R kinds.Variant v) → CoreLeads R start c step (record c { language = m; variants = remove c.variants i })
+  variant_language_led k alone i m v t e p n =
       let front = length-take-le i c.variants (omega (arith, t.within)) in
-      from_turn R start c step (record c { language = m; variants = remove c.variants i }) k
+      from_variant_language R start c step (record c { language = m; variants = remove c.variants i }) k
       (record {
         before = take i c.variants;
         variant = t.variant;
         after = drop (suc i) c.variants;
         language = m;
         place = omega (arith, p, front);
-        number = ap (λ u. number_of (entry R kinds.Variant u)) (turned_is i m v e t) ∙ sym n;
+        number = ap (λ u. number_of (entry R kinds.Variant u)) (first_variant_is i m v e t) ∙ sym n;
         alone = alone;
         there = t.there;
         has = t.has;

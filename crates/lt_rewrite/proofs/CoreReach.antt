@@ -77,24 +77,24 @@ pub picked : (V : Values) (l : List ℕ) (vs : List (List ℕ)) (p : List ℕ ×
 picked V l [] p e = cc
 picked V l (v ∷ vs) p e = picked_at V l v vs p (picked V l vs) (V.variant_language l v) refl (pick V l vs) refl e
 
-turns_at : (V : Values) (S : Settles V) (sc re : Option (List ℕ)) (n : ℕ) → ((x : List ℕ) (vs : List (List ℕ)) → (let p = settled V S n x vs in Star (CoreStep V) (core x [] sc re vs) (core p.0 [] sc re p.1))) → (x : List ℕ) (vs : List (List ℕ)) (o : Option (List ℕ × List (List ℕ))) → pick V x vs ≡ o → (let p : List ℕ × List (List ℕ) = elim o as (λ _. List ℕ × List (List ℕ)) [ None ↦ (x, vs) | Some p ↦ settled V S n (S.language p.0) p.1 ] in Star (CoreStep V) (core x [] sc re vs) (core p.0 [] sc re p.1))
-turns_at V S sc re n ih x vs None e = done
-turns_at V S sc re n ih x vs (Some p) e =
+variant_languages_at : (V : Values) (S : Settles V) (sc re : Option (List ℕ)) (n : ℕ) → ((x : List ℕ) (vs : List (List ℕ)) → (let p = settled V S n x vs in Star (CoreStep V) (core x [] sc re vs) (core p.0 [] sc re p.1))) → (x : List ℕ) (vs : List (List ℕ)) (o : Option (List ℕ × List (List ℕ))) → pick V x vs ≡ o → (let p : List ℕ × List (List ℕ) = elim o as (λ _. List ℕ × List (List ℕ)) [ None ↦ (x, vs) | Some p ↦ settled V S n (S.language p.0) p.1 ] in Star (CoreStep V) (core x [] sc re vs) (core p.0 [] sc re p.1))
+variant_languages_at V S sc re n ih x vs None e = done
+variant_languages_at V S sc re n ih x vs (Some p) e =
     let k : Picked V x vs p = picked V x vs p e in
     let c' : CoreParts = core p.0 [] sc re p.1 in
     let s : CoreStep V (core x [] sc re vs) c' =
     by_variant_language k.before k.variant p.0 k.after (record { alone = refl; there = k.there; has = k.has; leftmost = k.leftmost; result = ap (λ us. core p.0 [] sc re us) (sym k.left) }) in
     then s (star_trans (language_to_end V S p.0 sc re p.1) (ih (S.language p.0) p.1))
 
-turns : (V : Values) (S : Settles V) (sc re : Option (List ℕ)) (n : ℕ) (x : List ℕ) (vs : List (List ℕ)) → (let p = settled V S n x vs in Star (CoreStep V) (core x [] sc re vs) (core p.0 [] sc re p.1))
-turns V S sc re zero x vs = done
-turns V S sc re (suc n) x vs = turns_at V S sc re n (turns V S sc re n) x vs (pick V x vs) refl
+variant_languages : (V : Values) (S : Settles V) (sc re : Option (List ℕ)) (n : ℕ) (x : List ℕ) (vs : List (List ℕ)) → (let p = settled V S n x vs in Star (CoreStep V) (core x [] sc re vs) (core p.0 [] sc re p.1))
+variant_languages V S sc re zero x vs = done
+variant_languages V S sc re (suc n) x vs = variant_languages_at V S sc re n (variant_languages V S sc re n) x vs (pick V x vs) refl
 
 on_reached : (V : Values) (S : Settles V) (xs : List (List ℕ)) (l : List ℕ) (sc re : Option (List ℕ)) (vs : List (List ℕ)) → Star (CoreStep V) (core l xs sc re vs) (form_on V S xs l sc re vs)
-on_reached V S [] l sc re vs = star_trans (language_to_end V S l sc re vs) (turns V S sc re (length vs) (S.language l) vs)
+on_reached V S [] l sc re vs = star_trans (language_to_end V S l sc re vs) (variant_languages V S sc re (length vs) (S.language l) vs)
 on_reached V S (x ∷ []) l sc re vs =
     let r = V.replacement x in
-    then (by_extlang x (record { one = refl; result = refl })) (star_trans (language_to_end V S r sc re vs) (turns V S sc re (length vs) (S.language r) vs))
+    then (by_extlang x (record { one = refl; result = refl })) (star_trans (language_to_end V S r sc re vs) (variant_languages V S sc re (length vs) (S.language r) vs))
 on_reached V S (x ∷ y ∷ r) l sc re vs = done
 
 -- core steps reach the form

@@ -14,7 +14,7 @@ pub record AtRest (V : Values) (d : CoreParts) : Type 0 where
   pub script : (s : List ℕ) → d.script ≡ Some s → V.script s ≡ None
   pub region : (s : List ℕ) → d.region ≡ Some s → V.region s ≡ None
   pub variant : AllByRecursion (λ v. V.variant v ≡ None) d.variants
-  pub turn : d.extlangs ≡ [] → AllByRecursion (λ v. V.variant_language d.language v ≡ None) d.variants
+  pub variant_language : d.extlangs ≡ [] → AllByRecursion (λ v. V.variant_language d.language v ≡ None) d.variants
 
 pub all_at : {A : Type 0} (P : A → Type 0) (before : List A) (v : A) (after : List A) → AllByRecursion P (before ++ v ∷ after) → P v
 all_at P [] v after h = h.0
@@ -32,7 +32,7 @@ rests V d e R (by_variant before v w after h) =
     let b = h.has in cc
 rests V d e R (by_variant_language before v m after s) =
     let P : List ℕ → Type 0 = λ u. V.variant_language d.language u ≡ None in
-    let a : V.variant_language d.language v ≡ None = all_at P before v after (subst (AllByRecursion P) s.there (R.turn s.alone)) in
+    let a : V.variant_language d.language v ≡ None = all_at P before v after (subst (AllByRecursion P) s.there (R.variant_language s.alone)) in
     let b = s.has in cc
 
 pick_none_at : (V : Values) (l v : List ℕ) (vs : List (List ℕ)) → ((pick V l vs ≡ None) → AllByRecursion (λ u. V.variant_language l u ≡ None) vs) → (o : Option (List ℕ)) → V.variant_language l v ≡ o → (r : Option (List ℕ × List (List ℕ))) → pick V l vs ≡ r → pick_at o v vs r ≡ None → AllByRecursion (λ u. V.variant_language l u ≡ None) (v ∷ vs)
@@ -40,7 +40,7 @@ pick_none_at V l v vs ih (Some m) t r q e = cc
 pick_none_at V l v vs ih None t None q e = (t, ih q)
 pick_none_at V l v vs ih None t (Some p) q e = cc
 
--- none is picked only where none turns
+-- none is picked only where none has a VariantLanguage step
 pub pick_none : (V : Values) (l : List ℕ) (vs : List (List ℕ)) → pick V l vs ≡ None → AllByRecursion (λ v. V.variant_language l v ≡ None) vs
 pick_none V l [] e = tt
 pick_none V l (v ∷ vs) e = pick_none_at V l v vs (pick_none V l vs) (V.variant_language l v) refl (pick V l vs) refl e
@@ -59,20 +59,20 @@ pub pick_kept : (V : Values) (P : List ℕ → Type 0) (l : List ℕ) (vs : List
 pick_kept V P l [] p h e = cc
 pick_kept V P l (v ∷ vs) p h e = pick_kept_at P (V.variant_language l v) v vs (pick V l vs) p h.0 h.1 (λ q f. pick_kept V P l vs q h.1 f) e
 
--- where the turns end
+-- where the VariantLanguage steps end
 record Settled (V : Values) (P : List ℕ → Type 0) (p : List ℕ × List (List ℕ)) : Type 0 where
   language : V.language p.0 ≡ None
-  turn : AllByRecursion (λ v. V.variant_language p.0 v ≡ None) p.1
+  variant_language : AllByRecursion (λ v. V.variant_language p.0 v ≡ None) p.1
   kept : AllByRecursion P p.1
 
 settled_rests_at : (V : Values) (S : Settles V) (P : List ℕ → Type 0) (n : ℕ) → ((x : List ℕ) (vs : List (List ℕ)) → length vs ≡ n → V.language x ≡ None → AllByRecursion P vs → Settled V P (settled V S n x vs)) → (x : List ℕ) (vs : List (List ℕ)) → length vs ≡ suc n → V.language x ≡ None → AllByRecursion P vs → (o : Option (List ℕ × List (List ℕ))) → pick V x vs ≡ o → Settled V P (elim o as (λ _. List ℕ × List (List ℕ)) [ None ↦ (x, vs) | Some p ↦ settled V S n (S.language p.0) p.1 ])
-settled_rests_at V S P n ih x vs l h k None e = record { language = h; turn = pick_none V x vs e; kept = k }
+settled_rests_at V S P n ih x vs l h k None e = record { language = h; variant_language = pick_none V x vs e; kept = k }
 settled_rests_at V S P n ih x vs l h k (Some p) e =
     let shorter : length p.1 ≡ n = cc (pick_length V x vs p e) in
     ih (S.language p.0) p.1 shorter (S.language_end.done p.0) (pick_kept V P x vs p k e)
 
 settled_rests : (V : Values) (S : Settles V) (P : List ℕ → Type 0) (n : ℕ) (x : List ℕ) (vs : List (List ℕ)) → length vs ≡ n → V.language x ≡ None → AllByRecursion P vs → Settled V P (settled V S n x vs)
-settled_rests V S P zero x [] l h k = record { language = h; turn = tt; kept = k }
+settled_rests V S P zero x [] l h k = record { language = h; variant_language = tt; kept = k }
 settled_rests V S P zero x (v ∷ vs) l h k = cc
 settled_rests V S P (suc n) x vs l h k = settled_rests_at V S P n (settled_rests V S P n) x vs l h k (pick V x vs) refl
 
@@ -87,12 +87,12 @@ end_of_some f g E (Some t) s e = let same : g t ≡ s = cc in subst (λ u. f u �
 form_on_rests : (V : Values) (S : Settles V) (xs : List (List ℕ)) (l : List ℕ) (sc re : Option (List ℕ)) (vs : List (List ℕ)) → ((s : List ℕ) → sc ≡ Some s → V.script s ≡ None) → ((s : List ℕ) → re ≡ Some s → V.region s ≡ None) → AllByRecursion (λ v. V.variant v ≡ None) vs → AtRest V (form_on V S xs l sc re vs)
 form_on_rests V S [] l sc re vs a b k =
     let r = settled_rests V S (λ v. V.variant v ≡ None) (length vs) (S.language l) vs refl (S.language_end.done l) k in
-    record { extlang = λ x e. cc; language = λ _. r.language; script = a; region = b; variant = r.kept; turn = λ _. r.turn }
+    record { extlang = λ x e. cc; language = λ _. r.language; script = a; region = b; variant = r.kept; variant_language = λ _. r.variant_language }
 form_on_rests V S (x ∷ []) l sc re vs a b k =
     let r = settled_rests V S (λ v. V.variant v ≡ None) (length vs) (S.language (V.replacement x)) vs refl (S.language_end.done (V.replacement x)) k in
-    record { extlang = λ x e. cc; language = λ _. r.language; script = a; region = b; variant = r.kept; turn = λ _. r.turn }
+    record { extlang = λ x e. cc; language = λ _. r.language; script = a; region = b; variant = r.kept; variant_language = λ _. r.variant_language }
 form_on_rests V S (x ∷ y ∷ r) l sc re vs a b k =
-    record { extlang = λ z e. cc; language = λ e. absurd (cc); script = a; region = b; variant = k; turn = λ e. absurd (cc) }
+    record { extlang = λ z e. cc; language = λ e. absurd (cc); script = a; region = b; variant = k; variant_language = λ e. absurd (cc) }
 
 -- nothing is left to replace in the form
 pub form_rests : (V : Values) (S : Settles V) (c : CoreParts) → AtRest V (form V S c)

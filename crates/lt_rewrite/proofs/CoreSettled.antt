@@ -10,7 +10,7 @@ use Rattle.lt_registry.specs.declared.entries.Kind.TheVariants as kinds
 use Rattle.lt_rewrite.specs.Rewriting.{Star, Rests}
 use Rattle.lt_rewrite.specs.CoreSteps.{Values, values_of, CoreStep, IsCoreNormalForm, EndsIn, by_extlang, by_language, by_script, by_region, by_variant, by_variant_language}
 use Rattle.lt_rewrite.specs.Conditions.{next_value}
-use Rattle.lt_rewrite.specs.CoreSettling.{HasFinalLanguage, HasFinalScript, HasFinalRegion, HasFinalVariants, HasNoTurn, IsFirstTurn}
+use Rattle.lt_rewrite.specs.CoreSettling.{HasFinalLanguage, HasFinalScript, HasFinalRegion, HasFinalVariants, HasNoVariantLanguage, IsFirstVariantLanguage}
 use Rattle.lt_rewrite.proofs.Stars.{star_trans}
 use Rattle.lt_rewrite.proofs.CoreReach.{chain}
 use Rattle.lt_rewrite.proofs.CoreRest.{rests}
@@ -57,15 +57,15 @@ final_more P vs i e h all p = All-same P (take (i + 1) (set vs i e)) (take i vs 
 pub extlang_step : (R : List EntryParts) (c : CoreParts) (x l : List ℕ) → c.extlangs ≡ x ∷ [] → l ≡ (values_of R).replacement x → CoreStep (values_of R) c (record c { language = l; extlangs = [] })
 extlang_step R c x l h e = by_extlang x (record { one = h; result = ap (λ u. record c { language = u; extlangs = [] }) e })
 
-pub turn_step : (R : List EntryParts) (c : CoreParts) (i : ℕ) (m : List ℕ) → c.extlangs ≡ [] → IsFirstTurn (values_of R) c i m → CoreStep (values_of R) c (record c { language = m; variants = remove c.variants i })
-turn_step R c i m h t = by_variant_language (take i c.variants) t.variant m (drop (suc i) c.variants) (record { alone = h; there = t.there; has = t.has; leftmost = t.leftmost; result = refl })
+pub variant_language_step : (R : List EntryParts) (c : CoreParts) (i : ℕ) (m : List ℕ) → c.extlangs ≡ [] → IsFirstVariantLanguage (values_of R) c i m → CoreStep (values_of R) c (record c { language = m; variants = remove c.variants i })
+variant_language_step R c i m h t = by_variant_language (take i c.variants) t.variant m (drop (suc i) c.variants) (record { alone = h; there = t.there; has = t.has; leftmost = t.leftmost; result = refl })
 
 -- what all variants have, those that are left have
 pub final_without : (P : List ℕ → Type 0) (vs : List (List ℕ)) (i : ℕ) → All P vs → All P (remove vs i)
 final_without P vs i all = All-append P (take i vs) (drop (suc i) vs) (All-take P i vs all) (All-drop P (suc i) vs all)
 
 -- a core at rest
-pub at_rest : (V : Values) (d : CoreParts) → ((x : List ℕ) → d.extlangs ≡ x ∷ [] → ⊥) → HasFinalScript V d → HasFinalRegion V d → HasFinalVariants V d → (d.extlangs ≡ [] → HasFinalLanguage V d × HasNoTurn V d) → Rests (CoreStep V) d
+pub at_rest : (V : Values) (d : CoreParts) → ((x : List ℕ) → d.extlangs ≡ x ∷ [] → ⊥) → HasFinalScript V d → HasFinalRegion V d → HasFinalVariants V d → (d.extlangs ≡ [] → HasFinalLanguage V d × HasNoVariantLanguage V d) → Rests (CoreStep V) d
 at_rest V d none script region variants language e s =
     rests V d e
     (record {
@@ -74,7 +74,7 @@ at_rest V d none script region variants language e s =
       script = λ u h. if_some_is (λ s. V.script s ≡ None) d.script u h script;
       region = λ u h. if_some_is (λ s. V.region s ≡ None) d.region u h region;
       variant = recursion_from_All (λ v. V.variant v ≡ None) d.variants variants;
-      turn = λ a. recursion_from_All (λ v. V.variant_language d.language v ≡ None) d.variants (language a).1;
+      variant_language = λ a. recursion_from_All (λ v. V.variant_language d.language v ≡ None) d.variants (language a).1;
     })
     s
 
@@ -84,9 +84,9 @@ sole [] x e h = absurd (omega arith)
 sole (y ∷ []) x e h = ap (λ z. z ∷ []) (sym e)
 sole (y ∷ z ∷ zs) x e h = absurd (omega arith)
 
--- the variant at an index is the first that turns, where none before it does
-pub first_turn_at : (V : Values) (c : CoreParts) (i : ℕ) (v m : List ℕ) (vs : List (List ℕ)) → vs ≡ c.variants → i < length vs → v ≡ get_or vs i v → V.variant_language c.language v ≡ Some m → All (λ (u : List ℕ). V.variant_language c.language u ≡ None) (take i vs) → IsFirstTurn V c i m
-first_turn_at V c i v m vs same h e t none =
+-- the variant at an index is the first with a VariantLanguage step, where none before it has one
+pub first_variant_language_at : (V : Values) (c : CoreParts) (i : ℕ) (v m : List ℕ) (vs : List (List ℕ)) → vs ≡ c.variants → i < length vs → v ≡ get_or vs i v → V.variant_language c.language v ≡ Some m → All (λ (u : List ℕ). V.variant_language c.language u ≡ None) (take i vs) → IsFirstVariantLanguage V c i m
+first_variant_language_at V c i v m vs same h e t none =
     let P : List ℕ → Type 0 = λ u. V.variant_language c.language u ≡ None in
     let at : c.variants ≡ take i c.variants ++ v ∷ drop (suc i) c.variants = subst (λ us. us ≡ take i us ++ v ∷ drop (suc i) us) same (round vs i v h e) in
     record {
@@ -149,10 +149,10 @@ rests_with_extlangs V c c1 c2 c3 c4 S some = record {
   at_rest = at_rest V c4 S.none_alone (settled_script V c c1 c2 c3 c4 S) (settled_region V c c1 c2 c3 c4 S) (settled_variants V c c1 c2 c3 c4 S) (λ e. absurd (some e));
 }
 
--- else the turns are done
-pub rests_after_turns : (V : Values) (c c1 c2 c3 c4 d : CoreParts) → Settlings V c c1 c2 c3 c4 → Star (CoreStep V) c4 d → HasFinalLanguage V d → HasNoTurn V d → HasFinalVariants V d → d ≡ record c4 { language = d.language; variants = d.variants } → IsCoreNormalForm V c d
-rests_after_turns V c c1 c2 c3 c4 d S turns language none variants other = record {
-  reached = star_trans (settled_reached V c c1 c2 c3 c4 S) turns;
+-- else the VariantLanguage steps are done
+pub rests_after_variant_languages : (V : Values) (c c1 c2 c3 c4 d : CoreParts) → Settlings V c c1 c2 c3 c4 → Star (CoreStep V) c4 d → HasFinalLanguage V d → HasNoVariantLanguage V d → HasFinalVariants V d → d ≡ record c4 { language = d.language; variants = d.variants } → IsCoreNormalForm V c d
+rests_after_variant_languages V c c1 c2 c3 c4 d S variant_languages language none variants other = record {
+  reached = star_trans (settled_reached V c c1 c2 c3 c4 S) variant_languages;
   at_rest =
       at_rest V d
       (λ x e. S.none_alone x (sym (ap (λ (k : CoreParts). k.extlangs) other) ∙ e))

@@ -136,9 +136,9 @@ chains_end R h k s =
     let en : ValuedEntry R k s v = valued R k s v (next_is_value R k s v e) in
     subst (λ k. Ends (next_value R k) v) en.of_kind (valued_has R k s v (HasEndingChain R) h en v en.gives))
 
--- what a turn rests on
-pub turn_is : (R : List EntryParts) (l v m : List ℕ) → (values_of R).variant_language l v ≡ Some m → (has_prefix (prefixes R kinds.Variant v) l ≡ true) × (language_value R v ≡ Some m)
-turn_is R l v m e = some_when (has_prefix (prefixes R kinds.Variant v) l) (language_value R v) m e
+-- what a VariantLanguage step rests on
+pub variant_language_is : (R : List EntryParts) (l v m : List ℕ) → (values_of R).variant_language l v ≡ Some m → (has_prefix (prefixes R kinds.Variant v) l ≡ true) × (language_value R v ≡ Some m)
+variant_language_is R l v m e = some_when (has_prefix (prefixes R kinds.Variant v) l) (language_value R v) m e
 
 language_none_at : (o : Option (List ℕ)) (w : List ℕ) → o ≡ Some w → is_short w ≡ false → option_and_then (λ u. cond (is_short u) (Some u) None) o ≡ None
 language_none_at o w e h = ap (option_and_then (λ (u : List ℕ). cond (is_short u) (Some u) None)) e ∙ ap (λ (b : Bool). cond b (Some w) None) h
@@ -159,17 +159,17 @@ listed_at l (p ∷ ps) Q h e = by (listed_at l ps Q h.1) (or_cases (pointwise by
 pub prefixes_at : (R : List EntryParts) (k : Kind) (s : List ℕ) (e : EntryParts) → entry R k s ≡ Some e → prefixes R k s ≡ e.prefixes
 prefixes_at R k s e h = ap (λ (o : Option EntryParts). option_map_or (λ (e : EntryParts). e.prefixes) o []) h
 
--- beside which a variant turns has no value
-pub turns_final : (R : List EntryParts) → MeetsCoreConditions R → (l v m : List ℕ) → (values_of R).variant_language l v ≡ Some m → IsFinalLanguage R l
-turns_final R C l v m e =
-    let t = turn_is R l v m e in
+-- a language beside which a variant has a VariantLanguage step has no value
+pub variant_languages_final : (R : List EntryParts) → MeetsCoreConditions R → (l v m : List ℕ) → (values_of R).variant_language l v ≡ Some m → IsFinalLanguage R l
+variant_languages_final R C l v m e =
+    let t = variant_language_is R l v m e in
     let w = language_value_is R v m t.1 in
     let en : ValuedEntry R kinds.Variant v m = valued R kinds.Variant v m w.0 in
-    let fits : HasFinalPrefixes R en.at = valued_has R kinds.Variant v m (HasFinalPrefixes R) C.turns en in
+    let fits : HasFinalPrefixes R en.at = valued_has R kinds.Variant v m (HasFinalPrefixes R) C.variant_languages en in
     let all = (fits en.of_kind m en.gives w.1).1 in
     listed_at l en.at.prefixes (IsFinalLanguage R) all (ap (λ ps. has_prefix ps l) (sym (prefixes_at R kinds.Variant v en.at en.found)) ∙ t.0)
 
--- a variant value is registered, and turns into no language
+-- a variant value is registered, and has no language value
 pub variant_value_fits : (R : List EntryParts) → MeetsCoreConditions R → (v w : List ℕ) → variant_value R v ≡ Some w → (is_registered R kinds.Variant w ≡ true) × (language_value R w ≡ None)
 variant_value_fits R C v w e =
     let p = variant_value_is R v w e in

@@ -5,7 +5,7 @@ use Rattle.std.proofs.lemmas.List.{length-map, get_or-map}
 use Rattle.lt_registry.specs.Parts.{EntryParts}
 use Rattle.lt_registry.specs.Entries.{entry}
 use Rattle.lt_registry.specs.declared.entries.Kind.TheVariants as kinds
-use Rattle.lt_rewrite.specs.Turns.{ArePlaces}
+use Rattle.lt_rewrite.specs.VariantLanguages.{ArePlaces}
 
 -- as many places as variants
 pub placed_count : (R : List EntryParts) (vs : List (List ℕ)) (ps : List ℕ) → ArePlaces R vs ps → length ps ≡ length vs

@@ -21,7 +21,7 @@ use Rattle.lt_rewrite.specs.Conditions.{HasFittingGrandfathered, second_entry, M
 use Rattle.lt_rewrite.specs.Laws.{StepsKeepProper, ProperCoresSpellNone}
 use Rattle.lt_rewrite.proofs.CoreLengths.{core_step_no_longer}
 use Rattle.lt_rewrite.proofs.PartLists.{all_replaced, all_without}
-use Rattle.lt_rewrite.proofs.Entries.{entry_has, turn_is, variant_value_fits, language_value_fits}
+use Rattle.lt_rewrite.proofs.Entries.{entry_has, variant_language_is, variant_value_fits, language_value_fits}
 use Rattle.lt_rewrite.proofs.Forms.{registered_entry, value_form, value_registered, replacement_form, replacement_registered, language_value_form, variant_value_form}
 
 test_replaced : {A : Type 0} (test : A → Bool) (before : List A) (v w : A) (after : List A) → list_all test (before ++ v ∷ after) ≡ true → test w ≡ true → list_all test (before ++ w ∷ after) ≡ true
@@ -57,7 +57,7 @@ step_shaped R G c d S (by_region a v s) =
 step_shaped R G c d S (by_variant before v w after s) =
     subst IsCore (sym s.result) (record { language = S.language; extlangs = S.extlangs; up_to_three = S.up_to_three; after_short = S.after_short; script = S.script; region = S.region; variants = test_replaced is_variant before v w after (ap (list_all is_variant) (sym s.there) ∙ S.variants) (variant_value_form R G v w s.has) })
 step_shaped R G c d S (by_variant_language before v m after s) =
-    let t = (turn_is R c.language v m s.has).1 in
+    let t = (variant_language_is R c.language v m s.has).1 in
     subst IsCore (sym s.result) (record { language = language_value_form R G v m t; extlangs = S.extlangs; up_to_three = S.up_to_three; after_short = short_none m c.extlangs s.alone; script = S.script; region = S.region; variants = test_without is_variant before v after (ap (list_all is_variant) (sym s.there) ∙ S.variants) })
 
 abbrev RegisteredVariant : List EntryParts → List ℕ → Type 0
@@ -78,7 +78,7 @@ step_proper R C c d P (by_variant before v w after s) =
     let all = subst (AllByRecursion (RegisteredVariant R)) s.there P.variants in
     subst (IsProperCore R) (sym s.result) (record { language = P.language; extlangs = P.extlangs; script = P.script; region = P.region; variants = all_replaced (RegisteredVariant R) before v w after all (variant_value_fits R C v w s.has).0 })
 step_proper R C c d P (by_variant_language before v m after s) =
-    let t = (turn_is R c.language v m s.has).1 in
+    let t = (variant_language_is R c.language v m s.has).1 in
     let all = subst (AllByRecursion (RegisteredVariant R)) s.there P.variants in
     subst (IsProperCore R) (sym s.result) (record { language = language_value_fits R C v m t; extlangs = fit_none R m c.extlangs s.alone; script = P.script; region = P.region; variants = all_without (RegisteredVariant R) before v after all })
 

@@ -15,7 +15,7 @@ use Rattle.lt_rewrite.proofs.Chains.{end_same, end_keeps}
 use Rattle.lt_rewrite.proofs.CoreForm.{pick, settled, form_on, form}
 use Rattle.lt_rewrite.proofs.CoreReach.{Picked, picked}
 use Rattle.lt_rewrite.proofs.CoreSettles.{settles}
-use Rattle.lt_rewrite.proofs.Entries.{no_language, turn_is}
+use Rattle.lt_rewrite.proofs.Entries.{no_language, variant_language_is}
 use Rattle.lt_rewrite.proofs.PartLists.{all_without, all_unmapped}
 
 -- lists
@@ -73,24 +73,24 @@ distinct_unmap g (x ∷ xs) h =
 -- cores
 
 -- the variant has a language value
-pub turning : List EntryParts → List ℕ → Bool
-turning R v = is_some (language_value R v)
+pub has_variant_language : List EntryParts → List ℕ → Bool
+has_variant_language R v = is_some (language_value R v)
 
 abbrev staying : List EntryParts → List ℕ → Bool
-staying R v = not (turning R v)
+staying R v = not (has_variant_language R v)
 
 -- no variant with a language value occurs twice
-abbrev pub TurnsOnce : List EntryParts → CoreParts → Type 0
-TurnsOnce R c = Distinct (filter (turning R) c.variants)
+abbrev pub VariantLanguagesOnce : List EntryParts → CoreParts → Type 0
+VariantLanguagesOnce R c = Distinct (filter (has_variant_language R) c.variants)
 
 module _ (R : List EntryParts) (C : MeetsCoreConditions R) where
-  stays : (v : List ℕ) → language_value R v ≡ None → turning R v ≡ false
-  unfolding turning
+  stays : (v : List ℕ) → language_value R v ≡ None → has_variant_language R v ≡ false
+  unfolding has_variant_language
   stays v e = ap is_some e
 
-  turns : (l v m : List ℕ) → (values_of R).variant_language l v ≡ Some m → turning R v ≡ true
-  unfolding turning
-  turns l v m e = ap is_some (turn_is R l v m e).1
+  some_variant_language : (l v m : List ℕ) → (values_of R).variant_language l v ≡ Some m → has_variant_language R v ≡ true
+  unfolding has_variant_language
+  some_variant_language l v m e = ap is_some (variant_language_is R l v m e).1
 
   filter_middle_out : (T : List ℕ → Bool) (before : List (List ℕ)) (v : List ℕ) (after : List (List ℕ)) → T v ≡ false → filter T (before ++ v ∷ after) ≡ filter T (before ++ after)
   filter_middle_out T before v after e =
@@ -100,39 +100,39 @@ module _ (R : List EntryParts) (C : MeetsCoreConditions R) where
   filter_middle_in T before v after e =
       filter-append T before (v ∷ after) ∙ ap (λ l. filter T before ++ l) (filter_in T v after e)
 
-  along : (c d : CoreParts) → c.variants ≡ d.variants → TurnsOnce R c → TurnsOnce R d
-  along c d e h = subst (λ vs. Distinct (filter (turning R) vs)) e h
+  along : (c d : CoreParts) → c.variants ≡ d.variants → VariantLanguagesOnce R c → VariantLanguagesOnce R d
+  along c d e h = subst (λ vs. Distinct (filter (has_variant_language R) vs)) e h
 
   -- core steps make no second variant with a language value
-  pub turns_once_kept : (c d : CoreParts) → CoreStep (values_of R) c d → TurnsOnce R c → TurnsOnce R d
-  turns_once_kept c d (by_extlang x s) h = along c d (sym (ap (λ (x : CoreParts). x.variants) s.result)) h
-  turns_once_kept c d (by_language v s) h = along c d (sym (ap (λ (x : CoreParts). x.variants) s.result)) h
-  turns_once_kept c d (by_script a v s) h = along c d (sym (ap (λ (x : CoreParts). x.variants) s.result)) h
-  turns_once_kept c d (by_region a v s) h = along c d (sym (ap (λ (x : CoreParts). x.variants) s.result)) h
-  turns_once_kept c d (by_variant before v w after s) h =
+  pub variant_languages_once_kept : (c d : CoreParts) → CoreStep (values_of R) c d → VariantLanguagesOnce R c → VariantLanguagesOnce R d
+  variant_languages_once_kept c d (by_extlang x s) h = along c d (sym (ap (λ (x : CoreParts). x.variants) s.result)) h
+  variant_languages_once_kept c d (by_language v s) h = along c d (sym (ap (λ (x : CoreParts). x.variants) s.result)) h
+  variant_languages_once_kept c d (by_script a v s) h = along c d (sym (ap (λ (x : CoreParts). x.variants) s.result)) h
+  variant_languages_once_kept c d (by_region a v s) h = along c d (sym (ap (λ (x : CoreParts). x.variants) s.result)) h
+  variant_languages_once_kept c d (by_variant before v w after s) h =
       let n = no_language R C v w s.has in
-      let e : filter (turning R) c.variants ≡ filter (turning R) d.variants =
-      ap (filter (turning R)) s.there
-      ∙ filter_middle_out (turning R) before v after (stays v n.0)
-      ∙ sym (filter_middle_out (turning R) before w after (stays w n.1))
-      ∙ sym (ap (λ (x : CoreParts). filter (turning R) x.variants) s.result) in
+      let e : filter (has_variant_language R) c.variants ≡ filter (has_variant_language R) d.variants =
+      ap (filter (has_variant_language R)) s.there
+      ∙ filter_middle_out (has_variant_language R) before v after (stays v n.0)
+      ∙ sym (filter_middle_out (has_variant_language R) before w after (stays w n.1))
+      ∙ sym (ap (λ (x : CoreParts). filter (has_variant_language R) x.variants) s.result) in
       subst Distinct e h
-  turns_once_kept c d (by_variant_language before v m after s) h =
-      let e : filter (turning R) c.variants ≡ filter (turning R) before ++ v ∷ filter (turning R) after =
-      ap (filter (turning R)) s.there ∙ filter_middle_in (turning R) before v after (turns c.language v m s.has) in
-      let f : filter (turning R) before ++ filter (turning R) after ≡ filter (turning R) d.variants =
-      sym (filter-append (turning R) before after) ∙ sym (ap (λ (x : CoreParts). filter (turning R) x.variants) s.result) in
-      subst Distinct f (distinct_without (filter (turning R) before) v (filter (turning R) after) (subst Distinct e h))
+  variant_languages_once_kept c d (by_variant_language before v m after s) h =
+      let e : filter (has_variant_language R) c.variants ≡ filter (has_variant_language R) before ++ v ∷ filter (has_variant_language R) after =
+      ap (filter (has_variant_language R)) s.there ∙ filter_middle_in (has_variant_language R) before v after (some_variant_language c.language v m s.has) in
+      let f : filter (has_variant_language R) before ++ filter (has_variant_language R) after ≡ filter (has_variant_language R) d.variants =
+      sym (filter-append (has_variant_language R) before after) ∙ sym (ap (λ (x : CoreParts). filter (has_variant_language R) x.variants) s.result) in
+      subst Distinct f (distinct_without (filter (has_variant_language R) before) v (filter (has_variant_language R) after) (subst Distinct e h))
 
-  end_turning_at : (v : List ℕ) (o : Option (List ℕ)) → variant_value R v ≡ o → turning R ((settles R C).variant v) ≡ turning R v
-  end_turning_at v None e = ap (turning R) (end_same (settles R C).variant_end v e)
-  end_turning_at v (Some w) e =
-      let here : turning R v ≡ false = stays v (no_language R C v w e).0 in
-      let P : List ℕ → Type 0 = λ s. turning R s ≡ false in
+  end_has_variant_language_at : (v : List ℕ) (o : Option (List ℕ)) → variant_value R v ≡ o → has_variant_language R ((settles R C).variant v) ≡ has_variant_language R v
+  end_has_variant_language_at v None e = ap (has_variant_language R) (end_same (settles R C).variant_end v e)
+  end_has_variant_language_at v (Some w) e =
+      let here : has_variant_language R v ≡ false = stays v (no_language R C v w e).0 in
+      let P : List ℕ → Type 0 = λ s. has_variant_language R s ≡ false in
       end_keeps (settles R C).variant_end P (λ s t h p. stays t (no_language R C s t h).1) v here ∙ sym here
 
-  end_turning : (v : List ℕ) → turning R ((settles R C).variant v) ≡ turning R v
-  end_turning v = end_turning_at v (variant_value R v) refl
+  end_has_variant_language : (v : List ℕ) → has_variant_language R ((settles R C).variant v) ≡ has_variant_language R v
+  end_has_variant_language v = end_has_variant_language_at v (variant_value R v) refl
 
   filter_map_at : (g : List ℕ → List ℕ) (x : List ℕ) (ys : List (List ℕ)) (b : Bool) → cond b (g x ∷ map g ys) (map g ys) ≡ map g (cond b (x ∷ ys) ys)
   filter_map_at g x ys true = refl
@@ -142,14 +142,14 @@ module _ (R : List EntryParts) (C : MeetsCoreConditions R) where
   filter_map_end [] = refl
   filter_map_end (x ∷ xs) =
       let g : List ℕ → List ℕ = (settles R C).variant in
-      ap (λ b. cond (not b) (g x ∷ filter (staying R) (map g xs)) (filter (staying R) (map g xs))) (end_turning x)
+      ap (λ b. cond (not b) (g x ∷ filter (staying R) (map g xs)) (filter (staying R) (map g xs))) (end_has_variant_language x)
       ∙ ap (λ l. cond (staying R x) (g x ∷ l) l) (filter_map_end xs)
       ∙ filter_map_at g x (filter (staying R) xs) (staying R x)
 
   picked_stays : (l : List ℕ) (vs : List (List ℕ)) (p : List ℕ × List (List ℕ)) → pick (values_of R) l vs ≡ Some p → filter (staying R) p.1 ≡ filter (staying R) vs
   picked_stays l vs p e =
       let k : Picked (values_of R) l vs p = picked (values_of R) l vs p e in
-      let t : staying R k.variant ≡ false = ap not (turns l k.variant p.0 k.has) in
+      let t : staying R k.variant ≡ false = ap not (some_variant_language l k.variant p.0 k.has) in
       sym (ap (filter (staying R)) k.there ∙ filter_middle_out (staying R) k.before k.variant k.after t ∙ ap (filter (staying R)) k.left)
 
   settled_stays_at : (n : ℕ) → ((x : List ℕ) (vs : List (List ℕ)) → filter (staying R) (settled (values_of R) (settles R C) n x vs).1 ≡ filter (staying R) vs) → (x : List ℕ) (vs : List (List ℕ)) (o : Option (List ℕ × List (List ℕ))) → pick (values_of R) x vs ≡ o → (let p : List ℕ × List (List ℕ) = elim o as (λ _. List ℕ × List (List ℕ)) [ None ↦ (x, vs) | Some p ↦ settled (values_of R) (settles R C) n ((settles R C).language p.0) p.1 ] in filter (staying R) p.1 ≡ filter (staying R) vs)
@@ -166,10 +166,10 @@ module _ (R : List EntryParts) (C : MeetsCoreConditions R) where
   form_on_stays (x ∷ y ∷ r) l sc re vs = refl
 
   -- where the form repeats no variant, the core repeats none
-  pub form_distinct : (c : CoreParts) → TurnsOnce R c → Distinct (form (values_of R) (settles R C) c).variants → Distinct c.variants
+  pub form_distinct : (c : CoreParts) → VariantLanguagesOnce R c → Distinct (form (values_of R) (settles R C) c).variants → Distinct c.variants
   form_distinct c h k =
       let g : List ℕ → List ℕ = (settles R C).variant in
       let e : filter (staying R) (form (values_of R) (settles R C) c).variants ≡ map g (filter (staying R) c.variants) =
       form_on_stays c.extlangs c.language (option_map (settles R C).script c.script) (option_map (settles R C).region c.region) (map g c.variants) ∙ filter_map_end c.variants in
       let a : Distinct (filter (staying R) c.variants) = distinct_unmap g (filter (staying R) c.variants) (subst Distinct e (distinct_filter (staying R) (form (values_of R) (settles R C) c).variants k)) in
-      merge (turning R) c.variants h a
+      merge (has_variant_language R) c.variants h a

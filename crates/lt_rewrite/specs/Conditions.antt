@@ -116,4 +116,4 @@ pub record MeetsCoreConditions (R : List EntryParts) : Type 0 where
   pub chains : All (HasEndingChain R) R
   pub extlangs : All (HasFittingExtlang R) R
   pub variants : All (HasFittingVariantValue R) R
-  pub turns : All (HasFinalPrefixes R) R
+  pub variant_languages : All (HasFinalPrefixes R) R

@@ -22,11 +22,11 @@ abbrev pub HasFinalVariants : Values → CoreParts → Type 0
 HasFinalVariants V c = All (λ v. V.variant v ≡ None) c.variants
 
 -- no variant has a VariantLanguage step beside the language
-abbrev pub HasNoTurn : Values → CoreParts → Type 0
-HasNoTurn V c = All (λ v. V.variant_language c.language v ≡ None) c.variants
+abbrev pub HasNoVariantLanguage : Values → CoreParts → Type 0
+HasNoVariantLanguage V c = All (λ v. V.variant_language c.language v ≡ None) c.variants
 
 -- the variant at an index is the leftmost with a VariantLanguage step beside the language, which leads to m
-pub record IsFirstTurn (V : Values) (c : CoreParts) (index : ℕ) (m : List ℕ) : Type 0 where
+pub record IsFirstVariantLanguage (V : Values) (c : CoreParts) (index : ℕ) (m : List ℕ) : Type 0 where
   pub within : index < length c.variants
   pub variant : List ℕ
   pub there : c.variants ≡ take index c.variants ++ variant ∷ drop (suc index) c.variants

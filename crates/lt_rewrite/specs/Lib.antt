@@ -10,7 +10,7 @@ pub mod OrderingLaws
 pub mod Laws
 pub mod ChainEnds
 pub mod CoreSettling
-pub mod Turns
+pub mod VariantLanguages
 pub mod ExtensionSettling
 pub mod ExtensionsSettling
 pub mod Applying

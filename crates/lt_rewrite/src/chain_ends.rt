@@ -76,7 +76,7 @@ pub(crate) fn end_of_chain<L: Lookup>(
     ensures cycle { OnErr result (Ends (conditions.next_value (L.listed table.now) kind) subtag.now → ⊥) }
 {
     let mut end = subtag.copy();
-    for _turn in 0..table.entries().len() {
+    for _step in 0..table.entries().len() {
         match next_value(table, kind, &end) {
             Some(next) => end = next.copy(),
             None => return Ok(end),

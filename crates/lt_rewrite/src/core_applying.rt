@@ -6,7 +6,7 @@ ghost use Rattle.lt_rewrite.specs.Applying.{Answers, IsValueBy, CoreLeads};
 ghost use Rattle.lt_rewrite.specs.declared.steps.StepKind.TheVariants as kinds;
 
 use crate::chain_ends::replacement;
-use crate::core_settling::first_turn;
+use crate::core_settling::first_variant_language;
 use crate::steps::{Step, StepKind};
 use crate::values::{is_short, one_value};
 use lt_registry::{Kind, Lookup};
@@ -192,7 +192,7 @@ fn replace_variant<L: Lookup>(table: &L, core: &mut Core, start: usize, step: St
 
 /// A VariantLanguage step: the leftmost variant that has a language as its value, and the core's language as a
 /// Prefix, is dropped, and its value becomes the language.
-fn turn_variant<L: Lookup>(table: &L, core: &mut Core, start: usize, step: Step) -> bool
+fn apply_variant_language<L: Lookup>(table: &L, core: &mut Core, start: usize, step: Step) -> bool
     requires kind { step.kind ≡ kinds.VariantLanguage }
     requires few { start ≤ 1200000 }
     ensures { Answers (CoreLeads (L.listed table.now) start core.old step) core.new result }
@@ -200,7 +200,7 @@ fn turn_variant<L: Lookup>(table: &L, core: &mut Core, start: usize, step: Step)
     if !core.extlangs().is_empty() {
         return false;
     }
-    let Some((index, language)) = first_turn(table, core) else {
+    let Some((index, language)) = first_variant_language(table, core) else {
         return false;
     };
     if step.place as usize != start + before_variants(core) + index + 1 {
@@ -226,7 +226,7 @@ pub(crate) fn apply_to_core<L: Lookup>(table: &L, core: &mut Core, start: usize,
         StepKind::Script => replace_script(table, core, start, step),
         StepKind::Region => replace_region(table, core, start, step),
         StepKind::Variant => replace_variant(table, core, start, step),
-        StepKind::VariantLanguage => turn_variant(table, core, start, step),
+        StepKind::VariantLanguage => apply_variant_language(table, core, start, step),
         _ => false,
     }
 }

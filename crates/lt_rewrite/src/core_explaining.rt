@@ -10,7 +10,7 @@ use crate::chain_ends::next_value;
 use crate::core_applying::{
     apply_to_core, before_region, before_script, before_variants, record_number,
 };
-use crate::core_settling::first_turn;
+use crate::core_settling::first_variant_language;
 use crate::steps::{Step, StepKind};
 use crate::values::value;
 use lt_registry::{Kind, Lookup};
@@ -105,7 +105,7 @@ fn variant_step<L: Lookup>(table: &L, core: &Core, start: usize) -> Option<Step>
 
 /// The VariantLanguage step: that of the leftmost variant that has a language as its value, and the core's
 /// language as a Prefix.
-fn turn_step<L: Lookup>(table: &L, core: &Core, start: usize) -> Option<Step>
+fn variant_language_step<L: Lookup>(table: &L, core: &Core, start: usize) -> Option<Step>
     requires { start ≤ 1200000 }
     ensures { MatchOption result
         (NoneOnCore (L.listed table.now) start core.now (rank_of kinds.VariantLanguage))
@@ -114,7 +114,7 @@ fn turn_step<L: Lookup>(table: &L, core: &Core, start: usize) -> Option<Step>
     if !core.extlangs().is_empty() {
         return None;
     }
-    let Some((index, _language)) = first_turn(table, core) else {
+    let Some((index, _language)) = first_variant_language(table, core) else {
         return None;
     };
     Some(Step {
@@ -146,7 +146,7 @@ fn first_core_step<L: Lookup>(table: &L, core: &Core, start: usize) -> Option<St
     if let Some(step) = variant_step(table, core, start) {
         return Some(step);
     }
-    turn_step(table, core, start)
+    variant_language_step(table, core, start)
 }
 
 /// Takes the steps on a core that begins after this many subtags, each the first that leads on, until

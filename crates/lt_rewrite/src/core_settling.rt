@@ -8,12 +8,12 @@ ghost use Rattle.lt_rewrite.specs.CoreSteps.{values_of, CoreStep, IsCoreNormalFo
 ghost use Rattle.lt_rewrite.specs.Conditions as conditions;
 ghost use Rattle.lt_rewrite.specs.Conditions.{HasEndingChain};
 ghost use Rattle.lt_rewrite.specs.Shortcuts.{AreShortcuts};
-ghost use Rattle.lt_rewrite.specs.CoreSettling.{IsFirstTurn, HasNoTurn, HasFinalLanguage, HasFinalScript, HasFinalRegion, HasFinalVariants};
+ghost use Rattle.lt_rewrite.specs.CoreSettling.{IsFirstVariantLanguage, HasNoVariantLanguage, HasFinalLanguage, HasFinalScript, HasFinalRegion, HasFinalVariants};
 
 use crate::chain_ends::{Cycle, end_of_chain, replacement};
 use crate::shortcuts::Shortcuts;
-use crate::turns::{first_turn_at, places_of};
 use crate::values::{is_short, one_value};
+use crate::variant_languages::{first_variant_language_at, places_of};
 use lt_registry::{Kind, Lookup};
 use lt_subtag::Subtag;
 use lt_tag::Core;
@@ -124,7 +124,11 @@ fn settle_language<L: Lookup>(table: &L, shortcuts: Option<&Shortcuts>, core: &m
 
 /// The language to which a variant leads beside a language by a VariantLanguage step: its value, if that is a
 /// language and the language beside it one of its Prefixes.
-fn turn<'a, L: Lookup>(table: &'a L, language: &Subtag, variant: &Subtag) -> Option<&'a Subtag>
+fn variant_language<'a, L: Lookup>(
+    table: &'a L,
+    language: &Subtag,
+    variant: &Subtag,
+) -> Option<&'a Subtag>
     ensures value { option_copied result ≡ (values_of (L.listed table.now)).variant_language language.now variant.now }
     ensures form { IfSome result (λ value. is_language value.now ≡ true) }
 {
@@ -139,14 +143,14 @@ fn turn<'a, L: Lookup>(table: &'a L, language: &Subtag, variant: &Subtag) -> Opt
 
 /// The leftmost variant with a VariantLanguage step: its index, counted from 0, and the language to which it
 /// leads.
-pub(crate) fn first_turn<L: Lookup>(table: &L, core: &Core) -> Option<(usize, Subtag)>
-    ensures turn { MatchOption result
-        (HasNoTurn (values_of (L.listed table.now)) core.now)
-        (λ turn. IsFirstTurn (values_of (L.listed table.now)) core.now turn.0 turn.1) }
-    ensures form { IfSome result (λ turn. is_language turn.1 ≡ true) }
+pub(crate) fn first_variant_language<L: Lookup>(table: &L, core: &Core) -> Option<(usize, Subtag)>
+    ensures variant_language { MatchOption result
+        (HasNoVariantLanguage (values_of (L.listed table.now)) core.now)
+        (λ first. IsFirstVariantLanguage (values_of (L.listed table.now)) core.now first.0 first.1) }
+    ensures form { IfSome result (λ first. is_language first.1 ≡ true) }
 {
     for (index, variant) in core.variants().iter().enumerate() {
-        if let Some(language) = turn(table, core.language(), variant) {
+        if let Some(language) = variant_language(table, core.language(), variant) {
             return Some((index, language.copy()));
         }
     }
@@ -155,19 +159,19 @@ pub(crate) fn first_turn<L: Lookup>(table: &L, core: &Core) -> Option<(usize, Su
 
 /// Replaces a language without extlangs by the end of its chain; and as long as there is a VariantLanguage
 /// step, takes it, and follows the chain of the new language.
-fn settle_turns<L: Lookup>(table: &L, shortcuts: Option<&Shortcuts>, core: &mut Core)
+fn settle_variant_languages<L: Lookup>(table: &L, shortcuts: Option<&Shortcuts>, core: &mut Core)
     requires chains { All (HasEndingChain (L.listed table.now)) (L.listed table.now) }
     requires shortcuts { IfSome shortcuts (λ s. AreShortcuts (L.listed table.now) s.now) }
     requires alone { core.old.extlangs ≡ [] }
     requires variants { HasFinalVariants (values_of (L.listed table.now)) core.old }
     ensures reached { Star (CoreStep (values_of (L.listed table.now))) core.old core.new }
     ensures language { HasFinalLanguage (values_of (L.listed table.now)) core.new }
-    ensures turns { HasNoTurn (values_of (L.listed table.now)) core.new }
+    ensures variant_languages { HasNoVariantLanguage (values_of (L.listed table.now)) core.new }
     ensures variants { HasFinalVariants (values_of (L.listed table.now)) core.new }
     ensures others { core.new ≡ record core.old { language = core.new.language; variants = core.new.variants } }
 {
     settle_language(table, shortcuts, core);
-    while let Some((index, language)) = first_turn(table, core) {
+    while let Some((index, language)) = first_variant_language(table, core) {
         core.remove_variant(index);
         core.set_language(language);
         settle_language(table, shortcuts, core);
@@ -175,7 +179,11 @@ fn settle_turns<L: Lookup>(table: &L, shortcuts: Option<&Shortcuts>, core: &mut 
 }
 
 /// The same of at most 256 variants, which are looked up once.
-fn settle_few_turns<L: Lookup>(table: &L, shortcuts: Option<&Shortcuts>, core: &mut Core)
+fn settle_few_variant_languages<L: Lookup>(
+    table: &L,
+    shortcuts: Option<&Shortcuts>,
+    core: &mut Core,
+)
     requires chains { All (HasEndingChain (L.listed table.now)) (L.listed table.now) }
     requires shortcuts { IfSome shortcuts (λ s. AreShortcuts (L.listed table.now) s.now) }
     requires alone { core.old.extlangs ≡ [] }
@@ -183,13 +191,13 @@ fn settle_few_turns<L: Lookup>(table: &L, shortcuts: Option<&Shortcuts>, core: &
     requires few { length core.old.variants ≤ 256 }
     ensures reached { Star (CoreStep (values_of (L.listed table.now))) core.old core.new }
     ensures language { HasFinalLanguage (values_of (L.listed table.now)) core.new }
-    ensures turns { HasNoTurn (values_of (L.listed table.now)) core.new }
+    ensures variant_languages { HasNoVariantLanguage (values_of (L.listed table.now)) core.new }
     ensures variants { HasFinalVariants (values_of (L.listed table.now)) core.new }
     ensures others { core.new ≡ record core.old { language = core.new.language; variants = core.new.variants } }
 {
     settle_language(table, shortcuts, core);
     let mut places = places_of(table, core.variants());
-    while let Some((index, language)) = first_turn_at(table, &places, core) {
+    while let Some((index, language)) = first_variant_language_at(table, &places, core) {
         core.remove_variant(index);
         places.remove(index);
         core.set_language(language);
@@ -198,22 +206,26 @@ fn settle_few_turns<L: Lookup>(table: &L, shortcuts: Option<&Shortcuts>, core: &
 }
 
 /// The same of any variants. Of two or three it costs less to look them up again.
-fn settle_all_turns<L: Lookup>(table: &L, shortcuts: Option<&Shortcuts>, core: &mut Core)
+fn settle_all_variant_languages<L: Lookup>(
+    table: &L,
+    shortcuts: Option<&Shortcuts>,
+    core: &mut Core,
+)
     requires chains { All (HasEndingChain (L.listed table.now)) (L.listed table.now) }
     requires shortcuts { IfSome shortcuts (λ s. AreShortcuts (L.listed table.now) s.now) }
     requires alone { core.old.extlangs ≡ [] }
     requires variants { HasFinalVariants (values_of (L.listed table.now)) core.old }
     ensures reached { Star (CoreStep (values_of (L.listed table.now))) core.old core.new }
     ensures language { HasFinalLanguage (values_of (L.listed table.now)) core.new }
-    ensures turns { HasNoTurn (values_of (L.listed table.now)) core.new }
+    ensures variant_languages { HasNoVariantLanguage (values_of (L.listed table.now)) core.new }
     ensures variants { HasFinalVariants (values_of (L.listed table.now)) core.new }
     ensures others { core.new ≡ record core.old { language = core.new.language; variants = core.new.variants } }
 {
     let count = core.variants().len();
     if 3 < count && count <= 256 {
-        settle_few_turns(table, shortcuts, core);
+        settle_few_variant_languages(table, shortcuts, core);
     } else {
-        settle_turns(table, shortcuts, core);
+        settle_variant_languages(table, shortcuts, core);
     }
 }
 
@@ -228,7 +240,7 @@ pub(crate) fn settle_along<L: Lookup>(table: &L, shortcuts: Option<&Shortcuts>, 
     settle_variants(table, shortcuts, core);
     settle_extlang(table, core);
     if core.extlangs().is_empty() {
-        settle_all_turns(table, shortcuts, core);
+        settle_all_variant_languages(table, shortcuts, core);
     }
 }
 

@@ -41,7 +41,7 @@ fn ends_or_falls<L: Lookup>(table: &L, order: Order, entry: &Entry) -> bool
     let kind = entry.kind();
     let place = order.place(entry.number());
     let mut subtag = value.copy();
-    for _turn in 0..table.entries().len() {
+    for _step in 0..table.entries().len() {
         let Some(met) = table.entry(kind, &subtag) else {
             return true;
         };

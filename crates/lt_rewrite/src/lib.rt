@@ -24,9 +24,9 @@ mod part_ordering;
 mod shortcuts;
 mod steps;
 mod transform_explaining;
-mod turns;
 mod unicode_explaining;
 pub mod values;
+mod variant_languages;
 
 pub use apply_faults::ApplyFault;
 pub use applying::apply;

@@ -13,7 +13,7 @@ use Rattle.lt_registry.specs.declared.entries.EntryName.TheVariants as names
 use Rattle.lt_rewrite.specs.CoreSteps.{Ends, EndsIn}
 use Rattle.lt_rewrite.specs.Conditions.{next_value}
 use Rattle.lt_rewrite.specs.ChainEnds.{ChainEnds, ChainEndsIn}
-use Rattle.lt_upgrade.specs.Upgrade.{SameEnd, StaysRegistered, KeepsKind, KeepsEnds, IsSameExtlang, IsSameTurn, HadTurn}
+use Rattle.lt_upgrade.specs.Upgrade.{SameEnd, StaysRegistered, KeepsKind, KeepsEnds, IsSameExtlang, IsSameVariantLanguage, HadVariantLanguage}
 use Rattle.lt_upgrade.specs.UpgradeChecking.{covers, is_among}
 use Rattle.lt_check.proofs.Deciding.{Decides-list}
 use Rattle.lt_check.proofs.RecordChecks.{one_end}
@@ -105,20 +105,20 @@ languages_apart ps qs r same none =
     ((λ h. d.0 (t ∙ h)), (λ k. sym t ∙ d.1 k))
 
 -- a variant with a language value in the newer registry
-pub turn_compared : (B : List EntryParts) (e f : EntryParts) (s v w : List ℕ) (b : Bool) → entry B kinds.Variant s ≡ Some f → one_of f.value ≡ Some w → is_short w ≡ true → ((l : List ℕ) → has_prefix f.prefixes l ≡ has_prefix e.prefixes l) → IsTrue b ↔ SameEnd (next_value B kinds.Language) v w → IsTrue b ↔ IsSameTurn B e s v
-turn_compared B e f s v w b there gives short same h =
+pub variant_language_compared : (B : List EntryParts) (e f : EntryParts) (s v w : List ℕ) (b : Bool) → entry B kinds.Variant s ≡ Some f → one_of f.value ≡ Some w → is_short w ≡ true → ((l : List ℕ) → has_prefix f.prefixes l ≡ has_prefix e.prefixes l) → IsTrue b ↔ SameEnd (next_value B kinds.Language) v w → IsTrue b ↔ IsSameVariantLanguage B e s v
+variant_language_compared B e f s v w b there gives short same h =
     let short_of : List ℕ → Option (List ℕ) = λ x. cond (is_short x) (Some x) None in
     let has : language_value B s ≡ Some w =
     ap (λ o. option_and_then short_of (option_and_then (λ (x : EntryParts). one_of x.value) o)) there ∙ ap (option_and_then short_of) gives ∙ ap (λ b. cond b (Some w) None) short in (
       (λ x. record { newer = w; has = has; prefixes = λ l. ap (λ o. has_prefix (option_map_or (λ (e : EntryParts). e.prefixes) o []) l) there ∙ same l; ends = h.0 x }),
-      (λ (k : IsSameTurn B e s v).
+      (λ (k : IsSameVariantLanguage B e s v).
           let t = k.has in
           let is : k.newer ≡ w = cc in
           h.1 (subst (λ z. SameEnd (preferred_value B kinds.Language) v z) is k.ends)),
     )
 
 -- a variant with a language value that the older registry has
-pub had_compared : (A : List EntryParts) (e : EntryParts) (s v : List ℕ) (b : Bool) → e.kind ≡ kinds.Variant → e.name ≡ names.Single s → one_of e.value ≡ Some v → is_short v ≡ true → is_registered A kinds.Variant s ≡ true → b ≡ is_some (language_value A s) → IsTrue b ↔ HadTurn A e
+pub had_compared : (A : List EntryParts) (e : EntryParts) (s v : List ℕ) (b : Bool) → e.kind ≡ kinds.Variant → e.name ≡ names.Single s → one_of e.value ≡ Some v → is_short v ≡ true → is_registered A kinds.Variant s ≡ true → b ≡ is_some (language_value A s) → IsTrue b ↔ HadVariantLanguage A e
 had_compared A e s v b k n o short there same =
     let d = Decides-is_some (language_value A s) in (
       (λ x t w _ m _ _ _. let a : s ≡ t = cc in subst (λ z. (y : List ℕ) × (language_value A z ≡ Some y)) a (d.0 (sym same ∙ x))),

@@ -14,10 +14,10 @@ use Rattle.lt_registry.specs.declared.entries.EntryName.TheVariants as names
 use Rattle.lt_rewrite.specs.CoreSteps.{values_of, CoreStep, by_extlang, by_language, by_script, by_region, by_variant, by_variant_language}
 use Rattle.lt_rewrite.specs.Conditions.{next_value, HasNoRangeValue}
 use Rattle.lt_rewrite.proofs.CoreLaws.{normal_core, cores_formed, one_end_one_form}
-use Rattle.lt_rewrite.proofs.Entries.{entry_of, ValuedEntry, valued, valued_has, variant_value_is, language_value_is, turn_is, prefixes_at}
+use Rattle.lt_rewrite.proofs.Entries.{entry_of, ValuedEntry, valued, valued_has, variant_value_is, language_value_is, variant_language_is, prefixes_at}
 use Rattle.lt_rewrite.proofs.Forms.{ExtlangEntry, extlang_entry, replacement_at}
 use Rattle.lt_check.specs.Conditions.{IsChecked}
-use Rattle.lt_upgrade.specs.Upgrade.{SameEnd, KeepsKind, KeepsEnds, IsSameExtlang, IsSameTurn, KeepsTurn, HadTurn, Upgrades}
+use Rattle.lt_upgrade.specs.Upgrade.{SameEnd, KeepsKind, KeepsEnds, IsSameExtlang, IsSameVariantLanguage, KeepsVariantLanguage, HadVariantLanguage, Upgrades}
 use Rattle.lt_upgrade.specs.declared.conditions.UpgradeCondition.TheVariants as upgrades
 use Rattle.lt_check.proofs.Checks.{core_conditions}
 use Rattle.lt_upgrade.proofs.UpgradeValid.{same_extlang}
@@ -53,37 +53,37 @@ module _ (A B : List EntryParts) (CA : IsChecked A) (CB : IsChecked B) (U : Upgr
   language_same : (c : CoreParts) (a b : List ℕ) → SameEnd (preferred_value B kinds.Language) a b → c.extlangs ≡ [] → new_form (record c { language = a }) ≡ new_form (record c { language = b })
   language_same c a b h alone = one_end (preferred_value B kinds.Language) (λ u. record c { language = u }) (λ s t e. by_language t (record { alone = alone; has = e; result = refl })) a b h
 
-  same_turn : (v m : List ℕ) → language_value A v ≡ Some m → (n : ValuedEntry A kinds.Variant v m) → IsSameTurn B n.at v m
-  same_turn v m h n =
-      let has : KeepsTurn B n.at = valued_has A kinds.Variant v m (KeepsTurn B) (U upgrades.SameTurn) n in
+  same_variant_language : (v m : List ℕ) → language_value A v ≡ Some m → (n : ValuedEntry A kinds.Variant v m) → IsSameVariantLanguage B n.at v m
+  same_variant_language v m h n =
+      let has : KeepsVariantLanguage B n.at = valued_has A kinds.Variant v m (KeepsVariantLanguage B) (U upgrades.SameVariantLanguage) n in
       has v m n.of_kind (valued_single A CA kinds.Variant v m n) n.gives (language_value_is A v m h).1
 
-  turn_both : (l v m : List ℕ) → (values_of A).variant_language l v ≡ Some m → (w : List ℕ) × ((values_of B).variant_language l v ≡ Some w) × SameEnd (preferred_value B kinds.Language) m w
-  turn_both l v m h =
-      let t = turn_is A l v m h in
+  variant_language_both : (l v m : List ℕ) → (values_of A).variant_language l v ≡ Some m → (w : List ℕ) × ((values_of B).variant_language l v ≡ Some w) × SameEnd (preferred_value B kinds.Language) m w
+  variant_language_both l v m h =
+      let t = variant_language_is A l v m h in
       let n : ValuedEntry A kinds.Variant v m = valued A kinds.Variant v m (language_value_is A v m t.1).0 in
-      let k : IsSameTurn B n.at v m = same_turn v m t.1 n in
+      let k : IsSameVariantLanguage B n.at v m = same_variant_language v m t.1 n in
       let listed : has_prefix (prefixes B kinds.Variant v) l ≡ true = k.prefixes l ∙ ap (λ ps. has_prefix ps l) (sym (prefixes_at A kinds.Variant v n.at n.found)) ∙ t.0 in
       (k.newer, ap (λ b. cond b (language_value B v) None) listed ∙ k.has, k.ends)
 
-  -- what turns by the new registry turns by the old one
-  turn_back : (l u : List ℕ) → is_registered A kinds.Variant u ≡ true → (values_of A).variant_language l u ≡ None → (values_of B).variant_language l u ≡ None
-  turn_back l u r h = by ((values_of B).variant_language l u) refl
+  -- what has a VariantLanguage step by the new registry has one by the old
+  variant_language_back : (l u : List ℕ) → is_registered A kinds.Variant u ≡ true → (values_of A).variant_language l u ≡ None → (values_of B).variant_language l u ≡ None
+  variant_language_back l u r h = by ((values_of B).variant_language l u) refl
     where
       old : (w : List ℕ) → (values_of B).variant_language l u ≡ Some w → (x : List ℕ) × (language_value A u ≡ Some x)
       old w e =
-          let t = turn_is B l u w e in
+          let t = variant_language_is B l u w e in
           let p = language_value_is B u w t.1 in
           let n : ValuedEntry B kinds.Variant u w = valued B kinds.Variant u w p.0 in
-          let had : HadTurn A n.at = valued_has B kinds.Variant u w (HadTurn A) (U upgrades.NoNewTurn) n in
+          let had : HadVariantLanguage A n.at = valued_has B kinds.Variant u w (HadVariantLanguage A) (U upgrades.NoNewVariantLanguage) n in
           had u w n.of_kind (valued_single B CB kinds.Variant u w n) n.gives p.1 r
 
       again : (w : List ℕ) → (values_of B).variant_language l u ≡ Some w → ⊥
       again w e =
           let x = old w e in
           let n : ValuedEntry A kinds.Variant u x.0 = valued A kinds.Variant u x.0 (language_value_is A u x.0 x.1).0 in
-          let k : IsSameTurn B n.at u x.0 = same_turn u x.0 x.1 n in
-          let listed : has_prefix (prefixes A kinds.Variant u) l ≡ true = ap (λ ps. has_prefix ps l) (prefixes_at A kinds.Variant u n.at n.found) ∙ sym (k.prefixes l) ∙ (turn_is B l u w e).0 in
+          let k : IsSameVariantLanguage B n.at u x.0 = same_variant_language u x.0 x.1 n in
+          let listed : has_prefix (prefixes A kinds.Variant u) l ≡ true = ap (λ ps. has_prefix ps l) (prefixes_at A kinds.Variant u n.at n.found) ∙ sym (k.prefixes l) ∙ (variant_language_is B l u w e).0 in
           let some : (values_of A).variant_language l u ≡ Some x.0 = ap (λ b. cond b (language_value A u) None) listed ∙ x.1 in
           cc
 
@@ -91,9 +91,9 @@ module _ (A B : List EntryParts) (CA : IsChecked A) (CB : IsChecked B) (U : Upgr
       by None e = e
       by (Some w) e = absurd (again w e)
 
-  turns_back : (l : List ℕ) (before after : List (List ℕ)) → AllByRecursion (λ v. is_registered A kinds.Variant v ≡ true) (before ++ after) → AllByRecursion (λ u. (values_of A).variant_language l u ≡ None) before → AllByRecursion (λ u. (values_of B).variant_language l u ≡ None) before
-  turns_back l [] after r h = tt
-  turns_back l (u ∷ us) after r h = (turn_back l u r.0 h.0, turns_back l us after r.1 h.1)
+  variant_languages_back : (l : List ℕ) (before after : List (List ℕ)) → AllByRecursion (λ v. is_registered A kinds.Variant v ≡ true) (before ++ after) → AllByRecursion (λ u. (values_of A).variant_language l u ≡ None) before → AllByRecursion (λ u. (values_of B).variant_language l u ≡ None) before
+  variant_languages_back l [] after r h = tt
+  variant_languages_back l (u ∷ us) after r h = (variant_language_back l u r.0 h.0, variant_languages_back l us after r.1 h.1)
 
   value_same : (k : Kind) (s v : List ℕ) → KeepsKind k v → preferred_value A k s ≡ Some v → SameEnd (next_value B k) s v
   value_same k s v keeps h =
@@ -132,9 +132,9 @@ module _ (A B : List EntryParts) (CA : IsChecked A) (CB : IsChecked B) (U : Upgr
       ∙ one_end (variant_value B) (λ u. record c { variants = before ++ u ∷ after }) (λ s t e. by_variant before s t after (record { there = refl; has = e; result = refl })) v w (value_same kinds.Variant v w p.1 p.0)
       ∙ sym (ap new_form s.result)
   old_core_step c d P (by_variant_language before v m after s) =
-      let k = turn_both c.language v m s.has in
+      let k = variant_language_both c.language v m s.has in
       let r : AllByRecursion (λ v. is_registered A kinds.Variant v ≡ true) (before ++ v ∷ after) = subst (AllByRecursion (λ v. is_registered A kinds.Variant v ≡ true)) s.there P.variants in
       let left : CoreParts = record c { variants = before ++ after } in
-      new_step c (record left { language = k.0 }) (by_variant_language before v k.0 after (record { alone = s.alone; there = s.there; has = k.1; leftmost = turns_back c.language before (v ∷ after) r s.leftmost; result = refl }))
+      new_step c (record left { language = k.0 }) (by_variant_language before v k.0 after (record { alone = s.alone; there = s.there; has = k.1; leftmost = variant_languages_back c.language before (v ∷ after) r s.leftmost; result = refl }))
       ∙ sym (language_same left m k.0 k.2 s.alone)
       ∙ sym (ap new_form s.result)

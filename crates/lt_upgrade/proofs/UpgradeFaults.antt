@@ -21,16 +21,16 @@ pub of_older : (A B : List EntryParts) (k : UpgradeCondition) → is_of_newer k 
 of_older A B upgrades.StaysRegistered h = refl
 of_older A B upgrades.SameEnds h = refl
 of_older A B upgrades.SameExtlang h = refl
-of_older A B upgrades.SameTurn h = refl
-of_older A B upgrades.NoNewTurn h = cc
+of_older A B upgrades.SameVariantLanguage h = refl
+of_older A B upgrades.NoNewVariantLanguage h = cc
 of_older A B upgrades.SameWhole h = refl
 
-pub but_one : (k : UpgradeCondition) → (k ≡ upgrades.NoNewTurn → ⊥) → is_of_newer k ≡ false
+pub but_one : (k : UpgradeCondition) → (k ≡ upgrades.NoNewVariantLanguage → ⊥) → is_of_newer k ≡ false
 but_one upgrades.StaysRegistered n = refl
 but_one upgrades.SameEnds n = refl
 but_one upgrades.SameExtlang n = refl
-but_one upgrades.SameTurn n = refl
-but_one upgrades.NoNewTurn n = absurd (n refl)
+but_one upgrades.SameVariantLanguage n = refl
+but_one upgrades.NoNewVariantLanguage n = absurd (n refl)
 but_one upgrades.SameWhole n = refl
 
 -- each record before a place has it
@@ -88,8 +88,8 @@ rank_bounds : (k : UpgradeCondition) → (1 ≤ upgrade_rank_of k) × (upgrade_r
 rank_bounds upgrades.StaysRegistered = (omega arith, omega arith)
 rank_bounds upgrades.SameEnds = (omega arith, omega arith)
 rank_bounds upgrades.SameExtlang = (omega arith, omega arith)
-rank_bounds upgrades.SameTurn = (omega arith, omega arith)
-rank_bounds upgrades.NoNewTurn = (omega arith, omega arith)
+rank_bounds upgrades.SameVariantLanguage = (omega arith, omega arith)
+rank_bounds upgrades.NoNewVariantLanguage = (omega arith, omega arith)
 rank_bounds upgrades.SameWhole = (omega arith, omega arith)
 
 -- one rank, one condition
@@ -97,16 +97,16 @@ abbrev with_rank : ℕ → UpgradeCondition
 with_rank (suc zero) = upgrades.StaysRegistered
 with_rank (suc (suc zero)) = upgrades.SameEnds
 with_rank (suc (suc (suc zero))) = upgrades.SameExtlang
-with_rank (suc (suc (suc (suc zero)))) = upgrades.SameTurn
-with_rank (suc (suc (suc (suc (suc zero))))) = upgrades.NoNewTurn
+with_rank (suc (suc (suc (suc zero)))) = upgrades.SameVariantLanguage
+with_rank (suc (suc (suc (suc (suc zero))))) = upgrades.NoNewVariantLanguage
 with_rank _ = upgrades.SameWhole
 
 rank_back : (k : UpgradeCondition) → with_rank (upgrade_rank_of k) ≡ k
 rank_back upgrades.StaysRegistered = refl
 rank_back upgrades.SameEnds = refl
 rank_back upgrades.SameExtlang = refl
-rank_back upgrades.SameTurn = refl
-rank_back upgrades.NoNewTurn = refl
+rank_back upgrades.SameVariantLanguage = refl
+rank_back upgrades.NoNewVariantLanguage = refl
 rank_back upgrades.SameWhole = refl
 
 one_rank : (k j : UpgradeCondition) → upgrade_rank_of k ≡ upgrade_rank_of j → k ≡ j

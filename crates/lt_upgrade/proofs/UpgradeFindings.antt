@@ -10,7 +10,7 @@ use Rattle.lt_upgrade.specs.declared.conditions.UpgradeCondition.{UpgradeConditi
 use Rattle.lt_upgrade.specs.declared.conditions.UpgradeCondition.TheVariants as upgrades
 
 abbrev pub all_upgrades : List UpgradeCondition
-all_upgrades = upgrades.StaysRegistered ∷ upgrades.SameEnds ∷ upgrades.SameExtlang ∷ upgrades.SameTurn ∷ upgrades.NoNewTurn ∷ upgrades.SameWhole ∷ []
+all_upgrades = upgrades.StaysRegistered ∷ upgrades.SameEnds ∷ upgrades.SameExtlang ∷ upgrades.SameVariantLanguage ∷ upgrades.NoNewVariantLanguage ∷ upgrades.SameWhole ∷ []
 
 pub proper_from : (B : List EntryParts) → IsChecked B → {t u : TagForm} → Star (TagStep B) t u → IsProper B u → IsProper B t
 proper_from B C done p = p

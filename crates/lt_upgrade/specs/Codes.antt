@@ -8,6 +8,6 @@ abbrev pub upgrade_code_of : UpgradeCondition → List ℕ
 upgrade_code_of upgrades.StaysRegistered = codes "U1"
 upgrade_code_of upgrades.SameEnds = codes "U2"
 upgrade_code_of upgrades.SameExtlang = codes "U3"
-upgrade_code_of upgrades.SameTurn = codes "U4"
-upgrade_code_of upgrades.NoNewTurn = codes "U5"
+upgrade_code_of upgrades.SameVariantLanguage = codes "U4"
+upgrade_code_of upgrades.NoNewVariantLanguage = codes "U5"
 upgrade_code_of upgrades.SameWhole = codes "U6"

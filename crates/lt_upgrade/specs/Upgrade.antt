@@ -64,21 +64,22 @@ abbrev pub KeepsExtlang : List EntryParts → EntryParts → Type 0
 KeepsExtlang B e = (s : List ℕ) → e.kind ≡ kinds.Extlang → e.name ≡ names.Single s → IsSameExtlang B e s
 
 -- the variant has a language value of the same end, and Prefixes of the same languages
-pub record IsSameTurn (B : List EntryParts) (e : EntryParts) (s v : List ℕ) : Type 0 where
+pub record IsSameVariantLanguage (B : List EntryParts) (e : EntryParts) (s v : List ℕ) : Type 0 where
   pub newer : List ℕ
   pub has : language_value B s ≡ Some newer
   pub prefixes : (l : List ℕ) → has_prefix (prefixes B kinds.Variant s) l ≡ has_prefix e.prefixes l
   pub ends : SameEnd (preferred_value B kinds.Language) v newer
 
 -- A variant with a language value keeps one of the same end, and its Prefixes.
-abbrev pub KeepsTurn : List EntryParts → EntryParts → Type 0
-KeepsTurn B e =
-    (s v : List ℕ) → e.kind ≡ kinds.Variant → e.name ≡ names.Single s → one_of e.value ≡ Some v → is_short v ≡ true → IsSameTurn B e s v
+abbrev pub KeepsVariantLanguage : List EntryParts → EntryParts → Type 0
+KeepsVariantLanguage B e =
+    (s v : List ℕ) → e.kind ≡ kinds.Variant → e.name ≡ names.Single s → one_of e.value ≡ Some v → is_short v ≡ true →
+    IsSameVariantLanguage B e s v
 
 -- A variant with a language value that the older registry has, has one there. Ranges have no value in a registry
 -- that passes the check, so single variants are all.
-abbrev pub HadTurn : List EntryParts → EntryParts → Type 0
-HadTurn A e =
+abbrev pub HadVariantLanguage : List EntryParts → EntryParts → Type 0
+HadVariantLanguage A e =
     (s v : List ℕ) → e.kind ≡ kinds.Variant → e.name ≡ names.Single s → one_of e.value ≡ Some v → is_short v ≡ true →
     is_registered A kinds.Variant s ≡ true → (w : List ℕ) × (language_value A s ≡ Some w)
 
@@ -98,13 +99,13 @@ abbrev pub MeetsUpgrade : UpgradeCondition → List EntryParts → List EntryPar
 MeetsUpgrade upgrades.StaysRegistered A B e = StaysRegistered B e
 MeetsUpgrade upgrades.SameEnds A B e = KeepsEnds B e
 MeetsUpgrade upgrades.SameExtlang A B e = KeepsExtlang B e
-MeetsUpgrade upgrades.SameTurn A B e = KeepsTurn B e
-MeetsUpgrade upgrades.NoNewTurn A B e = HadTurn A e
+MeetsUpgrade upgrades.SameVariantLanguage A B e = KeepsVariantLanguage B e
+MeetsUpgrade upgrades.NoNewVariantLanguage A B e = HadVariantLanguage A e
 MeetsUpgrade upgrades.SameWhole A B e = KeepsWhole B e
 
 -- the records that a condition speaks of
 abbrev pub records_of : UpgradeCondition → List EntryParts → List EntryParts → List EntryParts
-records_of upgrades.NoNewTurn A B = B
+records_of upgrades.NoNewVariantLanguage A B = B
 records_of _ A B = A
 
 -- each record that a condition speaks of meets it, for each of the six conditions
@@ -116,8 +117,8 @@ abbrev pub upgrade_rank_of : UpgradeCondition → ℕ
 upgrade_rank_of upgrades.StaysRegistered = 1
 upgrade_rank_of upgrades.SameEnds = 2
 upgrade_rank_of upgrades.SameExtlang = 3
-upgrade_rank_of upgrades.SameTurn = 4
-upgrade_rank_of upgrades.NoNewTurn = 5
+upgrade_rank_of upgrades.SameVariantLanguage = 4
+upgrade_rank_of upgrades.NoNewVariantLanguage = 5
 upgrade_rank_of upgrades.SameWhole = 6
 
 -- a record of this number, of the registry that the condition speaks of, is at fault

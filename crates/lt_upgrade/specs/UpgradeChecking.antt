@@ -15,7 +15,7 @@ use Rattle.lt_upgrade.specs.declared.upgrades.UpgradeFault.TheVariants as faults
 
 -- the condition speaks of the records of the newer registry
 abbrev pub is_of_newer : UpgradeCondition → Bool
-is_of_newer upgrades.NoNewTurn = true
+is_of_newer upgrades.NoNewVariantLanguage = true
 is_of_newer _ = false
 
 -- the lowest record at fault by a condition

@@ -2,9 +2,9 @@
 ghost use Rattle.std.specs.Prelude.{◌≡◌};
 ghost use Rattle.lt_upgrade.specs.Codes.{upgrade_code_of};
 
-/// The conditions on a newer registry beside an older one, in the order in which they are judged. `NoNewTurn`
-/// speaks of a record of the newer registry, the others of one of the older. They are this project's own. The
-/// end of a chain of values is that by the newer registry.
+/// The conditions on a newer registry beside an older one, in the order in which they are judged.
+/// `NoNewVariantLanguage` speaks of a record of the newer registry, the others of one of the older. They are
+/// this project's own. The end of a chain of values is that by the newer registry.
 #[derive(Clone, Copy, Debug, PartialEq, Eq)]
 pub enum UpgradeCondition {
     /// U1: a subtag that an older record names is registered as the same kind, and a range that one names is
@@ -15,9 +15,9 @@ pub enum UpgradeCondition {
     /// U3: an extlang keeps its Prefix and the end of its replacement.
     SameExtlang,
     /// U4: a variant with a language as its value keeps one of the same end, and its Prefixes.
-    SameTurn,
+    SameVariantLanguage,
     /// U5: no variant that the older registry has without a language as its value gets one.
-    NoNewTurn,
+    NoNewVariantLanguage,
     /// U6: an older whole tag and its older value come to the same canonical tag.
     SameWhole,
 }
@@ -31,8 +31,8 @@ impl UpgradeCondition {
             UpgradeCondition::StaysRegistered => "U1",
             UpgradeCondition::SameEnds => "U2",
             UpgradeCondition::SameExtlang => "U3",
-            UpgradeCondition::SameTurn => "U4",
-            UpgradeCondition::NoNewTurn => "U5",
+            UpgradeCondition::SameVariantLanguage => "U4",
+            UpgradeCondition::NoNewVariantLanguage => "U5",
             UpgradeCondition::SameWhole => "U6",
         }
     }

@@ -7,7 +7,7 @@ ghost use Rattle.lt_registry.specs.Validity.{RepeatsNoVariant};
 ghost use Rattle.lt_registry.specs.declared.entries.Kind.TheVariants as kinds;
 ghost use Rattle.lt_rewrite.specs.Conditions.{next_value};
 ghost use Rattle.lt_rewrite.specs.Shortcuts.{AreShortcuts};
-ghost use Rattle.lt_upgrade.specs.Upgrade.{SameEnd, StaysRegistered, KeepsKind, KeepsEnds, IsSameExtlang, KeepsExtlang, IsSameTurn, KeepsTurn, HadTurn, MeetInCanonical, KeepsWhole};
+ghost use Rattle.lt_upgrade.specs.Upgrade.{SameEnd, StaysRegistered, KeepsKind, KeepsEnds, IsSameExtlang, KeepsExtlang, IsSameVariantLanguage, KeepsVariantLanguage, HadVariantLanguage, MeetInCanonical, KeepsWhole};
 ghost use Rattle.lt_upgrade.specs.UpgradeChecking as checks;
 ghost use Rattle.lt_upgrade.specs.WidestRanges.{HoldRanges};
 
@@ -166,13 +166,17 @@ fn same_languages(left: &Entry, right: &Entry) -> bool
 
 /// Whether a variant with a language value keeps one of the same end, and the set of its Prefixes, in the
 /// newer registry.
-pub(crate) fn keeps_turn<L: Lookup>(newer: &L, shortcuts: &Shortcuts, entry: &Entry) -> bool
+pub(crate) fn keeps_variant_language<L: Lookup>(
+    newer: &L,
+    shortcuts: &Shortcuts,
+    entry: &Entry,
+) -> bool
     requires { AreShortcuts (L.listed newer.now) shortcuts.now }
-    ensures { IsTrue result ↔ KeepsTurn (L.listed newer.now) entry.now }
+    ensures { IsTrue result ↔ KeepsVariantLanguage (L.listed newer.now) entry.now }
 {
     match (entry.kind(), entry.name(), one_value(entry)) {
         (Kind::Variant, EntryName::Single(subtag), Some(value)) if is_short(value) => {
-            turns_alike(newer, shortcuts, entry, subtag, value)
+            have_same_variant_language(newer, shortcuts, entry, subtag, value)
         }
         _ => true,
     }
@@ -180,7 +184,7 @@ pub(crate) fn keeps_turn<L: Lookup>(newer: &L, shortcuts: &Shortcuts, entry: &En
 
 /// Whether the variant of a record has, in the newer registry, a language value of the same end, and Prefixes
 /// of the same languages: so whether VariantLanguage steps lead to the same end beside the same languages.
-fn turns_alike<L: Lookup>(
+fn have_same_variant_language<L: Lookup>(
     newer: &L,
     shortcuts: &Shortcuts,
     entry: &Entry,
@@ -188,7 +192,7 @@ fn turns_alike<L: Lookup>(
     value: &Subtag,
 ) -> bool
     requires { AreShortcuts (L.listed newer.now) shortcuts.now }
-    ensures { IsTrue result ↔ IsSameTurn (L.listed newer.now) entry.now subtag.now value.now }
+    ensures { IsTrue result ↔ IsSameVariantLanguage (L.listed newer.now) entry.now subtag.now value.now }
 {
     let Some(other) = newer.entry(Kind::Variant, subtag) else {
         return false;
@@ -203,8 +207,8 @@ fn turns_alike<L: Lookup>(
 }
 
 /// Whether a variant with a language value has one in the older registry, if it is registered there.
-pub(crate) fn had_turn<L: Lookup>(older: &L, entry: &Entry) -> bool
-    ensures { IsTrue result ↔ HadTurn (L.listed older.now) entry.now }
+pub(crate) fn had_variant_language<L: Lookup>(older: &L, entry: &Entry) -> bool
+    ensures { IsTrue result ↔ HadVariantLanguage (L.listed older.now) entry.now }
 {
     match (entry.kind(), entry.name(), one_value(entry)) {
         (Kind::Variant, EntryName::Single(subtag), Some(value)) if is_short(value) => {

@@ -7,7 +7,8 @@ ghost use Rattle.lt_upgrade.specs.UpgradeChecking.{is_of_newer, IsLowestUpgradeF
 
 use crate::conditions::UpgradeCondition;
 use crate::upgrade_checks::{
-    had_turn, keeps_ends, keeps_extlang, keeps_turn, keeps_whole, stays_registered,
+    had_variant_language, keeps_ends, keeps_extlang, keeps_variant_language, keeps_whole,
+    stays_registered,
 };
 use crate::upgrade_laws::upgrades_keep_tags;
 use crate::widest_ranges::WidestRanges;
@@ -22,7 +23,7 @@ use thiserror::Error;
 #[derive(Clone, Copy, Debug, Drop, Error, PartialEq, Eq)]
 pub enum UpgradeFault {
     /// The first condition that some record does not meet, and the lowest number of those records, counted from
-    /// 1 with the header: of the older registry's, but for `NoNewTurn` of the newer's.
+    /// 1 with the header: of the older registry's, but for `NoNewVariantLanguage` of the newer's.
     #[error("record {number} does not meet {condition:?}: keep the older registry, or mend the newer")]
     Fails {
         condition: UpgradeCondition,
@@ -66,8 +67,8 @@ const IN_ORDER: [UpgradeCondition; 6] = [
     UpgradeCondition::StaysRegistered,
     UpgradeCondition::SameEnds,
     UpgradeCondition::SameExtlang,
-    UpgradeCondition::SameTurn,
-    UpgradeCondition::NoNewTurn,
+    UpgradeCondition::SameVariantLanguage,
+    UpgradeCondition::NoNewVariantLanguage,
     UpgradeCondition::SameWhole,
 ];
 
@@ -91,9 +92,12 @@ fn meets<A: Lookup, B: Lookup>(
     match condition {
         UpgradeCondition::SameEnds => Ok(keeps_ends(table, shortcuts, entry)),
         UpgradeCondition::SameExtlang => Ok(keeps_extlang(table, shortcuts, entry)),
-        UpgradeCondition::SameTurn => Ok(keeps_turn(table, shortcuts, entry)),
+        UpgradeCondition::SameVariantLanguage => Ok(keeps_variant_language(
+            table, shortcuts, entry,
+        )),
         UpgradeCondition::SameWhole => keeps_whole(alloc, older, newer, entry),
-        UpgradeCondition::StaysRegistered | UpgradeCondition::NoNewTurn => unreachable!(),
+        UpgradeCondition::StaysRegistered | UpgradeCondition::NoNewVariantLanguage =>
+            unreachable!(),
     }
 }
 
@@ -138,12 +142,15 @@ fn first_unregistered<A: Lookup, B: Lookup>(
 }
 
 /// The first record of the newer registry that gives a variant of the older one its first language value.
-fn first_new_turn<A: Lookup, B: Lookup>(older: &Checked<A>, newer: &Checked<B>) -> Option<u32>
-    ensures { IsLowestUpgradeFault (A.listed older.now) (B.listed newer.now) UpgradeCondition.NoNewTurn result }
+fn first_new_variant_language<A: Lookup, B: Lookup>(
+    older: &Checked<A>,
+    newer: &Checked<B>,
+) -> Option<u32>
+    ensures { IsLowestUpgradeFault (A.listed older.now) (B.listed newer.now) UpgradeCondition.NoNewVariantLanguage result }
 {
     let table = older.table();
     for entry in newer.table().entries() {
-        if !had_turn(table, entry) {
+        if !had_variant_language(table, entry) {
             return Some(entry.number());
         }
     }
@@ -163,7 +170,7 @@ fn lowest_fault<A: Lookup, B: Lookup>(
 {
     match condition {
         UpgradeCondition::StaysRegistered => first_unregistered(alloc, older, newer),
-        UpgradeCondition::NoNewTurn => Ok(first_new_turn(older, newer)),
+        UpgradeCondition::NoNewVariantLanguage => Ok(first_new_variant_language(older, newer)),
         _ => first_failing(alloc, older, newer, shortcuts, condition),
     }
 }

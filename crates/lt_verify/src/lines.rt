@@ -173,7 +173,7 @@ pub fn verify_lines<L: Lookup, R: Read>(
 {
     let mut buffer = vec![in alloc; 0u8; PIECE]?;
     let mut following = Following::new(alloc, tag)?;
-    for _turn in 0..MOST_READS {
+    for _read in 0..MOST_READS {
         match input.read(&mut buffer) {
             Ok(0) => return Ok(following.finish(alloc, table)?),
             Ok(count) => {

@@ -3,8 +3,8 @@ use Rattle.lt_lines.specs.Owed.{terms}
 use Rattle.lt_lines.proofs.RunLemmas.{RunTurn}
 use Rattle.lt_lines.proofs.runs.run_lines.Given as goal
 
-abbrev pub invariant-loop-turn : goal.invariant-loop-turn
-invariant-loop-turn g l = record {
-  turn : RunTurn (terms (g.L.Lookup.listed l.checked) l.form) g.R.Read.remaining g.W.Write.contents l.fn.input l.input l.fn.output l.output l.answering l._turn;
+abbrev pub invariant-loop-read : goal.invariant-loop-read
+invariant-loop-read g l = record {
+  turn : RunTurn (terms (g.L.Lookup.listed l.checked) l.form) g.R.Read.remaining g.W.Write.contents l.fn.input l.input l.fn.output l.output l.answering l._read;
   buffer : length l.buffer.items ≡ 65536;
 }

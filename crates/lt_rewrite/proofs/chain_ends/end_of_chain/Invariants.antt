@@ -4,5 +4,5 @@ use Rattle.lt_rewrite.specs.Conditions.{next_value}
 use Rattle.lt_rewrite.proofs.chain_ends.end_of_chain.Given as goal
 
 -- this many values have been followed
-abbrev pub invariant-loop-turn : goal.invariant-loop-turn
-invariant-loop-turn g l = l.end ≡ chase (next_value (g.L.Lookup.listed l.table) l.kind) l._turn l.subtag
+abbrev pub invariant-loop-step : goal.invariant-loop-step
+invariant-loop-step g l = l.end ≡ chase (next_value (g.L.Lookup.listed l.table) l.kind) l._step l.subtag

@@ -22,4 +22,4 @@ returns-in-Some-variant_step g c =
 
 pub returns : goal.returns
 returns g c =
-    last (g.L.Lookup.listed c.args.table.now) c.args.start c.args.core.now c.in_default.ensures c.in_default-language_step.ensures c.in_default-script_step.ensures c.in_default-region_step.ensures c.in_default-variant_step.ensures c.turn_step.result c.turn_step.ensures
+    last (g.L.Lookup.listed c.args.table.now) c.args.start c.args.core.now c.in_default.ensures c.in_default-language_step.ensures c.in_default-script_step.ensures c.in_default-region_step.ensures c.in_default-variant_step.ensures c.variant_language_step.result c.variant_language_step.ensures

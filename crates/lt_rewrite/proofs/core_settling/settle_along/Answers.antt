@@ -1,6 +1,6 @@
 use Rattle.std.proofs.Common.{◌≡◌, false, eqb, length, sym, ◌∙◌}
 use Rattle.lt_rewrite.specs.CoreSteps.{values_of}
-use Rattle.lt_rewrite.proofs.CoreSettled.{is_some, Settlings, rests_with_extlangs, rests_after_turns}
+use Rattle.lt_rewrite.proofs.CoreSettled.{is_some, Settlings, rests_with_extlangs, rests_after_variant_languages}
 use Rattle.lt_rewrite.proofs.core_settling.settle_along.Goals as goal
 
 pub returns-then-is_empty : goal.returns-then-is_empty
@@ -19,9 +19,9 @@ returns-then-is_empty g c =
       other_than_variants = c.settle_variants.ensures.others;
       other_than_extlang = c.settle_extlang.ensures.others;
     } in
-    let turns = c.settle_all_turns.ensures in
-    rests_after_turns V c.args.core.now c.settle_script.new.core c.settle_region.new.core c.settle_variants.new.core c.settle_extlang.new.core c.settle_all_turns.new.core all
-    turns.reached turns.language turns.turns turns.variants turns.others
+    let settled = c.settle_all_variant_languages.ensures in
+    rests_after_variant_languages V c.args.core.now c.settle_script.new.core c.settle_region.new.core c.settle_variants.new.core c.settle_extlang.new.core c.settle_all_variant_languages.new.core all
+    settled.reached settled.language settled.variant_languages settled.variants settled.others
 
 pub returns-else-is_empty : goal.returns-else-is_empty
 returns-else-is_empty g c =

@@ -13,44 +13,44 @@ returns-then-place g c =
     let R = g.L.Lookup.listed c.args.table.now in
     let e : EntryParts = c.args.entry.now in
     let k = c.kind-kind.result in
-    let s = c.loop-turn.subtag in
+    let s = c.loop-step.subtag in
     let from : one_of e.value ≡ Some c.in-Some.value.now = sym c.one_value.ensures.value ∙ ap option_copied c.in-Some.is in
-    let walk : IsWalk R e k c.in-Some.value.now s c.loop-turn._turn = record { of_kind = c.kind-kind.ensures.value; from = from; walked = c.loop-turn.invariant c.in-Some.value.now from } in
+    let walk : IsWalk R e k c.in-Some.value.now s c.loop-step._step = record { of_kind = c.kind-kind.ensures.value; from = from; walked = c.loop-step.invariant c.in-Some.value.now from } in
     let met : EntryParts = c.in-Some-entry.met.now in
     let found : entry R k s ≡ Some met = sym c.entry.ensures ∙ ap option_copied c.in-Some-entry.is in
-    let its = c.place.ensures ∙ ap (place c.args.order) c.number-in-loop-turn.ensures.value in
+    let its = c.place.ensures ∙ ap (place c.args.order) c.number-in-loop-step.ensures.value in
     let own = c.place-place.ensures ∙ ap (place c.args.order) c.number.ensures.value in
     let below : place c.args.order met.number < place c.args.order e.number = omega (arith, c.if-place.true, its, own) in
-    ends_after R c.args.order e met k c.in-Some.value.now s c.loop-turn._turn walk found below
+    ends_after R c.args.order e met k c.in-Some.value.now s c.loop-step._step walk found below
 
 pub returns-in-None : goal.returns-in-None
 returns-in-None g c =
     let R = g.L.Lookup.listed c.args.table.now in
     let e : EntryParts = c.args.entry.now in
     let k = c.kind-kind.result in
-    let s = c.loop-turn.subtag in
+    let s = c.loop-step.subtag in
     let from : one_of e.value ≡ Some c.in-Some.value.now = sym c.one_value.ensures.value ∙ ap option_copied c.in-Some.is in
-    let walk : IsWalk R e k c.in-Some.value.now s c.loop-turn._turn = record { of_kind = c.kind-kind.ensures.value; from = from; walked = c.loop-turn.invariant c.in-Some.value.now from } in
+    let walk : IsWalk R e k c.in-Some.value.now s c.loop-step._step = record { of_kind = c.kind-kind.ensures.value; from = from; walked = c.loop-step.invariant c.in-Some.value.now from } in
     let found : Some c.in-Some-entry.met.now ≡ entry R k s = sym (ap option_copied c.in-Some-entry.is) ∙ c.entry.ensures in
     let none : next_value R k s ≡ None = next_by R k s (Some c.in-Some-entry.met.now) found ∙ sym c.following.ensures ∙ ap option_copied c.in-None.is in
-    λ earlier. ends_there R e k c.in-Some.value.now s c.loop-turn._turn walk none
+    λ earlier. ends_there R e k c.in-Some.value.now s c.loop-step._step walk none
 
-pub loop-turn-preserved : goal.loop-turn-preserved
-loop-turn-preserved g c = λ v from.
+pub loop-step-preserved : goal.loop-step-preserved
+loop-step-preserved g c = λ v from.
     let R = g.L.Lookup.listed c.args.table.now in
     let k = c.kind-kind.result in
-    let s = c.loop-turn.subtag in
+    let s = c.loop-step.subtag in
     let found : Some c.in-Some-entry.met.now ≡ entry R k s = sym (ap option_copied c.in-Some-entry.is) ∙ c.entry.ensures in
     let next : next_value R k s ≡ Some c.in-Some-following.next.now = next_by R k s (Some c.in-Some-entry.met.now) found ∙ sym c.following.ensures ∙ ap option_copied c.in-Some-following.is in
-    c.copy-subtag-in-Some-following.ensures ∙ chase_more (next_value R k) c.loop-turn._turn v s c.in-Some-following.next.now (c.loop-turn.invariant v from) next
+    c.copy-subtag-in-Some-following.ensures ∙ chase_more (next_value R k) c.loop-step._step v s c.in-Some-following.next.now (c.loop-step.invariant v from) next
 
 pub returns : goal.returns
 returns g c =
     let R = g.L.Lookup.listed c.args.table.now in
     let e : EntryParts = c.args.entry.now in
     let k = c.kind-kind.result in
-    let s = c.loop-turn.subtag in
+    let s = c.loop-step.subtag in
     let from : one_of e.value ≡ Some c.in-Some.value.now = sym c.one_value.ensures.value ∙ ap option_copied c.in-Some.is in
-    let walk : IsWalk R e k c.in-Some.value.now s c.loop-turn._turn = record { of_kind = c.kind-kind.ensures.value; from = from; walked = c.loop-turn.invariant c.in-Some.value.now from } in
-    let all : c.loop-turn._turn ≡ length R = omega (arith, ap length c.entries-turn-end.ensures.value, c.loop-turn.auto._turn-end, c.loop-turn-test.false) in
-    at_limit R c.args.order e k c.in-Some.value.now s c.loop-turn._turn walk all c.next_value.result c.next_value.ensures c.is_none.result c.is_none.ensures
+    let walk : IsWalk R e k c.in-Some.value.now s c.loop-step._step = record { of_kind = c.kind-kind.ensures.value; from = from; walked = c.loop-step.invariant c.in-Some.value.now from } in
+    let all : c.loop-step._step ≡ length R = omega (arith, ap length c.entries-step-end.ensures.value, c.loop-step.auto._step-end, c.loop-step-test.false) in
+    at_limit R c.args.order e k c.in-Some.value.now s c.loop-step._step walk all c.next_value.result c.next_value.ensures c.is_none.result c.is_none.ensures

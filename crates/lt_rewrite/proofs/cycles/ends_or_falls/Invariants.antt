@@ -5,5 +5,5 @@ use Rattle.lt_rewrite.specs.Conditions.{next_value}
 use Rattle.lt_rewrite.proofs.cycles.ends_or_falls.Given as goal
 
 -- this many values have been followed
-abbrev pub invariant-loop-turn : goal.invariant-loop-turn
-invariant-loop-turn g l = (v : List ℕ) → one_of l.entry.value ≡ Some v → l.subtag ≡ chase (next_value (g.L.Lookup.listed l.table) l.kind) l._turn v
+abbrev pub invariant-loop-step : goal.invariant-loop-step
+invariant-loop-step g l = (v : List ℕ) → one_of l.entry.value ≡ Some v → l.subtag ≡ chase (next_value (g.L.Lookup.listed l.table) l.kind) l._step v

@@ -1,7 +1,0 @@
-use Rattle.std.proofs.Common.{◌≡◌, ℕ, List, None, All, take}
-use Rattle.lt_rewrite.specs.CoreSteps.{values_of}
-use Rattle.lt_rewrite.proofs.core_settling.first_turn.Given as goal
-
--- none so far turns
-abbrev pub invariant-loop-index : goal.invariant-loop-index
-invariant-loop-index g l = All (λ (v : List ℕ). (values_of (g.L.Lookup.listed l.table)).variant_language l.core.language v ≡ None) (take l.index l.variant-items)
