@@ -91,7 +91,8 @@ IsJudged R t told end o =
     ⊎ ((fault : TraceFault) × IsToldFault R t told end fault × (o ≡ outcome (trace_said fault) 0))
 
 -- the two texts are read as tags, and the steps between them are judged
-pub record JudgesTexts (R : List EntryParts) (text : List ℕ) (told : List StepNumbers) (last : List ℕ) (o : Outcome) : Type 0 where
+pub record JudgesTexts (R : List EntryParts) (text : List ℕ)
+    (told : List StepNumbers) (last : List ℕ) (o : Outcome) : Type 0 where
   pub tag : TagForm
   pub read : HasTag text tag
   pub end : TagForm

@@ -21,7 +21,8 @@ step_line step after =
     name_of step.kind ++ 32 ∷ [] ++ decimal step.place ++ 32 ∷ [] ++ decimal step.number ++ 32 ∷ [] ++ tag_line after
 
 -- a step leads from a tag to one from which the steps after it lead on, and its line is before theirs
-pub record StepPrinted (R : List EntryParts) (t : TagForm) (step : Step) (Rest : TagForm → List ℕ → Type 0) (lines : List ℕ) : Type 0 where
+pub record StepPrinted (R : List EntryParts) (t : TagForm) (step : Step)
+    (Rest : TagForm → List ℕ → Type 0) (lines : List ℕ) : Type 0 where
   pub after : TagForm
   pub leads : LeadsBy R t step after
   pub rest : List ℕ
@@ -34,13 +35,15 @@ AreStepLines R [] end t lines = (t ≡ end) × (lines ≡ [])
 AreStepLines R (step ∷ steps) end t lines = StepPrinted R t step (AreStepLines R steps end) lines
 
 -- the lines of the steps were appended
-pub record AppendsSteps (R : List EntryParts) (t : TagForm) (steps : List Step) (end : TagForm) (old new : List ℕ) : Type 0 where
+pub record AppendsSteps (R : List EntryParts) (t : TagForm)
+    (steps : List Step) (end : TagForm) (old new : List ℕ) : Type 0 where
   pub lines : List ℕ
   pub grown : new ≡ old ++ lines
   pub are_steps : AreStepLines R steps end t lines
 
 -- the lines of the steps, and after them the text of the end
-pub record AreLines (R : List EntryParts) (t : TagForm) (steps : List Step) (end : TagForm) (lines : List ℕ) : Type 0 where
+pub record AreLines (R : List EntryParts) (t : TagForm)
+    (steps : List Step) (end : TagForm) (lines : List ℕ) : Type 0 where
   pub of_steps : List ℕ
   pub are_steps : AreStepLines R steps end t of_steps
   pub all : lines ≡ of_steps ++ codes "= " ++ tag_line end

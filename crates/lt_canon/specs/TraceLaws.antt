@@ -8,7 +8,8 @@ use Rattle.lt_rewrite.specs.declared.steps.Step.{Step}
 
 -- the end of a trace is reached, and so equivalent
 abbrev pub TracesReachTheirEnd : List EntryParts → Type 0
-TracesReachTheirEnd R = (t end : TagForm) (steps : List Step) → IsTrace R t steps end → IsReached R t end × AreEquivalent R t end
+TracesReachTheirEnd R =
+    (t end : TagForm) (steps : List Step) → IsTrace R t steps end → IsReached R t end × AreEquivalent R t end
 
 -- steps lead from a tag to one end
 abbrev pub TracesHaveOneEnd : List EntryParts → Type 0

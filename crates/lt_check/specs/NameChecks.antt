@@ -39,4 +39,5 @@ IsNew R seen e = MatchOption (range_of e) (HasOwnName R e) (λ name. Contains se
 -- the range of a record, if it names one, is added to those that were seen
 abbrev pub SeesRange : EntryParts → List RangeName → List RangeName → Type 0
 SeesRange e old new =
-    MatchOption (range_of e) (new ≡ old) (λ range. (name : RangeName) → Contains new name ↔ (Contains old name ⊎ (range ≡ name)))
+    MatchOption (range_of e) (new ≡ old)
+        (λ range. (name : RangeName) → Contains new name ↔ (Contains old name ⊎ (range ≡ name)))

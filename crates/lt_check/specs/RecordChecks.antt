@@ -16,4 +16,5 @@ is_final_prefix R _ = false
 
 -- the chains of two languages come to one end
 abbrev pub EndAlike : List EntryParts → List ℕ → List ℕ → Type 0
-EndAlike R s t = (end : List ℕ) × EndsIn (preferred_value R kinds.Language) s end × EndsIn (preferred_value R kinds.Language) t end
+EndAlike R s t =
+    (end : List ℕ) × EndsIn (preferred_value R kinds.Language) s end × EndsIn (preferred_value R kinds.Language) t end

@@ -20,12 +20,14 @@ HasNoValue R t = All (λ (f : EntryParts). f.name ≡ names.Whole t → tag_of f
 
 -- the core normal form of a core repeats no variant and has no value
 abbrev pub ComesToRest : List EntryParts → CoreParts → Type 0
-ComesToRest R c = (d : CoreParts) → IsCoreNormalForm (values_of R) c d → Distinct d.variants × HasNoValue R (core_alone d)
+ComesToRest R c =
+    (d : CoreParts) → IsCoreNormalForm (values_of R) c d → Distinct d.variants × HasNoValue R (core_alone d)
 
 -- a core comes to an end: it is that, or its value comes to it
 abbrev pub ComesTo : List EntryParts → CoreParts → CoreParts → Type 0
 ComesTo R s d =
-    (s ≡ d) ⊎ ((q : CoreParts) × (whole_value R (core_alone s) ≡ Some (core_alone q)) × IsCoreNormalForm (values_of R) q d)
+    (s ≡ d) ⊎ ((q : CoreParts) × (whole_value R (core_alone s) ≡ Some (core_alone q))
+        × IsCoreNormalForm (values_of R) q d)
 
 -- where a core has a core normal form other than itself, that comes to the core normal form of another core
 abbrev pub ComeTogether : List EntryParts → CoreParts → CoreParts → Type 0

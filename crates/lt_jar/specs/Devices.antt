@@ -43,7 +43,8 @@ failures_after_read (Err error) failures = one_more failures
 
 -- the failures after a write of these bytes with this answer: to take none of them, where there are any, is a failure
 abbrev pub failures_after_write : {E : Type 0} → Result ℕ E → List ℕ → ℕ → ℕ
-failures_after_write (Ok n) bytes failures = if nat_eq n 0 && nat_lt 0 (length bytes) then one_more failures else failures
+failures_after_write (Ok n) bytes failures =
+    if nat_eq n 0 && nat_lt 0 (length bytes) then one_more failures else failures
 failures_after_write (Err error) bytes failures = one_more failures
 
 -- the device failed in a call that moved it from old to new

@@ -46,7 +46,8 @@ is_continuation line = false
 abbrev pub IsWrong : ℕ → Fault → List (List ℕ) → List ℕ → Type 0
 IsWrong earlier LineTooLong before line = longest_line < length line
 IsWrong earlier NotUtf8 before line = ¬ IsUtf8 line
-IsWrong earlier LeadingContinuation before line = (is_continuation (line_of line) ≡ true) × (is_inside false (shown before) ≡ false)
+IsWrong earlier LeadingContinuation before line =
+    (is_continuation (line_of line) ≡ true) × (is_inside false (shown before) ≡ false)
 IsWrong earlier BadLine before line = line_of line ≡ Bad
 IsWrong earlier TooManyRecords before line = most_records < earlier + begun false (shown (before ++ line ∷ []))
 

@@ -29,7 +29,8 @@ abbrev pub IsSound : ℕ → List ℕ → Type 0
 IsSound earlier text = (fault : Fault) (number : ℕ) → ¬ IsWrongAt earlier text fault number
 
 -- whole lines up to the end of a record, and what follows them
-pub record CutsRecord (earlier : ℕ) (text : List ℕ) (fields : List Field) (lines : List (List ℕ)) (rest : List ℕ) : Type 0 where
+pub record CutsRecord (earlier : ℕ) (text : List ℕ) (fields : List Field)
+    (lines : List (List ℕ)) (rest : List ℕ) : Type 0 where
   pub each : AllByRecursion IsOneLine lines
   pub bytes : text ≡ whole_lines lines ++ rest
   pub ends : EndsRecord lines fields

@@ -17,11 +17,14 @@ came (Ok lent) = Ok (is_some lent)
 came (Err fault) = Err fault
 
 -- the call moved from old to new, and lent this
-pub record Moves {R : Type 0} (remaining : R → Option (List ℕ)) (old : JarReader R JarSource) (result : Result (Option RecordRef) JarFault) (new : JarReader R JarSource) : Type 0 where
+pub record Moves {R : Type 0} (remaining : R → Option (List ℕ)) (old : JarReader R JarSource)
+    (result : Result (Option RecordRef) JarFault) (new : JarReader R JarSource) : Type 0 where
   pub same_reference : new.device.ghost_name ≡ old.device.ghost_name
   pub advances : Advances remaining old.source new.source old.device.now new.device.now (came result)
   pub fields : IfOk result (λ lent. IfSome lent (λ r. r.fields.now ≡ record_in new.source))
 
 -- once the record is no longer borrowed, the reader is what the call moved it to
-abbrev pub LendsAs : (R : RattleType) → (R.Denot → Option (List ℕ)) → MutBor (JarReader R.Denot JarSource) → Result (Option RecordRef) JarFault → Fml
-LendsAs R remaining reader result = Rests (the_row (record { mir = named 0; lft = [] }) R source_row) reader (Moves remaining reader.now result)
+abbrev pub LendsAs : (R : RattleType) → (R.Denot → Option (List ℕ))
+    → MutBor (JarReader R.Denot JarSource) → Result (Option RecordRef) JarFault → Fml
+LendsAs R remaining reader result =
+    Rests (the_row (record { mir = named 0; lft = [] }) R source_row) reader (Moves remaining reader.now result)

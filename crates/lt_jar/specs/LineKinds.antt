@@ -66,7 +66,8 @@ begins_blank (byte ∷ rest) = is_blank byte
 
 -- what a line is that holds more than spaces and tabs
 abbrev pub kind_of_content : List ℕ → Line
-kind_of_content text = if begins_blank text then Continuation (trim text) else (if is_separator text then Separator else start_of text)
+kind_of_content text =
+    if begins_blank text then Continuation (trim text) else (if is_separator text then Separator else start_of text)
 
 -- what a line is
 abbrev pub line_of : List ℕ → Line

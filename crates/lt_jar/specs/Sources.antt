@@ -53,7 +53,8 @@ abbrev pub LastGave : {R : Type 0} → JarSource → Device R → Type 0
 LastGave s device = 0 < s.turns → 0 < last_given_of device
 
 -- this many reads were made, which gave these bytes, at most 65,536 each
-pub record IsRead {R : Type 0} (remaining : R → Option (List ℕ)) (old new : JarSource) (before after : Device R) (read : List ℕ) (reads : ℕ) : Type 0 where
+pub record IsRead {R : Type 0} (remaining : R → Option (List ℕ)) (old new : JarSource)
+    (before after : Device R) (read : List ℕ) (reads : ℕ) : Type 0 where
   pub consumes : Consumes (remaining (inner_of before)) (remaining (inner_of after)) read
   pub calls : reads_of after ≡ after_reads (reads_of before) reads
   pub each : length read ≤ 65536 * reads
@@ -67,15 +68,21 @@ TakesUnread old new (Ok false) = TakesAll old.engine new.engine (unread_in old) 
 TakesUnread old new (Err kind) = StopsAt old.engine new.engine (unread_in old) kind
 
 -- what it did, by its answer: bytes, the end, or why there are none
-abbrev pub FillsAs : {R : Type 0} → (R → Option (List ℕ)) → (old new : JarSource) → (before after : Device R) → List ℕ → ℕ → Result Bool JarFaultKind → Type 0
-FillsAs remaining old new before after read reads (Ok true) = (unread_in new ≡ read) × (0 < length read) × (reads ≡ 1) × (failures_of after ≡ failures_of before) × (0 < last_given_of after)
+abbrev pub FillsAs : {R : Type 0} → (R → Option (List ℕ)) → (old new : JarSource)
+    → (before after : Device R) → List ℕ → ℕ → Result Bool JarFaultKind → Type 0
+FillsAs remaining old new before after read reads (Ok true) = (unread_in new ≡ read) × (0 < length read)
+    × (reads ≡ 1) × (failures_of after ≡ failures_of before) × (0 < last_given_of after)
 FillsAs remaining old new before after read reads (Ok false) =
-    (new.start ≡ new.end) × (read ≡ []) × IsAtEnd (remaining (inner_of after)) × (failures_of after ≡ failures_of before) × (line_of_kept new + 1 ≤ 1 + 65536 * new.turns)
+    (new.start ≡ new.end) × (read ≡ []) × IsAtEnd (remaining (inner_of after))
+        × (failures_of after ≡ failures_of before) × (line_of_kept new + 1 ≤ 1 + 65536 * new.turns)
 FillsAs remaining old new before after read reads (Err kind) =
-    (read ≡ []) × (((kind ≡ kinds.Read) × HasFailed before after) ⊎ ((kind ≡ kinds.TooManyTurns) × (failures_of after ≡ failures_of before) × (new.turns ≡ most_reads) × (reads ≡ 0) × (last_given_of after ≡ last_given_of before)))
+    (read ≡ []) × (((kind ≡ kinds.Read) × HasFailed before after)
+        ⊎ ((kind ≡ kinds.TooManyTurns) × (failures_of after ≡ failures_of before)
+            × (new.turns ≡ most_reads) × (reads ≡ 0) × (last_given_of after ≡ last_given_of before)))
 
 -- what one read more did
-pub record Fills {R : Type 0} (remaining : R → Option (List ℕ)) (old new : JarSource) (before after : Device R) (result : Result Bool JarFaultKind) : Type 0 where
+pub record Fills {R : Type 0} (remaining : R → Option (List ℕ)) (old new : JarSource)
+    (before after : Device R) (result : Result Bool JarFaultKind) : Type 0 where
   pub read : List ℕ
   pub reads : ℕ
   pub is_read : IsRead remaining old new before after read reads
@@ -83,7 +90,8 @@ pub record Fills {R : Type 0} (remaining : R → Option (List ℕ)) (old new : J
 
 -- a last record counts among those that a text may have
 abbrev pub HasRoom : JarSource → Type 0
-HasRoom s = (going : Going) → steps (lent_by s) (going_on (record_in s)) (last_line s.engine.partial.items) ≡ Ok going → lent_by s + length (finished going) ≤ 100000
+HasRoom s = (going : Going) → steps (lent_by s) (going_on (record_in s)) (last_line s.engine.partial.items) ≡ Ok going
+    → lent_by s + length (finished going) ≤ 100000
 
 -- the text ended
 pub record Finishes (old new : JarSource) (some : Bool) : Type 0 where
@@ -104,7 +112,8 @@ Finished old new (Err kind) = StopsAtLast old.engine new.engine kind × (new.tur
 
 -- A record was lent, which a separator ends: the kept bytes and those that were read are the lines up to its end,
 -- and the bytes that are kept now.
-pub record LendsEnded {R : Type 0} (old new : JarSource) (before after : Device R) (read : List ℕ) (reads : ℕ) : Type 0 where
+pub record LendsEnded {R : Type 0} (old new : JarSource)
+    (before after : Device R) (read : List ℕ) (reads : ℕ) : Type 0 where
   pub lines : List (List ℕ)
   pub cuts : CutsRecord (lent_by old) (kept_in old ++ read) (record_in new) lines (kept_in new)
   pub line : line_of_kept new ≡ line_of_kept old + length lines
@@ -113,7 +122,8 @@ pub record LendsEnded {R : Type 0} (old new : JarSource) (before after : Device 
   pub status : new.status ≡ state.Open
 
 -- the text ended, and its last lines have these records, one or none
-pub record LendsLast {R : Type 0} (remaining : R → Option (List ℕ)) (old new : JarSource) (after : Device R) (read : List ℕ) (records : List (List Field)) : Type 0 where
+pub record LendsLast {R : Type 0} (remaining : R → Option (List ℕ)) (old new : JarSource)
+    (after : Device R) (read : List ℕ) (records : List (List Field)) : Type 0 where
   pub has : HasRecords (kept_in old ++ read) records
   pub sound : IsSound (lent_by old) (kept_in old ++ read)
   pub used : kept_in new ≡ []
@@ -122,25 +132,37 @@ pub record LendsLast {R : Type 0} (remaining : R → Option (List ℕ)) (old new
   pub status : new.status ≡ state.Ended
 
 -- why no record came, and the line that was being read
-pub record Stops {R : Type 0} (remaining : R → Option (List ℕ)) (old new : JarSource) (before after : Device R) (read : List ℕ) (reads : ℕ) (kind : JarFaultKind) : Type 0 where
+pub record Stops {R : Type 0} (remaining : R → Option (List ℕ)) (old new : JarSource)
+    (before after : Device R) (read : List ℕ) (reads : ℕ) (kind : JarFaultKind) : Type 0 where
   pub format : (fault : faults.Fault) → fault_in kind ≡ Some fault
-      → (number : ℕ) × HoldsOfWhole (λ text. faults.IsTheFault (lent_by old) text fault number) (IsAtEnd (remaining (inner_of after))) (kept_in old ++ read) × (line_of_kept new + 1 ≡ line_of_kept old + number)
+      → (number : ℕ) × HoldsOfWhole (λ text. faults.IsTheFault (lent_by old) text fault number)
+          (IsAtEnd (remaining (inner_of after))) (kept_in old ++ read)
+              × (line_of_kept new + 1 ≡ line_of_kept old + number)
       × EndsNoneAbove (kept_in old ++ read) number
-  pub memory : kind ≡ kinds.OutOfMemory → (number : ℕ) × faults.IsReached (lent_by old) (kept_in old ++ read) number × (line_of_kept new + 1 ≡ line_of_kept old + number)
-  pub device : kind ≡ kinds.Read → HasFailed before after × ((number : ℕ) × IsCutShort (lent_by old) (kept_in old ++ read) number × (line_of_kept new + 1 ≡ line_of_kept old + number))
-  pub all_made : kind ≡ kinds.TooManyTurns → (new.turns ≡ most_reads) × (reads ≤ length read) × (LastGave old before → LastGave new after)
-      × ((number : ℕ) × IsCutShort (lent_by old) (kept_in old ++ read) number × (line_of_kept new + 1 ≡ line_of_kept old + number))
+  pub memory : kind ≡ kinds.OutOfMemory → (number : ℕ)
+      × faults.IsReached (lent_by old) (kept_in old ++ read) number × (line_of_kept new + 1 ≡ line_of_kept old + number)
+  pub device : kind ≡ kinds.Read → HasFailed before after
+      × ((number : ℕ) × IsCutShort (lent_by old) (kept_in old ++ read) number
+          × (line_of_kept new + 1 ≡ line_of_kept old + number))
+  pub all_made : kind ≡ kinds.TooManyTurns → (new.turns ≡ most_reads)
+      × (reads ≤ length read) × (LastGave old before → LastGave new after)
+      × ((number : ℕ) × IsCutShort (lent_by old) (kept_in old ++ read) number
+          × (line_of_kept new + 1 ≡ line_of_kept old + number))
   pub first : kind ≢ kinds.Failed
 
 -- how a call that went on reading ended: with a record, with none, or with a fault
-abbrev pub EndsAs : {R : Type 0} → (R → Option (List ℕ)) → (old new : JarSource) → (before after : Device R) → List ℕ → ℕ → Result Bool JarFaultKind → Type 0
+abbrev pub EndsAs : {R : Type 0} → (R → Option (List ℕ)) → (old new : JarSource)
+    → (before after : Device R) → List ℕ → ℕ → Result Bool JarFaultKind → Type 0
 EndsAs remaining old new before after read reads (Ok true) =
-    (lent_by new ≡ lent_by old + 1) × (LendsEnded old new before after read reads ⊎ LendsLast remaining old new after read (record_in new ∷ []))
-EndsAs remaining old new before after read reads (Ok false) = (lent_by new ≡ lent_by old) × LendsLast remaining old new after read []
+    (lent_by new ≡ lent_by old + 1)
+        × (LendsEnded old new before after read reads ⊎ LendsLast remaining old new after read (record_in new ∷ []))
+EndsAs remaining old new before after read reads (Ok false) =
+    (lent_by new ≡ lent_by old) × LendsLast remaining old new after read []
 EndsAs remaining old new before after read reads (Err kind) = Stops remaining old new before after read reads kind
 
 -- what a call did that went on reading
-pub record ReadsRecord {R : Type 0} (remaining : R → Option (List ℕ)) (old new : JarSource) (before after : Device R) (result : Result Bool JarFaultKind) : Type 0 where
+pub record ReadsRecord {R : Type 0} (remaining : R → Option (List ℕ)) (old new : JarSource)
+    (before after : Device R) (result : Result Bool JarFaultKind) : Type 0 where
   pub read : List ℕ
   pub reads : ℕ
   pub is_read : IsRead remaining old new before after read reads
@@ -154,8 +176,10 @@ without_line (Ok some) = Ok some
 without_line (Err fault) = Err fault.kind
 
 -- What a call did. After the end there is nothing, after a fault it is reported that there was one, and at which line.
-pub record Advances {R : Type 0} (remaining : R → Option (List ℕ)) (old new : JarSource) (before after : Device R) (result : Result Bool JarFault) : Type 0 where
+pub record Advances {R : Type 0} (remaining : R → Option (List ℕ)) (old new : JarSource)
+    (before after : Device R) (result : Result Bool JarFault) : Type 0 where
   pub reads : old.status ≡ state.Open → ReadsRecord remaining old new before after (without_line result)
   pub fails : (fault : JarFault) → result ≡ Err fault → (new.status ≡ state.Failed) × (fault.line ≡ line_of_kept new)
   pub over : old.status ≡ state.Ended → (result ≡ Ok false) × (new.status ≡ state.Ended) × (after ≡ before)
-  pub again : old.status ≡ state.Failed → (result ≡ Err (record { kind = kinds.Failed; line = line_of_kept old })) × (new.status ≡ state.Failed) × (after ≡ before)
+  pub again : old.status ≡ state.Failed → (result ≡ Err (record { kind = kinds.Failed; line = line_of_kept old }))
+      × (new.status ≡ state.Failed) × (after ≡ before)

@@ -34,7 +34,8 @@ fault_in Failed = None
 
 -- the fault of the text; or memory ran out at a line before which nothing is wrong
 abbrev pub IsFaultOf : List ℕ → JarFault → Type 0
-IsFaultOf text said = ((fault : faults.Fault) × (fault_in said.kind ≡ Some fault) × faults.IsTheFault 0 text fault said.line)
+IsFaultOf text said =
+    ((fault : faults.Fault) × (fault_in said.kind ≡ Some fault) × faults.IsTheFault 0 text fault said.line)
     ⊎ ((said.kind ≡ OutOfMemory) × faults.IsReached 0 text said.line)
 
 -- what is said of a line was computed, or memory ran out

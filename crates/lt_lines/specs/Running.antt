@@ -25,18 +25,23 @@ pub record IsStoppedByRead {I : Type 0} (T : Terms) (input input' : Device I) (r
   pub owed : IsOwedToLastFeed T read written
 
 -- the most reads were made, the last of them gave bytes, and what is owed up to the last line feed was written
-pub record IsStoppedByTurns {I : Type 0} (T : Terms) (input' : Device I) (reads : ℕ) (read written : List ℕ) : Type 0 where
+pub record IsStoppedByTurns {I : Type 0} (T : Terms)
+    (input' : Device I) (reads : ℕ) (read written : List ℕ) : Type 0 where
   pub all_made : reads ≡ most_reads
   pub gave_bytes : most_reads ≤ length read
   pub last_gave : 0 < last_given_of input'
   pub owed : IsOwedToLastFeed T read written
 
 -- how the run ended
-abbrev pub EndsAs : {I O : Type 0} → Terms → (I → Option (List ℕ)) → (input input' : Device I) → (output output' : Device O)
+abbrev pub EndsAs : {I O : Type 0} → Terms → (I → Option (List ℕ))
+    → (input input' : Device I) → (output output' : Device O)
     → ℕ → (read written : List ℕ) → Result Counts ToolFault → Type 0
-EndsAs T remaining input input' output output' reads read written (Ok counts) = IsDone T remaining input' read written counts
-EndsAs T remaining input input' output output' reads read written (Err faults.Read) = IsStoppedByRead T input input' read written
-EndsAs T remaining input input' output output' reads read written (Err faults.TooManyTurns) = IsStoppedByTurns T input' reads read written
+EndsAs T remaining input input' output output' reads read written (Ok counts) =
+    IsDone T remaining input' read written counts
+EndsAs T remaining input input' output output' reads read written (Err faults.Read) =
+    IsStoppedByRead T input input' read written
+EndsAs T remaining input input' output output' reads read written (Err faults.TooManyTurns) =
+    IsStoppedByTurns T input' reads read written
 EndsAs T remaining input input' output output' reads read written (Err faults.Write) = HasFailed output output'
 EndsAs T remaining input input' output output' reads read written (Err faults.OutOfMemory) = Unit {0}
 

@@ -61,7 +61,8 @@ pub record IsWatched {W : Type 0} (inner : W) (device : Device (Watched W)) : Ty
   pub new : IsNew (inner_of device) device
 
 -- The program is run, on devices that pass on what it writes, and then a person is told what it came to.
-pub record RunsForPeople {P F N I O E T : Type 0} (words : GivenWords) (opener : Opener P F) (of_none : N → Option (List ℕ)) (input : Stream I)
+pub record RunsForPeople {P F N I O E T : Type 0} (words : GivenWords)
+    (opener : Opener P F) (of_none : N → Option (List ℕ)) (input : Stream I)
     (of_output : Watched O → Option (List ℕ)) (output : O) (of_errors : Watched E → Option (List ℕ)) (errors : E)
     (people : Stream T) (result : ℕ) : Type 0 where
   pub output_before : Device (Watched O)
@@ -70,7 +71,8 @@ pub record RunsForPeople {P F N I O E T : Type 0} (words : GivenWords) (opener :
   pub errors_after : Device (Watched E)
   pub watches_output : IsWatched output output_before
   pub watches_errors : IsWatched errors errors_before
-  pub runs : RunsProgram words opener of_none input (stream of_output output_before output_after) (stream of_errors errors_before errors_after) result
+  pub runs : RunsProgram words opener of_none input (stream of_output output_before output_after)
+      (stream of_errors errors_before errors_after) result
   pub asked : Option Bool
   pub is_asked : IsAsked words asked
   pub tells : Tells asked result (of_output (inner_of output_after)) (of_errors (inner_of errors_after)) people

@@ -28,7 +28,8 @@ pub record IsRefusedAt (r : List Field) (number : ℕ) (fault : RecordFault) : T
   pub refused : IsRefused r fault.kind
 
 -- a draft without a fault takes the record's entry or its fault, and one with a fault keeps that
-abbrev pub TakesFrom : List Field → ℕ → List EntryParts → List EntryParts → Option RecordFault → Option RecordFault → Type 0
+abbrev pub TakesFrom : List Field → ℕ → List EntryParts
+    → List EntryParts → Option RecordFault → Option RecordFault → Type 0
 TakesFrom r number old new None None = IsAdded r number old new
 TakesFrom r number old new None (Some fault) = IsRefusedAt r number fault
 TakesFrom r number old new (Some first) fault = fault ≡ Some first
@@ -39,7 +40,8 @@ pub record Takes (r : List Field) (old new : Draft) : Type 0 where
   pub takes : TakesFrom r new.number old.entries.items new.entries.items old.fault new.fault
 
 -- A call for the next record: the draft took the record that the reader lent, or is as it was where there was none.
-pub record TakesNext {R : Type 0} (remaining : R → Option (List ℕ)) (old new : JarReader R JarSource) (draft drafted : Draft) (result : Result Bool JarFault) : Type 0 where
+pub record TakesNext {R : Type 0} (remaining : R → Option (List ℕ)) (old new : JarReader R JarSource)
+    (draft drafted : Draft) (result : Result Bool JarFault) : Type 0 where
   pub same_reference : new.device.ghost_name ≡ old.device.ghost_name
   pub advances : Advances remaining old.source new.source old.device.now new.device.now result
   pub takes : result ≡ Ok true → Takes (record_in new.source) draft drafted

@@ -45,7 +45,8 @@ second_check start (x ∷ rest) = Err (record { kind = faults.TooManyExtlangs; p
 -- the extlangs of a core that begins after this many subtags
 abbrev pub extlangs_check : List EntryParts → ℕ → List ℕ → List (List ℕ) → Check
 extlangs_check R start l [] = Ok tt
-extlangs_check R start l (x ∷ rest) = and_then (prefix_check start l (entry R kinds.Extlang x)) (second_check start rest)
+extlangs_check R start l (x ∷ rest) =
+    and_then (prefix_check start l (entry R kinds.Extlang x)) (second_check start rest)
 
 -- a script or a region
 abbrev pub part_check : List EntryParts → Kind → ValidFaultKind → ℕ → Option (List ℕ) → Check

@@ -19,27 +19,33 @@ use Rattle.lt_registry.specs.declared.faults.RegistryFault.{RegistryFault}
 use Rattle.lt_registry.specs.declared.faults.RegistryFault.TheVariants as faults
 
 -- the bytes have these records, nothing is left to read, and the device did not fail
-pub record IsReadWhole {R : Type 0} (remaining : R → Option (List ℕ)) (before after : Device R) (bytes : List ℕ) (records : List (List Field)) : Type 0 where
+pub record IsReadWhole {R : Type 0} (remaining : R → Option (List ℕ))
+    (before after : Device R) (bytes : List ℕ) (records : List (List Field)) : Type 0 where
   pub has : HasRecords bytes records
   pub within : IsWithin bytes records
   pub end : IsAtEnd (remaining (inner_of after))
   pub works : failures_of after ≡ failures_of before
 
 -- why the bytes that this many reads gave have no records, or are not all
-pub record IsJarRefusal {R : Type 0} (remaining : R → Option (List ℕ)) (before after : Device R) (bytes : List ℕ) (reads : ℕ) (fault : JarFault) : Type 0 where
-  pub format : (kind : Fault) → fault_in fault.kind ≡ Some kind → HoldsOfWhole (λ text. IsTheFault 0 text kind fault.line) (IsAtEnd (remaining (inner_of after))) bytes
+pub record IsJarRefusal {R : Type 0} (remaining : R → Option (List ℕ))
+    (before after : Device R) (bytes : List ℕ) (reads : ℕ) (fault : JarFault) : Type 0 where
+  pub format : (kind : Fault) → fault_in fault.kind ≡ Some kind
+      → HoldsOfWhole (λ text. IsTheFault 0 text kind fault.line) (IsAtEnd (remaining (inner_of after))) bytes
   pub memory : fault.kind ≡ jars.OutOfMemory → IsReached 0 bytes fault.line
   pub device : fault.kind ≡ jars.Read → HasFailed before after × BreaksOff 0 bytes fault.line
-  pub all_made : fault.kind ≡ jars.TooManyTurns → (reads ≡ most_reads) × (reads ≤ length bytes) × (0 < last_given_of after) × BreaksOff 0 bytes fault.line
+  pub all_made : fault.kind ≡ jars.TooManyTurns → (reads ≡ most_reads)
+      × (reads ≤ length bytes) × (0 < last_given_of after) × BreaksOff 0 bytes fault.line
   pub first : fault.kind ≢ jars.Failed
 
 -- the entries of the records, or the fault of the lowest record at fault; a fault of the text goes first
-abbrev pub AnswersAs : {R : Type 0} → (R → Option (List ℕ)) → (before after : Device R) → List ℕ → ℕ → Result (List EntryParts) RegistryFault → Type 0
+abbrev pub AnswersAs : {R : Type 0} → (R → Option (List ℕ)) → (before after : Device R)
+    → List ℕ → ℕ → Result (List EntryParts) RegistryFault → Type 0
 AnswersAs remaining before after bytes reads (Ok registry) =
     (records : List (List Field)) × IsReadWhole remaining before after bytes records × HasEntries records registry
 AnswersAs remaining before after bytes reads (Err (faults.Record fault)) =
     (records : List (List Field)) × IsReadWhole remaining before after bytes records × IsRecordRefusal records fault
-AnswersAs remaining before after bytes reads (Err (faults.Jar fault)) = IsJarRefusal remaining before after bytes reads fault
+AnswersAs remaining before after bytes reads (Err (faults.Jar fault)) =
+    IsJarRefusal remaining before after bytes reads fault
 
 -- the answer is that a read failed
 abbrev pub IsReadFailure : Result (List EntryParts) RegistryFault → Type 0
@@ -49,7 +55,8 @@ IsReadFailure (Err (faults.Jar fault)) = fault.kind ≡ jars.Read
 
 -- This many reads gave these bytes, at most 65,536 each, and the answer is theirs. The device fails only where it
 -- is reported.
-pub record ReadsRegistry {R : Type 0} (remaining : R → Option (List ℕ)) (before after : Device R) (result : Result (List EntryParts) RegistryFault) : Type 0 where
+pub record ReadsRegistry {R : Type 0} (remaining : R → Option (List ℕ))
+    (before after : Device R) (result : Result (List EntryParts) RegistryFault) : Type 0 where
   pub bytes : List ℕ
   pub reads : ℕ
   pub consumes : Consumes (remaining (inner_of before)) (remaining (inner_of after)) bytes

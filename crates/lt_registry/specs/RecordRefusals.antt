@@ -14,4 +14,5 @@ IsRefused r kind = (kind ≡ faults.OutOfMemory) ⊎ IsFirstOfRecord r kind
 -- which none has one
 abbrev pub IsRecordRefusal : List (List Field) → RecordFault → Type 0
 IsRecordRefusal records fault =
-    ((fault.kind ≡ faults.OutOfMemory) × IsReached records fault.number) ⊎ IsFirstRecordFault records fault.kind fault.number
+    ((fault.kind ≡ faults.OutOfMemory) × IsReached records fault.number)
+        ⊎ IsFirstRecordFault records fault.kind fault.number

@@ -31,8 +31,10 @@ IsNameFault k r faults.RepeatedField = ⊥
 IsNameFault k r faults.MissingType = ⊥
 IsNameFault k r faults.UnknownType = ⊥
 IsNameFault k r faults.MissingName = body (name_field k) r ≡ None
-IsNameFault k r faults.BadRange = (s : List ℕ) × (is_whole_kind k ≡ false) × (body subtag_name r ≡ Some s) × (subtags_named k s ≡ Err faults.BadRange)
-IsNameFault k r faults.BadSubtag = (s : List ℕ) × (is_whole_kind k ≡ false) × (body subtag_name r ≡ Some s) × (subtags_named k s ≡ Err faults.BadSubtag)
+IsNameFault k r faults.BadRange =
+    (s : List ℕ) × (is_whole_kind k ≡ false) × (body subtag_name r ≡ Some s) × (subtags_named k s ≡ Err faults.BadRange)
+IsNameFault k r faults.BadSubtag = (s : List ℕ) × (is_whole_kind k ≡ false)
+    × (body subtag_name r ≡ Some s) × (subtags_named k s ≡ Err faults.BadSubtag)
 IsNameFault k r faults.BadTag = (s : List ℕ) × (is_whole_kind k ≡ true) × (body tag_name r ≡ Some s) × HasNoTag s
 IsNameFault k r faults.BadPreferred = ⊥
 IsNameFault k r faults.BadPrefix = ⊥
@@ -53,7 +55,8 @@ IsTextFault k s faults.BadPrefix = ⊥
 
 -- what is wrong with its value
 abbrev pub IsValueFault : Kind → List Field → RecordFaultKind → Type 0
-IsValueFault k r faults.BadPreferred = (s : List ℕ) × (body value_name r ≡ Some s) × ((v : EntryValue) → IsValue k s v → ⊥)
+IsValueFault k r faults.BadPreferred =
+    (s : List ℕ) × (body value_name r ≡ Some s) × ((v : EntryValue) → IsValue k s v → ⊥)
 IsValueFault k r faults.OutOfMemory = Unit {0}
 IsValueFault k r faults.RepeatedField = ⊥
 IsValueFault k r faults.MissingType = ⊥

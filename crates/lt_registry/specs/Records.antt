@@ -63,7 +63,8 @@ is_repeated name r = nat_lt 1 (count_by (is_called name) r)
 
 -- one of the fields that occur once at most occurs again
 abbrev pub repeats_field : List Field → Bool
-repeats_field r = is_repeated type_name r || (is_repeated subtag_name r || (is_repeated tag_name r || is_repeated value_name r))
+repeats_field r =
+    is_repeated type_name r || (is_repeated subtag_name r || (is_repeated tag_name r || is_repeated value_name r))
 
 -- the kind that a type names
 abbrev pub kind_of : List ℕ → Option Kind
@@ -116,10 +117,12 @@ ends_of (b ∷ s) = if begins_dots (b ∷ s) then Some ([], drop 1 s) else with_
 -- the two ends are those of a range
 abbrev pub is_range : Kind → List ℕ → List ℕ → Bool
 is_range k a b =
-    has_form k a && (has_form k b && (is_alphabetic a && (is_alphabetic b && ((length a == length b) && letters_le a b))))
+    has_form k a && (has_form k b
+        && (is_alphabetic a && (is_alphabetic b && ((length a == length b) && letters_le a b))))
 
 -- the range from one end to the other, if they are those of one
-abbrev pub range_of : Kind → Result (List ℕ) SubtagFault → Result (List ℕ) SubtagFault → Result EntryName RecordFaultKind
+abbrev pub range_of : Kind → Result (List ℕ) SubtagFault
+    → Result (List ℕ) SubtagFault → Result EntryName RecordFaultKind
 range_of k (Ok a) (Ok b) = if is_range k a b then Ok (names.Range a b) else Err faults.BadRange
 range_of k (Ok a) (Err fault) = Err faults.BadRange
 range_of k (Err fault) other = Err faults.BadRange
@@ -210,9 +213,11 @@ HasRecordFault r faults.MissingType = body type_name r ≡ None
 HasRecordFault r faults.UnknownType = (s : List ℕ) × (body type_name r ≡ Some s) × (kind_of s ≡ None)
 HasRecordFault r faults.MissingName = (k : Kind) × HasKind r k × (body (name_field k) r ≡ None)
 HasRecordFault r faults.BadRange =
-    (k : Kind) × (s : List ℕ) × HasKind r k × (is_whole_kind k ≡ false) × (body subtag_name r ≡ Some s) × (subtags_named k s ≡ Err faults.BadRange)
+    (k : Kind) × (s : List ℕ) × HasKind r k × (is_whole_kind k ≡ false)
+        × (body subtag_name r ≡ Some s) × (subtags_named k s ≡ Err faults.BadRange)
 HasRecordFault r faults.BadSubtag =
-    (k : Kind) × (s : List ℕ) × HasKind r k × (is_whole_kind k ≡ false) × (body subtag_name r ≡ Some s) × (subtags_named k s ≡ Err faults.BadSubtag)
+    (k : Kind) × (s : List ℕ) × HasKind r k × (is_whole_kind k ≡ false)
+        × (body subtag_name r ≡ Some s) × (subtags_named k s ≡ Err faults.BadSubtag)
 HasRecordFault r faults.BadTag =
     (k : Kind) × (s : List ℕ) × HasKind r k × (is_whole_kind k ≡ true) × (body tag_name r ≡ Some s) × HasNoTag s
 HasRecordFault r faults.BadPreferred =
@@ -247,7 +252,9 @@ unfoldable pub EntriesFrom : ℕ → List (List Field) → List EntryParts → T
 EntriesFrom number [] es = es ≡ []
 EntriesFrom number (r ∷ rs) es =
     ((is_header_at number r ≡ true) × EntriesFrom (number + 1) rs es)
-    ⊎ ((is_header_at number r ≡ false) × ((e : EntryParts) × (rest : List EntryParts) × (es ≡ e ∷ rest) × IsEntryOf r number e × EntriesFrom (number + 1) rs rest))
+    ⊎ ((is_header_at number r ≡ false)
+        × ((e : EntryParts) × (rest : List EntryParts) × (es ≡ e ∷ rest)
+            × IsEntryOf r number e × EntriesFrom (number + 1) rs rest))
 
 -- the entries of a file's records: of each but the header one, with the record's number
 abbrev pub HasEntries : List (List Field) → List EntryParts → Type 0

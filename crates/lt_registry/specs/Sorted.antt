@@ -40,7 +40,8 @@ single_number _ = None
 
 -- the row of an entry at a place, if it is a single record of the kind
 abbrev pub single_row : Kind → ℕ → EntryParts → Option Row
-single_row kind place e = if same_kind e.kind kind then option_map (λ n. record { number = n; place = place }) (single_number e.name) else None
+single_row kind place e = if same_kind e.kind kind
+    then option_map (λ n. record { number = n; place = place }) (single_number e.name) else None
 
 -- the rank of a range's first, and the one after that of its last
 abbrev pub ends : EntryName → Option (ℕ × ℕ)
@@ -49,7 +50,8 @@ ends _ = None
 
 -- the row of an entry at a place, if it is a range of the kind
 abbrev pub range_row : Kind → ℕ → EntryParts → Option RangeRow
-range_row kind place e = if same_kind e.kind kind then option_map (λ (n : ℕ × ℕ). record { start = n.0; end = n.1; place = place }) (ends e.name) else None
+range_row kind place e = if same_kind e.kind kind
+    then option_map (λ (n : ℕ × ℕ). record { start = n.0; end = n.1; place = place }) (ends e.name) else None
 
 -- the rows of the ranges of a kind, in the order of the file, where the entries are from a place on
 abbrev pub range_rows : Kind → ℕ → List EntryParts → List RangeRow
@@ -82,7 +84,8 @@ pub record AreStretches (rows : List RangeRow) (stretches : List Stretch) : Type
 -- the stretches of ranges that are before others, from those of each
 pub record AreMerged (earlier later stretches : List Stretch) : Type 0 where
   pub rising : StartsRise stretches
-  pub places : (rank : ℕ) → place_in None stretches rank ≡ option_or (place_in None earlier rank) (place_in None later rank)
+  pub places : (rank : ℕ) → place_in None stretches rank ≡ option_or
+      (place_in None earlier rank) (place_in None later rank)
 
 -- the first starts, and no later than the other
 abbrev pub starts_first : List Stretch → List Stretch → Bool
@@ -129,16 +132,19 @@ abbrev pub IsRowAt : {W : Type 0} → (ℕ → EntryParts → Option W) → (W �
 IsRowAt row place R w = (e : EntryParts) × (slice_get R (place w) ≡ Some e) × (row (place w) e ≡ Some w)
 
 -- the rows of the first this many entries, in any order
-pub record AreRows {W : Type 0} (row : ℕ → EntryParts → Option W) (place : W → ℕ) (R : List EntryParts) (i : ℕ) (rows : List W) : Type 0 where
+pub record AreRows {W : Type 0} (row : ℕ → EntryParts → Option W)
+    (place : W → ℕ) (R : List EntryParts) (i : ℕ) (rows : List W) : Type 0 where
   pub sound : All (IsRowAt row place R) rows
   pub complete : (p : ℕ) (e : EntryParts) (w : W) → p < i → slice_get R p ≡ Some e → row p e ≡ Some w → Contains rows w
 
 -- Rows in the order of their keys, each key once: each is the row of an entry, and the row of each entry
 -- is there, or one of the same key whose entry is before it.
-pub record IsIndex {W K : Type 0} (row : ℕ → EntryParts → Option W) (place : W → ℕ) (key : W → K) (cmp : K → K → Ordering) (R : List EntryParts) (rows : List W) : Type 0 where
+pub record IsIndex {W K : Type 0} (row : ℕ → EntryParts → Option W) (place : W → ℕ)
+    (key : W → K) (cmp : K → K → Ordering) (R : List EntryParts) (rows : List W) : Type 0 where
   pub rising : AllPairs (λ v w. cmp (key v) (key w) ≡ Less) rows
   pub sound : All (IsRowAt row place R) rows
-  pub complete : (p : ℕ) (e : EntryParts) (w : W) → slice_get R p ≡ Some e → row p e ≡ Some w → Any (λ v. (cmp (key v) (key w) ≡ Equal) × (place v ≤ p)) rows
+  pub complete : (p : ℕ) (e : EntryParts) (w : W) → slice_get R p ≡ Some e
+      → row p e ≡ Some w → Any (λ v. (cmp (key v) (key w) ≡ Equal) × (place v ≤ p)) rows
 
 -- the records of one subtag, of a kind, in the order of the subtags; the first alone for each subtag
 abbrev pub IsSingles : List EntryParts → Kind → List Row → Type 0

@@ -44,7 +44,8 @@ pub record HasLike {A : Type 0} (cmp : A → A → Ordering) (xs : List A) (inde
   pub alike : (default : A) → cmp (slice_index_or xs index default) (slice_index_or xs earlier default) ≡ Equal
 
 -- two neighbours in falling order change places, of which the first begins at a place
-pub record SwapLeads {A : Type 0} (cmp : A → A → Ordering) (spell : A → List (List ℕ)) (start place : ℕ) (xs ys : List A) : Type 0 where
+pub record SwapLeads {A : Type 0} (cmp : A → A → Ordering)
+    (spell : A → List (List ℕ)) (start place : ℕ) (xs ys : List A) : Type 0 where
   pub before : List A
   pub first : A
   pub second : A
@@ -53,7 +54,8 @@ pub record SwapLeads {A : Type 0} (cmp : A → A → Ordering) (spell : A → Li
   pub at : place ≡ start + length (flat_map spell before) + 1
 
 -- a part that begins at a place is dropped, whose like is before it
-pub record DropLeads {A : Type 0} (cmp : A → A → Ordering) (spell : A → List (List ℕ)) (start place : ℕ) (xs ys : List A) : Type 0 where
+pub record DropLeads {A : Type 0} (cmp : A → A → Ordering)
+    (spell : A → List (List ℕ)) (start place : ℕ) (xs ys : List A) : Type 0 where
   pub before : List A
   pub first : A
   pub between : List A
@@ -85,7 +87,9 @@ ExtensionLeads R start e step f = (s : ExtensionStep R e f) × (extension_label 
 -- on the extension at an index, of extensions that begin after this many subtags
 abbrev pub LeadsAt : List EntryParts → ℕ → List ExtensionParts → Step → ℕ → ExtensionParts → Type 0
 LeadsAt R start es step index f =
-    (default : ExtensionParts) → ExtensionLeads R (start + length (spell_extensions (take index es)) + 1) (slice_index_or es index default) step f
+    (default : ExtensionParts)
+        → ExtensionLeads R (start + length (spell_extensions (take index es)) + 1)
+            (slice_index_or es index default) step f
 
 -- on extensions that begin after this many subtags
 abbrev pub ExtensionsLeads : List EntryParts → ℕ → List ExtensionParts → Step → List ExtensionParts → Type 0

@@ -11,11 +11,14 @@ use Rattle.lt_rewrite.specs.declared.steps.Step.{Step}
 
 -- the steps from the extension at an index to its normal form f are added to others; the extensions begin after
 -- this many subtags
-pub record ExplainsAt (R : List EntryParts) (singleton start : ℕ) (es : List ExtensionParts) (index : ℕ) (f : ExtensionParts) (old new : List Step) : Type 0 where
+pub record ExplainsAt (R : List EntryParts) (singleton start : ℕ) (es : List ExtensionParts)
+    (index : ℕ) (f : ExtensionParts) (old new : List Step) : Type 0 where
   pub settles : SettlesAt R singleton es index f
-  pub adds : Adds (ExtensionLeads R (start + length (spell_extensions (take index es)) + 1)) (λ _ step. extension_rank step) settles.from f old new
+  pub adds : Adds (ExtensionLeads R (start + length (spell_extensions (take index es)) + 1))
+      (λ _ step. extension_rank step) settles.from f old new
 
 -- those in the extension of a singleton, if there is one
-abbrev pub Explains : List EntryParts → ℕ → ℕ → List ExtensionParts → Option (ℕ × ExtensionParts) → List Step → List Step → Type 0
+abbrev pub Explains : List EntryParts → ℕ → ℕ → List ExtensionParts
+    → Option (ℕ × ExtensionParts) → List Step → List Step → Type 0
 Explains R singleton start es None old new = AllByRecursion (λ e. e.singleton ≢ singleton) es × (new ≡ old)
 Explains R singleton start es (Some explained) old new = ExplainsAt R singleton start es explained.0 explained.1 old new

@@ -7,7 +7,8 @@ use Rattle.lt_rewrite.specs.Rewriting.{IsNormalForm}
 use Rattle.lt_rewrite.specs.Extensions.{ExtensionStep}
 
 -- the extension at a place has the singleton, and f is its normal form
-pub record SettlesAt (R : List EntryParts) (singleton : ℕ) (es : List ExtensionParts) (place : ℕ) (f : ExtensionParts) : Type 0 where
+pub record SettlesAt (R : List EntryParts) (singleton : ℕ)
+    (es : List ExtensionParts) (place : ℕ) (f : ExtensionParts) : Type 0 where
   pub within : place < length es
   pub from : ExtensionParts
   pub there : from ≡ slice_index_or es place from

@@ -24,31 +24,38 @@ step_at kind place number = record { kind = kind; place = place; number = number
 -- of a core that begins after this many subtags
 abbrev pub core_label : (R : List EntryParts) (start : ℕ) {c d : CoreParts} → CoreStep (values_of R) c d → Step
 core_label R start {c} (by_extlang x s) = step_at steps.Extlang (start + 2) (number_of (entry R kinds.Extlang x))
-core_label R start {c} (by_language v s) = step_at steps.Language (start + 1) (number_of (entry R kinds.Language c.language))
-core_label R start {c} (by_script a v s) = step_at steps.Script (start + before_script c + 1) (number_of (entry R kinds.Script a))
-core_label R start {c} (by_region a v s) = step_at steps.Region (start + before_region c + 1) (number_of (entry R kinds.Region a))
+core_label R start {c} (by_language v s) =
+    step_at steps.Language (start + 1) (number_of (entry R kinds.Language c.language))
+core_label R start {c} (by_script a v s) =
+    step_at steps.Script (start + before_script c + 1) (number_of (entry R kinds.Script a))
+core_label R start {c} (by_region a v s) =
+    step_at steps.Region (start + before_region c + 1) (number_of (entry R kinds.Region a))
 core_label R start {c} (by_variant before v w after s) =
     step_at steps.Variant (start + before_variants c + length before + 1) (number_of (entry R kinds.Variant v))
 core_label R start {c} (by_variant_language before v m after s) =
     step_at steps.VariantLanguage (start + before_variants c + length before + 1) (number_of (entry R kinds.Variant v))
 
 -- of a list of parts that begins after this many subtags: the kinds of a swap and of a drop, and the subtags of a part
-abbrev pub list_label : {A : Type 0} {once : Bool} {cmp : A → A → Ordering} {xs ys : List A} → StepKind → StepKind → (A → List (List ℕ)) → ℕ → ListStep once cmp xs ys → Step
-list_label swap drop spell start (by_swap before a b after s) = step_at swap (start + length (flat_map spell before) + 1) 0
+abbrev pub list_label : {A : Type 0} {once : Bool} {cmp : A → A → Ordering} {xs ys : List A}
+    → StepKind → StepKind → (A → List (List ℕ)) → ℕ → ListStep once cmp xs ys → Step
+list_label swap drop spell start (by_swap before a b after s) =
+    step_at swap (start + length (flat_map spell before) + 1) 0
 list_label swap drop spell start (by_drop before a between b after o s) =
     step_at drop (start + length (flat_map spell before) + length (spell a) + length (flat_map spell between) + 1) 0
 
 -- of a u extension whose singleton is at a place
 abbrev pub unicode_label : ℕ → {p q : UForm} → UnicodeStep p q → Step
 unicode_label start (on_attributes s k) = list_label steps.SwapAttributes steps.DropAttribute (λ a. a ∷ []) start s
-unicode_label start {p} (on_keywords a s) = list_label steps.SwapKeywords steps.DropKeyword spell_keyword (start + length p.attributes) s
+unicode_label start {p} (on_keywords a s) =
+    list_label steps.SwapKeywords steps.DropKeyword spell_keyword (start + length p.attributes) s
 unicode_label start {p} (on_types a before k after s) =
     step_at steps.DropTrue (start + length p.attributes + length (flat_map spell_keyword before) + 2) 0
 
 -- of a t extension whose singleton is at a place
 abbrev pub transform_label : (R : List EntryParts) → ℕ → {p q : TForm} → TransformStep R p q → Step
 transform_label R start (on_source c d _ _ s _) = core_label R start s
-transform_label R start {p} (on_fields a s) = list_label steps.SwapFields steps.SwapFields spell_field (start + length (spell_source p.source)) s
+transform_label R start {p} (on_fields a s) =
+    list_label steps.SwapFields steps.SwapFields spell_field (start + length (spell_source p.source)) s
 
 -- of an extension whose singleton is at a place
 abbrev pub extension_label : (R : List EntryParts) → ℕ → {e f : ExtensionParts} → ExtensionStep R e f → Step
@@ -57,7 +64,8 @@ extension_label R start (in_transform p q _ _ _ _ s) = transform_label R start s
 
 -- of extensions that begin after this many subtags
 abbrev pub extensions_label : (R : List EntryParts) → ℕ → {es fs : List ExtensionParts} → ExtensionsStep R es fs → Step
-extensions_label R start (inside before e f after w s) = extension_label R (start + length (spell_extensions before) + 1) s
+extensions_label R start (inside before e f after w s) =
+    extension_label R (start + length (spell_extensions before) + 1) s
 extensions_label R start (among s) = list_label steps.SwapExtensions steps.SwapExtensions spell_extension start s
 
 -- of a tag

@@ -24,7 +24,8 @@ HasOneNormalForm R = (c : CoreParts) → (d : CoreParts) × IsOneNormalForm R c 
 
 -- a core step keeps the core normal form
 abbrev pub StepsKeepNormalForm : List EntryParts → Type 0
-StepsKeepNormalForm R = (c d e : CoreParts) → CoreStep (values_of R) c d → IsCoreNormalForm (values_of R) c e → IsCoreNormalForm (values_of R) d e
+StepsKeepNormalForm R = (c d e : CoreParts) → CoreStep (values_of R) c d
+    → IsCoreNormalForm (values_of R) c e → IsCoreNormalForm (values_of R) d e
 
 -- a proper core as a value has it
 pub record IsProperValue (R : List EntryParts) (c : CoreParts) : Type 0 where
@@ -64,4 +65,5 @@ pub record AreOneStep (step other : Step) (u v : TagForm) : Type 0 where
 -- the kind and the place determine a step, with the number of its record, and what it leads to
 abbrev pub StepsAreDetermined : List EntryParts → Type 0
 StepsAreDetermined R =
-    (t u v : TagForm) (step other : Step) → LeadsBy R t step u → LeadsBy R t other v → step.kind ≡ other.kind → step.place ≡ other.place → AreOneStep step other u v
+    (t u v : TagForm) (step other : Step) → LeadsBy R t step u → LeadsBy R t other v
+        → step.kind ≡ other.kind → step.place ≡ other.place → AreOneStep step other u v

@@ -27,4 +27,5 @@ pub record TransformHasOneForm (R : List EntryParts) : Type 0 where
 -- So do steps on a list of extensions.
 pub record ExtensionsHaveOneForm (R : List EntryParts) : Type 0 where
   pub one : (es : List ExtensionParts) → HasOneForm (ExtensionsStep R) es
-  pub shaped : (es fs : List ExtensionParts) → ExtensionsStep R es fs → AllByRecursion IsExtensionValue es → AllByRecursion IsExtensionValue fs
+  pub shaped : (es fs : List ExtensionParts) → ExtensionsStep R es fs
+      → AllByRecursion IsExtensionValue es → AllByRecursion IsExtensionValue fs

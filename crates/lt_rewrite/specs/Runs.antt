@@ -63,7 +63,8 @@ pub record IsLeftmost {A : Type 0} (Leads : Step → A → Type 0) (rank : Step 
   pub leftmost : (other : Step) (b : A) → Leads other b → rank other ≡ n → step.place ≤ other.place
 
 -- a run is added to steps
-pub record Adds {A : Type 0} (Leads : A → Step → A → Type 0) (rank : A → Step → ℕ) (a b : A) (old new : List Step) : Type 0 where
+pub record Adds {A : Type 0} (Leads : A → Step → A → Type 0)
+    (rank : A → Step → ℕ) (a b : A) (old new : List Step) : Type 0 where
   pub run : List Step
   pub added : new ≡ old ++ run
   pub is_run : IsRun Leads rank a run b
@@ -86,20 +87,23 @@ abbrev pub AddsOnCore : List EntryParts → ℕ → CoreParts → CoreParts → 
 AddsOnCore R start c d old new = Adds (CoreLeads R start) (λ _ step. kind_rank step) c d old new
 
 -- two neighbours of a list that begins after this many subtags change places, by a step of a kind
-pub record SwapsBy {A : Type 0} (cmp : A → A → Ordering) (spell : A → List (List ℕ)) (kind : StepKind) (start : ℕ) (xs : List A) (step : Step) (ys : List A) : Type 0 where
+pub record SwapsBy {A : Type 0} (cmp : A → A → Ordering) (spell : A → List (List ℕ))
+    (kind : StepKind) (start : ℕ) (xs : List A) (step : Step) (ys : List A) : Type 0 where
   pub of_kind : step.kind ≡ kind
   pub unnumbered : step.number ≡ 0
   pub leads : SwapLeads cmp spell start step.place xs ys
 
 -- a part of the list is dropped, by a step of a kind
-pub record DropsBy {A : Type 0} (cmp : A → A → Ordering) (spell : A → List (List ℕ)) (kind : StepKind) (start : ℕ) (xs : List A) (step : Step) (ys : List A) : Type 0 where
+pub record DropsBy {A : Type 0} (cmp : A → A → Ordering) (spell : A → List (List ℕ))
+    (kind : StepKind) (start : ℕ) (xs : List A) (step : Step) (ys : List A) : Type 0 where
   pub of_kind : step.kind ≡ kind
   pub unnumbered : step.number ≡ 0
   pub leads : DropLeads cmp spell start step.place xs ys
 
 -- the part at an index and the next are in falling order
 abbrev pub FallsAt : {A : Type 0} → (A → A → Ordering) → List A → ℕ → Type 0
-FallsAt {A} cmp xs index = (default : A) → cmp (slice_index_or xs (index + 1) default) (slice_index_or xs index default) ≡ Less
+FallsAt {A} cmp xs index =
+    (default : A) → cmp (slice_index_or xs (index + 1) default) (slice_index_or xs index default) ≡ Less
 
 -- the leftmost such index
 pub record IsFirstFall {A : Type 0} (cmp : A → A → Ordering) (xs : List A) (index : ℕ) : Type 0 where
@@ -128,5 +132,6 @@ abbrev pub AddsOnTransform : List EntryParts → ℕ → TForm → TForm → Lis
 AddsOnTransform R start p q old new = Adds (TransformLeads R start) (λ _ step. kind_rank step) p q old new
 
 -- on extensions that begin after this many subtags
-abbrev pub AddsOnExtensions : List EntryParts → ℕ → List ExtensionParts → List ExtensionParts → List Step → List Step → Type 0
+abbrev pub AddsOnExtensions : List EntryParts → ℕ → List ExtensionParts
+    → List ExtensionParts → List Step → List Step → Type 0
 AddsOnExtensions R start es fs old new = Adds (ExtensionsLeads R start) (λ _ step. extension_rank step) es fs old new

@@ -22,7 +22,8 @@ pub record LeadsTo (R : List EntryParts) (kind : Kind) (n : ℕ) (v : List ℕ) 
 
 -- From the value that follows the record at a place, a shortcut leads this many values on to another place.
 abbrev pub IsShortcut : List EntryParts → ℕ → ℕ → ℕ → Type 0
-IsShortcut R n i j = (e : EntryParts) (v : List ℕ) → slice_get R i ≡ Some e → following e.kind e ≡ Some v → LeadsTo R e.kind n v j
+IsShortcut R n i j =
+    (e : EntryParts) (v : List ℕ) → slice_get R i ≡ Some e → following e.kind e ≡ Some v → LeadsTo R e.kind n v j
 
 -- each record has a shortcut to the place of one, this many values on
 pub record LeadOn (R : List EntryParts) (n : ℕ) (places : List ℕ) : Type 0 where

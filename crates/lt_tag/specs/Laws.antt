@@ -27,11 +27,13 @@ OneTagPerText = (text : List ℕ) (a b : TagForm) → HasTag text a → HasTag t
 
 -- The text of a tag has the list that the tag spells, whatever its length.
 abbrev pub TextOfTagHasItsList : Type 0
-TextOfTagHasItsList = (tag : TagForm) → IsTag tag → HasList (conventional (spell tag)) × (list_of (conventional (spell tag)) ≡ spell tag)
+TextOfTagHasItsList =
+    (tag : TagForm) → IsTag tag → HasList (conventional (spell tag)) × (list_of (conventional (spell tag)) ≡ spell tag)
 
 -- The text of a tag is read again as that tag, if it has at most 1,024 bytes.
 abbrev pub TextOfTagIsReadAgain : Type 0
-TextOfTagIsReadAgain = (tag : TagForm) → IsTag tag → length (conventional (spell tag)) ≤ longest_text → HasTag (conventional (spell tag)) tag
+TextOfTagIsReadAgain = (tag : TagForm) → IsTag tag
+    → length (conventional (spell tag)) ≤ longest_text → HasTag (conventional (spell tag)) tag
 
 -- Two tags have the same text exactly if they are equal.
 abbrev pub SameTextForSameTag : Type 0
@@ -39,4 +41,5 @@ SameTextForSameTag = (a b : TagForm) → IsTag a → IsTag b → (conventional (
 
 -- Two texts that have lists are printed alike exactly where nothing but letter case tells them apart.
 abbrev pub PrintedAlikeForSameLetters : Type 0
-PrintedAlikeForSameLetters = (a b : List ℕ) → HasList a → HasList b → (conventional (list_of a) ≡ conventional (list_of b)) ↔ (folded a ≡ folded b)
+PrintedAlikeForSameLetters = (a b : List ℕ) → HasList a → HasList b
+    → (conventional (list_of a) ≡ conventional (list_of b)) ↔ (folded a ≡ folded b)

@@ -18,18 +18,21 @@ core_total =
     then_total (on_total (λ (c : CoreParts). c.language) nat_list_cmp_total)
     (then_total (on_total (λ (c : CoreParts). c.extlangs) (lists_total nat_list_cmp_total))
     (then_total (on_total (λ (c : CoreParts). c.script) (options_total nat_list_cmp_total))
-    (then_total (on_total (λ (c : CoreParts). c.region) (options_total nat_list_cmp_total)) (on_total (λ (c : CoreParts). c.variants) (lists_total nat_list_cmp_total)))))
+    (then_total (on_total (λ (c : CoreParts). c.region) (options_total nat_list_cmp_total))
+        (on_total (λ (c : CoreParts). c.variants) (lists_total nat_list_cmp_total)))))
 
 -- the order of extensions is total
 pub extension_total : IsTotalOrder extension_cmp
-extension_total = then_total (on_total (λ (e : ExtensionParts). e.singleton) nat_cmp_total) (on_total (λ (e : ExtensionParts). e.subtags) (lists_total nat_list_cmp_total))
+extension_total = then_total (on_total (λ (e : ExtensionParts). e.singleton) nat_cmp_total)
+    (on_total (λ (e : ExtensionParts). e.subtags) (lists_total nat_list_cmp_total))
 
 -- the order of tags is total
 pub tag_total : IsTotalOrder tag_cmp
 tag_total =
     then_total (on_total core_of (options_total core_total))
     (then_total (on_total extensions_of (lists_total extension_total))
-    (then_total (on_total private_of (lists_total nat_list_cmp_total)) (on_total number_of (options_total nat_cmp_total))))
+    (then_total (on_total private_of (lists_total nat_list_cmp_total))
+        (on_total number_of (options_total nat_cmp_total))))
 
 -- ---- what a comparison of two parts says of each
 
@@ -96,9 +99,11 @@ tags_apart (LangTag c es ps) (PrivateUse qs) e = unequal (ap is_eq e)
 tags_apart (LangTag c es ps) (Grandfathered n) e = unequal (ap is_eq e)
 tags_apart (PrivateUse ps) (LangTag d fs qs) e = unequal (ap is_eq e)
 tags_apart (PrivateUse ps) (PrivateUse qs) e = ap PrivateUse (lists_apart ps qs (then_first (list_cmp ps qs) Equal e))
-tags_apart (PrivateUse ps) (Grandfathered n) e = let less : Less ≡ Equal = then_second (list_cmp ps []) Less e in unequal (ap is_eq less)
+tags_apart (PrivateUse ps) (Grandfathered n) e =
+    let less : Less ≡ Equal = then_second (list_cmp ps []) Less e in unequal (ap is_eq less)
 tags_apart (Grandfathered m) (LangTag d fs qs) e = unequal (ap is_eq e)
-tags_apart (Grandfathered m) (PrivateUse qs) e = let more : Greater ≡ Equal = then_second (list_cmp [] qs) Greater e in unequal (ap is_eq more)
+tags_apart (Grandfathered m) (PrivateUse qs) e =
+    let more : Greater ≡ Equal = then_second (list_cmp [] qs) Greater e in unequal (ap is_eq more)
 tags_apart (Grandfathered m) (Grandfathered n) e = ap Grandfathered (nat_cmp-IsAntisymmetric m n e)
 
 -- what is equal by such an order is the same
@@ -106,6 +111,8 @@ pub the_same : {A : Type 0} {R : A → A → Ordering} → IsAntisymmetric R →
 the_same {R = R} apart x y e = apart x y ((Equal-is (R x y)).0 e)
 
 -- and nothing else is
-pub same_exactly : {A : Type 0} {R : A → A → Ordering} → IsTotalOrder R → IsAntisymmetric R → (x y : A) (b : Bool) → b ≡ eq_by_cmp R x y → IsTrue b ↔ (x ≡ y)
+pub same_exactly : {A : Type 0} {R : A → A → Ordering} → IsTotalOrder R
+    → IsAntisymmetric R → (x y : A) (b : Bool) → b ≡ eq_by_cmp R x y → IsTrue b ↔ (x ≡ y)
 same_exactly {R = R} total apart x y b e =
-    (λ t. the_same apart x y (sym e ∙ t), λ same. e ∙ ap (λ z. eq_by_cmp R x z) (sym same) ∙ ap is_eq (tied_itself total x))
+    (λ t. the_same apart x y (sym e ∙ t), λ same. e ∙ ap
+        (λ z. eq_by_cmp R x z) (sym same) ∙ ap is_eq (tied_itself total x))

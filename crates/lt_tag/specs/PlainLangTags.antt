@@ -33,7 +33,8 @@ extlangs_left core = if nat_le (length core.language) 3 then 3 - length core.ext
 -- what may follow a core
 abbrev pub room_of : CoreParts → Room
 room_of core =
-    if takes_script core then rooms.Extlangs (extlangs_left core) else (if takes_region core then rooms.Region else rooms.Variants)
+    if takes_script core then rooms.Extlangs (extlangs_left core)
+        else (if takes_region core then rooms.Region else rooms.Variants)
 
 -- what may follow once one more subtag is there, if it may
 abbrev pub room_after : Room → List ℕ → Option Room
@@ -41,5 +42,6 @@ room_after (rooms.Extlangs left) s =
     if is_extlang s && nat_lt 0 left then Some (rooms.Extlangs (left - 1))
     else (if is_script s then Some rooms.Region
     else (if is_region s then Some rooms.Variants else (if is_variant s then Some rooms.Variants else None)))
-room_after rooms.Region s = if is_region s then Some rooms.Variants else (if is_variant s then Some rooms.Variants else None)
+room_after rooms.Region s =
+    if is_region s then Some rooms.Variants else (if is_variant s then Some rooms.Variants else None)
 room_after rooms.Variants s = if is_variant s then Some rooms.Variants else None

@@ -22,12 +22,14 @@ onward mark (s ∷ ss) = if mark s then s ∷ ss else onward mark ss
 -- each key, with the subtags before the next key
 abbrev pub keywords_of : List (List ℕ) → List KeywordParts
 keywords_of [] = []
-keywords_of (s ∷ ss) = if is_key s then record { key = s; types = before is_key ss } ∷ keywords_of ss else keywords_of ss
+keywords_of (s ∷ ss) =
+    if is_key s then record { key = s; types = before is_key ss } ∷ keywords_of ss else keywords_of ss
 
 -- each separator, with the subtags before the next separator
 abbrev pub fields_of : List (List ℕ) → List FieldParts
 fields_of [] = []
-fields_of (s ∷ ss) = if is_separator s then record { separator = s; values = before is_separator ss } ∷ fields_of ss else fields_of ss
+fields_of (s ∷ ss) =
+    if is_separator s then record { separator = s; values = before is_separator ss } ∷ fields_of ss else fields_of ss
 
 -- the core that subtags spell, if there is one
 unfoldable pub core_of_list : List (List ℕ) → Option CoreParts

@@ -47,13 +47,15 @@ class_line form = class_word (class_of form) ++ 32 ∷ [] ++ conventional (spell
 -- what `classify` prints for a text, and how it ends
 abbrev pub Classifies : List ℕ → List ℕ → Status → Type 0
 Classifies text line status.Done = (form : TagForm) × HasTag text form × (line ≡ class_line form)
-Classifies text line status.Refused = (f : TagFault) × HasFault text f.kind f.place × IsRefusalLine (refusals.NotATag f) line
+Classifies text line status.Refused =
+    (f : TagFault) × HasFault text f.kind f.place × IsRefusalLine (refusals.NotATag f) line
 Classifies text line status.RegistryRefused = ⊥
 Classifies text line status.Usage = ⊥
 Classifies text line status.Failed = ⊥
 
 -- a run that prints a line of which this holds
-pub record PrintsAnswer {O E : Type 0} (IsAnswer : List ℕ → Status → Type 0) (output : Stream O) (errors : Stream E) (result : ℕ) : Type 0 where
+pub record PrintsAnswer {O E : Type 0} (IsAnswer : List ℕ → Status → Type 0)
+    (output : Stream O) (errors : Stream E) (result : ℕ) : Type 0 where
   pub line : List ℕ
   pub end : Status
   pub answers : IsAnswer line end
@@ -76,11 +78,13 @@ EndsRun errors (Ok counts) result =
 EndsRun errors (Err fault) result = Says errors (fault_said fault) × (result ≡ code_of status.Failed)
 
 -- the lines of the input were answered by the registry of the file
-pub record RunsCanon {I O E : Type 0} (form : LineForm) (reading : Reading) (input : Stream I) (output : Stream O) (errors : Stream E) (result : ℕ) : Type 0 where
+pub record RunsCanon {I O E : Type 0} (form : LineForm) (reading : Reading)
+    (input : Stream I) (output : Stream O) (errors : Stream E) (result : ℕ) : Type 0 where
   pub entries : List EntryParts
   pub registry : HoldsRegistry reading entries
   pub end : Result Counts ToolFault
-  pub runs : RunsLines (terms entries form) input.bytes output.bytes input.before input.after output.before output.after end
+  pub runs : RunsLines (terms entries form) input.bytes output.bytes
+      input.before input.after output.before output.after end
   pub ends : EndsRun errors end result
 
 -- what a run wrote that answers lines, by what the reading of the file gave
@@ -90,7 +94,8 @@ Canonicalises form input output errors result reading =
     ⊎ RunsCanon form reading input output errors result
 
 -- a run that by what the reading of a file gave prints a line of which this holds
-abbrev pub PrintsByFile : {F O E : Type 0} → (Reading → List ℕ → Status → Type 0) → Stream F → Stream O → Stream E → ℕ → Type 0
+abbrev pub PrintsByFile : {F O E : Type 0} → (Reading → List ℕ → Status → Type 0)
+    → Stream F → Stream O → Stream E → ℕ → Type 0
 PrintsByFile IsAnswer file output errors result =
     ReadsFile file (λ reading. PrintsOrLacks (IsAnswer reading) output errors result)
 
@@ -117,7 +122,8 @@ Performs (command.Explain name tag) first second input output errors result =
     × PrintsByFile (ByRegistry (λ R. Explains R (string_bytes tag))) first output errors result
 Performs (command.Verify name tag) first second input output errors result =
     IsUntouched second
-    × ReadsFile first (Verifies (λ IsAnswer. PrintsOrLacks IsAnswer output errors result) (string_bytes tag) input output errors result)
+    × ReadsFile first (Verifies (λ IsAnswer. PrintsOrLacks IsAnswer output errors result)
+        (string_bytes tag) input output errors result)
 Performs (command.Upgrade old new) first second input output errors result =
     IsUntouched input × UpgradesFiles first second (λ IsAnswer. PrintsOrLacks IsAnswer output errors result)
 

@@ -49,7 +49,8 @@ pub record Opener (P F : Type 0) : Type 1 where
   pub after : P
 
 -- what opens files, by its calls, the bytes of a file, and its two states
-abbrev pub opener_of : {P F : Type 0} → (P → List ℕ → Result F Error → P → Type 0) → (F → Option (List ℕ)) → (before after : P) → Opener P F
+abbrev pub opener_of : {P F : Type 0} → (P → List ℕ → Result F Error → P → Type 0)
+    → (F → Option (List ℕ)) → (before after : P) → Opener P F
 opener_of calls bytes before after = record { calls = calls; bytes = bytes; before = before; after = after }
 
 -- a device that was not read or written so far
@@ -64,7 +65,8 @@ open_line kinds.OutOfMemory = memory_line
 open_line kind = file_line
 
 -- a file can't be opened: nothing is read, and the errors say why
-pub record RefusesFile {I O E : Type 0} (error : Error) (input : Stream I) (output : Stream O) (errors : Stream E) (result : ℕ) : Type 0 where
+pub record RefusesFile {I O E : Type 0} (error : Error) (input : Stream I)
+    (output : Stream O) (errors : Stream E) (result : ℕ) : Type 0 where
   pub failed : result ≡ code_of status.Failed
   pub read : IsUntouched input
   pub printed : IsUntouched output
@@ -82,7 +84,8 @@ IsPath taken name path =
     ⊎ (((taken ≡ true) ⊎ (name ≢ codes "-")) × (path ≡ name))
 
 -- the file that a name means is opened, and then the run goes on so, or ends so, from this state of the opener
-pub record Opens {P F : Type 0} (calls : P → List ℕ → Result F Error → P → Type 0) (before : P) (taken : Bool) (name : List ℕ)
+pub record Opens {P F : Type 0} (calls : P → List ℕ → Result F Error → P → Type 0)
+    (before : P) (taken : Bool) (name : List ℕ)
     (Goes : P → Device F → Type 0) (Ends : P → Error → Type 0) : Type 0 where
   pub path : List ℕ
   pub is_path : IsPath taken name path
@@ -92,37 +95,46 @@ pub record Opens {P F : Type 0} (calls : P → List ℕ → Result F Error → P
   pub goes_on : GoesOn answer (Goes between) (Ends between)
 
 -- the command is performed on these devices, and nothing more is opened
-pub record PerformsOn {P F G I O E : Type 0} (command : Command) (of_first : F → Option (List ℕ)) (of_second : G → Option (List ℕ))
-    (state after : P) (first : Device F) (second : Device G) (input : Stream I) (output : Stream O) (errors : Stream E) (result : ℕ) : Type 0 where
+pub record PerformsOn {P F G I O E : Type 0} (command : Command)
+    (of_first : F → Option (List ℕ)) (of_second : G → Option (List ℕ))
+    (state after : P) (first : Device F) (second : Device G) (input : Stream I)
+        (output : Stream O) (errors : Stream E) (result : ℕ) : Type 0 where
   pub opened : after ≡ state
   pub first' : Device F
   pub second' : Device G
-  pub performs : Performs command (stream of_first first first') (stream of_second second second') input output errors result
+  pub performs : Performs command (stream of_first first first')
+      (stream of_second second second') input output errors result
 
 -- no file is opened after this state, and the run ends since the one before can't be
-pub record EndsAt {P I O E : Type 0} (state after : P) (input : Stream I) (output : Stream O) (errors : Stream E) (result : ℕ) (error : Error) : Type 0 where
+pub record EndsAt {P I O E : Type 0} (state after : P) (input : Stream I)
+    (output : Stream O) (errors : Stream E) (result : ℕ) (error : Error) : Type 0 where
   pub opened : after ≡ state
   pub refuses : RefusesFile error input output errors result
 
 -- the file that the command names second, if it names one, is opened, and the command performed on both
-abbrev pub RunsOnFirst : {P F N I O E : Type 0} → Command → Opener P F → (N → Option (List ℕ)) → Stream I → Stream O → Stream E → ℕ
+abbrev pub RunsOnFirst : {P F N I O E : Type 0} → Command → Opener P F
+    → (N → Option (List ℕ)) → Stream I → Stream O → Stream E → ℕ
     → Device F → Option (List ℕ) → Type 0
 RunsOnFirst {P} {F} {N} command opener of_none input output errors result first None =
-    (none : Device N) × PerformsOn command opener.bytes of_none opener.before opener.after first none input output errors result
+    (none : Device N) × PerformsOn command opener.bytes of_none
+        opener.before opener.after first none input output errors result
 RunsOnFirst command opener of_none input output errors result first (Some name) =
     Opens opener.calls opener.before (reads_input_of command) name
-    (λ between second. PerformsOn command opener.bytes opener.bytes between opener.after first second input output errors result)
+    (λ between second. PerformsOn command opener.bytes opener.bytes
+        between opener.after first second input output errors result)
     (λ between error. EndsAt between opener.after input output errors result error)
 
 -- The file that the command names first, if it names one, is opened, and then the second.
-abbrev pub RunsOnFiles : {P F N I O E : Type 0} → Command → Opener P F → (N → Option (List ℕ)) → Stream I → Stream O → Stream E → ℕ
+abbrev pub RunsOnFiles : {P F N I O E : Type 0} → Command → Opener P F
+    → (N → Option (List ℕ)) → Stream I → Stream O → Stream E → ℕ
     → Option (List ℕ) → Type 0
 RunsOnFiles {P} {F} {N} command opener of_none input output errors result None =
     (none : Device N) × (other : Device N)
     × PerformsOn command of_none of_none opener.before opener.after none other input output errors result
 RunsOnFiles command opener of_none input output errors result (Some name) =
     Opens opener.calls opener.before (reads_input_of command) name
-    (λ between first. RunsOnFirst command (opener_of opener.calls opener.bytes between opener.after) of_none input output errors result
+    (λ between first. RunsOnFirst command
+        (opener_of opener.calls opener.bytes between opener.after) of_none input output errors result
     first (second_file_of command))
     (λ between error. EndsAt between opener.after input output errors result error)
 
@@ -137,22 +149,26 @@ abbrev pub input_line : List ℕ
 input_line = codes "! Read" ++ 10 ∷ []
 
 -- an input that can't be read: no file is opened, and the errors say so
-pub record RefusesInput {P F O E : Type 0} (opener : Opener P F) (output : Stream O) (errors : Stream E) (result : ℕ) : Type 0 where
+pub record RefusesInput {P F O E : Type 0} (opener : Opener P F)
+    (output : Stream O) (errors : Stream E) (result : ℕ) : Type 0 where
   pub failed : result ≡ code_of status.Failed
   pub opened : opener.after ≡ opener.before
   pub printed : IsUntouched output
   pub said : Says errors input_line
 
 -- by what the input answered when it was asked for no bytes, the run goes on, or ends
-abbrev pub GoesOnWith : {P F N I O E : Type 0} → Command → Opener P F → (N → Option (List ℕ)) → (between : Device I) → Stream I → Stream O → Stream E → ℕ
+abbrev pub GoesOnWith : {P F N I O E : Type 0} → Command → Opener P F
+    → (N → Option (List ℕ)) → (between : Device I) → Stream I → Stream O → Stream E → ℕ
     → Result ℕ Error → Type 0
 GoesOnWith command opener of_none between input output errors result (Ok n) =
-    RunsOnFiles command opener of_none (stream input.bytes between input.after) output errors result (first_file_of command)
+    RunsOnFiles command opener of_none
+        (stream input.bytes between input.after) output errors result (first_file_of command)
 GoesOnWith command opener of_none between input output errors result (Err error) =
     (input.after ≡ between) × RefusesInput opener output errors result
 
 -- A command that reads the input asks it first for no bytes, which fails where it is closed.
-pub record AsksAndRuns {P F N I O E : Type 0} (command : Command) (opener : Opener P F) (of_none : N → Option (List ℕ)) (input : Stream I)
+pub record AsksAndRuns {P F N I O E : Type 0} (command : Command)
+    (opener : Opener P F) (of_none : N → Option (List ℕ)) (input : Stream I)
     (output : Stream O) (errors : Stream E) (result : ℕ) : Type 0 where
   pub answer : Result ℕ Error
   pub between : Device I
@@ -160,21 +176,25 @@ pub record AsksAndRuns {P F N I O E : Type 0} (command : Command) (opener : Open
   pub goes_on : GoesOnWith command opener of_none between input output errors result answer
 
 -- a run of a command: which files it opened in which order, and what it then did
-abbrev pub RunsCommand : {P F N I O E : Type 0} → Command → Opener P F → (N → Option (List ℕ)) → Stream I → Stream O → Stream E → ℕ
+abbrev pub RunsCommand : {P F N I O E : Type 0} → Command → Opener P F
+    → (N → Option (List ℕ)) → Stream I → Stream O → Stream E → ℕ
     → (reads_input : Bool) → Type 0
-RunsCommand command opener of_none input output errors result true = AsksAndRuns command opener of_none input output errors result
+RunsCommand command opener of_none input output errors result true =
+    AsksAndRuns command opener of_none input output errors result
 RunsCommand command opener of_none input output errors result false =
     RunsOnFiles command opener of_none input output errors result (first_file_of command)
 
 -- the words name a command, and it is run
-pub record RunsWords {P F N I O E : Type 0} (words : GivenWords) (opener : Opener P F) (of_none : N → Option (List ℕ)) (input : Stream I)
+pub record RunsWords {P F N I O E : Type 0} (words : GivenWords)
+    (opener : Opener P F) (of_none : N → Option (List ℕ)) (input : Stream I)
     (output : Stream O) (errors : Stream E) (result : ℕ) : Type 0 where
   pub command : Command
   pub names : NamesCommand words command
   pub runs : RunsCommand command opener of_none input output errors result (reads_input_of command)
 
 -- the words name none: nothing is opened or read, and the run says why
-pub record RefusesWords {P F I O E : Type 0} (words : GivenWords) (opener : Opener P F) (input : Stream I) (output : Stream O) (errors : Stream E)
+pub record RefusesWords {P F I O E : Type 0} (words : GivenWords)
+    (opener : Opener P F) (input : Stream I) (output : Stream O) (errors : Stream E)
     (result : ℕ) : Type 0 where
   pub why : WordsFault
   pub is_fault : IsProgramFault words why
@@ -183,6 +203,7 @@ pub record RefusesWords {P F I O E : Type 0} (words : GivenWords) (opener : Open
   pub reports : Reports why output errors result
 
 -- a run of the program: what it opened, read and wrote, and its exit status
-abbrev pub RunsProgram : {P F N I O E : Type 0} → GivenWords → Opener P F → (N → Option (List ℕ)) → Stream I → Stream O → Stream E → ℕ → Type 0
+abbrev pub RunsProgram : {P F N I O E : Type 0} → GivenWords → Opener P F
+    → (N → Option (List ℕ)) → Stream I → Stream O → Stream E → ℕ → Type 0
 RunsProgram words opener of_none input output errors result =
     RunsWords words opener of_none input output errors result ⊎ RefusesWords words opener input output errors result

@@ -45,8 +45,10 @@ pub record FailsCheck (reading : Reading) (condition : Condition) (number : ℕ)
 
 -- why the file holds no registry that passes; running out of memory aside
 abbrev pub IsRegistryRefusal : Reading → RegistryRefusal → Type 0
-IsRegistryRefusal reading (refusals.Jar fault) = (reading ≡ Err (faults.Jar fault)) × (fault.kind ≢ jar_kinds.OutOfMemory)
-IsRegistryRefusal reading (refusals.Record fault) = (reading ≡ Err (faults.Record fault)) × (fault.kind ≢ record_kinds.OutOfMemory)
+IsRegistryRefusal reading (refusals.Jar fault) =
+    (reading ≡ Err (faults.Jar fault)) × (fault.kind ≢ jar_kinds.OutOfMemory)
+IsRegistryRefusal reading (refusals.Record fault) =
+    (reading ≡ Err (faults.Record fault)) × (fault.kind ≢ record_kinds.OutOfMemory)
 IsRegistryRefusal reading (refusals.Check finding) = FailsCheck reading finding.condition finding.number
 IsRegistryRefusal reading refusals.OutOfMemory = Unit {0}
 
@@ -73,7 +75,8 @@ check_line code number = codes "check " ++ code ++ codes " record " ++ decimal n
 abbrev pub IsRegistryLine : RegistryRefusal → List ℕ → Type 0
 IsRegistryLine (refusals.Jar fault) line = line ≡ jar_line (jar_names.name_of fault.kind) fault.line
 IsRegistryLine (refusals.Record fault) line = line ≡ record_line fault.number (record_names.record_name_of fault.kind)
-IsRegistryLine (refusals.Check finding) line = line ≡ check_line (condition_codes.code_of finding.condition) finding.number
+IsRegistryLine (refusals.Check finding) line =
+    line ≡ check_line (condition_codes.code_of finding.condition) finding.number
 IsRegistryLine refusals.OutOfMemory line = ⊥
 
 -- how a run ends on such a fault: a file that could not be read to its end is no registry that was refused

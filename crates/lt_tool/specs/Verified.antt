@@ -59,10 +59,12 @@ PrintsVerdict verdict line end = (line ≡ verdict_line verdict) × (end ≡ ver
 -- the verdict is printed, or the errors say what ended the run before
 abbrev pub EndsVerifying : {O E : Type 0} → Printing → Stream O → Stream E → Result Verdict ToolFault → ℕ → Type 0
 EndsVerifying Prints output errors (Ok verdict) result = Prints (PrintsVerdict verdict)
-EndsVerifying Prints output errors (Err fault) result = IsUntouched output × Says errors (fault_said fault) × (result ≡ code_of status.Failed)
+EndsVerifying Prints output errors (Err fault) result =
+    IsUntouched output × Says errors (fault_said fault) × (result ≡ code_of status.Failed)
 
 -- the text is that of a valid tag, and the lines of the input were judged with it
-pub record VerifiesTag {I O E : Type 0} (Prints : Printing) (R : List EntryParts) (text : List ℕ) (input : Stream I) (output : Stream O) (errors : Stream E) (result : ℕ) : Type 0 where
+pub record VerifiesTag {I O E : Type 0} (Prints : Printing) (R : List EntryParts) (text : List ℕ)
+    (input : Stream I) (output : Stream O) (errors : Stream E) (result : ℕ) : Type 0 where
   pub tag : TagForm
   pub read : HasTag text tag
   pub valid : IsValid R tag
@@ -71,12 +73,14 @@ pub record VerifiesTag {I O E : Type 0} (Prints : Printing) (R : List EntryParts
   pub ends : EndsVerifying Prints output errors end result
 
 -- what a run did by a registry
-abbrev pub VerifiesText : {I O E : Type 0} → Printing → List EntryParts → List ℕ → Stream I → Stream O → Stream E → ℕ → Type 0
+abbrev pub VerifiesText : {I O E : Type 0} → Printing → List EntryParts
+    → List ℕ → Stream I → Stream O → Stream E → ℕ → Type 0
 VerifiesText Prints R text input output errors result =
     (IsUntouched input × Prints (RefusesTag R text)) ⊎ VerifiesTag Prints R text input output errors result
 
 -- the file holds a registry
-pub record VerifiesBy {I O E : Type 0} (Prints : Printing) (text : List ℕ) (reading : Reading) (input : Stream I) (output : Stream O) (errors : Stream E) (result : ℕ) : Type 0 where
+pub record VerifiesBy {I O E : Type 0} (Prints : Printing) (text : List ℕ) (reading : Reading)
+    (input : Stream I) (output : Stream O) (errors : Stream E) (result : ℕ) : Type 0 where
   pub entries : List EntryParts
   pub registry : HoldsRegistry reading entries
   pub verifies : VerifiesText Prints entries text input output errors result

@@ -30,11 +30,13 @@ memory_line = codes "! OutOfMemory" ++ 10 ∷ []
 
 -- A run prints a text to its output, and ends so; or the output failed, the front of the text is there, and the
 -- errors name it.
-pub record Prints {O E : Type 0} (output : Stream O) (errors : Stream E) (text : List ℕ) (end : Status) (result : ℕ) : Type 0 where
+pub record Prints {O E : Type 0} (output : Stream O) (errors : Stream E)
+    (text : List ℕ) (end : Status) (result : ℕ) : Type 0 where
   pub written : List ℕ
   pub appends : Appends (output.bytes (inner_of output.before)) (output.bytes (inner_of output.after)) written
   pub front : IsFrontOf written text
-  pub ends : ((result ≡ code_of end) × (written ≡ text) × (failures_of output.after ≡ failures_of output.before) × IsUntouched errors)
+  pub ends : ((result ≡ code_of end) × (written ≡ text)
+      × (failures_of output.after ≡ failures_of output.before) × IsUntouched errors)
       ⊎ ((result ≡ code_of status.Failed) × HasFailed output.before output.after × Says errors write_line)
 
 -- a run that had no memory for its answer

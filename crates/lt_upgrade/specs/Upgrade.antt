@@ -50,14 +50,16 @@ KeepsKind kinds.Redundant v = ⊥
 -- A subtag and its older value come to one end.
 abbrev pub KeepsEnds : List EntryParts → EntryParts → Type 0
 KeepsEnds B e =
-    (s v : List ℕ) → e.name ≡ names.Single s → one_of e.value ≡ Some v → KeepsKind e.kind v → SameEnd (next_value B e.kind) s v
+    (s v : List ℕ) → e.name ≡ names.Single s → one_of e.value ≡ Some v
+        → KeepsKind e.kind v → SameEnd (next_value B e.kind) s v
 
 -- the entry of the same extlang in the newer registry
 pub record IsSameExtlang (B : List EntryParts) (e : EntryParts) (s : List ℕ) : Type 0 where
   pub newer : EntryParts
   pub there : entry B kinds.Extlang s ≡ Some newer
   pub prefixes : newer.prefixes ≡ e.prefixes
-  pub ends : SameEnd (preferred_value B kinds.Language) (unwrap_or (one_of e.value) s) (unwrap_or (one_of newer.value) s)
+  pub ends : SameEnd (preferred_value B kinds.Language)
+      (unwrap_or (one_of e.value) s) (unwrap_or (one_of newer.value) s)
 
 -- An extlang keeps its Prefix and the end of its replacement.
 abbrev pub KeepsExtlang : List EntryParts → EntryParts → Type 0
@@ -131,5 +133,6 @@ pub record IsAtUpgradeFault (A B : List EntryParts) (condition : UpgradeConditio
 -- the lowest condition that fails, and there the lowest record at fault
 pub record IsUpgradeFinding (A B : List EntryParts) (condition : UpgradeCondition) (number : ℕ) : Type 0 where
   pub fault : IsAtUpgradeFault A B condition number
-  pub lower : (other : UpgradeCondition) → upgrade_rank_of other < upgrade_rank_of condition → All (MeetsUpgrade other A B) (records_of other A B)
+  pub lower : (other : UpgradeCondition) → upgrade_rank_of other < upgrade_rank_of condition
+      → All (MeetsUpgrade other A B) (records_of other A B)
   pub first : (other : ℕ) → IsAtUpgradeFault A B condition other → number ≤ other

@@ -51,7 +51,8 @@ upgrade_fault_name_of faults.OutOfMemory = codes "OutOfMemory"
 
 -- the name is a range of the same length that goes from a first to a last at least
 abbrev pub covers : EntryName → List ℕ → List ℕ → Bool
-covers (names.Range low high) first last = (length low == length first) && (letters_le low first && letters_le last high)
+covers (names.Range low high) first last =
+    (length low == length first) && (letters_le low first && letters_le last high)
 covers _ first last = false
 
 -- a record of the kind names such a range

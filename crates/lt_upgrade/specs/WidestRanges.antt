@@ -19,7 +19,8 @@ range_end kind subtag = record { kind = kind_number kind; length = length subtag
 
 -- the order of ends: by the kind, then the length, then the letters
 abbrev pub end_cmp : RangeEnd → RangeEnd → Ordering
-end_cmp a b = ordering_then (nat_cmp a.kind b.kind) (ordering_then (nat_cmp a.length b.length) (slice_cmp nat_cmp a.subtag b.subtag))
+end_cmp a b = ordering_then (nat_cmp a.kind b.kind)
+    (ordering_then (nat_cmp a.length b.length) (slice_cmp nat_cmp a.subtag b.subtag))
 
 -- the end is the other or is before it
 abbrev pub is_up_to : RangeEnd → RangeEnd → Bool
@@ -42,7 +43,8 @@ range_rows (e ∷ es) = cons_option (range_row e.kind e.name) (range_rows es)
 -- neither end of a range is before that of an earlier one
 abbrev pub EndsRise : List RangeRow → Type 0
 EndsRise [] = Unit {0}
-EndsRise (v ∷ rows) = AllByRecursion (λ (w : RangeRow). (is_up_to v.first w.first ≡ true) × (is_up_to v.last w.last ≡ true)) rows × EndsRise rows
+EndsRise (v ∷ rows) = AllByRecursion
+    (λ (w : RangeRow). (is_up_to v.first w.first ≡ true) × (is_up_to v.last w.last ≡ true)) rows × EndsRise rows
 
 -- one of the ranges contains what a record of entries covers, and nothing else
 abbrev pub HoldRanges : List EntryParts → List RangeRow → Type 0

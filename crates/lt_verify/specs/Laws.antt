@@ -11,11 +11,13 @@ use Rattle.lt_verify.specs.declared.verdicts.Verdict.TheVariants as verdicts
 
 -- lines have one verdict
 abbrev pub HaveOneVerdict : List EntryParts → Type 0
-HaveOneVerdict R = (t : TagForm) (lines : List (List ℕ)) (v w : Verdict) → IsVerdict R t lines v → IsVerdict R t lines w → v ≡ w
+HaveOneVerdict R =
+    (t : TagForm) (lines : List (List ℕ)) (v w : Verdict) → IsVerdict R t lines v → IsVerdict R t lines w → v ≡ w
 
 -- the text of the explanation of a tag is right (RFC 5646, 4.5)
 abbrev pub ExplanationsAreRight : List EntryParts → Type 0
-ExplanationsAreRight R = (text printed : List ℕ) (t : TagForm) → HasTag text t → IsExplanationTextOf R text printed → IsVerdict R t (lines_of printed) verdicts.Right
+ExplanationsAreRight R = (text printed : List ℕ) (t : TagForm) → HasTag text t
+    → IsExplanationTextOf R text printed → IsVerdict R t (lines_of printed) verdicts.Right
 
 -- each record's number has 32 bits, as that of an entry
 abbrev pub NumbersFit : List EntryParts → Type 0

@@ -63,7 +63,8 @@ pub record Explain (R : List EntryParts) (t : TagForm) (lines : List (List ℕ))
   pub all : lines ≡ steps ++ end_line (text_of end) ∷ []
 
 -- the lines before that of this number, counted from 1, lead to a tag of which this holds with the line
-pub record StopsAt (R : List EntryParts) (t : TagForm) (lines : List (List ℕ)) (n : ℕ) (Holds : TagForm → List ℕ → Type 0) : Type 0 where
+pub record StopsAt (R : List EntryParts) (t : TagForm) (lines : List (List ℕ))
+    (n : ℕ) (Holds : TagForm → List ℕ → Type 0) : Type 0 where
   pub before : List (List ℕ)
   pub line : List ℕ
   pub after : List (List ℕ)

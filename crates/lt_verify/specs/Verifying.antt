@@ -20,16 +20,20 @@ abbrev pub IsVerdictOf : List EntryParts → TagForm → Verdict → List ℕ �
 IsVerdictOf R t v bytes = IsVerdict R t (lines_of bytes) v
 
 -- how a run ended: the verdict is that of all that the reader gives, whatever follows what was read
-abbrev pub EndsAs : {I : Type 0} → List EntryParts → TagForm → (I → Option (List ℕ)) → (input input' : Device I) → ℕ → List ℕ
+abbrev pub EndsAs : {I : Type 0} → List EntryParts → TagForm
+    → (I → Option (List ℕ)) → (input input' : Device I) → ℕ → List ℕ
     → Result Verdict ToolFault → Type 0
-EndsAs R t remaining input input' reads read (Ok v) = HoldsOfWhole (IsVerdictOf R t v) (IsAtEnd (remaining (inner_of input'))) read
+EndsAs R t remaining input input' reads read (Ok v) =
+    HoldsOfWhole (IsVerdictOf R t v) (IsAtEnd (remaining (inner_of input'))) read
 EndsAs R t remaining input input' reads read (Err faults.Read) = HasFailed input input'
-EndsAs R t remaining input input' reads read (Err faults.TooManyTurns) = (reads ≡ most_reads) × (0 < last_given_of input')
+EndsAs R t remaining input input' reads read (Err faults.TooManyTurns) =
+    (reads ≡ most_reads) × (0 < last_given_of input')
 EndsAs R t remaining input input' reads read (Err faults.Write) = ⊥
 EndsAs R t remaining input input' reads read (Err faults.OutOfMemory) = Unit {0}
 
 -- a run over the lines of a reader, which are to explain a tag
-pub record VerifiesLines {I : Type 0} (R : List EntryParts) (t : TagForm) (remaining : I → Option (List ℕ)) (input input' : Device I)
+pub record VerifiesLines {I : Type 0} (R : List EntryParts) (t : TagForm)
+    (remaining : I → Option (List ℕ)) (input input' : Device I)
     (result : Result Verdict ToolFault) : Type 0 where
   pub read : List ℕ
   pub reads : ℕ
@@ -64,7 +68,8 @@ pub record GoesOn (R : List EntryParts) (old new : Following) : Type 0 where
   pub proper : IsProperIf R new.here
   pub emptied : new.kept.items ≡ []
   pub counted : new.number ≡ old.number + 1
-  pub follows : (lines : List (List ℕ)) (v : Verdict) → Judges R new.number new.here lines v → Judges R old.number old.here (old.kept.items ∷ lines) v
+  pub follows : (lines : List (List ℕ)) (v : Verdict) → Judges R new.number new.here lines v
+      → Judges R old.number old.here (old.kept.items ∷ lines) v
 
 -- this is judged of the line that is kept, whatever follows, or it goes on
 abbrev pub JudgesKept : List EntryParts → (old new : Following) → Option Verdict → Type 0
@@ -74,7 +79,8 @@ JudgesKept R old new (Some v) = (lines : List (List ℕ)) → Judges R old.numbe
 -- this is judged of a line of which this is kept, if anything is, however it goes on; or it is not too long to be kept
 abbrev pub SettlesKept : List EntryParts → Following → Option Verdict → Type 0
 SettlesKept R state None = KeepsFew R state.here (length state.kept.items)
-SettlesKept R state (Some v) = (more : List ℕ) → IsOneLine state.kept.items → Judges R state.number state.here (lines_of (state.kept.items ++ more)) v
+SettlesKept R state (Some v) = (more : List ℕ) → IsOneLine state.kept.items
+    → Judges R state.number state.here (lines_of (state.kept.items ++ more)) v
 
 -- bytes were taken: the line that is kept goes on so, and more bytes are judged as they are after these
 pub record Takes (R : List EntryParts) (piece : List ℕ) (old new : Following) : Type 0 where
@@ -88,7 +94,8 @@ pub record Takes (R : List EntryParts) (piece : List ℕ) (old new : Following) 
 -- this is judged whatever follows the bytes, or they were taken and no more of a line is kept than the right one has
 abbrev pub TakesPiece : List EntryParts → List ℕ → (old new : Following) → Option Verdict → Type 0
 TakesPiece R piece old new None = Takes R piece old new × KeepsFew R new.here (length new.kept.items)
-TakesPiece R piece old new (Some v) = (more : List ℕ) → IsOneLine old.kept.items → Judges R old.number old.here (lines_of (old.kept.items ++ (piece ++ more))) v
+TakesPiece R piece old new (Some v) = (more : List ℕ) → IsOneLine old.kept.items
+    → Judges R old.number old.here (lines_of (old.kept.items ++ (piece ++ more))) v
 
 -- this is judged where nothing follows
 abbrev pub JudgesEnd : List EntryParts → Following → Verdict → Type 0

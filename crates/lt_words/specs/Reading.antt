@@ -36,7 +36,8 @@ abbrev pub AreValues : Command → List Text → Type 0
 AreValues (command.Classify tag) texts = texts ≡ string_bytes tag ∷ []
 AreValues (command.Check file) texts = texts ≡ string_bytes file ∷ []
 AreValues (command.Canon file) texts = texts ≡ string_bytes file ∷ []
-AreValues (command.Tsv file column) texts = (text : Text) × IsColumn text column × (texts ≡ string_bytes file ∷ text ∷ [])
+AreValues (command.Tsv file column) texts =
+    (text : Text) × IsColumn text column × (texts ≡ string_bytes file ∷ text ∷ [])
 AreValues (command.Extlang file tag) texts = texts ≡ string_bytes file ∷ string_bytes tag ∷ []
 AreValues (command.Equal file tag other) texts = texts ≡ string_bytes file ∷ string_bytes tag ∷ string_bytes other ∷ []
 AreValues (command.Explain file tag) texts = texts ≡ string_bytes file ∷ string_bytes tag ∷ []
@@ -137,5 +138,6 @@ abbrev pub IsFaultOf : ErrorKind → Option (List ℕ) → WordsFault → Type 0
 IsFaultOf k printed (fault.Help text) = (k ≡ kind.DisplayHelp) × IsPrinted printed (string_bytes text)
 IsFaultOf k printed (fault.Version text) = (k ≡ kind.DisplayVersion) × IsPrinted printed (string_bytes text)
 IsFaultOf k printed (fault.Usage text) =
-    (k ≡ kind.DisplayHelp → ⊥) × (k ≡ kind.DisplayVersion → ⊥) × (k ≡ kind.OutOfMemory → ⊥) × IsPrinted printed (string_bytes text)
+    (k ≡ kind.DisplayHelp → ⊥) × (k ≡ kind.DisplayVersion → ⊥)
+        × (k ≡ kind.OutOfMemory → ⊥) × IsPrinted printed (string_bytes text)
 IsFaultOf k printed fault.OutOfMemory = ⊤
