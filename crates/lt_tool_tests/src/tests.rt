@@ -4,31 +4,88 @@ mod hostile;
 mod program;
 mod registries;
 mod rows;
-mod sample;
 mod tags;
 mod upgrades;
 mod verified;
 
+use lt_canon::Checked;
 use lt_jar::Device;
-use lt_tool::{Command, Status, ToolFault, WordsFault, perform, read_words, report, report_file};
+use lt_registry::SortedTable;
+use lt_test_tables::sorted_sample;
+use lt_tool::{
+    Command, Counts, LineForm, Status, ToolFault, WordsFault, perform, read_words, report,
+    report_file, run_lines,
+};
 use std::alloc::{AllocError, Global};
-use std::io::{self, ErrorKind, Write};
+use std::io::{self, ErrorKind, Read, Write};
 use std::test::Fail;
+
+/// Puts a word after the others.
+fn push_word(alloc: Global, all: &mut Vec<String>, word: &str) -> Result<(), AllocError> {
+    Ok(all.push(String::from_str(alloc, word)?)?)
+}
 
 /// The program's name, and the words after it.
 fn command_line(alloc: Global, words: &[&str]) -> Result<Vec<String>, AllocError> {
     let mut all = Vec::new(alloc);
-    all.push(String::from_str(alloc, "langtag")?)?;
+    push_word(alloc, &mut all, "langtag")?;
     for word in words {
-        all.push(String::from_str(alloc, word)?)?;
+        push_word(alloc, &mut all, word)?;
     }
     Ok(all)
+}
+
+/// What `read_words` answers to words.
+fn read_all(alloc: Global, all: &[String]) -> Result<Command, WordsFault> {
+    read_words(alloc, all)
 }
 
 /// What `read_words` answers to the words after the program's name.
 fn read(alloc: Global, words: &[&str]) -> Result<Command, WordsFault> {
     let all = command_line(alloc, words)?;
-    read_words(alloc, &all)
+    read_all(alloc, &all)
+}
+
+/// How a command ends on these files, this input and these writers.
+fn ends<F: Read + Drop, G: Read + Drop, I: Read + Drop, O: Write, E: Write>(
+    alloc: Global,
+    command: &Command,
+    files: (F, G),
+    input: I,
+    output: &mut O,
+    errors: &mut E,
+) -> u8 {
+    perform(
+        alloc,
+        command,
+        &mut Device::new(files.0),
+        &mut Device::new(files.1),
+        &mut Device::new(input),
+        &mut Device::new(output),
+        &mut Device::new(errors),
+    )
+}
+
+/// How a run over the lines of a reader ends, and what a writer has then.
+fn answer_lines<R: Read + Drop, W: Write>(
+    alloc: Global,
+    checked: &Checked<SortedTable>,
+    form: LineForm,
+    reader: R,
+    writer: &mut W,
+) -> Result<Counts, ToolFault> {
+    let mut output = Device::new(writer);
+    run_lines(alloc, checked, form, &mut Device::new(reader), &mut output)
+}
+
+/// The sample, which passes the check.
+fn checked_sample(alloc: Global) -> Result<Checked<SortedTable>, Fail> {
+    for _ in 0..2 {
+        if let Ok(checked) = Checked::new(alloc, sorted_sample(alloc)?) {
+            return Ok(checked);
+        }
+    }
+    Err(Fail::from("the sample does not pass"))
 }
 
 /// Words of `classify`, and the tag that they name.
@@ -168,15 +225,8 @@ fn prints(
         return false;
     };
     let (mut output, mut errors) = (Vec::new(alloc), Vec::new(alloc));
-    let end = perform(
-        alloc,
-        &command,
-        &mut Device::new(file),
-        &mut Device::new(NO_FILE),
-        &mut Device::new(lines),
-        &mut Device::new(&mut output),
-        &mut Device::new(&mut errors),
-    );
+    let files = (file, NO_FILE);
+    let end = ends(alloc, &command, files, lines, &mut output, &mut errors);
     end == status && errors.is_empty() && output.as_slice() == shown.as_bytes()
 }
 
@@ -269,14 +319,14 @@ impl Write for Broken {
 
 /// The status of a command whose output is broken.
 fn perform_broken<E: Write>(alloc: Global, command: &Command, fails: bool, errors: &mut E) -> u8 {
-    perform(
+    let mut output = Broken { fails };
+    ends(
         alloc,
         command,
-        &mut Device::new(NO_FILE),
-        &mut Device::new(NO_FILE),
-        &mut Device::new(io::empty()),
-        &mut Device::new(Broken { fails }),
-        &mut Device::new(errors),
+        (NO_FILE, NO_FILE),
+        io::empty(),
+        &mut output,
+        errors,
     )
 }
 

@@ -1,60 +1,15 @@
 //! What a run does where a growth of memory is refused. `bench/growth.py` runs each test here once for each
 //! growth in it, and refuses that one alone; the gate refuses none. So a call that is not itself under test is
 //! made twice where it is refused.
-use super::registries::{LINES, OWED, checked};
-use super::sample::sample_text;
-use super::{command_line, read};
+use super::registries::{LINES, OWED};
+use super::{answer_lines, checked_sample, command_line, ends, read};
 use lt_canon::Checked;
-use lt_jar::Device;
 use lt_registry::SortedTable;
-use lt_tool::{Command, Counts, LineForm, ToolFault, WordsFault, perform, read_words, run_lines};
+use lt_testing::{answers, sample_text, shown, twice};
+use lt_tool::{Command, Counts, LineForm, ToolFault, WordsFault, read_words};
 use std::alloc::{AllocError, Global};
-use std::fmt::Debug;
 use std::io::Cursor;
 use std::test::Fail;
-
-/// What a call answers, which is made again where it was refused.
-fn twice<T, E: Drop, C: Fn() -> Result<T, E>>(call: C) -> Result<T, E>
-    requires { C.IsAlwaysCallable call }
-{
-    match call() {
-        Ok(value) => Ok(value),
-        Err(_) => call(),
-    }
-}
-
-/// A value as text.
-fn shown<T: Debug>(alloc: Global, value: &T) -> Result<String, AllocError> {
-    match format!(in alloc; "{value:?}") {
-        Ok(text) => Ok(text),
-        Err(_) => format!(in alloc; "{value:?}"),
-    }
-}
-
-/// Whether a call gives its answer, and leaves its arguments as they were; and where it tells that a growth was
-/// refused, whether it leaves them as well, and gives its answer when it is made again.
-fn answers<A, T, C, P, R>(
-    alloc: Global,
-    arguments: &A,
-    call: C,
-    is_answer: P,
-    is_refusal: R,
-) -> Result<bool, AllocError>
-where
-    A: Debug,
-    T: Drop,
-    C: Fn() -> T,
-    P: Fn(&T) -> bool,
-    R: Fn(&T) -> bool,
-    requires call { C.IsAlwaysCallable call }
-    requires answer { P.IsAlwaysCallable is_answer }
-    requires refusal { R.IsAlwaysCallable is_refusal }
-{
-    let before = shown(alloc, arguments)?;
-    let answer = call();
-    let is_kept = shown(alloc, arguments)?.as_str() == before.as_str();
-    Ok(is_kept && (is_answer(&answer) || (is_refusal(&answer) && is_answer(&call()))))
-}
 
 /// Room for what a run writes, which then takes no memory for it.
 type Page = Cursor<[u8; 128]>;
@@ -70,33 +25,16 @@ fn text_of(page: &Page) -> &[u8] {
     page.get_ref().get(..length).unwrap_or(&[])
 }
 
-/// The sample, which passes the check.
-fn sample(alloc: Global) -> Result<Checked<SortedTable>, Fail> {
-    for _ in 0..2 {
-        if let Ok(Some(checked)) = checked(alloc) {
-            return Ok(checked);
-        }
-    }
-    Err(Fail::from("the sample does not pass"))
-}
-
 /// How a run over the lines ends, and what it wrote.
 fn run(alloc: Global, checked: &Checked<SortedTable>) -> (Result<Counts, ToolFault>, Page) {
     let mut page = empty_page();
-    let mut output = Device::new(&mut page);
-    let end = run_lines(
-        alloc,
-        checked,
-        LineForm::Tag,
-        &mut Device::new(LINES),
-        &mut output,
-    );
+    let end = answer_lines(alloc, checked, LineForm::Tag, LINES, &mut page);
     (end, page)
 }
 
 #[test]
 fn lines_are_answered(rt: HostRuntime) -> Result<(), Fail> {
-    let checked = sample(rt.alloc())?;
+    let checked = checked_sample(rt.alloc())?;
     let is_answered = answers(
         rt.alloc(),
         checked.table(),
@@ -121,15 +59,13 @@ const OWED_ROWS: &str = "1\tyue\tx\t\r\n2\tfr\tUnknownLanguage 1\n3\tNoColumn\n4
 /// How a run over the rows ends, and what it wrote.
 fn run_rows(alloc: Global, checked: &Checked<SortedTable>) -> (Result<Counts, ToolFault>, Page) {
     let mut page = empty_page();
-    let mut output = Device::new(&mut page);
-    let mut input = Device::new(ROWS);
-    let end = run_lines(alloc, checked, LineForm::Row(1), &mut input, &mut output);
+    let end = answer_lines(alloc, checked, LineForm::Row(1), ROWS, &mut page);
     (end, page)
 }
 
 #[test]
 fn rows_are_answered(rt: HostRuntime) -> Result<(), Fail> {
-    let checked = sample(rt.alloc())?;
+    let checked = checked_sample(rt.alloc())?;
     let is_answered = answers(
         rt.alloc(),
         checked.table(),
@@ -158,15 +94,8 @@ struct Ended {
 /// How a command on files of this text ends, with the lines as its input.
 fn perform_on(alloc: Global, command: &Command, file: &str) -> Ended {
     let (mut output, mut errors) = (empty_page(), empty_page());
-    let status = perform(
-        alloc,
-        command,
-        &mut Device::new(file.as_bytes()),
-        &mut Device::new(file.as_bytes()),
-        &mut Device::new(LINES),
-        &mut Device::new(&mut output),
-        &mut Device::new(&mut errors),
-    );
+    let files = (file.as_bytes(), file.as_bytes());
+    let status = ends(alloc, command, files, LINES, &mut output, &mut errors);
     Ended {
         status,
         output,
@@ -210,7 +139,7 @@ fn prints_of_sample(
     printed: &str,
     status: u8,
 ) -> Result<bool, Fail> {
-    let file = twice(|| sample_text(alloc, "\n", ""))?;
+    let file = twice(|| sample_text(alloc))?;
     prints(alloc, words, &file, printed, status)
 }
 

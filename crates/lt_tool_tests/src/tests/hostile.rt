@@ -1,34 +1,21 @@
 //! Input that ends early or never, lines that are too long, and devices that fail at each of their calls.
-use super::registries::{LINES, OWED, checked, prints_of_reader};
-use super::sample::sample_text;
-use super::{NO_FILE, long_text, read};
+use super::registries::{LINES, OWED, prints_of_reader};
+use super::{NO_FILE, answer_lines, checked_sample, ends, long_text, read};
 use lt_canon::Checked;
-use lt_jar::{Device, Pieces, Takes};
+use lt_jar::{Pieces, Takes};
 use lt_registry::SortedTable;
-use lt_tool::{Command, Counts, LineForm, ToolFault, perform, run_lines};
+use lt_testing::sample_text;
+use lt_tool::{Command, Counts, LineForm, ToolFault};
 use std::alloc::{AllocError, Global};
 use std::io::{Read, Write};
 use std::test::Fail;
 
-/// The sample, which passes the check.
-fn sample(alloc: Global) -> Result<Checked<SortedTable>, Fail> {
-    match checked(alloc)? {
-        Some(checked) => Ok(checked),
-        None => Err(Fail::from("the sample does not pass")),
-    }
-}
-
 #[test]
 fn a_line_without_end(rt: HostRuntime) -> Result<(), Fail> {
-    let checked = sample(rt.alloc())?;
+    let checked = checked_sample(rt.alloc())?;
     let mut output = Vec::new(rt.alloc());
-    let end = run_lines(
-        rt.alloc(),
-        &checked,
-        LineForm::Tag,
-        &mut Device::new(Pieces::for_ever(b"a", 1)),
-        &mut Device::new(&mut output),
-    );
+    let reader = Pieces::for_ever(b"a", 1);
+    let end = answer_lines(rt.alloc(), &checked, LineForm::Tag, reader, &mut output);
     assert!(rt; matches!(end, Err(ToolFault::TooManyTurns)));
     assert!(rt; output.is_empty());
     Ok(())
@@ -46,18 +33,13 @@ fn long_lines(alloc: Global, tag: &str) -> Result<String, AllocError> {
 
 #[test]
 fn a_line_that_is_too_long(rt: HostRuntime) -> Result<(), Fail> {
-    let checked = sample(rt.alloc())?;
+    let checked = checked_sample(rt.alloc())?;
     let tag = long_text(rt.alloc(), "en-x", "-aa")?;
     let lines = long_lines(rt.alloc(), &tag)?;
     let owed = format!(in rt.alloc(); "{tag}\n! TooLong 0\n")?;
     let mut output = Vec::new(rt.alloc());
-    let end = run_lines(
-        rt.alloc(),
-        &checked,
-        LineForm::Tag,
-        &mut Device::new(lines.as_bytes()),
-        &mut Device::new(&mut output),
-    );
+    let reader = lines.as_bytes();
+    let end = answer_lines(rt.alloc(), &checked, LineForm::Tag, reader, &mut output);
     assert!(rt; is_end(&end, 2, 1));
     assert!(rt; output.as_slice() == owed.as_bytes());
     Ok(())
@@ -74,14 +56,7 @@ fn run_into(
     checked: &Checked<SortedTable>,
     writer: &mut Takes,
 ) -> Result<Counts, ToolFault> {
-    let mut output = Device::new(writer);
-    run_lines(
-        alloc,
-        checked,
-        LineForm::Tag,
-        &mut Device::new(LINES),
-        &mut output,
-    )
+    answer_lines(alloc, checked, LineForm::Tag, LINES, writer)
 }
 
 /// Whether `canon` over a reader and a writer fails, and says this to the errors.
@@ -96,15 +71,8 @@ fn canon_fails<R: Read + Drop, W: Write>(
         return false;
     };
     let mut errors = Vec::new(alloc);
-    let end = perform(
-        alloc,
-        &command,
-        &mut Device::new(registry.as_bytes()),
-        &mut Device::new(NO_FILE),
-        &mut Device::new(reader),
-        &mut Device::new(writer),
-        &mut Device::new(&mut errors),
-    );
+    let files = (registry.as_bytes(), NO_FILE);
+    let end = ends(alloc, &command, files, reader, writer, &mut errors);
     end == 4 && errors.as_slice() == said
 }
 
@@ -124,7 +92,7 @@ fn narrow(alloc: Global, call: u64, fails: bool) -> Takes {
 
 #[test]
 fn three_bytes_at_a_time(rt: HostRuntime) -> Result<(), Fail> {
-    let checked = sample(rt.alloc())?;
+    let checked = checked_sample(rt.alloc())?;
     let mut writer = narrow(rt.alloc(), WRITES.saturating_add(1), true);
     let end = run_into(rt.alloc(), &checked, &mut writer);
     assert!(rt; is_end(&end, 4, 2));
@@ -151,8 +119,8 @@ fn stops_at_write(
 
 #[test]
 fn each_write_of_a_run_failing(rt: HostRuntime) -> Result<(), Fail> {
-    let checked = sample(rt.alloc())?;
-    let registry = sample_text(rt.alloc(), "\n", "")?;
+    let checked = checked_sample(rt.alloc())?;
+    let registry = sample_text(rt.alloc())?;
     for call in 1..=WRITES {
         assert!(rt;
             stops_at_write(rt.alloc(), &checked, &registry, call, true),
@@ -189,14 +157,7 @@ fn stops_at_read(
 ) -> bool {
     let reader = || Pieces::once(LINES, 4).failing_at(call);
     let mut written = Vec::new(alloc);
-    let mut output = Device::new(&mut written);
-    let end = run_lines(
-        alloc,
-        checked,
-        LineForm::Tag,
-        &mut Device::new(reader()),
-        &mut output,
-    );
+    let end = answer_lines(alloc, checked, LineForm::Tag, reader(), &mut written);
     let mut printed = Vec::new(alloc);
     matches!(end, Err(ToolFault::Read))
         && written.as_slice() == owed.as_bytes()
@@ -206,8 +167,8 @@ fn stops_at_read(
 
 #[test]
 fn each_read_of_a_run_failing(rt: HostRuntime) -> Result<(), Fail> {
-    let checked = sample(rt.alloc())?;
-    let registry = sample_text(rt.alloc(), "\n", "")?;
+    let checked = checked_sample(rt.alloc())?;
+    let registry = sample_text(rt.alloc())?;
     for (call, owed) in &READS {
         assert!(rt;
             stops_at_read(rt.alloc(), &checked, &registry, *call, owed),
@@ -220,22 +181,15 @@ fn each_read_of_a_run_failing(rt: HostRuntime) -> Result<(), Fail> {
 /// Whether the command, `check`, passes the bytes of a file, or refuses them as a registry.
 fn is_judged(alloc: Global, command: &Command, file: &[u8]) -> bool {
     let (mut output, mut errors) = (Vec::new(alloc), Vec::new(alloc));
-    let end = perform(
-        alloc,
-        command,
-        &mut Device::new(file),
-        &mut Device::new(NO_FILE),
-        &mut Device::new(NO_FILE),
-        &mut Device::new(&mut output),
-        &mut Device::new(&mut errors),
-    );
+    let files = (file, NO_FILE);
+    let end = ends(alloc, command, files, NO_FILE, &mut output, &mut errors);
     let wanted = if output.starts_with(b"ok ") { 0 } else { 2 };
     end == wanted && errors.is_empty()
 }
 
 #[test]
 fn each_front_of_a_registry(rt: HostRuntime) -> Result<(), Fail> {
-    let registry = sample_text(rt.alloc(), "\n", "")?;
+    let registry = sample_text(rt.alloc())?;
     let Ok(command) = read(rt.alloc(), &["check", "registry"]) else {
         panic!(rt; "no command");
     };

@@ -1,10 +1,10 @@
 //! The commands that read a registry: `check` and `canon`.
-use super::sample::{FOLDED, push_record, sample_text};
-use super::{NO_FILE, prints, read};
+use super::{NO_FILE, answer_lines, checked_sample, ends, prints, read};
 use lt_canon::Checked;
-use lt_jar::{Device, Pieces, read_jar};
-use lt_registry::{Registry, SortedTable};
-use lt_tool::{LineForm, ToolFault, perform, run_lines};
+use lt_jar::{Device, Pieces};
+use lt_registry::SortedTable;
+use lt_testing::{push_record, returned_text, sample_text};
+use lt_tool::{LineForm, ToolFault, perform};
 use std::alloc::{AllocError, Global};
 use std::io::{self, ErrorKind, Write};
 use std::test::Fail;
@@ -29,7 +29,7 @@ fn prints_of(
 
 #[test]
 fn registries_that_pass(rt: HostRuntime) -> Result<(), Fail> {
-    let sample = sample_text(rt.alloc(), "\n", "")?;
+    let sample = sample_text(rt.alloc())?;
     assert!(rt; prints_of(rt.alloc(), "check", sample.as_bytes(), b"", "ok 46\n", 0));
     assert!(rt; prints_of(rt.alloc(), "check", b"", b"", "ok 0\n", 0));
     Ok(())
@@ -47,7 +47,7 @@ fn passes_without_end(alloc: Global, file: &str) -> bool {
 
 #[test]
 fn carriage_returns_and_no_last_line_end(rt: HostRuntime) -> Result<(), Fail> {
-    let text = sample_text(rt.alloc(), "\r\n", FOLDED)?;
+    let text = returned_text(rt.alloc())?;
     assert!(rt; passes_without_end(rt.alloc(), &text));
     Ok(())
 }
@@ -62,7 +62,7 @@ fn is_refused(alloc: Global, file: &str, line: &str) -> bool {
 fn registries_that_are_refused(rt: HostRuntime) -> Result<(), Fail> {
     assert!(rt; is_refused(rt.alloc(), "abc", "jar BadLine line 1\n"));
     assert!(rt; is_refused(rt.alloc(), "Subtag: en", "record 1 MissingType\n"));
-    let mut repeated = sample_text(rt.alloc(), "\n", "")?;
+    let mut repeated = sample_text(rt.alloc())?;
     push_record(&mut repeated, &("language", "de", "", ""), "\n")?;
     assert!(rt; is_refused(rt.alloc(), &repeated, "check C1 record 48\n"));
     Ok(())
@@ -70,7 +70,7 @@ fn registries_that_are_refused(rt: HostRuntime) -> Result<(), Fail> {
 
 #[test]
 fn lines_are_answered(rt: HostRuntime) -> Result<(), Fail> {
-    let sample = sample_text(rt.alloc(), "\n", "")?;
+    let sample = sample_text(rt.alloc())?;
     assert!(rt; prints_of(rt.alloc(), "canon", sample.as_bytes(), LINES, OWED, 1));
     assert!(rt;
         prints_of(
@@ -83,21 +83,6 @@ fn lines_are_answered(rt: HostRuntime) -> Result<(), Fail> {
         )
     );
     Ok(())
-}
-
-/// The sample, if it passes the check.
-pub fn checked(alloc: Global) -> Result<Option<Checked<SortedTable>>, AllocError> {
-    let sample = sample_text(alloc, "\n", "")?;
-    let Ok(jar) = read_jar(alloc, sample.as_bytes()) else {
-        return Ok(None);
-    };
-    let Ok(registry) = Registry::from_records(alloc, &jar.records) else {
-        return Ok(None);
-    };
-    let Ok(table) = SortedTable::new(alloc, registry) else {
-        return Ok(None);
-    };
-    Ok(Checked::new(alloc, table).ok())
 }
 
 /// The length of the pieces that a reader gives, the call at which it fails, what is written of a run over its
@@ -123,25 +108,16 @@ fn answers(
     at_end: bool,
 ) -> bool {
     let mut output = Vec::new(alloc);
-    let mut input = Device::new(reader);
-    let ends = match run_lines(
-        alloc,
-        checked,
-        LineForm::Tag,
-        &mut input,
-        &mut Device::new(&mut output),
-    ) {
+    let is_end = match answer_lines(alloc, checked, LineForm::Tag, reader, &mut output) {
         Ok(counts) => at_end && counts.lines == 4 && counts.refused == 2,
         Err(fault) => !at_end && fault == ToolFault::Read,
     };
-    ends && output.as_slice() == owed.as_bytes()
+    is_end && output.as_slice() == owed.as_bytes()
 }
 
 #[test]
 fn lines_in_pieces(rt: HostRuntime) -> Result<(), Fail> {
-    let Some(checked) = checked(rt.alloc())? else {
-        panic!(rt; "the sample does not pass");
-    };
+    let checked = checked_sample(rt.alloc())?;
     for (piece, call, owed, at_end) in &READS {
         let reader = Pieces::once(LINES, *piece).failing_at(*call);
         assert!(rt; answers(rt.alloc(), &checked, reader, owed, *at_end));
@@ -185,25 +161,17 @@ const WRITES: [(usize, &str); 4] = [
 /// Whether a run over the lines writes this before the write that fails, and names that write.
 fn stops(alloc: Global, checked: &Checked<SortedTable>, calls_left: usize, owed: &str) -> bool {
     let mut taken = Vec::new(alloc);
-    let mut output = Device::new(Narrow {
+    let mut output = Narrow {
         taken: &mut taken,
         calls_left,
-    });
-    let end = run_lines(
-        alloc,
-        checked,
-        LineForm::Tag,
-        &mut Device::new(LINES),
-        &mut output,
-    );
+    };
+    let end = answer_lines(alloc, checked, LineForm::Tag, LINES, &mut output);
     matches!(end, Err(ToolFault::Write)) && taken.as_slice() == owed.as_bytes()
 }
 
 #[test]
 fn writes_of_a_run_that_fail(rt: HostRuntime) -> Result<(), Fail> {
-    let Some(checked) = checked(rt.alloc())? else {
-        panic!(rt; "the sample does not pass");
-    };
+    let checked = checked_sample(rt.alloc())?;
     for (calls_left, owed) in &WRITES {
         assert!(rt; stops(rt.alloc(), &checked, *calls_left, owed));
     }
@@ -224,24 +192,19 @@ fn names(
         return false;
     };
     let (mut taken, mut errors) = (Vec::new(alloc), Vec::new(alloc));
-    let end = perform(
-        alloc,
-        &command,
-        &mut Device::new(file.as_bytes()),
-        &mut Device::new(NO_FILE),
-        &mut Device::new(Pieces::once(LINES, 4).failing_at(call)),
-        &mut Device::new(Narrow {
-            taken: &mut taken,
-            calls_left: writes_left,
-        }),
-        &mut Device::new(&mut errors),
-    );
+    let mut output = Narrow {
+        taken: &mut taken,
+        calls_left: writes_left,
+    };
+    let files = (file.as_bytes(), NO_FILE);
+    let reader = Pieces::once(LINES, 4).failing_at(call);
+    let end = ends(alloc, &command, files, reader, &mut output, &mut errors);
     end == 4 && taken.as_slice() == owed.as_bytes() && errors.as_slice() == named
 }
 
 #[test]
 fn failures_of_canon(rt: HostRuntime) -> Result<(), Fail> {
-    let sample = sample_text(rt.alloc(), "\n", "")?;
+    let sample = sample_text(rt.alloc())?;
     assert!(rt; names(rt.alloc(), &sample, 3, 64, "yue\n", b"! Read\n"));
     assert!(rt; names(rt.alloc(), &sample, 64, 1, "yue\n", b"! Write\n"));
     Ok(())
@@ -296,7 +259,7 @@ fn names_read(alloc: Global, registry: &[u8], front: &[u8], call: u64) -> Result
 
 #[test]
 fn reads_of_a_registry_that_fail(rt: HostRuntime) -> Result<(), Fail> {
-    let sample = sample_text(rt.alloc(), "\n", "")?;
+    let sample = sample_text(rt.alloc())?;
     let registry = sample.as_bytes();
     for index in 0..=registry.len().div_ceil(PIECE) {
         let front = registry

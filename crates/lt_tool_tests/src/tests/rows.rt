@@ -1,11 +1,10 @@
 //! Rows of fields with tabs between them, of which one is a tag.
-use super::registries::checked;
-use super::sample::sample_text;
-use super::{prints, read};
+use super::{answer_lines, checked_sample, prints, read};
 use lt_canon::Checked;
-use lt_jar::{Device, Pieces};
+use lt_jar::Pieces;
 use lt_registry::SortedTable;
-use lt_tool::{LineForm, ToolFault, WordsFault, run_lines};
+use lt_testing::sample_text;
+use lt_tool::{LineForm, ToolFault, WordsFault};
 use std::alloc::Global;
 use std::io::Cursor;
 use std::test::Fail;
@@ -37,7 +36,7 @@ fn makes(alloc: Global, registry: &str, column: &str, row: &[u8], shown: &str, s
 
 #[test]
 fn rows_are_answered(rt: HostRuntime) -> Result<(), Fail> {
-    let sample = sample_text(rt.alloc(), "\n", "")?;
+    let sample = sample_text(rt.alloc())?;
     for (row, shown, status) in &ROWS {
         assert!(rt; makes(rt.alloc(), &sample, "2", row, shown, *status));
     }
@@ -46,7 +45,7 @@ fn rows_are_answered(rt: HostRuntime) -> Result<(), Fail> {
 
 #[test]
 fn other_columns(rt: HostRuntime) -> Result<(), Fail> {
-    let sample = sample_text(rt.alloc(), "\n", "")?;
+    let sample = sample_text(rt.alloc())?;
     let row = b"iw\tiw\tiw\n";
     assert!(rt; makes(rt.alloc(), &sample, "1", row, "he\tiw\tiw\t\n", 0));
     assert!(rt; makes(rt.alloc(), &sample, "+3", row, "iw\tiw\the\t\n", 0));
@@ -98,20 +97,16 @@ fn answers(
     at_end: bool,
 ) -> bool {
     let mut output = Vec::new(alloc);
-    let mut input = Device::new(reader);
-    let mut device = Device::new(&mut output);
-    let ends = match run_lines(alloc, checked, LineForm::Row(1), &mut input, &mut device) {
+    let is_end = match answer_lines(alloc, checked, LineForm::Row(1), reader, &mut output) {
         Ok(counts) => at_end && counts.lines == 4 && counts.refused == 2,
         Err(fault) => !at_end && fault == ToolFault::Read,
     };
-    ends && output.as_slice() == owed.as_bytes()
+    is_end && output.as_slice() == owed.as_bytes()
 }
 
 #[test]
 fn rows_in_pieces(rt: HostRuntime) -> Result<(), Fail> {
-    let Some(checked) = checked(rt.alloc())? else {
-        panic!(rt; "the sample does not pass");
-    };
+    let checked = checked_sample(rt.alloc())?;
     for (piece, call, owed, at_end) in &READS {
         let reader = Pieces::once(LINES, *piece).failing_at(*call);
         assert!(rt; answers(rt.alloc(), &checked, reader, owed, *at_end));
@@ -123,21 +118,14 @@ fn rows_in_pieces(rt: HostRuntime) -> Result<(), Fail> {
 fn stops(alloc: Global, checked: &Checked<SortedTable>, room: usize) -> bool {
     let mut page = [0u8; 64];
     let (taken, _) = page.split_at_mut(room.min(64));
-    let end = run_lines(
-        alloc,
-        checked,
-        LineForm::Row(1),
-        &mut Device::new(LINES),
-        &mut Device::new(Cursor::new(taken)),
-    );
+    let mut output = Cursor::new(taken);
+    let end = answer_lines(alloc, checked, LineForm::Row(1), LINES, &mut output);
     matches!(end, Err(ToolFault::Write))
 }
 
 #[test]
 fn writes_that_fail(rt: HostRuntime) -> Result<(), Fail> {
-    let Some(checked) = checked(rt.alloc())? else {
-        panic!(rt; "the sample does not pass");
-    };
+    let checked = checked_sample(rt.alloc())?;
     for room in [0usize, 1, 9, 10, 40] {
         assert!(rt; stops(rt.alloc(), &checked, room));
     }

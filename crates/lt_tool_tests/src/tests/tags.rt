@@ -1,6 +1,6 @@
 //! The commands on one or two tags: `extlang` and `equal`.
-use super::sample::sample_text;
 use super::{prints, read};
+use lt_testing::sample_text;
 use lt_tool::{Command, WordsFault};
 use std::test::Fail;
 
@@ -33,7 +33,7 @@ const FORMS: [(&str, &str, u8); 5] = [
 
 #[test]
 fn pairs_of_tags(rt: HostRuntime) -> Result<(), Fail> {
-    let sample = sample_text(rt.alloc(), "\n", "")?;
+    let sample = sample_text(rt.alloc())?;
     for (tag, other, line, status) in &PAIRS {
         let words = ["equal", "registry", *tag, *other];
         assert!(rt; prints(rt.alloc(), &words, sample.as_bytes(), b"", line, *status));
@@ -43,7 +43,7 @@ fn pairs_of_tags(rt: HostRuntime) -> Result<(), Fail> {
 
 #[test]
 fn extlang_forms(rt: HostRuntime) -> Result<(), Fail> {
-    let sample = sample_text(rt.alloc(), "\n", "")?;
+    let sample = sample_text(rt.alloc())?;
     for (tag, line, status) in &FORMS {
         let words = ["extlang", "registry", *tag];
         assert!(rt; prints(rt.alloc(), &words, sample.as_bytes(), b"", line, *status));
@@ -96,7 +96,7 @@ const EXPLANATIONS: [(&str, &str, u8); 6] = [
 
 #[test]
 fn explanations(rt: HostRuntime) -> Result<(), Fail> {
-    let sample = sample_text(rt.alloc(), "\n", "")?;
+    let sample = sample_text(rt.alloc())?;
     for (tag, lines, status) in &EXPLANATIONS {
         let words = ["explain", "registry", *tag];
         assert!(rt; prints(rt.alloc(), &words, sample.as_bytes(), b"", lines, *status));

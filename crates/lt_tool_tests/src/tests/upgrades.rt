@@ -1,7 +1,7 @@
 //! The command on two registries: `upgrade`.
-use super::read;
-use super::sample::{changed_text, push_record, sample_text};
+use super::{ends, read};
 use lt_jar::{Device, Pieces};
+use lt_testing::{changed_text, push_record, sample_text};
 use lt_tool::{Command, WordsFault, perform};
 use std::alloc::Global;
 use std::io;
@@ -13,24 +13,24 @@ fn prints(alloc: Global, old: &[u8], new: &[u8], shown: &str, status: u8) -> boo
         return false;
     };
     let (mut output, mut errors) = (Vec::new(alloc), Vec::new(alloc));
-    let end = perform(
+    let files = (old, new);
+    let end = ends(
         alloc,
         &command,
-        &mut Device::new(old),
-        &mut Device::new(new),
-        &mut Device::new(io::empty()),
-        &mut Device::new(&mut output),
-        &mut Device::new(&mut errors),
+        files,
+        io::empty(),
+        &mut output,
+        &mut errors,
     );
     end == status && errors.is_empty() && output.as_slice() == shown.as_bytes()
 }
 
 #[test]
 fn upgrades(rt: HostRuntime) -> Result<(), Fail> {
-    let sample = sample_text(rt.alloc(), "\n", "")?;
-    let mut more = sample_text(rt.alloc(), "\n", "")?;
+    let sample = sample_text(rt.alloc())?;
+    let mut more = sample_text(rt.alloc())?;
     push_record(&mut more, &("language", "fr", "", ""), "\n")?;
-    let changed = changed_text(rt.alloc(), &("language", "iw", "", ""))?;
+    let changed = changed_text(rt.alloc(), 9, "Type: language\nSubtag: iw\n")?;
     assert!(rt; prints(rt.alloc(), sample.as_bytes(), sample.as_bytes(), "ok\n", 0));
     assert!(rt; prints(rt.alloc(), sample.as_bytes(), more.as_bytes(), "ok\n", 0));
     assert!(rt;
@@ -56,8 +56,8 @@ fn upgrades(rt: HostRuntime) -> Result<(), Fail> {
 
 #[test]
 fn registries_of_an_upgrade_that_are_refused(rt: HostRuntime) -> Result<(), Fail> {
-    let sample = sample_text(rt.alloc(), "\n", "")?;
-    let mut repeated = sample_text(rt.alloc(), "\n", "")?;
+    let sample = sample_text(rt.alloc())?;
+    let mut repeated = sample_text(rt.alloc())?;
     push_record(&mut repeated, &("language", "de", "", ""), "\n")?;
     assert!(rt;
         prints(
@@ -124,7 +124,7 @@ fn fails(
 
 #[test]
 fn reads_of_an_upgrade_that_fail(rt: HostRuntime) -> Result<(), Fail> {
-    let sample = sample_text(rt.alloc(), "\n", "")?;
+    let sample = sample_text(rt.alloc())?;
     let broken = || Pieces::once(b"", 1).failing_at(1);
     let whole = Pieces::once(sample.as_bytes(), 64);
     assert!(rt;

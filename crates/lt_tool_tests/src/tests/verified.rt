@@ -1,8 +1,8 @@
 //! Explanations that are judged: `verify`.
-use super::sample::sample_text;
-use super::{Broken, prints, read};
-use lt_jar::{Device, Pieces};
-use lt_tool::{Command, WordsFault, perform};
+use super::{Broken, NO_FILE, ends, prints, read};
+use lt_jar::Pieces;
+use lt_testing::sample_text;
+use lt_tool::{Command, WordsFault};
 use std::alloc::Global;
 use std::test::Fail;
 
@@ -126,7 +126,7 @@ fn judges(alloc: Global, registry: &str, judged: &Judged) -> bool {
 
 #[test]
 fn explanations_are_judged(rt: HostRuntime) -> Result<(), Fail> {
-    let sample = sample_text(rt.alloc(), "\n", "")?;
+    let sample = sample_text(rt.alloc())?;
     for judged in &RIGHT {
         assert!(rt; judges(rt.alloc(), &sample, judged));
     }
@@ -184,21 +184,14 @@ fn judges_pieces(
         return false;
     };
     let (mut output, mut errors) = (Vec::new(alloc), Vec::new(alloc));
-    let end = perform(
-        alloc,
-        &command,
-        &mut Device::new(registry.as_bytes()),
-        &mut Device::new(b"".as_slice()),
-        &mut Device::new(reader),
-        &mut Device::new(&mut output),
-        &mut Device::new(&mut errors),
-    );
+    let files = (registry.as_bytes(), NO_FILE);
+    let end = ends(alloc, &command, files, reader, &mut output, &mut errors);
     end == status && output.as_slice() == printed.as_bytes() && errors.as_slice() == said.as_bytes()
 }
 
 #[test]
 fn readers_of_explanations(rt: HostRuntime) -> Result<(), Fail> {
-    let sample = sample_text(rt.alloc(), "\n", "")?;
+    let sample = sample_text(rt.alloc())?;
     for (piece, fails_at, printed, said, status) in &READS {
         let reader = Pieces::once(LINES, *piece).failing_at(*fails_at);
         assert!(rt; judges_pieces(rt.alloc(), &sample, reader, printed, said, *status));
@@ -216,7 +209,7 @@ const ENDLESS: [(&[u8], &str); 4] = [
 
 #[test]
 fn lines_without_an_end(rt: HostRuntime) -> Result<(), Fail> {
-    let sample = sample_text(rt.alloc(), "\n", "")?;
+    let sample = sample_text(rt.alloc())?;
     for (bytes, printed) in &ENDLESS {
         let reader = Pieces::for_ever(*bytes, 64);
         assert!(rt; judges_pieces(rt.alloc(), &sample, reader, printed, "", 1));
@@ -226,21 +219,22 @@ fn lines_without_an_end(rt: HostRuntime) -> Result<(), Fail> {
 
 #[test]
 fn verdicts_that_are_not_written(rt: HostRuntime) -> Result<(), Fail> {
-    let sample = sample_text(rt.alloc(), "\n", "")?;
+    let sample = sample_text(rt.alloc())?;
     let Ok(command) = read(rt.alloc(), &["verify", "registry", "sgn-dd"]) else {
         assert!(rt; false);
         return Ok(());
     };
     for lines in &[LINES, b"= gsg\n".as_slice()] {
         let mut errors = Vec::new(rt.alloc());
-        let end = perform(
+        let files = (sample.as_bytes(), NO_FILE);
+        let mut output = Broken { fails: true };
+        let end = ends(
             rt.alloc(),
             &command,
-            &mut Device::new(sample.as_bytes()),
-            &mut Device::new(b"".as_slice()),
-            &mut Device::new(*lines),
-            &mut Device::new(Broken { fails: true }),
-            &mut Device::new(&mut errors),
+            files,
+            *lines,
+            &mut output,
+            &mut errors,
         );
         assert!(rt; end == 4);
         assert!(rt; errors.as_slice() == b"! Write\n".as_slice());
