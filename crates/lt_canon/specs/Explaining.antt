@@ -35,7 +35,7 @@ pub record IsExplanation (R : List EntryParts) (t : TagForm) (steps : List Step)
 abbrev pub HasOneExplanation : List EntryParts → Type 0
 HasOneExplanation R =
     (t a b : TagForm) (steps others : List Step) → IsExplanation R t steps a
-        → IsExplanation R t others b → (steps ≡ others) × (a ≡ b)
+    → IsExplanation R t others b → (steps ≡ others) × (a ≡ b)
 
 -- no step leads on from the core of a tag, if it has one
 abbrev pub RestsOnCore : List EntryParts → TagForm → Type 0

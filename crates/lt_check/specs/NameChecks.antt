@@ -40,4 +40,4 @@ IsNew R seen e = MatchOption (range_of e) (HasOwnName R e) (λ name. Contains se
 abbrev pub SeesRange : EntryParts → List RangeName → List RangeName → Type 0
 SeesRange e old new =
     MatchOption (range_of e) (new ≡ old)
-        (λ range. (name : RangeName) → Contains new name ↔ (Contains old name ⊎ (range ≡ name)))
+    (λ range. (name : RangeName) → Contains new name ↔ (Contains old name ⊎ (range ≡ name)))

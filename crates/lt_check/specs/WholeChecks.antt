@@ -27,7 +27,7 @@ ComesToRest R c =
 abbrev pub ComesTo : List EntryParts → CoreParts → CoreParts → Type 0
 ComesTo R s d =
     (s ≡ d) ⊎ ((q : CoreParts) × (whole_value R (core_alone s) ≡ Some (core_alone q))
-        × IsCoreNormalForm (values_of R) q d)
+    × IsCoreNormalForm (values_of R) q d)
 
 -- where a core has a core normal form other than itself, that comes to the core normal form of another core
 abbrev pub ComeTogether : List EntryParts → CoreParts → CoreParts → Type 0

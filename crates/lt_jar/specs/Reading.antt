@@ -51,7 +51,7 @@ take_kind ended fields Bad = Err BadLine
 abbrev pub take_line : ℕ → List Field → List ℕ → Result Taken Fault
 take_line ended fields line =
     if nat_lt longest_line (length line) then Err LineTooLong
-        else (if is_utf8 line then take_kind ended fields (line_of line) else Err NotUtf8)
+    else (if is_utf8 line then take_kind ended fields (line_of line) else Err NotUtf8)
 
 -- the records that have ended, and the fields of the one that goes on
 pub record Going : Type 0 where

@@ -74,11 +74,11 @@ FillsAs remaining old new before after read reads (Ok true) = (unread_in new ≡
     × (reads ≡ 1) × (failures_of after ≡ failures_of before) × (0 < last_given_of after)
 FillsAs remaining old new before after read reads (Ok false) =
     (new.start ≡ new.end) × (read ≡ []) × IsAtEnd (remaining (inner_of after))
-        × (failures_of after ≡ failures_of before) × (line_of_kept new + 1 ≤ 1 + 65536 * new.turns)
+    × (failures_of after ≡ failures_of before) × (line_of_kept new + 1 ≤ 1 + 65536 * new.turns)
 FillsAs remaining old new before after read reads (Err kind) =
     (read ≡ []) × (((kind ≡ kinds.Read) × HasFailed before after)
-        ⊎ ((kind ≡ kinds.TooManyTurns) × (failures_of after ≡ failures_of before)
-            × (new.turns ≡ most_reads) × (reads ≡ 0) × (last_given_of after ≡ last_given_of before)))
+    ⊎ ((kind ≡ kinds.TooManyTurns) × (failures_of after ≡ failures_of before)
+    × (new.turns ≡ most_reads) × (reads ≡ 0) × (last_given_of after ≡ last_given_of before)))
 
 -- what one read more did
 pub record Fills {R : Type 0} (remaining : R → Option (List ℕ)) (old new : JarSource)
@@ -136,18 +136,18 @@ pub record Stops {R : Type 0} (remaining : R → Option (List ℕ)) (old new : J
     (before after : Device R) (read : List ℕ) (reads : ℕ) (kind : JarFaultKind) : Type 0 where
   pub format : (fault : faults.Fault) → fault_in kind ≡ Some fault
       → (number : ℕ) × HoldsOfWhole (λ text. faults.IsTheFault (lent_by old) text fault number)
-          (IsAtEnd (remaining (inner_of after))) (kept_in old ++ read)
-              × (line_of_kept new + 1 ≡ line_of_kept old + number)
+      (IsAtEnd (remaining (inner_of after))) (kept_in old ++ read)
+      × (line_of_kept new + 1 ≡ line_of_kept old + number)
       × EndsNoneAbove (kept_in old ++ read) number
   pub memory : kind ≡ kinds.OutOfMemory → (number : ℕ)
       × faults.IsReached (lent_by old) (kept_in old ++ read) number × (line_of_kept new + 1 ≡ line_of_kept old + number)
   pub device : kind ≡ kinds.Read → HasFailed before after
       × ((number : ℕ) × IsCutShort (lent_by old) (kept_in old ++ read) number
-          × (line_of_kept new + 1 ≡ line_of_kept old + number))
+      × (line_of_kept new + 1 ≡ line_of_kept old + number))
   pub all_made : kind ≡ kinds.TooManyTurns → (new.turns ≡ most_reads)
       × (reads ≤ length read) × (LastGave old before → LastGave new after)
       × ((number : ℕ) × IsCutShort (lent_by old) (kept_in old ++ read) number
-          × (line_of_kept new + 1 ≡ line_of_kept old + number))
+      × (line_of_kept new + 1 ≡ line_of_kept old + number))
   pub first : kind ≢ kinds.Failed
 
 -- how a call that went on reading ended: with a record, with none, or with a fault
@@ -155,7 +155,7 @@ abbrev pub EndsAs : {R : Type 0} → (R → Option (List ℕ)) → (old new : Ja
     → (before after : Device R) → List ℕ → ℕ → Result Bool JarFaultKind → Type 0
 EndsAs remaining old new before after read reads (Ok true) =
     (lent_by new ≡ lent_by old + 1)
-        × (LendsEnded old new before after read reads ⊎ LendsLast remaining old new after read (record_in new ∷ []))
+    × (LendsEnded old new before after read reads ⊎ LendsLast remaining old new after read (record_in new ∷ []))
 EndsAs remaining old new before after read reads (Ok false) =
     (lent_by new ≡ lent_by old) × LendsLast remaining old new after read []
 EndsAs remaining old new before after read reads (Err kind) = Stops remaining old new before after read reads kind

@@ -36,8 +36,13 @@ told_with_word s = earlier s.told (message_of s.word)
 abbrev pub after_line : Seen → Option (List ℕ) → Seen
 after_line s None = record { lines = one_more s.lines; refused = s.refused; first = s.first; told = None; word = [] }
 after_line s (Some message) =
-    record { lines = one_more s.lines; refused = one_more s.refused;
-        first = earlier s.first (Some message); told = None; word = [] }
+    record {
+      lines = one_more s.lines;
+      refused = one_more s.refused;
+      first = earlier s.first (Some message);
+      told = None;
+      word = [];
+    }
 
 -- a space ends a word, but for the one in `ok 0`
 abbrev pub after_space : Seen → Seen

@@ -14,7 +14,7 @@ same_message (Some message) (Some other) = bytes_eq message other
 abbrev pub same_seen : Seen → Seen → Bool
 same_seen a b =
     a.lines == b.lines && a.refused == b.refused && same_message a.first b.first
-        && same_message a.told b.told && bytes_eq a.word b.word
+    && same_message a.told b.told && bytes_eq a.word b.word
 
 -- the bytes that a writer holds, where they are known and are those that were seen, and no report of them was given
 abbrev pub seen_contents : Option (List ℕ) → Seen → (given : ℕ) → Option (List ℕ)

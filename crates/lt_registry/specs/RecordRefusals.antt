@@ -15,4 +15,4 @@ IsRefused r kind = (kind ≡ faults.OutOfMemory) ⊎ IsFirstOfRecord r kind
 abbrev pub IsRecordRefusal : List (List Field) → RecordFault → Type 0
 IsRecordRefusal records fault =
     ((fault.kind ≡ faults.OutOfMemory) × IsReached records fault.number)
-        ⊎ IsFirstRecordFault records fault.kind fault.number
+    ⊎ IsFirstRecordFault records fault.kind fault.number

@@ -118,7 +118,7 @@ ends_of (b ∷ s) = if begins_dots (b ∷ s) then Some ([], drop 1 s) else with_
 abbrev pub is_range : Kind → List ℕ → List ℕ → Bool
 is_range k a b =
     has_form k a && (has_form k b
-        && (is_alphabetic a && (is_alphabetic b && ((length a == length b) && letters_le a b))))
+    && (is_alphabetic a && (is_alphabetic b && ((length a == length b) && letters_le a b))))
 
 -- the range from one end to the other, if they are those of one
 abbrev pub range_of : Kind → Result (List ℕ) SubtagFault
@@ -214,10 +214,10 @@ HasRecordFault r faults.UnknownType = (s : List ℕ) × (body type_name r ≡ So
 HasRecordFault r faults.MissingName = (k : Kind) × HasKind r k × (body (name_field k) r ≡ None)
 HasRecordFault r faults.BadRange =
     (k : Kind) × (s : List ℕ) × HasKind r k × (is_whole_kind k ≡ false)
-        × (body subtag_name r ≡ Some s) × (subtags_named k s ≡ Err faults.BadRange)
+    × (body subtag_name r ≡ Some s) × (subtags_named k s ≡ Err faults.BadRange)
 HasRecordFault r faults.BadSubtag =
     (k : Kind) × (s : List ℕ) × HasKind r k × (is_whole_kind k ≡ false)
-        × (body subtag_name r ≡ Some s) × (subtags_named k s ≡ Err faults.BadSubtag)
+    × (body subtag_name r ≡ Some s) × (subtags_named k s ≡ Err faults.BadSubtag)
 HasRecordFault r faults.BadTag =
     (k : Kind) × (s : List ℕ) × HasKind r k × (is_whole_kind k ≡ true) × (body tag_name r ≡ Some s) × HasNoTag s
 HasRecordFault r faults.BadPreferred =
@@ -253,8 +253,8 @@ EntriesFrom number [] es = es ≡ []
 EntriesFrom number (r ∷ rs) es =
     ((is_header_at number r ≡ true) × EntriesFrom (number + 1) rs es)
     ⊎ ((is_header_at number r ≡ false)
-        × ((e : EntryParts) × (rest : List EntryParts) × (es ≡ e ∷ rest)
-            × IsEntryOf r number e × EntriesFrom (number + 1) rs rest))
+    × ((e : EntryParts) × (rest : List EntryParts) × (es ≡ e ∷ rest)
+    × IsEntryOf r number e × EntriesFrom (number + 1) rs rest))
 
 -- the entries of a file's records: of each but the header one, with the record's number
 abbrev pub HasEntries : List (List Field) → List EntryParts → Type 0

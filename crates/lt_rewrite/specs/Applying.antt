@@ -88,8 +88,8 @@ ExtensionLeads R start e step f = (s : ExtensionStep R e f) × (extension_label 
 abbrev pub LeadsAt : List EntryParts → ℕ → List ExtensionParts → Step → ℕ → ExtensionParts → Type 0
 LeadsAt R start es step index f =
     (default : ExtensionParts)
-        → ExtensionLeads R (start + length (spell_extensions (take index es)) + 1)
-            (slice_index_or es index default) step f
+    → ExtensionLeads R (start + length (spell_extensions (take index es)) + 1)
+    (slice_index_or es index default) step f
 
 -- on extensions that begin after this many subtags
 abbrev pub ExtensionsLeads : List EntryParts → ℕ → List ExtensionParts → Step → List ExtensionParts → Type 0

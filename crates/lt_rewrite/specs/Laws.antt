@@ -66,4 +66,4 @@ pub record AreOneStep (step other : Step) (u v : TagForm) : Type 0 where
 abbrev pub StepsAreDetermined : List EntryParts → Type 0
 StepsAreDetermined R =
     (t u v : TagForm) (step other : Step) → LeadsBy R t step u → LeadsBy R t other v
-        → step.kind ≡ other.kind → step.place ≡ other.place → AreOneStep step other u v
+    → step.kind ≡ other.kind → step.place ≡ other.place → AreOneStep step other u v

@@ -9,4 +9,4 @@ begins_listed length first =
     else (if length == 8 then first == 105 || first == 122
     else (if length == 9 then first == 101 || first == 105 || first == 115
     else (if length == 10 then first == 97 || first == 105 || first == 122
-        else (if length == 11 then first == 99 else false)))))
+    else (if length == 11 then first == 99 else false)))))

@@ -19,7 +19,7 @@ core_total =
     (then_total (on_total (λ (c : CoreParts). c.extlangs) (lists_total nat_list_cmp_total))
     (then_total (on_total (λ (c : CoreParts). c.script) (options_total nat_list_cmp_total))
     (then_total (on_total (λ (c : CoreParts). c.region) (options_total nat_list_cmp_total))
-        (on_total (λ (c : CoreParts). c.variants) (lists_total nat_list_cmp_total)))))
+    (on_total (λ (c : CoreParts). c.variants) (lists_total nat_list_cmp_total)))))
 
 -- the order of extensions is total
 pub extension_total : IsTotalOrder extension_cmp
@@ -32,7 +32,7 @@ tag_total =
     then_total (on_total core_of (options_total core_total))
     (then_total (on_total extensions_of (lists_total extension_total))
     (then_total (on_total private_of (lists_total nat_list_cmp_total))
-        (on_total number_of (options_total nat_cmp_total))))
+    (on_total number_of (options_total nat_cmp_total))))
 
 -- ---- what a comparison of two parts says of each
 
@@ -113,6 +113,8 @@ the_same {R = R} apart x y e = apart x y ((Equal-is (R x y)).0 e)
 -- and nothing else is
 pub same_exactly : {A : Type 0} {R : A → A → Ordering} → IsTotalOrder R
     → IsAntisymmetric R → (x y : A) (b : Bool) → b ≡ eq_by_cmp R x y → IsTrue b ↔ (x ≡ y)
-same_exactly {R = R} total apart x y b e =
-    (λ t. the_same apart x y (sym e ∙ t), λ same. e ∙ ap
-        (λ z. eq_by_cmp R x z) (sym same) ∙ ap is_eq (tied_itself total x))
+same_exactly {R = R} total apart x y b e = (
+  λ t. the_same apart x y (sym e ∙ t),
+  λ same. e ∙ ap
+      (λ z. eq_by_cmp R x z) (sym same) ∙ ap is_eq (tied_itself total x),
+)

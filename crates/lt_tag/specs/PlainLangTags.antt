@@ -34,7 +34,7 @@ extlangs_left core = if nat_le (length core.language) 3 then 3 - length core.ext
 abbrev pub room_of : CoreParts → Room
 room_of core =
     if takes_script core then rooms.Extlangs (extlangs_left core)
-        else (if takes_region core then rooms.Region else rooms.Variants)
+    else (if takes_region core then rooms.Region else rooms.Variants)
 
 -- what may follow once one more subtag is there, if it may
 abbrev pub room_after : Room → List ℕ → Option Room

@@ -123,7 +123,7 @@ Performs (command.Explain name tag) first second input output errors result =
 Performs (command.Verify name tag) first second input output errors result =
     IsUntouched second
     × ReadsFile first (Verifies (λ IsAnswer. PrintsOrLacks IsAnswer output errors result)
-        (string_bytes tag) input output errors result)
+    (string_bytes tag) input output errors result)
 Performs (command.Upgrade old new) first second input output errors result =
     IsUntouched input × UpgradesFiles first second (λ IsAnswer. PrintsOrLacks IsAnswer output errors result)
 

@@ -98,7 +98,7 @@ pub record Opens {P F : Type 0} (calls : P → List ℕ → Result F Error → P
 pub record PerformsOn {P F G I O E : Type 0} (command : Command)
     (of_first : F → Option (List ℕ)) (of_second : G → Option (List ℕ))
     (state after : P) (first : Device F) (second : Device G) (input : Stream I)
-        (output : Stream O) (errors : Stream E) (result : ℕ) : Type 0 where
+    (output : Stream O) (errors : Stream E) (result : ℕ) : Type 0 where
   pub opened : after ≡ state
   pub first' : Device F
   pub second' : Device G
@@ -117,11 +117,11 @@ abbrev pub RunsOnFirst : {P F N I O E : Type 0} → Command → Opener P F
     → Device F → Option (List ℕ) → Type 0
 RunsOnFirst {P} {F} {N} command opener of_none input output errors result first None =
     (none : Device N) × PerformsOn command opener.bytes of_none
-        opener.before opener.after first none input output errors result
+    opener.before opener.after first none input output errors result
 RunsOnFirst command opener of_none input output errors result first (Some name) =
     Opens opener.calls opener.before (reads_input_of command) name
     (λ between second. PerformsOn command opener.bytes opener.bytes
-        between opener.after first second input output errors result)
+    between opener.after first second input output errors result)
     (λ between error. EndsAt between opener.after input output errors result error)
 
 -- The file that the command names first, if it names one, is opened, and then the second.
@@ -134,7 +134,7 @@ RunsOnFiles {P} {F} {N} command opener of_none input output errors result None =
 RunsOnFiles command opener of_none input output errors result (Some name) =
     Opens opener.calls opener.before (reads_input_of command) name
     (λ between first. RunsOnFirst command
-        (opener_of opener.calls opener.bytes between opener.after) of_none input output errors result
+    (opener_of opener.calls opener.bytes between opener.after) of_none input output errors result
     first (second_file_of command))
     (λ between error. EndsAt between opener.after input output errors result error)
 
@@ -162,7 +162,7 @@ abbrev pub GoesOnWith : {P F N I O E : Type 0} → Command → Opener P F
     → Result ℕ Error → Type 0
 GoesOnWith command opener of_none between input output errors result (Ok n) =
     RunsOnFiles command opener of_none
-        (stream input.bytes between input.after) output errors result (first_file_of command)
+    (stream input.bytes between input.after) output errors result (first_file_of command)
 GoesOnWith command opener of_none between input output errors result (Err error) =
     (input.after ≡ between) × RefusesInput opener output errors result
 

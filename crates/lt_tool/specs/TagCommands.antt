@@ -41,7 +41,7 @@ IsPairRefusal R first second (refusals.Invalid fault) =
     ReadsAs first (λ tag. ReadsAs second (λ other. IsFirstRefusal R tag other (tag_refusals.Invalid fault)))
 IsPairRefusal R first second (refusals.ReplacementRepeats variant) =
     ReadsAs first (λ tag. ReadsAs second
-        (λ other. IsFirstRefusal R tag other (tag_refusals.ReplacementRepeats variant)))
+    (λ other. IsFirstRefusal R tag other (tag_refusals.ReplacementRepeats variant)))
 IsPairRefusal R first second refusals.OutOfMemory = Unit {0}
 
 -- ---- what is printed

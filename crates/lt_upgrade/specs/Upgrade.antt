@@ -51,7 +51,7 @@ KeepsKind kinds.Redundant v = ⊥
 abbrev pub KeepsEnds : List EntryParts → EntryParts → Type 0
 KeepsEnds B e =
     (s v : List ℕ) → e.name ≡ names.Single s → one_of e.value ≡ Some v
-        → KeepsKind e.kind v → SameEnd (next_value B e.kind) s v
+    → KeepsKind e.kind v → SameEnd (next_value B e.kind) s v
 
 -- the entry of the same extlang in the newer registry
 pub record IsSameExtlang (B : List EntryParts) (e : EntryParts) (s : List ℕ) : Type 0 where

@@ -52,7 +52,7 @@ positionals_of sub.Upgrade = codes "OLD" ∷ codes "NEW" ∷ []
 abbrev pub subcommands : List Subcommand
 subcommands =
     sub.Classify ∷ sub.Check ∷ sub.Canon ∷ sub.Tsv ∷ sub.Extlang
-        ∷ sub.Equal ∷ sub.Explain ∷ sub.Verify ∷ sub.Upgrade ∷ []
+    ∷ sub.Equal ∷ sub.Explain ∷ sub.Verify ∷ sub.Upgrade ∷ []
 
 -- a program with these subcommands, in this order
 abbrev pub with_subcommands : App → List Subcommand → App

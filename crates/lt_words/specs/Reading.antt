@@ -139,5 +139,5 @@ IsFaultOf k printed (fault.Help text) = (k ≡ kind.DisplayHelp) × IsPrinted pr
 IsFaultOf k printed (fault.Version text) = (k ≡ kind.DisplayVersion) × IsPrinted printed (string_bytes text)
 IsFaultOf k printed (fault.Usage text) =
     (k ≡ kind.DisplayHelp → ⊥) × (k ≡ kind.DisplayVersion → ⊥)
-        × (k ≡ kind.OutOfMemory → ⊥) × IsPrinted printed (string_bytes text)
+    × (k ≡ kind.OutOfMemory → ⊥) × IsPrinted printed (string_bytes text)
 IsFaultOf k printed fault.OutOfMemory = ⊤

@@ -1,7 +1,7 @@
 //! The parts of a core are set, dropped and read.
 use super::words::put_core;
 use lt_subtag::Subtag;
-use lt_tag::{Core, OutOfMemory, TagFault, read_tag};
+use lt_tag::{Core, OutOfMemory, Tag, TagFault, read_tag};
 use std::alloc::Global;
 
 /// Sets the language, if a core without extlangs may have it.
@@ -66,24 +66,33 @@ fn change(core: &mut Core) {
     change_variants(core, b"1996");
 }
 
-/// Whether a core has these words once each part was changed.
-fn is_changed(alloc: Global, core: &Core, words: &str) -> Result<bool, OutOfMemory> {
+/// A copy of a core, with each part changed.
+fn changed(alloc: Global, core: &Core) -> Result<Core, OutOfMemory> {
     let mut copy = core.copy(alloc)?;
     change(&mut copy);
+    Ok(copy)
+}
+
+/// Whether a core has these words.
+fn has_words(alloc: Global, core: &Core, words: &str) -> Result<bool, OutOfMemory> {
     let mut found = Vec::new(alloc);
-    put_core(&mut found, &copy)?;
+    put_core(&mut found, core)?;
     Ok(found.as_slice() == words.as_bytes())
+}
+
+/// Whether the core of a tag has these words once each part was changed.
+fn is_changed(alloc: Global, tag: &Tag, words: &str) -> Result<bool, OutOfMemory> {
+    match tag.core() {
+        Some(core) => has_words(alloc, &changed(alloc, core)?, words),
+        None => Ok(false),
+    }
 }
 
 #[test]
 fn setters_change_the_part(rt: HostRuntime) -> Result<(), TagFault> {
     let tag = read_tag(rt.alloc(), b"zh-yue-hant-hk-1901-abcde-1ab2")?;
     let words = " language ms extlang min script latn region 419 variant 1996 variant 1ab2";
-    let changed = match tag.core() {
-        Some(core) => is_changed(rt.alloc(), core, words)?,
-        None => false,
-    };
-    assert!(rt; changed);
+    assert!(rt; is_changed(rt.alloc(), &tag, words)?);
     Ok(())
 }
 

@@ -2,40 +2,60 @@
 use super::writing::TEXTS;
 use lt_subtag::{Subtag, SubtagFault};
 use lt_tag::Tag;
-use std::test::Fail;
+use std::alloc::Global;
+use std::fmt::Display;
+
+/// Whether `{}` prints this of a value.
+fn prints<T: Display>(alloc: Global, value: &T, text: &str) -> bool {
+    matches!(format!(in alloc; "{value}"), Ok(printed) if printed.as_str() == text)
+}
+
+/// Whether this is printed of the tag of a text.
+fn prints_tag(alloc: Global, text: &str, shown: &str) -> bool {
+    matches!(Tag::read(alloc, text.as_bytes()), Ok(tag) if prints(alloc, &tag, shown))
+}
 
 #[test]
-fn whole_tags(rt: HostRuntime) -> Result<(), Fail> {
+fn whole_tags(rt: HostRuntime) {
     for (text, shown) in &TEXTS {
-        let tag = Tag::read(rt.alloc(), text.as_bytes())?;
-        let printed = format!(in rt.alloc(); "{tag}")?;
-        assert_eq!(rt; printed.as_str(), *shown);
+        assert!(rt; prints_tag(rt.alloc(), text, shown), "{text}");
     }
-    Ok(())
+}
+
+/// Whether this is printed of a tag's core.
+fn prints_core(alloc: Global, tag: &Tag, text: &str) -> bool {
+    matches!(tag.core(), Some(core) if prints(alloc, core, text))
+}
+
+/// Whether a tag has one extension, of which this is printed.
+fn prints_extension(alloc: Global, tag: &Tag, text: &str) -> bool {
+    matches!(tag.extensions(), [only] if prints(alloc, only, text))
+}
+
+/// Whether this is printed of the core and of the only extension of the tag of a text.
+fn prints_parts(alloc: Global, text: &str, core: &str, extension: &str) -> bool {
+    let Ok(tag) = Tag::read(alloc, text.as_bytes()) else {
+        return false;
+    };
+    prints_core(alloc, &tag, core) && prints_extension(alloc, &tag, extension)
 }
 
 #[test]
-fn parts_of_a_tag(rt: HostRuntime) -> Result<(), Fail> {
-    let tag = Tag::read(rt.alloc(), b"ZH-yue-hant-hk-U-CO-trad-X-AB")?;
-    for core in tag.core() {
-        let printed = format!(in rt.alloc(); "{core}")?;
-        assert_eq!(rt; printed.as_str(), "zh-yue-Hant-HK");
-    }
-    for extension in tag.extensions() {
-        let printed = format!(in rt.alloc(); "{extension}")?;
-        assert_eq!(rt; printed.as_str(), "u-co-trad");
-    }
-    assert!(rt; tag.core().is_some() && tag.extensions().len() == 1);
-    Ok(())
+fn parts_of_a_tag(rt: HostRuntime) {
+    let text = "ZH-yue-hant-hk-U-CO-trad-X-AB";
+    assert!(rt; prints_parts(rt.alloc(), text, "zh-yue-Hant-HK", "u-co-trad"));
+}
+
+/// Whether this is printed of a subtag, as it is and to the right of six places.
+fn prints_subtag(alloc: Global, bytes: &[u8], text: &str) -> bool {
+    let Ok(subtag) = Subtag::read(bytes) else {
+        return false;
+    };
+    matches!(format!(in alloc; "{subtag}, {subtag:>6}"), Ok(printed) if printed.as_str() == text)
 }
 
 #[test]
-fn subtags_and_their_faults(rt: HostRuntime) -> Result<(), Fail> {
-    let subtag = Subtag::read(b"HANS")?;
-    let printed = format!(in rt.alloc(); "{subtag}, {subtag:>6}")?;
-    assert_eq!(rt; printed.as_str(), "hans,   hans");
-    let fault = SubtagFault::BadByte;
-    let told = format!(in rt.alloc(); "{fault}")?;
-    assert_eq!(rt; told.as_str(), "BadByte");
-    Ok(())
+fn subtags_and_their_faults(rt: HostRuntime) {
+    assert!(rt; prints_subtag(rt.alloc(), b"HANS", "hans,   hans"));
+    assert!(rt; prints(rt.alloc(), &SubtagFault::BadByte, "BadByte"));
 }
