@@ -1,6 +1,7 @@
 pub mod CheckLemmas
 pub mod CoreFaultLemmas
 pub mod DraftLemmas
+pub mod EqualityLemmas
 pub mod ExtensionFaultLemmas
 pub mod FirstLemmas
 pub mod IndexLemmas

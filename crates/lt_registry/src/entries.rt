@@ -1,6 +1,9 @@
 //! Entries of a registry.
 ghost use Rattle.std.specs.Prelude.{◌≡◌};
+ghost use Rattle.std.specs.Cmp.{partial_equiv_from_equiv};
+ghost use Rattle.std.specs.Cmp.Lexicographic.{lists_equiv, nat_list_eq_equiv};
 ghost use Rattle.lt_registry.specs.Entries.{IsEntry, IsPrefix, has_prefix};
+ghost use Rattle.lt_registry.specs.Same.{same_list};
 
 use crate::prefixes::Prefixes;
 use lt_subtag::Subtag;
@@ -28,7 +31,7 @@ pub enum Kind {
 
 /// What a record names: one subtag, the subtags from a first to a last, or a whole tag
 /// (RFC 5646, 3.1.3 and 3.1.4).
-#[derive(Debug, Drop)]
+#[derive(Debug, Drop, PartialEq, Eq)]
 pub enum EntryName {
     /// One subtag: `Subtag: iw`.
     Single(Subtag),
@@ -39,7 +42,7 @@ pub enum EntryName {
 }
 
 /// The `Preferred-Value` of a record: one subtag, or a whole tag (RFC 5646, 3.1.7).
-#[derive(Debug, Drop)]
+#[derive(Debug, Drop, PartialEq, Eq)]
 pub enum EntryValue {
     /// One subtag, of a record that names subtags.
     One(Subtag),
@@ -65,6 +68,20 @@ impl Model for Prefix {
     ghost invariant = { λ p. IsPrefix p.subtags.items };
 }
 
+impl PartialEq for Prefix {
+    ghost eq = { same_list };
+
+    ghost laws = { partial_equiv_from_equiv (lists_equiv nat_list_eq_equiv) };
+
+    fn eq(&self, other: &Prefix) -> bool {
+        self.subtags() == other.subtags()
+    }
+}
+
+impl Eq for Prefix {
+    ghost laws = { lists_equiv nat_list_eq_equiv };
+}
+
 impl Prefix {
     /// The Prefix of these subtags.
     pub(crate) fn of_subtags(subtags: Vec<Subtag>) -> Prefix
@@ -85,7 +102,7 @@ impl Prefix {
 
 /// A record of a registry: its number in the file, counted from 1, its kind, what it names, its
 /// value and its Prefixes. Name and value have the forms of the kind (RFC 5646, 2.1 and 3.1).
-#[derive(Debug, Drop)]
+#[derive(Debug, Drop, PartialEq, Eq)]
 pub struct Entry {
     number: u32,
     kind: Kind,
@@ -104,6 +121,8 @@ impl Model for Entry {
     ghost view = { λ e. record { number = e.number; kind = e.kind; name = e.name; value = e.value; prefixes = e.prefixes } };
 
     ghost invariant = { λ e. IsEntry (record { number = e.number; kind = e.kind; name = e.name; value = e.value; prefixes = e.prefixes }) };
+
+    ghost inverse = { λ e. record { number = e.number; kind = e.kind; name = e.name; value = e.value; prefixes = e.prefixes } };
 }
 
 impl Entry {

@@ -2,6 +2,7 @@
 //! 2.2.9 and 3.1). A program begins with the crate `bcp47`, whose registry has passed the check too.
 #![tactic(auto)]
 
+pub mod comparing_laws;
 mod drafts;
 mod entries;
 mod faults;

@@ -1,8 +1,11 @@
 //! The Prefixes of a record, and a search among them (RFC 5646, 3.1.8).
 ghost use Rattle.std.specs.Prelude.{◌≡◌, List, [], IfOk};
 ghost use Rattle.std.specs.List.{AllByRecursion, filter_map};
+ghost use Rattle.std.specs.Cmp.{partial_equiv_from_equiv};
+ghost use Rattle.std.specs.Cmp.Lexicographic.{pointwise, lists_equiv, nat_list_eq_equiv};
 ghost use Rattle.lt_registry.specs.Entries.{IsPrefix, has_prefix};
 ghost use Rattle.lt_registry.specs.Prefixes.{single_of};
+ghost use Rattle.lt_registry.specs.Same.{same_list};
 
 use crate::entries::Prefix;
 use crate::subtag_numbers::number_of;
@@ -28,6 +31,20 @@ impl Model for Prefixes {
     ghost view = { λ p. p.all.items };
 
     ghost invariant = { λ p. AreSingles p.all.items p.singles.items };
+}
+
+impl PartialEq for Prefixes {
+    ghost eq = { pointwise same_list };
+
+    ghost laws = { partial_equiv_from_equiv (lists_equiv (lists_equiv nat_list_eq_equiv)) };
+
+    fn eq(&self, other: &Prefixes) -> bool {
+        self.all() == other.all()
+    }
+}
+
+impl Eq for Prefixes {
+    ghost laws = { lists_equiv (lists_equiv nat_list_eq_equiv) };
 }
 
 impl Prefixes {

@@ -90,3 +90,28 @@ fn prefix_of_an_entry(rt: HostRuntime) -> Result<(), Fail> {
     assert!(rt; matches!(registry.entries(), [entry] if has_japanese_prefix(entry)));
     Ok(())
 }
+
+/// Texts of one record, and whether it is equal to the first.
+const COMPARED: [(&str, bool); 4] = [
+    ("Type: extlang\nSubtag: CMN\nPreferred-Value: cmn\nPrefix: zh", true),
+    ("Type: extlang\nSubtag: yue\nPreferred-Value: cmn\nPrefix: zh", false),
+    ("Type: extlang\nSubtag: cmn\nPrefix: zh", false),
+    ("Type: extlang\nSubtag: cmn\nPreferred-Value: cmn\nPrefix: sgn", false),
+];
+
+/// Whether two texts of a record give equal entries.
+fn are_equal(alloc: Global, left: &str, right: &str) -> Result<bool, Fail> {
+    match (registry_of(alloc, left.as_bytes())?, registry_of(alloc, right.as_bytes())?) {
+        (Ok(left), Ok(right)) => Ok(left.entries() == right.entries()),
+        _ => Err(Fail::from("a registry is refused")),
+    }
+}
+
+#[test]
+fn equal_entries(rt: HostRuntime) -> Result<(), Fail> {
+    let (mandarin, _) = COMPARED[0];
+    for (text, equal) in COMPARED {
+        assert_eq!(rt; are_equal(rt.alloc(), mandarin, text)?, equal, "{text}");
+    }
+    Ok(())
+}

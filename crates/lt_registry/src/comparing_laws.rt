@@ -1,0 +1,33 @@
+//! What the comparisons of entries and their parts compute: `==` is equality of what a contract sees. Nothing
+//! else is computed here.
+ghost use Rattle.std.specs.Prelude.{◌≡◌, ◌↔◌, IsTrue};
+
+use crate::entries::{Entry, EntryName, EntryValue, Prefix};
+
+/// Two Prefixes are equal exactly if their subtags are.
+pub fn prefix_equality(left: &Prefix, right: &Prefix) -> bool
+    ensures { IsTrue result ↔ (left.now ≡ right.now) }
+{
+    left == right
+}
+
+/// Two names of records are equal exactly if their parts are.
+pub fn name_equality(left: &EntryName, right: &EntryName) -> bool
+    ensures { IsTrue result ↔ (left.now ≡ right.now) }
+{
+    left == right
+}
+
+/// Two values of records are equal exactly if their parts are.
+pub fn value_equality(left: &EntryValue, right: &EntryValue) -> bool
+    ensures { IsTrue result ↔ (left.now ≡ right.now) }
+{
+    left == right
+}
+
+/// Two entries are equal exactly if their parts are.
+pub fn entry_equality(left: &Entry, right: &Entry) -> bool
+    ensures { IsTrue result ↔ (left.now ≡ right.now) }
+{
+    left == right
+}
