@@ -15,7 +15,7 @@ mod traces;
 mod usual_tags;
 
 pub use canonical_tags::canonical;
-pub use canonical_texts::{append_canonical_text, canonical_text};
+pub use canonical_texts::{append_canonical_text, append_usual_text, canonical_text};
 pub use equivalence::equivalent;
 pub use explaining::explain;
 pub use explanation_texts::explanation_text;

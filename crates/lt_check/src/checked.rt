@@ -9,6 +9,7 @@ use crate::rejections::{Rejected, RejectedCause};
 use crate::whole_checks::know_entries;
 use lt_registry::Lookup;
 use lt_rewrite::Shortcuts;
+use lt_usual::UsualSubtags;
 use std::alloc::Global;
 use std::marker::Model;
 
@@ -17,6 +18,7 @@ use std::marker::Model;
 pub struct Checked<L: Lookup> {
     table: L,
     shortcuts: Shortcuts,
+    usual: UsualSubtags,
 }
 
 // A contract sees it as its table (this project's own).
@@ -51,8 +53,18 @@ impl<L: Lookup> Checked<L> {
                 cause: RejectedCause::OutOfMemory,
             });
         };
+        let Ok(usual) = UsualSubtags::of_table(alloc, &table) else {
+            return Err(Rejected {
+                table,
+                cause: RejectedCause::OutOfMemory,
+            });
+        };
         match find_fault(alloc, &table, &shortcuts) {
-            Ok(None) => Ok(Checked { table, shortcuts }),
+            Ok(None) => Ok(Checked {
+                table,
+                shortcuts,
+                usual,
+            }),
             Ok(Some(finding)) => Err(Rejected {
                 table,
                 cause: RejectedCause::Finding(finding),
@@ -77,5 +89,10 @@ impl<L: Lookup> Checked<L> {
         ensures { AreShortcuts (L.listed self.now) result.now }
     {
         &self.shortcuts
+    }
+
+    /// The subtags of the table that stay as they are.
+    pub fn usual(&self) -> &UsualSubtags {
+        &self.usual
     }
 }
