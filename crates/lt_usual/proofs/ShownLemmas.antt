@@ -1,6 +1,6 @@
 -- A text that is shown is cut at its hyphens into a language, and a script and a region where there is one, that all have
 -- flags; and a text that is cut so is shown.
-use Rattle.std.proofs.Common.{◌≡◌, ℕ, ◌+◌, ◌==◌, ◌++◌, ◌&&◌, suc, Bool, true, false, List, [], ◌∷◌, take, Option, Some, None, option_map, IfSome, inl, inr, refl, sym, ap, ◌∙◌, arith}
+use Rattle.std.proofs.Common.{◌≡◌, ℕ, ◌+◌, ◌==◌, ◌++◌, ◌&&◌, suc, Bool, true, false, List, [], ◌∷◌, length, take, Option, Some, None, option_map, IfSome, inl, inr, refl, sym, ap, ◌∙◌, arith}
 use Rattle.std.specs.Char.{to_ascii_lowercase, to_ascii_uppercase}
 use Rattle.std.proofs.lemmas.Bool.{and_parts, eqb-true, eqb-false, cases_Bool}
 use Rattle.lt_subtag.specs.Bytes.{folded}
@@ -11,7 +11,7 @@ use Rattle.lt_usual.specs.Flags.{flag}
 use Rattle.lt_usual.specs.Shown.{after_if, script_before, after_language, nine_before, with_two, with_three, shown_two, shown_three, shown}
 use Rattle.lt_usual.specs.declared.texts.AfterLanguage.{AfterLanguage}
 use Rattle.lt_usual.specs.declared.texts.Shown.{Shown}
-use Rattle.lt_usual.proofs.PlaceLemmas.{IsPlace, is_place}
+use Rattle.lt_usual.proofs.PlaceLemmas.{IsPlace, is_place, language_of_two, language_of_three, script, region_of_two, region_of_three}
 
 -- a hyphen and a subtag after it, if there is one
 abbrev pub hyphened : Option (List ℕ) → List ℕ
@@ -119,6 +119,20 @@ is_after F (x ∷ a ∷ b ∷ c ∷ d ∷ y ∷ e ∷ f ∷ g ∷ []) p h =
     }
 is_after F (x ∷ a ∷ b ∷ c ∷ d ∷ y ∷ e ∷ f ∷ g ∷ z ∷ more) p h = cc
 
+-- a text of nine bytes
+pub nine_reads : (s : List ℕ) → length s ≡ 9 → s ≡ nine_before s []
+nine_reads [] h = absurd (omega arith)
+nine_reads (a ∷ []) h = absurd (omega arith)
+nine_reads (a ∷ b ∷ []) h = absurd (omega arith)
+nine_reads (a ∷ b ∷ c ∷ []) h = absurd (omega arith)
+nine_reads (a ∷ b ∷ c ∷ d ∷ []) h = absurd (omega arith)
+nine_reads (a ∷ b ∷ c ∷ d ∷ e ∷ []) h = absurd (omega arith)
+nine_reads (a ∷ b ∷ c ∷ d ∷ e ∷ f ∷ []) h = absurd (omega arith)
+nine_reads (a ∷ b ∷ c ∷ d ∷ e ∷ f ∷ g ∷ []) h = absurd (omega arith)
+nine_reads (a ∷ b ∷ c ∷ d ∷ e ∷ f ∷ g ∷ i ∷ []) h = absurd (omega arith)
+nine_reads (a ∷ b ∷ c ∷ d ∷ e ∷ f ∷ g ∷ i ∷ j ∷ []) h = refl
+nine_reads (a ∷ b ∷ c ∷ d ∷ e ∷ f ∷ g ∷ i ∷ j ∷ k ∷ s) h = absurd (omega arith)
+
 -- a text that is cut at its hyphens into subtags that have flags
 pub record IsCut (F text l : List ℕ) (s r : Option (List ℕ)) : Type 0 where
   pub text_is : text ≡ l ++ (hyphened s ++ hyphened r)
@@ -193,38 +207,55 @@ set_at F k s t n f e h =
     let at : f.at ≡ n = cc in
     ap (flag F) (sym at) ∙ f.set
 
-abbrev IsShown : {A : Type 0} → Option A → Type 0
-IsShown {A} o = (p : A) × (o ≡ Some p)
+abbrev IsShown : List ℕ → List ℕ → Type 0
+IsShown F rest = (p : AfterLanguage) × (after_language F rest ≡ Some p)
 
-region_shown : (F r : List ℕ) → IsFlagged F kinds.Region r → IsShown (after_language F (45 ∷ r))
+region_shown : (F r : List ℕ) → IsFlagged F kinds.Region r → IsShown F (45 ∷ r)
 region_shown F r f = elim (is_place kinds.Region r f.at f.placed) [
   | language_of_two a b k e n ↦ cc
   | language_of_three a b c k e n ↦ cc
   | script a b c d k e n ↦ cc
-  | region_of_two a b k e n ↦ let set = set_at F kinds.Region r (a ∷ b ∷ []) (region_2 a b) f e refl in (_, rw (e, set) refl)
-  | region_of_three a b c k e n ↦ let set = set_at F kinds.Region r (a ∷ b ∷ c ∷ []) (region_3 a b c) f e refl in (_, rw (e, set) refl)
+  | region_of_two a b k e n ↦
+      let set = set_at F kinds.Region r (a ∷ b ∷ []) (region_2 a b) f e refl in
+      let shown : after_language F (45 ∷ a ∷ b ∷ []) ≡ after_if true 3 (45 ∷ to_ascii_uppercase a ∷ to_ascii_uppercase b ∷ 0 ∷ 0 ∷ 0 ∷ 0 ∷ 0 ∷ 0 ∷ []) = rw set refl in
+      (_, ap (λ (m : List ℕ). after_language F (45 ∷ m)) e ∙ shown)
+  | region_of_three a b c k e n ↦
+      let set = set_at F kinds.Region r (a ∷ b ∷ c ∷ []) (region_3 a b c) f e refl in
+      let shown : after_language F (45 ∷ a ∷ b ∷ c ∷ []) ≡ after_if true 4 (45 ∷ a ∷ b ∷ c ∷ 0 ∷ 0 ∷ 0 ∷ 0 ∷ 0 ∷ []) = rw set refl in
+      (_, ap (λ (m : List ℕ). after_language F (45 ∷ m)) e ∙ shown)
 ]
 
-script_shown : (F s : List ℕ) (r : Option (List ℕ)) → IsFlagged F kinds.Script s → IfSome r (IsFlagged F kinds.Region) → IsShown (after_language F (45 ∷ s ++ hyphened r))
+module _ (F : List ℕ) (a b c d : ℕ) (set : flag F (script_4 a b c d) ≡ true) where
+  with_region : (r : Option (List ℕ)) → IfSome r (IsFlagged F kinds.Region) → IsShown F (45 ∷ a ∷ b ∷ c ∷ d ∷ hyphened r)
+  with_region None g =
+      let shown : after_language F (45 ∷ a ∷ b ∷ c ∷ d ∷ []) ≡ after_if true 5 (script_before a b c d (0 ∷ 0 ∷ 0 ∷ 0 ∷ [])) = rw set refl in
+      (_, shown)
+  with_region (Some r) g = elim (is_place kinds.Region r g.at g.placed) [
+    | language_of_two x y k i n ↦ cc
+    | language_of_three x y z k i n ↦ cc
+    | script x y z w k i n ↦ cc
+    | region_of_two x y k i n ↦
+        let also = set_at F kinds.Region r (x ∷ y ∷ []) (region_2 x y) g i refl in
+        let shown : after_language F (45 ∷ a ∷ b ∷ c ∷ d ∷ 45 ∷ x ∷ y ∷ []) ≡ after_if true 8 (script_before a b c d (45 ∷ to_ascii_uppercase x ∷ to_ascii_uppercase y ∷ 0 ∷ [])) = rw (set, also) refl in
+        (_, ap (λ (m : List ℕ). after_language F (45 ∷ a ∷ b ∷ c ∷ d ∷ 45 ∷ m)) i ∙ shown)
+    | region_of_three x y z k i n ↦
+        let also = set_at F kinds.Region r (x ∷ y ∷ z ∷ []) (region_3 x y z) g i refl in
+        let shown : after_language F (45 ∷ a ∷ b ∷ c ∷ d ∷ 45 ∷ x ∷ y ∷ z ∷ []) ≡ after_if true 9 (script_before a b c d (45 ∷ x ∷ y ∷ z ∷ [])) = rw (set, also) refl in
+        (_, ap (λ (m : List ℕ). after_language F (45 ∷ a ∷ b ∷ c ∷ d ∷ 45 ∷ m)) i ∙ shown)
+  ]
+
+script_shown : (F s : List ℕ) (r : Option (List ℕ)) → IsFlagged F kinds.Script s → IfSome r (IsFlagged F kinds.Region) → IsShown F (45 ∷ (s ++ hyphened r))
 script_shown F s r f g = elim (is_place kinds.Script s f.at f.placed) [
   | language_of_two a b k e n ↦ cc
   | language_of_three a b c k e n ↦ cc
   | region_of_two a b k e n ↦ cc
   | region_of_three a b c k e n ↦ cc
-  | script a b c d k e n ↦ let set = set_at F kinds.Script s (a ∷ b ∷ c ∷ d ∷ []) (script_4 a b c d) f e refl in with_region a b c d e set r g
+  | script a b c d k e n ↦
+      let t = with_region F a b c d (set_at F kinds.Script s (a ∷ b ∷ c ∷ d ∷ []) (script_4 a b c d) f e refl) r g in
+      (t.0, ap (λ (m : List ℕ). after_language F (45 ∷ (m ++ hyphened r))) e ∙ t.1)
 ]
-  where
-    with_region : (a b c d : ℕ) → s ≡ a ∷ b ∷ c ∷ d ∷ [] → flag F (script_4 a b c d) ≡ true → (r : Option (List ℕ)) → IfSome r (IsFlagged F kinds.Region) → IsShown (after_language F (45 ∷ s ++ hyphened r))
-    with_region a b c d e set None g = (_, rw (e, set) refl)
-    with_region a b c d e set (Some r) g = elim (is_place kinds.Region r g.at g.placed) [
-      | language_of_two x y k i n ↦ cc
-      | language_of_three x y z k i n ↦ cc
-      | script x y z w k i n ↦ cc
-      | region_of_two x y k i n ↦ let also = set_at F kinds.Region r (x ∷ y ∷ []) (region_2 x y) g i refl in (_, rw (e, i, set, also) refl)
-      | region_of_three x y z k i n ↦ let also = set_at F kinds.Region r (x ∷ y ∷ z ∷ []) (region_3 x y z) g i refl in (_, rw (e, i, set, also) refl)
-    ]
 
-after_shown : (F : List ℕ) (s r : Option (List ℕ)) → IfSome s (IsFlagged F kinds.Script) → IfSome r (IsFlagged F kinds.Region) → IsShown (after_language F (hyphened s ++ hyphened r))
+after_shown : (F : List ℕ) (s r : Option (List ℕ)) → IfSome s (IsFlagged F kinds.Script) → IfSome r (IsFlagged F kinds.Region) → IsShown F (hyphened s ++ hyphened r)
 after_shown F None None f g = (_, refl)
 after_shown F None (Some r) f g = region_shown F r g
 after_shown F (Some s) r f g = script_shown F s r f g
