@@ -4,9 +4,10 @@ ghost use Rattle.lt_canon.specs.Texts.{AppendsCanonicalText, IsCanonicalTextOf, 
 
 use crate::canonical_tags::other_form;
 use crate::refusals::TextRefusal;
+use crate::usual_texts::append_usual_text;
 use lt_check::Checked;
 use lt_registry::Lookup;
-use lt_tag::{OutOfMemory, append_tag, read_tag};
+use lt_tag::{append_tag, read_tag};
 use std::alloc::Global;
 
 /// Appends the text, in conventional case, of the canonical form of the tag that a text is read as (RFC 5646,
@@ -28,17 +29,6 @@ pub fn append_canonical_text<L: Lookup>(
     let other = other_form(alloc, checked, &tag)?;
     append_tag(texts, other.as_ref().unwrap_or(&tag))?;
     Ok(())
-}
-
-/// Appends a usual text.
-#[inline(always)]
-pub fn append_usual_text<L: Lookup>(
-    checked: &Checked<L>,
-    text: &[u8],
-    texts: &mut Vec<u8>,
-) -> Result<bool, OutOfMemory>
-{
-    Ok(checked.usual().append_text(text, texts)?)
 }
 
 /// The text, in conventional case, of the canonical form of the tag that a text is read as (RFC 5646, 2.1.1 and

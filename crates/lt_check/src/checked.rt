@@ -1,6 +1,7 @@
 //! A table of entries that passes the check.
 ghost use Rattle.std.specs.Prelude.{◌≡◌, IfOk, IfErr};
 ghost use Rattle.lt_rewrite.specs.Shortcuts.{AreShortcuts};
+ghost use Rattle.lt_usual.specs.Flags.{AreFlags};
 ghost use Rattle.lt_check.specs.Conditions.{IsChecked, Passes};
 ghost use Rattle.lt_check.specs.Checking.{IsCause, IsFirstCause, RejectsNoneThatPass};
 
@@ -29,7 +30,7 @@ impl<L: Lookup> Model for Checked<L> {
 
     ghost view = { λ c. c.table };
 
-    ghost invariant = { λ c. IsCheckedAlong (L.listed c.table) c.shortcuts };
+    ghost invariant = { λ c. IsCheckedAlong (L.listed c.table) c.shortcuts c.usual };
 }
 
 impl<L: Lookup> Checked<L> {
@@ -91,8 +92,11 @@ impl<L: Lookup> Checked<L> {
         &self.shortcuts
     }
 
-    /// The subtags of the table that stay as they are.
-    pub fn usual(&self) -> &UsualSubtags {
+    /// Flags of the table's languages, scripts and regions that stay as they are.
+    pub fn usual(&self) -> &UsualSubtags
+        ensures flags { AreFlags (L.listed self.now) result.now }
+        ensures checked { IsChecked (L.listed self.now) }
+    {
         &self.usual
     }
 }

@@ -407,7 +407,7 @@ module _ (text : List ℕ) (c : CoreParts) (no_extlangs : c.extlangs ≡ []) (no
       let m = uncons l.1 s (r ∷ []) l.4 in
       let o = uncons m.1 r [] m.4 in
       let ps : pieces text ≡ l.0 ∷ m.0 ∷ o.0 ∷ [] =
-          l.2 ∙ ap (λ (m : List (List ℕ)). l.0 ∷ m) (m.2 ∙ ap (λ (n : List (List ℕ)). m.0 ∷ n) (o.2 ∙ ap (λ (n : List (List ℕ)). o.0 ∷ n) (no_more o.1 o.4))) in
+      l.2 ∙ ap (λ (m : List (List ℕ)). l.0 ∷ m) (m.2 ∙ ap (λ (n : List (List ℕ)). m.0 ∷ n) (o.2 ∙ ap (λ (n : List (List ℕ)). o.0 ∷ n) (no_more o.1 o.4))) in
       (l.0, Some m.0, Some o.0, record { text_is = joined (l.0 ∷ m.0 ∷ o.0 ∷ []) ps; language = l.3; script = ap Some m.3 ∙ sym i; region = ap Some o.3 ∙ sym j })
 
 -- a subtag of that length has a place
@@ -466,10 +466,14 @@ module _ (R : List EntryParts) (F : List ℕ) (flags : AreFlags R F) where
       let l = parts.0 in
       let stay = subst (λ (m : List ℕ). stays R kinds.Language m ≡ true) (sym has.language) h.language in
       let few = subst (λ (m : List ℕ). length m ≤ 3) (sym has.language) h.short in
-      let p = language_placed l (language_length (folded l) (stays_form R flags.forms kinds.Language (folded l) stay)) few in
-      (l, parts.1, parts.2, record {
-        text_is = has.text_is;
-        language_set = stays_flagged R F flags kinds.Language l p.0 p.1 stay;
-        script_set = script_flagged parts.1 c.script has.script h.script;
-        region_set = region_flagged parts.2 c.region has.region h.region;
-      })
+      let p = language_placed l (language_length (folded l) (stays_form R flags.forms kinds.Language (folded l) stay)) few in (
+        l,
+        parts.1,
+        parts.2,
+        record {
+          text_is = has.text_is;
+          language_set = stays_flagged R F flags kinds.Language l p.0 p.1 stay;
+          script_set = script_flagged parts.1 c.script has.script h.script;
+          region_set = region_flagged parts.2 c.region has.region h.region;
+        },
+      )

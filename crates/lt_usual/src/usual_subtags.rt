@@ -56,14 +56,14 @@ impl UsualSubtags {
         self.words[place / 64] >> (place % 64) & 1 == 1
     }
 
-    /// Appends a text in conventional case, exactly if it is read as a langtag of a language of 2 or 3 letters, and a
-    /// script and a region where there is one, each of which stays; tells whether it did.
+    /// Appends a text in conventional case, exactly if, by the registry of these flags, it is read as a langtag of a
+    /// language of 2 or 3 letters, and a script and a region where there is one, each of which stays. Tells whether it
+    /// did. Refused only where memory runs out.
     #[inline(always)]
     pub fn append_text(&self, text: &[u8], texts: &mut Vec<u8>) -> Result<bool, AllocError>
-        ghost entries: { List EntryParts }
-        requires { AreFlags entries self.now }
-        ensures exact { IfOk result (λ told. IsTrue told ↔ IsStaying entries text.now) }
-        ensures appended { IfOk result (λ told. texts.new.items ≡ (if told then texts.old.items ++ conventional (list_of text.now) else texts.old.items)) }
+        ensures exact { IfOk result (λ told. (R : List EntryParts) → AreFlags R self.now → IsTrue told ↔ IsStaying R text.now) }
+        ensures appended { IfOk result (λ told. (R : List EntryParts) → AreFlags R self.now → IsTrue told → texts.new.items ≡ texts.old.items ++ conventional (list_of text.now)) }
+        ensures unchanged { IfOk result (λ told. told ≡ false → texts.new.items ≡ texts.old.items) }
         ensures kept { OnErr result (texts.new.items ≡ texts.old.items) }
     {
         let Some(shown) = self.shown(text) else {
