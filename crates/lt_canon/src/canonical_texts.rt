@@ -25,6 +25,20 @@ pub fn append_canonical_text<L: Lookup>(
     if append_usual_text(checked, text, texts)? {
         return Ok(());
     }
+    append_other_text(alloc, checked, text, texts)
+}
+
+/// The same of any text, by the tag that it is read as.
+fn append_other_text<L: Lookup>(
+    alloc: Global,
+    checked: &Checked<L>,
+    text: &[u8],
+    texts: &mut Vec<u8>,
+) -> Result<(), TextRefusal>
+    ensures appended { OnOk result (AppendsCanonicalText (L.listed checked.now) text.now texts.old.items texts.new.items) }
+    ensures refusal { IfErr result (λ refusal. IsTextRefusal (L.listed checked.now) text.now refusal) }
+    ensures kept { OnErr result (texts.new.items ≡ texts.old.items) }
+{
     let tag = read_tag(alloc, text)?;
     let other = other_form(alloc, checked, &tag)?;
     append_tag(texts, other.as_ref().unwrap_or(&tag))?;
