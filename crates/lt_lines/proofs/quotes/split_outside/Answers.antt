@@ -1,12 +1,8 @@
-use Rattle.std.proofs.Common.{◌≡◌, ◌∙◌, Bool, true, false, not, refl, ap, get_or, sym}
+use Rattle.std.proofs.Common.{◌∙◌, false, ap, get_or, sym}
 use Rattle.lt_lines.specs.Quotes.{is_inside_after}
 use Rattle.lt_lines.proofs.QuoteLemmas.{free_next, inside_next}
 use Rattle.lt_lines.proofs.quotes.split_outside.Goals as goal
 use Rattle.lt_lines.proofs.quotes.split_outside.Goals.{else-not-inside-via-then-not-inside+else-byte-stop, else-not-inside-via-else-not-inside}
-
-not_out : (inside : Bool) → not inside ≡ false → inside ≡ true
-not_out true h = refl
-not_out false h = sym h
 
 pub loop-index-preserved : goal.loop-index-preserved
 loop-index-preserved c =
@@ -17,6 +13,6 @@ loop-index-preserved c =
       inside = c.after_byte-inside.ensures ∙ ap (λ b. is_inside_after b (get_or text i 0)) turns.inside ∙ sym (inside_next false text i c.loop-index-test.true);
       free = free_next c.args.stop text i c.loop-index-test.true turns.free (elim c.else-not-inside.branch [
         else-not-inside-via-then-not-inside+else-byte-stop w ↦ λ e. absurd (w.if-byte-stop.false e)
-        | else-not-inside-via-else-not-inside w ↦ λ e. sym turns.inside ∙ not_out c.loop-index.inside w.if-not-inside.false
+        | else-not-inside-via-else-not-inside w ↦ λ e. sym turns.inside ∙ w.if-not-inside.false
       ]);
     }
