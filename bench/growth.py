@@ -70,7 +70,6 @@ COMMANDS = [
     (["canon", SAMPLE], LINES),
     (["tsv", SAMPLE, "2"], b"1\tzh-yue\tx\r\n2\tfr\n3\n4\tsgn-dd"),
     (["csv", SAMPLE, "2"], b"id,tag\r\n\"1\n,\",zh-yue\r\n2,\"fr\"\n3\n4,sgn-dd"),
-    (["csv", SAMPLE, "2"], b"id,tag\n1,\"zh-yue"),
     (["extlang", SAMPLE, "cmn-hans"], b""),
     (["equal", SAMPLE, "YUE", "zh-yue"], b""),
     (["explain", SAMPLE, "sgn-dd"], b""),
