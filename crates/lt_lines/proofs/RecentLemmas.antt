@@ -1,15 +1,18 @@
 -- Answers that were given lately.
-use Rattle.std.proofs.Common.{◌≡◌, ◌<◌, ◌+◌, ◌++◌, ℕ, List, [], ◌∷◌, Bool, false, Option, length, take, drop, inl, inr, sym, ap, subst, ◌∙◌, arith, slice_index_or, slice_set}
+use Rattle.std.proofs.Common.{◌≡◌, ◌<◌, ◌+◌, ◌++◌, ℕ, List, [], ◌∷◌, Bool, false, Option, Result, OnOk, length, take, drop, inl, inr, sym, ap, subst, ◌∙◌, arith, slice_index_or, slice_set}
 use Rattle.std.specs.List.{All, swap}
 use Rattle.std.proofs.lemmas.List.Elements.{All-contains, All-set}
 use Rattle.std.proofs.lemmas.List.{take_all}
+use Rattle.std.proofs.lemmas.Result.{on_ok_weaker}
 use Rattle.std.proofs.Math.Seq.{drop-append_seam}
+use Rattle.lt_tag.specs.declared.faults.OutOfMemory.{OutOfMemory}
 use Rattle.lt_registry.specs.Parts.{EntryParts}
 use Rattle.lt_canon.specs.Texts.{AppendsCanonicalText}
 use Rattle.lt_recent.specs.Recent.{Holds, IsBlank, PutsIn, kept}
 use Rattle.lt_recent.specs.declared.Kept.{Kept}
 use Rattle.lt_lines.specs.Answering.{AppendsTextReply, AreRecent, IsRecent}
 use Rattle.lt_lines.specs.Owed.{Terms, terms}
+use Rattle.lt_lines.specs.declared.forms.LineForm.{LineForm}
 use Rattle.lt_lines.specs.declared.forms.LineForm.TheVariants as forms
 
 -- a table that holds nothing holds nothing wrong
@@ -70,3 +73,16 @@ pub put_field : (R : List EntryParts) (count : ℕ) (before after : List (Option
 put_field R count before after text old new answer puts rest a recent =
     let same : answer ≡ a.canonical = rest ∙ ap (drop (length old)) a.grown ∙ drop-append_seam old a.canonical in
     put_recent (terms R (forms.Row count)) before after text a.canonical false (subst (λ (l : List ℕ). PutsIn before after text l false) same puts) a.is_canonical recent
+
+-- the canonical texts of fields are kept alike where tabs part fields and where commas do
+to_row : (R : List EntryParts) (before : ℕ) (table : List (Option Kept)) → AreRecent (terms R (forms.Csv before)) table → AreRecent (terms R (forms.Row before)) table
+to_row R before table a = record { each = a.each }
+
+of_row : (R : List EntryParts) (before : ℕ) (table : List (Option Kept)) → AreRecent (terms R (forms.Row before)) table → AreRecent (terms R (forms.Csv before)) table
+of_row R before table a = record { each = a.each }
+
+pub csv_recent : (R : List EntryParts) (before : ℕ) (form : LineForm) (r : Result Bool OutOfMemory) (old new : List (Option Kept)) → form ≡ forms.Csv before
+    → OnOk r (AreRecent (terms R (forms.Row before)) old → AreRecent (terms R (forms.Row before)) new) → OnOk r (AreRecent (terms R form) old → AreRecent (terms R form) new)
+csv_recent R before form r old new is h =
+    subst (λ (f : LineForm). OnOk r (AreRecent (terms R f) old → AreRecent (terms R f) new)) (sym is)
+    (on_ok_weaker r (λ keeps recent. of_row R before new (keeps (to_row R before old recent))) h)
