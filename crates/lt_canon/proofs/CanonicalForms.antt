@@ -23,8 +23,7 @@ use Rattle.lt_rewrite.proofs.Stars.{star_trans}
 use Rattle.lt_rewrite.proofs.NormalForms.{star_keeps, normal_is_form}
 use Rattle.lt_check.specs.Conditions.{IsValidCoreAlone, IsChecked}
 use Rattle.lt_canon.specs.Answers.{IsCanonicalFormOf, IsRepeatOf}
-use Rattle.lt_canon.specs.OtherForms.{IsCanonicalAnswer}
-use Rattle.lt_canon.specs.Settled.{IsDistinctForm, IsCoreRefusal, IsSecondInSources, IsSettledValue}
+use Rattle.lt_canon.specs.Settled.{IsCanonicalAnswer, IsDistinctForm, IsCoreRefusal, IsSecondInSources, IsSettledTag, IsSettledLangTag, IsSettledValue, IsReplacedWhole}
 use Rattle.lt_canon.specs.Refusals.{of_valid}
 use Rattle.lt_canon.specs.declared.refusals.Refusal.{Refusal}
 use Rattle.lt_canon.specs.declared.refusals.Refusal.TheVariants as refusals
@@ -32,7 +31,7 @@ use Rattle.lt_canon.proofs.Distinctness.{second_repeats}
 use Rattle.lt_canon.proofs.EndForms.{star_proper}
 use Rattle.lt_rewrite.proofs.ProperTags.{proper_parts}
 use Rattle.lt_canon.proofs.TagProper.{core_spells_none}
-use Rattle.lt_canon.proofs.TagForm.{core_end, cores_formed, cores_reached, cores_proper, extensions_reached, resting, end_form, extensions_step_to}
+use Rattle.lt_canon.proofs.TagForm.{extensions_step_from, core_end, cores_formed, cores_reached, cores_proper, extensions_reached, resting, end_form, extensions_step_to}
 use Rattle.lt_canon.proofs.SourceRepeats.{source_repeats, named_source}
 use Rattle.lt_canon.proofs.Answering.{canonical_form, named_repeat, langtag_ends, core_ends, value_ends, core_value_ends, grandfathered_ends, private_use_ends}
 use Rattle.lt_tag.specs.Lists.{longest_text}
@@ -43,14 +42,11 @@ langtag_of (LangTag d es ps) c h = let same : d ≡ c = cc in ap (λ x. LangTag 
 langtag_of (PrivateUse ps) c h = cc
 langtag_of (Grandfathered n) c h = cc
 
-pub plain_of_number : (t : TagForm) (n : ℕ) → number_of t ≡ Some n → CanBeReplacedWhole t
-plain_of_number (LangTag c es ps) n h = cc
-plain_of_number (PrivateUse ps) n h = cc
-plain_of_number (Grandfathered m) n h = tt
-
-pub plain_of_test : (t : TagForm) (o : Option ℕ) → o ≡ number_of t → is_some o ≡ true → CanBeReplacedWhole t
-plain_of_test t None e h = cc
-plain_of_test t (Some n) e h = plain_of_number t n (sym e)
+-- a tag without a core has no parts to settle
+pub coreless_settled : (R : List EntryParts) (t s : TagForm) → core_of t ≡ None → s ≡ t → IsSettledTag R t s
+coreless_settled R (LangTag c es ps) s h e = cc
+coreless_settled R (PrivateUse ps) s h e = e
+coreless_settled R (Grandfathered n) s h e = e
 
 pub none_of_test : {A : Type 0} (o r : Option A) → o ≡ r → is_some o ≡ false → r ≡ None
 none_of_test None r e h = sym e
@@ -73,19 +69,6 @@ invalid_refused R t checks.OutOfMemory h = tt
 pub nothing_of_test : {A : Type 0} (xs : List A) → true ≡ (length xs == 0) → [] ≡ xs
 nothing_of_test [] h = refl
 nothing_of_test (x ∷ xs) h = let none : length (x ∷ xs) ≡ 0 = eqb-true (length (x ∷ xs)) 0 (sym h) in absurd (omega arith)
-
--- a tag by its parts
-pub tag_of_parts : (t : TagForm) (c : CoreParts) (es : List ExtensionParts) (ps : List (List ℕ)) → Some c ≡ core_of t → es ≡ extensions_of t → ps ≡ private_of t → t ≡ LangTag c es ps
-tag_of_parts t c es ps h e p = langtag_of t c (sym h) ∙ (λ i. LangTag c (sym e i) (sym p i))
-
--- a tag that is found valid, by its parts
-pub valid_parts : (R : List EntryParts) (t : TagForm) (c : CoreParts) (es : List ExtensionParts) (ps : List (List ℕ)) → IsTagValue t → HasNoFault R t → Some c ≡ core_of t → es ≡ extensions_of t → ps ≡ private_of t → IsValid R (LangTag c es ps)
-valid_parts R t c es ps k n h e p =
-    subst (IsValid R) (tag_of_parts t c es ps h e p) ((valid_law R t k).1 n)
-
--- the same of a core alone
-pub valid_alone : (R : List EntryParts) (t : TagForm) (c : CoreParts) → IsTagValue t → HasNoFault R t → t ≡ core_alone c → IsValid R (core_alone c)
-valid_alone R t c k n e = subst (IsValid R) e ((valid_law R t k).1 n)
 
 -- what settling the extensions of a proper tag needs
 pub transforms_have_parts : (R : List EntryParts) (es : List ExtensionParts) → AllByRecursion (IsProperExtension R) es → AllByRecursion (λ (e : ExtensionParts). e.singleton ≡ transform → (p : TForm) × IsTransform e.subtags p) es
@@ -156,3 +139,34 @@ module _ (R : List EntryParts) (C : IsChecked R) where
   source_refused c d es fs ps v V n m k =
       named_repeat R C (LangTag c es ps) (LangTag d fs ps) v V (parts_reached c d es fs ps V.proper n.normal m) (λ x. source_repeats fs v k x.1)
       (inr (record { form = d; normal = n.normal; distinct = n.distinct }, named_source R C es fs v V.proper.parts.extensions m k))
+
+  -- a core alone whose core is in its normal form, and its value
+  settled_alone : (c : CoreParts) (s r : TagForm) → IsValid R (core_alone c) → IsSettledLangTag R c [] [] s → IsReplacedWhole R s r → IsCanonicalFormOf R (core_alone c) r
+  settled_alone c s r V k w =
+      let none : k.extensions ≡ [] = star_keeps (λ (l : List ExtensionParts). l ≡ []) (λ a b s h. absurd (extensions_step_from R a b s h)) k.normal.reached refl in
+      let is : s ≡ core_alone k.core = k.is ∙ (λ i. LangTag k.core (none i) []) in
+      elim w [
+        | inl v ↦ core_value_canonical c k.core v.value r V k.form (ap (whole_value R) (sym is) ∙ v.has) v.settled
+        | inr y ↦ subst (IsCanonicalFormOf R (core_alone c)) (sym (y.same ∙ is))
+            (core_canonical c k.core V k.form (ap (whole_value R) (sym is) ∙ y.none (subst CanBeReplacedWhole (sym is) (refl, refl))))
+      ]
+
+  -- a langtag of more than a core whose parts are in their normal forms
+  settled_parts : (c : CoreParts) (es : List ExtensionParts) (ps : List (List ℕ)) (s r : TagForm) → 0 < length es + length ps → IsValid R (LangTag c es ps) → IsSettledLangTag R c es ps s → IsReplacedWhole R s r → IsCanonicalFormOf R (LangTag c es ps) r
+  settled_parts c es ps s r h V k w =
+      let some = form_some es k.extensions ps k.normal h in
+      elim w [
+        | inl v ↦ let none = subst CanBeReplacedWhole k.is v.plain in absurd (omega (arith, some, ap length none.0, ap length none.1))
+        | inr y ↦ subst (IsCanonicalFormOf R (LangTag c es ps)) (sym (y.same ∙ k.is)) (langtag_canonical c k.core es k.extensions ps V k.form k.normal k.distinct h)
+      ]
+
+  -- a tag whose parts are in their normal forms, and then its value
+  pub settled_canonical : (t s r : TagForm) → IsValid R t → IsSettledTag R t s → IsReplacedWhole R s r → IsCanonicalFormOf R t r
+  settled_canonical (LangTag c [] []) s r V k w = settled_alone c s r V k w
+  settled_canonical (LangTag c [] (p ∷ ps)) s r V k w = settled_parts c [] (p ∷ ps) s r (omega arith) V k w
+  settled_canonical (LangTag c (e ∷ es) ps) s r V k w = settled_parts c (e ∷ es) ps s r (omega arith) V k w
+  settled_canonical (PrivateUse ps) s r V k (inl v) = absurd (subst CanBeReplacedWhole k v.plain)
+  settled_canonical (PrivateUse ps) s r V k (inr y) = subst (IsCanonicalFormOf R (PrivateUse ps)) (sym (y.same ∙ k)) (coreless_canonical (PrivateUse ps) V refl (inl refl))
+  settled_canonical (Grandfathered n) s r V k (inl v) = value_canonical (Grandfathered n) v.value r tt V (ap (whole_value R) (sym k) ∙ v.has) v.settled
+  settled_canonical (Grandfathered n) s r V k (inr y) =
+      subst (IsCanonicalFormOf R (Grandfathered n)) (sym (y.same ∙ k)) (coreless_canonical (Grandfathered n) V refl (inr (ap (whole_value R) (sym k) ∙ y.none (subst CanBeReplacedWhole (sym k) tt))))

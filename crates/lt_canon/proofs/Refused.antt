@@ -1,10 +1,12 @@
 -- The refusal that is owed, and its three parts.
-use Rattle.std.proofs.Common.{List}
+use Rattle.std.proofs.Common.{List, IfErr}
+use Rattle.std.specs.Prelude.{Result, Ok, Err}
 use Rattle.lt_tag.specs.Parts.{TagForm}
 use Rattle.lt_registry.specs.Parts.{EntryParts}
 use Rattle.lt_registry.proofs.ValidityLaws.{valid_law}
 use Rattle.lt_canon.specs.Answers.{RefusesOnlyRepeats}
 use Rattle.lt_canon.specs.Refusals.{NamesFault, NamesRepeat, IsRefusedWith}
+use Rattle.lt_canon.specs.Settled.{IsCanonicalAnswer}
 use Rattle.lt_canon.specs.declared.refusals.Refusal.{Refusal}
 use Rattle.lt_canon.specs.declared.refusals.Refusal.TheVariants as refusals
 
@@ -27,3 +29,7 @@ pub refused : (R : List EntryParts) (t : TagForm) (refusal : Refusal) → NamesF
 refused R t (refusals.Invalid fault) h k n = h
 refused R t (refusals.ReplacementRepeats v) h k n = record { valid = k.0; repeats = k.1; named = n }
 refused R t refusals.OutOfMemory h k n = tt
+
+pub repeats_answered : (R : List EntryParts) (t : TagForm) (r : Result TagForm Refusal) → IsCanonicalAnswer R t r → IfErr r (RefusesOnlyRepeats R t)
+repeats_answered R t (Ok form) h = tt
+repeats_answered R t (Err refusal) h = only_repeats R t refusal h

@@ -1,10 +1,12 @@
 -- A variant that occurs twice in the source of one of the extensions in their normal form is the one that the
 -- refusal names.
-use Rattle.std.proofs.Common.{◌≡◌, ℕ, ◌+◌, ◌<◌, false, List, [], ◌∷◌, ◌++◌, Option, Some, None, refl, sym, ap, ◌∙◌, subst, map, append_assoc, length, take, drop, get_or, IfSome}
-use Rattle.std.specs.Prelude.{option_map, MatchOption}
+use Rattle.std.proofs.Common.{◌≡◌, ℕ, ◌+◌, ◌<◌, false, List, [], ◌∷◌, ◌++◌, ◌≢◌, Option, Some, None, refl, sym, ap, ◌∙◌, subst, map, append_assoc, length, take, drop, get_or, IfSome}
+use Rattle.std.specs.Prelude.{option_map, flat_map, MatchOption}
+use Rattle.std.specs.Option.{option_map_or, option_to_list}
 use Rattle.std.specs.List.{AllByRecursion}
 use Rattle.lt_tag.specs.Parts.{CoreParts, ExtensionParts, TForm}
-use Rattle.lt_tag.specs.Extensions.{transform, IsTransform}
+use Rattle.lt_tag.specs.Extensions.{transform, IsTransform, spell_field}
+use Rattle.lt_tag.specs.Spelling.{spell_core}
 use Rattle.lt_registry.specs.Parts.{EntryParts}
 use Rattle.lt_registry.specs.Validity.{Distinct, IsProperExtension, HasDistinctSource}
 use Rattle.lt_registry.specs.Faults.{HasSource}
@@ -29,6 +31,28 @@ pub no_source : (e : ExtensionParts) (p : TForm) → IsTransform e.subtags p →
 no_source e p k h s q j =
     let Q : Option CoreParts → Type 0 = λ o. IfSome o HasDistinctVariants in
     subst Q (sym h ∙ ap (λ (t : TForm). t.source) (one_transform e.subtags p q k j)) tt
+
+distinct_front : (xs ys : List (List ℕ)) → Distinct (xs ++ ys) → Distinct xs
+distinct_front [] ys d = tt
+distinct_front (x ∷ xs) ys d = (all_front xs d.0, distinct_front xs ys d.1)
+  where
+    all_front : (zs : List (List ℕ)) → AllByRecursion (λ y. y ≢ x) (zs ++ ys) → AllByRecursion (λ y. y ≢ x) zs
+    all_front [] a = tt
+    all_front (z ∷ zs) a = (a.0, all_front zs a.1)
+
+distinct_rest : (xs ys : List (List ℕ)) → Distinct (xs ++ ys) → Distinct ys
+distinct_rest [] ys d = d
+distinct_rest (x ∷ xs) ys d = distinct_rest xs ys d.1
+
+-- one without a subtag twice repeats none
+pub distinct_subtags : (e : ExtensionParts) → Distinct e.subtags → HasDistinctSource e
+distinct_subtags e d _ p k = of_some p.source (distinct_front _ (flat_map spell_field p.fields) (subst Distinct (sym k.spelled) d))
+  where
+    of_some : (o : Option CoreParts) → Distinct (option_map_or spell_core o []) → IfSome o HasDistinctVariants
+    of_some None d = tt
+    of_some (Some c) d =
+        distinct_rest (option_to_list c.region) c.variants (distinct_rest (option_to_list c.script) (option_to_list c.region ++ c.variants)
+        (distinct_rest (c.language ∷ c.extlangs) (option_to_list c.script ++ (option_to_list c.region ++ c.variants)) d))
 
 -- one with a source repeats what the source repeats
 pub of_source : (e : ExtensionParts) (p : TForm) (source : CoreParts) (vs : List (List ℕ)) (o : Option (List ℕ)) → e.singleton ≡ transform → IsTransform e.subtags p → p.source ≡ Some source → vs ≡ source.variants → MatchOption o (Distinct vs) (IsSecondOccurrence vs) → MatchOption o (HasDistinctSource e) (IsSecondInSource e)

@@ -24,9 +24,9 @@ use Rattle.lt_rewrite.specs.TagSteps.{CanBeReplacedWhole}
 use Rattle.lt_rewrite.proofs.CoreLaws.{AtRest, rests}
 use Rattle.lt_check.specs.Conditions.{IsChecked}
 use Rattle.lt_canon.specs.Answers.{IsCanonicalFormOf}
-use Rattle.lt_canon.specs.Settled.{IsDistinctForm}
+use Rattle.lt_canon.specs.Settled.{IsDistinctForm, IsSettledTag}
 use Rattle.lt_canon.specs.UsualTags.{IsUsual, Test, on_test, one_valued, part_valued, core_valued}
-use Rattle.lt_canon.proofs.CanonicalForms.{form_spells_none, core_canonical}
+use Rattle.lt_canon.proofs.TagForm.{extensions_step_from}
 
 -- a test tells what a check tells
 abbrev Agrees : Test → Check → Type 0
@@ -144,12 +144,9 @@ module _ (R : List EntryParts) (t : TagForm) (c : CoreParts) (u : IsUsual c) (k 
       let rest = core_without R c u h in
       record { normal = record { reached = done; at_rest = λ d s. rests (values_of R) c d rest s }; distinct = (subst (IsValid R) k V).distinct.0 }
 
-  pub usual_plain : CanBeReplacedWhole t
-  usual_plain = subst CanBeReplacedWhole (sym k) (refl, refl)
-
-  module _ (C : IsChecked R) (V : IsValid R t) (h : core_valued R c ≡ Ok false) where
-    pub usual_spells_none : IsNotGrandfathered (spell_core c)
-    usual_spells_none = form_spells_none R C c c [] [] (subst (IsValid R) k V).proper (usual_form V h).normal
-
-    pub usual_canonical : whole_value R t ≡ None → IsCanonicalFormOf R t (core_alone c)
-    usual_canonical e = subst (λ a. IsCanonicalFormOf R a (core_alone c)) (sym k) (core_canonical R C c c (subst (IsValid R) k V) (usual_form V h) (ap (whole_value R) (sym k) ∙ e))
+  -- so its parts are in their normal forms
+  pub usual_settled : IsTagValue t → core_valued R c ≡ Ok false → IsSettledTag R t t
+  usual_settled v h =
+      let form = usual_form (usual_valid false v h) h in
+      let settled : IsSettledTag R (core_alone c) t = record { core = c; extensions = []; is = k; form = form; normal = record { reached = done; at_rest = λ fs s. absurd (extensions_step_from R [] fs s refl) }; distinct = tt } in
+      subst (λ a. IsSettledTag R a t) (sym k) settled

@@ -1,5 +1,4 @@
 pub mod Answers
-pub mod OtherForms
 pub mod Refusals
 pub mod Names
 pub mod Settled

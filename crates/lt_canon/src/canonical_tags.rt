@@ -1,16 +1,15 @@
 //! Canonical tags (RFC 5646, 4.5).
-ghost use Rattle.std.specs.Prelude.{◌≡◌, ◌<◌, ◌+◌, None, List, All, length, IfOk, IfErr};
+ghost use Rattle.std.specs.Prelude.{◌≡◌, Some, None, false, All, IfOk, IfErr, MatchOption};
 ghost use Rattle.lt_tag.specs.Parts.{LangTag};
-ghost use Rattle.lt_tag.specs.Values.{IsTagValue, core_of, core_alone};
+ghost use Rattle.lt_registry.specs.Entries.{whole_value};
 ghost use Rattle.lt_registry.specs.Validity.{IsValid};
 ghost use Rattle.lt_rewrite.specs.Conditions.{HasEndingChain};
 ghost use Rattle.lt_rewrite.specs.Shortcuts.{AreShortcuts};
+ghost use Rattle.lt_rewrite.specs.TagSteps.{CanBeReplacedWhole};
 ghost use Rattle.lt_check.specs.Conditions.{IsValidCoreAlone, IsChecked};
 ghost use Rattle.lt_canon.specs.Answers.{IsCanonicalFormOf, RefusesOnlyRepeats};
-ghost use Rattle.lt_canon.specs.Refusals.{NamesFault, NamesRepeat};
-ghost use Rattle.lt_canon.specs.OtherForms.{IsCanonicalAnswer, or_same};
-ghost use Rattle.lt_canon.specs.Settled.{IsDistinctForm, IsCoreRefusal, IsSettledValue};
-ghost use Rattle.lt_canon.specs.UsualTags.{IsUsual};
+ghost use Rattle.lt_canon.specs.Refusals.{NamesFault, NamesRepeat, IsRefusedWith};
+ghost use Rattle.lt_canon.specs.Settled.{IsCanonicalAnswer, IsDistinctForm, IsCoreRefusal, IsSettledTag, IsSettledValue, IsReplacedWhole};
 
 use crate::refusals::Refusal;
 use crate::repeats::{second_in_sources, second_occurrence};
@@ -18,9 +17,9 @@ use crate::usual_tags::{is_core_valued, usual_core};
 use lt_check::Checked;
 use lt_registry::{Lookup, validate};
 use lt_rewrite::Shortcuts;
-use lt_rewrite::values::whole_value;
+use lt_rewrite::values;
 use lt_subtag::Subtag;
-use lt_tag::{Core, Extension, OutOfMemory, Tag, copy_extensions, copy_subtags};
+use lt_tag::{Core, Extension, OutOfMemory, Tag};
 use std::alloc::Global;
 
 /// The canonical form of a tag (RFC 5646, 4.5): the one canonical tag that steps reach from it. `zh-yue` gives
@@ -43,146 +42,115 @@ pub fn canonical<L: Lookup>(alloc: Global, checked: &Checked<L>, tag: &Tag) -> R
     ensures invalid { IfErr result (λ refusal. NamesFault (L.listed checked.now) tag.now refusal) }
     ensures named { IfErr result (λ refusal. NamesRepeat (L.listed checked.now) tag.now refusal) }
 {
-    match other_form(alloc, checked, tag)? {
-        Some(form) => Ok(form),
-        None => Ok(tag.copy(alloc)?),
-    }
+    canonical_of(alloc, checked, tag.copy(alloc)?)
 }
 
-/// The canonical form of a tag, or none where that is the tag itself. It may be given then too.
-pub(crate) fn other_form<L: Lookup>(
+/// The canonical form of a tag that is handed over.
+pub(crate) fn canonical_of<L: Lookup>(
     alloc: Global,
     checked: &Checked<L>,
-    tag: &Tag,
-) -> Result<Option<Tag>, Refusal>
-    ensures { IsCanonicalAnswer (L.listed checked.now) tag.now (or_same tag.now result) }
+    tag: Tag,
+) -> Result<Tag, Refusal>
+    ensures { IsCanonicalAnswer (L.listed checked.now) tag result }
 {
     let table = checked.table();
     let shortcuts = checked.shortcuts();
-    if let Some(core) = usual_core(tag) {
-        return form_of_usual(alloc, table, shortcuts, tag, core);
+    if !needs_settling(alloc, table, &tag)? {
+        return Ok(replaced_whole(alloc, table, shortcuts, tag)?);
     }
-    validate(alloc, table, tag)?;
-    if let Some(core) = tag.core_alone() {
-        return Ok(Some(form_of_core(alloc, table, shortcuts, core)?));
-    }
-    let Some(core) = tag.core() else {
-        return form_of_coreless(alloc, table, shortcuts, tag);
+    let settled = match tag.into_parts() {
+        Ok((core, extensions, private)) => {
+            settled_langtag(alloc, table, shortcuts, core, extensions, private)?
+        }
+        Err(tag) => tag,
     };
-    let (extensions, private) = (tag.extensions(), tag.private());
-    let form = form_of_langtag(alloc, table, shortcuts, core, extensions, private)?;
-    Ok(Some(form))
+    Ok(replaced_whole(alloc, table, shortcuts, settled)?)
 }
 
-/// The canonical form of a valid grandfathered or private use tag, or none where that is the tag itself.
-fn form_of_coreless<L: Lookup>(
-    alloc: Global,
-    table: &L,
-    shortcuts: &Shortcuts,
-    tag: &Tag,
-) -> Result<Option<Tag>, Refusal>
-    requires shortcuts { AreShortcuts (L.listed table.now) shortcuts.now }
-    requires checked { IsChecked (L.listed table.now) }
-    requires valid { IsValid (L.listed table.now) tag.now }
-    requires coreless { core_of tag.now ≡ None }
-    ensures { IsCanonicalAnswer (L.listed table.now) tag.now (or_same tag.now result) }
+/// Whether a part of a tag may not be in its normal form. Refused exactly where the tag is not valid, or memory
+/// runs out.
+fn needs_settling<L: Lookup>(alloc: Global, table: &L, tag: &Tag) -> Result<bool, Refusal>
+    ensures valid { IfOk result (λ needs. IsValid (L.listed table.now) tag.now) }
+    ensures settled { IfOk result (λ needs. needs ≡ false → IsSettledTag (L.listed table.now) tag.now tag.now) }
+    ensures refusal { IfErr result (IsRefusedWith (L.listed table.now) tag.now) }
 {
-    if tag.grandfathered().is_none() {
-        return Ok(None);
-    }
-    match whole_value(table, tag) {
-        Some(value) => Ok(Some(settled_value(alloc, table, shortcuts, value)?)),
-        None => Ok(None),
-    }
-}
-
-/// The canonical form of a langtag of a language, and a script and a region where there is one, or none
-/// where that is the tag itself.
-fn form_of_usual<L: Lookup>(
-    alloc: Global,
-    table: &L,
-    shortcuts: &Shortcuts,
-    tag: &Tag,
-    core: &Core,
-) -> Result<Option<Tag>, Refusal>
-    requires shortcuts { AreShortcuts (L.listed table.now) shortcuts.now }
-    requires checked { IsChecked (L.listed table.now) }
-    requires tag { IsTagValue tag.now }
-    requires usual { IsUsual core.now }
-    requires alone { tag.now ≡ core_alone core.now }
-    ensures { IsCanonicalAnswer (L.listed table.now) tag.now (or_same tag.now result) }
-{
-    if is_core_valued(table, core)? {
-        return Ok(Some(form_of_core(alloc, table, shortcuts, core)?));
-    }
-    match whole_value(table, tag) {
-        Some(value) => Ok(Some(settled_value(alloc, table, shortcuts, value)?)),
-        None => Ok(None),
+    match usual_core(tag) {
+        Some(core) => Ok(is_core_valued(table, core)?),
+        None => {
+            validate(alloc, table, tag)?;
+            Ok(true)
+        }
     }
 }
 
-/// The canonical form of the valid langtag of a core alone.
-fn form_of_core<L: Lookup>(
+/// The langtag of these parts of a valid one, with its core and its extensions in their normal forms, unless a
+/// variant occurs twice there.
+fn settled_langtag<L: Lookup>(
     alloc: Global,
     table: &L,
     shortcuts: &Shortcuts,
-    core: &Core,
+    mut core: Core,
+    mut extensions: Vec<Extension>,
+    private: Vec<Subtag>,
 ) -> Result<Tag, Refusal>
     requires shortcuts { AreShortcuts (L.listed table.now) shortcuts.now }
     requires checked { IsChecked (L.listed table.now) }
-    requires valid { IsValid (L.listed table.now) (core_alone core.now) }
-    ensures { IsCanonicalAnswer (L.listed table.now) (core_alone core.now) result }
+    requires valid { IsValid (L.listed table.now) (LangTag core extensions.items private.items) }
+    ensures settled { IfOk result (IsSettledTag (L.listed table.now) (LangTag core extensions.items private.items)) }
+    ensures refusal { IfErr result (IsRefusedWith (L.listed table.now) (LangTag core extensions.items private.items)) }
 {
-    let settled = settled_core(alloc, table, shortcuts, core)?;
-    let tag = Tag::from_parts(settled, Vec::new(alloc), Vec::new(alloc));
-    match whole_value(table, &tag) {
-        Some(value) => Ok(settled_value(alloc, table, shortcuts, value)?),
-        None => Ok(tag),
-    }
-}
-
-/// The canonical form of the valid langtag of these parts, of which some are extensions or private
-/// use.
-fn form_of_langtag<L: Lookup>(
-    alloc: Global,
-    table: &L,
-    shortcuts: &Shortcuts,
-    core: &Core,
-    extensions: &[Extension],
-    private: &[Subtag],
-) -> Result<Tag, Refusal>
-    requires shortcuts { AreShortcuts (L.listed table.now) shortcuts.now }
-    requires checked { IsChecked (L.listed table.now) }
-    requires valid { IsValid (L.listed table.now) (LangTag core.now extensions.now private.now) }
-    requires some { 0 < length extensions.now + length private.now }
-    ensures { IsCanonicalAnswer (L.listed table.now) (LangTag core.now extensions.now private.now) result }
-{
-    let settled = settled_core(alloc, table, shortcuts, core)?;
-    let mut others = copy_extensions(alloc, extensions)?;
-    shortcuts.settle_extensions(alloc, table, &mut others)?;
-    if let Some(variant) = second_in_sources(alloc, &others)? {
+    settle_core(table, shortcuts, &mut core)?;
+    shortcuts.settle_extensions(alloc, table, &mut extensions)?;
+    if let Some(variant) = second_in_sources(alloc, &extensions)? {
         return Err(Refusal::ReplacementRepeats(variant));
     }
-    Ok(Tag::from_parts(settled, others, copy_subtags(alloc, private)?))
+    Ok(Tag::from_parts(core, extensions, private))
 }
 
-/// A core in its core normal form, unless a variant occurs twice there.
-fn settled_core<L: Lookup>(
+/// Puts a core into its core normal form, unless a variant occurs twice there.
+fn settle_core<L: Lookup>(
+    table: &L,
+    shortcuts: &Shortcuts,
+    core: &mut Core,
+) -> Result<(), Refusal>
+    requires shortcuts { AreShortcuts (L.listed table.now) shortcuts.now }
+    requires chains { All (HasEndingChain (L.listed table.now)) (L.listed table.now) }
+    ensures form { IfOk result (λ _. IsDistinctForm (L.listed table.now) core.old core.new) }
+    ensures refusal { IfErr result (λ refusal. IsCoreRefusal (L.listed table.now) core.old refusal) }
+{
+    shortcuts.settle_core(table, core);
+    match second_occurrence(core.variants()) {
+        Some(variant) => Err(Refusal::ReplacementRepeats(variant)),
+        None => Ok(()),
+    }
+}
+
+/// The value of a tag that can be replaced whole, which is a grandfathered tag or a langtag that is a core alone.
+fn value_of_whole<'a, L: Lookup>(table: &'a L, tag: &Tag) -> Option<&'a Tag>
+    ensures { MatchOption result
+        (CanBeReplacedWhole tag.now → whole_value (L.listed table.now) tag.now ≡ None)
+        (λ value. CanBeReplacedWhole tag.now × (whole_value (L.listed table.now) tag.now ≡ Some value.now)) }
+{
+    if tag.core_alone().is_none() && tag.grandfathered().is_none() {
+        return None;
+    }
+    values::whole_value(table, tag)
+}
+
+/// The value of a tag that can be replaced whole, with its core in core normal form; else the tag itself.
+fn replaced_whole<L: Lookup>(
     alloc: Global,
     table: &L,
     shortcuts: &Shortcuts,
-    core: &Core,
-) -> Result<Core, Refusal>
+    tag: Tag,
+) -> Result<Tag, OutOfMemory>
     requires shortcuts { AreShortcuts (L.listed table.now) shortcuts.now }
-    requires chains { All (HasEndingChain (L.listed table.now)) (L.listed table.now) }
-    ensures form { IfOk result (λ form. IsDistinctForm (L.listed table.now) core.now form) }
-    ensures refusal { IfErr result (λ refusal. IsCoreRefusal (L.listed table.now) core.now refusal) }
+    requires checked { IsChecked (L.listed table.now) }
+    ensures { IfOk result (IsReplacedWhole (L.listed table.now) tag) }
 {
-    let mut settled = core.copy(alloc)?;
-    shortcuts.settle_core(table, &mut settled);
-    match second_occurrence(settled.variants()) {
-        Some(variant) => Err(Refusal::ReplacementRepeats(variant)),
-        None => Ok(settled),
+    match value_of_whole(table, &tag) {
+        Some(value) => settled_value(alloc, table, shortcuts, value),
+        None => Ok(tag),
     }
 }
 

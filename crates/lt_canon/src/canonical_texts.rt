@@ -2,7 +2,7 @@
 ghost use Rattle.std.specs.Prelude.{◌≡◌, IfOk, IfErr, OnOk, OnErr};
 ghost use Rattle.lt_canon.specs.Texts.{AppendsCanonicalText, IsCanonicalTextOf, IsTextRefusal};
 
-use crate::canonical_tags::other_form;
+use crate::canonical_tags::canonical_of;
 use crate::refusals::TextRefusal;
 use crate::usual_texts::append_usual_text;
 use lt_check::Checked;
@@ -40,8 +40,8 @@ fn append_other_text<L: Lookup>(
     ensures kept { OnErr result (texts.new.items ≡ texts.old.items) }
 {
     let tag = read_tag(alloc, text)?;
-    let other = other_form(alloc, checked, &tag)?;
-    append_tag(texts, other.as_ref().unwrap_or(&tag))?;
+    let form = canonical_of(alloc, checked, tag)?;
+    append_tag(texts, &form)?;
     Ok(())
 }
 

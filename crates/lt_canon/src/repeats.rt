@@ -21,14 +21,17 @@ pub(crate) fn second_occurrence(variants: &[Subtag]) -> Option<Subtag>
     None
 }
 
-/// The leftmost variant that occurs a second time in the source of an extension. Memory is taken
-/// only for the parts of a `t` extension.
+/// The leftmost variant that occurs a second time in the source of an extension. Memory is taken only for the
+/// parts of a `t` extension in which a subtag occurs twice.
 fn second_in_source(alloc: Global, extension: &Extension) -> Result<Option<Subtag>, OutOfMemory>
     ensures { IfOk result (λ found. MatchOption found
         (HasDistinctSource extension.now)
         (λ variant. IsSecondInSource extension.now variant)) }
 {
     if extension.singleton() != b't' {
+        return Ok(None);
+    }
+    if second_occurrence(extension.subtags()).is_none() {
         return Ok(None);
     }
     match split_t(alloc, extension) {
@@ -41,8 +44,8 @@ fn second_in_source(alloc: Global, extension: &Extension) -> Result<Option<Subta
     }
 }
 
-/// The leftmost variant that occurs a second time in the source of one of some extensions. Memory is
-/// taken only for the parts of a `t` extension.
+/// The leftmost variant that occurs a second time in the source of one of some extensions. Memory is taken only
+/// for the parts of a `t` extension in which a subtag occurs twice.
 pub(crate) fn second_in_sources(
     alloc: Global,
     extensions: &[Extension],

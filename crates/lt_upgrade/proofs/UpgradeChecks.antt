@@ -124,18 +124,3 @@ had_compared A e s v b k n o short there same =
       (λ x t w _ m _ _ _. let a : s ≡ t = cc in subst (λ z. (y : List ℕ) × (language_value A z ≡ Some y)) a (d.0 (sym same ∙ x))),
       (λ f. same ∙ d.1 (f s v k n o short there)),
     )
-
--- lists of one Prefix
-
-one_list : (ps : List (List (List ℕ))) (p : List (List ℕ)) → length ps ≡ 1 → p ≡ slice_index_or ps 0 p → ps ≡ p ∷ []
-one_list [] p n e = cc
-one_list (q ∷ []) p n e = ap (λ (x : List (List ℕ)). x ∷ []) (sym e)
-one_list (q ∷ r ∷ qs) p n e = absurd (omega (arith, n))
-
-pub ones_compared : (ps qs : List (List (List ℕ))) (p q : List (List ℕ)) (b : Bool) → length ps ≡ 1 → length qs ≡ 1 → p ≡ slice_index_or ps 0 p → q ≡ slice_index_or qs 0 q → b ≡ same_list p q → IsTrue b ↔ (ps ≡ qs)
-ones_compared ps qs p q b n m i j same =
-    let x : ps ≡ p ∷ [] = one_list ps p n i in
-    let y : qs ≡ q ∷ [] = one_list qs q m j in (
-      (λ h. x ∙ ap (λ (z : List (List ℕ)). z ∷ []) ((Decides-list p q).0 (sym same ∙ h)) ∙ sym y),
-      (λ e. let one : p ∷ [] ≡ q ∷ [] = sym x ∙ e ∙ y in same ∙ (Decides-list p q).1 (cc)),
-    )

@@ -76,12 +76,6 @@ decided_at A B e k j s b h = subst (λ c. IsTrue b ↔ MeetsUpgrade c A B e) (sy
 pub answered_at : {E : Type 0} (A B : List EntryParts) (e : EntryParts) (k j : UpgradeCondition) → k ≡ j → (r : Result Bool E) → IfOk r (λ b. IsTrue b ↔ MeetsUpgrade j A B e) → IfOk r (λ b. IsTrue b ↔ MeetsUpgrade k A B e)
 answered_at A B e k j s r h = subst (λ c. IfOk r (λ b. IsTrue b ↔ MeetsUpgrade c A B e)) (sym s) h
 
--- an extlang of a registry that passes the check has one Prefix
-pub one_prefix : (A : List EntryParts) → IsChecked A → (e : EntryParts) → Contains A e → e.kind ≡ kinds.Extlang → length e.prefixes ≡ 1
-one_prefix A C e c k =
-    let fits : HasFittingExtlang A e = All-contains (HasFittingExtlang A) A e (C.passes.fitting_extlang) c in
-    ap length (fits k).one_prefix
-
 -- ranks
 
 rank_bounds : (k : UpgradeCondition) → (1 ≤ upgrade_rank_of k) × (upgrade_rank_of k ≤ 6)

@@ -2,7 +2,6 @@
 ghost use Rattle.std.specs.Prelude.{◌≡◌, ◌≢◌, ◌↔◌, List, ℕ, length, IsTrue, IfOk, Contains, unwrap_or};
 ghost use Rattle.std.specs.List.{list_all};
 ghost use Rattle.lt_registry.specs.Entries as entries;
-ghost use Rattle.lt_registry.specs.Same.{same_list};
 ghost use Rattle.lt_registry.specs.Validity.{RepeatsNoVariant};
 ghost use Rattle.lt_registry.specs.declared.entries.Kind.TheVariants as kinds;
 ghost use Rattle.lt_rewrite.specs.Conditions.{next_value};
@@ -78,22 +77,11 @@ pub(crate) fn keeps_ends<L: Lookup>(newer: &L, shortcuts: &Shortcuts, entry: &En
     }
 }
 
-/// Whether two Prefixes are the same.
-fn same_prefix(left: &Prefix, right: &Prefix) -> bool
-    ensures { result ≡ same_list left.now right.now }
-{
-    left.subtags() == right.subtags()
-}
-
-/// Whether two lists of Prefixes, the second of one, are the same.
+/// Whether two lists of Prefixes are the same.
 fn same_prefixes(left: &[Prefix], right: &[Prefix]) -> bool
-    requires { length right.now ≡ 1 }
     ensures { IsTrue result ↔ (left.now ≡ right.now) }
 {
-    match (left, right) {
-        ([prefix], [other]) => same_prefix(prefix, other),
-        _ => false,
-    }
+    left == right
 }
 
 /// The value of an extlang, or itself.
@@ -106,16 +94,14 @@ fn replacement<'a>(entry: &'a Entry, subtag: &'a Subtag) -> &'a Subtag
     }
 }
 
-/// Whether an extlang with one Prefix has that Prefix, and a replacement of the same end, in the newer
-/// registry.
+/// Whether an extlang has its Prefixes, and a replacement of the same end, in the newer registry.
 fn is_same_extlang<L: Lookup>(
     newer: &L,
     shortcuts: &Shortcuts,
     entry: &Entry,
     subtag: &Subtag,
 ) -> bool
-    requires shortcuts { AreShortcuts (L.listed newer.now) shortcuts.now }
-    requires one { length entry.now.prefixes ≡ 1 }
+    requires { AreShortcuts (L.listed newer.now) shortcuts.now }
     ensures { IsTrue result ↔ IsSameExtlang (L.listed newer.now) entry.now subtag.now }
 {
     let Some(other) = newer.entry(Kind::Extlang, subtag) else {
@@ -126,10 +112,9 @@ fn is_same_extlang<L: Lookup>(
         && have_same_end(newer, shortcuts, Kind::Language, old, new)
 }
 
-/// Whether an extlang with one Prefix keeps it and the end of its replacement in the newer registry.
+/// Whether an extlang keeps its Prefixes and the end of its replacement in the newer registry.
 pub(crate) fn keeps_extlang<L: Lookup>(newer: &L, shortcuts: &Shortcuts, entry: &Entry) -> bool
-    requires shortcuts { AreShortcuts (L.listed newer.now) shortcuts.now }
-    requires one { entry.now.kind ≡ kinds.Extlang → length entry.now.prefixes ≡ 1 }
+    requires { AreShortcuts (L.listed newer.now) shortcuts.now }
     ensures { IsTrue result ↔ KeepsExtlang (L.listed newer.now) entry.now }
 {
     match (entry.kind(), entry.name()) {

@@ -87,7 +87,6 @@ fn meets<A: Lookup, B: Lookup>(
     requires listed { Contains (A.listed older.now) entry.now }
     ensures { IfOk result (λ meets. IsTrue meets ↔ MeetsUpgrade condition (A.listed older.now) (B.listed newer.now) entry.now) }
 {
-    let _ = older.table();
     let table = newer.table();
     match condition {
         UpgradeCondition::SameEnds => Ok(keeps_ends(table, shortcuts, entry)),

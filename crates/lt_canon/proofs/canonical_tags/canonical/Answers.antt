@@ -1,18 +1,9 @@
-use Rattle.std.proofs.lemmas.Result.{err_from_is_err_and}
-use Rattle.lt_canon.proofs.Refused.{fault_named, only_repeats, repeat_named}
+use Rattle.std.proofs.Common.{subst}
+use Rattle.lt_canon.specs.Settled.{IsCanonicalAnswer}
+use Rattle.lt_canon.proofs.Refused.{repeats_answered}
 use Rattle.lt_canon.proofs.canonical_tags.canonical.Goals as goal
 
-pub returns-in_err-form-clause-repeats : goal.returns-in_err-form-clause-repeats
-returns-in_err-form-clause-repeats g c =
-    let p = err_from_is_err_and c.from_residual.result c.from_residual.ensures.1 in
-    rw (p.1, p.2) (only_repeats (g.L.Lookup.listed c.args.checked.now) c.args.tag.now c.in_err-form.field-0.0 (c.in_err-form.ensures {u = tt}))
-
-pub returns-in_err-form-clause-invalid : goal.returns-in_err-form-clause-invalid
-returns-in_err-form-clause-invalid g c =
-    let p = err_from_is_err_and c.from_residual.result c.from_residual.ensures.1 in
-    rw (p.1, p.2) (fault_named (g.L.Lookup.listed c.args.checked.now) c.args.tag.now c.in_err-form.field-0.0 (c.in_err-form.ensures {u = tt}))
-
-pub returns-in_err-form-clause-named : goal.returns-in_err-form-clause-named
-returns-in_err-form-clause-named g c =
-    let p = err_from_is_err_and c.from_residual.result c.from_residual.ensures.1 in
-    rw (p.1, p.2) (repeat_named (g.L.Lookup.listed c.args.checked.now) c.args.tag.now c.in_err-form.field-0.0 (c.in_err-form.ensures {u = tt}))
+pub returns-clause-repeats : goal.returns-clause-repeats
+returns-clause-repeats g c =
+    repeats_answered (g.L.Lookup.listed c.args.checked.now) c.args.tag.now c.canonical_of.result
+    (subst (λ t. IsCanonicalAnswer (g.L.Lookup.listed c.args.checked.now) t c.canonical_of.result) c.in_ok-copy.ensures c.canonical_of.ensures)

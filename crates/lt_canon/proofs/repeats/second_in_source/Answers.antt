@@ -1,13 +1,23 @@
-use Rattle.std.proofs.Common.{sym, ap, ◌∙◌, arith}
+use Rattle.std.proofs.Common.{ℕ, List, Option, refl, sym, ap, ◌∙◌, subst, arith}
+use Rattle.std.specs.Prelude.{MatchOption}
 use Rattle.lt_tag.specs.Parts.{TForm}
-use Rattle.lt_canon.proofs.SourceRepeats.{no_source, of_source}
+use Rattle.lt_registry.specs.Validity.{Distinct}
+use Rattle.lt_canon.specs.Answers.{IsSecondOccurrence}
+use Rattle.lt_canon.proofs.CanonicalForms.{none_of_test}
+use Rattle.lt_canon.proofs.SourceRepeats.{no_source, of_source, distinct_subtags}
 use Rattle.lt_canon.proofs.repeats.second_in_source.Goals as goal
 
 pub returns-in-Some : goal.returns-in-Some
 returns-in-Some c =
-    of_source c.args.extension.now c.in-Ok.parts c.in-Some.source c.variants.result.now c.second_occurrence.result (omega arith) c.in-Ok.ensures.parts
-    (sym (ap (λ (t : TForm). t.source) c.parts.view_is) ∙ c.in-Some.is) c.variants.ensures.value c.second_occurrence.ensures
+    of_source c.args.extension.now c.in-Ok.parts c.in-Some.source c.variants.result.now c.second_occurrence-in-Some.result (omega arith) c.in-Ok.ensures.parts
+    (sym (ap (λ (t : TForm). t.source) c.parts.view_is) ∙ c.in-Some.is) c.variants.ensures.value c.second_occurrence-in-Some.ensures
 
 pub returns-in-Ok : goal.returns-in-Ok
 returns-in-Ok c =
     no_source c.args.extension.now c.in-Ok.parts c.in-Ok.ensures.parts (sym (ap (λ (t : TForm). t.source) c.parts.view_is) ∙ c.in-None.is)
+
+pub returns-then-is_none : goal.returns-then-is_none
+returns-then-is_none c =
+    let P : Option (List ℕ) → Type 0 = λ o. MatchOption o (Distinct c.subtags.result.now) (IsSecondOccurrence c.subtags.result.now) in
+    let none = none_of_test c.second_occurrence.result c.second_occurrence.result refl (c.if-is_none.ensures {u = tt}) in
+    distinct_subtags c.args.extension.now (subst Distinct c.subtags.ensures.value (subst P none c.second_occurrence.ensures))

@@ -1,11 +1,8 @@
 use Rattle.std.proofs.Common.{◌↔◌, ap, subst, List, IsTrue}
 use Rattle.lt_registry.specs.Parts.{EntryParts}
 use Rattle.lt_upgrade.specs.Upgrade.{KeepsEnds}
-use Rattle.lt_upgrade.proofs.UpgradeFaults.{decided_at, answered_at, one_prefix}
+use Rattle.lt_upgrade.proofs.UpgradeFaults.{decided_at, answered_at}
 use Rattle.lt_upgrade.proofs.upgrades.meets.Goals as goal
-
-pub keeps_extlang-requires-clause-one : goal.keeps_extlang-requires-clause-one
-keeps_extlang-requires-clause-one g c = one_prefix (g.A.Lookup.listed c.args.older.now) c.table.ensures.checked c.args.entry.now c.requires.listed
 
 pub returns-in-SameEnds : goal.returns-in-SameEnds
 returns-in-SameEnds g c =
