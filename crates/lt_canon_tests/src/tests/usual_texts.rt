@@ -36,8 +36,9 @@ fn texts_of_subtags_that_stay(rt: HostRuntime) -> Result<(), Fail> {
     let checked = checked(alloc, table)?;
     for (text, canonical) in &TEXTS {
         let mut texts = Vec::new(alloc);
-        let told = append_usual_text(&checked, text.as_bytes(), &mut texts)
-            .or_else(|_| append_usual_text(&checked, text.as_bytes(), &mut texts))?;
+        let told = append_usual_text(&checked, text.as_bytes(), &mut texts).or_else(
+            |_| append_usual_text(&checked, text.as_bytes(), &mut texts),
+        )?;
         assert_eq!(rt; told, !canonical.is_empty(), "{text}");
         assert!(rt; texts.as_slice() == canonical.as_bytes(), "{text}");
     }
