@@ -1,5 +1,5 @@
 -- Two subtags of one kind have one place exactly if they are the same, letter case aside.
-use Rattle.std.proofs.Common.{◌≡◌, ◌≤◌, ◌<◌, ℕ, ◌+◌, ◌*◌, ◌-◌, ◌%◌, ◌&&◌, eqb, true, List, [], ◌∷◌, length, min, bit_or, Some, inl, inr, refl, sym, subst, ap, ap₂, ◌∙◌, arith}
+use Rattle.std.proofs.Common.{◌≡◌, ◌≤◌, ◌<◌, ℕ, ◌+◌, ◌*◌, ◌-◌, ◌%◌, ◌&&◌, eqb, true, List, [], ◌∷◌, length, get_or, Some, inl, inr, refl, sym, subst, ap, ap₂, ◌∙◌, arith}
 use Rattle.std.specs.Char.{is_ascii_lowercase, is_ascii_digit, to_ascii_lowercase}
 use Rattle.std.proofs.lemmas.Bool.{agree_below_at, eqb-true, and_parts, leb-true}
 use Rattle.std.proofs.lemmas.Bool.Decides.{nat_tests}
@@ -9,13 +9,14 @@ use Rattle.lt_tag.proofs.Apart.{script_is, region_is}
 use Rattle.lt_registry.specs.Entries.{has_form}
 use Rattle.lt_registry.specs.declared.entries.Kind.{Kind}
 use Rattle.lt_registry.specs.declared.entries.Kind.TheVariants as kinds
+use Rattle.lt_usual.specs.declared.places.TheConstants.{LETTERS}
 use Rattle.lt_usual.specs.Places.{letter, digit, language_2, language_3, script_4, region_2, region_3, place}
 
--- how the place of a letter is computed
-pub letter_computes : (b : ℕ) → b < 256 → min ((bit_or b 32 + 159) % 256) 26 ≡ letter b
-letter_computes b h = eqb-true _ _ (agree_below_at (λ x. eqb (min ((bit_or x 32 + 159) % 256) 26) (letter x)) (λ _. true) 256 b refl h)
+-- the table of letters
+pub letter_reads : (b : ℕ) → b < 256 → get_or LETTERS b 0 ≡ letter b
+letter_reads b h = eqb-true _ _ (agree_below_at (λ x. eqb (get_or LETTERS x 0) (letter x)) (λ _. true) 256 b refl h)
 
-letter_few : (b : ℕ) → letter b ≤ 26
+pub letter_few : (b : ℕ) → letter b ≤ 26
 letter_few b = grind (arith, nat_tests)
 
 digit_few : (b : ℕ) → digit b ≤ 10

@@ -1,14 +1,12 @@
 -- A text that is shown is cut at its hyphens into a language, and a script and a region where there is one, that all have
 -- flags; and a text that is cut so is shown.
-use Rattle.std.proofs.Common.{◌≡◌, ℕ, ◌+◌, ◌==◌, ◌++◌, ◌&&◌, suc, Bool, true, false, List, [], ◌∷◌, length, take, Option, Some, None, option_map, IfSome, inl, inr, refl, sym, ap, ◌∙◌, arith}
-use Rattle.std.specs.Char.{to_ascii_lowercase, to_ascii_uppercase}
+use Rattle.std.proofs.Common.{◌≡◌, ℕ, ◌+◌, ◌==◌, ◌++◌, ◌&&◌, suc, Bool, true, false, List, [], ◌∷◌, length, map, take, Option, Some, None, option_map, IfSome, inl, inr, refl, sym, ap, ◌∙◌, arith}
 use Rattle.std.proofs.lemmas.Bool.{and_parts, eqb-true, eqb-false, cases_Bool}
-use Rattle.lt_subtag.specs.Bytes.{folded}
 use Rattle.lt_registry.specs.declared.entries.Kind.{Kind}
 use Rattle.lt_registry.specs.declared.entries.Kind.TheVariants as kinds
 use Rattle.lt_usual.specs.Places.{language_2, language_3, script_4, region_2, region_3, place}
 use Rattle.lt_usual.specs.Flags.{flag}
-use Rattle.lt_usual.specs.Shown.{after_if, script_before, after_language, nine_before, with_two, with_three, shown_two, shown_three, shown}
+use Rattle.lt_usual.specs.Shown.{lower, upper, after_if, script_before, from_script, after_language, nine_before, with_two, with_three, shown_two, shown_three, shown}
 use Rattle.lt_usual.specs.declared.texts.AfterLanguage.{AfterLanguage}
 use Rattle.lt_usual.specs.declared.texts.Shown.{Shown}
 use Rattle.lt_usual.proofs.PlaceLemmas.{IsPlace, is_place, language_of_two, language_of_three, script, region_of_two, region_of_three}
@@ -24,13 +22,17 @@ pub record IsFlagged (F : List ℕ) (k : Kind) (s : List ℕ) : Type 0 where
   pub placed : place k s ≡ Some at
   pub set : flag F at ≡ true
 
+-- letters in lower case
+abbrev pub lowered : List ℕ → List ℕ
+lowered s = map lower s
+
 -- a script, and a region of letters, in conventional case
 abbrev pub titled : List ℕ → List ℕ
 titled [] = []
-titled (a ∷ s) = to_ascii_uppercase a ∷ folded s
+titled (a ∷ s) = upper a ∷ lowered s
 
 abbrev pub raised : List ℕ → List ℕ
-raised (a ∷ b ∷ []) = to_ascii_uppercase a ∷ to_ascii_uppercase b ∷ []
+raised (a ∷ b ∷ []) = upper a ∷ upper b ∷ []
 raised s = s
 
 -- what is shown of a script and a region
@@ -57,7 +59,7 @@ is_after F [] p h =
 is_after F (x ∷ []) p h = cc
 is_after F (x ∷ a ∷ []) p h = cc
 is_after F (x ∷ a ∷ b ∷ []) p h =
-    let i = if_shown ((x == 45) && flag F (region_2 a b)) 3 (45 ∷ to_ascii_uppercase a ∷ to_ascii_uppercase b ∷ 0 ∷ 0 ∷ 0 ∷ 0 ∷ 0 ∷ 0 ∷ []) p h in
+    let i = if_shown ((x == 45) && flag F (region_2 a b)) 3 (45 ∷ upper a ∷ upper b ∷ 0 ∷ 0 ∷ 0 ∷ 0 ∷ 0 ∷ 0 ∷ []) p h in
     let k = and_parts (x == 45) (flag F (region_2 a b)) i.0 in
     record {
       script = None;
@@ -92,7 +94,7 @@ is_after F (x ∷ a ∷ b ∷ c ∷ d ∷ []) p h =
 is_after F (x ∷ a ∷ b ∷ c ∷ d ∷ y ∷ []) p h = cc
 is_after F (x ∷ a ∷ b ∷ c ∷ d ∷ y ∷ e ∷ []) p h = cc
 is_after F (x ∷ a ∷ b ∷ c ∷ d ∷ y ∷ e ∷ f ∷ []) p h =
-    let i = if_shown (((x == 45) && (y == 45)) && (flag F (script_4 a b c d) && flag F (region_2 e f))) 8 (script_before a b c d (45 ∷ to_ascii_uppercase e ∷ to_ascii_uppercase f ∷ 0 ∷ [])) p h in
+    let i = if_shown (((x == 45) && (y == 45)) && (flag F (script_4 a b c d) && flag F (region_2 e f))) 8 (script_before a b c d (45 ∷ upper e ∷ upper f ∷ 0 ∷ [])) p h in
     let k = and_parts ((x == 45) && (y == 45)) (flag F (script_4 a b c d) && flag F (region_2 e f)) i.0 in
     let l = and_parts (x == 45) (y == 45) k.0 in
     let m = and_parts (flag F (script_4 a b c d)) (flag F (region_2 e f)) k.1 in
@@ -146,7 +148,7 @@ pub record IsShownCut (F text : List ℕ) (p : Shown) : Type 0 where
   pub script : Option (List ℕ)
   pub region : Option (List ℕ)
   pub cut : IsCut F text language script region
-  pub shown_is : take p.count p.bytes ≡ folded language ++ shown_parts script region
+  pub shown_is : take p.count p.bytes ≡ lowered language ++ shown_parts script region
 
 two_is : (F : List ℕ) (a b : ℕ) (rest : List ℕ) (p : Shown) (set : Bool) (o : Option AfterLanguage) → flag F (language_2 a b) ≡ set → after_language F rest ≡ o → shown_two F a b rest ≡ Some p → IsShownCut F (a ∷ b ∷ rest) p
 two_is F a b rest p false o e q h = let none : None ≡ Some p = rw e at h in cc
@@ -166,7 +168,7 @@ two_is F a b rest p true (Some after) e q h =
         script_set = t.script_set;
         region_set = t.region_set;
       };
-      shown_is = rw (← is, more) (ap (λ (xs : List ℕ). to_ascii_lowercase a ∷ to_ascii_lowercase b ∷ xs) (t.shown_is (0 ∷ [])));
+      shown_is = rw (← is, more) (ap (λ (xs : List ℕ). lower a ∷ lower b ∷ xs) (t.shown_is (0 ∷ [])));
     }
 
 three_is : (F : List ℕ) (a b c : ℕ) (rest : List ℕ) (p : Shown) (set : Bool) (o : Option AfterLanguage) → flag F (language_3 a b c) ≡ set → after_language F rest ≡ o → shown_three F a b c rest ≡ Some p → IsShownCut F (a ∷ b ∷ c ∷ rest) p
@@ -187,7 +189,7 @@ three_is F a b c rest p true (Some after) e q h =
         script_set = t.script_set;
         region_set = t.region_set;
       };
-      shown_is = rw (← is, more) (ap (λ (xs : List ℕ). to_ascii_lowercase a ∷ to_ascii_lowercase b ∷ to_ascii_lowercase c ∷ xs) (t.shown_is []));
+      shown_is = rw (← is, more) (ap (λ (xs : List ℕ). lower a ∷ lower b ∷ lower c ∷ xs) (t.shown_is []));
     }
 
 pub shown_cut : (F text : List ℕ) (p : Shown) → shown F text ≡ Some p → IsShownCut F text p
@@ -217,7 +219,7 @@ region_shown F r f = elim (is_place kinds.Region r f.at f.placed) [
   | script a b c d k e n ↦ cc
   | region_of_two a b k e n ↦
       let set = set_at F kinds.Region r (a ∷ b ∷ []) (region_2 a b) f e refl in
-      let shown : after_language F (45 ∷ a ∷ b ∷ []) ≡ after_if true 3 (45 ∷ to_ascii_uppercase a ∷ to_ascii_uppercase b ∷ 0 ∷ 0 ∷ 0 ∷ 0 ∷ 0 ∷ 0 ∷ []) = rw set refl in
+      let shown : after_language F (45 ∷ a ∷ b ∷ []) ≡ after_if true 3 (45 ∷ upper a ∷ upper b ∷ 0 ∷ 0 ∷ 0 ∷ 0 ∷ 0 ∷ 0 ∷ []) = rw set refl in
       (_, ap (λ (m : List ℕ). after_language F (45 ∷ m)) e ∙ shown)
   | region_of_three a b c k e n ↦
       let set = set_at F kinds.Region r (a ∷ b ∷ c ∷ []) (region_3 a b c) f e refl in
@@ -236,7 +238,7 @@ module _ (F : List ℕ) (a b c d : ℕ) (set : flag F (script_4 a b c d) ≡ tru
     | script x y z w k i n ↦ cc
     | region_of_two x y k i n ↦
         let also = set_at F kinds.Region r (x ∷ y ∷ []) (region_2 x y) g i refl in
-        let shown : after_language F (45 ∷ a ∷ b ∷ c ∷ d ∷ 45 ∷ x ∷ y ∷ []) ≡ after_if true 8 (script_before a b c d (45 ∷ to_ascii_uppercase x ∷ to_ascii_uppercase y ∷ 0 ∷ [])) = rw (set, also) refl in
+        let shown : after_language F (45 ∷ a ∷ b ∷ c ∷ d ∷ 45 ∷ x ∷ y ∷ []) ≡ after_if true 8 (script_before a b c d (45 ∷ upper x ∷ upper y ∷ 0 ∷ [])) = rw (set, also) refl in
         (_, ap (λ (m : List ℕ). after_language F (45 ∷ a ∷ b ∷ c ∷ d ∷ 45 ∷ m)) i ∙ shown)
     | region_of_three x y z k i n ↦
         let also = set_at F kinds.Region r (x ∷ y ∷ z ∷ []) (region_3 x y z) g i refl in

@@ -1,15 +1,16 @@
 -- A text that is cut into subtags that stay is read as their langtag, and shown in conventional case; and each such text is
 -- cut so.
-use Rattle.std.proofs.Common.{◌≡◌, ◌≤◌, ◌<◌, ℕ, ◌+◌, ◌-◌, ◌==◌, ◌++◌, ◌&&◌, ◌||◌, not, Bool, true, false, List, [], ◌∷◌, length, map, Option, Some, None, option_map, find, is_none, IfSome, inl, inr, ◌⊎◌, refl, sym, ap, subst, ◌∙◌, arith, All}
+use Rattle.std.proofs.Common.{◌≡◌, ◌≤◌, ◌<◌, ℕ, ◌+◌, ◌-◌, ◌==◌, eqb, ◌++◌, ◌&&◌, ◌||◌, not, Bool, true, false, List, [], ◌∷◌, length, map, Option, Some, None, option_map, find, is_none, IfSome, inl, inr, ◌⊎◌, refl, sym, ap, subst, ◌∙◌, arith, All}
 use Rattle.std.specs.Prelude.{slice_index_or, option_to_list}
 use Rattle.std.specs.Char.{is_ascii_lowercase, is_ascii_digit, to_ascii_lowercase, to_ascii_uppercase}
 use Rattle.std.specs.List.{list_all, list_any, join_with_byte, onto_first}
 use Rattle.std.specs.Option.{option_map_or}
-use Rattle.std.proofs.lemmas.Bool.{and_parts, and_from, and_right, or_left, or_right, eq-eqb, ne_eqb, eqb-true, not-true, cases_Bool, leb-true, le-leb}
+use Rattle.std.proofs.lemmas.Bool.{agree_below, agree_below_at, or_cases, and_parts, and_from, and_right, or_left, or_right, eq-eqb, ne_eqb, eqb-true, not-true, cases_Bool, leb-true, le-leb}
 use Rattle.std.proofs.lemmas.Bool.Decides.{nat_tests}
 use Rattle.std.proofs.lemmas.List.{append-nil, length-append, length-map}
 use Rattle.std.proofs.lemmas.Slice.Eq.{bytes_eq-Decides}
-use Rattle.lt_subtag.specs.Bytes.{folded, upper, title}
+use Rattle.lt_subtag.specs.Bytes as bytes
+use Rattle.lt_subtag.specs.Bytes.{folded, title}
 use Rattle.lt_subtag.specs.Shapes.{is_alphabetic, is_numeric, is_language, is_script, is_region}
 use Rattle.lt_tag.specs.Conventional.{conventional, shown, shown_after}
 use Rattle.lt_tag.specs.Faults.{HasTag}
@@ -33,8 +34,9 @@ use Rattle.lt_rewrite.proofs.Entries.{find_has, same_kind_is}
 use Rattle.lt_usual.specs.Places.{place, language_2, language_3, script_4, region_2, region_3}
 use Rattle.lt_usual.specs.Staying.{has_no_value, replaces_plain_of, stays, StaysAs, IsStaying}
 use Rattle.lt_usual.specs.Flags.{flag, AreFlags}
+use Rattle.lt_usual.specs.Shown.{lower, upper}
 use Rattle.lt_usual.proofs.PlaceLemmas.{is_place, language_of_two, language_of_three, script, region_of_two, region_of_three}
-use Rattle.lt_usual.proofs.ShownLemmas.{hyphened, titled, raised, shown_parts, IsFlagged, IsCut}
+use Rattle.lt_usual.proofs.ShownLemmas.{hyphened, lowered, titled, raised, shown_parts, IsFlagged, IsCut}
 
 -- ---- what stays has a record of its own, and so the form of its kind
 
@@ -127,15 +129,42 @@ cut_pieces l (Some s) (Some r) f g h = first_piece l (s ++ 45 ∷ r) f ∙ ap (�
 
 -- ---- conventional case
 
-upper_lower : (b : ℕ) → to_ascii_uppercase (to_ascii_lowercase b) ≡ to_ascii_uppercase b
-upper_lower b = grind (arith, nat_tests)
+-- where one test holds another does, of each byte below 128
+holds_below : (f g : ℕ → Bool) → agree_below (λ x. not (f x) || g x) (λ _. true) 128 ≡ true → (b : ℕ) → b < 128 → f b ≡ true → g b ≡ true
+holds_below f g all b few h =
+    let p = agree_below_at (λ x. not (f x) || g x) (λ _. true) 128 b all few in
+    elim (or_cases (not (f b)) (g b) p) [
+      | inl n ↦ let no : f b ≡ false = not-true (f b) n in let both : true ≡ false = sym h ∙ no in cc
+      | inr y ↦ y
+    ]
+
+letter_few : (b : ℕ) → is_ascii_lowercase (to_ascii_lowercase b) ≡ true → b < 128
+letter_few b h = grind (arith, nat_tests)
+
+lower_is : (b : ℕ) → is_ascii_lowercase (to_ascii_lowercase b) ≡ true → lower b ≡ to_ascii_lowercase b
+lower_is b h = eqb-true _ _ (holds_below (λ x. is_ascii_lowercase (to_ascii_lowercase x)) (λ x. eqb (lower x) (to_ascii_lowercase x)) refl b (letter_few b h) h)
+
+upper_is : (b : ℕ) → is_ascii_lowercase (to_ascii_lowercase b) ≡ true → to_ascii_uppercase (to_ascii_lowercase b) ≡ upper b
+upper_is b h = eqb-true _ _ (holds_below (λ x. is_ascii_lowercase (to_ascii_lowercase x)) (λ x. eqb (to_ascii_uppercase (to_ascii_lowercase x)) (upper x)) refl b (letter_few b h) h)
 
 digit_lower : (b : ℕ) → is_ascii_digit (to_ascii_lowercase b) ≡ true → to_ascii_lowercase b ≡ b
 digit_lower b h = grind (arith, nat_tests)
 
-title_folded : (s : List ℕ) → title (folded s) ≡ titled s
-title_folded [] = refl
-title_folded (b ∷ s) = ap (λ (x : ℕ). x ∷ folded s) (upper_lower b)
+lowered_is : (s : List ℕ) → is_alphabetic (folded s) ≡ true → lowered s ≡ folded s
+lowered_is [] h = refl
+lowered_is (b ∷ s) h =
+    let p = and_parts (is_ascii_lowercase (to_ascii_lowercase b)) _ h in
+    let i = lower_is b p.0 in
+    let j = lowered_is s p.1 in
+    cc
+
+title_folded : (s : List ℕ) → is_alphabetic (folded s) ≡ true → title (folded s) ≡ titled s
+title_folded [] h = refl
+title_folded (b ∷ s) h =
+    let p = and_parts (is_ascii_lowercase (to_ascii_lowercase b)) _ h in
+    let i = upper_is b p.0 in
+    let j = lowered_is s p.1 in
+    cc
 
 digits_folded : (s : List ℕ) → is_numeric (folded s) ≡ true → folded s ≡ s
 digits_folded [] h = refl
@@ -145,11 +174,14 @@ digits_folded (b ∷ s) h =
     let j = digits_folded s p.1 in
     cc
 
-upper_folded : (s : List ℕ) → length (folded s) ≡ 2 → upper (folded s) ≡ raised s
-upper_folded [] h = absurd (omega arith)
-upper_folded (a ∷ []) h = absurd (omega arith)
-upper_folded (a ∷ b ∷ []) h = rw (upper_lower a, upper_lower b) refl
-upper_folded (a ∷ b ∷ c ∷ s) h = absurd (omega arith)
+upper_folded : (s : List ℕ) → is_alphabetic (folded s) ≡ true → length (folded s) ≡ 2 → bytes.upper (folded s) ≡ raised s
+upper_folded [] h n = absurd (omega arith)
+upper_folded (a ∷ []) h n = absurd (omega arith)
+upper_folded (a ∷ b ∷ []) h n =
+    let p = and_parts (is_ascii_lowercase (to_ascii_lowercase a)) _ h in
+    let q = and_parts (is_ascii_lowercase (to_ascii_lowercase b)) _ p.1 in
+    rw (upper_is a p.0, upper_is b q.0) refl
+upper_folded (a ∷ b ∷ c ∷ s) h n = absurd (omega arith)
 
 raised_three : (s : List ℕ) → length (folded s) ≡ 3 → raised s ≡ s
 raised_three [] h = absurd (omega arith)
@@ -158,14 +190,14 @@ raised_three (a ∷ b ∷ []) h = absurd (omega arith)
 raised_three (a ∷ b ∷ c ∷ s) h = refl
 
 script_as : (s : List ℕ) → has_form kinds.Script (folded s) ≡ true → shown (folded s) ≡ titled s
-script_as s h = let p = script_is (folded s) h in rw (p.0, p.1) (title_folded s)
+script_as s h = let p = script_is (folded s) h in rw (p.0, p.1) (title_folded s p.0)
 
 no_upper : (s : List ℕ) → length s ≡ 3 → shown s ≡ s
 no_upper s n = elim (cases_Bool (is_alphabetic s)) [ inl a ↦ rw (a, n) refl | inr a ↦ rw a refl ]
 
 region_as : (s : List ℕ) → has_form kinds.Region (folded s) ≡ true → shown (folded s) ≡ raised s
 region_as s h = elim (region_is (folded s) h) [
-  | inl p ↦ rw (p.0, p.1) (upper_folded s p.1)
+  | inl p ↦ rw (p.0, p.1) (upper_folded s p.0 p.1)
   | inr p ↦ no_upper (folded s) p.1 ∙ digits_folded s p.0 ∙ sym (raised_three s p.1)
 ]
 
@@ -323,8 +355,10 @@ module _ (R : List EntryParts) (F : List ℕ) (flags : AreFlags R F) where
         ∙ ap (map folded) (cut_pieces l s r (language_free l h.language) (free_part (has_form kinds.Script) script_free s h.script) (free_part (has_form kinds.Region) region_free r h.region))
 
     -- it is shown in conventional case
-    pub cut_conventional : folded l ++ shown_parts s r ≡ conventional (list_of text)
-    cut_conventional = sym (ap conventional cut_list ∙ parts_shown l s r cut_forms)
+    pub cut_conventional : lowered l ++ shown_parts s r ≡ conventional (list_of text)
+    cut_conventional =
+        ap (λ (m : List ℕ). m ++ shown_parts s r) (lowered_is l (language_letters (folded l) cut_forms.language))
+        ∙ sym (ap conventional cut_list ∙ parts_shown l s r cut_forms)
 
     cut_short : length text ≤ longest_text
     cut_short =

@@ -1,6 +1,5 @@
 //! Texts of subtags that stay, in conventional case.
 ghost use Rattle.std.specs.Prelude.{◌≡◌, ◌≤◌, IfSome};
-ghost use Rattle.std.specs.Char as char;
 ghost use Rattle.lt_usual.specs.Shown as shown;
 
 use crate::places::{language_2, language_3, region_2, region_3, script_4};
@@ -32,20 +31,20 @@ fn after_if(holds: bool, count: usize, bytes: [u8; 9]) -> Option<AfterLanguage>
     }
 }
 
-/// A letter in lower case.
+/// A letter in lower case; what another byte becomes doesn't matter.
 #[inline(always)]
 fn lower(byte: u8) -> u8
-    ensures { result ≡ char.to_ascii_lowercase byte }
+    ensures { result ≡ shown.lower byte }
 {
-    byte.to_ascii_lowercase()
+    byte | 0x20
 }
 
-/// A letter in upper case.
+/// A letter in upper case; what another byte becomes doesn't matter.
 #[inline(always)]
 fn upper(byte: u8) -> u8
-    ensures { result ≡ char.to_ascii_uppercase byte }
+    ensures { result ≡ shown.upper byte }
 {
-    byte.to_ascii_uppercase()
+    byte & 0xdf
 }
 
 impl UsualSubtags {
@@ -67,6 +66,17 @@ impl UsualSubtags {
                 4,
                 [b'-', a, b, c, 0, 0, 0, 0, 0],
             ),
+            _ => self.from_script(rest),
+        }
+    }
+
+    /// The same, if it is a script, and a region where there is one.
+    #[inline(always)]
+    fn from_script(&self, rest: &[u8]) -> Option<AfterLanguage>
+        ensures value { result ≡ shown.from_script self.now rest.now }
+        ensures few { IfSome result (λ after. after.count ≤ 9) }
+    {
+        match *rest {
             [h, a, b, c, d] => after_if(
                 (h == b'-') & self.has(script_4(a, b, c, d)),
                 5,
