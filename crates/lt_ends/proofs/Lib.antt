@@ -1,0 +1,3 @@
+mod EndLists
+mod EndForms
+mod EndLaws

@@ -1,0 +1,36 @@
+-- The end of a tag, from its first one-character subtag on, and its canonical text (RFC 5646, 2.2.6, 2.2.7 and 4.5).
+use Rattle.std.specs.Prelude.{ℕ, ◌≡◌, ◌≢◌, ◌≤◌, List, ◌∷◌, ◌++◌, length}
+use Rattle.lt_tag.specs.Parts.{CoreParts}
+use Rattle.lt_tag.specs.Values.{core_alone}
+use Rattle.lt_tag.specs.Lists.{list_of, longest_text}
+use Rattle.lt_tag.specs.Conventional.{conventional}
+use Rattle.lt_tag.specs.Faults.{HasTag}
+use Rattle.lt_registry.specs.Parts.{EntryParts}
+use Rattle.lt_rewrite.specs.TagSteps.{IsCanonical}
+use Rattle.lt_canon.specs.Texts.{IsCanonicalTextOf}
+
+-- a hyphen, one byte that is none, and a hyphen begin it (RFC 5646, 2.2.6 and 2.2.7)
+pub record IsEnd (end : List ℕ) : Type 0 where
+  pub singleton : ℕ
+  pub rest : List ℕ
+  pub single : singleton ≢ 45
+  pub whole : end ≡ 45 ∷ singleton ∷ 45 ∷ rest
+
+-- the text is read as a core alone, which is canonical (RFC 5646, 2.1 and 4.5)
+pub record IsCanonicalCore (R : List EntryParts) (front : List ℕ) : Type 0 where
+  pub core : CoreParts
+  pub read : HasTag front (core_alone core)
+  pub canonical : IsCanonical R (core_alone core)
+
+-- the canonical text of each canonical core with this end is the core in conventional case, and this (RFC 5646, 2.1.1
+-- and 4.5)
+abbrev pub IsEndText : List EntryParts → (end canonical : List ℕ) → Type 0
+IsEndText R end canonical =
+    (front : List ℕ) → IsCanonicalCore R front → length (front ++ end) ≤ longest_text →
+    IsCanonicalTextOf R (front ++ end) (conventional (list_of front) ++ canonical)
+
+-- what one canonical core says of an end holds with each (RFC 5646, 4.5)
+abbrev pub EndsAreShared : List EntryParts → Type 0
+EndsAreShared R =
+    (front end canonical : List ℕ) → IsCanonicalCore R front → IsEnd end →
+    IsCanonicalTextOf R (front ++ end) (conventional (list_of front) ++ canonical) → IsEndText R end canonical

@@ -1,0 +1,5 @@
+//! Ends of tags that were answered lately.
+#![tactic(auto)]
+
+/// nothing
+pub fn nothing() {}
