@@ -2,7 +2,7 @@
 use Rattle.std.proofs.Common.{◌≡◌, ℕ, ◌≤◌, ◌<◌, ◌+◌, ◌==◌, true, false, not, List, [], ◌∷◌, ◌++◌, length, refl, sym, ap, ◌∙◌, subst, arith, inl, inr}
 use Rattle.std.specs.List.{list_all, join_with_byte}
 use Rattle.std.proofs.lemmas.Bool.{ne_eqb}
-use Rattle.std.proofs.lemmas.List.{append-nil, append_cancel_left}
+use Rattle.std.proofs.lemmas.List.{append-nil}
 use Rattle.lt_subtag.specs.Bytes.{folded}
 use Rattle.lt_tag.specs.Parts.{CoreParts, ExtensionParts, TagForm, LangTag, PrivateUse, Grandfathered}
 use Rattle.lt_tag.specs.Values.{core_alone}
@@ -92,36 +92,35 @@ core_list : (front : List ℕ) (c : CoreParts) → HasTag front (core_alone c) �
 core_list front c read = sym (append-nil (spell_core c)) ∙ read.spelled
 
 module _ (R : List EntryParts) (C : IsChecked R) where
-  -- the end of the text of a canonical form
-  end_text : (front canonical : List ℕ) (F : IsCanonicalCore R front) (es : List ExtensionParts) (ps : List (List ℕ)) (f : TagForm) → 0 < length es + length ps → IsCanonicalFormOf R (LangTag F.core es ps) f
-      → conventional (list_of front) ++ canonical ≡ conventional (spell f) → canonical ≡ 45 ∷ join_with_byte 45 (spell_rest (extensions_end R C es) ps)
-  end_text front canonical F es ps f n is written =
-      let rest = 45 ∷ join_with_byte 45 (spell_rest (extensions_end R C es) ps) in
-      append_cancel_left (conventional (list_of front)) canonical rest
-      (written ∙ ap (λ (t : TagForm). conventional (spell t)) (form_is R C F.core es ps f F.canonical n is)
-      ∙ lang_text F.core (extensions_end R C es) ps F.read.tag.0.shaped_core (form_some R C es (extensions_end R C es) ps (form_is_normal (extensions_end_formed R C) es) n)
-      ∙ ap (λ (l : List (List ℕ)). conventional l ++ rest) (core_list front F.core F.read))
+  -- the text of a canonical core in its form with extensions or private use
+  core_text : (front : List ℕ) (F : IsCanonicalCore R front) (es : List ExtensionParts) (ps : List (List ℕ)) → 0 < length es + length ps
+      → conventional (spell (LangTag F.core (extensions_end R C es) ps)) ≡ conventional (list_of front) ++ 45 ∷ join_with_byte 45 (spell_rest (extensions_end R C es) ps)
+  core_text front F es ps n =
+      let fs = extensions_end R C es in
+      lang_text F.core fs ps F.read.tag.0.shaped_core (form_some R C es fs ps (form_is_normal (extensions_end_formed R C) es) n)
+      ∙ ap (λ (l : List (List ℕ)). conventional l ++ 45 ∷ join_with_byte 45 (spell_rest fs ps)) (core_list front F.core F.read)
 
   -- the canonical text of another canonical core with it
-  with_other : (other end canonical : List ℕ) (c : CoreParts) (E : IsEnd end) (G : IsCanonicalCore R other) (es : List ExtensionParts) (ps : List (List ℕ)) (f : TagForm) → IsCanonical R (core_alone c)
-      → spell_rest es ps ≡ list_after E → 0 < length es + length ps → IsCanonicalFormOf R (LangTag c es ps) f → canonical ≡ 45 ∷ join_with_byte 45 (spell_rest (extensions_end R C es) ps)
-      → length (other ++ end) ≤ longest_text → IsCanonicalTextOf R (other ++ end) (conventional (list_of other) ++ canonical)
-  with_other other end canonical c E G es ps f K spelled n is rest short =
-      let d = G.core in
-      let form = form_with R C c d es ps f K G.canonical n is in
-      let list = core_list other d G.read in
+  with_other : (other end : List ℕ) (c : CoreParts) (E : IsEnd end) (G : IsCanonicalCore R other) (es : List ExtensionParts) (ps : List (List ℕ)) (f : TagForm) → IsCanonical R (core_alone c)
+      → spell_rest es ps ≡ list_after E → 0 < length es + length ps → IsCanonicalFormOf R (LangTag c es ps) f → length (other ++ end) ≤ longest_text
+      → IsCanonicalTextOf R (other ++ end) (conventional (list_of other) ++ 45 ∷ join_with_byte 45 (spell_rest (extensions_end R C es) ps))
+  with_other other end c E G es ps f K spelled n is short =
+      let form = form_with R C c G.core es ps f K G.canonical n is in
       record {
-        tag = LangTag d es ps;
-        read = record { short = short; tag = form.valid.proper.tag.tag; spelled = ap (λ (l : List (List ℕ)). spell_core d ++ l) spelled ∙ sym (whole_list other end d E G.read) };
-        form = LangTag d (extensions_end R C es) ps;
+        tag = LangTag G.core es ps;
+        read = record { short = short; tag = form.valid.proper.tag.tag; spelled = ap (λ (l : List (List ℕ)). spell_core G.core ++ l) spelled ∙ sym (whole_list other end G.core E G.read) };
+        form = LangTag G.core (extensions_end R C es) ps;
         is_form = form;
-        written = ap (λ (l : List ℕ). conventional (list_of other) ++ l) rest ∙ ap (λ (l : List (List ℕ)). conventional l ++ 45 ∷ join_with_byte 45 (spell_rest (extensions_end R C es) ps)) (sym list)
-            ∙ sym (lang_text d (extensions_end R C es) ps G.read.tag.0.shaped_core (form_some R C es (extensions_end R C es) ps (form_is_normal (extensions_end_formed R C) es) n));
+        written = sym (core_text other G es ps n);
       }
 
   pub ends_shared : EndsAreShared R
-  ends_shared front end canonical F E a other G short =
+  ends_shared front end canonical F E a =
       let H = has_end a.tag F.core _ (list_of E.rest) a.read.tag F.read.tag.0.shaped_core (a.read.spelled ∙ whole_list front end F.core E F.read) in
       let n = has_some H.extensions H.private _ (list_of E.rest) H.spelled in
       let is : IsCanonicalFormOf R (LangTag F.core H.extensions H.private) a.form = subst (λ (t : TagForm). IsCanonicalFormOf R t a.form) H.is a.is_form in
-      with_other other end canonical F.core E G H.extensions H.private a.form F.canonical H.spelled n is (end_text front canonical F H.extensions H.private a.form n is a.written) short
+      record {
+        rest = 45 ∷ join_with_byte 45 (spell_rest (extensions_end R C H.extensions) H.private);
+        whole = a.written ∙ ap (λ (t : TagForm). conventional (spell t)) (form_is R C F.core H.extensions H.private a.form F.canonical n is) ∙ core_text front F H.extensions H.private n;
+        shared = λ other G short. with_other other end F.core E G H.extensions H.private a.form F.canonical H.spelled n is short;
+      }

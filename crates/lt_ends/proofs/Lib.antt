@@ -1,3 +1,4 @@
 mod EndLists
 mod EndForms
 mod EndLaws
+mod KeptEnds
