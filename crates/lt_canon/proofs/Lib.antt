@@ -21,4 +21,5 @@ mod FirstTagSteps
 mod Explained
 mod ExplanationLines
 mod UsualTags
+mod StayingTags
 mod Refused

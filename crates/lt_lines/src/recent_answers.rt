@@ -5,7 +5,7 @@ ghost use Rattle.lt_lines.specs.Owed.{terms};
 
 use crate::answer_lines::append_answer;
 use crate::forms::LineForm;
-use lt_canon::{Checked, TextRefusal, append_canonical_text};
+use lt_canon::{Checked, TextRefusal, append_canonical_text, append_usual_text};
 use lt_recent::Recent;
 use lt_registry::Lookup;
 use lt_tag::OutOfMemory;
@@ -27,6 +27,10 @@ pub(crate) fn append_again<L: Lookup>(
     ensures recent { OnOk result (AreRecent (terms (L.listed checked.now) LineForm.Tag) recent.old
         → AreRecent (terms (L.listed checked.now) LineForm.Tag) recent.new) }
 {
+    if append_usual_text(checked, &text[..count], lines)? {
+        lines.push(b'\n')?;
+        return Ok(false);
+    }
     if let Some(found) = recent.find(text, count) {
         found.answer.append_to(lines)?;
         return Ok(found.refused);
@@ -53,6 +57,9 @@ pub(crate) fn append_field<L: Lookup>(
     ensures recent { OnOk result (AreRecent (terms (L.listed checked.now) (LineForm.Row before)) recent.old
         → AreRecent (terms (L.listed checked.now) (LineForm.Row before)) recent.new) }
 {
+    if append_usual_text(checked, field, lines)? {
+        return Ok(None);
+    }
     if let Some(found) = recent.find(field, field.len()) {
         found.answer.append_to(lines)?;
         return Ok(None);

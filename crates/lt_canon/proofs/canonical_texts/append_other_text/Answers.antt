@@ -3,7 +3,7 @@ use Rattle.lt_tag.specs.Conventional.{conventional}
 use Rattle.lt_tag.specs.Parts.{TagForm}
 use Rattle.lt_tag.specs.WellFormed.{spell}
 use Rattle.lt_canon.proofs.AppendedTexts.{appended, chosen_now}
-use Rattle.lt_canon.proofs.canonical_texts.append_canonical_text.Goals as goal
+use Rattle.lt_canon.proofs.canonical_texts.append_other_text.Goals as goal
 
 pub returns-clause-appended : goal.returns-clause-appended
 returns-clause-appended g c =
