@@ -4,6 +4,7 @@ pub mod TagForm
 pub mod Distinctness
 pub mod TagRepeats
 pub mod CanonicalForms
+pub mod StayingTags
 -- What this crate alone uses.
 mod AppendedTexts
 mod TagProper
@@ -21,5 +22,4 @@ mod FirstTagSteps
 mod Explained
 mod ExplanationLines
 mod UsualTags
-mod StayingTags
 mod Refused

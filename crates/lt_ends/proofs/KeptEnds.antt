@@ -1,5 +1,6 @@
 -- Ends in a table of answers that were given lately.
 use Rattle.std.proofs.Common.{◌≡◌, ◌<◌, ◌≤◌, ◌+◌, ◌++◌, ℕ, List, [], ◌∷◌, Bool, true, false, not, Option, length, take, drop, inl, inr, refl, sym, ap, subst, ◌∙◌, arith, slice_index_or, slice_set}
+use Rattle.std.specs.Prelude.{IsTrue}
 use Rattle.std.specs.List.{All, swap}
 use Rattle.std.proofs.lemmas.List.Elements.{All-contains, All-set}
 use Rattle.std.proofs.lemmas.List.{append_assoc, length-append}
@@ -8,6 +9,8 @@ use Rattle.lt_tag.specs.Conventional.{conventional}
 use Rattle.lt_tag.specs.Lists.{list_of, longest_text}
 use Rattle.lt_registry.specs.Parts.{EntryParts}
 use Rattle.lt_check.specs.Conditions.{IsChecked}
+use Rattle.lt_usual.specs.Staying.{IsStaying}
+use Rattle.lt_canon.proofs.StayingTags.{stays_canonical}
 use Rattle.lt_canon.specs.Texts.{IsCanonicalTextOf, AppendsCanonicalText}
 use Rattle.lt_recent.specs.Recent.{PutsIn, kept}
 use Rattle.lt_recent.specs.declared.Kept.{Kept}
@@ -86,3 +89,11 @@ pub end_put : (R : List EntryParts) (before after : List (Option Kept)) (end old
     → FollowsFront R end old new count → AreEnds R before → AreEnds R after
 end_put R before after end old new answer count puts rest follows ends =
     record { each = all_put (IsKeptEnd R) before after end answer false puts (subst (IsEndText R end) (sym (rest ∙ follows.is)) follows.shared) ends.each }
+
+-- a front whose subtags stay was appended, or nothing
+pub front_appended : (R : List EntryParts) → IsChecked R → (front old new : List ℕ) (told : Bool) → (IsTrue told → IsStaying R front) → (IsTrue told → new ≡ old ++ conventional (list_of front)) → (told ≡ false → new ≡ old)
+    → AppendsFront R front old new told
+front_appended R C front old new true stays grown unchanged =
+    let stay = stays refl in
+    (record { core = stay.0; read = stay.1.read; canonical = (stays_canonical R front stay.0 stay.1 C).canonical }, grown refl)
+front_appended R C front old new false stays grown unchanged = unchanged refl

@@ -28,7 +28,7 @@ impl Model for RecentEnds {
     ghost view = { λ ends. ends.texts };
 }
 
-/// Appends a front in conventional case, where it is a canonical core as it is seen at once; tells whether it did.
+/// Appends a front in conventional case, where each of its subtags stays as it is; tells whether it did.
 #[inline(always)]
 fn append_front<L: Lookup>(
     checked: &Checked<L>,
@@ -38,7 +38,8 @@ fn append_front<L: Lookup>(
     ensures told { IfOk result (AppendsFront (L.listed checked.now) front.now texts.old.items texts.new.items) }
     ensures kept { OnErr result (texts.new.items ≡ texts.old.items) }
 {
-    Ok(false)
+    let told = checked.usual().append_text(front, texts)?;
+    Ok(told)
 }
 
 impl RecentEnds {
