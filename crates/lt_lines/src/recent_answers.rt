@@ -1,5 +1,5 @@
 //! Answers that were given lately, which are given again.
-ghost use Rattle.std.specs.Prelude.{◌≤◌, IfOk, OnOk, length, take};
+ghost use Rattle.std.specs.Prelude.{◌≡◌, ◌≤◌, false, IfOk, IsTrue, OnOk, length, take};
 ghost use Rattle.lt_lines.specs.Answering.{AppendsTextReply, AreRecent, FieldReply};
 ghost use Rattle.lt_lines.specs.Owed.{terms};
 
@@ -11,8 +11,9 @@ use lt_registry::Lookup;
 use lt_tag::OutOfMemory;
 use std::alloc::Global;
 
-/// Appends what is owed for the first `count` bytes of a text, and tells whether they were refused. An answer that was
-/// given lately is not worked out again: where 32 bytes are left of the text, they are looked for without a copy.
+/// Appends what is owed for the first `count` bytes of a text, and tells whether they were refused. A text whose subtags
+/// stay as they are is answered at once. Another answer that was given lately is not worked out again: where 32 bytes are
+/// left of the text, they are looked for without a copy.
 pub(crate) fn append_again<L: Lookup>(
     lines: &mut Vec<u8>,
     alloc: Global,
@@ -27,10 +28,45 @@ pub(crate) fn append_again<L: Lookup>(
     ensures recent { OnOk result (AreRecent (terms (L.listed checked.now) LineForm.Tag) recent.old
         → AreRecent (terms (L.listed checked.now) LineForm.Tag) recent.new) }
 {
-    if append_usual_text(checked, &text[..count], lines)? {
-        lines.push(b'\n')?;
+    if append_usual_answer(lines, checked, &text[..count])? {
         return Ok(false);
     }
+    append_found(lines, alloc, checked, recent, text, count)
+}
+
+/// Appends what is owed for a text whose subtags stay as they are, and tells whether it did; for any other it does
+/// nothing.
+#[inline(always)]
+fn append_usual_answer<L: Lookup>(
+    lines: &mut Vec<u8>,
+    checked: &Checked<L>,
+    text: &[u8],
+) -> Result<bool, OutOfMemory>
+    ensures owed { IfOk result (λ told. IsTrue told → AppendsTextReply (L.listed checked.now) text.now lines.old.items lines.new.items false) }
+    ensures unchanged { IfOk result (λ told. told ≡ false → lines.new.items ≡ lines.old.items) }
+{
+    let told = append_usual_text(checked, text, lines)?;
+    if told {
+        lines.push(b'\n')?;
+    }
+    Ok(told)
+}
+
+/// Appends what is owed for the first `count` bytes of any text, by the answers that were given lately.
+fn append_found<L: Lookup>(
+    lines: &mut Vec<u8>,
+    alloc: Global,
+    checked: &Checked<L>,
+    recent: &mut Recent,
+    text: &[u8],
+    count: usize,
+) -> Result<bool, OutOfMemory>
+    requires { count ≤ length text.now }
+    ensures owed { IfOk result (λ refused. AreRecent (terms (L.listed checked.now) LineForm.Tag) recent.old
+        → AppendsTextReply (L.listed checked.now) (take count text.now) lines.old.items lines.new.items refused) }
+    ensures recent { OnOk result (AreRecent (terms (L.listed checked.now) LineForm.Tag) recent.old
+        → AreRecent (terms (L.listed checked.now) LineForm.Tag) recent.new) }
+{
     if let Some(found) = recent.find(text, count) {
         found.answer.append_to(lines)?;
         return Ok(found.refused);
@@ -42,8 +78,8 @@ pub(crate) fn append_again<L: Lookup>(
     Ok(refused)
 }
 
-/// Appends the canonical text of a field, or tells why it is refused. A canonical text that was found lately is not
-/// worked out again.
+/// Appends the canonical text of a field, or tells why it is refused. A field whose subtags stay as they are is answered
+/// at once, and another canonical text that was found lately is not worked out again.
 pub(crate) fn append_field<L: Lookup>(
     lines: &mut Vec<u8>,
     alloc: Global,
@@ -60,6 +96,23 @@ pub(crate) fn append_field<L: Lookup>(
     if append_usual_text(checked, field, lines)? {
         return Ok(None);
     }
+    append_found_field(lines, alloc, checked, before, recent, field)
+}
+
+/// The same of any field, by the canonical texts that were found lately.
+fn append_found_field<L: Lookup>(
+    lines: &mut Vec<u8>,
+    alloc: Global,
+    checked: &Checked<L>,
+    before: usize,
+    recent: &mut Recent,
+    field: &[u8],
+) -> Result<Option<TextRefusal>, OutOfMemory>
+    ensures owed { IfOk result (λ refusal. AreRecent (terms (L.listed checked.now) (LineForm.Row before)) recent.old
+        → FieldReply (L.listed checked.now) field.now lines.old.items lines.new.items refusal) }
+    ensures recent { OnOk result (AreRecent (terms (L.listed checked.now) (LineForm.Row before)) recent.old
+        → AreRecent (terms (L.listed checked.now) (LineForm.Row before)) recent.new) }
+{
     if let Some(found) = recent.find(field, field.len()) {
         found.answer.append_to(lines)?;
         return Ok(None);

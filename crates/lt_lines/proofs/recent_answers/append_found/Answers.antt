@@ -1,7 +1,7 @@
 use Rattle.std.proofs.Common.{◌≡◌, ◌∙◌, length, drop, take, ap}
 use Rattle.std.proofs.lemmas.List.{take_rest}
 use Rattle.lt_lines.proofs.RecentLemmas.{put_answer}
-use Rattle.lt_lines.proofs.recent_answers.append_again.Goals as goal
+use Rattle.lt_lines.proofs.recent_answers.append_found.Goals as goal
 
 pub returns-clause-recent : goal.returns-clause-recent
 returns-clause-recent g c = λ recent.

@@ -1,7 +1,7 @@
 use Rattle.std.proofs.Common.{◌≡◌, ◌∙◌, length, drop, ap}
 use Rattle.std.proofs.lemmas.List.{take_rest}
 use Rattle.lt_lines.proofs.RecentLemmas.{put_field}
-use Rattle.lt_lines.proofs.recent_answers.append_field.Goals as goal
+use Rattle.lt_lines.proofs.recent_answers.append_found_field.Goals as goal
 
 pub returns-in-Ok-clause-recent : goal.returns-in-Ok-clause-recent
 returns-in-Ok-clause-recent g c = λ recent.
