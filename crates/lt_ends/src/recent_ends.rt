@@ -1,5 +1,5 @@
 //! Canonical texts of ends that were given lately.
-ghost use Rattle.std.specs.Prelude.{◌≡◌, ◌⊎◌, List, IfOk, IfErr, OnOk, OnErr};
+ghost use Rattle.std.specs.Prelude.{◌≡◌, ◌≤◌, ◌⊎◌, List, IfOk, IfErr, OnOk, OnErr, vec_len};
 ghost use Rattle.lt_registry.specs.Parts.{EntryParts};
 ghost use Rattle.lt_canon.specs.Texts.{AppendsCanonicalText, IsTextRefusal};
 ghost use Rattle.lt_ends.specs.Ends.{AreEnds, AppendsFront, AppendsKept, EndsText};
@@ -100,6 +100,7 @@ impl RecentEnds {
         texts: &mut Vec<u8>,
     ) -> Result<(), TextRefusal>
         ensures appended { OnOk result (AreEnds (L.listed checked.now) self.old → AppendsCanonicalText (L.listed checked.now) text.now texts.old.items texts.new.items) }
+        ensures grown { OnOk result (vec_len texts.old ≤ vec_len texts.new) }
         ensures refusal { IfErr result (λ refusal. IsTextRefusal (L.listed checked.now) text.now refusal) }
         ensures kept { IfErr result (λ refusal. (refusal ≡ TextRefusal.OutOfMemory) ⊎ (texts.new.items ≡ texts.old.items)) }
         ensures ends { AreEnds (L.listed checked.now) self.old → AreEnds (L.listed checked.now) self.new }

@@ -6,8 +6,7 @@ use Rattle.lt_jar.specs.Devices.{HasFailed, after_reads, failures_of, inner_of, 
 use Rattle.lt_jar.specs.Lines.{lines_of}
 use Rattle.lt_jar.specs.Sources.{most_reads}
 use Rattle.lt_jar.specs.declared.devices.Device.{Device}
-use Rattle.lt_recent.specs.Recent.{IsBlank}
-use Rattle.lt_lines.specs.Answering.{FinishesLines, HasRoom, IsStop, IsTaken, TakesPiece}
+use Rattle.lt_lines.specs.Answering.{AreRecent, FinishesLines, HasRoom, IsStop, IsTaken, TakesPiece}
 use Rattle.lt_lines.specs.Owed.{AreReplies, IsBegun, IsOwed, IsOwedToLastFeed, Terms}
 use Rattle.lt_lines.specs.Running.{EndsAs, HasRead, RunsLines}
 use Rattle.lt_lines.specs.declared.answering.Answering.{Answering}
@@ -15,7 +14,6 @@ use Rattle.lt_lines.specs.declared.faults.ToolFault.{ToolFault}
 use Rattle.lt_lines.specs.declared.faults.ToolFault.TheVariants as faults
 use Rattle.lt_lines.specs.declared.runs.Counts.{Counts}
 use Rattle.lt_lines.proofs.DeviceLemmas.{failed_from}
-use Rattle.lt_lines.proofs.RecentLemmas.{blank_recent}
 use Rattle.lt_lines.proofs.TakenLemmas.{begun_nothing, kept_none, taken_room}
 use Rattle.std.proofs.Math.Seq.{take-append_seam}
 
@@ -44,8 +42,8 @@ pub record ReadsPiece {I : Type 0} (remaining : I → Option (List ℕ)) (before
   pub calls : reads_of after ≡ one_more (reads_of before)
   pub failures : failures_of after ≡ failures_of before
 
-nothing_taken : (T : Terms) (state : Answering) → state.kept.items ≡ [] → state.owed.items ≡ [] → state.counts.lines ≡ 0 → state.counts.refused ≡ 0 → IsBlank state.recent → IsTaken T [] [] state
-nothing_taken T state kept owed lines refused blank = record {
+nothing_taken : (T : Terms) (state : Answering) → state.kept.items ≡ [] → state.owed.items ≡ [] → state.counts.lines ≡ 0 → state.counts.refused ≡ 0 → ((T : Terms) → AreRecent T state.recent) → IsTaken T [] [] state
+nothing_taken T state kept owed lines refused recent = record {
   lines = [];
   last = [];
   cut = refl;
@@ -57,17 +55,17 @@ nothing_taken T state kept owed lines refused blank = record {
   all = owed;
   count = lines;
   refused = refused;
-  recent = blank_recent T state.recent blank;
+  recent = recent T;
 }
 
 pub run_first : {I O : Type 0} (T : Terms) (remaining : I → Option (List ℕ)) (contents : O → Option (List ℕ)) (input : Device I) (output : Device O) (state : Answering)
-    → state.kept.items ≡ [] → state.owed.items ≡ [] → state.counts.lines ≡ 0 → state.counts.refused ≡ 0 → IsBlank state.recent → RunTurn T remaining contents input input output output state 0
-run_first T remaining contents input output state kept owed lines refused blank = record {
+    → state.kept.items ≡ [] → state.owed.items ≡ [] → state.counts.lines ≡ 0 → state.counts.refused ≡ 0 → ((T : Terms) → AreRecent T state.recent) → RunTurn T remaining contents input input output output state 0
+run_first T remaining contents input output state kept owed lines refused recent = record {
   read = [];
   written = [];
   consumes = Consumes-nil _;
   appends = Appends-nil _;
-  taken = nothing_taken T state kept owed lines refused blank;
+  taken = nothing_taken T state kept owed lines refused recent;
   emptied = owed;
   calls = refl;
   some = omega arith;

@@ -1,7 +1,6 @@
 //! Answering lines that come in pieces.
 ghost use Rattle.std.specs.Prelude.{◌≡◌, ◌<◌, ◌≤◌, ◌+◌, ◌++◌, ◌∷◌, ◌^◌, List, ℕ, [], IfOk, OnOk, length, take, vec_len};
-ghost use Rattle.lt_recent.specs.Recent.{IsBlank};
-ghost use Rattle.lt_lines.specs.Owed.{IsOneLine, terms};
+ghost use Rattle.lt_lines.specs.Owed.{IsOneLine, Terms, terms};
 ghost use Rattle.lt_lines.specs.Answering as spec;
 
 use crate::answer_lines::without_return;
@@ -9,12 +8,11 @@ use crate::answer_rows::append_row;
 use crate::device_output::write_text;
 use crate::faults::ToolFault;
 use crate::forms::LineForm;
-use crate::recent_answers::append_again;
+use crate::recent_answers::{RecentAnswers, append_again};
 use crate::runs::Counts;
 use crate::splitting::split_first;
 use lt_canon::Checked;
 use lt_jar::Device;
-use lt_recent::Recent;
 use lt_registry::Lookup;
 use lt_tag::OutOfMemory;
 use std::alloc::{AllocError, Global};
@@ -36,7 +34,7 @@ pub(crate) struct Answering {
     owed: Vec<u8>,
     counts: Counts,
     /// Answers that were given lately.
-    recent: Recent,
+    recent: RecentAnswers,
 }
 
 /// Keeps more of a line, as far as it is needed.
@@ -58,7 +56,7 @@ fn append_reply<L: Lookup>(
     alloc: Global,
     checked: &Checked<L>,
     form: LineForm,
-    recent: &mut Recent,
+    recent: &mut RecentAnswers,
     text: &[u8],
     count: usize,
 ) -> Result<bool, OutOfMemory>
@@ -88,7 +86,7 @@ fn append_line<L: Lookup>(
     alloc: Global,
     checked: &Checked<L>,
     form: LineForm,
-    recent: &mut Recent,
+    recent: &mut RecentAnswers,
     kept: &mut Vec<u8>,
     text: &[u8],
     count: usize,
@@ -110,7 +108,7 @@ impl Answering {
     pub(crate) fn new(alloc: Global) -> Answering
         ensures items { (result.kept.items ≡ []) × (result.owed.items ≡ []) }
         ensures counts { (result.counts.lines ≡ 0) × (result.counts.refused ≡ 0) }
-        ensures recent { IsBlank result.recent }
+        ensures recent { (terms : Terms) → spec.AreRecent terms result.recent }
     {
         Answering {
             kept: Vec::new(alloc),
@@ -119,7 +117,7 @@ impl Answering {
                 lines: 0,
                 refused: 0,
             },
-            recent: Recent::new(alloc),
+            recent: RecentAnswers::new(alloc),
         }
     }
 
