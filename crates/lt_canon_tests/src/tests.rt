@@ -1,5 +1,6 @@
 //! Records in place of those of the sample, and what the check then finds.
 mod answers;
+mod ends;
 mod explanations;
 mod growths;
 mod hostile;

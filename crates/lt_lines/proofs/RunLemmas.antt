@@ -5,8 +5,7 @@ use Rattle.std.proofs.KnownBytes.{Appends-nil, Appends-trans, Consumes-kept, Con
 use Rattle.lt_jar.specs.Devices.{HasFailed, after_reads, failures_of, inner_of, last_given_of, one_more, reads_of}
 use Rattle.lt_jar.specs.Sources.{most_reads}
 use Rattle.lt_jar.specs.declared.devices.Device.{Device}
-use Rattle.lt_recent.specs.Recent.{IsBlank}
-use Rattle.lt_lines.specs.Answering.{FinishesLines, HasRoom, IsLastStop, IsStop, IsTaken, TakesPiece}
+use Rattle.lt_lines.specs.Answering.{AreRecent, FinishesLines, HasRoom, IsLastStop, IsStop, IsTaken, TakesPiece}
 use Rattle.lt_lines.specs.Owed.{AreReplies, EndsInQuotes, IsBegun, IsOwed, Terms, units_of}
 use Rattle.lt_lines.specs.Running.{EndsAs, HasRead, RunsLines}
 use Rattle.lt_lines.specs.declared.answering.Answering.{Answering}
@@ -14,7 +13,6 @@ use Rattle.lt_lines.specs.declared.faults.ToolFault.{ToolFault}
 use Rattle.lt_lines.specs.declared.faults.ToolFault.TheVariants as faults
 use Rattle.lt_lines.specs.declared.runs.Counts.{Counts}
 use Rattle.lt_lines.proofs.DeviceLemmas.{failed_from}
-use Rattle.lt_lines.proofs.RecentLemmas.{blank_recent}
 use Rattle.lt_lines.proofs.OwedLemmas.{open_none, unit_none}
 use Rattle.lt_lines.proofs.TakenLemmas.{begun_nothing, begun_to_last_feed, kept_none, owed_to_last_feed, taken_room}
 use Rattle.std.proofs.Math.Seq.{take-append_seam}
@@ -45,8 +43,8 @@ pub record ReadsPiece {I : Type 0} (remaining : I → Option (List ℕ)) (before
   pub failures : failures_of after ≡ failures_of before
 
 nothing_taken : (T : Terms) (state : Answering) → state.kept.items ≡ [] → state.owed.items ≡ [] → state.is_open ≡ false → state.feeds ≡ 0
-    → state.counts.lines ≡ 0 → state.counts.refused ≡ 0 → IsBlank state.recent → IsTaken T [] [] state
-nothing_taken T state kept owed closed feeds lines refused blank = record {
+    → state.counts.lines ≡ 0 → state.counts.refused ≡ 0 → ((T : Terms) → AreRecent T state.recent) → IsTaken T [] [] state
+nothing_taken T state kept owed closed feeds lines refused recent = record {
   lines = [];
   last = [];
   cut = refl;
@@ -60,18 +58,18 @@ nothing_taken T state kept owed closed feeds lines refused blank = record {
   all = owed;
   count = lines;
   refused = refused;
-  recent = blank_recent T state.recent blank;
+  recent = recent T;
 }
 
 pub run_first : {I O : Type 0} (T : Terms) (remaining : I → Option (List ℕ)) (contents : O → Option (List ℕ)) (input : Device I) (output : Device O) (state : Answering)
-    → state.kept.items ≡ [] → state.owed.items ≡ [] → state.is_open ≡ false → state.feeds ≡ 0 → state.counts.lines ≡ 0 → state.counts.refused ≡ 0 → IsBlank state.recent
+    → state.kept.items ≡ [] → state.owed.items ≡ [] → state.is_open ≡ false → state.feeds ≡ 0 → state.counts.lines ≡ 0 → state.counts.refused ≡ 0 → ((T : Terms) → AreRecent T state.recent)
     → RunTurn T remaining contents input input output output state 0
-run_first T remaining contents input output state kept owed closed feeds lines refused blank = record {
+run_first T remaining contents input output state kept owed closed feeds lines refused recent = record {
   read = [];
   written = [];
   consumes = Consumes-nil _;
   appends = Appends-nil _;
-  taken = nothing_taken T state kept owed closed feeds lines refused blank;
+  taken = nothing_taken T state kept owed closed feeds lines refused recent;
   emptied = owed;
   calls = refl;
   some = omega arith;

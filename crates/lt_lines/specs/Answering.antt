@@ -12,6 +12,8 @@ use Rattle.lt_lines.specs.Quotes.{is_inside}
 use Rattle.lt_lines.specs.Owed.{AreReplies, EndsInQuotes, IsBegun, IsOneLine, IsOwed, IsReplyTo, IsRowReply, IsTextReply, IsUnit, IsWhole, Reply, Terms, bytes_in, ended, feeds_in, is_open, refused_in, reply, row_line, units_of}
 use Rattle.lt_lines.specs.DeviceOutput.{IsFrontOf}
 use Rattle.lt_recent.specs.declared.Kept.{Kept}
+use Rattle.lt_ends.specs.Ends.{AreEnds}
+use Rattle.lt_lines.specs.declared.recent_answers.RecentAnswers.{RecentAnswers}
 use Rattle.lt_lines.specs.declared.answering.Answering.{Answering}
 use Rattle.lt_lines.specs.declared.forms.LineForm.{LineForm}
 use Rattle.lt_lines.specs.declared.forms.LineForm.TheVariants as forms
@@ -103,9 +105,10 @@ abbrev pub IsRecent : Terms → Option Kept → Type 0
 IsRecent T None = Unit {0}
 IsRecent T (Some kept) = IsRight T.entries T.form kept
 
--- each answer that was given lately is right
-pub record AreRecent (T : Terms) (table : List (Option Kept)) : Type 0 where
-  pub each : All (IsRecent T) table
+-- each answer that was given lately is right, and so is each end
+pub record AreRecent (T : Terms) (recent : RecentAnswers) : Type 0 where
+  pub whole : All (IsRecent T) recent.whole
+  pub ends : AreEnds T.entries recent.ends
 
 -- These bytes were taken: their lines are answered, and the answers written or still kept.
 pub record IsTaken (T : Terms) (bytes written : List ℕ) (state : Answering) : Type 0 where

@@ -6,10 +6,9 @@ ghost use Rattle.lt_lines.specs.Owed.{end_of, row_line, terms};
 
 use crate::answer_lines::{append_told, without_return};
 use crate::forms::LineForm;
-use crate::recent_answers::append_field;
+use crate::recent_answers::{RecentAnswers, append_field};
 use crate::rows::{Separator, find_field, text_in};
 use lt_canon::{Checked, TextRefusal};
-use lt_recent::Recent;
 use lt_registry::Lookup;
 use lt_tag::OutOfMemory;
 use std::alloc::{AllocError, Global};
@@ -84,7 +83,7 @@ pub(crate) fn append_row<L: Lookup>(
     checked: &Checked<L>,
     separator: Separator,
     before: usize,
-    recent: &mut Recent,
+    recent: &mut RecentAnswers,
     line: &[u8],
 ) -> Result<bool, OutOfMemory>
     ensures owed { IfOk result (λ refused. AreRecent (terms (L.listed checked.now) (LineForm.Row before)) recent.old

@@ -1,7 +1,6 @@
 //! Answering lines that come in pieces.
 ghost use Rattle.std.specs.Prelude.{◌≡◌, ◌≤◌, ◌+◌, ◌-◌, ◌++◌, ◌∷◌, List, ℕ, [], false, IfOk, OnOk, length, take, vec_len};
-ghost use Rattle.lt_recent.specs.Recent.{IsBlank};
-ghost use Rattle.lt_lines.specs.Owed.{IsOneLine, feeds_in, terms};
+ghost use Rattle.lt_lines.specs.Owed.{IsOneLine, Terms, feeds_in, terms};
 ghost use Rattle.lt_lines.specs.Answering as spec;
 
 use crate::answer_lines::without_return;
@@ -10,13 +9,12 @@ use crate::device_output::write_text;
 use crate::faults::ToolFault;
 use crate::forms::LineForm;
 use crate::quotes::after_text;
-use crate::recent_answers::append_again;
+use crate::recent_answers::{RecentAnswers, append_again};
 use crate::rows::Separator;
 use crate::runs::Counts;
 use crate::splitting::split_first;
 use lt_canon::Checked;
 use lt_jar::Device;
-use lt_recent::Recent;
 use lt_registry::Lookup;
 use lt_tag::OutOfMemory;
 use std::alloc::{AllocError, Global};
@@ -42,7 +40,7 @@ pub(crate) struct Answering {
     owed: Vec<u8>,
     counts: Counts,
     /// Answers that were given lately.
-    recent: Recent,
+    recent: RecentAnswers,
 }
 
 /// Keeps more of a line, as far as it is needed.
@@ -75,7 +73,7 @@ fn append_reply<L: Lookup>(
     checked: &Checked<L>,
     form: LineForm,
     is_first: bool,
-    recent: &mut Recent,
+    recent: &mut RecentAnswers,
     text: &[u8],
     count: usize,
 ) -> Result<bool, OutOfMemory>
@@ -121,7 +119,7 @@ fn append_line<L: Lookup>(
     checked: &Checked<L>,
     form: LineForm,
     is_first: bool,
-    recent: &mut Recent,
+    recent: &mut RecentAnswers,
     kept: &mut Vec<u8>,
     text: &[u8],
     count: usize,
@@ -153,7 +151,7 @@ impl Answering {
         ensures items { (result.kept.items ≡ []) × (result.owed.items ≡ []) }
         ensures place { (result.is_open ≡ false) × (result.feeds ≡ 0) }
         ensures counts { (result.counts.lines ≡ 0) × (result.counts.refused ≡ 0) }
-        ensures recent { IsBlank result.recent }
+        ensures recent { (terms : Terms) → spec.AreRecent terms result.recent }
     {
         Answering {
             kept: Vec::new(alloc),
@@ -164,7 +162,7 @@ impl Answering {
                 lines: 0,
                 refused: 0,
             },
-            recent: Recent::new(alloc),
+            recent: RecentAnswers::new(alloc),
         }
     }
 

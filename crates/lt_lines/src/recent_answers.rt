@@ -1,15 +1,35 @@
 //! Answers that were given lately, which are given again.
 ghost use Rattle.std.specs.Prelude.{◌≡◌, ◌≤◌, false, IfOk, IsTrue, OnOk, length, take};
 ghost use Rattle.lt_lines.specs.Answering.{AppendsTextReply, AreRecent, FieldReply};
-ghost use Rattle.lt_lines.specs.Owed.{terms};
+ghost use Rattle.lt_lines.specs.Owed.{Terms, terms};
 
 use crate::answer_lines::append_answer;
 use crate::forms::LineForm;
-use lt_canon::{Checked, TextRefusal, append_canonical_text, append_usual_text};
+use lt_canon::{Checked, TextRefusal, append_usual_text};
+use lt_ends::RecentEnds;
 use lt_recent::Recent;
 use lt_registry::Lookup;
 use lt_tag::OutOfMemory;
 use std::alloc::Global;
+
+/// Answers that were given lately: those of whole lines, and ends of canonical texts.
+#[derive(Drop)]
+pub(crate) struct RecentAnswers {
+    whole: Recent,
+    ends: RecentEnds,
+}
+
+impl RecentAnswers {
+    /// None so far.
+    pub(crate) fn new(alloc: Global) -> RecentAnswers
+        ensures { (terms : Terms) → AreRecent terms result }
+    {
+        RecentAnswers {
+            whole: Recent::new(alloc),
+            ends: RecentEnds::new(alloc),
+        }
+    }
+}
 
 /// Appends what is owed for the first `count` bytes of a text, and tells whether they were refused. A text whose subtags
 /// stay as they are is answered at once. Another answer that was given lately is not worked out again: where 32 bytes are
@@ -18,7 +38,7 @@ pub(crate) fn append_again<L: Lookup>(
     lines: &mut Vec<u8>,
     alloc: Global,
     checked: &Checked<L>,
-    recent: &mut Recent,
+    recent: &mut RecentAnswers,
     text: &[u8],
     count: usize,
 ) -> Result<bool, OutOfMemory>
@@ -57,7 +77,7 @@ fn append_found<L: Lookup>(
     lines: &mut Vec<u8>,
     alloc: Global,
     checked: &Checked<L>,
-    recent: &mut Recent,
+    recent: &mut RecentAnswers,
     text: &[u8],
     count: usize,
 ) -> Result<bool, OutOfMemory>
@@ -67,14 +87,14 @@ fn append_found<L: Lookup>(
     ensures recent { OnOk result (AreRecent (terms (L.listed checked.now) LineForm.Tag) recent.old
         → AreRecent (terms (L.listed checked.now) LineForm.Tag) recent.new) }
 {
-    if let Some(found) = recent.find(text, count) {
+    if let Some(found) = recent.whole.find(text, count) {
         found.answer.append_to(lines)?;
         return Ok(found.refused);
     }
     let text = &text[..count];
     let start = lines.len();
-    let refused = append_answer(lines, alloc, checked, text)?;
-    recent.put(text, &lines[start..], refused);
+    let refused = append_answer(lines, alloc, checked, &mut recent.ends, text)?;
+    recent.whole.put(text, &lines[start..], refused);
     Ok(refused)
 }
 
@@ -85,7 +105,7 @@ pub(crate) fn append_field<L: Lookup>(
     alloc: Global,
     checked: &Checked<L>,
     before: usize,
-    recent: &mut Recent,
+    recent: &mut RecentAnswers,
     field: &[u8],
 ) -> Result<Option<TextRefusal>, OutOfMemory>
     ensures owed { IfOk result (λ refusal. AreRecent (terms (L.listed checked.now) (LineForm.Row before)) recent.old
@@ -105,7 +125,7 @@ fn append_found_field<L: Lookup>(
     alloc: Global,
     checked: &Checked<L>,
     before: usize,
-    recent: &mut Recent,
+    recent: &mut RecentAnswers,
     field: &[u8],
 ) -> Result<Option<TextRefusal>, OutOfMemory>
     ensures owed { IfOk result (λ refusal. AreRecent (terms (L.listed checked.now) (LineForm.Row before)) recent.old
@@ -113,14 +133,14 @@ fn append_found_field<L: Lookup>(
     ensures recent { OnOk result (AreRecent (terms (L.listed checked.now) (LineForm.Row before)) recent.old
         → AreRecent (terms (L.listed checked.now) (LineForm.Row before)) recent.new) }
 {
-    if let Some(found) = recent.find(field, field.len()) {
+    if let Some(found) = recent.whole.find(field, field.len()) {
         found.answer.append_to(lines)?;
         return Ok(None);
     }
     let start = lines.len();
-    match append_canonical_text(alloc, checked, field, lines) {
+    match recent.ends.append_canonical_text(alloc, checked, field, lines) {
         Ok(()) => {
-            recent.put(field, &lines[start..], false);
+            recent.whole.put(field, &lines[start..], false);
             Ok(None)
         }
         Err(TextRefusal::OutOfMemory) => Err(OutOfMemory),
