@@ -138,7 +138,10 @@ fn append_found_field<L: Lookup>(
         return Ok(None);
     }
     let start = lines.len();
-    match recent.ends.append_canonical_text(alloc, checked, field, lines) {
+    match recent
+        .ends
+        .append_canonical_text(alloc, checked, field, lines)
+    {
         Ok(()) => {
             recent.whole.put(field, &lines[start..], false);
             Ok(None)
