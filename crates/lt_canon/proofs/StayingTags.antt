@@ -26,7 +26,8 @@ use Rattle.lt_check.proofs.CheckedRegistry.{found_name}
 use Rattle.lt_canon.specs.Answers.{IsCanonicalFormOf}
 use Rattle.lt_canon.specs.Texts.{AppendsCanonicalText}
 use Rattle.lt_canon.specs.UsualTags.{IsUsual, one_valued, part_valued, core_valued}
-use Rattle.lt_canon.proofs.UsualTags.{usual_valid, usual_canonical}
+use Rattle.lt_canon.proofs.UsualTags.{usual_valid, usual_form}
+use Rattle.lt_canon.proofs.CanonicalForms.{core_canonical}
 
 -- ---- no subtag has a value
 
@@ -85,7 +86,7 @@ module _ (R : List EntryParts) (text : List ℕ) (c : CoreParts) (stay : StaysAs
       none_of (tag_of e.value) (ap (λ b. is_some (tag_of e.value) && b) (sym plain) ∙ other)
 
   pub stays_canonical : IsChecked R → IsCanonicalFormOf R (core_alone c) (core_alone c)
-  stays_canonical C = usual_canonical R (core_alone c) c usual refl C valid valued (no_value (whole R (core_alone c)) refl)
+  stays_canonical C = core_canonical R C c c valid (usual_form R (core_alone c) c usual refl valid valued) (no_value (whole R (core_alone c)) refl)
 
 -- its conventional text is its canonical text
 pub stays_appended : (R : List EntryParts) → IsChecked R → (text old new : List ℕ) → IsStaying R text → new ≡ old ++ conventional (list_of text) → AppendsCanonicalText R text old new
