@@ -5,8 +5,8 @@ use Rattle.std.proofs.lemmas.Bool.{eq-eqb, ne_eqb}
 use Rattle.std.proofs.lemmas.List.Elements.{All-append, All-head, All-tail}
 use Rattle.std.proofs.lemmas.List.Sums.{sum_by-append}
 use Rattle.lt_jar.proofs.CutLemmas.{lines_of-ended, lines_of-last}
-use Rattle.lt_lines.specs.Answering.{one_if}
-use Rattle.lt_lines.specs.Owed.{AreReplies, AreRepliesFrom, IsOneLine, IsReplyTo, IsUnit, IsWhole, Reply, Terms, bytes_in, ended, feeds_in, is_open, open_after, refused_in, units_of}
+use Rattle.lt_lines.specs.Answering.{one_if, open_after}
+use Rattle.lt_lines.specs.Owed.{AreReplies, AreRepliesFrom, IsOneLine, IsReplyTo, IsUnit, IsWhole, Reply, Terms, bytes_in, ended, feeds_in, is_open, refused_in, units_of}
 use Rattle.lt_lines.specs.Quotes.{is_inside}
 use Rattle.lt_lines.specs.declared.forms.LineForm.{LineForm}
 use Rattle.lt_lines.specs.declared.forms.LineForm.TheVariants as forms

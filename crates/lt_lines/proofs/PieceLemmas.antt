@@ -5,8 +5,8 @@ use Rattle.std.proofs.KnownBytes.{Appends-nil, Appends-trans}
 use Rattle.std.proofs.Math.Seq.{take-append_seam}
 use Rattle.lt_jar.specs.Devices.{failures_of, inner_of}
 use Rattle.lt_jar.specs.declared.devices.Device.{Device}
-use Rattle.lt_lines.specs.Answering.{CountsFeed, IsTaken, TakesPiece, WritesOwed, part_kept}
-use Rattle.lt_lines.specs.Owed.{IsOneLine, Terms, open_after}
+use Rattle.lt_lines.specs.Answering.{CountsFeed, IsTaken, TakesPiece, WritesOwed, open_after, part_kept}
+use Rattle.lt_lines.specs.Owed.{IsOneLine, Terms}
 use Rattle.lt_lines.specs.declared.answering.Answering.{Answering}
 use Rattle.lt_lines.specs.declared.runs.Counts.{Counts}
 use Rattle.lt_lines.specs.declared.faults.ToolFault.{ToolFault}

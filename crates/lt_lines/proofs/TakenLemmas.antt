@@ -6,8 +6,8 @@ use Rattle.std.proofs.lemmas.List.{take_all, length-take, length-take-le, nil_fr
 use Rattle.std.proofs.lemmas.List.Sums.{count_by-le-length}
 use Rattle.std.proofs.Math.Seq.{take-append-add}
 use Rattle.std.proofs.lemmas.List.{take-append-le}
-use Rattle.lt_lines.specs.Answering.{AreRecent, GoesOn, IsAnswered, IsTaken, KeepsLine, kept_of, longest_kept, one_if, part_kept}
-use Rattle.lt_lines.specs.Owed.{AreReplies, EndsInQuotes, IsBegun, IsOneLine, IsOwed, IsOwedToLastFeed, IsReplyTo, IsWholeAfter, Reply, Terms, ended, feeds_in, is_open, open_after, units_of}
+use Rattle.lt_lines.specs.Answering.{AreRecent, GoesOn, IsAnswered, IsTaken, IsWholeAfter, KeepsLine, kept_of, longest_kept, one_if, open_after, part_kept}
+use Rattle.lt_lines.specs.Owed.{AreReplies, EndsInQuotes, IsBegun, IsOneLine, IsOwed, IsOwedToLastFeed, IsReplyTo, Reply, Terms, ended, feeds_in, is_open, units_of}
 use Rattle.lt_lines.specs.declared.forms.LineForm.{LineForm}
 use Rattle.lt_lines.specs.declared.forms.LineForm.TheVariants as forms
 use Rattle.lt_lines.specs.DeviceOutput.{IsFrontOf}

@@ -1,4 +1,4 @@
--- How lines that come in pieces are answered.
+-- How lines that come in pieces are answered. No public contract cites this.
 use Rattle.std.specs.Prelude.{◌≡◌, ◌<◌, ◌≤◌, ◌+◌, ◌-◌, ◌^◌, ◌⊎◌, ℕ, Bool, true, false, List, [], ◌∷◌, ◌++◌, length, take, Option, Some, None, Result, IfErr, IfOk}
 use Rattle.std.specs.List.{All, AllByRecursion}
 use Rattle.std.specs.Io.KnownBytes.{Appends}
@@ -8,7 +8,8 @@ use Rattle.lt_registry.specs.Parts.{EntryParts}
 use Rattle.lt_canon.specs.Texts.{AppendsCanonicalText, IsCanonicalTextOf, IsTextRefusal}
 use Rattle.lt_canon.specs.declared.refusals.TextRefusal.{TextRefusal}
 use Rattle.lt_lines.specs.Refusals.{IsTold}
-use Rattle.lt_lines.specs.Owed.{AreReplies, EndsInQuotes, IsBegun, IsOwed, IsReplyTo, IsRowReply, IsTextReply, IsUnit, IsWhole, Reply, Terms, bytes_in, ended, feeds_in, is_open, refused_in, reply, row_line, units_of}
+use Rattle.lt_lines.specs.Quotes.{is_inside}
+use Rattle.lt_lines.specs.Owed.{AreReplies, EndsInQuotes, IsBegun, IsOneLine, IsOwed, IsReplyTo, IsRowReply, IsTextReply, IsUnit, IsWhole, Reply, Terms, bytes_in, ended, feeds_in, is_open, refused_in, reply, row_line, units_of}
 use Rattle.lt_lines.specs.DeviceOutput.{IsFrontOf}
 use Rattle.lt_recent.specs.declared.Kept.{Kept}
 use Rattle.lt_lines.specs.declared.answering.Answering.{Answering}
@@ -43,6 +44,17 @@ abbrev pub part_kept : LineForm → ℕ → List ℕ → List ℕ
 part_kept forms.Tag count part = take (longest_kept - count) part
 part_kept (forms.Row before) count part = part
 part_kept (forms.Csv before) count part = part
+
+-- whether a line goes on after a line feed, by whether it would before these bytes, which are the last before it
+abbrev pub open_after : LineForm → Bool → List ℕ → Bool
+open_after forms.Tag inside part = false
+open_after (forms.Row before) inside part = false
+open_after (forms.Csv before) inside part = is_inside inside part
+
+-- the last bytes of a line before the line feed that ends it
+pub record IsWholeAfter (form : LineForm) (inside : Bool) (part : List ℕ) : Type 0 where
+  pub one : IsOneLine part
+  pub closed : open_after form inside part ≡ false
 
 -- one answer more is among those that are owed: that to a text
 pub record AppendsTextReply (R : List EntryParts) (text old new : List ℕ) (refused : Bool) : Type 0 where

@@ -167,17 +167,6 @@ is_open forms.Tag text = false
 is_open (forms.Row before) text = false
 is_open (forms.Csv before) text = is_inside false text
 
--- the same by whether it would before these bytes, which are the last before the line feed
-abbrev pub open_after : LineForm → Bool → List ℕ → Bool
-open_after forms.Tag inside part = false
-open_after (forms.Row before) inside part = false
-open_after (forms.Csv before) inside part = is_inside inside part
-
--- the last bytes of a line before the line feed that ends it
-pub record IsWholeAfter (form : LineForm) (inside : Bool) (part : List ℕ) : Type 0 where
-  pub one : IsOneLine part
-  pub closed : open_after form inside part ≡ false
-
 -- a line that a line feed ends
 pub record IsWhole (form : LineForm) (text : List ℕ) : Type 0 where
   pub unit : IsUnit form text

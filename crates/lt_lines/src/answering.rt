@@ -1,7 +1,7 @@
 //! Answering lines that come in pieces.
 ghost use Rattle.std.specs.Prelude.{◌≡◌, ◌≤◌, ◌+◌, ◌-◌, ◌++◌, ◌∷◌, List, ℕ, [], false, IfOk, OnOk, length, take, vec_len};
 ghost use Rattle.lt_recent.specs.Recent.{IsBlank};
-ghost use Rattle.lt_lines.specs.Owed.{IsOneLine, IsWholeAfter, feeds_in, open_after, terms};
+ghost use Rattle.lt_lines.specs.Owed.{IsOneLine, feeds_in, terms};
 ghost use Rattle.lt_lines.specs.Answering as spec;
 
 use crate::answer_lines::without_return;
@@ -60,7 +60,7 @@ fn keep(form: LineForm, kept: &mut Vec<u8>, part: &[u8]) -> Result<(), AllocErro
 
 /// Whether a line goes on after a line feed, by whether it would before these bytes, which are the last before it.
 fn is_open_after(form: LineForm, is_open: bool, part: &[u8]) -> bool
-    ensures { result ≡ open_after form is_open part.now }
+    ensures { result ≡ spec.open_after form is_open part.now }
 {
     match form {
         LineForm::Tag | LineForm::Row(_) => false,
@@ -169,6 +169,7 @@ impl Answering {
     }
 
     /// Answers the line that the first `count` bytes of a text end.
+    #[inline(always)]
     fn answer_line<L: Lookup>(
         &mut self,
         alloc: Global,
@@ -179,7 +180,7 @@ impl Answering {
     ) -> Result<(), OutOfMemory>
         requires room { spec.HasRoom self.old 1 }
         requires count { count ≤ length text.now }
-        ensures taken { OnOk result ((bytes out : List ℕ) → IsWholeAfter form self.old.is_open (take count text.now) → spec.IsTaken (terms (L.listed checked.now) form) bytes out self.old
+        ensures taken { OnOk result ((bytes out : List ℕ) → spec.IsWholeAfter form self.old.is_open (take count text.now) → spec.IsTaken (terms (L.listed checked.now) form) bytes out self.old
             → spec.IsTaken (terms (L.listed checked.now) form) (bytes ++ (take count text.now ++ 10 ∷ [])) out self.new) }
         ensures kept { OnOk result (self.new.kept.items ≡ []) }
         ensures counted { OnOk result (spec.CountsFeed self.old self.new) }
@@ -203,6 +204,7 @@ impl Answering {
     }
 
     /// Keeps the bytes before a line feed, and the line feed.
+    #[inline(never)]
     fn go_on(&mut self, form: LineForm, part: &[u8]) -> Result<(), OutOfMemory>
         requires { spec.HasRoom self.old 1 }
         ensures taken { OnOk result (spec.GoesOn form part.now self.old self.new) }
@@ -215,6 +217,7 @@ impl Answering {
     }
 
     /// Answers the line that the first `count` bytes of a text end, unless the line feed after them is within quotes.
+    #[inline(always)]
     fn end_line<L: Lookup>(
         &mut self,
         alloc: Global,

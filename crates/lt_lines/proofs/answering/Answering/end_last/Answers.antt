@@ -1,7 +1,7 @@
 use Rattle.std.proofs.Common.{◌≡◌, ◌∙◌, ◌++◌, ◌∷◌, ℕ, Bool, false, refl, List, [], Result, Ok, Err, sym, arith, vec_len, OnOk}
 use Rattle.lt_tag.specs.declared.faults.OutOfMemory.{OutOfMemory}
-use Rattle.lt_lines.specs.Answering.{IsAnswered, IsTaken}
-use Rattle.lt_lines.specs.Owed.{IsWholeAfter, Terms, open_after, terms}
+use Rattle.lt_lines.specs.Answering.{IsAnswered, IsTaken, IsWholeAfter, open_after}
+use Rattle.lt_lines.specs.Owed.{Terms, terms}
 use Rattle.lt_lines.specs.declared.answering.Answering.{Answering}
 use Rattle.lt_lines.specs.declared.forms.LineForm.{LineForm}
 use Rattle.lt_lines.specs.declared.forms.LineForm.TheVariants as forms
