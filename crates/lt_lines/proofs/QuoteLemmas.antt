@@ -19,11 +19,10 @@ free-append stop inside (byte ∷ text) more h k = (h.0, free-append stop (is_in
 -- a text without the byte
 pub free_of_none : (stop : ℕ) (inside : Bool) (text : List ℕ) → All (λ (byte : ℕ). byte ≢ stop) text → IsFreeOutside stop inside text
 free_of_none stop inside [] h = tt
-free_of_none stop inside (byte ∷ text) h =
-    (
-      λ e. absurd (All-head (λ (b : ℕ). b ≢ stop) byte text h e),
-      free_of_none stop (is_inside_after inside byte) text (All-tail (λ (b : ℕ). b ≢ stop) byte text h),
-    )
+free_of_none stop inside (byte ∷ text) h = (
+  λ e. absurd (All-head (λ (b : ℕ). b ≢ stop) byte text h e),
+  free_of_none stop (is_inside_after inside byte) text (All-tail (λ (b : ℕ). b ≢ stop) byte text h),
+)
 
 and_false : (t : Bool) → (t && false) ≡ false
 and_false true = refl

@@ -63,7 +63,8 @@ pub record AppendsTextReply (R : List EntryParts) (text old new : List ℕ) (ref
   pub owed : IsTextReply R text (reply bytes refused)
 
 -- that to a row
-pub record AppendsRowReply (S : Separator) (R : List EntryParts) (before : ℕ) (line old new : List ℕ) (refused : Bool) : Type 0 where
+pub record AppendsRowReply (S : Separator) (R : List EntryParts) (before : ℕ) (line old new : List ℕ)
+    (refused : Bool) : Type 0 where
   pub bytes : List ℕ
   pub grown : new ≡ old ++ bytes
   pub owed : IsRowReply S R before line (reply bytes refused)
@@ -192,7 +193,8 @@ pub record StopsInQuotes {W : Type 0} (T : Terms) (old : Answering) (before afte
   pub line : ℕ
   pub fault : f ≡ faults.BadCsv line
   pub same : failures_of after ≡ failures_of before
-  pub ends : (bytes out : List ℕ) → IsTaken T bytes out old → old.owed.items ≡ [] → EndsInQuotes T bytes (out ++ written) line
+  pub ends : (bytes out : List ℕ) → IsTaken T bytes out old → old.owed.items ≡ []
+      → EndsInQuotes T bytes (out ++ written) line
 
 -- what ends a run early after its reader: that, or a write or memory failed
 abbrev pub IsLastStop : {W : Type 0} → Terms → Answering → Device W → Device W → List ℕ → ToolFault → Type 0

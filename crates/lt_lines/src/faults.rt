@@ -17,7 +17,7 @@ pub enum ToolFault {
     TooManyTurns,
     /// Memory ran out.
     OutOfMemory,
-    /// The reader's last bytes are a record of CSV with a quote that is not closed; it begins in this line, counted from 1.
+    /// The reader ended within the quotes of a record of CSV, which begins in this line, counted from 1.
     BadCsv(u64),
 }
 

@@ -9,31 +9,53 @@ use std::alloc::Global;
 use std::io::Cursor;
 use std::test::Fail;
 
-/// Records, what `csv` makes of them by their second fields, and its status.
-const RECORDS: [(&[u8], &str, u8); 15] = [
-    (b"", "", 0),
-    (b"id,tag", "id,tag,langtag_fault\n", 0),
-    (b"iw,iw\r\niw,iw\r\n", "iw,iw,langtag_fault\r\niw,he,\r\n", 0),
-    (b"id,tag\n1,\"zh-yue\",b\n", "id,tag,langtag_fault\n1,\"yue\",b,\n", 0),
-    (b"id,tag\n\"a,b\",iw\n", "id,tag,langtag_fault\n\"a,b\",he,\n", 0),
-    (b"id,tag\n\"a\nb\",iw\n", "id,tag,langtag_fault\n\"a\nb\",he,\n", 0),
-    (b"id,tag\n\"\"\",\"\"\",iw\n", "id,tag,langtag_fault\n\"\"\",\"\"\",he,\n", 0),
-    (b"\"i\nd\",tag\r\n1,DE", "\"i\nd\",tag,langtag_fault\r\n1,de,\n", 0),
-    (b"id,tag\n1,\"fr\",b\n", "id,tag,langtag_fault\n1,\"fr\",b,UnknownLanguage 1\n", 1),
-    (b"id,tag\n1,\"\"\n", "id,tag,langtag_fault\n1,\"\",EmptySubtag 1\n", 1),
-    (b"id,tag\n1,\"z\"\"h\"\n", "id,tag,langtag_fault\n1,\"z\"\"h\",BadByte 1\n", 1),
-    (b"id,tag\n1,\"iw\"x\n", "id,tag,langtag_fault\n1,\"iw\"x,BadByte 1\n", 1),
-    (b"id,tag\n\"1,iw\"\r\n", "id,tag,langtag_fault\n\"1,iw\",NoColumn\r\n", 1),
-    (b"id,tag\n\n1,iw\n", "id,tag,langtag_fault\n,NoColumn\n1,he,\n", 1),
-    (b"id\ttag\n1,iw\tx\n", "id\ttag,langtag_fault\n1,iw\tx,BadByte 1\n", 1),
+/// Headings, and what `csv` makes of them.
+const HEADINGS: [(&[u8], &str); 4] = [
+    (b"", ""),
+    (b"id,tag", "id,tag,langtag_fault\n"),
+    (b"iw,iw\r\n", "iw,iw,langtag_fault\r\n"),
+    (b"\"i\nd\",tag\n", "\"i\nd\",tag,langtag_fault\n"),
 ];
+
+/// Records after a heading, what `csv` makes of them by their second fields, and its status.
+const RECORDS: [(&str, &str, u8); 13] = [
+    ("1,\"zh-yue\",b\n", "1,\"yue\",b,\n", 0),
+    ("1,DE", "1,de,\n", 0),
+    ("1,iw\r\n2,iw\n", "1,he,\r\n2,he,\n", 0),
+    ("\"a,b\",iw\n", "\"a,b\",he,\n", 0),
+    ("\"a\nb\",iw\n", "\"a\nb\",he,\n", 0),
+    ("\"\"\",\"\"\",iw\n", "\"\"\",\"\"\",he,\n", 0),
+    ("1,\"fr\",b\n", "1,\"fr\",b,UnknownLanguage 1\n", 1),
+    ("1,\"\"\n", "1,\"\",EmptySubtag 1\n", 1),
+    ("1,\"z\"\"h\"\n", "1,\"z\"\"h\",BadByte 1\n", 1),
+    ("1,\"iw\"x\n", "1,\"iw\"x,BadByte 1\n", 1),
+    ("\"1,iw\"\r\n", "\"1,iw\",NoColumn\r\n", 1),
+    ("\n1,iw\n", ",NoColumn\n1,he,\n", 1),
+    ("1,iw\tx\n", "1,iw\tx,BadByte 1\n", 1),
+];
+
+/// Whether `csv` makes this of records by their second fields, and ends so.
+fn makes(alloc: Global, registry: &str, records: &[u8], shown: &str, status: u8) -> bool {
+    let words = ["csv", "registry", "2"];
+    prints(alloc, &words, registry.as_bytes(), records, shown, status)
+}
+
+#[test]
+fn headings_stay(rt: HostRuntime) -> Result<(), Fail> {
+    let sample = sample_text(rt.alloc())?;
+    for (heading, shown) in &HEADINGS {
+        assert!(rt; makes(rt.alloc(), &sample, heading, shown, 0));
+    }
+    Ok(())
+}
 
 #[test]
 fn records_are_answered(rt: HostRuntime) -> Result<(), Fail> {
     let sample = sample_text(rt.alloc())?;
-    let words = ["csv", "registry", "2"];
     for (records, shown, status) in &RECORDS {
-        assert!(rt; prints(rt.alloc(), &words, sample.as_bytes(), records, shown, *status));
+        let records = format!(in rt.alloc(); "id,tag\n{records}")?;
+        let shown = format!(in rt.alloc(); "id,tag,langtag_fault\n{shown}")?;
+        assert!(rt; makes(rt.alloc(), &sample, records.as_bytes(), &shown, *status));
     }
     Ok(())
 }
@@ -41,13 +63,21 @@ fn records_are_answered(rt: HostRuntime) -> Result<(), Fail> {
 /// Records of which the last ends within quotes, what `csv` makes of those before, and what it says.
 const OPEN: [(&str, &str, &str); 4] = [
     ("\"id", "", "! BadCsv line 1\n"),
-    ("id,tag\n1,\"", "id,tag,langtag_fault\n", "! BadCsv line 2\n"),
+    (
+        "id,tag\n1,\"",
+        "id,tag,langtag_fault\n",
+        "! BadCsv line 2\n",
+    ),
     (
         "id,tag\n\"1\n2\",iw\n3,\"x\ny\n",
         "id,tag,langtag_fault\n\"1\n2\",he,\n",
         "! BadCsv line 4\n",
     ),
-    ("id,tag\n1,iw\"\n2,iw\n", "id,tag,langtag_fault\n", "! BadCsv line 2\n"),
+    (
+        "id,tag\n1,iw\"\n2,iw\n",
+        "id,tag,langtag_fault\n",
+        "! BadCsv line 2\n",
+    ),
 ];
 
 /// Whether `csv` makes this of records by a registry, says this, and has failed.

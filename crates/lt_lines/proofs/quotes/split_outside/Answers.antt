@@ -12,7 +12,7 @@ loop-index-preserved c =
     record {
       inside = c.after_byte-inside.ensures ∙ ap (λ b. is_inside_after b (get_or text i 0)) turns.inside ∙ sym (inside_next false text i c.loop-index-test.true);
       free = free_next c.args.stop text i c.loop-index-test.true turns.free (elim c.else-not-inside.branch [
-        else-not-inside-via-then-not-inside+else-byte-stop w ↦ λ e. absurd (w.if-byte-stop.false e)
+        | else-not-inside-via-then-not-inside+else-byte-stop w ↦ λ e. absurd (w.if-byte-stop.false e)
         | else-not-inside-via-else-not-inside w ↦ λ e. sym turns.inside ∙ w.if-not-inside.false
       ]);
     }
