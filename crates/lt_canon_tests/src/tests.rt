@@ -6,7 +6,6 @@ mod hostile;
 mod refusals;
 mod traces;
 mod upgrades;
-mod usual_texts;
 
 use lt_check::{Checked, RejectedCause};
 use lt_registry::ListTable;
