@@ -5,14 +5,13 @@ use Rattle.std.proofs.lemmas.Bool.{eqb-true}
 use Rattle.lt_tag.specs.Parts.{CoreParts, ExtensionParts, TForm, TagForm, LangTag, PrivateUse, Grandfathered}
 use Rattle.lt_tag.specs.Spelling.{spell_core}
 use Rattle.lt_tag.specs.Extensions.{transform, IsTransform}
-use Rattle.lt_tag.specs.Values.{IsTagValue, core_of, extensions_of, private_of, number_of, core_alone}
+use Rattle.lt_tag.specs.Values.{core_of, extensions_of, private_of, number_of, core_alone}
 use Rattle.lt_tag.specs.WellFormed.{IsNotGrandfathered}
 use Rattle.lt_tag.proofs.TagLemmas.{AllByRecursion-weaker}
 use Rattle.lt_registry.specs.Parts.{EntryParts}
 use Rattle.lt_registry.specs.Entries.{whole_value}
 use Rattle.lt_registry.specs.Validity.{Distinct, IsProperExtension, HasDistinctSource, RepeatsNoVariant, IsProper, IsValid}
-use Rattle.lt_registry.specs.Faults.{HasNoFault, IsRefusal}
-use Rattle.lt_registry.proofs.ValidityLaws.{valid_law}
+use Rattle.lt_registry.specs.Faults.{IsRefusal}
 use Rattle.lt_registry.specs.declared.faults.ValidRefusal.{ValidRefusal}
 use Rattle.lt_registry.specs.declared.faults.ValidRefusal.TheVariants as checks
 use Rattle.lt_rewrite.specs.Rewriting.{IsNormalForm}

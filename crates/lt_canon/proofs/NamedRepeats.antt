@@ -1,5 +1,5 @@
 -- Where a valid tag can repeat a variant, there is one that the refusal names, and only one.
-use Rattle.std.proofs.Common.{◌≡◌, ℕ, ◌⊎◌, inl, inr, false, List, [], ◌∷◌, ◌++◌, Option, Some, None, refl, sym, ap, ◌∙◌, subst, map, IfSome, append_assoc}
+use Rattle.std.proofs.Common.{◌≡◌, ℕ, ◌⊎◌, inl, inr, List, [], ◌∷◌, ◌++◌, Option, Some, None, refl, sym, ap, ◌∙◌, subst, map, IfSome, append_assoc}
 use Rattle.std.specs.Prelude.{option_map}
 use Rattle.std.specs.List.{AllByRecursion}
 use Rattle.std.proofs.lemmas.Bool.{cases_eq}
@@ -10,7 +10,6 @@ use Rattle.lt_registry.specs.Parts.{EntryParts}
 use Rattle.lt_registry.specs.Entries.{whole_value}
 use Rattle.lt_registry.specs.Validity.{Distinct, IsProperExtension, HasDistinctSource, RepeatsNoVariant, IsValid}
 use Rattle.lt_registry.specs.Faults.{HasSource}
-use Rattle.lt_rewrite.specs.Extensions.{singleton_cmp}
 use Rattle.lt_rewrite.specs.TagSteps.{CanRepeat}
 use Rattle.lt_rewrite.proofs.NormalForms.{star_keeps, normal_is_form}
 use Rattle.lt_rewrite.proofs.PartLists.{all_step}

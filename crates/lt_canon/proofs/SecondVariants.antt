@@ -1,10 +1,8 @@
 -- A variant that occurs a second time, looked for from the left.
-use Rattle.std.proofs.Common.{◌≡◌, ◌≢◌, ℕ, ◌+◌, ◌<◌, Bool, true, false, ◌||◌, List, [], ◌∷◌, ◌++◌, length, take, drop, get_or, refl, sym, ap, ◌∙◌, subst, append_assoc, bytes_eq}
-use Rattle.std.specs.List.{AllByRecursion}
-use Rattle.std.proofs.lemmas.Slice.Eq.{bytes_eq-Decides}
+use Rattle.std.proofs.Common.{◌≡◌, ℕ, ◌+◌, ◌<◌, true, List, ◌∷◌, ◌++◌, length, take, drop, get_or, ap, ◌∙◌, subst, append_assoc}
 use Rattle.lt_registry.specs.Checking.{stands_in}
 use Rattle.lt_registry.specs.Validity.{Distinct}
-use Rattle.lt_registry.proofs.ListLemmas.{whole_turn, take_turn}
+use Rattle.lt_registry.proofs.ListLemmas.{whole_turn}
 use Rattle.lt_registry.proofs.VariantFaultLemmas.{stands_at}
 use Rattle.lt_canon.specs.Answers.{IsSecondOccurrence}
 

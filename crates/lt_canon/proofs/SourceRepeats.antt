@@ -1,6 +1,6 @@
 -- A variant that occurs twice in the source of one of the extensions in their normal form is the one that the
 -- refusal names.
-use Rattle.std.proofs.Common.{◌≡◌, ℕ, ◌+◌, ◌<◌, false, List, [], ◌∷◌, ◌++◌, ◌≢◌, Option, Some, None, refl, sym, ap, ◌∙◌, subst, map, append_assoc, length, take, drop, get_or, IfSome}
+use Rattle.std.proofs.Common.{◌≡◌, ℕ, ◌+◌, ◌<◌, List, [], ◌∷◌, ◌++◌, ◌≢◌, Option, Some, None, refl, sym, ap, ◌∙◌, subst, map, append_assoc, length, take, drop, get_or, IfSome}
 use Rattle.std.specs.Prelude.{option_map, flat_map, MatchOption}
 use Rattle.std.specs.Option.{option_map_or, option_to_list}
 use Rattle.std.specs.List.{AllByRecursion}
@@ -12,7 +12,7 @@ use Rattle.lt_registry.specs.Validity.{Distinct, IsProperExtension, HasDistinctS
 use Rattle.lt_registry.specs.Faults.{HasSource}
 use Rattle.lt_registry.proofs.ListLemmas.{whole_turn, take_turn}
 use Rattle.lt_rewrite.specs.Rewriting.{IsNormalForm}
-use Rattle.lt_rewrite.specs.Extensions.{singleton_cmp, ExtensionsStep}
+use Rattle.lt_rewrite.specs.Extensions.{ExtensionsStep}
 use Rattle.lt_rewrite.proofs.NormalForms.{star_keeps, normal_is_form}
 use Rattle.lt_rewrite.proofs.PartLists.{all_step, all_middle, if_some_is}
 use Rattle.lt_rewrite.proofs.ExtensionLaws.{one_transform, extensions_ordered, normal_parts, normal_singleton}
@@ -20,7 +20,7 @@ use Rattle.lt_check.specs.Conditions.{IsChecked}
 use Rattle.lt_canon.specs.Answers.{IsSecondOccurrence, IsRepeatOfCore, IsRepeatOfSource}
 use Rattle.lt_canon.specs.Settled.{IsSecondInSource, IsSecondInSources}
 use Rattle.lt_canon.proofs.Distinctness.{second_repeats}
-use Rattle.lt_canon.proofs.TagForm.{core_end, cores_formed, core_normal, extension_end, extensions_end, extensions_end_formed}
+use Rattle.lt_canon.proofs.TagForm.{core_end, core_normal, extension_end, extensions_end, extensions_end_formed}
 use Rattle.lt_check.proofs.Checks.{core_conditions}
 
 abbrev HasDistinctVariants : CoreParts → Type 0

@@ -1,5 +1,5 @@
 -- Langtags whose subtags stay as they are: they are their own canonical forms.
-use Rattle.std.proofs.Common.{◌≡◌, ℕ, ◌+◌, ◌<◌, ◌&&◌, get_or, ◌||◌, not, Bool, true, false, List, [], ◌∷◌, ◌++◌, Option, Some, None, Ok, IfSome, is_none, is_some, find, length, refl, sym, ap, ◌∙◌, subst, arith, All}
+use Rattle.std.proofs.Common.{◌≡◌, ℕ, ◌+◌, ◌&&◌, get_or, not, true, false, List, ◌++◌, Option, Some, None, Ok, IfSome, is_none, is_some, length, refl, sym, ap, ◌∙◌, arith, All}
 use Rattle.std.specs.List.{list_any}
 use Rattle.std.specs.Option.{option_and_then, option_to_list}
 use Rattle.std.proofs.lemmas.Bool.{and_parts, not-true, false_from_ne_true}
@@ -10,10 +10,9 @@ use Rattle.lt_tag.specs.Conventional.{conventional}
 use Rattle.lt_tag.specs.Lists.{list_of}
 use Rattle.lt_tag.specs.Values.{IsTagValue, core_alone}
 use Rattle.lt_registry.specs.Parts.{EntryParts}
-use Rattle.lt_registry.specs.Entries.{entry, one_of, is_whole, tag_of, whole, whole_value}
+use Rattle.lt_registry.specs.Entries.{entry, is_whole, tag_of, whole}
 use Rattle.lt_registry.specs.Validity.{IsValid}
 use Rattle.lt_registry.specs.declared.entries.EntryValue.{EntryValue}
-use Rattle.lt_registry.specs.declared.entries.EntryName.TheVariants as names
 use Rattle.lt_registry.specs.declared.entries.Kind.{Kind}
 use Rattle.lt_registry.specs.declared.entries.Kind.TheVariants as kinds
 use Rattle.lt_registry.specs.declared.faults.ValidFaultKind.{ValidFaultKind}

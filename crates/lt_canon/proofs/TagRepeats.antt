@@ -1,5 +1,5 @@
 -- Repeats of whole tags, and the laws of canonical tags.
-use Rattle.std.proofs.Common.{◌≡◌, ℕ, ◌⊎◌, inl, inr, false, List, [], ◌∷◌, ◌++◌, Option, Some, None, refl, sym, ap, ◌∙◌, subst, map, Ordering, IfSome, arith}
+use Rattle.std.proofs.Common.{◌≡◌, ℕ, ◌⊎◌, inl, inr, false, List, [], ◌∷◌, ◌++◌, Option, Some, None, refl, sym, ◌∙◌, subst, Ordering, IfSome, arith}
 use Rattle.std.specs.Prelude.{option_map}
 use Rattle.std.specs.List.{AllByRecursion}
 use Rattle.std.proofs.lemmas.Bool.{cases_eq}
@@ -26,7 +26,7 @@ use Rattle.lt_check.proofs.Checks.{core_conditions}
 use Rattle.lt_check.proofs.CheckedRegistry.{IsGrandfatheredTag, value_plain, tag_plain}
 use Rattle.lt_canon.proofs.EndForms.{star_proper, star_end, star_equivalent, equivalent_end, equivalent_trans, equivalent_sym, rest_is_end}
 use Rattle.lt_canon.proofs.Distinctness.{Decided, decide_both, decide_each, decide_distinct, decide_source}
-use Rattle.lt_canon.proofs.TagForm.{or_value, core_end, cores_formed, extension_end, value_end, lang_end, tag_end, tag_reached, end_form}
+use Rattle.lt_canon.proofs.TagForm.{or_value, core_end, extension_end, value_end, lang_end, tag_end, tag_reached, end_form}
 use Rattle.lt_canon.proofs.TagRest.{tag_end_rests}
 use Rattle.lt_tag.specs.Values.{core_alone}
 

@@ -2,11 +2,9 @@
 use Rattle.std.proofs.Common.{◌≡◌, ℕ, ◌+◌, Bool, true, false, ◌||◌, inl, inr, List, [], ◌∷◌, ◌++◌, Option, Some, None, Ok, Err, is_some, length, refl, sym, ap, ◌∙◌, subst, arith}
 use Rattle.std.specs.Option.{option_and_then, option_to_list}
 use Rattle.lt_tag.specs.Parts.{CoreParts, ExtensionParts, TagForm}
-use Rattle.lt_tag.specs.Spelling.{spell_core}
 use Rattle.lt_tag.specs.Values.{IsTagValue, core_of, core_alone}
-use Rattle.lt_tag.specs.WellFormed.{IsNotGrandfathered}
 use Rattle.lt_registry.specs.Parts.{EntryParts}
-use Rattle.lt_registry.specs.Entries.{entry, preferred_value, one_of, whole_value}
+use Rattle.lt_registry.specs.Entries.{entry, preferred_value, one_of}
 use Rattle.lt_registry.specs.Faults.{HasFault, HasNoFault, IsFirstOf, IsFirstFault, before_region}
 use Rattle.lt_registry.specs.Checking.{Check, Counted, and_then, unless, part_check, core_check, variants_check}
 use Rattle.lt_registry.specs.Validity.{IsValid}
@@ -20,10 +18,7 @@ use Rattle.lt_registry.proofs.CoreFaultLemmas.{core_tells}
 use Rattle.lt_registry.proofs.TagFaultLemmas.{tag_core_first}
 use Rattle.lt_rewrite.specs.Rewriting.{done}
 use Rattle.lt_rewrite.specs.CoreSteps.{values_of}
-use Rattle.lt_rewrite.specs.TagSteps.{CanBeReplacedWhole}
 use Rattle.lt_rewrite.proofs.CoreLaws.{AtRest, rests}
-use Rattle.lt_check.specs.Conditions.{IsChecked}
-use Rattle.lt_canon.specs.Answers.{IsCanonicalFormOf}
 use Rattle.lt_canon.specs.Settled.{IsDistinctForm, IsSettledTag}
 use Rattle.lt_canon.specs.UsualTags.{IsUsual, Test, on_test, one_valued, part_valued, core_valued}
 use Rattle.lt_canon.proofs.TagForm.{extensions_step_from}

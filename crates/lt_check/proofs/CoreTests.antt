@@ -1,5 +1,5 @@
 -- Tests of the conditions that need no normal form.
-use Rattle.std.proofs.Common.{◌≡◌, ◌≢◌, ℕ, ◌+◌, ◌-◌, ◌<◌, ◌⊎◌, Bool, false, ◌&&◌, ◌||◌, ◌==◌, List, [], ◌∷◌, refl, ◌∙◌, subst, is_none}
+use Rattle.std.proofs.Common.{◌≡◌, ℕ, Bool, false, ◌&&◌, List, [], ◌∷◌, refl, subst, is_none}
 use Rattle.std.specs.Bool.{Decides}
 use Rattle.std.proofs.lemmas.Bool.Decides.{Decides-like, Decides-and}
 use Rattle.lt_tag.specs.Parts.{CoreParts}
@@ -8,7 +8,6 @@ use Rattle.lt_tag.specs.WellFormed.{IsNotGrandfathered}
 use Rattle.lt_registry.specs.Parts.{EntryParts}
 use Rattle.lt_registry.specs.Entries.{preferred_value, is_registered}
 use Rattle.lt_registry.specs.declared.entries.Kind.TheVariants as kinds
-use Rattle.lt_registry.specs.declared.entries.EntryName.TheVariants as names
 use Rattle.lt_rewrite.specs.Conditions.{IsFinalLanguage}
 use Rattle.lt_check.proofs.Deciding.{Decides-true, Decides-none}
 

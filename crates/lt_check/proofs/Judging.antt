@@ -1,5 +1,5 @@
 -- The conditions in their order, and which of them a look at one record after another decides.
-use Rattle.std.proofs.Common.{◌≡◌, ℕ, ◌<◌, ◌≤◌, ◌+◌, ◌⊎◌, inl, inr, zero, suc, Bool, true, ◌==◌, ◌&&◌, List, [], ◌∷◌, length, Option, Some, None, MatchOption, All, Result, Ok, Err, IfOk, IsTrue, ◌↔◌, refl, sym, ap, ◌∙◌, subst, arith}
+use Rattle.std.proofs.Common.{◌≡◌, ℕ, ◌<◌, ◌≤◌, ◌+◌, ◌⊎◌, inl, inr, zero, suc, Bool, true, ◌==◌, ◌&&◌, List, [], ◌∷◌, length, Option, Some, None, MatchOption, All, Result, IfOk, IsTrue, ◌↔◌, refl, sym, ap, ◌∙◌, subst, arith}
 use Rattle.std.specs.Prelude.{slice_index_or}
 use Rattle.std.proofs.lemmas.Bool.{and_parts, eqb-true}
 use Rattle.std.proofs.lemmas.List.Elements.{All-contains}

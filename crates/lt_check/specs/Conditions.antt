@@ -1,6 +1,6 @@
 -- The conditions C9 to C11, each on a record among all; and the check of the twelve, which a registry passes if each of
 -- its records meets each condition.
-use Rattle.std.specs.Prelude.{ℕ, ◌≡◌, ◌≢◌, ◌<◌, ◌≤◌, ◌⊎◌, List, [], Some, None, All, Contains}
+use Rattle.std.specs.Prelude.{ℕ, ◌≡◌, ◌≢◌, ◌<◌, ◌≤◌, ◌⊎◌, List, Some, None, All, Contains}
 use Rattle.lt_tag.specs.Parts.{CoreParts, TagForm}
 use Rattle.lt_registry.specs.Parts.{EntryParts}
 use Rattle.lt_registry.specs.Entries.{tag_of, whole_value, IsRegistry}

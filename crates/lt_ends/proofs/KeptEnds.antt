@@ -14,7 +14,8 @@ use Rattle.lt_canon.proofs.StayingTags.{stays_canonical}
 use Rattle.lt_canon.specs.Texts.{IsCanonicalTextOf, AppendsCanonicalText}
 use Rattle.lt_recent.specs.Recent.{PutsIn, kept}
 use Rattle.lt_recent.specs.declared.Kept.{Kept}
-use Rattle.lt_ends.specs.Ends.{IsEnd, IsCanonicalCore, IsEndText, IsKeptEnd, AreEnds, AppendsFront, AppendsKept, EndsText}
+use Rattle.lt_ends.specs.Ends.{IsEnd, IsCanonicalCore, IsEndText, IsKeptEnd, AreEnds}
+use Rattle.lt_ends.specs.Appending.{AppendsFront, AppendsKept, EndsText}
 use Rattle.lt_ends.proofs.EndLaws.{ends_shared}
 
 -- what holds of each holds of each where two are exchanged

@@ -1,5 +1,5 @@
 -- The end of a tag, from its first one-character subtag on, and its canonical text (RFC 5646, 2.2.6, 2.2.7 and 4.5).
-use Rattle.std.specs.Prelude.{ℕ, ◌≡◌, ◌≢◌, ◌≤◌, Bool, true, false, List, ◌∷◌, ◌++◌, length, Option, Some, None}
+use Rattle.std.specs.Prelude.{ℕ, ◌≡◌, ◌≢◌, ◌≤◌, List, ◌∷◌, ◌++◌, length, Option, Some, None}
 use Rattle.std.specs.List.{All}
 use Rattle.lt_tag.specs.Parts.{CoreParts}
 use Rattle.lt_tag.specs.Values.{core_alone}
@@ -9,7 +9,6 @@ use Rattle.lt_tag.specs.Faults.{HasTag}
 use Rattle.lt_registry.specs.Parts.{EntryParts}
 use Rattle.lt_rewrite.specs.TagSteps.{IsCanonical}
 use Rattle.lt_canon.specs.Texts.{IsCanonicalTextOf}
-use Rattle.lt_recent.specs.Recent.{Holds}
 use Rattle.lt_recent.specs.declared.Kept.{Kept}
 
 -- a hyphen, one byte that is none, and a hyphen begin it (RFC 5646, 2.2.6 and 2.2.7)
@@ -52,22 +51,3 @@ IsKeptEnd R (Some kept) = IsEndText R kept.line kept.answer
 -- so it is in each place
 pub record AreEnds (R : List EntryParts) (table : List (Option Kept)) : Type 0 where
   pub each : All (IsKeptEnd R) table
-
--- a canonical core was appended in conventional case, or nothing
-abbrev pub AppendsFront : List EntryParts → (front old new : List ℕ) → Bool → Type 0
-AppendsFront R front old new true = IsCanonicalCore R front × (new ≡ old ++ conventional (list_of front))
-AppendsFront R front old new false = new ≡ old
-
--- what is kept for an end was appended, or nothing
-abbrev pub AppendsKept : List (Option Kept) → (end old new : List ℕ) → Bool → Type 0
-AppendsKept table end old new true =
-    (answer : List ℕ) × (refused : Bool) × Holds table end answer refused × (new ≡ old ++ answer)
-AppendsKept table end old new false = new ≡ old
-
--- a text is a canonical core, which has this many bytes in conventional case, and an end
-pub record EndsText (R : List EntryParts) (text end : List ℕ) (count : ℕ) : Type 0 where
-  pub front : List ℕ
-  pub whole : front ++ end ≡ text
-  pub core : IsCanonicalCore R front
-  pub is_end : IsEnd end
-  pub counted : count ≡ length (conventional (list_of front))

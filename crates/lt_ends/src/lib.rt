@@ -2,6 +2,7 @@
 //! program `langtag`; a program of your own begins with the crate `bcp47`.
 #![tactic(auto)]
 
+pub mod laws;
 mod recent_ends;
 mod splitting;
 

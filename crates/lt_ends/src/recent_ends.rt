@@ -2,7 +2,8 @@
 ghost use Rattle.std.specs.Prelude.{◌≡◌, ◌≤◌, ◌⊎◌, List, IfOk, IfErr, OnOk, OnErr, vec_len};
 ghost use Rattle.lt_registry.specs.Parts.{EntryParts};
 ghost use Rattle.lt_canon.specs.Texts.{AppendsCanonicalText, IsTextRefusal};
-ghost use Rattle.lt_ends.specs.Ends.{AreEnds, AppendsFront, AppendsKept, EndsText};
+ghost use Rattle.lt_ends.specs.Ends.{AreEnds};
+ghost use Rattle.lt_ends.specs.Appending.{AppendsFront, AppendsKept, EndsText};
 
 use crate::splitting::split_end;
 use lt_canon::{Checked, TextRefusal, append_canonical_text};

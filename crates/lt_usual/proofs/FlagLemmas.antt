@@ -1,18 +1,16 @@
 -- How writing one flag changes what the flags tell.
-use Rattle.std.proofs.Common.{◌≡◌, ◌≢◌, ◌<◌, ◌≤◌, ℕ, ◌+◌, ◌*◌, ◌/◌, ◌%◌, ◌^◌, ◌++◌, ◌==◌, ◌&&◌, ◌||◌, not, Bool, true, false, cond, eqb, List, [], ◌∷◌, length, set, get_or, replicate, bit_and, bit_or, Fits, w64, Option, Some, None, inl, inr, refl, sym, ap, subst, ◌∙◌, arith, find, is_none, is_some, bytes_eq}
+use Rattle.std.proofs.Common.{◌≡◌, ◌≢◌, ◌<◌, ℕ, ◌*◌, ◌/◌, ◌%◌, ◌^◌, ◌++◌, ◌==◌, ◌&&◌, ◌||◌, not, Bool, true, false, cond, List, [], ◌∷◌, length, set, get_or, replicate, bit_and, bit_or, w64, Option, Some, None, inl, inr, refl, sym, ap, subst, ◌∙◌, arith, is_none, is_some, bytes_eq}
 use Rattle.std.specs.Int.{bit_at, bit_not}
 use Rattle.std.specs.List.{list_any}
-use Rattle.std.proofs.lemmas.Bool.{cases_eq, cases_lt, cases_Bool, ne_eqb, eq-eqb, eqb-true, and_parts, and_right, false_from_ne_true, or_from}
+use Rattle.std.proofs.lemmas.Bool.{cases_eq, cases_lt, cases_Bool, ne_eqb, eq-eqb, and_parts, and_right, false_from_ne_true}
 use Rattle.std.proofs.lemmas.List.{get_or-set_same, get_or-set_other, get_or-replicate, get_or_past, length-replicate}
 use Rattle.std.proofs.lemmas.List.Folds.{list_any-append}
 use Rattle.std.proofs.lemmas.Nat.Bits.{bit_at_set_same, bit_at_set_other, bit_at_clear_same, bit_at_clear_other, bit_at-zero}
 use Rattle.std.proofs.lemmas.Slice.Eq.{bytes_eq-Decides}
 use Rattle.lt_subtag.specs.Bytes.{folded}
-use Rattle.lt_tag.specs.Parts.{CoreParts, TagForm}
-use Rattle.lt_tag.specs.Values.{core_of}
 use Rattle.lt_registry.specs.Parts.{EntryParts}
 use Rattle.lt_registry.specs.Same.{same_kind}
-use Rattle.lt_registry.specs.Entries.{has_form, is_named, tag_of}
+use Rattle.lt_registry.specs.Entries.{has_form, is_named}
 use Rattle.lt_registry.specs.declared.entries.Kind.{Kind}
 use Rattle.lt_registry.specs.declared.entries.Kind.TheVariants as kinds
 use Rattle.lt_registry.specs.declared.entries.EntryName.{EntryName}
@@ -20,7 +18,7 @@ use Rattle.lt_registry.specs.declared.entries.EntryName.TheVariants as names
 use Rattle.lt_rewrite.proofs.Entries.{same_kind_is}
 use Rattle.lt_usual.specs.Places.{place}
 use Rattle.lt_usual.specs.Flags.{flag, Tell, TellSingles, stays_beside}
-use Rattle.lt_usual.specs.Staying.{has_no_value, replaces_plain_of, names_plain_of, is_plain_of}
+use Rattle.lt_usual.specs.Staying.{has_no_value, replaces_plain_of}
 use Rattle.lt_usual.proofs.PlaceLemmas.{Alike, same_place, place_folded}
 
 -- ---- one bit

@@ -1,7 +1,7 @@
 -- Two subtags of one kind have one place exactly if they are the same, letter case aside.
-use Rattle.std.proofs.Common.{◌≡◌, ◌≤◌, ◌<◌, ℕ, ◌+◌, ◌*◌, ◌-◌, ◌%◌, ◌&&◌, eqb, true, List, [], ◌∷◌, length, get_or, Some, inl, inr, refl, sym, subst, ap, ap₂, ◌∙◌, arith}
+use Rattle.std.proofs.Common.{◌≡◌, ◌≤◌, ◌<◌, ℕ, ◌+◌, ◌*◌, eqb, true, List, [], ◌∷◌, get_or, Some, inl, inr, refl, sym, subst, ap, ap₂, ◌∙◌, arith}
 use Rattle.std.specs.Char.{is_ascii_lowercase, is_ascii_digit, to_ascii_lowercase}
-use Rattle.std.proofs.lemmas.Bool.{agree_below_at, eqb-true, and_parts, leb-true}
+use Rattle.std.proofs.lemmas.Bool.{agree_below_at, eqb-true, and_parts}
 use Rattle.std.proofs.lemmas.Bool.Decides.{nat_tests}
 use Rattle.lt_subtag.specs.Bytes.{folded}
 use Rattle.lt_subtag.specs.Shapes.{is_alphabetic, is_numeric, is_language}

@@ -1,15 +1,15 @@
 -- A text that is shown is cut at its hyphens into a language, and a script and a region where there is one, that all have
 -- flags; and a text that is cut so is shown.
 use Rattle.std.proofs.Common.{◌≡◌, ℕ, ◌+◌, ◌==◌, ◌++◌, ◌&&◌, suc, Bool, true, false, List, [], ◌∷◌, length, map, take, Option, Some, None, option_map, IfSome, inl, inr, refl, sym, ap, ◌∙◌, arith}
-use Rattle.std.proofs.lemmas.Bool.{and_parts, eqb-true, eqb-false, cases_Bool}
+use Rattle.std.proofs.lemmas.Bool.{and_parts, eqb-true, cases_Bool}
 use Rattle.lt_registry.specs.declared.entries.Kind.{Kind}
 use Rattle.lt_registry.specs.declared.entries.Kind.TheVariants as kinds
 use Rattle.lt_usual.specs.Places.{language_2, language_3, script_4, region_2, region_3, place}
 use Rattle.lt_usual.specs.Flags.{flag}
-use Rattle.lt_usual.specs.Shown.{lower, upper, after_if, script_before, from_script, after_language, nine_before, with_two, with_three, shown_two, shown_three, shown}
+use Rattle.lt_usual.specs.Shown.{lower, upper, after_if, script_before, after_language, nine_before, with_two, with_three, shown_two, shown_three, shown}
 use Rattle.lt_usual.specs.declared.texts.AfterLanguage.{AfterLanguage}
 use Rattle.lt_usual.specs.declared.texts.Shown.{Shown}
-use Rattle.lt_usual.proofs.PlaceLemmas.{IsPlace, is_place, language_of_two, language_of_three, script, region_of_two, region_of_three}
+use Rattle.lt_usual.proofs.PlaceLemmas.{is_place, language_of_two, language_of_three, script, region_of_two, region_of_three}
 
 -- a hyphen and a subtag after it, if there is one
 abbrev pub hyphened : Option (List ℕ) → List ℕ

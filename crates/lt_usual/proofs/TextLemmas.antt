@@ -1,25 +1,24 @@
 -- A text that is cut into subtags that stay is read as their langtag, and shown in conventional case; and each such text is
 -- cut so.
-use Rattle.std.proofs.Common.{◌≡◌, ◌≤◌, ◌<◌, ℕ, ◌+◌, ◌-◌, ◌==◌, eqb, ◌++◌, ◌&&◌, ◌||◌, not, Bool, true, false, List, [], ◌∷◌, length, map, Option, Some, None, option_map, find, is_none, IfSome, inl, inr, ◌⊎◌, refl, sym, ap, subst, ◌∙◌, arith, All}
-use Rattle.std.specs.Prelude.{slice_index_or, option_to_list}
+use Rattle.std.proofs.Common.{◌≡◌, ◌≤◌, ◌<◌, ℕ, ◌-◌, ◌==◌, eqb, ◌++◌, ◌&&◌, ◌||◌, not, Bool, true, false, List, [], ◌∷◌, length, map, Option, Some, None, option_map, find, is_none, IfSome, inl, inr, refl, sym, ap, subst, ◌∙◌, arith, All}
+use Rattle.std.specs.Prelude.{option_to_list}
 use Rattle.std.specs.Char.{is_ascii_lowercase, is_ascii_digit, to_ascii_lowercase, to_ascii_uppercase}
-use Rattle.std.specs.List.{list_all, list_any, join_with_byte, onto_first}
+use Rattle.std.specs.List.{list_all, join_with_byte, onto_first}
 use Rattle.std.specs.Option.{option_map_or}
-use Rattle.std.proofs.lemmas.Bool.{agree_below, agree_below_at, or_cases, and_parts, and_from, and_right, or_left, or_right, eq-eqb, ne_eqb, eqb-true, not-true, cases_Bool, leb-true, le-leb}
+use Rattle.std.proofs.lemmas.Bool.{agree_below, agree_below_at, or_cases, and_parts, and_from, or_left, or_right, ne_eqb, eqb-true, not-true, cases_Bool, leb-true}
 use Rattle.std.proofs.lemmas.Bool.Decides.{nat_tests}
-use Rattle.std.proofs.lemmas.List.{append-nil, length-append, length-map}
+use Rattle.std.proofs.lemmas.List.{append-nil, length-append}
 use Rattle.std.proofs.lemmas.Slice.Eq.{bytes_eq-Decides}
 use Rattle.lt_subtag.specs.Bytes as bytes
 use Rattle.lt_subtag.specs.Bytes.{folded, title}
 use Rattle.lt_subtag.specs.Shapes.{is_alphabetic, is_numeric, is_language, is_script, is_region}
-use Rattle.lt_tag.specs.Conventional.{conventional, shown, shown_after}
-use Rattle.lt_tag.specs.Faults.{HasTag}
-use Rattle.lt_tag.specs.Grandfathered.{IsGrandfathered, grandfathered_texts, grandfathered_list}
+use Rattle.lt_tag.specs.Conventional.{conventional, shown}
+use Rattle.lt_tag.specs.Grandfathered.{grandfathered_texts, grandfathered_list}
 use Rattle.lt_tag.specs.Lists.{pieces, list_of, longest_text}
 use Rattle.lt_tag.specs.Parts.{CoreParts}
-use Rattle.lt_tag.specs.Spelling.{spell_core, IsCore}
+use Rattle.lt_tag.specs.Spelling.{IsCore}
 use Rattle.lt_tag.specs.Values.{core_alone}
-use Rattle.lt_tag.specs.WellFormed.{spell, IsTag, IsNotGrandfathered}
+use Rattle.lt_tag.specs.WellFormed.{spell, IsNotGrandfathered}
 use Rattle.lt_tag.proofs.Apart.{script_is, region_is}
 use Rattle.lt_tag.proofs.LetterLemmas.{join_pieces}
 use Rattle.lt_tag.proofs.TagLemmas.{list_all-at}
@@ -32,8 +31,8 @@ use Rattle.lt_registry.specs.declared.entries.Kind.{Kind}
 use Rattle.lt_registry.specs.declared.entries.Kind.TheVariants as kinds
 use Rattle.lt_rewrite.proofs.Entries.{find_has, same_kind_is}
 use Rattle.lt_usual.specs.Places.{place, language_2, language_3, script_4, region_2, region_3}
-use Rattle.lt_usual.specs.Staying.{has_no_value, replaces_plain_of, stays, StaysAs, IsStaying}
-use Rattle.lt_usual.specs.Flags.{flag, AreFlags}
+use Rattle.lt_usual.specs.Staying.{has_no_value, stays, StaysAs}
+use Rattle.lt_usual.specs.Flags.{AreFlags}
 use Rattle.lt_usual.specs.Shown.{lower, upper}
 use Rattle.lt_usual.proofs.PlaceLemmas.{is_place, language_of_two, language_of_three, script, region_of_two, region_of_three}
 use Rattle.lt_usual.proofs.ShownLemmas.{hyphened, lowered, titled, raised, shown_parts, IsFlagged, IsCut}

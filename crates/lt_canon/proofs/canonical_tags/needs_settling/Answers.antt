@@ -1,4 +1,4 @@
-use Rattle.std.proofs.Common.{false, sym, ◌∙◌}
+use Rattle.std.proofs.Common.{sym, ◌∙◌}
 use Rattle.std.proofs.lemmas.Result.{err_from_is_err_and}
 use Rattle.lt_registry.proofs.ValidityLaws.{valid_law}
 use Rattle.lt_canon.proofs.UsualTags.{usual_refused, usual_valid, usual_settled}

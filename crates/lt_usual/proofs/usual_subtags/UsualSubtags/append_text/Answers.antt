@@ -1,7 +1,5 @@
-use Rattle.std.proofs.Common.{◌≡◌, ◌++◌, ◌+◌, ℕ, List, None, Some, length, take, true, false, refl, sym, ap, ◌∙◌, arith}
+use Rattle.std.proofs.Common.{◌≡◌, ◌++◌, ◌+◌, ℕ, List, None, Some, length, take, refl, sym, ap, ◌∙◌}
 use Rattle.std.proofs.Math.Seq.{take-append-add}
-use Rattle.lt_tag.specs.Conventional.{conventional}
-use Rattle.lt_tag.specs.Lists.{list_of}
 use Rattle.lt_usual.specs.Shown.{shown}
 use Rattle.lt_usual.proofs.ShownLemmas.{shown_cut, cut_shown}
 use Rattle.lt_usual.proofs.TextLemmas.{core_cut, cut_conventional, cut_stays, cut_free, stays_cut}

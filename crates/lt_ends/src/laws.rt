@@ -1,0 +1,12 @@
+//! The law of ends of tags. Nothing is computed here: the contract is the law.
+ghost use Rattle.std.specs.Prelude.{List};
+ghost use Rattle.lt_registry.specs.Parts.{EntryParts};
+ghost use Rattle.lt_check.specs.Conditions.{IsChecked};
+ghost use Rattle.lt_ends.specs.Ends.{EndsAreShared};
+
+/// In a registry that passes the check, what follows a canonical core in the canonical text of a tag is the same with each
+/// canonical core: `de-u-kn` is the canonical text of `de-u-kn-true`, so `en-GB-u-kn` is that of `en-GB-u-kn-true`
+/// (RFC 5646, 4.5).
+pub fn ends_are_shared()
+    ensures { (R : List EntryParts) → IsChecked R → EndsAreShared R }
+{}
