@@ -1,13 +1,12 @@
 -- Langtags of one core after another with the same extensions and private use.
-use Rattle.std.proofs.Common.{◌≡◌, ℕ, ◌≤◌, ◌<◌, ◌+◌, List, [], ◌∷◌, ◌++◌, length, refl, sym, ap, ◌∙◌, subst, arith}
-use Rattle.std.specs.List.{AllByRecursion}
+use Rattle.std.proofs.Common.{◌≡◌, ℕ, ◌<◌, ◌+◌, List, [], ◌∷◌, length, refl, sym, ap, ◌∙◌, subst, arith}
 use Rattle.std.proofs.lemmas.List.{append-nil}
 use Rattle.lt_tag.specs.Parts.{CoreParts, ExtensionParts, TagForm, LangTag}
 use Rattle.lt_tag.specs.Values.{core_alone}
 use Rattle.lt_tag.specs.Spelling.{spell_core}
 use Rattle.lt_tag.specs.WellFormed.{IsNotGrandfathered}
 use Rattle.lt_registry.specs.Parts.{EntryParts}
-use Rattle.lt_registry.specs.Validity.{IsValid, IsProper, HasDistinctSource, RepeatsNoVariant}
+use Rattle.lt_registry.specs.Validity.{IsValid, RepeatsNoVariant}
 use Rattle.lt_rewrite.specs.Rewriting.{done, then, Rests}
 use Rattle.lt_rewrite.specs.CoreSteps.{values_of, CoreStep}
 use Rattle.lt_rewrite.specs.TagSteps.{on_core, IsCanonical}

@@ -1,6 +1,6 @@
 -- What one canonical core says of an end holds with each.
-use Rattle.std.proofs.Common.{◌≡◌, ℕ, ◌≤◌, ◌<◌, ◌+◌, ◌==◌, true, false, not, List, [], ◌∷◌, ◌++◌, length, refl, sym, ap, ◌∙◌, subst, arith, inl, inr}
-use Rattle.std.specs.List.{list_all, join_with_byte}
+use Rattle.std.proofs.Common.{◌≡◌, ℕ, ◌≤◌, ◌<◌, ◌+◌, ◌==◌, true, not, List, [], ◌∷◌, ◌++◌, length, refl, sym, ap, ◌∙◌, subst, arith, inr}
+use Rattle.std.specs.List.{join_with_byte}
 use Rattle.std.proofs.lemmas.Bool.{ne_eqb}
 use Rattle.std.proofs.lemmas.List.{append-nil}
 use Rattle.lt_subtag.specs.Bytes.{folded}
@@ -13,7 +13,7 @@ use Rattle.lt_tag.specs.Conventional.{conventional}
 use Rattle.lt_tag.specs.Faults.{HasTag}
 use Rattle.lt_tag.proofs.CompleteLemmas.{one_core}
 use Rattle.lt_tag.proofs.ListLemmas.{head_is}
-use Rattle.lt_tag.proofs.ShapeLemmas.{IsLong, core_all, language_long}
+use Rattle.lt_tag.proofs.ShapeLemmas.{core_all, language_long}
 use Rattle.lt_tag.proofs.TagLemmas.{not_grandfathered}
 use Rattle.lt_registry.specs.Parts.{EntryParts}
 use Rattle.lt_rewrite.specs.TagSteps.{IsCanonical}
@@ -23,7 +23,7 @@ use Rattle.lt_canon.specs.Answers.{IsCanonicalFormOf}
 use Rattle.lt_canon.specs.Texts.{IsCanonicalTextOf}
 use Rattle.lt_canon.proofs.TagForm.{extensions_end, extensions_end_formed}
 use Rattle.lt_canon.proofs.CanonicalForms.{form_some}
-use Rattle.lt_ends.specs.Ends.{IsEnd, IsCanonicalCore, IsEndText, EndsAreShared}
+use Rattle.lt_ends.specs.Ends.{IsEnd, IsCanonicalCore, EndsAreShared}
 use Rattle.lt_ends.proofs.EndLists.{list_append, list_single, no_single, single_first, one_cut, text_append}
 use Rattle.lt_ends.proofs.EndForms.{form_is, form_with}
 

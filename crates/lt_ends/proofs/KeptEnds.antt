@@ -1,5 +1,5 @@
 -- Ends in a table of answers that were given lately.
-use Rattle.std.proofs.Common.{◌≡◌, ◌<◌, ◌≤◌, ◌+◌, ◌++◌, ℕ, List, [], ◌∷◌, Bool, true, false, not, Option, length, take, drop, inl, inr, refl, sym, ap, subst, ◌∙◌, arith, slice_index_or, slice_set}
+use Rattle.std.proofs.Common.{◌≡◌, ◌<◌, ◌≤◌, ◌+◌, ◌++◌, ℕ, List, [], ◌∷◌, Bool, true, false, not, Option, length, drop, inl, inr, refl, sym, ap, subst, ◌∙◌, arith, slice_index_or, slice_set}
 use Rattle.std.specs.Prelude.{IsTrue}
 use Rattle.std.specs.List.{All, swap}
 use Rattle.std.proofs.lemmas.List.Elements.{All-contains, All-set}
@@ -14,7 +14,7 @@ use Rattle.lt_canon.proofs.StayingTags.{stays_canonical}
 use Rattle.lt_canon.specs.Texts.{IsCanonicalTextOf, AppendsCanonicalText}
 use Rattle.lt_recent.specs.Recent.{PutsIn, kept}
 use Rattle.lt_recent.specs.declared.Kept.{Kept}
-use Rattle.lt_ends.specs.Ends.{IsEnd, IsCanonicalCore, IsEndText, IsKeptEnd, AreEnds}
+use Rattle.lt_ends.specs.Ends.{IsEnd, IsEndText, IsKeptEnd, AreEnds}
 use Rattle.lt_ends.specs.Appending.{AppendsFront, AppendsKept, EndsText}
 use Rattle.lt_ends.proofs.EndLaws.{ends_shared}
 
