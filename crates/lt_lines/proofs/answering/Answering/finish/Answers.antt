@@ -1,4 +1,4 @@
-use Rattle.std.proofs.Common.{◌≡◌, ◌++◌, List, ℕ, [], inl, refl, sym, subst, append-nil}
+use Rattle.std.proofs.Common.{List, ℕ, [], inl, refl, sym, subst, append-nil}
 use Rattle.std.proofs.KnownBytes.{Appends-nil}
 use Rattle.lt_lines.specs.Owed.{EndsInQuotes, terms}
 use Rattle.lt_lines.proofs.TakenLemmas.{ends_in_quotes}
