@@ -16,8 +16,7 @@ use crate::repeats::{second_in_sources, second_occurrence};
 use crate::usual_tags::{is_core_valued, usual_core};
 use lt_check::Checked;
 use lt_registry::{Lookup, validate};
-use lt_rewrite::Shortcuts;
-use lt_rewrite::values;
+use lt_rewrite::{Shortcuts, values};
 use lt_subtag::Subtag;
 use lt_tag::{Core, Extension, OutOfMemory, Tag};
 use std::alloc::Global;
@@ -108,11 +107,7 @@ fn settled_langtag<L: Lookup>(
 }
 
 /// Puts a core into its core normal form, unless a variant occurs twice there.
-fn settle_core<L: Lookup>(
-    table: &L,
-    shortcuts: &Shortcuts,
-    core: &mut Core,
-) -> Result<(), Refusal>
+fn settle_core<L: Lookup>(table: &L, shortcuts: &Shortcuts, core: &mut Core) -> Result<(), Refusal>
     requires shortcuts { AreShortcuts (L.listed table.now) shortcuts.now }
     requires chains { All (HasEndingChain (L.listed table.now)) (L.listed table.now) }
     ensures form { IfOk result (λ _. IsDistinctForm (L.listed table.now) core.old core.new) }

@@ -93,15 +93,27 @@ fn prefix_of_an_entry(rt: HostRuntime) -> Result<(), Fail> {
 
 /// Texts of one record, and whether it is equal to the first.
 const COMPARED: [(&str, bool); 4] = [
-    ("Type: extlang\nSubtag: CMN\nPreferred-Value: cmn\nPrefix: zh", true),
-    ("Type: extlang\nSubtag: yue\nPreferred-Value: cmn\nPrefix: zh", false),
+    (
+        "Type: extlang\nSubtag: CMN\nPreferred-Value: cmn\nPrefix: zh",
+        true,
+    ),
+    (
+        "Type: extlang\nSubtag: yue\nPreferred-Value: cmn\nPrefix: zh",
+        false,
+    ),
     ("Type: extlang\nSubtag: cmn\nPrefix: zh", false),
-    ("Type: extlang\nSubtag: cmn\nPreferred-Value: cmn\nPrefix: sgn", false),
+    (
+        "Type: extlang\nSubtag: cmn\nPreferred-Value: cmn\nPrefix: sgn",
+        false,
+    ),
 ];
 
 /// Whether two texts of a record give equal entries.
 fn are_equal(alloc: Global, left: &str, right: &str) -> Result<bool, Fail> {
-    match (registry_of(alloc, left.as_bytes())?, registry_of(alloc, right.as_bytes())?) {
+    match (
+        registry_of(alloc, left.as_bytes())?,
+        registry_of(alloc, right.as_bytes())?,
+    ) {
         (Ok(left), Ok(right)) => Ok(left.entries() == right.entries()),
         _ => Err(Fail::from("a registry is refused")),
     }

@@ -79,7 +79,10 @@ fn part_counts(alloc: Global, text: &str) -> Result<Option<(usize, usize)>, TagF
 
 #[test]
 fn a_langtag_is_taken_apart(rt: HostRuntime) -> Result<(), TagFault> {
-    assert_eq!(rt; part_counts(rt.alloc(), "en-a-bb-u-co-phonebk-x-c")?, Some((2, 1)));
+    assert_eq!(rt;
+        part_counts(rt.alloc(), "en-a-bb-u-co-phonebk-x-c")?,
+        Some((2, 1))
+    );
     assert_eq!(rt; part_counts(rt.alloc(), "i-klingon")?, None);
     Ok(())
 }
