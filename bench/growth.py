@@ -69,6 +69,7 @@ COMMANDS = [
     (["check", SAMPLE], b""),
     (["canon", SAMPLE], LINES),
     (["tsv", SAMPLE, "2"], b"1\tzh-yue\tx\r\n2\tfr\n3\n4\tsgn-dd"),
+    (["csv", SAMPLE, "2"], b"id,tag\r\n\"1\n,\",zh-yue\r\n2,\"fr\"\n3\n4,sgn-dd"),
     (["extlang", SAMPLE, "cmn-hans"], b""),
     (["equal", SAMPLE, "YUE", "zh-yue"], b""),
     (["explain", SAMPLE, "sgn-dd"], b""),

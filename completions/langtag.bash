@@ -3,16 +3,16 @@ _langtag() {
     local word=${COMP_WORDS[COMP_CWORD]}
     COMPREPLY=()
     if [ "$COMP_CWORD" = 1 ]; then
-        mapfile -t COMPREPLY < <(compgen -W 'classify check canon tsv extlang equal explain verify upgrade help --help --version' -- "$word")
+        mapfile -t COMPREPLY < <(compgen -W 'classify check canon tsv csv extlang equal explain verify upgrade help --help --version' -- "$word")
         return
     fi
     case ${COMP_WORDS[1]}:$COMP_CWORD in
-        check:2 | canon:2 | tsv:2 | extlang:2 | equal:2 | explain:2 | verify:2 | upgrade:2 | upgrade:3)
+        check:2 | canon:2 | tsv:2 | csv:2 | extlang:2 | equal:2 | explain:2 | verify:2 | upgrade:2 | upgrade:3)
             mapfile -t COMPREPLY < <(compgen -f -- "$word")
             compopt -o filenames 2> /dev/null
             ;;
         help:2)
-            mapfile -t COMPREPLY < <(compgen -W 'classify check canon tsv extlang equal explain verify upgrade' -- "$word")
+            mapfile -t COMPREPLY < <(compgen -W 'classify check canon tsv csv extlang equal explain verify upgrade' -- "$word")
             ;;
     esac
 }

@@ -4,6 +4,7 @@ complete -c langtag -n __fish_use_subcommand -a classify -d 'The class of a tag,
 complete -c langtag -n __fish_use_subcommand -a check -d 'Check a registry'
 complete -c langtag -n __fish_use_subcommand -a canon -d 'The canonical form of each line of the standard input'
 complete -c langtag -n __fish_use_subcommand -a tsv -d 'A field of each row of the standard input in canonical form'
+complete -c langtag -n __fish_use_subcommand -a csv -d 'A field of each record of CSV of the standard input in canonical form'
 complete -c langtag -n __fish_use_subcommand -a extlang -d 'The extlang form of a tag'
 complete -c langtag -n __fish_use_subcommand -a equal -d 'Whether two tags are equivalent'
 complete -c langtag -n __fish_use_subcommand -a explain -d 'The steps from a tag to its canonical form'
@@ -12,6 +13,6 @@ complete -c langtag -n __fish_use_subcommand -a upgrade -d 'Whether a newer regi
 complete -c langtag -n __fish_use_subcommand -a help -d 'The commands, or the words of one'
 complete -c langtag -n __fish_use_subcommand -s h -l help -d 'The commands'
 complete -c langtag -n __fish_use_subcommand -s V -l version -d 'The version'
-complete -c langtag -n '__fish_seen_subcommand_from check canon tsv extlang equal explain verify upgrade; and test (count (commandline -opc)) -eq 2' -F
+complete -c langtag -n '__fish_seen_subcommand_from check canon tsv csv extlang equal explain verify upgrade; and test (count (commandline -opc)) -eq 2' -F
 complete -c langtag -n '__fish_seen_subcommand_from upgrade; and test (count (commandline -opc)) -eq 3' -F
-complete -c langtag -n '__fish_seen_subcommand_from help' -a 'classify check canon tsv extlang equal explain verify upgrade'
+complete -c langtag -n '__fish_seen_subcommand_from help' -a 'classify check canon tsv csv extlang equal explain verify upgrade'

@@ -46,19 +46,19 @@ by_zsh() {
     ' zsh "$completions" "$1" 2> /dev/null
 }
 
-is 'bash: a command' 'canon check classify' < <(by_bash langtag c)
+is 'bash: a command' 'canon check classify csv' < <(by_bash langtag c)
 is 'bash: a file' 'registry.txt' < <(by_bash langtag tsv reg)
 is 'bash: the second file' 'registry.txt' < <(by_bash langtag upgrade old reg)
 is 'bash: a tag is not completed' '' < <(by_bash langtag classify reg)
 if command -v fish > /dev/null; then
-    is 'fish: a command' 'canon check classify' < <(by_fish 'langtag c')
+    is 'fish: a command' 'canon check classify csv' < <(by_fish 'langtag c')
     is 'fish: a file' 'registry.txt' < <(by_fish 'langtag tsv reg')
     is 'fish: help' 'upgrade' < <(by_fish 'langtag help up')
 else
     echo 'fish is not here'
 fi
 if command -v zsh > /dev/null; then
-    is 'zsh: a command' 'canon check classify' < <(by_zsh 'langtag c' | grep -ao 'canon \|check \|classify ' | tr -d ' ' | sort -u)
+    is 'zsh: a command' 'canon check classify csv' < <(by_zsh 'langtag c' | grep -ao 'canon \|check \|classify \|csv ' | tr -d ' ' | sort -u)
     is 'zsh: a file' 'registry.txt' < <(by_zsh 'langtag check reg' | grep -ao 'registry.txt' | sort -u)
 else
     echo 'zsh is not here'

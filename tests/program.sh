@@ -94,6 +94,19 @@ for column in 0 two -1; do
     (exit "$ended"); is "tsv: the column $column" 3 '' 'error: '
 done
 
+# records of CSV, by their second fields
+printf 'id,tag\r\n"a\n,b",zh-yue\r\n2,"en_US"\n3\n' > records
+"$program" csv "$sample" 2 < records > out 2> err; is 'csv refuses two' 1 'id,tag,langtag_fault\r\n"a\n,b",yue,\r\n2,"en_US",BadByte 1\n3,NoColumn\n' ''
+printf 'id,tag\n1,"DE"' | "$program" csv "$sample" 2 > out 2> err; is csv 0 'id,tag,langtag_fault\n1,"de",\n' ''
+printf 'id,tag\n1,iw\n"2' | "$program" csv "$sample" 2 > out 2> err; is 'csv: an open quote' 4 'id,tag,langtag_fault\n1,he,\n' '! BadCsv line 3\n'
+"$program" csv other 2 < records > out 2> err; is 'csv: the registry is refused' 2 'jar BadLine line 1\n' ''
+: > out
+"$program" csv "$sample" 2 < records > /dev/full 2> err; is 'csv: full output' 4 '' '! Write\n'
+"$program" csv "$sample" 2 <&- > out 2> err; is 'csv: closed input' 4 '' '! Read\n'
+"$program" csv missing 0 < records > out 2> usage; ended=$?
+head -c 7 usage > err
+(exit "$ended"); is 'csv: the column 0' 3 '' 'error: '
+
 # the registry from the standard input, where that isn't read otherwise
 "$program" check - < "$sample" > out 2> err; is 'check -' 0 'ok 46\n' ''
 cat "$sample" | "$program" check - > out 2> err; is 'check -, from a pipe' 0 'ok 46\n' ''
@@ -183,6 +196,7 @@ printf 'zh-yue\nxx\nen_US\n' > input
 on_terminal canon "$sample"; is 'canon at a terminal' 1 'yue\n! UnknownLanguage 1\n! BadByte 1\n' "3 lines, 2 refused\n$unknown"
 "$program" canon "$sample" < input > out 2> err; is 'canon at no terminal' 1 'yue\n! UnknownLanguage 1\n! BadByte 1\n' ''
 on_terminal tsv "$sample" 1; is 'tsv at a terminal' 1 'yue\t\nxx\tUnknownLanguage 1\nen_US\tBadByte 1\n' "3 lines, 2 refused\n$unknown"
+on_terminal csv "$sample" 1; is 'csv at a terminal' 1 'zh-yue,langtag_fault\nxx,UnknownLanguage 1\nen_US,BadByte 1\n' "$unknown"
 on_terminal check "$sample"; is 'check at a terminal' 0 'ok 46\n' ''
 on_terminal classify xx-; ended=$?; cut -c1-12 err > told; mv told err
 (exit "$ended"); is 'classify at a terminal' 1 '! EmptySubtag 2\n' 'EmptySubtag:\n'

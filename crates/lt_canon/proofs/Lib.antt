@@ -3,6 +3,8 @@ pub mod EndForms
 pub mod TagForm
 pub mod Distinctness
 pub mod TagRepeats
+pub mod CanonicalForms
+pub mod StayingTags
 -- What this crate alone uses.
 mod AppendedTexts
 mod TagProper
@@ -13,7 +15,6 @@ mod NamedRepeats
 mod ExtlangForms
 mod Answering
 mod SourceRepeats
-mod CanonicalForms
 mod AnswerLaws
 mod OneExplanation
 mod Tracing

@@ -4,6 +4,7 @@ ghost use Rattle.lt_canon.specs.Texts.{AppendsCanonicalText, IsCanonicalTextOf, 
 
 use crate::canonical_tags::canonical_of;
 use crate::refusals::TextRefusal;
+use crate::usual_texts::append_usual_text;
 use lt_check::Checked;
 use lt_registry::Lookup;
 use lt_tag::{append_tag, read_tag};
@@ -12,6 +13,23 @@ use std::alloc::Global;
 /// Appends the text, in conventional case, of the canonical form of the tag that a text is read as (RFC 5646,
 /// 2.1.1 and 4.5). It is refused as `canonical_text` refuses, and then leaves what was there.
 pub fn append_canonical_text<L: Lookup>(
+    alloc: Global,
+    checked: &Checked<L>,
+    text: &[u8],
+    texts: &mut Vec<u8>,
+) -> Result<(), TextRefusal>
+    ensures appended { OnOk result (AppendsCanonicalText (L.listed checked.now) text.now texts.old.items texts.new.items) }
+    ensures refusal { IfErr result (λ refusal. IsTextRefusal (L.listed checked.now) text.now refusal) }
+    ensures kept { OnErr result (texts.new.items ≡ texts.old.items) }
+{
+    if append_usual_text(checked, text, texts)? {
+        return Ok(());
+    }
+    append_other_text(alloc, checked, text, texts)
+}
+
+/// The same of any text, by the tag that it is read as.
+fn append_other_text<L: Lookup>(
     alloc: Global,
     checked: &Checked<L>,
     text: &[u8],

@@ -13,6 +13,7 @@ mod refusals;
 mod repeats;
 mod traces;
 mod usual_tags;
+mod usual_texts;
 
 pub use canonical_tags::canonical;
 pub use canonical_texts::{append_canonical_text, canonical_text};
@@ -23,3 +24,4 @@ pub use extlang_forms::extlang_form;
 pub use lt_check::{Checked, Condition, Finding, Rejected, RejectedCause};
 pub use refusals::{Refusal, TextRefusal};
 pub use traces::{Trace, TraceFault, verify};
+pub use usual_texts::append_usual_text;

@@ -1,11 +1,13 @@
 //! Records in place of those of the sample, and what the check then finds.
 mod answers;
+mod ends;
 mod explanations;
 mod growths;
 mod hostile;
 mod refusals;
 mod traces;
 mod upgrades;
+mod usual_texts;
 
 use lt_check::{Checked, RejectedCause};
 use lt_registry::ListTable;

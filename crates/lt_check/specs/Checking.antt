@@ -2,6 +2,7 @@
 use Rattle.std.specs.Prelude.{ℕ, ◌≤◌, Bool, true, false, List, Option, Some, None, All}
 use Rattle.lt_registry.specs.Parts.{EntryParts}
 use Rattle.lt_rewrite.specs.Shortcuts.{AreShortcuts}
+use Rattle.lt_usual.specs.Flags.{AreFlags}
 use Rattle.lt_check.specs.Conditions.{Meets, IsAtFault, Passes, IsFinding, IsChecked}
 use Rattle.lt_check.specs.declared.conditions.Condition.{Condition}
 use Rattle.lt_check.specs.declared.conditions.Condition.TheVariants as conditions
@@ -45,7 +46,8 @@ abbrev pub IsFirstCause : List EntryParts → RejectedCause → Type 0
 IsFirstCause R (causes.Finding finding) = IsFinding R finding.condition finding.number
 IsFirstCause R causes.OutOfMemory = Unit {0}
 
--- a table that passes the check, and shortcuts along its chains
-pub record IsCheckedAlong (R : List EntryParts) (places : List ℕ) : Type 0 where
+-- a table that passes the check, shortcuts along its chains, and flags of its subtags that stay as they are
+pub record IsCheckedAlong (R : List EntryParts) (places flags : List ℕ) : Type 0 where
   pub checked : IsChecked R
   pub shortcuts : AreShortcuts R places
+  pub usual : AreFlags R flags

@@ -1,6 +1,7 @@
 //! A table of entries that passes the check.
 ghost use Rattle.std.specs.Prelude.{◌≡◌, IfOk, IfErr};
 ghost use Rattle.lt_rewrite.specs.Shortcuts.{AreShortcuts};
+ghost use Rattle.lt_usual.specs.Flags.{AreFlags};
 ghost use Rattle.lt_check.specs.Conditions.{IsChecked, Passes};
 ghost use Rattle.lt_check.specs.Checking.{IsCause, IsFirstCause, RejectsNoneThatPass};
 
@@ -9,6 +10,7 @@ use crate::rejections::{Rejected, RejectedCause};
 use crate::whole_checks::know_entries;
 use lt_registry::Lookup;
 use lt_rewrite::Shortcuts;
+use lt_usual::UsualSubtags;
 use std::alloc::Global;
 use std::marker::Model;
 
@@ -17,6 +19,7 @@ use std::marker::Model;
 pub struct Checked<L: Lookup> {
     table: L,
     shortcuts: Shortcuts,
+    usual: UsualSubtags,
 }
 
 // A contract sees it as its table (this project's own).
@@ -27,7 +30,7 @@ impl<L: Lookup> Model for Checked<L> {
 
     ghost view = { λ c. c.table };
 
-    ghost invariant = { λ c. IsCheckedAlong (L.listed c.table) c.shortcuts };
+    ghost invariant = { λ c. IsCheckedAlong (L.listed c.table) c.shortcuts c.usual };
 }
 
 impl<L: Lookup> Checked<L> {
@@ -51,8 +54,18 @@ impl<L: Lookup> Checked<L> {
                 cause: RejectedCause::OutOfMemory,
             });
         };
+        let Ok(usual) = UsualSubtags::of_table(alloc, &table) else {
+            return Err(Rejected {
+                table,
+                cause: RejectedCause::OutOfMemory,
+            });
+        };
         match find_fault(alloc, &table, &shortcuts) {
-            Ok(None) => Ok(Checked { table, shortcuts }),
+            Ok(None) => Ok(Checked {
+                table,
+                shortcuts,
+                usual,
+            }),
             Ok(Some(finding)) => Err(Rejected {
                 table,
                 cause: RejectedCause::Finding(finding),
@@ -77,5 +90,13 @@ impl<L: Lookup> Checked<L> {
         ensures { AreShortcuts (L.listed self.now) result.now }
     {
         &self.shortcuts
+    }
+
+    /// Flags of the table's languages, scripts and regions that stay as they are.
+    pub fn usual(&self) -> &UsualSubtags
+        ensures flags { AreFlags (L.listed self.now) result.now }
+        ensures checked { IsChecked (L.listed self.now) }
+    {
+        &self.usual
     }
 }

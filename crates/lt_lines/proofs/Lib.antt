@@ -2,6 +2,7 @@
 pub mod WrittenLemmas
 pub mod DeviceLemmas
 pub mod SplittingLemmas
+pub mod QuoteLemmas
 pub mod RowLemmas
 pub mod OwedLemmas
 pub mod TextLemmas

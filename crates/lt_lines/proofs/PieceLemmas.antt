@@ -5,7 +5,7 @@ use Rattle.std.proofs.KnownBytes.{Appends-nil, Appends-trans}
 use Rattle.std.proofs.Math.Seq.{take-append_seam}
 use Rattle.lt_jar.specs.Devices.{failures_of, inner_of}
 use Rattle.lt_jar.specs.declared.devices.Device.{Device}
-use Rattle.lt_lines.specs.Answering.{IsTaken, TakesPiece, WritesOwed, part_kept}
+use Rattle.lt_lines.specs.Answering.{CountsFeed, IsTaken, TakesPiece, WritesOwed, open_after, part_kept}
 use Rattle.lt_lines.specs.Owed.{IsOneLine, Terms}
 use Rattle.lt_lines.specs.declared.answering.Answering.{Answering}
 use Rattle.lt_lines.specs.declared.runs.Counts.{Counts}
@@ -23,6 +23,7 @@ pub record PieceTurn {W : Type 0} (T : Terms) (contents : W → Option (List ℕ
   pub failures : failures_of after ≡ failures_of before
   pub taken : (bytes out : List ℕ) → IsTaken T bytes out old → IsTaken T (bytes ++ front) (out ++ written) now
   pub room : now.counts.lines + length rest ≤ old.counts.lines + length piece
+  pub feeds : now.feeds + length rest ≤ old.feeds + length piece
   pub refused : now.counts.refused ≤ now.counts.lines
 
 -- all of the piece, after its front
@@ -39,6 +40,7 @@ turn_first T contents piece old before refused = record {
   failures = refl;
   taken = λ bytes out t. subst (λ (l : List ℕ). IsTaken T l (out ++ []) old) (sym (append-nil bytes)) (subst (λ (l : List ℕ). IsTaken T bytes l old) (sym (append-nil out)) t);
   room = omega arith;
+  feeds = omega arith;
   refused = refused;
 }
 
@@ -54,9 +56,8 @@ answered_front T rest line after now mid split answered =
 pub turn_next : {W : Type 0} (T : Terms) (contents : W → Option (List ℕ)) (piece rest line after : List ℕ) (old now mid new : Answering) (before between last : Device W)
     → PieceTurn T contents piece rest old now before between → rest ≡ line ++ 10 ∷ after → IsOneLine line
     → ((bytes out : List ℕ) → IsOneLine line → IsTaken T bytes out now → IsTaken T (bytes ++ (line ++ 10 ∷ [])) out mid)
-    → mid.counts.lines ≡ now.counts.lines + 1 → mid.counts.refused ≤ mid.counts.lines
-    → WritesOwed contents mid new between last (Ok tt) → PieceTurn T contents piece after old new before last
-turn_next T contents piece rest line after old now mid new before between last t split one answered counted refused w =
+    → CountsFeed now mid → WritesOwed contents mid new between last (Ok tt) → PieceTurn T contents piece after old new before last
+turn_next T contents piece rest line after old now mid new before between last t split one answered counted w =
     let lines : new.counts.lines ≡ mid.counts.lines = ap (λ (c : Counts). c.lines) w.same.counts in
     let refusals : new.counts.refused ≡ mid.counts.refused = ap (λ (c : Counts). c.refused) w.same.counts in
     record {
@@ -71,8 +72,9 @@ turn_next T contents piece rest line after old now mid new before between last t
           let new_taken = taken_write T ((bytes ++ t.front) ++ (line ++ 10 ∷ [])) (out ++ t.written) w.written mid new mid_taken w.same w.done.0 in
           subst (λ (l : List ℕ). IsTaken T l (out ++ (t.written ++ w.written)) new) (append_assoc bytes t.front (line ++ 10 ∷ []))
           (subst (λ (l : List ℕ). IsTaken T ((bytes ++ t.front) ++ (line ++ 10 ∷ [])) l new) (append_assoc out t.written w.written) new_taken);
-      room = let long = ap length split ∙ length-append line (10 ∷ after) in omega (arith, t.room, lines, counted, long);
-      refused = omega (arith, lines, refusals, refused);
+      room = let long = ap length split ∙ length-append line (10 ∷ after) in omega (arith, t.room, lines, counted.lines, long);
+      feeds = let long = ap length split ∙ length-append line (10 ∷ after) in omega (arith, t.feeds, w.same.feeds, counted.feeds, long);
+      refused = omega (arith, lines, refusals, counted.refused);
     }
 
 -- memory ran out
@@ -109,11 +111,11 @@ turn_fails T contents piece front rest written old mid new before between last f
 -- the rest of the piece is kept
 pub turn_kept : {W : Type 0} (T : Terms) (contents : W → Option (List ℕ)) (piece rest : List ℕ) (old now mid : Answering) (before after : Device W)
     → (t : PieceTurn T contents piece rest old now before after) → IsOneLine rest → mid.kept.items ≡ now.kept.items ++ part_kept T.form (length now.kept.items) rest
-    → mid.owed.items ≡ now.owed.items → mid.counts ≡ now.counts → mid.recent ≡ now.recent
+    → mid.is_open ≡ open_after T.form now.is_open rest → mid.feeds ≡ now.feeds → mid.owed.items ≡ now.owed.items → mid.counts ≡ now.counts → mid.recent ≡ now.recent
     → (bytes out : List ℕ) → IsTaken T bytes out old → IsTaken T (bytes ++ piece) (out ++ t.written) mid
-turn_kept T contents piece rest old now mid before after t one kept owed counts recent = λ bytes out old_taken.
+turn_kept T contents piece rest old now mid before after t one kept inside feeds owed counts recent = λ bytes out old_taken.
     subst (λ (l : List ℕ). IsTaken T l (out ++ t.written) mid) (sym (joined bytes t.front rest piece t.split))
-    (taken_part T (bytes ++ t.front) (out ++ t.written) rest now mid (t.taken bytes out old_taken) one kept owed counts recent)
+    (taken_part T (bytes ++ t.front) (out ++ t.written) rest now mid (t.taken bytes out old_taken) one kept inside feeds owed counts recent)
 
 -- the last write over the piece
 pub turn_last : {W : Type 0} (T : Terms) (contents : W → Option (List ℕ)) (piece written : List ℕ) (old mid new : Answering) (before between last : Device W) (r : Result (Unit {0}) ToolFault)

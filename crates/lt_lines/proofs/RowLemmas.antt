@@ -1,42 +1,44 @@
 -- The fields of a row, and what is owed for it.
-use Rattle.std.proofs.Common.{◌≡◌, ◌<◌, ◌+◌, ◌-◌, ◌++◌, ◌∷◌, ◌∙◌, inl, inr, ℕ, List, [], true, false, length, take, sym, ap, refl, arith, append_assoc, length-append}
+use Rattle.std.proofs.Common.{◌≡◌, ◌<◌, ◌+◌, ◌-◌, ◌++◌, ◌∷◌, ◌∙◌, inl, inr, ℕ, List, [], Bool, true, false, codes, length, take, sym, ap, refl, arith, append_assoc, length-append}
 use Rattle.std.specs.List.{AllByRecursion}
 use Rattle.std.proofs.Math.Seq.{take-append_seam}
 use Rattle.lt_jar.specs.Lines.{content_of}
 use Rattle.lt_registry.specs.Parts.{EntryParts}
 use Rattle.lt_canon.specs.Texts.{AppendsCanonicalText, IsTextRefusal}
 use Rattle.lt_canon.specs.declared.refusals.TextRefusal.{TextRefusal}
-use Rattle.lt_lines.specs.Answering.{AppendsReply, EndsRefused}
+use Rattle.lt_lines.specs.Answering.{AppendsReply, AppendsRowReply, EndsRefused}
 use Rattle.lt_lines.specs.Owed.{end_of, row_line, terms}
-use Rattle.lt_lines.specs.Rows.{HasFewer, HasField, IsAfterField, IsField, Skips, tabbed}
+use Rattle.lt_lines.specs.Rows.{HasFewer, HasField, IsAfterField, IsEnded, IsField, IsTextIn, Skips, separated, separator}
 use Rattle.lt_lines.specs.declared.forms.LineForm.TheVariants as forms
+use Rattle.lt_lines.specs.declared.rows.Separator.{Separator}
+use Rattle.lt_lines.specs.declared.rows.Separator.TheVariants as separators
 
--- one field more that a tab ends
-tabbed-append : (fields : List (List ℕ)) (field : List ℕ) → tabbed (fields ++ field ∷ []) ≡ tabbed fields ++ (field ++ 9 ∷ [])
-tabbed-append [] field = refl
-tabbed-append (f ∷ fields) field =
-    ap (λ t. f ++ 9 ∷ t) (tabbed-append fields field) ∙ sym (append_assoc f (9 ∷ tabbed fields) (field ++ 9 ∷ []))
+-- one field more that a separator ends
+separated-append : (S : Separator) (fields : List (List ℕ)) (field : List ℕ) → separated S (fields ++ field ∷ []) ≡ separated S fields ++ (field ++ separator S ∷ [])
+separated-append S [] field = refl
+separated-append S (f ∷ fields) field =
+    ap (λ t. f ++ separator S ∷ t) (separated-append S fields field) ∙ sym (append_assoc f (separator S ∷ separated S fields) (field ++ separator S ∷ []))
 
-fields-append : (fields : List (List ℕ)) (field : List ℕ) → AllByRecursion IsField fields → IsField field → AllByRecursion IsField (fields ++ field ∷ [])
-fields-append [] field h one = (one, tt)
-fields-append (f ∷ fields) field h one = (h.0, fields-append fields field h.1 one)
+fields-append : (S : Separator) (fields : List (List ℕ)) (field : List ℕ) → AllByRecursion (IsEnded S) fields → IsEnded S field → AllByRecursion (IsEnded S) (fields ++ field ∷ [])
+fields-append S [] field h one = (one, tt)
+fields-append S (f ∷ fields) field h one = (h.0, fields-append S fields field h.1 one)
 
-pub skips_none : (row : List ℕ) → Skips 0 row row
-skips_none row = record { before = []; each = tt; number = refl; row_is = refl }
+pub skips_none : (S : Separator) (row : List ℕ) → Skips S 0 row row
+skips_none S row = record { before = []; each = tt; number = refl; row_is = refl }
 
 -- one field more is skipped
-pub skips_more : (count : ℕ) (row rest field after : List ℕ) → Skips count row rest → IsField field → rest ≡ field ++ 9 ∷ after → Skips (count + 1) row after
-skips_more count row rest field after s one split = record {
+pub skips_more : (S : Separator) (count : ℕ) (row rest field after : List ℕ) → Skips S count row rest → IsEnded S field → rest ≡ field ++ separator S ∷ after → Skips S (count + 1) row after
+skips_more S count row rest field after s one split = record {
   before = s.before ++ field ∷ [];
-  each = fields-append s.before field s.each one;
+  each = fields-append S s.before field s.each one;
   number = length-append s.before (field ∷ []) ∙ ap (λ n. n + 1) s.number;
-  row_is = s.row_is ∙ ap (λ l. tabbed s.before ++ l) (split ∙ sym (append_assoc field (9 ∷ []) after)) ∙ sym (append_assoc (tabbed s.before) (field ++ 9 ∷ []) after)
-      ∙ ap (λ l. l ++ after) (sym (tabbed-append s.before field));
+  row_is = s.row_is ∙ ap (λ l. separated S s.before ++ l) (split ∙ sym (append_assoc field (separator S ∷ []) after))
+      ∙ sym (append_assoc (separated S s.before) (field ++ separator S ∷ []) after) ∙ ap (λ l. l ++ after) (sym (separated-append S s.before field));
 }
 
 -- the rest is the last field
-pub skips_last : (count wanted : ℕ) (row rest : List ℕ) → Skips count row rest → IsField rest → count < wanted → HasFewer wanted row
-skips_last count wanted row rest s one few = record {
+pub skips_last : (S : Separator) (count wanted : ℕ) (row rest : List ℕ) → Skips S count row rest → IsField S rest → count < wanted → HasFewer S wanted row
+skips_last S count wanted row rest s one few = record {
   before = s.before;
   last = rest;
   each = s.each;
@@ -52,10 +54,10 @@ front_of_rest row front rest is =
     ap (λ n. take n row) long ∙ ap (take (length front)) is ∙ take-append_seam front rest
 
 -- the first field of the rest
-pub found_field : (count : ℕ) (row rest field after : List ℕ) → Skips count row rest → IsField field → IsAfterField after → rest ≡ field ++ after
-    → HasField count row (take (length row - length rest) row) field after
-found_field count row rest field after s one ends split =
-    let front = front_of_rest row (tabbed s.before) rest s.row_is in
+pub found_field : (S : Separator) (count : ℕ) (row rest field after : List ℕ) → Skips S count row rest → IsField S field → IsAfterField S field after → rest ≡ field ++ after
+    → HasField S count row (take (length row - length rest) row) field after
+found_field S count row rest field after s one ends split =
+    let front = front_of_rest row (separated S s.before) rest s.row_is in
     record {
       before = s.before;
       each = s.each;
@@ -68,26 +70,31 @@ found_field count row rest field after s one ends split =
     }
 
 -- more bytes in front of a row
-row_line-append : (front row last line : List ℕ) → front ++ row_line row last line ≡ row_line (front ++ row) last line
-row_line-append front row last line =
-    sym (append_assoc front (row ++ 9 ∷ last) (end_of line)) ∙ ap (λ l. l ++ end_of line) (sym (append_assoc front row (9 ∷ last)))
+row_line-append : (S : Separator) (front row last line : List ℕ) → front ++ row_line S row last line ≡ row_line S (front ++ row) last line
+row_line-append S front row last line =
+    sym (append_assoc front (row ++ separator S ∷ last) (end_of line)) ∙ ap (λ l. l ++ end_of line) (sym (append_assoc front row (separator S ∷ last)))
 
 -- the row was answered
-pub row_answered : (R : List EntryParts) (before : ℕ) (line front field after old fronted filled new : List ℕ) → HasField before (content_of line) front field after
-    → fronted ≡ old ++ front → AppendsCanonicalText R field fronted filled → new ≡ filled ++ row_line after [] line
-    → AppendsReply (terms R (forms.Row before)) line old new false
-row_answered R before line front field after old fronted filled new at first a last =
-    let all = last ∙ ap (λ l. l ++ row_line after [] line) (a.grown ∙ ap (λ l. l ++ a.canonical) first) in
+pub row_answered : (S : Separator) (R : List EntryParts) (before : ℕ) (line front field after quotes text old fronted filled new : List ℕ) → HasField S before (content_of line) front field after
+    → IsTextIn S field quotes text → fronted ≡ old ++ (front ++ quotes) → AppendsCanonicalText R text fronted filled → new ≡ filled ++ row_line S (quotes ++ after) [] line
+    → AppendsRowReply S R before line old new false
+row_answered S R before line front field after quotes text old fronted filled new at is_text first a last =
+    let before_text = front ++ quotes in
+    let after_text = quotes ++ after in
+    let all = last ∙ ap (λ l. l ++ row_line S after_text [] line) (a.grown ∙ ap (λ l. l ++ a.canonical) first) in
     record {
-      bytes = row_line (front ++ a.canonical ++ after) [] line;
-      grown = all ∙ ap (λ l. l ++ row_line after [] line) (append_assoc old front a.canonical) ∙ append_assoc old (front ++ a.canonical) (row_line after [] line)
-          ∙ ap (λ l. old ++ l) (row_line-append (front ++ a.canonical) after [] line);
+      bytes = row_line S (before_text ++ a.canonical ++ after_text) [] line;
+      grown = all ∙ ap (λ l. l ++ row_line S after_text [] line) (append_assoc old before_text a.canonical) ∙ append_assoc old (before_text ++ a.canonical) (row_line S after_text [] line)
+          ∙ ap (λ l. old ++ l) (row_line-append S (before_text ++ a.canonical) after_text [] line);
       owed = inl (
         record {
           front = front;
           field = field;
           after = after;
           at = at;
+          quotes = quotes;
+          text = text;
+          is_text = is_text;
           canonical = a.canonical;
           is_canonical = a.is_canonical;
           line_is = refl;
@@ -97,21 +104,28 @@ row_answered R before line front field after old fronted filled new at first a l
     }
 
 -- the row was refused
-pub row_refused : (R : List EntryParts) (before : ℕ) (line front field after old fronted filled new : List ℕ) (refusal : TextRefusal) → HasField before (content_of line) front field after
-    → fronted ≡ old ++ front → IsTextRefusal R field refusal → filled ≡ fronted → EndsRefused refusal field after line filled new
-    → AppendsReply (terms R (forms.Row before)) line old new true
-row_refused R before line front field after old fronted filled new refusal at first is same e =
-    let rest = row_line (field ++ after) e.told line in
+pub row_refused : (S : Separator) (R : List EntryParts) (before : ℕ) (line front field after quotes text old fronted filled new : List ℕ) (refusal : TextRefusal)
+    → HasField S before (content_of line) front field after → IsTextIn S field quotes text
+    → fronted ≡ old ++ (front ++ quotes) → IsTextRefusal R text refusal → filled ≡ fronted → EndsRefused S refusal text quotes after line filled new
+    → AppendsRowReply S R before line old new true
+row_refused S R before line front field after quotes text old fronted filled new refusal at is_text first is same e =
+    let rest = row_line S (text ++ (quotes ++ after)) e.told line in
+    let whole : (front ++ quotes) ++ (text ++ (quotes ++ after)) ≡ content_of line = append_assoc front quotes (text ++ (quotes ++ after))
+    ∙ ap (λ l. front ++ l) (sym (append_assoc quotes text (quotes ++ after)) ∙ sym (append_assoc (quotes ++ text) quotes after) ∙ ap (λ l. l ++ after) (sym is_text.field_is))
+    ∙ sym (append_assoc front field after) ∙ sym at.row_is in
     record {
-      bytes = row_line (content_of line) e.told line;
-      grown = e.grown ∙ ap (λ l. l ++ rest) (same ∙ first) ∙ append_assoc old front rest
-          ∙ ap (λ l. old ++ l) (row_line-append front (field ++ after) e.told line ∙ ap (λ l. row_line l e.told line) (sym (append_assoc front field after) ∙ sym at.row_is));
+      bytes = row_line S (content_of line) e.told line;
+      grown = e.grown ∙ ap (λ l. l ++ rest) (same ∙ first) ∙ append_assoc old (front ++ quotes) rest
+          ∙ ap (λ l. old ++ l) (row_line-append S (front ++ quotes) (text ++ (quotes ++ after)) e.told line ∙ ap (λ l. row_line S l e.told line) whole);
       owed = inr (
         inl (record {
           front = front;
           field = field;
           after = after;
           at = at;
+          quotes = quotes;
+          text = text;
+          is_text = is_text;
           refusal = refusal;
           is_refusal = is;
           told = e.told;
@@ -121,3 +135,18 @@ row_refused R before line front field after old fronted filled new refusal at fi
         refl,
       );
     }
+
+-- what is owed for a row is owed for a line of its form
+pub line_of_tabs : (R : List EntryParts) (before : ℕ) (first : Bool) (line old new : List ℕ) (refused : Bool) → AppendsRowReply separators.Tab R before line old new refused
+    → AppendsReply (terms R (forms.Row before)) first line old new refused
+line_of_tabs R before first line old new refused a = record { bytes = a.bytes; grown = a.grown; owed = a.owed }
+
+pub line_of_commas : (R : List EntryParts) (before : ℕ) (line old new : List ℕ) (refused : Bool) → AppendsRowReply separators.Comma R before line old new refused
+    → AppendsReply (terms R (forms.Csv before)) false line old new refused
+line_of_commas R before line old new refused a = record { bytes = a.bytes; grown = a.grown; owed = a.owed }
+
+-- what is owed for a heading is owed for the first record
+pub line_of_heading : (R : List EntryParts) (before : ℕ) (line old new : List ℕ)
+    → new ≡ old ++ row_line separators.Comma (content_of line) (codes "langtag_fault") line → AppendsReply (terms R (forms.Csv before)) true line old new false
+line_of_heading R before line old new grown =
+    record { bytes = row_line separators.Comma (content_of line) (codes "langtag_fault") line; grown = grown; owed = (refl, refl) }

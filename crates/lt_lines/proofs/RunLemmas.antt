@@ -1,22 +1,20 @@
 -- What the turns of a run over lines keep, and how it ends.
-use Rattle.std.proofs.Common.{◌≡◌, ◌≤◌, ◌<◌, ◌+◌, ◌*◌, ◌++◌, ◌∙◌, inl, inr, ℕ, List, [], Option, Result, Ok, Err, length, sym, ap, refl, subst, arith, add-one, append-nil, length-append, take, drop}
+use Rattle.std.proofs.Common.{◌≡◌, ◌≤◌, ◌<◌, ◌+◌, ◌*◌, ◌++◌, ◌∙◌, inl, inr, ℕ, List, [], false, Option, Result, Ok, Err, length, sym, ap, refl, subst, arith, add-one, append-nil, length-append, take, drop}
 use Rattle.std.specs.Io.KnownBytes.{Appends, Consumes, IsAtEnd, Keeps}
 use Rattle.std.proofs.KnownBytes.{Appends-nil, Appends-trans, Consumes-kept, Consumes-nil, Consumes-trans}
 use Rattle.lt_jar.specs.Devices.{HasFailed, after_reads, failures_of, inner_of, last_given_of, one_more, reads_of}
-use Rattle.lt_jar.specs.Lines.{lines_of}
 use Rattle.lt_jar.specs.Sources.{most_reads}
 use Rattle.lt_jar.specs.declared.devices.Device.{Device}
-use Rattle.lt_recent.specs.Recent.{IsBlank}
-use Rattle.lt_lines.specs.Answering.{FinishesLines, HasRoom, IsStop, IsTaken, TakesPiece}
-use Rattle.lt_lines.specs.Owed.{AreReplies, IsBegun, IsOwed, IsOwedToLastFeed, Terms}
+use Rattle.lt_lines.specs.Answering.{AreRecent, FinishesLines, HasRoom, IsLastStop, IsStop, IsTaken, TakesPiece}
+use Rattle.lt_lines.specs.Owed.{AreReplies, EndsInQuotes, IsBegun, IsOwed, Terms, units_of}
 use Rattle.lt_lines.specs.Running.{EndsAs, HasRead, RunsLines}
 use Rattle.lt_lines.specs.declared.answering.Answering.{Answering}
 use Rattle.lt_lines.specs.declared.faults.ToolFault.{ToolFault}
 use Rattle.lt_lines.specs.declared.faults.ToolFault.TheVariants as faults
 use Rattle.lt_lines.specs.declared.runs.Counts.{Counts}
 use Rattle.lt_lines.proofs.DeviceLemmas.{failed_from}
-use Rattle.lt_lines.proofs.RecentLemmas.{blank_recent}
-use Rattle.lt_lines.proofs.TakenLemmas.{begun_nothing, kept_none, taken_room}
+use Rattle.lt_lines.proofs.OwedLemmas.{open_none, unit_none}
+use Rattle.lt_lines.proofs.TakenLemmas.{begun_nothing, begun_to_last_feed, kept_none, owed_to_last_feed, taken_room}
 use Rattle.std.proofs.Math.Seq.{take-append_seam}
 
 after_more_reads : (count reads : ℕ) → after_reads count (reads + 1) ≡ one_more (after_reads count reads)
@@ -44,30 +42,34 @@ pub record ReadsPiece {I : Type 0} (remaining : I → Option (List ℕ)) (before
   pub calls : reads_of after ≡ one_more (reads_of before)
   pub failures : failures_of after ≡ failures_of before
 
-nothing_taken : (T : Terms) (state : Answering) → state.kept.items ≡ [] → state.owed.items ≡ [] → state.counts.lines ≡ 0 → state.counts.refused ≡ 0 → IsBlank state.recent → IsTaken T [] [] state
-nothing_taken T state kept owed lines refused blank = record {
+nothing_taken : (T : Terms) (state : Answering) → state.kept.items ≡ [] → state.owed.items ≡ [] → state.is_open ≡ false → state.feeds ≡ 0
+    → state.counts.lines ≡ 0 → state.counts.refused ≡ 0 → ((T : Terms) → AreRecent T state.recent) → IsTaken T [] [] state
+nothing_taken T state kept owed closed feeds lines refused recent = record {
   lines = [];
   last = [];
   cut = refl;
   each_one = tt;
-  last_one = λ k d lt. absurd (omega (arith, lt));
+  last_one = unit_none T.form;
   kept = kept ∙ sym (kept_none T.form);
+  goes_on = closed ∙ sym (open_none T.form);
+  feeds = feeds;
   owed = [];
   each = tt;
   all = owed;
   count = lines;
   refused = refused;
-  recent = blank_recent T state.recent blank;
+  recent = recent T;
 }
 
 pub run_first : {I O : Type 0} (T : Terms) (remaining : I → Option (List ℕ)) (contents : O → Option (List ℕ)) (input : Device I) (output : Device O) (state : Answering)
-    → state.kept.items ≡ [] → state.owed.items ≡ [] → state.counts.lines ≡ 0 → state.counts.refused ≡ 0 → IsBlank state.recent → RunTurn T remaining contents input input output output state 0
-run_first T remaining contents input output state kept owed lines refused blank = record {
+    → state.kept.items ≡ [] → state.owed.items ≡ [] → state.is_open ≡ false → state.feeds ≡ 0 → state.counts.lines ≡ 0 → state.counts.refused ≡ 0 → ((T : Terms) → AreRecent T state.recent)
+    → RunTurn T remaining contents input input output output state 0
+run_first T remaining contents input output state kept owed closed feeds lines refused recent = record {
   read = [];
   written = [];
   consumes = Consumes-nil _;
   appends = Appends-nil _;
-  taken = nothing_taken T state kept owed lines refused blank;
+  taken = nothing_taken T state kept owed closed feeds lines refused recent;
   emptied = owed;
   calls = refl;
   some = omega arith;
@@ -109,24 +111,12 @@ run_lacks T remaining contents input output = record {
   reads = 0;
   consumes = Consumes-nil _;
   appends = Appends-nil _;
-  begun = record { lines = []; others = []; cut = refl; owed = []; each = tt; rest = []; front = refl };
+  begun = record { lines = []; others = units_of T.form []; cut = refl; owed = []; each = tt; rest = []; front = refl };
   calls = refl;
   bounded = omega arith;
   ends = tt;
   read_rises = λ lt. absurd (omega (arith, lt));
   write_rises = λ lt. absurd (omega (arith, lt));
-}
-
-owed_to_last_feed : (T : Terms) (read written : List ℕ) (state : Answering) → IsTaken T read written state → state.owed.items ≡ [] → IsOwedToLastFeed T read written
-owed_to_last_feed T read written state t none = record {
-  lines = t.lines;
-  last = t.last;
-  cut = t.cut;
-  each_one = t.each_one;
-  last_one = t.last_one;
-  owed = t.owed;
-  each = t.each;
-  all = sym (append-nil written) ∙ ap (λ (l : List ℕ). written ++ l) (sym none) ∙ t.all;
 }
 
 -- a read failed
@@ -197,6 +187,25 @@ run_stopped T remaining contents input before after output between last state tu
   write_rises = stopped_rises output between last f t.write_failures stop;
 }
 
+-- a run over a reader that ends within quotes
+run_ends_in_quotes : {I O : Type 0} (T : Terms) (remaining : I → Option (List ℕ)) (contents : O → Option (List ℕ)) (input before after : Device I) (output between last : Device O)
+    (state : Answering) (turn : ℕ) (piece part : List ℕ) (line : ℕ) → (t : RunTurn T remaining contents input before output between state turn) → turn < most_reads → ReadsPiece remaining before after piece
+    → IsAtEnd (remaining (inner_of after)) → Appends (contents (inner_of between)) (contents (inner_of last)) part → failures_of last ≡ failures_of between
+    → EndsInQuotes T (t.read ++ piece) (t.written ++ part) line → RunsLines T remaining contents input after output last (Err (faults.BadCsv line))
+run_ends_in_quotes T remaining contents input before after output between last state turn piece part line t few r end appends same ends = record {
+  read = t.read ++ piece;
+  written = t.written ++ part;
+  reads = turn + 1;
+  consumes = Consumes-trans _ _ _ _ _ t.consumes r.consumes;
+  appends = Appends-trans _ _ _ _ _ t.appends appends;
+  begun = begun_to_last_feed T (t.read ++ piece) (t.written ++ part) ends.owed;
+  calls = read_more input before after turn t.calls r.calls;
+  bounded = omega (arith, few);
+  ends = record { end = end; ends = ends };
+  read_rises = λ lt. absurd (omega (arith, lt, r.failures, t.read_failures));
+  write_rises = λ lt. absurd (omega (arith, lt, same, t.write_failures));
+}
+
 -- the reader was at its end
 pub run_finished : {I O : Type 0} (T : Terms) (remaining : I → Option (List ℕ)) (contents : O → Option (List ℕ)) (input before after : Device I) (output between last : Device O)
     (state : Answering) (turn : ℕ) (piece : List ℕ) (r : Result Counts ToolFault) → RunTurn T remaining contents input before output between state turn → turn < most_reads → ReadsPiece remaining before after piece
@@ -210,7 +219,7 @@ run_finished T remaining contents input before after output between last state t
       reads = turn + 1;
       consumes = Consumes-trans _ _ _ _ _ t.consumes r.consumes;
       appends = Appends-trans _ _ _ _ _ t.appends finish.appends;
-      begun = record { lines = lines_of (t.read ++ piece); others = []; cut = sym (append-nil (lines_of (t.read ++ piece))); owed = owed.owed; each = subst (λ (l : List ℕ). AreReplies T (lines_of l) owed.owed) (sym all) owed.each; rest = []; front = sym owed.all ∙ sym (append-nil _) };
+      begun = record { lines = units_of T.form (t.read ++ piece); others = []; cut = sym (append-nil (units_of T.form (t.read ++ piece))); owed = owed.owed; each = subst (λ (l : List ℕ). AreReplies T (units_of T.form l) owed.owed) (sym all) owed.each; rest = []; front = sym owed.all ∙ sym (append-nil _) };
       calls = read_more input before after turn t.calls r.calls;
       bounded = omega (arith, few);
       ends = record { end = end; owed = subst (λ (l : List ℕ). IsOwed T l (t.written ++ finish.written) counts) (sym all) owed };
@@ -218,8 +227,17 @@ run_finished T remaining contents input before after output between last state t
       write_rises = λ lt. absurd (omega (arith, lt, finish.done.0, t.write_failures));
     }
 run_finished T remaining contents input before after output between last state turn piece (Err f) t few r none end finish =
-    let all : t.read ≡ t.read ++ piece = sym (append-nil t.read) ∙ ap (λ (l : List ℕ). t.read ++ l) (sym none) in
-    run_stopped T remaining contents input before after output between last state turn piece t.read finish.written f t few r all finish.appends finish.stopped.0 (finish.stopped.1 t.read t.written t.taken)
+    by_stop finish.stopped
+  where
+    all : t.read ≡ t.read ++ piece
+    all = sym (append-nil t.read) ∙ ap (λ (l : List ℕ). t.read ++ l) (sym none)
+
+    by_stop : IsLastStop T state between last finish.written f → RunsLines T remaining contents input after output last (Err f)
+    by_stop (inl q) =
+        subst (λ (e : ToolFault). RunsLines T remaining contents input after output last (Err e)) (sym q.fault)
+        (run_ends_in_quotes T remaining contents input before after output between last state turn piece finish.written q.line t few r end finish.appends q.same
+        (subst (λ (l : List ℕ). EndsInQuotes T l (t.written ++ finish.written) q.line) all (q.ends t.read t.written t.taken t.emptied)))
+    by_stop (inr stop) = run_stopped T remaining contents input before after output between last state turn piece t.read finish.written f t few r all finish.appends stop.0 (stop.1 t.read t.written t.taken)
 
 -- the pieces' buffer after a read
 pub refilled : (count : ℕ) (items buffer : List ℕ) → count ≡ length items → length buffer ≡ length items → take count (buffer ++ drop (length buffer) items) ≡ buffer
@@ -230,4 +248,4 @@ pub run_room : {I O : Type 0} (T : Terms) (remaining : I → Option (List ℕ)) 
     (state : Answering) (turn lines : ℕ) → RunTurn T remaining contents input before output between state turn → turn < most_reads → lines ≤ 65536 → HasRoom state lines
 run_room T remaining contents input before output between state turn lines t few short =
     let room = taken_room T t.read t.written state t.taken in
-    record { room = omega (arith, room.0, t.most, few, short); refused = room.1 }
+    record { room = omega (arith, room.0, t.most, few, short); feeds = omega (arith, room.2, t.most, few, short); refused = room.1 }

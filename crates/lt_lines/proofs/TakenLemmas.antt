@@ -1,25 +1,19 @@
 -- What was taken of lines that come in pieces.
-use Rattle.std.proofs.Common.{◌≡◌, ◌≢◌, ◌≤◌, ◌<◌, ◌+◌, ◌-◌, ◌++◌, ◌∷◌, ◌∙◌, ◌⊎◌, inl, inr, ℕ, List, [], true, false, length, take, sym, ap, refl, subst, arith, append_assoc, append-nil, length-append, leb, ◌==◌}
+use Rattle.std.proofs.Common.{◌≡◌, ◌≢◌, ◌≤◌, ◌<◌, ◌+◌, ◌-◌, ◌++◌, ◌∷◌, ◌∙◌, ◌⊎◌, inl, inr, ℕ, List, [], true, false, length, take, sym, ap, refl, subst, arith, add-zero, append_assoc, append-nil, length-append, leb, ◌==◌}
 use Rattle.std.proofs.lemmas.Bool.{eqb-true, eqb-false}
 use Rattle.std.proofs.lemmas.Bool.Decides.{leb_tells}
 use Rattle.std.proofs.lemmas.List.{take_all, length-take, length-take-le, nil_from_length}
 use Rattle.std.proofs.lemmas.List.Sums.{count_by-le-length}
-use Rattle.std.proofs.lemmas.List.Elements.{All-append}
 use Rattle.std.proofs.Math.Seq.{take-append-add}
 use Rattle.std.proofs.lemmas.List.{take-append-le}
-use Rattle.lt_jar.proofs.CutLemmas.{lines_of-last, lines_of-ended}
-use Rattle.lt_jar.specs.Lines.{lines_of}
-use Rattle.lt_lines.specs.Answering.{AreRecent, IsAnswered, IsTaken, KeepsLine, kept_of, longest_kept, one_if, part_kept}
-use Rattle.lt_lines.specs.Owed.{AreReplies, IsBegun, IsOneLine, IsOwed, IsReplyTo, Reply, Terms, ended}
+use Rattle.lt_lines.specs.Answering.{AreRecent, GoesOn, IsAnswered, IsTaken, IsWholeAfter, KeepsLine, kept_of, longest_kept, one_if, open_after, part_kept}
+use Rattle.lt_lines.specs.Owed.{AreReplies, EndsInQuotes, IsBegun, IsOneLine, IsOwed, IsOwedToLastFeed, IsReplyTo, Reply, Terms, ended, feeds_in, is_open, units_of}
 use Rattle.lt_lines.specs.declared.forms.LineForm.{LineForm}
 use Rattle.lt_lines.specs.declared.forms.LineForm.TheVariants as forms
 use Rattle.lt_lines.specs.DeviceOutput.{IsFrontOf}
 use Rattle.lt_lines.specs.declared.answering.Answering.{Answering}
 use Rattle.lt_lines.specs.declared.runs.Counts.{Counts}
-use Rattle.lt_lines.proofs.OwedLemmas.{AreReplies-append, AreReplies-length, bytes_in-last, ended-append, ended-length, ended_first, length-last, one_lines-append, refused_in-last}
-
-abbrev IsNoFeed : ℕ → Type 0
-IsNoFeed byte = byte ≢ 10
+use Rattle.lt_lines.proofs.OwedLemmas.{AreReplies-append, AreReplies-length, bytes_in-last, ended-append, ended-length, ended_first, feeds_in-append, first_by_count, length-last, no_feeds, one_feed, open-append, open-feed, open_after_ended, open_none, refused_in-last, unit-append, unit-feed, unit_none, units-ended, units-last, units_none, whole_lines-append}
 
 -- whether there are bytes, by their count
 pub no_items : (items : List ℕ) (count : ℕ) → count ≡ length items → (count == 0) ≡ true → items ≡ []
@@ -48,24 +42,33 @@ tag_more kept last part new is e = by_length (leb_tells (length last) longest_ke
 pub kept_more : (form : LineForm) (kept last part new : List ℕ) → kept ≡ kept_of form last → new ≡ kept ++ part_kept form (length kept) part → new ≡ kept_of form (last ++ part)
 kept_more forms.Tag kept last part new is e = tag_more kept last part new is e
 kept_more (forms.Row before) kept last part new is e = e ∙ ap (λ (l : List ℕ). l ++ part) is
+kept_more (forms.Csv before) kept last part new is e = e ∙ ap (λ (l : List ℕ). l ++ part) is
 
 -- a line of which nothing is kept is empty
 pub nothing_kept : (form : LineForm) (kept last : List ℕ) → kept ≡ kept_of form last → kept ≡ [] → last ≡ []
 nothing_kept forms.Tag kept [] is none = refl
 nothing_kept forms.Tag kept (byte ∷ last) is none = absurd (omega (arith, ap length (sym is ∙ none), length-take longest_kept (byte ∷ last)))
 nothing_kept (forms.Row before) kept last is none = sym is ∙ none
+nothing_kept (forms.Csv before) kept last is none = sym is ∙ none
 
 -- nothing is kept of an empty line
 pub kept_none : (form : LineForm) → kept_of form [] ≡ []
 kept_none forms.Tag = refl
 kept_none (forms.Row before) = refl
+kept_none (forms.Csv before) = refl
+
+-- all is kept of a line that can go on after a line feed
+kept_open : (form : LineForm) (kept last : List ℕ) → kept ≡ kept_of form last → is_open form last ≡ true → kept ≡ last
+kept_open forms.Tag kept last is inside = absurd (let no : ⊥ = cc in no)
+kept_open (forms.Row before) kept last is inside = is
+kept_open (forms.Csv before) kept last is inside = is
 
 -- a line was ended and answered
-pub taken_line : (T : Terms) (bytes out part : List ℕ) (r : Reply) (old new : Answering) → IsTaken T bytes out old → IsOneLine part
-    → ((last : List ℕ) → old.kept.items ≡ kept_of T.form last → IsReplyTo T (last ++ part) r)
-    → new.owed.items ≡ old.owed.items ++ r.bytes → new.kept.items ≡ [] → new.counts.lines ≡ old.counts.lines + 1
+pub taken_line : (T : Terms) (bytes out part : List ℕ) (r : Reply) (old new : Answering) → IsTaken T bytes out old → IsWholeAfter T.form old.is_open part
+    → ((last : List ℕ) → old.kept.items ≡ kept_of T.form last → IsReplyTo T (old.counts.lines == 0) (last ++ part) r)
+    → new.owed.items ≡ old.owed.items ++ r.bytes → new.kept.items ≡ [] → new.is_open ≡ false → new.feeds ≡ old.feeds + 1 → new.counts.lines ≡ old.counts.lines + 1
     → new.counts.refused ≡ old.counts.refused + one_if r.refused → AreRecent T new.recent → IsTaken T (bytes ++ (part ++ 10 ∷ [])) out new
-taken_line T bytes out part r old new t one owed_for grown none lines refusals recent =
+taken_line T bytes out part r old new t one owed_for grown none closed feeds lines refusals recent =
     let whole = t.last ++ part in
     let split : (t.last ++ (part ++ 10 ∷ [])) ≡ whole ++ 10 ∷ [] = sym (append_assoc t.last part (10 ∷ [])) in
     record {
@@ -73,28 +76,61 @@ taken_line T bytes out part r old new t one owed_for grown none lines refusals r
       last = [];
       cut = ap (λ (l : List ℕ). l ++ (part ++ 10 ∷ [])) t.cut ∙ append_assoc (ended t.lines) t.last (part ++ 10 ∷ []) ∙ ap (λ (l : List ℕ). ended t.lines ++ l) split
           ∙ sym (ended-append t.lines whole) ∙ sym (append-nil (ended (t.lines ++ whole ∷ [])));
-      each_one = one_lines-append t.lines whole t.each_one (All-append IsNoFeed t.last part t.last_one one);
-      last_one = λ k d lt. absurd (omega (arith, lt));
+      each_one = whole_lines-append T.form t.lines whole t.each_one (record {
+        unit = unit-append T.form t.last part t.last_one one.one;
+        closed = open-append T.form t.last part ∙ ap (λ b. open_after T.form b part) (sym t.goes_on) ∙ one.closed;
+      });
+      last_one = unit_none T.form;
       kept = none ∙ sym (kept_none T.form);
+      goes_on = closed ∙ sym (open_none T.form);
+      feeds = feeds ∙ ap (λ n. n + 1) t.feeds ∙ sym (one_feed bytes part one.one);
       owed = t.owed ++ r ∷ [];
-      each = AreReplies-append T t.lines t.owed whole r t.each (owed_for t.last t.kept);
+      each = AreReplies-append T t.lines t.owed whole r t.each
+          (subst (λ b. IsReplyTo T b whole r) (first_by_count t.lines old.counts.lines (t.count ∙ AreReplies-length T t.lines t.owed t.each)) (owed_for t.last t.kept));
       all = ap (λ (l : List ℕ). out ++ l) grown ∙ sym (append_assoc out old.owed.items r.bytes) ∙ ap (λ (l : List ℕ). l ++ r.bytes) t.all ∙ sym (bytes_in-last t.owed r);
       count = lines ∙ ap (λ (n : ℕ). n + 1) t.count ∙ sym (length-last t.owed r);
       refused = refusals ∙ ap (λ (n : ℕ). n + one_if r.refused) t.refused ∙ sym (refused_in-last t.owed r);
       recent = recent;
     }
 
+-- a line went on after a line feed
+pub taken_within : (T : Terms) (bytes out part : List ℕ) (old new : Answering) → IsTaken T bytes out old → IsOneLine part → open_after T.form old.is_open part ≡ true
+    → GoesOn T.form part old new → IsTaken T (bytes ++ (part ++ 10 ∷ [])) out new
+taken_within T bytes out part old new t one inside g =
+    let whole = t.last ++ part in
+    let after : is_open T.form whole ≡ true = open-append T.form t.last part ∙ ap (λ b. open_after T.form b part) (sym t.goes_on) ∙ inside in
+    let front = old.kept.items ++ part_kept T.form (length old.kept.items) part in
+    record {
+      lines = t.lines;
+      last = whole ++ 10 ∷ [];
+      cut = ap (λ (l : List ℕ). l ++ (part ++ 10 ∷ [])) t.cut ∙ append_assoc (ended t.lines) t.last (part ++ 10 ∷ [])
+          ∙ ap (λ (l : List ℕ). ended t.lines ++ l) (sym (append_assoc t.last part (10 ∷ [])));
+      each_one = t.each_one;
+      last_one = unit-feed T.form whole (unit-append T.form t.last part t.last_one one) after;
+      kept = kept_more T.form front whole (10 ∷ []) new.kept.items (kept_more T.form old.kept.items t.last part front t.kept refl) g.kept;
+      goes_on = g.goes_on ∙ sym (open-feed T.form whole after);
+      feeds = g.feeds ∙ ap (λ n. n + 1) t.feeds ∙ sym (one_feed bytes part one);
+      owed = t.owed;
+      each = t.each;
+      all = ap (λ (l : List ℕ). out ++ l) g.owed ∙ t.all;
+      count = ap (λ (c : Counts). c.lines) g.counts ∙ t.count;
+      refused = ap (λ (c : Counts). c.refused) g.counts ∙ t.refused;
+      recent = subst (AreRecent T) (sym g.recent) t.recent;
+    }
+
 -- a line went on
 pub taken_part : (T : Terms) (bytes out part : List ℕ) (old new : Answering) → IsTaken T bytes out old → IsOneLine part
-    → new.kept.items ≡ old.kept.items ++ part_kept T.form (length old.kept.items) part → new.owed.items ≡ old.owed.items → new.counts ≡ old.counts
-    → new.recent ≡ old.recent → IsTaken T (bytes ++ part) out new
-taken_part T bytes out part old new t one kept owed counts recent = record {
+    → new.kept.items ≡ old.kept.items ++ part_kept T.form (length old.kept.items) part → new.is_open ≡ open_after T.form old.is_open part → new.feeds ≡ old.feeds
+    → new.owed.items ≡ old.owed.items → new.counts ≡ old.counts → new.recent ≡ old.recent → IsTaken T (bytes ++ part) out new
+taken_part T bytes out part old new t one kept inside feeds owed counts recent = record {
   lines = t.lines;
   last = t.last ++ part;
   cut = ap (λ (l : List ℕ). l ++ part) t.cut ∙ append_assoc (ended t.lines) t.last part;
   each_one = t.each_one;
-  last_one = All-append IsNoFeed t.last part t.last_one one;
+  last_one = unit-append T.form t.last part t.last_one one;
   kept = kept_more T.form old.kept.items t.last part new.kept.items t.kept kept;
+  goes_on = inside ∙ ap (λ b. open_after T.form b part) t.goes_on ∙ sym (open-append T.form t.last part);
+  feeds = feeds ∙ t.feeds ∙ sym (feeds_in-append bytes part ∙ ap (λ n. feeds_in bytes + n) (no_feeds part one) ∙ add-zero (feeds_in bytes));
   owed = t.owed;
   each = t.each;
   all = ap (λ (l : List ℕ). out ++ l) owed ∙ t.all;
@@ -113,6 +149,8 @@ taken_write T bytes out part old new t same wrote = record {
   each_one = t.each_one;
   last_one = t.last_one;
   kept = same.kept ∙ t.kept;
+  goes_on = same.goes_on ∙ t.goes_on;
+  feeds = same.feeds ∙ t.feeds;
   owed = t.owed;
   each = t.each;
   all = append_assoc out part new.owed.items ∙ ap (λ (l : List ℕ). out ++ l) (sym wrote) ∙ t.all;
@@ -126,8 +164,9 @@ pub begun_front : (T : Terms) (bytes out part more all wrote : List ℕ) (state 
     → all ≡ bytes ++ more → wrote ≡ out ++ part → IsBegun T all wrote
 begun_front T bytes out part more all wrote state t front all_is wrote_is = record {
   lines = t.lines;
-  others = lines_of (t.last ++ more);
-  cut = ap lines_of (all_is ∙ ap (λ (l : List ℕ). l ++ more) t.cut ∙ append_assoc (ended t.lines) t.last more) ∙ ended_first t.lines (t.last ++ more) t.each_one;
+  others = units_of T.form (t.last ++ more);
+  cut = ap (units_of T.form) (all_is ∙ ap (λ (l : List ℕ). l ++ more) t.cut ∙ append_assoc (ended t.lines) t.last more)
+      ∙ ended_first T.form t.lines (t.last ++ more) t.each_one;
   owed = t.owed;
   each = t.each;
   rest = front.0;
@@ -138,12 +177,18 @@ begun_front T bytes out part more all wrote state t front all_is wrote_is = reco
 pub begun_nothing : (T : Terms) (bytes out more all : List ℕ) (state : Answering) → IsTaken T bytes out state → all ≡ bytes ++ more → IsBegun T all out
 begun_nothing T bytes out more all state t all_is = begun_front T bytes out [] more all out state t (state.owed.items, refl) all_is (sym (append-nil out))
 
+-- whether a quote is open at the end
+taken_open : (T : Terms) (bytes out : List ℕ) (state : Answering) → (t : IsTaken T bytes out state) → is_open T.form bytes ≡ is_open T.form t.last
+taken_open T bytes out state t = ap (is_open T.form) t.cut ∙ open_after_ended T.form t.lines t.last t.each_one
+
 -- no line feed is at the end, or all lines are ended
 pub answered_none : (T : Terms) (bytes out : List ℕ) (state : Answering) → IsTaken T bytes out state → state.kept.items ≡ [] → IsAnswered T bytes out state
 answered_none T bytes out state t none =
     let last = nothing_kept T.form state.kept.items t.last t.kept none in
-    let all : lines_of bytes ≡ t.lines = ap lines_of t.cut ∙ ended_first t.lines t.last t.each_one ∙ ap (λ (l : List ℕ). t.lines ++ lines_of l) last ∙ append-nil t.lines in
+    let all : units_of T.form bytes ≡ t.lines = ap (units_of T.form) t.cut ∙ ended_first T.form t.lines t.last t.each_one
+    ∙ ap (λ (l : List ℕ). t.lines ++ units_of T.form l) last ∙ ap (λ (l : List (List ℕ)). t.lines ++ l) (units_none T.form) ∙ append-nil t.lines in
     record {
+      closed = taken_open T bytes out state t ∙ ap (is_open T.form) last ∙ open_none T.form;
       owed = t.owed;
       each = subst (λ (l : List (List ℕ)). AreReplies T l t.owed) (sym all) t.each;
       all = t.all;
@@ -152,26 +197,29 @@ answered_none T bytes out state t none =
     }
 
 -- a line feed after a last line ends no further line
-last_ended : (T : Terms) (bytes out : List ℕ) (state : Answering) → IsTaken T bytes out state → (state.kept.items ≡ [] → ⊥)
-    → lines_of (bytes ++ 10 ∷ []) ≡ lines_of bytes
-last_ended T bytes out state t some =
+last_ended : (T : Terms) (bytes out : List ℕ) (state : Answering) → IsTaken T bytes out state → (state.kept.items ≡ [] → ⊥) → state.is_open ≡ false
+    → units_of T.form (bytes ++ 10 ∷ []) ≡ units_of T.form bytes
+last_ended T bytes out state t some closed =
     let long : 0 < length t.last = last_length t.last t.kept in
-    ap (λ (l : List ℕ). lines_of (l ++ 10 ∷ [])) t.cut ∙ ap lines_of (append_assoc (ended t.lines) t.last (10 ∷ [])) ∙ ended_first t.lines (t.last ++ 10 ∷ []) t.each_one
-    ∙ ap (λ (l : List (List ℕ)). t.lines ++ l) (lines_of-ended t.last [] t.last_one ∙ sym (lines_of-last t.last t.last_one long))
-    ∙ sym (ap lines_of t.cut ∙ ended_first t.lines t.last t.each_one)
+    let units = units_of T.form in
+    ap (λ (l : List ℕ). units (l ++ 10 ∷ [])) t.cut ∙ ap units (append_assoc (ended t.lines) t.last (10 ∷ [])) ∙ ended_first T.form t.lines (t.last ++ 10 ∷ []) t.each_one
+    ∙ ap (λ (l : List (List ℕ)). t.lines ++ l) (units-ended T.form t.last [] (record { unit = t.last_one; closed = sym t.goes_on ∙ closed })
+    ∙ ap (λ (l : List (List ℕ)). t.last ∷ l) (units_none T.form) ∙ sym (units-last T.form t.last t.last_one long))
+    ∙ sym (ap units t.cut ∙ ended_first T.form t.lines t.last t.each_one)
   where
     last_length : (last : List ℕ) → state.kept.items ≡ kept_of T.form last → 0 < length last
     last_length [] is = absurd (some (is ∙ kept_none T.form))
     last_length (byte ∷ last) is = omega arith
 
 -- a last line was ended and answered
-pub answered_last : (T : Terms) (bytes out : List ℕ) (old new : Answering) → IsTaken T bytes out old → (old.kept.items ≡ [] → ⊥)
+pub answered_last : (T : Terms) (bytes out : List ℕ) (old new : Answering) → IsTaken T bytes out old → (old.kept.items ≡ [] → ⊥) → old.is_open ≡ false
     → IsTaken T (bytes ++ 10 ∷ []) out new → new.kept.items ≡ [] → IsAnswered T bytes out new
-answered_last T bytes out old new t some after none =
+answered_last T bytes out old new t some closed after none =
     let a = answered_none T (bytes ++ 10 ∷ []) out new after none in
     record {
+      closed = taken_open T bytes out old t ∙ sym t.goes_on ∙ closed;
       owed = a.owed;
-      each = subst (λ (l : List (List ℕ)). AreReplies T l a.owed) (last_ended T bytes out old t some) a.each;
+      each = subst (λ (l : List (List ℕ)). AreReplies T l a.owed) (last_ended T bytes out old t some closed) a.each;
       all = a.all;
       count = a.count;
       refused = a.refused;
@@ -181,6 +229,7 @@ answered_last T bytes out old new t some after none =
 pub owed_all : (T : Terms) (bytes out part : List ℕ) (state new : Answering) → IsAnswered T bytes out state → KeepsLine state new
     → state.owed.items ≡ part ++ new.owed.items → new.owed.items ≡ [] → IsOwed T bytes (out ++ part) new.counts
 owed_all T bytes out part state new a same wrote none = record {
+  closed = a.closed;
   owed = a.owed;
   each = a.each;
   all = ap (λ (l : List ℕ). out ++ l) (sym (append-nil part) ∙ ap (λ (l : List ℕ). part ++ l) (sym none) ∙ sym wrote) ∙ a.all;
@@ -191,9 +240,9 @@ owed_all T bytes out part state new a same wrote none = record {
 -- what is answered is a front of what is owed
 pub begun_answered : (T : Terms) (bytes out part : List ℕ) (state : Answering) → IsAnswered T bytes out state → IsFrontOf part state.owed.items → IsBegun T bytes (out ++ part)
 begun_answered T bytes out part state a front = record {
-  lines = lines_of bytes;
+  lines = units_of T.form bytes;
   others = [];
-  cut = sym (append-nil (lines_of bytes));
+  cut = sym (append-nil (units_of T.form bytes));
   owed = a.owed;
   each = a.each;
   rest = front.0;
@@ -202,9 +251,46 @@ begun_answered T bytes out part state a front = record {
 
 -- the counts of what was taken
 pub taken_room : (T : Terms) (bytes out : List ℕ) (state : Answering) → IsTaken T bytes out state
-    → (state.counts.lines ≤ length bytes) × (state.counts.refused ≤ state.counts.lines)
+    → (state.counts.lines ≤ length bytes) × (state.counts.refused ≤ state.counts.lines) × (state.feeds ≤ length bytes)
 taken_room T bytes out state t =
     let all = AreReplies-length T t.lines t.owed t.each in
     let most = ended-length t.lines in
     let fewer = count_by-le-length (λ (r : Reply). r.refused) t.owed in
-    (omega (arith, t.count, all, most, ap length t.cut, length-append (ended t.lines) t.last), omega (arith, t.count, t.refused, fewer))
+    (omega (arith, t.count, all, most, ap length t.cut, length-append (ended t.lines) t.last), omega (arith, t.count, t.refused, fewer), omega (arith, t.feeds, count_by-le-length (λ (byte : ℕ). byte == 10) bytes))
+
+-- what is owed for the lines that are ended was written
+abbrev pub owed_to_last_feed : (T : Terms) (read written : List ℕ) (state : Answering) → IsTaken T read written state → state.owed.items ≡ [] → IsOwedToLastFeed T read written
+owed_to_last_feed T read written state t none = record {
+  lines = t.lines;
+  last = t.last;
+  cut = t.cut;
+  each_one = t.each_one;
+  last_one = t.last_one;
+  owed = t.owed;
+  each = t.each;
+  all = sym (append-nil written) ∙ ap (λ (l : List ℕ). written ++ l) (sym none) ∙ t.all;
+}
+
+-- a quote is open at the end
+pub ends_in_quotes : (T : Terms) (bytes out : List ℕ) (state : Answering) (line : ℕ) → IsTaken T bytes out state → state.owed.items ≡ [] → state.is_open ≡ true
+    → line ≡ (state.feeds - feeds_in state.kept.items) + 1 → EndsInQuotes T bytes out line
+ends_in_quotes T bytes out state line t none inside begins =
+    let last : state.kept.items ≡ t.last = kept_open T.form state.kept.items t.last t.kept (sym t.goes_on ∙ inside) in
+    let all : feeds_in bytes ≡ feeds_in (ended t.lines) + feeds_in t.last = ap feeds_in t.cut ∙ feeds_in-append (ended t.lines) t.last in
+    record {
+      owed = owed_to_last_feed T bytes out state t none;
+      inside = sym t.goes_on ∙ inside;
+      begins = omega (arith, begins, t.feeds, all, ap feeds_in last);
+    }
+
+-- what is owed up to the last line feed is a front of what is owed
+pub begun_to_last_feed : (T : Terms) (bytes written : List ℕ) → IsOwedToLastFeed T bytes written → IsBegun T bytes written
+begun_to_last_feed T bytes written o = record {
+  lines = o.lines;
+  others = units_of T.form o.last;
+  cut = ap (units_of T.form) o.cut ∙ ended_first T.form o.lines o.last o.each_one;
+  owed = o.owed;
+  each = o.each;
+  rest = [];
+  front = sym o.all ∙ sym (append-nil written);
+}

@@ -84,9 +84,10 @@ reply_for_front R line r owed = by_length (leb_tells (length line) longest_kept)
         reply_for_long R (content_of (take longest_kept line)) (content_of line) r (omega (arith, kept, front)) (omega (arith, whole, long.1)) owed
 
 -- what is owed for the front of a line, as far as it is kept, is owed for the line
-pub reply_for_kept : (R : List EntryParts) (form : LineForm) (line : List ℕ) (r : Reply) → IsReplyIn R form (kept_of form line) r → IsReplyIn R form line r
-reply_for_kept R forms.Tag line r owed = reply_for_front R line r owed
-reply_for_kept R (forms.Row before) line r owed = owed
+pub reply_for_kept : (R : List EntryParts) (form : LineForm) (first : Bool) (line : List ℕ) (r : Reply) → IsReplyIn R form first (kept_of form line) r → IsReplyIn R form first line r
+reply_for_kept R forms.Tag first line r owed = reply_for_front R line r owed
+reply_for_kept R (forms.Row before) first line r owed = owed
+reply_for_kept R (forms.Csv before) first line r owed = owed
 
 -- ---- refusals
 

@@ -1,8 +1,14 @@
 -- What the turns of a loop that writes a text keep.
-use Rattle.std.proofs.Common.{◌≡◌, ◌≤◌, ◌+◌, ◌-◌, ℕ, List, Option, take, drop, length, sym, ap, ◌∙◌, subst, length-drop}
+use Rattle.std.proofs.Common.{◌≡◌, ◌≤◌, ◌+◌, ◌-◌, ◌++◌, ℕ, List, Option, Result, Ok, Err, IfOk, IfErr, append_assoc, take, drop, length, sym, ap, ◌∙◌, subst, length-drop}
 use Rattle.std.specs.Io.KnownBytes.{Appends}
 use Rattle.std.proofs.KnownBytes.{Appends-trans}
 use Rattle.std.proofs.Math.Seq.{take-add, take-length}
+use Rattle.lt_jar.specs.declared.devices.Device.{Device}
+use Rattle.lt_lines.specs.DeviceOutput.{WritesText}
+use Rattle.lt_jar.specs.Devices.{HasFailed, failures_of}
+use Rattle.lt_lines.specs.declared.faults.ToolFault.{ToolFault}
+use Rattle.lt_lines.specs.declared.faults.ToolFault.TheVariants as faults
+use Rattle.lt_lines.proofs.DeviceLemmas.{failed_from}
 
 -- so far this front of the text is written
 pub record Writing (before after : Option (List ℕ)) (text : List ℕ) (at : ℕ) : Type 0 where
@@ -19,3 +25,34 @@ pub appends_more : (a b c : Option (List ℕ)) (text : List ℕ) (at n : ℕ) �
 appends_more a b c text at n first second =
     subst (Appends a c) (sym (take-add at n text))
     (Appends-trans a b c _ _ first (subst (λ (l : List ℕ). Appends b c (take n l)) (range_from text at) second))
+
+-- a text was written, and then another
+pub wrote_more : {W : Type 0} (contents : W → Option (List ℕ)) (text more : List ℕ) (before between after : Device W) (r : Result (Unit {0}) ToolFault)
+    → WritesText contents text before between (Ok tt) → WritesText contents more between after r → WritesText contents (text ++ more) before after r
+wrote_more contents text more before between after r w m = record {
+  written = w.written ++ m.written;
+  appends = Appends-trans _ _ _ _ _ w.appends m.appends;
+  front = (m.front.0, ap (λ (l : List ℕ). l ++ more) (sym w.done.0) ∙ ap (λ (l : List ℕ). w.written ++ l) m.front.1 ∙ sym (append_assoc w.written m.written m.front.0));
+  done = all r m.done;
+  stopped = failed r m.stopped;
+}
+  where
+    all : (r : Result (Unit {0}) ToolFault) → IfOk r (λ _. (m.written ≡ more) × (failures_of after ≡ failures_of between))
+        → IfOk r (λ _. (w.written ++ m.written ≡ text ++ more) × (failures_of after ≡ failures_of before))
+    all (Ok u) h = (ap (λ (l : List ℕ). l ++ m.written) w.done.0 ∙ ap (λ (l : List ℕ). text ++ l) h.0, h.1 ∙ w.done.1)
+    all (Err f) h = tt
+
+    failed : (r : Result (Unit {0}) ToolFault) → IfErr r (λ f. (f ≡ faults.Write) × HasFailed between after) → IfErr r (λ f. (f ≡ faults.Write) × HasFailed before after)
+    failed (Ok u) h = tt
+    failed (Err f) h = (h.0, failed_from before between after w.done.1 h.1)
+
+-- a text was not written, nor what was to follow
+pub wrote_less : {W : Type 0} (contents : W → Option (List ℕ)) (text more : List ℕ) (before after : Device W) (f : ToolFault)
+    → WritesText contents text before after (Err f) → WritesText contents (text ++ more) before after (Err f)
+wrote_less contents text more before after f w = record {
+  written = w.written;
+  appends = w.appends;
+  front = (w.front.0 ++ more, ap (λ (l : List ℕ). l ++ more) w.front.1 ∙ append_assoc w.written w.front.0 more);
+  done = tt;
+  stopped = w.stopped;
+}

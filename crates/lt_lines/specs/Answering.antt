@@ -1,20 +1,23 @@
--- How lines that come in pieces are answered.
-use Rattle.std.specs.Prelude.{◌≡◌, ◌<◌, ◌≤◌, ◌+◌, ◌-◌, ◌^◌, ◌⊎◌, ℕ, Bool, true, false, List, [], ◌++◌, length, take, Option, Some, None, Result, IfErr, IfOk}
+-- How lines that come in pieces are answered. No public contract cites this.
+use Rattle.std.specs.Prelude.{◌≡◌, ◌<◌, ◌≤◌, ◌+◌, ◌-◌, ◌^◌, ◌⊎◌, ℕ, Bool, true, false, List, [], ◌∷◌, ◌++◌, length, take, Option, Some, None, Result, IfErr, IfOk}
 use Rattle.std.specs.List.{All, AllByRecursion}
 use Rattle.std.specs.Io.KnownBytes.{Appends}
 use Rattle.lt_jar.specs.Devices.{HasFailed, failures_of, inner_of}
-use Rattle.lt_jar.specs.Lines.{lines_of}
 use Rattle.lt_jar.specs.declared.devices.Device.{Device}
 use Rattle.lt_registry.specs.Parts.{EntryParts}
 use Rattle.lt_canon.specs.Texts.{AppendsCanonicalText, IsCanonicalTextOf, IsTextRefusal}
 use Rattle.lt_canon.specs.declared.refusals.TextRefusal.{TextRefusal}
 use Rattle.lt_lines.specs.Refusals.{IsTold}
-use Rattle.lt_lines.specs.Owed.{AreReplies, IsBegun, IsOneLine, IsOwed, IsReplyTo, IsTextReply, Reply, Terms, bytes_in, ended, refused_in, reply, row_line}
+use Rattle.lt_lines.specs.Quotes.{is_inside}
+use Rattle.lt_lines.specs.Owed.{AreReplies, EndsInQuotes, IsBegun, IsOneLine, IsOwed, IsReplyTo, IsRowReply, IsTextReply, IsUnit, IsWhole, Reply, Terms, bytes_in, ended, feeds_in, is_open, refused_in, reply, row_line, units_of}
 use Rattle.lt_lines.specs.DeviceOutput.{IsFrontOf}
 use Rattle.lt_recent.specs.declared.Kept.{Kept}
+use Rattle.lt_ends.specs.Ends.{AreEnds}
+use Rattle.lt_lines.specs.declared.recent_answers.RecentAnswers.{RecentAnswers}
 use Rattle.lt_lines.specs.declared.answering.Answering.{Answering}
 use Rattle.lt_lines.specs.declared.forms.LineForm.{LineForm}
 use Rattle.lt_lines.specs.declared.forms.LineForm.TheVariants as forms
+use Rattle.lt_lines.specs.declared.rows.Separator.{Separator}
 use Rattle.lt_lines.specs.declared.runs.Counts.{Counts}
 use Rattle.lt_lines.specs.declared.faults.ToolFault.{ToolFault}
 use Rattle.lt_lines.specs.declared.faults.ToolFault.TheVariants as faults
@@ -36,11 +39,24 @@ one_if false = 0
 abbrev pub kept_of : LineForm → List ℕ → List ℕ
 kept_of forms.Tag line = take longest_kept line
 kept_of (forms.Row before) line = line
+kept_of (forms.Csv before) line = line
 
 -- the part of more bytes of a line that is kept after this many
 abbrev pub part_kept : LineForm → ℕ → List ℕ → List ℕ
 part_kept forms.Tag count part = take (longest_kept - count) part
 part_kept (forms.Row before) count part = part
+part_kept (forms.Csv before) count part = part
+
+-- whether a line goes on after a line feed, by whether it would before these bytes, which are the last before it
+abbrev pub open_after : LineForm → Bool → List ℕ → Bool
+open_after forms.Tag inside part = false
+open_after (forms.Row before) inside part = false
+open_after (forms.Csv before) inside part = is_inside inside part
+
+-- the last bytes of a line before the line feed that ends it
+pub record IsWholeAfter (form : LineForm) (inside : Bool) (part : List ℕ) : Type 0 where
+  pub one : IsOneLine part
+  pub closed : open_after form inside part ≡ false
 
 -- one answer more is among those that are owed: that to a text
 pub record AppendsTextReply (R : List EntryParts) (text old new : List ℕ) (refused : Bool) : Type 0 where
@@ -48,17 +64,24 @@ pub record AppendsTextReply (R : List EntryParts) (text old new : List ℕ) (ref
   pub grown : new ≡ old ++ bytes
   pub owed : IsTextReply R text (reply bytes refused)
 
--- that to a line
-pub record AppendsReply (T : Terms) (line old new : List ℕ) (refused : Bool) : Type 0 where
+-- that to a row
+pub record AppendsRowReply (S : Separator) (R : List EntryParts) (before : ℕ) (line old new : List ℕ)
+    (refused : Bool) : Type 0 where
   pub bytes : List ℕ
   pub grown : new ≡ old ++ bytes
-  pub owed : IsReplyTo T line (reply bytes refused)
+  pub owed : IsRowReply S R before line (reply bytes refused)
+
+-- that to a line
+pub record AppendsReply (T : Terms) (first : Bool) (line old new : List ℕ) (refused : Bool) : Type 0 where
+  pub bytes : List ℕ
+  pub grown : new ≡ old ++ bytes
+  pub owed : IsReplyTo T first line (reply bytes refused)
 
 -- that to a line of which this is kept, and which goes on so
-pub record AppendsLine (T : Terms) (kept part old new : List ℕ) (refused : Bool) : Type 0 where
+pub record AppendsLine (T : Terms) (first : Bool) (kept part old new : List ℕ) (refused : Bool) : Type 0 where
   pub bytes : List ℕ
   pub grown : new ≡ old ++ bytes
-  pub owed : (last : List ℕ) → kept ≡ kept_of T.form last → IsReplyTo T (last ++ part) (reply bytes refused)
+  pub owed : (last : List ℕ) → kept ≡ kept_of T.form last → IsReplyTo T first (last ++ part) (reply bytes refused)
 
 -- the canonical text of a field was appended, or the field is refused
 abbrev pub FieldReply : List EntryParts → List ℕ → (old new : List ℕ) → Option TextRefusal → Type 0
@@ -66,33 +89,37 @@ FieldReply R field old new None = AppendsCanonicalText R field old new
 FieldReply R field old new (Some refusal) = IsTextRefusal R field refusal × (new ≡ old)
 
 -- a field that is refused was appended, with what follows it in its row and what is reported of it
-pub record EndsRefused (refusal : TextRefusal) (field after line old new : List ℕ) : Type 0 where
+pub record EndsRefused (S : Separator) (refusal : TextRefusal) (text quotes after line old new : List ℕ) : Type 0 where
   pub told : List ℕ
   pub is_told : IsTold refusal told
-  pub grown : new ≡ old ++ row_line (field ++ after) told line
+  pub grown : new ≡ old ++ row_line S (text ++ (quotes ++ after)) told line
 
 -- what a place has for a text is right: the answer to a tag, and the canonical text of a field
 abbrev pub IsRight : List EntryParts → LineForm → Kept → Type 0
 IsRight R forms.Tag kept = IsTextReply R kept.line (reply kept.answer kept.refused)
 IsRight R (forms.Row before) kept = IsCanonicalTextOf R kept.line kept.answer
+IsRight R (forms.Csv before) kept = IsCanonicalTextOf R kept.line kept.answer
 
 -- what a place has, if it has something, is right
 abbrev pub IsRecent : Terms → Option Kept → Type 0
 IsRecent T None = Unit {0}
 IsRecent T (Some kept) = IsRight T.entries T.form kept
 
--- each answer that was given lately is right
-pub record AreRecent (T : Terms) (table : List (Option Kept)) : Type 0 where
-  pub each : All (IsRecent T) table
+-- each answer that was given lately is right, and so is each end
+pub record AreRecent (T : Terms) (recent : RecentAnswers) : Type 0 where
+  pub whole : All (IsRecent T) recent.whole
+  pub ends : AreEnds T.entries recent.ends
 
 -- These bytes were taken: their lines are answered, and the answers written or still kept.
 pub record IsTaken (T : Terms) (bytes written : List ℕ) (state : Answering) : Type 0 where
   pub lines : List (List ℕ)
   pub last : List ℕ
   pub cut : bytes ≡ ended lines ++ last
-  pub each_one : AllByRecursion IsOneLine lines
-  pub last_one : IsOneLine last
+  pub each_one : AllByRecursion (IsWhole T.form) lines
+  pub last_one : IsUnit T.form last
   pub kept : state.kept.items ≡ kept_of T.form last
+  pub goes_on : state.is_open ≡ is_open T.form last
+  pub feeds : state.feeds ≡ feeds_in bytes
   pub owed : List Reply
   pub each : AreReplies T lines owed
   pub all : written ++ state.owed.items ≡ bytes_in owed
@@ -102,8 +129,9 @@ pub record IsTaken (T : Terms) (bytes written : List ℕ) (state : Answering) : 
 
 -- what is owed for these bytes is written or still kept
 pub record IsAnswered (T : Terms) (bytes written : List ℕ) (state : Answering) : Type 0 where
+  pub closed : is_open T.form bytes ≡ false
   pub owed : List Reply
-  pub each : AreReplies T (lines_of bytes) owed
+  pub each : AreReplies T (units_of T.form bytes) owed
   pub all : written ++ state.owed.items ≡ bytes_in owed
   pub count : state.counts.lines ≡ length owed
   pub refused : state.counts.refused ≡ refused_in owed
@@ -111,11 +139,30 @@ pub record IsAnswered (T : Terms) (bytes written : List ℕ) (state : Answering)
 -- the counts have room for this many lines more
 pub record HasRoom (state : Answering) (lines : ℕ) : Type 0 where
   pub room : state.counts.lines + lines < 2 ^ 64
+  pub feeds : state.feeds + lines < 2 ^ 64
   pub refused : state.counts.refused ≤ state.counts.lines
 
--- what is kept of the line, the counts and the answers given lately are the same
+-- one line feed more was taken, and at most one line answered
+pub record CountsFeed (old new : Answering) : Type 0 where
+  pub lines : new.counts.lines ≤ old.counts.lines + 1
+  pub refused : new.counts.refused ≤ new.counts.lines
+  pub feeds : new.feeds ≡ old.feeds + 1
+
+-- these bytes and a line feed are kept, which is within quotes
+pub record GoesOn (form : LineForm) (part : List ℕ) (old new : Answering) : Type 0 where
+  pub kept : new.kept.items ≡ (old.kept.items ++ part_kept form (length old.kept.items) part)
+      ++ part_kept form (length (old.kept.items ++ part_kept form (length old.kept.items) part)) (10 ∷ [])
+  pub goes_on : new.is_open ≡ true
+  pub feeds : new.feeds ≡ old.feeds + 1
+  pub owed : new.owed.items ≡ old.owed.items
+  pub counts : new.counts ≡ old.counts
+  pub recent : new.recent ≡ old.recent
+
+-- all but what is owed is the same
 pub record KeepsLine (old new : Answering) : Type 0 where
   pub kept : new.kept.items ≡ old.kept.items
+  pub goes_on : new.is_open ≡ old.is_open
+  pub feeds : new.feeds ≡ old.feeds
   pub counts : new.counts ≡ old.counts
   pub recent : new.recent ≡ old.recent
 
@@ -143,6 +190,20 @@ pub record TakesPiece {W : Type 0} (T : Terms) (contents : W → Option (List �
   pub stopped : IfErr result (λ f. IsStop before after f
       × ((bytes out : List ℕ) → IsTaken T bytes out old → IsBegun T (bytes ++ piece) (out ++ written)))
 
+-- a quote is open at the end, nothing more was written, and the record begins in the line that the fault tells
+pub record StopsInQuotes {W : Type 0} (T : Terms) (old : Answering) (before after : Device W) (written : List ℕ)
+    (f : ToolFault) : Type 0 where
+  pub line : ℕ
+  pub fault : f ≡ faults.BadCsv line
+  pub same : failures_of after ≡ failures_of before
+  pub ends : (bytes out : List ℕ) → IsTaken T bytes out old → old.owed.items ≡ []
+      → EndsInQuotes T bytes (out ++ written) line
+
+-- what ends a run early after its reader: that, or a write or memory failed
+abbrev pub IsLastStop : {W : Type 0} → Terms → Answering → Device W → Device W → List ℕ → ToolFault → Type 0
+IsLastStop T old before after written f = StopsInQuotes T old before after written f
+    ⊎ (IsStop before after f × ((bytes out : List ℕ) → IsTaken T bytes out old → IsBegun T bytes (out ++ written)))
+
 -- a last line that no line feed ends was answered too, and what is owed was written
 pub record FinishesLines {W : Type 0} (T : Terms) (contents : W → Option (List ℕ)) (old : Answering)
     (before after : Device W) (result : Result Counts ToolFault) : Type 0 where
@@ -150,5 +211,4 @@ pub record FinishesLines {W : Type 0} (T : Terms) (contents : W → Option (List
   pub appends : Appends (contents (inner_of before)) (contents (inner_of after)) written
   pub done : IfOk result (λ counts. (failures_of after ≡ failures_of before)
       × ((bytes out : List ℕ) → IsTaken T bytes out old → IsOwed T bytes (out ++ written) counts))
-  pub stopped : IfErr result (λ f. IsStop before after f
-      × ((bytes out : List ℕ) → IsTaken T bytes out old → IsBegun T bytes (out ++ written)))
+  pub stopped : IfErr result (IsLastStop T old before after written)

@@ -1,5 +1,6 @@
 -- The names of the faults that end a run.
 use Rattle.std.specs.Prelude.{ℕ, List, [], ◌∷◌, ◌++◌, codes}
+use Rattle.std.specs.Fmt.{decimal}
 use Rattle.lt_lines.specs.declared.faults.ToolFault.{ToolFault}
 use Rattle.lt_lines.specs.declared.faults.ToolFault.TheVariants as faults
 
@@ -9,7 +10,13 @@ tool_name_of faults.Read = codes "Read"
 tool_name_of faults.Write = codes "Write"
 tool_name_of faults.TooManyTurns = codes "TooManyTurns"
 tool_name_of faults.OutOfMemory = codes "OutOfMemory"
+tool_name_of (faults.BadCsv line) = codes "BadCsv"
+
+-- what is said of a fault after its name: the line in which the record at fault begins
+abbrev pub place_said : ToolFault → List ℕ
+place_said (faults.BadCsv line) = codes " line " ++ decimal line
+place_said _ = []
 
 -- the line that says what ended a run
 abbrev pub fault_said : ToolFault → List ℕ
-fault_said fault = codes "! " ++ tool_name_of fault ++ 10 ∷ []
+fault_said fault = codes "! " ++ tool_name_of fault ++ place_said fault ++ 10 ∷ []

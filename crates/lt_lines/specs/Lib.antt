@@ -2,6 +2,7 @@
 pub mod Faults
 pub mod DeviceOutput
 pub mod Splitting
+pub mod Quotes
 pub mod Refusals
 pub mod Rows
 pub mod Owed

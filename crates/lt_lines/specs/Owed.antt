@@ -1,5 +1,5 @@
 -- What is owed for the bytes of a reader: an answer to each of its lines.
-use Rattle.std.specs.Prelude.{◌≡◌, ◌≢◌, ◌⊎◌, ◌==◌, ◌&&◌, ℕ, Bool, true, false, List, [], ◌∷◌, ◌++◌, if◌then◌else◌, length, codes}
+use Rattle.std.specs.Prelude.{◌≡◌, ◌≢◌, ◌⊎◌, ◌+◌, ◌==◌, ◌&&◌, ℕ, Bool, true, false, List, [], ◌∷◌, ◌++◌, if◌then◌else◌, length, codes}
 use Rattle.std.specs.List.{All, AllByRecursion, count_by}
 use Rattle.std.specs.Io.BufRead.{ends_with_byte}
 use Rattle.lt_jar.specs.Lines.{content_of, lines_of}
@@ -7,9 +7,12 @@ use Rattle.lt_registry.specs.Parts.{EntryParts}
 use Rattle.lt_canon.specs.Texts.{IsCanonicalTextOf, IsTextRefusal}
 use Rattle.lt_canon.specs.declared.refusals.TextRefusal.{TextRefusal}
 use Rattle.lt_lines.specs.Refusals.{IsRefusalLine, IsTold}
-use Rattle.lt_lines.specs.Rows.{HasFewer, HasField}
+use Rattle.lt_lines.specs.Quotes.{IsFreeOutside, is_inside, records_from}
+use Rattle.lt_lines.specs.Rows.{HasFewer, HasField, IsTextIn, separator}
 use Rattle.lt_lines.specs.declared.forms.LineForm.{LineForm}
 use Rattle.lt_lines.specs.declared.forms.LineForm.TheVariants as forms
+use Rattle.lt_lines.specs.declared.rows.Separator.{Separator}
+use Rattle.lt_lines.specs.declared.rows.Separator.TheVariants as separators
 use Rattle.lt_lines.specs.declared.runs.Counts.{Counts}
 
 -- by what lines are answered: the entries of a registry, and what a line is
@@ -55,66 +58,83 @@ pub record IsTextReply (R : List EntryParts) (text : List ℕ) (r : Reply) : Typ
   pub owed : (AnswersText R text r.bytes × (r.refused ≡ false)) ⊎ (RefusesText R text r.bytes × (r.refused ≡ true))
   pub marked : r.refused ≡ is_refusal r.bytes
 
--- ---- a line that is a row
+-- ---- a line that is a row, or a record of CSV
 
 -- what ends a line: its carriage return, if it has one, and a line feed
 abbrev pub end_of : List ℕ → List ℕ
 end_of line = if ends_with_byte 13 line then 13 ∷ 10 ∷ [] else 10 ∷ []
 
 -- a row with one field more, ended as the line is
-abbrev pub row_line : List ℕ → List ℕ → List ℕ → List ℕ
-row_line row last line = row ++ 9 ∷ last ++ end_of line
+abbrev pub row_line : Separator → List ℕ → List ℕ → List ℕ → List ℕ
+row_line S row last line = row ++ separator S ∷ last ++ end_of line
 
--- the field has a canonical text, which is in its place, and the last field is empty
-pub record AnswersRow (R : List EntryParts) (before : ℕ) (line bytes : List ℕ) : Type 0 where
+-- the field has a canonical text, which is in the place of its text, and the last field is empty
+pub record AnswersRow (S : Separator) (R : List EntryParts) (before : ℕ) (line bytes : List ℕ) : Type 0 where
   pub front : List ℕ
   pub field : List ℕ
   pub after : List ℕ
-  pub at : HasField before (content_of line) front field after
+  pub at : HasField S before (content_of line) front field after
+  pub quotes : List ℕ
+  pub text : List ℕ
+  pub is_text : IsTextIn S field quotes text
   pub canonical : List ℕ
-  pub is_canonical : IsCanonicalTextOf R field canonical
-  pub line_is : bytes ≡ row_line (front ++ canonical ++ after) [] line
+  pub is_canonical : IsCanonicalTextOf R text canonical
+  pub line_is : bytes ≡ row_line S ((front ++ quotes) ++ canonical ++ (quotes ++ after)) [] line
 
--- the field is refused, and the last field says why
-pub record RefusesRow (R : List EntryParts) (before : ℕ) (line bytes : List ℕ) : Type 0 where
+-- the text of the field is refused, and the last field says why
+pub record RefusesRow (S : Separator) (R : List EntryParts) (before : ℕ) (line bytes : List ℕ) : Type 0 where
   pub front : List ℕ
   pub field : List ℕ
   pub after : List ℕ
-  pub at : HasField before (content_of line) front field after
+  pub at : HasField S before (content_of line) front field after
+  pub quotes : List ℕ
+  pub text : List ℕ
+  pub is_text : IsTextIn S field quotes text
   pub refusal : TextRefusal
-  pub is_refusal : IsTextRefusal R field refusal
+  pub is_refusal : IsTextRefusal R text refusal
   pub told : List ℕ
   pub is_told : IsTold refusal told
-  pub line_is : bytes ≡ row_line (content_of line) told line
+  pub line_is : bytes ≡ row_line S (content_of line) told line
 
 -- there is no such field, and the last field says so
-pub record LacksField (before : ℕ) (line bytes : List ℕ) : Type 0 where
-  pub fewer : HasFewer before (content_of line)
-  pub line_is : bytes ≡ row_line (content_of line) (codes "NoColumn") line
+pub record LacksField (S : Separator) (before : ℕ) (line bytes : List ℕ) : Type 0 where
+  pub fewer : HasFewer S before (content_of line)
+  pub line_is : bytes ≡ row_line S (content_of line) (codes "NoColumn") line
 
 -- the line that is owed for a row; running out of memory aside
-abbrev pub IsRowReply : List EntryParts → ℕ → List ℕ → Reply → Type 0
-IsRowReply R before line r =
-    (AnswersRow R before line r.bytes × (r.refused ≡ false))
-    ⊎ ((RefusesRow R before line r.bytes ⊎ LacksField before line r.bytes) × (r.refused ≡ true))
+abbrev pub IsRowReply : Separator → List EntryParts → ℕ → List ℕ → Reply → Type 0
+IsRowReply S R before line r =
+    (AnswersRow S R before line r.bytes × (r.refused ≡ false))
+    ⊎ ((RefusesRow S R before line r.bytes ⊎ LacksField S before line r.bytes) × (r.refused ≡ true))
+
+-- the line that is owed for the heading of a file of CSV: the name of the last field is added
+abbrev pub IsHeadingReply : List ℕ → Reply → Type 0
+IsHeadingReply line r =
+    (r.bytes ≡ row_line separators.Comma (content_of line) (codes "langtag_fault") line) × (r.refused ≡ false)
 
 -- ---- lines
 
--- what is owed for a line; a carriage return that ends a tag is no part of it
-abbrev pub IsReplyIn : List EntryParts → LineForm → List ℕ → Reply → Type 0
-IsReplyIn R forms.Tag line r = IsTextReply R (content_of line) r
-IsReplyIn R (forms.Row before) line r = IsRowReply R before line r
+-- what is owed for a line, which may be the first; a carriage return that ends a tag is no part of it
+abbrev pub IsReplyIn : List EntryParts → LineForm → Bool → List ℕ → Reply → Type 0
+IsReplyIn R forms.Tag first line r = IsTextReply R (content_of line) r
+IsReplyIn R (forms.Row before) first line r = IsRowReply separators.Tab R before line r
+IsReplyIn R (forms.Csv before) true line r = IsHeadingReply line r
+IsReplyIn R (forms.Csv before) false line r = IsRowReply separators.Comma R before line r
 
 -- the same by what lines are answered by
-abbrev pub IsReplyTo : Terms → List ℕ → Reply → Type 0
-IsReplyTo T line r = IsReplyIn T.entries T.form line r
+abbrev pub IsReplyTo : Terms → Bool → List ℕ → Reply → Type 0
+IsReplyTo T first line r = IsReplyIn T.entries T.form first line r
+
+-- an answer is owed for each line, in order, of which the first may be the first of all
+abbrev pub AreRepliesFrom : Terms → Bool → List (List ℕ) → List Reply → Type 0
+AreRepliesFrom T first [] [] = Unit {0}
+AreRepliesFrom T first [] (r ∷ more) = ⊥
+AreRepliesFrom T first (line ∷ lines) [] = ⊥
+AreRepliesFrom T first (line ∷ lines) (r ∷ more) = IsReplyTo T first line r × AreRepliesFrom T false lines more
 
 -- an answer is owed for each line, in order
 abbrev pub AreReplies : Terms → List (List ℕ) → List Reply → Type 0
-AreReplies T [] [] = Unit {0}
-AreReplies T [] (r ∷ more) = ⊥
-AreReplies T (line ∷ lines) [] = ⊥
-AreReplies T (line ∷ lines) (r ∷ more) = IsReplyTo T line r × AreReplies T lines more
+AreReplies T lines replies = AreRepliesFrom T true lines replies
 
 -- the bytes of answers
 abbrev pub bytes_in : List Reply → List ℕ
@@ -129,35 +149,69 @@ refused_in replies = count_by (λ r. r.refused) replies
 abbrev pub IsOneLine : List ℕ → Type 0
 IsOneLine text = All (λ byte. byte ≢ 10) text
 
+-- the lines of a text, as their form says; those of CSV are its records
+abbrev pub units_of : LineForm → List ℕ → List (List ℕ)
+units_of forms.Tag text = lines_of text
+units_of (forms.Row before) text = lines_of text
+units_of (forms.Csv before) text = records_from false text
+
+-- no line feed that ends a line of this form: none, or in CSV none outside of quotes
+abbrev pub IsUnit : LineForm → List ℕ → Type 0
+IsUnit forms.Tag text = IsOneLine text
+IsUnit (forms.Row before) text = IsOneLine text
+IsUnit (forms.Csv before) text = IsFreeOutside 10 false text
+
+-- whether a line goes on after a line feed: a record does where its quotes are odd in number
+abbrev pub is_open : LineForm → List ℕ → Bool
+is_open forms.Tag text = false
+is_open (forms.Row before) text = false
+is_open (forms.Csv before) text = is_inside false text
+
+-- a line that a line feed ends
+pub record IsWhole (form : LineForm) (text : List ℕ) : Type 0 where
+  pub unit : IsUnit form text
+  pub closed : is_open form text ≡ false
+
 -- lines, each ended by a line feed
 abbrev pub ended : List (List ℕ) → List ℕ
 ended [] = []
 ended (line ∷ lines) = line ++ 10 ∷ ended lines
 
--- all that is owed for the bytes was written, and counted
+-- how many line feeds there are
+abbrev pub feeds_in : List ℕ → ℕ
+feeds_in text = count_by (λ byte. byte == 10) text
+
+-- all that is owed for the bytes was written, and counted; no quote is open at their end
 pub record IsOwed (T : Terms) (bytes written : List ℕ) (counts : Counts) : Type 0 where
+  pub closed : is_open T.form bytes ≡ false
   pub owed : List Reply
-  pub each : AreReplies T (lines_of bytes) owed
+  pub each : AreReplies T (units_of T.form bytes) owed
   pub all : written ≡ bytes_in owed
   pub lines : counts.lines ≡ length owed
   pub refused : counts.refused ≡ refused_in owed
 
--- what was written is what is owed for the bytes up to their last line feed
+-- what was written is what is owed for the bytes up to the last line feed that ends a line
 pub record IsOwedToLastFeed (T : Terms) (bytes written : List ℕ) : Type 0 where
   pub lines : List (List ℕ)
   pub last : List ℕ
   pub cut : bytes ≡ ended lines ++ last
-  pub each_one : AllByRecursion IsOneLine lines
-  pub last_one : IsOneLine last
+  pub each_one : AllByRecursion (IsWhole T.form) lines
+  pub last_one : IsUnit T.form last
   pub owed : List Reply
   pub each : AreReplies T lines owed
   pub all : written ≡ bytes_in owed
+
+-- the bytes end within the quotes of a record that begins in this line, counted from 1
+pub record EndsInQuotes (T : Terms) (bytes written : List ℕ) (line : ℕ) : Type 0 where
+  pub owed : IsOwedToLastFeed T bytes written
+  pub inside : is_open T.form owed.last ≡ true
+  pub begins : line ≡ feeds_in (ended owed.lines) + 1
 
 -- what was written is a front of what is owed for the first lines of the bytes
 pub record IsBegun (T : Terms) (bytes written : List ℕ) : Type 0 where
   pub lines : List (List ℕ)
   pub others : List (List ℕ)
-  pub cut : lines_of bytes ≡ lines ++ others
+  pub cut : units_of T.form bytes ≡ lines ++ others
   pub owed : List Reply
   pub each : AreReplies T lines owed
   pub rest : List ℕ

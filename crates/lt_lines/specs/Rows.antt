@@ -1,42 +1,81 @@
--- Rows: fields with a tab (9) between them.
-use Rattle.std.specs.Prelude.{◌≡◌, ◌≢◌, ◌<◌, ◌⊎◌, ℕ, List, [], ◌∷◌, ◌++◌, length}
+-- Rows: fields with a tab (9) between them, or a comma (44) outside of quotes.
+use Rattle.std.specs.Prelude.{◌≡◌, ◌≢◌, ◌<◌, ◌⊎◌, ℕ, false, List, [], ◌∷◌, ◌++◌, length, Option, MatchOption}
+use Rattle.std.specs.Borrow.{Bor}
 use Rattle.std.specs.List.{All, AllByRecursion}
+use Rattle.lt_lines.specs.Quotes.{IsFreeOutside, is_inside}
+use Rattle.lt_lines.specs.declared.rows.Separator.{Separator}
+use Rattle.lt_lines.specs.declared.rows.Separator.TheVariants as separators
 
--- no tab
-abbrev pub IsField : List ℕ → Type 0
-IsField text = All (λ byte. byte ≢ 9) text
+-- the byte between fields
+abbrev pub separator : Separator → ℕ
+separator separators.Tab = 9
+separator separators.Comma = 44
 
--- fields, each with the tab that ends it
-abbrev pub tabbed : List (List ℕ) → List ℕ
-tabbed [] = []
-tabbed (field ∷ fields) = field ++ 9 ∷ tabbed fields
+-- no tab, or no comma outside of quotes
+abbrev pub IsField : Separator → List ℕ → Type 0
+IsField separators.Tab text = All (λ byte. byte ≢ 9) text
+IsField separators.Comma text = IsFreeOutside 44 false text
 
--- what follows a field: nothing, or a tab and more
-abbrev pub IsAfterField : List ℕ → Type 0
-IsAfterField after = (after ≡ []) ⊎ ((more : List ℕ) × (after ≡ 9 ∷ more))
+-- a separator may end the field: its quotes are even in number, where commas part fields
+abbrev pub IsClosed : Separator → List ℕ → Type 0
+IsClosed separators.Tab text = Unit {0}
+IsClosed separators.Comma text = is_inside false text ≡ false
+
+-- a field that a separator ends
+pub record IsEnded (S : Separator) (text : List ℕ) : Type 0 where
+  pub field : IsField S text
+  pub closed : IsClosed S text
+
+-- fields, each with the separator that ends it
+abbrev pub separated : Separator → List (List ℕ) → List ℕ
+separated S [] = []
+separated S (field ∷ fields) = field ++ separator S ∷ separated S fields
+
+-- what follows a field: nothing, or a separator and more
+abbrev pub IsAfterField : Separator → List ℕ → List ℕ → Type 0
+IsAfterField S field after = (after ≡ []) ⊎ ((more : List ℕ) × IsClosed S field × (after ≡ separator S ∷ more))
 
 -- the rest of a row, after this many fields
-pub record Skips (count : ℕ) (row rest : List ℕ) : Type 0 where
+pub record Skips (S : Separator) (count : ℕ) (row rest : List ℕ) : Type 0 where
   pub before : List (List ℕ)
-  pub each : AllByRecursion IsField before
+  pub each : AllByRecursion (IsEnded S) before
   pub number : length before ≡ count
-  pub row_is : row ≡ tabbed before ++ rest
+  pub row_is : row ≡ separated S before ++ rest
 
 -- a row has this field, with this many fields before it
-pub record HasField (count : ℕ) (row front field after : List ℕ) : Type 0 where
+pub record HasField (S : Separator) (count : ℕ) (row front field after : List ℕ) : Type 0 where
   pub before : List (List ℕ)
-  pub each : AllByRecursion IsField before
+  pub each : AllByRecursion (IsEnded S) before
   pub number : length before ≡ count
-  pub front_is : front ≡ tabbed before
-  pub one : IsField field
-  pub ends : IsAfterField after
+  pub front_is : front ≡ separated S before
+  pub one : IsField S field
+  pub ends : IsAfterField S field after
   pub row_is : row ≡ front ++ field ++ after
 
 -- a row has this many fields, or fewer
-pub record HasFewer (count : ℕ) (row : List ℕ) : Type 0 where
+pub record HasFewer (S : Separator) (count : ℕ) (row : List ℕ) : Type 0 where
   pub before : List (List ℕ)
   pub last : List ℕ
-  pub each : AllByRecursion IsField before
-  pub one : IsField last
-  pub row_is : row ≡ tabbed before ++ last
+  pub each : AllByRecursion (IsEnded S) before
+  pub one : IsField S last
+  pub row_is : row ≡ separated S before ++ last
   pub fewer : length before < count
+
+-- a quote (34) is at both ends of a field
+abbrev pub IsQuoted : List ℕ → Type 0
+IsQuoted field = (text : List ℕ) × (field ≡ 34 ∷ text ++ 34 ∷ [])
+
+-- what is at both ends of the text of a field: a quote where commas part fields and the field is quoted, else nothing
+abbrev pub AreQuotes : Separator → List ℕ → List ℕ → Type 0
+AreQuotes separators.Tab field quotes = quotes ≡ []
+AreQuotes separators.Comma field quotes = (quotes ≡ 34 ∷ []) ⊎ ((quotes ≡ []) × (IsQuoted field → ⊥))
+
+-- the text of a field, and what is at both of its ends
+pub record IsTextIn (S : Separator) (field quotes text : List ℕ) : Type 0 where
+  pub field_is : field ≡ quotes ++ text ++ quotes
+  pub are_quotes : AreQuotes S field quotes
+
+-- what is before the first separator and after it
+abbrev pub SplitsField : Separator → List ℕ → Option (Bor (List ℕ) × Bor (List ℕ)) → Type 0
+SplitsField S rest parts = MatchOption parts (IsField S rest)
+    (λ p. IsEnded S p.0.now × (rest ≡ p.0.now ++ separator S ∷ p.1.now))

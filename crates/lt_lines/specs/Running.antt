@@ -4,7 +4,7 @@ use Rattle.std.specs.Io.KnownBytes.{Appends, Consumes, IsAtEnd}
 use Rattle.lt_jar.specs.Devices.{HasFailed, after_reads, failures_of, inner_of, last_given_of, reads_of}
 use Rattle.lt_jar.specs.Sources.{most_reads}
 use Rattle.lt_jar.specs.declared.devices.Device.{Device}
-use Rattle.lt_lines.specs.Owed.{IsBegun, IsOwed, IsOwedToLastFeed, Terms}
+use Rattle.lt_lines.specs.Owed.{EndsInQuotes, IsBegun, IsOwed, IsOwedToLastFeed, Terms}
 use Rattle.lt_lines.specs.declared.faults.ToolFault.{ToolFault}
 use Rattle.lt_lines.specs.declared.faults.ToolFault.TheVariants as faults
 use Rattle.lt_lines.specs.declared.runs.Counts.{Counts}
@@ -32,6 +32,12 @@ pub record IsStoppedByTurns {I : Type 0} (T : Terms)
   pub last_gave : 0 < last_given_of input'
   pub owed : IsOwedToLastFeed T read written
 
+-- the reader was read to its end, which is within quotes, and what is owed for the records before was written
+pub record IsStoppedByQuotes {I : Type 0} (T : Terms) (remaining : I → Option (List ℕ)) (input' : Device I)
+    (read written : List ℕ) (line : ℕ) : Type 0 where
+  pub end : IsAtEnd (remaining (inner_of input'))
+  pub ends : EndsInQuotes T read written line
+
 -- how the run ended
 abbrev pub EndsAs : {I O : Type 0} → Terms → (I → Option (List ℕ))
     → (input input' : Device I) → (output output' : Device O)
@@ -42,6 +48,8 @@ EndsAs T remaining input input' output output' reads read written (Err faults.Re
     IsStoppedByRead T input input' read written
 EndsAs T remaining input input' output output' reads read written (Err faults.TooManyTurns) =
     IsStoppedByTurns T input' reads read written
+EndsAs T remaining input input' output output' reads read written (Err (faults.BadCsv line)) =
+    IsStoppedByQuotes T remaining input' read written line
 EndsAs T remaining input input' output output' reads read written (Err faults.Write) = HasFailed output output'
 EndsAs T remaining input input' output output' reads read written (Err faults.OutOfMemory) = Unit {0}
 

@@ -1,12 +1,14 @@
 //! The line that is owed for a text.
-ghost use Rattle.std.specs.Prelude.{◌≡◌, ◌++◌, IfOk, OnOk};
+ghost use Rattle.std.specs.Prelude.{◌≡◌, ◌≤◌, ◌++◌, IfOk, OnOk, vec_len};
 ghost use Rattle.std.specs.Fmt.{decimal};
 ghost use Rattle.lt_jar.specs.Lines.{content_of};
+ghost use Rattle.lt_ends.specs.Ends.{AreEnds};
 ghost use Rattle.lt_lines.specs.Answering.{AppendsTextReply};
 ghost use Rattle.lt_lines.specs.Refusals.{AppendsRefusal, AppendsTold};
 
 use itoa::Buffer;
-use lt_canon::{Checked, TextRefusal, append_canonical_text};
+use lt_canon::{Checked, TextRefusal};
+use lt_ends::RecentEnds;
 use lt_registry::Lookup;
 use lt_tag::OutOfMemory;
 use std::alloc::{AllocError, Global};
@@ -60,15 +62,19 @@ pub(crate) fn append_answer<L: Lookup>(
     lines: &mut Vec<u8>,
     alloc: Global,
     checked: &Checked<L>,
+    ends: &mut RecentEnds,
     text: &[u8],
 ) -> Result<bool, OutOfMemory>
-    ensures { IfOk result (AppendsTextReply (L.listed checked.now) text.now lines.old.items lines.new.items) }
+    ensures owed { IfOk result (λ refused. AreEnds (L.listed checked.now) ends.old → AppendsTextReply (L.listed checked.now) text.now lines.old.items lines.new.items refused) }
+    ensures grown { OnOk result (vec_len lines.old ≤ vec_len lines.new) }
+    ensures ends { AreEnds (L.listed checked.now) ends.old → AreEnds (L.listed checked.now) ends.new }
 {
-    match append_canonical_text(alloc, checked, text, lines) {
+    match ends.append_canonical_text(alloc, checked, text, lines) {
         Ok(()) => {
             lines.push(b'\n')?;
             Ok(false)
         }
+        Err(TextRefusal::OutOfMemory) => Err(OutOfMemory),
         Err(refusal) => {
             append_refusal(lines, &refusal)?;
             Ok(true)

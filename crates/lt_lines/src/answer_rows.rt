@@ -1,14 +1,14 @@
 //! The line that is owed for a row.
 ghost use Rattle.std.specs.Prelude.{◌≡◌, ◌++◌, [], IfOk, OnOk, codes};
-ghost use Rattle.lt_lines.specs.Answering.{AppendsReply, AreRecent, EndsRefused};
+ghost use Rattle.lt_jar.specs.Lines.{content_of};
+ghost use Rattle.lt_lines.specs.Answering.{AppendsRowReply, AreRecent, EndsRefused};
 ghost use Rattle.lt_lines.specs.Owed.{end_of, row_line, terms};
 
 use crate::answer_lines::{append_told, without_return};
 use crate::forms::LineForm;
-use crate::recent_answers::append_field;
-use crate::rows::find_field;
+use crate::recent_answers::{RecentAnswers, append_field};
+use crate::rows::{Separator, find_field, text_in};
 use lt_canon::{Checked, TextRefusal};
-use lt_recent::Recent;
 use lt_registry::Lookup;
 use lt_tag::OutOfMemory;
 use std::alloc::{AllocError, Global};
@@ -23,37 +23,54 @@ fn append_end(lines: &mut Vec<u8>, line: &[u8]) -> Result<(), AllocError>
     }
 }
 
-/// Appends a row with too few fields, and one more that says so.
-fn append_short(lines: &mut Vec<u8>, row: &[u8], line: &[u8]) -> Result<(), AllocError>
-    ensures { OnOk result (lines.new.items ≡ lines.old.items ++ row_line row.now (codes "NoColumn") line.now) }
+/// Appends a row, and one field more.
+pub(crate) fn append_longer(
+    lines: &mut Vec<u8>,
+    separator: Separator,
+    row: &[u8],
+    last: &str,
+    line: &[u8],
+) -> Result<(), AllocError>
+    ensures { OnOk result (lines.new.items ≡ lines.old.items ++ row_line separator row.now last.now line.now) }
 {
     lines.extend_from_slice(row)?;
-    lines.extend_from_slice(b"\tNoColumn")?;
+    lines.push(separator.byte())?;
+    lines.extend_from_slice(last.as_bytes())?;
     append_end(lines, line)
 }
 
-/// Appends what follows a canonical field in a row, and one field more, which is empty.
-fn end_answered(lines: &mut Vec<u8>, after: &[u8], line: &[u8]) -> Result<(), AllocError>
-    ensures { OnOk result (lines.new.items ≡ lines.old.items ++ row_line after.now [] line.now) }
+/// Appends what follows the canonical text of a field in a row, and one field more, which is empty.
+fn end_answered(
+    lines: &mut Vec<u8>,
+    separator: Separator,
+    quotes: &[u8],
+    after: &[u8],
+    line: &[u8],
+) -> Result<(), AllocError>
+    ensures { OnOk result (lines.new.items ≡ lines.old.items ++ row_line separator (quotes.now ++ after.now) [] line.now) }
 {
+    lines.extend_from_slice(quotes)?;
     lines.extend_from_slice(after)?;
-    lines.push(b'\t')?;
+    lines.push(separator.byte())?;
     append_end(lines, line)
 }
 
-/// Appends a field that is refused, what follows it in a row, and one field more, which says why.
+/// Appends the text of a field that is refused, what follows it in a row, and one field more, which says why.
 fn end_refused(
     lines: &mut Vec<u8>,
+    separator: Separator,
     refusal: &TextRefusal,
-    field: &[u8],
+    text: &[u8],
+    quotes: &[u8],
     after: &[u8],
     line: &[u8],
 ) -> Result<(), OutOfMemory>
-    ensures { OnOk result (EndsRefused refusal.now field.now after.now line.now lines.old.items lines.new.items) }
+    ensures { OnOk result (EndsRefused separator refusal.now text.now quotes.now after.now line.now lines.old.items lines.new.items) }
 {
-    lines.extend_from_slice(field)?;
+    lines.extend_from_slice(text)?;
+    lines.extend_from_slice(quotes)?;
     lines.extend_from_slice(after)?;
-    lines.push(b'\t')?;
+    lines.push(separator.byte())?;
     append_told(lines, refusal)?;
     append_end(lines, line)?;
     Ok(())
@@ -64,29 +81,45 @@ pub(crate) fn append_row<L: Lookup>(
     lines: &mut Vec<u8>,
     alloc: Global,
     checked: &Checked<L>,
+    separator: Separator,
     before: usize,
-    recent: &mut Recent,
+    recent: &mut RecentAnswers,
     line: &[u8],
 ) -> Result<bool, OutOfMemory>
     ensures owed { IfOk result (λ refused. AreRecent (terms (L.listed checked.now) (LineForm.Row before)) recent.old
-        → AppendsReply (terms (L.listed checked.now) (LineForm.Row before)) line.now lines.old.items lines.new.items refused) }
+        → AppendsRowReply separator (L.listed checked.now) before line.now lines.old.items lines.new.items refused) }
     ensures recent { OnOk result (AreRecent (terms (L.listed checked.now) (LineForm.Row before)) recent.old
         → AreRecent (terms (L.listed checked.now) (LineForm.Row before)) recent.new) }
 {
     let row = without_return(line);
-    let Some((front, field, after)) = find_field(row, before) else {
-        append_short(lines, row, line)?;
+    let Some((front, field, after)) = find_field(separator, row, before) else {
+        append_longer(lines, separator, row, "NoColumn", line)?;
         return Ok(true);
     };
+    let (quotes, text) = text_in(separator, field);
     lines.extend_from_slice(front)?;
-    match append_field(lines, alloc, checked, before, recent, field)? {
+    lines.extend_from_slice(quotes)?;
+    match append_field(lines, alloc, checked, before, recent, text)? {
         None => {
-            end_answered(lines, after, line)?;
+            end_answered(lines, separator, quotes, after, line)?;
             Ok(false)
         }
         Some(refusal) => {
-            end_refused(lines, &refusal, field, after, line)?;
+            end_refused(lines, separator, &refusal, text, quotes, after, line)?;
             Ok(true)
         }
     }
+}
+
+/// Appends what is owed for the heading of a file of CSV.
+pub(crate) fn append_heading(lines: &mut Vec<u8>, line: &[u8]) -> Result<(), AllocError>
+    ensures { OnOk result (lines.new.items ≡ lines.old.items ++ row_line Separator.Comma (content_of line.now) (codes "langtag_fault") line.now) }
+{
+    append_longer(
+        lines,
+        Separator::Comma,
+        without_return(line),
+        "langtag_fault",
+        line,
+    )
 }

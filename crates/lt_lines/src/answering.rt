@@ -1,20 +1,20 @@
 //! Answering lines that come in pieces.
-ghost use Rattle.std.specs.Prelude.{◌≡◌, ◌<◌, ◌≤◌, ◌+◌, ◌++◌, ◌∷◌, ◌^◌, List, ℕ, [], IfOk, OnOk, length, take, vec_len};
-ghost use Rattle.lt_recent.specs.Recent.{IsBlank};
-ghost use Rattle.lt_lines.specs.Owed.{IsOneLine, terms};
+ghost use Rattle.std.specs.Prelude.{◌≡◌, ◌≤◌, ◌+◌, ◌-◌, ◌++◌, ◌∷◌, List, ℕ, [], false, IfOk, OnOk, length, take, vec_len};
+ghost use Rattle.lt_lines.specs.Owed.{IsOneLine, Terms, feeds_in, terms};
 ghost use Rattle.lt_lines.specs.Answering as spec;
 
 use crate::answer_lines::without_return;
-use crate::answer_rows::append_row;
+use crate::answer_rows::{append_heading, append_row};
 use crate::device_output::write_text;
 use crate::faults::ToolFault;
 use crate::forms::LineForm;
-use crate::recent_answers::append_again;
+use crate::quotes::after_text;
+use crate::recent_answers::{RecentAnswers, append_again};
+use crate::rows::Separator;
 use crate::runs::Counts;
 use crate::splitting::split_first;
 use lt_canon::Checked;
 use lt_jar::Device;
-use lt_recent::Recent;
 use lt_registry::Lookup;
 use lt_tag::OutOfMemory;
 use std::alloc::{AllocError, Global};
@@ -32,11 +32,15 @@ const FULL: usize = 65536;
 pub(crate) struct Answering {
     /// The front of the line that no line feed ended so far.
     kept: Vec<u8>,
+    /// Whether that ends within quotes, so that a line feed does not end it.
+    is_open: bool,
+    /// The line feeds so far.
+    feeds: u64,
     /// Lines that are owed and not yet written.
     owed: Vec<u8>,
     counts: Counts,
     /// Answers that were given lately.
-    recent: Recent,
+    recent: RecentAnswers,
 }
 
 /// Keeps more of a line, as far as it is needed.
@@ -48,7 +52,17 @@ fn keep(form: LineForm, kept: &mut Vec<u8>, part: &[u8]) -> Result<(), AllocErro
             let room = LONGEST_KEPT.saturating_sub(kept.len());
             kept.extend_from_slice(&part[..part.len().min(room)])
         }
-        LineForm::Row(_) => kept.extend_from_slice(part),
+        LineForm::Row(_) | LineForm::Csv(_) => kept.extend_from_slice(part),
+    }
+}
+
+/// Whether a line goes on after a line feed, by whether it would before these bytes, which are the last before it.
+fn is_open_after(form: LineForm, is_open: bool, part: &[u8]) -> bool
+    ensures { result ≡ spec.open_after form is_open part.now }
+{
+    match form {
+        LineForm::Tag | LineForm::Row(_) => false,
+        LineForm::Csv(_) => after_text(is_open, part),
     }
 }
 
@@ -58,13 +72,14 @@ fn append_reply<L: Lookup>(
     alloc: Global,
     checked: &Checked<L>,
     form: LineForm,
-    recent: &mut Recent,
+    is_first: bool,
+    recent: &mut RecentAnswers,
     text: &[u8],
     count: usize,
 ) -> Result<bool, OutOfMemory>
     requires { count ≤ length text.now }
     ensures owed { IfOk result (λ refused. spec.AreRecent (terms (L.listed checked.now) form) recent.old
-        → spec.AppendsReply (terms (L.listed checked.now) form) (take count text.now) lines.old.items lines.new.items refused) }
+        → spec.AppendsReply (terms (L.listed checked.now) form) is_first (take count text.now) lines.old.items lines.new.items refused) }
     ensures recent { OnOk result (spec.AreRecent (terms (L.listed checked.now) form) recent.old → spec.AreRecent (terms (L.listed checked.now) form) recent.new) }
 {
     let line = &text[..count];
@@ -77,7 +92,22 @@ fn append_reply<L: Lookup>(
             text,
             without_return(line).len(),
         ),
-        LineForm::Row(before) => append_row(lines, alloc, checked, before, recent, line),
+        LineForm::Row(before) => {
+            append_row(lines, alloc, checked, Separator::Tab, before, recent, line)
+        }
+        LineForm::Csv(_) if is_first => {
+            append_heading(lines, line)?;
+            Ok(false)
+        }
+        LineForm::Csv(before) => append_row(
+            lines,
+            alloc,
+            checked,
+            Separator::Comma,
+            before,
+            recent,
+            line,
+        ),
     }
 }
 
@@ -88,42 +118,104 @@ fn append_line<L: Lookup>(
     alloc: Global,
     checked: &Checked<L>,
     form: LineForm,
-    recent: &mut Recent,
+    is_first: bool,
+    recent: &mut RecentAnswers,
     kept: &mut Vec<u8>,
     text: &[u8],
     count: usize,
 ) -> Result<bool, OutOfMemory>
     requires { count ≤ length text.now }
     ensures owed { IfOk result (λ refused. spec.AreRecent (terms (L.listed checked.now) form) recent.old
-        → spec.AppendsLine (terms (L.listed checked.now) form) kept.old.items (take count text.now) lines.old.items lines.new.items refused) }
+        → spec.AppendsLine (terms (L.listed checked.now) form) is_first kept.old.items (take count text.now) lines.old.items lines.new.items refused) }
     ensures recent { OnOk result (spec.AreRecent (terms (L.listed checked.now) form) recent.old → spec.AreRecent (terms (L.listed checked.now) form) recent.new) }
 {
     if kept.is_empty() {
-        return append_reply(lines, alloc, checked, form, recent, text, count);
+        return append_reply(lines, alloc, checked, form, is_first, recent, text, count);
     }
     keep(form, kept, &text[..count])?;
-    append_reply(lines, alloc, checked, form, recent, kept, kept.len())
+    append_reply(
+        lines,
+        alloc,
+        checked,
+        form,
+        is_first,
+        recent,
+        kept,
+        kept.len(),
+    )
 }
 
 impl Answering {
     /// Nothing taken so far.
     pub(crate) fn new(alloc: Global) -> Answering
         ensures items { (result.kept.items ≡ []) × (result.owed.items ≡ []) }
+        ensures place { (result.is_open ≡ false) × (result.feeds ≡ 0) }
         ensures counts { (result.counts.lines ≡ 0) × (result.counts.refused ≡ 0) }
-        ensures recent { IsBlank result.recent }
+        ensures recent { (terms : Terms) → spec.AreRecent terms result.recent }
     {
         Answering {
             kept: Vec::new(alloc),
+            is_open: false,
+            feeds: 0,
             owed: Vec::new(alloc),
             counts: Counts {
                 lines: 0,
                 refused: 0,
             },
-            recent: Recent::new(alloc),
+            recent: RecentAnswers::new(alloc),
         }
     }
 
     /// Answers the line that the first `count` bytes of a text end.
+    #[inline(always)]
+    fn answer_line<L: Lookup>(
+        &mut self,
+        alloc: Global,
+        checked: &Checked<L>,
+        form: LineForm,
+        text: &[u8],
+        count: usize,
+    ) -> Result<(), OutOfMemory>
+        requires room { spec.HasRoom self.old 1 }
+        requires count { count ≤ length text.now }
+        ensures taken { OnOk result ((bytes out : List ℕ) → spec.IsWholeAfter form self.old.is_open (take count text.now) → spec.IsTaken (terms (L.listed checked.now) form) bytes out self.old
+            → spec.IsTaken (terms (L.listed checked.now) form) (bytes ++ (take count text.now ++ 10 ∷ [])) out self.new) }
+        ensures kept { OnOk result (self.new.kept.items ≡ []) }
+        ensures counted { OnOk result (spec.CountsFeed self.old self.new) }
+    {
+        let refused = append_line(
+            &mut self.owed,
+            alloc,
+            checked,
+            form,
+            self.counts.lines == 0,
+            &mut self.recent,
+            &mut self.kept,
+            text,
+            count,
+        )?;
+        self.counts.count(refused);
+        self.kept.clear();
+        self.is_open = false;
+        self.feeds += 1;
+        Ok(())
+    }
+
+    /// Keeps the bytes before a line feed, and the line feed.
+    #[inline(never)]
+    fn go_on(&mut self, form: LineForm, part: &[u8]) -> Result<(), OutOfMemory>
+        requires { spec.HasRoom self.old 1 }
+        ensures taken { OnOk result (spec.GoesOn form part.now self.old self.new) }
+    {
+        keep(form, &mut self.kept, part)?;
+        keep(form, &mut self.kept, b"\n")?;
+        self.is_open = true;
+        self.feeds += 1;
+        Ok(())
+    }
+
+    /// Answers the line that the first `count` bytes of a text end, unless the line feed after them is within quotes.
+    #[inline(always)]
     fn end_line<L: Lookup>(
         &mut self,
         alloc: Global,
@@ -136,22 +228,13 @@ impl Answering {
         requires count { count ≤ length text.now }
         ensures taken { OnOk result ((bytes out : List ℕ) → IsOneLine (take count text.now) → spec.IsTaken (terms (L.listed checked.now) form) bytes out self.old
             → spec.IsTaken (terms (L.listed checked.now) form) (bytes ++ (take count text.now ++ 10 ∷ [])) out self.new) }
-        ensures kept { OnOk result (self.new.kept.items ≡ []) }
-        ensures counted { OnOk result ((self.new.counts.lines ≡ self.old.counts.lines + 1) × (self.new.counts.refused ≤ self.new.counts.lines)) }
+        ensures counted { OnOk result (spec.CountsFeed self.old self.new) }
     {
-        let refused = append_line(
-            &mut self.owed,
-            alloc,
-            checked,
-            form,
-            &mut self.recent,
-            &mut self.kept,
-            text,
-            count,
-        )?;
-        self.counts.count(refused);
-        self.kept.clear();
-        Ok(())
+        let part = &text[..count];
+        if is_open_after(form, self.is_open, part) {
+            return self.go_on(form, part);
+        }
+        self.answer_line(alloc, checked, form, text, count)
     }
 
     /// Writes what is owed.
@@ -193,6 +276,7 @@ impl Answering {
             self.write_much(output)?;
             rest = after;
         }
+        self.is_open = is_open_after(form, self.is_open, rest);
         keep(form, &mut self.kept, rest)?;
         self.write(output)
     }
@@ -204,14 +288,41 @@ impl Answering {
         checked: &Checked<L>,
         form: LineForm,
     ) -> Result<(), OutOfMemory>
-        requires { spec.HasRoom self.old 1 }
+        requires room { spec.HasRoom self.old 1 }
+        requires closed { self.old.is_open ≡ false }
         ensures { OnOk result ((bytes out : List ℕ) → spec.IsTaken (terms (L.listed checked.now) form) bytes out self.old
             → spec.IsAnswered (terms (L.listed checked.now) form) bytes out self.new) }
     {
         if self.kept.is_empty() {
             return Ok(());
         }
-        self.end_line(alloc, checked, form, &[], 0)
+        self.answer_line(alloc, checked, form, &[], 0)
+    }
+
+    /// The line, counted from 1, in which what is kept begins.
+    fn kept_from(&self) -> u64
+        requires { spec.HasRoom self.now 1 }
+        ensures { result ≡ (self.now.feeds - feeds_in self.now.kept.items) + 1 }
+    {
+        let within = self.kept.iter().filter(|byte| **byte == b'\n').count();
+        self.feeds.saturating_sub(within as u64) + 1
+    }
+
+    /// Ends the lines, and writes what is owed; no quote is open.
+    fn finish_closed<L: Lookup, W: Write>(
+        &mut self,
+        alloc: Global,
+        checked: &Checked<L>,
+        form: LineForm,
+        output: &mut Device<W>,
+    ) -> Result<Counts, ToolFault>
+        requires room { spec.HasRoom self.old 1 }
+        requires closed { self.old.is_open ≡ false }
+        ensures { spec.FinishesLines (terms (L.listed checked.now) form) W.contents self.old output.old output.new result }
+    {
+        self.end_last(alloc, checked, form)?;
+        self.write(output)?;
+        Ok(self.counts)
     }
 
     /// Ends the lines, and writes what is owed.
@@ -225,8 +336,9 @@ impl Answering {
         requires { spec.HasRoom self.old 1 }
         ensures { spec.FinishesLines (terms (L.listed checked.now) form) W.contents self.old output.old output.new result }
     {
-        self.end_last(alloc, checked, form)?;
-        self.write(output)?;
-        Ok(self.counts)
+        if self.is_open {
+            return Err(ToolFault::BadCsv(self.kept_from()));
+        }
+        self.finish_closed(alloc, checked, form, output)
     }
 }

@@ -1,7 +1,11 @@
 //! Writing to a device.
+ghost use Rattle.std.specs.Prelude.{◌++◌, ◌∷◌, []};
+ghost use Rattle.std.specs.Fmt.{decimal};
 ghost use Rattle.lt_lines.specs.DeviceOutput.{WritesText};
+ghost use Rattle.lt_lines.specs.Faults.{fault_said, place_said};
 
 use crate::faults::ToolFault;
+use itoa::Buffer;
 use lt_jar::Device;
 use std::io::Write;
 
@@ -19,4 +23,25 @@ pub fn write_text<W: Write>(text: &[u8], output: &mut Device<W>) -> Result<(), T
         }
     }
     Ok(())
+}
+
+/// Writes what is said of a fault after its name.
+fn write_place<W: Write>(fault: ToolFault, output: &mut Device<W>) -> Result<(), ToolFault>
+    ensures { WritesText W.contents (place_said fault) output.old output.new result }
+{
+    let ToolFault::BadCsv(line) = fault else {
+        return Ok(());
+    };
+    write_text(b" line ", output)?;
+    write_text(Buffer::new().format(line).as_bytes(), output)
+}
+
+/// Writes the line that says what ended a run, as `! Read` or `! BadCsv line 3`, as [`write_text`] writes a text.
+pub fn write_fault<W: Write>(fault: ToolFault, output: &mut Device<W>) -> Result<(), ToolFault>
+    ensures { WritesText W.contents (fault_said fault) output.old output.new result }
+{
+    write_text(b"! ", output)?;
+    write_text(fault.name().as_bytes(), output)?;
+    write_place(fault, output)?;
+    write_text(b"\n", output)
 }

@@ -1,6 +1,6 @@
 //! What ends a run over lines.
 ghost use Rattle.std.specs.Prelude.{◌≡◌};
-ghost use Rattle.lt_lines.specs.Faults.{fault_said, tool_name_of};
+ghost use Rattle.lt_lines.specs.Faults.{tool_name_of};
 ghost use Rattle.lt_lines.specs.declared.faults.ToolFault.TheVariants as faults;
 
 use lt_tag::OutOfMemory;
@@ -17,6 +17,8 @@ pub enum ToolFault {
     TooManyTurns,
     /// Memory ran out.
     OutOfMemory,
+    /// The reader ended within the quotes of a record of CSV, which begins in this line, counted from 1.
+    BadCsv(u64),
 }
 
 impl ToolFault {
@@ -29,20 +31,7 @@ impl ToolFault {
             ToolFault::Write => "Write",
             ToolFault::TooManyTurns => "TooManyTurns",
             ToolFault::OutOfMemory => "OutOfMemory",
-        }
-    }
-}
-
-impl ToolFault {
-    /// The line that says what ended the run: `! Read`, with a line feed.
-    pub fn line(self) -> &'static str
-        ensures { result.now ≡ fault_said self }
-    {
-        match self {
-            ToolFault::Read => "! Read\n",
-            ToolFault::Write => "! Write\n",
-            ToolFault::TooManyTurns => "! TooManyTurns\n",
-            ToolFault::OutOfMemory => "! OutOfMemory\n",
+            ToolFault::BadCsv(_) => "BadCsv",
         }
     }
 }

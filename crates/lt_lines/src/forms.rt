@@ -11,4 +11,9 @@ pub enum LineForm {
     /// field more, which is empty; or by the row as it is, and one field more that says why: why the tag is refused, or
     /// `NoColumn` where there are too few fields.
     Row(usize),
+    /// A record of CSV (RFC 4180, 2): a line, or lines where line feeds are within quotes. The first is the heading,
+    /// which is answered by itself and one field more, `langtag_fault`. Any other is answered as a row is, with commas
+    /// between its fields; those within quotes part none. The text of a field with a quote at both ends is what is
+    /// between them, and they stay.
+    Csv(usize),
 }

@@ -8,13 +8,14 @@ mod answering;
 mod device_output;
 mod faults;
 mod forms;
+mod quotes;
 mod recent_answers;
 mod rows;
 mod runs;
 mod splitting;
 
 pub use answer_lines::append_refusal;
-pub use device_output::write_text;
+pub use device_output::{write_fault, write_text};
 pub use faults::ToolFault;
 pub use forms::LineForm;
 pub use runs::{Counts, run_lines};

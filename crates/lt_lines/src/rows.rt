@@ -1,17 +1,48 @@
 //! The fields of a row.
-ghost use Rattle.std.specs.Prelude.{◌≡◌, ◌++◌, MatchOption};
-ghost use Rattle.lt_lines.specs.Rows.{HasFewer, HasField, IsAfterField, IsField, Skips};
+ghost use Rattle.std.specs.Prelude.{◌≡◌, ◌++◌, ◌↔◌, IsTrue, MatchOption};
+ghost use Rattle.lt_lines.specs.Rows.{HasFewer, HasField, IsAfterField, IsField, IsQuoted, IsTextIn, Skips, SplitsField, separator};
 
+use crate::quotes::split_outside;
 use crate::splitting::split_first;
-use memchr::memchr;
+
+/// What is between the fields of a row.
+#[derive(Clone, Copy, Debug, PartialEq, Eq)]
+pub(crate) enum Separator {
+    /// A tab.
+    Tab,
+    /// A comma outside of quotes.
+    Comma,
+}
+
+impl Separator {
+    /// Its byte.
+    pub(crate) fn byte(self) -> u8
+        ensures { result ≡ separator self }
+    {
+        match self {
+            Separator::Tab => b'\t',
+            Separator::Comma => b',',
+        }
+    }
+
+    /// The first field of the rest of a row and what is after the separator that ends it, if one does.
+    fn split(self, rest: &[u8]) -> Option<(&[u8], &[u8])>
+        ensures { SplitsField self rest.now result }
+    {
+        match self {
+            Separator::Tab => split_first(b'\t', rest),
+            Separator::Comma => split_outside(b',', rest),
+        }
+    }
+}
 
 /// The rest of a row, after this many fields, if it has more.
-fn skip_fields(row: &[u8], count: usize) -> Option<&[u8]>
-    ensures { MatchOption result (HasFewer count row.now) (λ rest. Skips count row.now rest.now) }
+fn skip_fields(separator: Separator, row: &[u8], count: usize) -> Option<&[u8]>
+    ensures { MatchOption result (HasFewer separator count row.now) (λ rest. Skips separator count row.now rest.now) }
 {
     let mut rest = row;
     for _field in 0..count {
-        match split_first(b'\t', rest) {
+        match separator.split(rest) {
             Some((_, after)) => rest = after,
             None => return None,
         }
@@ -20,19 +51,43 @@ fn skip_fields(row: &[u8], count: usize) -> Option<&[u8]>
 }
 
 /// The first field of the rest of a row, and what follows it.
-fn first_field(rest: &[u8]) -> (&[u8], &[u8])
-    ensures field { IsField result.0.now }
-    ensures after { IsAfterField result.1.now }
+fn first_field(separator: Separator, rest: &[u8]) -> (&[u8], &[u8])
+    ensures field { IsField separator result.0.now }
+    ensures after { IsAfterField separator result.0.now result.1.now }
     ensures whole { rest.now ≡ result.0.now ++ result.1.now }
 {
-    rest.split_at(memchr(b'\t', rest).unwrap_or(rest.len()))
+    match separator.split(rest) {
+        Some((field, _)) => rest.split_at(field.len()),
+        None => rest.split_at(rest.len()),
+    }
 }
 
 /// The field of a row after this many others, with what is before it and what follows it, if there is one.
-pub(crate) fn find_field(row: &[u8], count: usize) -> Option<(&[u8], &[u8], &[u8])>
-    ensures { MatchOption result (HasFewer count row.now) (λ p. HasField count row.now p.0.now p.1.now p.2.now) }
+pub(crate) fn find_field(
+    separator: Separator,
+    row: &[u8],
+    count: usize,
+) -> Option<(&[u8], &[u8], &[u8])>
+    ensures { MatchOption result (HasFewer separator count row.now) (λ p. HasField separator count row.now p.0.now p.1.now p.2.now) }
 {
-    let rest = skip_fields(row, count)?;
-    let (field, after) = first_field(rest);
+    let rest = skip_fields(separator, row, count)?;
+    let (field, after) = first_field(separator, rest);
     Some((&row[..row.len().saturating_sub(rest.len())], field, after))
+}
+
+/// What is at both ends of the text of a field, a quote or nothing, and the text.
+pub(crate) fn text_in(separator: Separator, field: &[u8]) -> (&'static [u8], &[u8])
+    ensures { IsTextIn separator field.now result.0.now result.1.now }
+{
+    match separator {
+        Separator::Comma if is_quoted(field) => (b"\"", &field[1..field.len() - 1]),
+        _ => (b"", field),
+    }
+}
+
+/// Whether a quote is at both ends of a field.
+fn is_quoted(field: &[u8]) -> bool
+    ensures { IsTrue result ↔ IsQuoted field.now }
+{
+    field.len() > 1 && field[0] == b'"' && field[field.len() - 1] == b'"'
 }

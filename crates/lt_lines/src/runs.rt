@@ -46,9 +46,11 @@ impl Counts {
 /// its canonical text, or by `! `, the name of the fault and its place, or by `! ReplacementRepeats ` and the
 /// variant in lower case.
 ///
-/// A line feed ends a line, and what follows the last one is a line if it is anything. What is owed for the
-/// lines of the bytes that were read is written before the next read. A row is kept whole until it is answered.
+/// A line feed ends a line, in CSV where it is not within quotes, and what follows the last one is a line if it is anything. What is owed for the
+/// lines of the bytes that were read is written before the next read. A row or a record is kept whole until it is
+/// answered.
 ///
+/// - `BadCsv`, if the reader's bytes end within the quotes of a record: the records before it have been answered.
 /// - `Read`, if a read fails: what is owed for each line whose line feed was read has been written.
 /// - `TooManyTurns`, if all 10,000,000 reads were made and the last gave bytes: the same has been written.
 /// - `Write`, if a write fails or takes none of some bytes, and `OutOfMemory`: a front of what is owed was

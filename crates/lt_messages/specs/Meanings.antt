@@ -23,7 +23,7 @@ tag_faults =
     codes "DuplicateSingleton: An extension stands twice: join the two, or remove one." ∷
     codes "BadTransform: A t extension without its form: mend it: a language, and fields such as m0-names." ∷
     codes "ReplacementRepeats: Replacements would repeat the variant that is named: remove one of the variants." ∷
-    codes "NoColumn: The row has too few fields (tsv): name another column, or mend the row." ∷
+    codes "NoColumn: The row has too few fields (tsv, csv): name another column, or mend the row." ∷
     []
 
 -- lines that explain no tag
@@ -90,6 +90,7 @@ stream_faults =
     codes "TooManyTurns: 10,000,000 reads did not come to the end: give the bytes in larger pieces." ∷
     codes "Write: The output can't be written: see whether it is closed, or the disk is full." ∷
     codes "OutOfMemory: No memory was left: end other programs, or use a larger machine." ∷
+    codes "BadCsv: The input ends within the quotes of a record (csv), which begins in the line that is named: close them, or double a quote that stands for itself." ∷
     []
 
 -- all messages, in the order in which they are looked through

@@ -1,5 +1,5 @@
 -- What is seen of a text that is written, byte after byte.
-use Rattle.std.specs.Prelude.{ℕ, ◌+◌, ◌-◌, ◌^◌, ◌==◌, if◌then◌else◌, List, [], ◌∷◌, ◌++◌, Option, Some, None, bytes_eq, codes, fold, length, min, nat_lt}
+use Rattle.std.specs.Prelude.{ℕ, ◌+◌, ◌-◌, ◌^◌, ◌==◌, ◌||◌, if◌then◌else◌, List, [], ◌∷◌, ◌++◌, Option, Some, None, bytes_eq, codes, fold, length, min, nat_lt}
 use Rattle.lt_messages.specs.Meanings.{message_of}
 
 -- what was seen
@@ -55,11 +55,11 @@ after_space s =
 abbrev pub with_byte : List ℕ → ℕ → List ℕ
 with_byte word byte = if nat_lt (length word) 20 then word ++ byte ∷ [] else word
 
--- A line feed ends a line, a tab a field, and a space a word. Carriage returns are passed over.
+-- A line feed ends a line, a tab or a comma a field, and a space a word. Carriage returns are passed over.
 abbrev pub after_byte : Seen → ℕ → Seen
 after_byte s byte =
     if byte == 10 then after_line s (told_with_word s)
-    else if byte == 9 then record s { told = None; word = [] }
+    else if byte == 9 || byte == 44 then record s { told = None; word = [] }
     else if byte == 32 then after_space s
     else if byte == 13 then s
     else record s { word = with_byte s.word byte }

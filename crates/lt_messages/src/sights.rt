@@ -126,7 +126,7 @@ impl Sight {
                 let told = self.told_with_word();
                 self.end_line(told);
             }
-            b'\t' => {
+            b'\t' | b',' => {
                 self.told = None;
                 self.word.clear();
             }

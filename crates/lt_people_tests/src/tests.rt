@@ -69,8 +69,8 @@ fn goes(alloc: Global, run: &Run) -> bool {
 const BAD_LINE: &str =
     "BadLine: Neither a field, %%, nor a continuation. This is no registry, or not its plain text: get one from https://www.iana.org/assignments/language-subtag-registry/language-subtag-registry, or remove a byte order mark.\n";
 
-/// Runs over lines and rows.
-const COUNTED: [Run; 7] = [
+/// Runs over lines, rows and records.
+const COUNTED: [Run; 9] = [
     (
         &["canon", "new"],
         "EN\nen\n",
@@ -110,6 +110,22 @@ const COUNTED: [Run; 7] = [
         "",
         "1 lines, 0 refused\n",
         Status::Done,
+    ),
+    (
+        &["csv", "new", "2"],
+        "ok 0,tag\nBadByte 1,\"de\"\r\n1\n",
+        "ok 0,tag,langtag_fault\nBadByte 1,\"de\",UnknownLanguage 1\r\n1,NoColumn\n",
+        "",
+        "UnknownLanguage: The registry lacks the language: correct it, or get a newer registry.\n",
+        Status::Refused,
+    ),
+    (
+        &["csv", "new", "1"],
+        "tag\n\"en",
+        "tag,langtag_fault\n",
+        "! BadCsv line 2\n",
+        "BadCsv: The input ends within the quotes of a record (csv), which begins in the line that is named: close them, or double a quote that stands for itself.\n",
+        Status::Failed,
     ),
     (
         &["canon", "other"],

@@ -111,6 +111,8 @@ Performs (command.Canon name) first second input output errors result =
     IsUntouched second × ReadsFile first (Canonicalises forms.Tag input output errors result)
 Performs (command.Tsv name column) first second input output errors result =
     IsUntouched second × ReadsFile first (Canonicalises (forms.Row (column - 1)) input output errors result)
+Performs (command.Csv name column) first second input output errors result =
+    IsUntouched second × ReadsFile first (Canonicalises (forms.Csv (column - 1)) input output errors result)
 Performs (command.Extlang name tag) first second input output errors result =
     IsUntouched second × IsUntouched input
     × PrintsByFile (ByRegistry (λ R. FormsExtlang R (string_bytes tag))) first output errors result

@@ -1,5 +1,6 @@
 //! What a run of the program writes.
 ghost use Rattle.std.specs.Prelude.{◌≡◌};
+ghost use Rattle.lt_lines.specs.Faults.{fault_said};
 ghost use Rattle.lt_tool.specs.Codes.{code_of};
 ghost use Rattle.lt_tool.specs.Streams.{stream};
 ghost use Rattle.lt_tool.specs.Written.{Prints, Says, file_line, memory_line};
@@ -14,7 +15,7 @@ use crate::tag_commands::{equal, explain, extlang};
 use crate::upgrade_command::upgrade;
 use crate::verifying::verify;
 use lt_jar::Device;
-use lt_lines::{Counts, LineForm, ToolFault, run_lines, write_text};
+use lt_lines::{Counts, LineForm, ToolFault, run_lines, write_fault, write_text};
 use lt_tag::OutOfMemory;
 use lt_words::{Command, WordsFault};
 use std::alloc::Global;
@@ -25,6 +26,13 @@ pub(crate) fn say<E: Write>(text: &[u8], errors: &mut Device<E>)
     ensures { Says (stream E.contents errors.old errors.new) text.now }
 {
     let _ = write_text(text, errors);
+}
+
+/// Says what ended a run, as [`say`] says a text.
+pub(crate) fn say_fault<E: Write>(fault: ToolFault, errors: &mut Device<E>)
+    ensures { Says (stream E.contents errors.old errors.new) (fault_said fault) }
+{
+    let _ = write_fault(fault, errors);
 }
 
 /// Prints a text, for a run that ends so.
@@ -39,7 +47,7 @@ fn print<O: Write, E: Write>(
     match write_text(text, output) {
         Ok(()) => end,
         Err(fault) => {
-            say(fault.line().as_bytes(), errors);
+            say_fault(fault, errors);
             Status::Failed
         }
     }
@@ -62,7 +70,7 @@ fn end_run<E: Write>(end: Result<Counts, ToolFault>, errors: &mut Device<E>) -> 
         Ok(counts) if counts.refused == 0 => Status::Done,
         Ok(_) => Status::Refused,
         Err(fault) => {
-            say(fault.line().as_bytes(), errors);
+            say_fault(fault, errors);
             Status::Failed
         }
     }
@@ -122,6 +130,10 @@ fn run<F: Read, G: Read, I: Read, O: Write, E: Write>(
             let form = LineForm::Row(column.saturating_sub(1));
             answer_lines(alloc, form, first, input, output, errors)
         }
+        Command::Csv(_, column) => {
+            let form = LineForm::Csv(column.saturating_sub(1));
+            answer_lines(alloc, form, first, input, output, errors)
+        }
         Command::Extlang(_, tag) => {
             print_answer(extlang(alloc, first, tag.as_bytes()), output, errors)
         }
@@ -141,11 +153,11 @@ fn run<F: Read, G: Read, I: Read, O: Write, E: Write>(
 ///
 /// `first` and `second` are the files that the command names, in order; one that it does not name is left as it
 /// is, and so is the second of `upgrade` where the first is refused. A file is read record by record, up to its
-/// end or the first line at fault. The answer is written to `output` at once; `canon` and `tsv` answer the
-/// lines of `input` as they come, and `verify` reads them up to the first that settles its answer.
+/// end or the first line at fault. The answer is written to `output` at once; `canon`, `tsv` and `csv` answer the
+/// lines or records of `input` as they come, and `verify` reads them up to the first that settles its answer.
 ///
 /// A read of a file that fails, or is one too many, is answered as a fault of the file. A write to `output`
-/// that fails, a read of `input` that fails, and an allocation that fails are named on `errors`; a write there
+/// that fails, a read of `input` that fails, its end within quotes, and an allocation that fails are named on `errors`; a write there
 /// that fails is counted by the device alone.
 pub fn perform<F: Read, G: Read, I: Read, O: Write, E: Write>(
     alloc: Global,

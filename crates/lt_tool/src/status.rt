@@ -7,13 +7,14 @@ ghost use Rattle.lt_tool.specs.Codes.{code_of};
 pub enum Status {
     /// All that was asked for was done, help and the version included.
     Done = 0,
-    /// A tag or a row was refused, two tags are different, or lines explain no tag.
+    /// A tag, a row or a record was refused, two tags are different, or lines explain no tag.
     Refused = 1,
     /// A registry or an upgrade was refused.
     RegistryRefused = 2,
     /// The words name no command.
     Usage = 3,
-    /// A file was not opened, a read or a write failed, the reads were too many, or memory ran out.
+    /// A file was not opened, a read or a write failed, the reads were too many, records of CSV end within quotes, or
+    /// memory ran out.
     Failed = 4,
 }
 

@@ -9,7 +9,7 @@ ghost use Rattle.lt_tool.specs.Streams.{stream};
 ghost use Rattle.lt_tool.specs.Verified.{EndsVerifying, IsVerifyRefusal, PrintsVerdict, Verifies, VerifiesText};
 
 use crate::lines::{Answer, answer_refusal};
-use crate::printing::{print_answer, say};
+use crate::printing::{print_answer, say_fault};
 use crate::registries::{read_registry, refuse};
 use crate::status::Status;
 use lt_canon::{Checked, Refusal, TextRefusal};
@@ -73,7 +73,7 @@ fn end_verifying<O: Write, E: Write>(
     match end {
         Ok(verdict) => print_answer(answer_verdict(alloc, verdict), output, errors),
         Err(fault) => {
-            say(fault.line().as_bytes(), errors);
+            say_fault(fault, errors);
             Status::Failed
         }
     }

@@ -2,6 +2,7 @@
 mod growths;
 mod hostile;
 mod program;
+mod records;
 mod registries;
 mod rows;
 mod tags;
@@ -171,11 +172,12 @@ fn words_that_ask_for_the_version(rt: HostRuntime) {
 }
 
 /// Words, and the file that their command names first.
-const FILES: [(&[&str], Option<&str>); 9] = [
+const FILES: [(&[&str], Option<&str>); 10] = [
     (&["classify", "en"], None),
     (&["check", "registry"], Some("registry")),
     (&["canon", "registry"], Some("registry")),
     (&["tsv", "registry", "1"], Some("registry")),
+    (&["csv", "registry", "1"], Some("registry")),
     (&["extlang", "registry", "en"], Some("registry")),
     (&["equal", "registry", "en", "fr"], Some("registry")),
     (&["explain", "registry", "en"], Some("registry")),
@@ -204,6 +206,7 @@ fn reads_input(read: &Result<Command, WordsFault>) -> bool {
 fn commands_that_read_the_input(rt: HostRuntime) {
     assert!(rt; reads_input(&read(rt.alloc(), &["canon", "registry"])));
     assert!(rt; reads_input(&read(rt.alloc(), &["tsv", "registry", "1"])));
+    assert!(rt; reads_input(&read(rt.alloc(), &["csv", "registry", "1"])));
     assert!(rt; reads_input(&read(rt.alloc(), &["verify", "registry", "en"])));
     assert!(rt; !reads_input(&read(rt.alloc(), &["check", "registry"])));
 }

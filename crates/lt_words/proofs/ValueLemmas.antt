@@ -51,25 +51,26 @@ lacks_other rows first others fault.OutOfMemory lacks = tt
 
 -- ---- subcommands
 
--- the subcommand by two letters of its name
-by_letters : ℕ → Subcommand
-by_letters a =
+-- the subcommand by the third letter of its name, and the first
+by_letters : ℕ → ℕ → Subcommand
+by_letters a first =
     if a == 97 then sub.Classify
     else if a == 101 then sub.Check
     else if a == 110 then sub.Canon
-    else if a == 118 then sub.Tsv
+    else if a == 118 then (if first == 116 then sub.Tsv else sub.Csv)
     else if a == 116 then sub.Extlang
     else if a == 117 then sub.Equal
     else if a == 112 then sub.Explain
     else if a == 114 then sub.Verify
     else sub.Upgrade
 
-named_back : (s : Subcommand) → by_letters (slice_index (name_of s) 2) ≡ s
+named_back : (s : Subcommand) → by_letters (slice_index (name_of s) 2) (slice_index (name_of s) 0) ≡ s
 unfolding by_letters
 named_back sub.Classify = refl
 named_back sub.Check = refl
 named_back sub.Canon = refl
 named_back sub.Tsv = refl
+named_back sub.Csv = refl
 named_back sub.Extlang = refl
 named_back sub.Equal = refl
 named_back sub.Explain = refl
@@ -78,7 +79,7 @@ named_back sub.Upgrade = refl
 
 -- a name is that of one subcommand
 pub one_named : (s other : Subcommand) → name_of s ≡ name_of other → s ≡ other
-one_named s other e = sym (named_back s) ∙ ap (λ (name : Text). by_letters (slice_index name 2)) e ∙ named_back other
+one_named s other e = sym (named_back s) ∙ ap (λ (name : Text). by_letters (slice_index name 2) (slice_index name 0)) e ∙ named_back other
 
 name_in : Option (Text × List Row) → Text
 name_in None = []

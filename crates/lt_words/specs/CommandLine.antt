@@ -30,6 +30,7 @@ name_of sub.Classify = codes "classify"
 name_of sub.Check = codes "check"
 name_of sub.Canon = codes "canon"
 name_of sub.Tsv = codes "tsv"
+name_of sub.Csv = codes "csv"
 name_of sub.Extlang = codes "extlang"
 name_of sub.Equal = codes "equal"
 name_of sub.Explain = codes "explain"
@@ -42,6 +43,7 @@ positionals_of sub.Classify = codes "TAG" ∷ []
 positionals_of sub.Check = codes "REGISTRY" ∷ []
 positionals_of sub.Canon = codes "REGISTRY" ∷ []
 positionals_of sub.Tsv = codes "REGISTRY" ∷ codes "COLUMN" ∷ []
+positionals_of sub.Csv = codes "REGISTRY" ∷ codes "COLUMN" ∷ []
 positionals_of sub.Extlang = codes "REGISTRY" ∷ codes "TAG" ∷ []
 positionals_of sub.Equal = codes "REGISTRY" ∷ codes "TAG" ∷ codes "OTHER" ∷ []
 positionals_of sub.Explain = codes "REGISTRY" ∷ codes "TAG" ∷ []
@@ -51,7 +53,7 @@ positionals_of sub.Upgrade = codes "OLD" ∷ codes "NEW" ∷ []
 -- the subcommands, in the order in which help names them
 abbrev pub subcommands : List Subcommand
 subcommands =
-    sub.Classify ∷ sub.Check ∷ sub.Canon ∷ sub.Tsv ∷ sub.Extlang
+    sub.Classify ∷ sub.Check ∷ sub.Canon ∷ sub.Tsv ∷ sub.Csv ∷ sub.Extlang
     ∷ sub.Equal ∷ sub.Explain ∷ sub.Verify ∷ sub.Upgrade ∷ []
 
 -- a program with these subcommands, in this order

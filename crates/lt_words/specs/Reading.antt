@@ -18,6 +18,7 @@ subcommand_for (command.Classify tag) = sub.Classify
 subcommand_for (command.Check file) = sub.Check
 subcommand_for (command.Canon file) = sub.Canon
 subcommand_for (command.Tsv file column) = sub.Tsv
+subcommand_for (command.Csv file column) = sub.Csv
 subcommand_for (command.Extlang file tag) = sub.Extlang
 subcommand_for (command.Equal file tag other) = sub.Equal
 subcommand_for (command.Explain file tag) = sub.Explain
@@ -37,6 +38,8 @@ AreValues (command.Classify tag) texts = texts ≡ string_bytes tag ∷ []
 AreValues (command.Check file) texts = texts ≡ string_bytes file ∷ []
 AreValues (command.Canon file) texts = texts ≡ string_bytes file ∷ []
 AreValues (command.Tsv file column) texts =
+    (text : Text) × IsColumn text column × (texts ≡ string_bytes file ∷ text ∷ [])
+AreValues (command.Csv file column) texts =
     (text : Text) × IsColumn text column × (texts ≡ string_bytes file ∷ text ∷ [])
 AreValues (command.Extlang file tag) texts = texts ≡ string_bytes file ∷ string_bytes tag ∷ []
 AreValues (command.Equal file tag other) texts = texts ≡ string_bytes file ∷ string_bytes tag ∷ string_bytes other ∷ []
@@ -62,6 +65,7 @@ first_file_of (command.Classify tag) = None
 first_file_of (command.Check file) = Some (string_bytes file)
 first_file_of (command.Canon file) = Some (string_bytes file)
 first_file_of (command.Tsv file column) = Some (string_bytes file)
+first_file_of (command.Csv file column) = Some (string_bytes file)
 first_file_of (command.Extlang file tag) = Some (string_bytes file)
 first_file_of (command.Equal file tag other) = Some (string_bytes file)
 first_file_of (command.Explain file tag) = Some (string_bytes file)
@@ -77,10 +81,11 @@ second_file_of _ = None
 abbrev pub reads_input_of : Command → Bool
 reads_input_of (command.Canon file) = true
 reads_input_of (command.Tsv file column) = true
+reads_input_of (command.Csv file column) = true
 reads_input_of (command.Verify file tag) = true
 reads_input_of _ = false
 
--- whether it answers each of its lines
+-- whether it answers each of its lines by one line
 abbrev pub answers_lines_of : Command → Bool
 answers_lines_of (command.Canon file) = true
 answers_lines_of (command.Tsv file column) = true

@@ -15,6 +15,9 @@ pub enum Command {
     /// The rows of the input, the field of this number (counted from 1) in canonical form, by the registry of
     /// this file, which comes first.
     Tsv(String, usize),
+    /// The records of CSV of the input, the field of this number (counted from 1) in canonical form, by the registry of
+    /// this file, which comes first.
+    Csv(String, usize),
     /// The extlang form of this tag, by the registry of this file, which comes first.
     Extlang(String, String),
     /// Whether these two tags are equivalent, by the registry of this file, which comes first.
@@ -34,26 +37,28 @@ impl Command {
     {
         match self {
             Command::Classify(_) => None,
-            Command::Check(file) | Command::Canon(file) | Command::Tsv(file, _) => {
-                Some(file.as_str())
-            }
+            Command::Check(file) | Command::Canon(file) => Some(file.as_str()),
+            Command::Tsv(file, _) | Command::Csv(file, _) => Some(file.as_str()),
             Command::Extlang(file, _) | Command::Explain(file, _) => Some(file.as_str()),
             Command::Verify(file, _) => Some(file.as_str()),
             Command::Equal(file, _, _) | Command::Upgrade(file, _) => Some(file.as_str()),
         }
     }
 
-    /// Whether the command reads the standard input, whatever file it names: `canon`, `tsv` and `verify` do.
+    /// Whether the command reads the standard input, whatever file it names: `canon`, `tsv`, `csv` and `verify`
+    /// do.
     pub fn reads_input(&self) -> bool
         ensures { result ≡ reads_input_of self.now }
     {
         match self {
-            Command::Canon(_) | Command::Tsv(_, _) | Command::Verify(_, _) => true,
+            Command::Canon(_) | Command::Verify(_, _) => true,
+            Command::Tsv(_, _) | Command::Csv(_, _) => true,
             _ => false,
         }
     }
 
-    /// Whether the command answers each line of the standard input: `canon` and `tsv` do.
+    /// Whether the command answers each line of the standard input by one line: `canon` and `tsv` do. A record of CSV
+    /// may have more lines.
     pub fn answers_lines(&self) -> bool
         ensures { result ≡ answers_lines_of self.now }
     {

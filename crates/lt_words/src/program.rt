@@ -50,10 +50,10 @@ Status:
   1  a tag was refused, or the tags are different, or the steps are no explanation
   2  a registry or an upgrade was refused
   3  the words name no command
-  4  a file, the output or memory failed";
+  4  a file, the input, the output or memory failed";
 
 /// The version, and the line of the kit that proves and builds the program.
-const VERSION: &str = "1.0.0 (rattle-kit-13b logic dac8208d650f15bf)";
+const VERSION: &str = "1.0.0 (rattle-kit-13f logic dac8208d650f15bf)";
 
 /// An argument that is a required positional.
 fn new_argument<'a>(alloc: Global, wanted: &Positional) -> Arg<'a>
@@ -122,6 +122,9 @@ pub(crate) fn new_langtag<'a>(alloc: Global) -> Result<Command<'a>, AllocError>
     let about =
         "Replaces a field of each row of the standard input, with tabs between fields, by its canonical form";
     let program = with_new(alloc, program, "tsv", about, &[&REGISTRY, &COLUMN])?;
+    let about =
+        "Replaces a field of each record of CSV of the standard input, but for the heading, by its canonical form";
+    let program = with_new(alloc, program, "csv", about, &[&REGISTRY, &COLUMN])?;
     let about = "Prints the extlang form of a tag";
     let program = with_new(alloc, program, "extlang", about, &[&REGISTRY, &TAG])?;
     let about = "Tells whether two tags are equivalent";

@@ -24,6 +24,16 @@ fn read_tsv(alloc: Global, values: &ArgMatches<'_>) -> Result<Command, WordsFaul
     Ok(Command::Tsv(file, column))
 }
 
+/// The command for records of CSV.
+fn read_csv(alloc: Global, values: &ArgMatches<'_>) -> Result<Command, WordsFault>
+    ensures named { IfOk result (IsNamed (Some (name_of Subcommand.Csv, rows_of (found_of values.now)))) }
+    ensures unnamed { IfErr result (NamesNone (Some (name_of Subcommand.Csv, rows_of (found_of values.now)))) }
+{
+    let (file, column) = two_values(alloc, values, &REGISTRY, &COLUMN)?;
+    let column = column_of(alloc, &column)?;
+    Ok(Command::Csv(file, column))
+}
+
 /// The command that compares two tags.
 fn read_equal(alloc: Global, values: &ArgMatches<'_>) -> Result<Command, WordsFault>
     ensures named { IfOk result (IsNamed (Some (name_of Subcommand.Equal, rows_of (found_of values.now)))) }
@@ -48,6 +58,7 @@ fn read_command(
         Subcommand::Check => Ok(Command::Check(value_of(alloc, values, &REGISTRY)?)),
         Subcommand::Canon => Ok(Command::Canon(value_of(alloc, values, &REGISTRY)?)),
         Subcommand::Tsv => read_tsv(alloc, values),
+        Subcommand::Csv => read_csv(alloc, values),
         Subcommand::Extlang => {
             let (file, tag) = two_values(alloc, values, &REGISTRY, &TAG)?;
             Ok(Command::Extlang(file, tag))

@@ -1,6 +1,7 @@
 //! What a run does where a growth of memory is refused. `bench/growth.py` runs each test here once for each
 //! growth in it, and refuses that one alone; the gate refuses none. So a call that is not itself under test is
 //! made twice where it is refused.
+use super::records::{LINES as RECORDS, OWED as OWED_RECORDS};
 use super::registries::{LINES, OWED};
 use super::{answer_lines, checked_sample, command_line, ends, read};
 use lt_canon::Checked;
@@ -77,6 +78,33 @@ fn rows_are_answered(rt: HostRuntime) -> Result<(), Fail> {
         |(end, page)| {
             matches!(end, Err(ToolFault::OutOfMemory))
                 && OWED_ROWS.as_bytes().starts_with(text_of(page))
+        },
+    );
+    assert!(rt; is_answered?);
+    Ok(())
+}
+
+/// How a run over the records ends, and what it wrote.
+fn run_records(alloc: Global, checked: &Checked<SortedTable>) -> (Result<Counts, ToolFault>, Page) {
+    let mut page = empty_page();
+    let end = answer_lines(alloc, checked, LineForm::Csv(1), RECORDS, &mut page);
+    (end, page)
+}
+
+#[test]
+fn records_are_answered(rt: HostRuntime) -> Result<(), Fail> {
+    let checked = checked_sample(rt.alloc())?;
+    let is_answered = answers(
+        rt.alloc(),
+        checked.table(),
+        || run_records(rt.alloc(), &checked),
+        |(end, page)| {
+            matches!(end, Ok(counts) if counts.lines == 5 && counts.refused == 2)
+                && text_of(page) == OWED_RECORDS.as_bytes()
+        },
+        |(end, page)| {
+            matches!(end, Err(ToolFault::OutOfMemory))
+                && OWED_RECORDS.as_bytes().starts_with(text_of(page))
         },
     );
     assert!(rt; is_answered?);

@@ -61,8 +61,10 @@ const NO_COLUMNS: [&str; 6] = ["0", "000", "", "two", "18446744073709551616", "2
 #[test]
 fn words_that_are_no_column(rt: HostRuntime) {
     for column in &NO_COLUMNS {
-        let words = ["tsv", "registry", *column];
-        assert!(rt; matches!(read(rt.alloc(), &words), Err(WordsFault::Usage(_))));
+        for command in ["tsv", "csv"] {
+            let words = [command, "registry", *column];
+            assert!(rt; matches!(read(rt.alloc(), &words), Err(WordsFault::Usage(_))));
+        }
     }
 }
 

@@ -2,10 +2,10 @@ use Rattle.std.proofs.Common.{◌++◌, ◌∷◌, ◌∙◌, ℕ, List, [], inl
 use Rattle.lt_lines.proofs.TextLemmas.{canonical_answers}
 use Rattle.lt_lines.proofs.answer_lines.append_answer.Goals as goal
 
-pub returns-in_ok-push-in-Ok : goal.returns-in_ok-push-in-Ok
-returns-in_ok-push-in-Ok g c =
+pub returns-in_ok-push-in-Ok-clause-owed : goal.returns-in_ok-push-in-Ok-clause-owed
+returns-in_ok-push-in-Ok-clause-owed g c = λ ends.
     let R = g.L.Lookup.listed c.args.checked.now in
-    let appended = c.in-Ok.ensures.appended in
+    let appended = c.in-Ok.ensures.appended ends in
     let text = appended.canonical in
     record {
       bytes = text ++ 10 ∷ [];

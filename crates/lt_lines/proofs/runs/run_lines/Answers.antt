@@ -14,7 +14,7 @@ pub loop-read-init : goal.loop-read-init
 loop-read-init g c =
     let new = c.new-answering.ensures in
     record {
-      turn = run_first (terms (g.L.Lookup.listed c.args.checked.now) c.args.form) g.R.Read.remaining g.W.Write.contents c.args.input.now c.args.output.now c.new-answering.result new.items.0 new.items.1 new.counts.0 new.counts.1 new.recent;
+      turn = run_first (terms (g.L.Lookup.listed c.args.checked.now) c.args.form) g.R.Read.remaining g.W.Write.contents c.args.input.now c.args.output.now c.new-answering.result new.items.0 new.items.1 new.place.0 new.place.1 new.counts.0 new.counts.1 new.recent;
       buffer = sym c.in_ok-buffer.buffer.ok.0 ∙ c.in_ok-buffer.ensures.len;
     }
 

@@ -22,6 +22,11 @@ returns-in-Tsv g c =
     let form = c.saturating_sub.ensures in
     rw c.in-Tsv.is (refl, rw form at c.answer_lines-in-Tsv.ensures)
 
+pub returns-in-Csv : goal.returns-in-Csv
+returns-in-Csv g c =
+    let form = c.saturating_sub-in-Csv.ensures in
+    rw c.in-Csv.is (refl, rw form at c.answer_lines-in-Csv.ensures)
+
 pub returns-in-Extlang : goal.returns-in-Extlang
 returns-in-Extlang g c =
     let answers = ByRegistry (λ R. FormsExtlang R c.as_bytes-in-Extlang.result.now) in

@@ -17,4 +17,5 @@ returns c =
     let six = adds _ (app_of c.in_ok-program-6.program) _ _ five c.in_ok-program-6.ensures in
     let seven = adds _ (app_of c.in_ok-program-7.program) _ _ six c.in_ok-program-7.ensures in
     let eight = adds _ (app_of c.in_ok-program-8.program) _ _ seven c.in_ok-program-8.ensures in
-    IfOk-weaker c.with_new-9.result _ _ (λ r is. adds _ (app_of r) _ _ eight is) c.with_new-9.ensures
+    let nine = adds _ (app_of c.in_ok-program-9.program) _ _ eight c.in_ok-program-9.ensures in
+    IfOk-weaker c.with_new-10.result _ _ (λ r is. adds _ (app_of r) _ _ nine is) c.with_new-10.ensures

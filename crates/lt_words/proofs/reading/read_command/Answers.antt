@@ -3,5 +3,8 @@ use Rattle.lt_words.proofs.reading.read_command.Goals as goal
 pub returns-in-Tsv-clause-unnamed : goal.returns-in-Tsv-clause-unnamed
 returns-in-Tsv-clause-unnamed c = rw c.in-Tsv.is c.read_tsv.ensures.unnamed
 
+pub returns-in-Csv-clause-unnamed : goal.returns-in-Csv-clause-unnamed
+returns-in-Csv-clause-unnamed c = rw c.in-Csv.is c.read_csv.ensures.unnamed
+
 pub returns-in-Equal-clause-unnamed : goal.returns-in-Equal-clause-unnamed
 returns-in-Equal-clause-unnamed c = rw c.in-Equal.is c.read_equal.ensures.unnamed

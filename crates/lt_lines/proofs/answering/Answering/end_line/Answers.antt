@@ -1,14 +1,16 @@
-use Rattle.std.proofs.Common.{take}
-use Rattle.lt_lines.specs.Owed.{reply, terms}
-use Rattle.lt_lines.specs.declared.answering.Answering.{Answering}
-use Rattle.lt_lines.proofs.TakenLemmas.{taken_line}
+use Rattle.std.proofs.Common.{◌∙◌, sym, take}
+use Rattle.std.proofs.lemmas.Result.{on_ok_weaker}
+use Rattle.lt_lines.specs.Owed.{terms}
+use Rattle.lt_lines.proofs.TakenLemmas.{taken_within}
 use Rattle.lt_lines.proofs.answering.Answering.end_line.Goals as goal
 
-pub returns-clause-taken : goal.returns-clause-taken
-returns-clause-taken g c = λ bytes out one t.
+pub returns-then-is_open_after-clause-taken : goal.returns-then-is_open_after-clause-taken
+returns-then-is_open_after-clause-taken g c =
     let T = terms (g.L.Lookup.listed c.args.checked.now) c.args.form in
-    let part = take c.args.count c.args.text.now in
-    let a = c.in_ok-refused.ensures.owed t.recent in
-    let new : Answering = record { kept = c.clear.new.self; owed = c.append_line.new.lines; counts = c.count.new.self; recent = c.append_line.new.recent } in
-    taken_line T bytes out part (reply a.bytes c.in_ok-refused.refused) c.args.self.now new t one a.owed
-    a.grown c.clear.ensures.items c.count.ensures.lines c.count.ensures.refused (c.in_ok-refused.ensures.recent t.recent)
+    let inside = sym c.is_open_after.ensures ∙ c.if-is_open_after.true in
+    on_ok_weaker c.go_on.result (λ goes bytes out one t. taken_within T bytes out (take c.args.count c.args.text.now) c.args.self.now c.go_on.new.self t one inside goes) c.go_on.ensures.taken
+
+pub returns-clause-taken : goal.returns-clause-taken
+returns-clause-taken g c =
+    let closed = sym c.is_open_after.ensures ∙ c.if-is_open_after.false in
+    on_ok_weaker c.answer_line.result (λ taken bytes out one t. taken bytes out (record { one = one; closed = closed }) t) c.answer_line.ensures.taken

@@ -1,40 +1,22 @@
-use Rattle.std.proofs.Common.{[], inl, inr, refl, sym, subst, append-nil}
-use Rattle.lt_lines.specs.Owed.{IsBegun, terms}
+use Rattle.std.proofs.Common.{◌≡◌, ◌++◌, List, ℕ, [], inl, refl, sym, subst, append-nil}
 use Rattle.std.proofs.KnownBytes.{Appends-nil}
-use Rattle.std.proofs.lemmas.Result.{err_from_is_err_and}
-use Rattle.lt_lines.proofs.TakenLemmas.{begun_answered, begun_nothing, owed_all}
+use Rattle.lt_lines.specs.Owed.{EndsInQuotes, terms}
+use Rattle.lt_lines.proofs.TakenLemmas.{ends_in_quotes}
 use Rattle.lt_lines.proofs.answering.Answering.finish.Goals as goal
 
-pub returns-in_err-end_last : goal.returns-in_err-end_last
-returns-in_err-end_last g c =
+pub returns-then-self : goal.returns-then-self
+returns-then-self g c =
     let T = terms (g.L.Lookup.listed c.args.checked.now) c.args.form in
-    let p = err_from_is_err_and c.from_residual.result c.from_residual.ensures.1 in
-    rw (p.1, p.2) (record {
+    let line = c.kept_from.result in
+    record {
       written = [];
       appends = Appends-nil _;
       done = tt;
-      stopped = (inr (refl, refl), λ bytes out t. subst (IsBegun T bytes) (sym (append-nil out)) (begun_nothing T bytes out [] bytes c.args.self.now t (sym (append-nil bytes))));
-    })
-
-pub returns-in_err-write : goal.returns-in_err-write
-returns-in_err-write g c =
-    let T = terms (g.L.Lookup.listed c.args.checked.now) c.args.form in
-    let p = err_from_is_err_and c.from_residual-in_err-write.result c.from_residual-in_err-write.ensures.1 in
-    let w = c.in_err-write.ensures.writes in
-    rw (p.1, p.2) (record {
-      written = w.written;
-      appends = w.appends;
-      done = tt;
-      stopped = (inl (w.stopped.0, w.stopped.1), λ bytes out t. begun_answered T bytes out w.written c.end_last.new.self (c.in_ok-end_last.ensures bytes out t) w.stopped.2);
-    })
-
-pub returns : goal.returns
-returns g c =
-    let T = terms (g.L.Lookup.listed c.args.checked.now) c.args.form in
-    let w = c.in_ok-write.ensures.writes in
-    record {
-      written = w.written;
-      appends = w.appends;
-      done = (w.done.1, λ bytes out t. owed_all T bytes out w.written c.end_last.new.self c.write.new.self (c.in_ok-end_last.ensures bytes out t) w.same w.done.0 c.in_ok-write.ensures.emptied);
-      stopped = tt;
+      stopped = inl (record {
+        line = line;
+        fault = refl;
+        same = refl;
+        ends = λ bytes out t none. subst (λ (l : List ℕ). EndsInQuotes T bytes l line) (sym (append-nil out))
+            (ends_in_quotes T bytes out c.args.self.now line t none c.if-self.true c.kept_from.ensures);
+      });
     }

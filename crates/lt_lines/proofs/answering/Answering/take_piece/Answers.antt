@@ -33,13 +33,14 @@ loop-line-preserved g c =
     let counted = c.in_ok-end_line.ensures.counted in
     let answered = answered_front T c.loop-line.rest.now c.in-Some.line.now c.in-Some.after.now c.loop-line.self c.end_line.new.self split.1 c.in_ok-end_line.ensures.taken in
     turn_next T g.W.Write.contents c.args.piece.now c.loop-line.rest.now c.in-Some.line.now c.in-Some.after.now c.args.self.now c.loop-line.self c.end_line.new.self c.write_much.new.self
-    c.args.output.now c.loop-line.output c.write_much.new.output c.loop-line.invariant split.1 split.0 answered counted.0 counted.1 c.in_ok-write_much.ensures.writes
+    c.args.output.now c.loop-line.output c.write_much.new.output c.loop-line.invariant split.1 split.0 answered counted c.in_ok-write_much.ensures.writes
 
 pub returns-in_err-keep : goal.returns-in_err-keep
 returns-in_err-keep g c =
     let T = terms (g.L.Lookup.listed c.args.checked.now) c.args.form in
     let p = err_from_is_err_and c.from_residual-in_err-keep.result c.from_residual-in_err-keep.ensures.1 in
-    let new : Answering = record { kept = c.keep.new.kept; owed = c.loop-line.self.owed; counts = c.loop-line.self.counts; recent = c.loop-line.self.recent } in
+    let now = c.loop-line.self in
+    let new : Answering = record { kept = c.keep.new.kept; is_open = c.is_open_after-self.result; feeds = now.feeds; owed = now.owed; counts = now.counts; recent = now.recent } in
     rw (p.1, p.2) (turn_lacks T g.W.Write.contents c.args.piece.now c.loop-line.rest.now c.args.self.now c.loop-line.self new c.args.output.now c.loop-line.output c.loop-line.invariant)
 
 pub returns : goal.returns
@@ -47,10 +48,10 @@ returns g c =
     let T = terms (g.L.Lookup.listed c.args.checked.now) c.args.form in
     let turn = c.loop-line.invariant in
     let now = c.loop-line.self in
-    let mid : Answering = record { kept = c.keep.new.kept; owed = now.owed; counts = now.counts; recent = now.recent } in
+    let mid : Answering = record { kept = c.keep.new.kept; is_open = c.is_open_after-self.result; feeds = now.feeds; owed = now.owed; counts = now.counts; recent = now.recent } in
     let rest = c.loop-line.rest.now in
     let one : IsOneLine rest = c.in_default.ensures in
     let kept : c.keep.new.kept.items ≡ now.kept.items ++ part_kept c.args.form (length now.kept.items) rest =
     c.in_ok-keep.ensures ∙ ap (λ (n : ℕ). now.kept.items ++ part_kept c.args.form n rest) now.kept.ok.0 in
     turn_last T g.W.Write.contents c.args.piece.now turn.written c.args.self.now mid c.write.new.self c.args.output.now c.loop-line.output c.write.new.output c.write.result turn.appends turn.failures
-    (turn_kept T g.W.Write.contents c.args.piece.now rest c.args.self.now now mid c.args.output.now c.loop-line.output turn one kept refl refl refl) c.write.ensures.writes c.write.ensures.emptied
+    (turn_kept T g.W.Write.contents c.args.piece.now rest c.args.self.now now mid c.args.output.now c.loop-line.output turn one kept c.is_open_after-self.ensures refl refl refl refl) c.write.ensures.writes c.write.ensures.emptied

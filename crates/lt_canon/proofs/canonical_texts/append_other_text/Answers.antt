@@ -1,5 +1,5 @@
 use Rattle.lt_canon.proofs.AppendedTexts.{appended}
-use Rattle.lt_canon.proofs.canonical_texts.append_canonical_text.Goals as goal
+use Rattle.lt_canon.proofs.canonical_texts.append_other_text.Goals as goal
 
 pub returns-clause-appended : goal.returns-clause-appended
 returns-clause-appended g c =

@@ -1,0 +1,12 @@
+use Rattle.lt_canon.proofs.StayingTags.{stays_appended}
+use Rattle.lt_canon.proofs.usual_texts.append_usual_text.Goals as goal
+
+pub returns-clause-exact : goal.returns-clause-exact
+returns-clause-exact g c = (c.in_ok-told.ensures {u = tt}).exact (g.L.Lookup.listed c.args.checked.now) c.usual.ensures.flags
+
+pub returns-clause-appended : goal.returns-clause-appended
+returns-clause-appended g c = λ told.
+    let R = g.L.Lookup.listed c.args.checked.now in
+    let ensured = c.in_ok-told.ensures {u = tt} in
+    stays_appended R c.usual.ensures.checked c.args.text.now c.args.texts.now.items c.append_text.new.texts.items
+    ((ensured.exact R c.usual.ensures.flags).0 told) (ensured.appended R c.usual.ensures.flags told)

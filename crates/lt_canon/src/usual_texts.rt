@@ -1,0 +1,27 @@
+//! Canonical texts of langtags whose subtags stay as they are.
+ghost use Rattle.std.specs.Prelude.{◌≡◌, ◌↔◌, false, IsTrue, IfOk, OnErr};
+ghost use Rattle.lt_usual.specs.Staying.{IsStaying};
+ghost use Rattle.lt_canon.specs.Texts.{AppendsCanonicalText};
+
+use lt_check::Checked;
+use lt_registry::Lookup;
+use lt_tag::OutOfMemory;
+
+/// Appends the canonical text of a text, as [`append_canonical_text`](crate::append_canonical_text) does, exactly if it
+/// is told by a flag for each subtag: the text is read as a langtag of a language of 2 or 3 letters, and a script and a
+/// region where there is one, and each of these stays as it is (RFC 5646, 4.5). `zh-hant-tw` is such a text, and `iw`
+/// is none. Tells whether it did; of any other text it does nothing. Refused only where memory runs out.
+#[inline(always)]
+pub fn append_usual_text<L: Lookup>(
+    checked: &Checked<L>,
+    text: &[u8],
+    texts: &mut Vec<u8>,
+) -> Result<bool, OutOfMemory>
+    ensures exact { IfOk result (λ told. IsTrue told ↔ IsStaying (L.listed checked.now) text.now) }
+    ensures appended { IfOk result (λ told. IsTrue told → AppendsCanonicalText (L.listed checked.now) text.now texts.old.items texts.new.items) }
+    ensures unchanged { IfOk result (λ told. told ≡ false → texts.new.items ≡ texts.old.items) }
+    ensures kept { OnErr result (texts.new.items ≡ texts.old.items) }
+{
+    let told = checked.usual().append_text(text, texts)?;
+    Ok(told)
+}

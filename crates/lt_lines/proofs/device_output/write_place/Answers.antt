@@ -1,0 +1,18 @@
+use Rattle.std.proofs.Common.{◌∙◌, List, ℕ, codes, subst}
+use Rattle.std.proofs.lemmas.Result.{err_from_is_err_and}
+use Rattle.std.specs.Fmt.{decimal}
+use Rattle.lt_lines.specs.DeviceOutput.{WritesText}
+use Rattle.lt_lines.proofs.WrittenLemmas.{wrote_less, wrote_more}
+use Rattle.lt_lines.proofs.device_output.write_place.Goals as goal
+
+pub returns-in_err-write_text : goal.returns-in_err-write_text
+returns-in_err-write_text g c =
+    let p = err_from_is_err_and c.from_residual.result c.from_residual.ensures.1 in
+    rw (c.in-BadCsv.is, p.1, p.2) (wrote_less g.W.Write.contents (codes " line ") (decimal c.in-BadCsv.line) c.args.output.now c.write_text.new.output _ c.in_err-write_text.ensures)
+
+pub returns : goal.returns
+returns g c =
+    let contents = g.W.Write.contents in
+    let between = c.write_text.new.output in
+    let number = subst (λ (l : List ℕ). WritesText contents l between c.write_text-2.new.output c.write_text-2.result) (c.as_bytes.ensures.value ∙ c.format.ensures.text) c.write_text-2.ensures in
+    rw c.in-BadCsv.is (wrote_more contents (codes " line ") (decimal c.in-BadCsv.line) c.args.output.now between c.write_text-2.new.output c.write_text-2.result c.in_ok-write_text.ensures number)

@@ -1,0 +1,6 @@
+-- What the crates above may use.
+pub mod TextLemmas
+-- What this crate alone uses.
+mod PlaceLemmas
+mod FlagLemmas
+mod ShownLemmas

@@ -1,0 +1,4 @@
+pub mod Places
+pub mod Staying
+pub mod Flags
+pub mod Shown

@@ -1,0 +1,9 @@
+//! The subtags of a registry that stay as they are, and langtags of such subtags alone, which are shown without a look
+//! into the registry (RFC 5646, 4.5). A program begins with the crate `bcp47`.
+#![tactic(auto)]
+
+mod places;
+mod texts;
+mod usual_subtags;
+
+pub use usual_subtags::UsualSubtags;
