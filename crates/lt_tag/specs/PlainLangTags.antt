@@ -1,10 +1,9 @@
 -- Langtags without extensions and private use, as lists.
-use Rattle.std.specs.Prelude.{ℕ, ◌≡◌, ◌-◌, ◌&&◌, if◌then◌else◌, List, length, Option, Some, None, Ok, nat_lt, nat_le}
+use Rattle.std.specs.Prelude.{ℕ, ◌≡◌, ◌-◌, ◌&&◌, if◌then◌else◌, List, length, Option, Some, None, nat_lt, nat_le}
 use Rattle.lt_subtag.specs.Shapes.{is_extlang, is_script, is_region, is_variant}
-use Rattle.lt_tag.specs.Listing.{listed}
 use Rattle.lt_tag.specs.Parts.{CoreParts}
 use Rattle.lt_tag.specs.Spelling.{spell_core, IsCore}
-use Rattle.lt_tag.specs.Growth.{grown_by, takes_region, takes_script}
+use Rattle.lt_tag.specs.Growth.{takes_region, takes_script}
 use Rattle.lt_tag.specs.WellFormed.{IsNotGrandfathered}
 use Rattle.lt_tag.specs.declared.plain_langtags.Room.{Room}
 use Rattle.lt_tag.specs.declared.plain_langtags.Room.TheVariants as rooms
@@ -15,16 +14,6 @@ pub record IsPlainLangTag (list : List (List ℕ)) : Type 0 where
   pub shaped : IsCore core
   pub spelled : spell_core core ≡ list
   pub other : IsNotGrandfathered list
-
--- the pieces after the first are subtags that a core has at its end one after another
-pub record GrowsAlong (core : CoreParts) (pieces : List (List ℕ)) (grown : CoreParts) : Type 0 where
-  pub subtags : List (List ℕ)
-  pub read : listed 2 pieces ≡ Ok subtags
-  pub grows : grown_by core subtags ≡ Some grown
-
--- the pieces after the first are no subtags that a core has at its end one after another
-abbrev pub StopsAlong : CoreParts → List (List ℕ) → Type 0
-StopsAlong core pieces = (grown : CoreParts) → ¬ (GrowsAlong core pieces grown)
 
 -- how many extlangs may still follow a core that takes a script
 abbrev pub extlangs_left : CoreParts → ℕ

@@ -1,40 +1,103 @@
-use Rattle.std.proofs.Common.{◌≡◌, ◌∙◌, [], List, ℕ, length, inl, sym, ap, subst, arith, append-nil}
-use Rattle.lt_tag.specs.Parts.{CoreParts, LangTag}
-use Rattle.lt_tag.specs.Listing.{subtag_or_fault}
+use Rattle.std.proofs.Common.{◌≡◌, ℕ, List, length, sym, ap, ◌∙◌, subst, arith}
+use Rattle.std.specs.Prelude.{Some, None}
+use Rattle.std.proofs.lemmas.Result.{err_from_is_err_and}
 use Rattle.lt_tag.specs.Rest.{pieces_left}
-use Rattle.lt_tag.specs.Spelling.{spell_core}
-use Rattle.lt_tag.specs.PlainLangTags.{GrowsAlong}
-use Rattle.lt_tag.specs.WellFormed.{IsNotGrandfathered, spell}
-use Rattle.lt_tag.proofs.ListedLemmas.{length-pieces}
+use Rattle.lt_tag.specs.WellFormed.{IsNotGrandfathered}
+use Rattle.lt_tag.specs.Draft.{begun, drafted}
+use Rattle.lt_tag.specs.DraftViews.{draft_view}
 use Rattle.lt_tag.proofs.MatchLemmas.{cut_left}
-use Rattle.lt_tag.proofs.GrowingLemmas.{grown_text}
+use Rattle.lt_tag.proofs.ListedLemmas.{length-pieces}
+use Rattle.lt_tag.proofs.TextLemmas.{piece_fault}
+use Rattle.lt_tag.proofs.ReadingLemmas.{HasRead, read_first, fault_behind_first, misplaced_first, fault_here, read_next, fault_behind, misplaced_here, read_room, whole_listed, whole_draft, whole_length, whole_value, whole_unfinished}
 use Rattle.lt_tag.proofs.reading.read_unlisted.Goals as goal
 
-pub grow_along-requires : goal.grow_along-requires
-grow_along-requires c =
+pub check_pieces-requires : goal.check_pieces-requires
+check_pieces-requires c =
     let split = cut_left _ _ _ c.cut.ensures.pieces in
-    let none = ap (λ (k : CoreParts). length k.variants) c.of_language-core.ensures in
-    omega (arith, none, ap length split, length-pieces c.args.text.now, c.requires.short)
+    omega (arith, ap length split, length-pieces c.args.text.now, c.requires.short)
 
-pub from_parts-requires-clause-not_grandfathered :
-    goal.from_parts-requires-clause-not_grandfathered
-from_parts-requires-clause-not_grandfathered c =
+pub returns-in_err-check_pieces-clause-fault : goal.returns-in_err-check_pieces-clause-fault
+returns-in_err-check_pieces-clause-fault c =
+    let p = err_from_is_err_and c.from_residual-in_err-check_pieces.result c.from_residual-in_err-check_pieces.ensures.1 in
     let split = cut_left _ _ _ c.cut.ensures.pieces in
-    let grown = subst (λ (k : CoreParts). GrowsAlong k (pieces_left c.cut.result.1) c.grow_along.new.core) c.of_language-core.ensures (c.in_ok-grow_along.ensures.grew c.if-not-branch.false) in
-    let whole = grown_text c.args.text.now _ _ c.in-Some.language c.grow_along.new.core split (ap (subtag_or_fault 1) c.in-Some.ensures.read) c.in-Some.ensures.language grown in
-    inl (subst (λ (l : List (List ℕ)). IsNotGrandfathered l) (sym whole.1) c.requires.other)
+    let read = sym c.subtag_at.ensures ∙ c.in_ok-subtag_at.was in
+    rw (p.1, p.2) (piece_fault c.args.text.now c.in_err-check_pieces.field-0.0 c.requires.short (fault_behind_first c.args.text.now _ _ _ split read c.in_err-check_pieces.field-0.0 c.in_err-check_pieces.ensures))
+
+pub returns-in_default-clause-fault : goal.returns-in_default-clause-fault
+returns-in_default-clause-fault c =
+    let split = cut_left _ _ _ c.cut.ensures.pieces in
+    let read = sym c.subtag_at.ensures ∙ c.in_ok-subtag_at.was in
+    let none : None ≡ begun c.in_ok-subtag_at.field-0 = c.in_default.ensures in
+    misplaced_first c.args.text.now _ _ _ split read (sym none) c.in_ok-check_pieces.ensures c.requires.short c.requires.other
+
+pub loop-rest-init : goal.loop-rest-init
+loop-rest-init c =
+    let split = cut_left _ _ _ c.cut.ensures.pieces in
+    let read = sym c.subtag_at.ensures ∙ c.in_ok-subtag_at.was in
+    let some : Some (draft_view c.in-Some.draft) ≡ begun c.in_ok-subtag_at.field-0 = c.in-Some.ensures in
+    (omega (arith, ap length split, length-pieces c.args.text.now, c.requires.short), read_first c.args.text.now _ _ _ split read (draft_view c.in-Some.draft) (sym some))
+
+pub returns-in_err-subtag_at-2-clause-fault : goal.returns-in_err-subtag_at-2-clause-fault
+returns-in_err-subtag_at-2-clause-fault c =
+    let p = err_from_is_err_and c.from_residual-in_err-subtag_at-2.result c.from_residual-in_err-subtag_at-2.ensures.1 in
+    let has = subst (λ (left : List (List ℕ)). HasRead c.args.text.now c.loop-rest.place left (draft_view c.loop-rest.draft)) (ap pieces_left c.in-Some-rest.is ∙ cut_left _ _ _ c.cut-in-Some-rest.ensures.pieces) c.loop-rest.invariant.1 in
+    let read = sym c.subtag_at-in-Some-rest.ensures ∙ c.in_err-subtag_at-2.was in
+    rw (p.1, p.2) (piece_fault c.args.text.now c.in_err-subtag_at-2.field-0.0 c.requires.short (fault_here c.args.text.now c.loop-rest.place (draft_view c.loop-rest.draft) _ _ has c.in_err-subtag_at-2.field-0.0 read))
+
+pub add-requires-clause-shaped : goal.add-requires-clause-shaped
+add-requires-clause-shaped c = (read_room c.args.text.now c.loop-rest.place (draft_view c.loop-rest.draft) _ c.loop-rest.invariant.1 (omega (arith, c.loop-rest.invariant.0, ap length (ap pieces_left c.in-Some-rest.is ∙ cut_left _ _ _ c.cut-in-Some-rest.ensures.pieces)))).0
+
+pub add-requires-clause-room : goal.add-requires-clause-room
+add-requires-clause-room c = (read_room c.args.text.now c.loop-rest.place (draft_view c.loop-rest.draft) _ c.loop-rest.invariant.1 (omega (arith, c.loop-rest.invariant.0, ap length (ap pieces_left c.in-Some-rest.is ∙ cut_left _ _ _ c.cut-in-Some-rest.ensures.pieces)))).1
+
+pub returns-in_err-check_pieces-2-clause-fault : goal.returns-in_err-check_pieces-2-clause-fault
+returns-in_err-check_pieces-2-clause-fault c =
+    let p = err_from_is_err_and c.from_residual-in_err-check_pieces-2.result c.from_residual-in_err-check_pieces-2.ensures.1 in
+    let has = subst (λ (left : List (List ℕ)). HasRead c.args.text.now c.loop-rest.place left (draft_view c.loop-rest.draft)) (ap pieces_left c.in-Some-rest.is ∙ cut_left _ _ _ c.cut-in-Some-rest.ensures.pieces) c.loop-rest.invariant.1 in
+    let read = sym c.subtag_at-in-Some-rest.ensures ∙ c.in_ok-subtag_at-2.was in
+    rw (p.1, p.2) (piece_fault c.args.text.now c.in_err-check_pieces-2.field-0.0 c.requires.short (fault_behind c.args.text.now c.loop-rest.place (draft_view c.loop-rest.draft) _ _ has c.in_ok-subtag_at-2.field-0 read c.in_err-check_pieces-2.field-0.0 c.in_err-check_pieces-2.ensures))
+
+pub returns-then-not-branch-clause-fault : goal.returns-then-not-branch-clause-fault
+returns-then-not-branch-clause-fault c =
+    let has = subst (λ (left : List (List ℕ)). HasRead c.args.text.now c.loop-rest.place left (draft_view c.loop-rest.draft)) (ap pieces_left c.in-Some-rest.is ∙ cut_left _ _ _ c.cut-in-Some-rest.ensures.pieces) c.loop-rest.invariant.1 in
+    let read = sym c.subtag_at-in-Some-rest.ensures ∙ c.in_ok-subtag_at-2.was in
+    let none : drafted (draft_view c.loop-rest.draft) c.in_ok-subtag_at-2.field-0 ≡ None = rw c.if-not-branch.true at c.in_ok-add.ensures in
+    misplaced_here c.args.text.now c.loop-rest.place (draft_view c.loop-rest.draft) _ _ has c.in_ok-subtag_at-2.field-0 read none c.in_ok-check_pieces-2.ensures c.requires.short c.requires.other
+
+pub loop-rest-preserved : goal.loop-rest-preserved
+loop-rest-preserved c =
+    let split = ap pieces_left c.in-Some-rest.is ∙ cut_left _ _ _ c.cut-in-Some-rest.ensures.pieces in
+    let has = subst (λ (left : List (List ℕ)). HasRead c.args.text.now c.loop-rest.place left (draft_view c.loop-rest.draft)) split c.loop-rest.invariant.1 in
+    let read = sym c.subtag_at-in-Some-rest.ensures ∙ c.in_ok-subtag_at-2.was in
+    let some : drafted (draft_view c.loop-rest.draft) c.in_ok-subtag_at-2.field-0 ≡ Some (draft_view c.add.new.self) = rw c.if-not-branch.false at c.in_ok-add.ensures in
+    (omega (arith, c.loop-rest.invariant.0, ap length split), read_next c.args.text.now c.loop-rest.place (draft_view c.loop-rest.draft) _ _ has c.in_ok-subtag_at-2.field-0 read (draft_view c.add.new.self) some)
+
+pub finish-requires-clause-shaped : goal.finish-requires-clause-shaped
+finish-requires-clause-shaped c =
+    let has = rw c.in_default-rest.is at c.loop-rest.invariant.1 in
+    (whole_draft c.args.text.now c.loop-rest.place (draft_view c.loop-rest.draft) has).0
+
+pub finish-requires-clause-few : goal.finish-requires-clause-few
+finish-requires-clause-few c =
+    let has = rw c.in_default-rest.is at c.loop-rest.invariant.1 in
+    omega (arith, ap length (whole_draft c.args.text.now c.loop-rest.place (draft_view c.loop-rest.draft) has).1, whole_length c.args.text.now c.loop-rest.place (draft_view c.loop-rest.draft) has, c.loop-rest.invariant.0)
+
+pub finish-requires-clause-other : goal.finish-requires-clause-other
+finish-requires-clause-other c =
+    let has = rw c.in_default-rest.is at c.loop-rest.invariant.1 in
+    subst (λ (l : List (List ℕ)). IsNotGrandfathered l) (sym (whole_draft c.args.text.now c.loop-rest.place (draft_view c.loop-rest.draft) has).1) c.requires.other
+
+pub returns-in_default-2-clause-fault : goal.returns-in_default-2-clause-fault
+returns-in_default-2-clause-fault c =
+    let has = rw c.in_default-rest.is at c.loop-rest.invariant.1 in
+    whole_unfinished c.args.text.now c.loop-rest.place (draft_view c.loop-rest.draft) has (sym c.in_default-2.is ∙ c.in_ok-tag.ensures) c.requires.short c.requires.other
 
 pub returns-clause-listed : goal.returns-clause-listed
 returns-clause-listed c =
-    let split = cut_left _ _ _ c.cut.ensures.pieces in
-    let grown = subst (λ (k : CoreParts). GrowsAlong k (pieces_left c.cut.result.1) c.grow_along.new.core) c.of_language-core.ensures (c.in_ok-grow_along.ensures.grew c.if-not-branch.false) in
-    (grown_text c.args.text.now _ _ c.in-Some.language c.grow_along.new.core split (ap (subtag_or_fault 1) c.in-Some.ensures.read) c.in-Some.ensures.language grown).0
+    let has = rw c.in_default-rest.is at c.loop-rest.invariant.1 in
+    whole_listed c.args.text.now c.loop-rest.place (draft_view c.loop-rest.draft) has
 
 pub returns-clause-spelled : goal.returns-clause-spelled
 returns-clause-spelled c =
-    let split = cut_left _ _ _ c.cut.ensures.pieces in
-    let core = c.grow_along.new.core in
-    let grown = subst (λ (k : CoreParts). GrowsAlong k (pieces_left c.cut.result.1) core) c.of_language-core.ensures (c.in_ok-grow_along.ensures.grew c.if-not-branch.false) in
-    let whole = grown_text c.args.text.now _ _ c.in-Some.language core split (ap (subtag_or_fault 1) c.in-Some.ensures.read) c.in-Some.ensures.language grown in
-    let is : c.from_parts.result ≡ LangTag core [] [] = c.from_parts.ensures ∙ (λ i. LangTag core (c.new.ensures.items i) (c.new-2.ensures.items i)) in
-    ap spell is ∙ append-nil (spell_core core) ∙ whole.1
+    let has = rw c.in_default-rest.is at c.loop-rest.invariant.1 in
+    whole_value c.args.text.now c.loop-rest.place (draft_view c.loop-rest.draft) has c.in-Some-2.tag (sym c.in-Some-2.is ∙ c.in_ok-tag.ensures)

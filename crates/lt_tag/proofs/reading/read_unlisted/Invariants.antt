@@ -2,7 +2,7 @@ use Rattle.std.proofs.Common.{◌≤◌, ◌+◌, length}
 use Rattle.lt_tag.specs.Rest.{pieces_left}
 use Rattle.lt_tag.specs.DraftViews.{draft_view}
 use Rattle.lt_tag.proofs.ReadingLemmas.{HasRead}
-use Rattle.lt_tag.proofs.reading.read_other.Given as goal
+use Rattle.lt_tag.proofs.reading.read_unlisted.Given as goal
 
 -- the draft is that of the subtags so far
 abbrev pub invariant-loop-rest : goal.invariant-loop-rest
