@@ -1,11 +1,9 @@
 //! Canonical tags (RFC 5646, 4.5).
-ghost use Rattle.std.specs.Prelude.{◌≡◌, Some, None, false, All, IfOk, IfErr, MatchOption};
+ghost use Rattle.std.specs.Prelude.{◌≡◌, false, All, IfOk, IfErr};
 ghost use Rattle.lt_tag.specs.Parts.{LangTag};
-ghost use Rattle.lt_registry.specs.Entries.{whole_value};
 ghost use Rattle.lt_registry.specs.Validity.{IsValid};
 ghost use Rattle.lt_rewrite.specs.Conditions.{HasEndingChain};
 ghost use Rattle.lt_rewrite.specs.Shortcuts.{AreShortcuts};
-ghost use Rattle.lt_rewrite.specs.TagSteps.{CanBeReplacedWhole};
 ghost use Rattle.lt_check.specs.Conditions.{IsValidCoreAlone, IsChecked};
 ghost use Rattle.lt_canon.specs.Answers.{IsCanonicalFormOf, RefusesOnlyRepeats};
 ghost use Rattle.lt_canon.specs.Refusals.{NamesFault, NamesRepeat, IsRefusedWith};
@@ -16,7 +14,8 @@ use crate::repeats::{second_in_sources, second_occurrence};
 use crate::usual_tags::{is_core_valued, usual_core};
 use lt_check::Checked;
 use lt_registry::{Lookup, validate};
-use lt_rewrite::{Shortcuts, values};
+use lt_rewrite::Shortcuts;
+use lt_rewrite::values::{can_be_replaced_whole, whole_value};
 use lt_subtag::Subtag;
 use lt_tag::{Core, Extension, OutOfMemory, Tag};
 use std::alloc::Global;
@@ -120,18 +119,6 @@ fn settle_core<L: Lookup>(table: &L, shortcuts: &Shortcuts, core: &mut Core) -> 
     }
 }
 
-/// The value of a tag that can be replaced whole, which is a grandfathered tag or a langtag that is a core alone.
-fn value_of_whole<'a, L: Lookup>(table: &'a L, tag: &Tag) -> Option<&'a Tag>
-    ensures { MatchOption result
-        (CanBeReplacedWhole tag.now → whole_value (L.listed table.now) tag.now ≡ None)
-        (λ value. CanBeReplacedWhole tag.now × (whole_value (L.listed table.now) tag.now ≡ Some value.now)) }
-{
-    if tag.core_alone().is_none() && tag.grandfathered().is_none() {
-        return None;
-    }
-    values::whole_value(table, tag)
-}
-
 /// The value of a tag that can be replaced whole, with its core in core normal form; else the tag itself.
 fn replaced_whole<L: Lookup>(
     alloc: Global,
@@ -143,7 +130,10 @@ fn replaced_whole<L: Lookup>(
     requires checked { IsChecked (L.listed table.now) }
     ensures { IfOk result (IsReplacedWhole (L.listed table.now) tag) }
 {
-    match value_of_whole(table, &tag) {
+    if !can_be_replaced_whole(&tag) {
+        return Ok(tag);
+    }
+    match whole_value(table, &tag) {
         Some(value) => settled_value(alloc, table, shortcuts, value),
         None => Ok(tag),
     }

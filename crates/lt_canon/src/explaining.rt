@@ -49,12 +49,11 @@ fn explain_tag<L: Lookup>(
         return explain_whole(alloc, table, tag, steps);
     };
     let (settled, steps) = explain_core(table, core.copy(alloc)?, 0, steps)?;
-    let (extensions, private) = (tag.extensions(), tag.private());
-    if extensions.is_empty() && private.is_empty() {
+    if tag.core_alone().is_some() {
         let settled = Tag::from_parts(settled, Vec::new(alloc), Vec::new(alloc));
         return explain_whole(alloc, table, &settled, steps);
     }
-    let others = copy_extensions(alloc, extensions)?;
+    let others = copy_extensions(alloc, tag.extensions())?;
     let (_, steps) = explain_extensions(alloc, table, others, core_length(&settled), steps)?;
     Ok(steps)
 }

@@ -1,10 +1,9 @@
 //! One step on a tag (RFC 5646, 4.5; RFC 6067; RFC 6497).
-ghost use Rattle.std.specs.Prelude.{◌≡◌, ◌≢◌, ◌≤◌, ◌+◌, List, Some, IfOk, IfErr, MatchBool, MatchOption, length};
+ghost use Rattle.std.specs.Prelude.{◌≡◌, ◌≢◌, ◌≤◌, ◌+◌, List, Some, IfOk, IfErr, MatchOption, length};
 ghost use Rattle.lt_tag.specs.Parts.{CoreParts, ExtensionParts, TagForm, LangTag};
 ghost use Rattle.lt_tag.specs.Spelling.{spell_extensions};
 ghost use Rattle.lt_tag.specs.Values.{IsTagValue, core_of, private_of};
 ghost use Rattle.lt_registry.specs.Validity.{IsProper};
-ghost use Rattle.lt_rewrite.specs.TagSteps.{CanBeReplacedWhole};
 ghost use Rattle.lt_rewrite.specs.Labels.{LeadsBy};
 ghost use Rattle.lt_rewrite.specs.Applying.{Changes, CoreLeads, ExtensionsLeads, IsWholeValueBy, TagLeads};
 ghost use Rattle.lt_rewrite.specs.ApplyFaults.{IsApplyFault};
@@ -16,21 +15,11 @@ use crate::core_applying::apply_to_core;
 use crate::extension_applying::apply_to_extensions;
 use crate::field_applying::core_length;
 use crate::steps::{Step, StepKind};
-use lt_registry::{EntryValue, Lookup, proper};
+use crate::values::{can_be_replaced_whole, tag_value};
+use lt_registry::{Lookup, proper};
 use lt_subtag::Subtag;
-use lt_tag::{Class, Core, Extension, OutOfMemory, Tag, copy_extensions, copy_subtags};
+use lt_tag::{Core, Extension, OutOfMemory, Tag, copy_extensions, copy_subtags};
 use std::alloc::Global;
-
-/// Whether a tag is grandfathered, or a langtag and a core alone.
-fn can_be_replaced_whole(tag: &Tag) -> bool
-    ensures { MatchBool result (CanBeReplacedWhole tag.now) (CanBeReplacedWhole tag.now → ⊥) }
-{
-    match tag.class() {
-        Class::LangTag => tag.core_alone().is_some(),
-        Class::PrivateUse => false,
-        Class::Grandfathered => true,
-    }
-}
 
 /// The value of a whole tag, if it comes from the record of a number.
 fn whole_value_by<'a, L: Lookup>(table: &'a L, tag: &Tag, number: u32) -> Option<&'a Tag>
@@ -42,10 +31,7 @@ fn whole_value_by<'a, L: Lookup>(table: &'a L, tag: &Tag, number: u32) -> Option
     if entry.number() != number {
         return None;
     }
-    match entry.value() {
-        Some(EntryValue::Whole(value)) => Some(value),
-        _ => None,
-    }
+    tag_value(entry)
 }
 
 /// What a step makes of a whole tag, as its record says.

@@ -1,14 +1,15 @@
 //! What the entries of a table give as preferred values (RFC 5646, 3.1.7).
-ghost use Rattle.std.specs.Prelude.{◌≡◌, Some, true, is_some, IfSome, MatchOption};
+ghost use Rattle.std.specs.Prelude.{◌≡◌, Some, true, is_some, IfSome, MatchBool, MatchOption};
 ghost use Rattle.std.specs.Option.{option_copied};
 ghost use Rattle.lt_tag.specs.Parts.{TagForm};
 ghost use Rattle.lt_registry.specs.Entries as entries;
 ghost use Rattle.lt_registry.specs.Entries.{one_of, tag_of, language_value, has_value_form};
 ghost use Rattle.lt_registry.specs.declared.entries.EntryName.TheVariants as names;
+ghost use Rattle.lt_rewrite.specs.TagSteps.{CanBeReplacedWhole};
 
 use lt_registry::{Entry, EntryName, EntryValue, Kind, Lookup};
 use lt_subtag::Subtag;
-use lt_tag::Tag;
+use lt_tag::{Class, Tag};
 
 /// The one subtag that an entry gives as its value, if it has such a value.
 pub fn one_value(entry: &Entry) -> Option<&Subtag>
@@ -75,6 +76,17 @@ pub fn whole_value<'a, L: Lookup>(table: &'a L, tag: &Tag) -> Option<&'a Tag>
     match table.whole(tag) {
         Some(entry) => tag_value(entry),
         None => None,
+    }
+}
+
+/// Whether a tag can be replaced whole: it is grandfathered, or a langtag and a core alone.
+pub fn can_be_replaced_whole(tag: &Tag) -> bool
+    ensures { MatchBool result (CanBeReplacedWhole tag.now) (CanBeReplacedWhole tag.now → ⊥) }
+{
+    match tag.class() {
+        Class::LangTag => tag.core_alone().is_some(),
+        Class::PrivateUse => false,
+        Class::Grandfathered => true,
     }
 }
 
