@@ -1,7 +1,6 @@
 -- From cores, extensions and values in their normal forms to the answer that is owed.
-use Rattle.std.proofs.Common.{◌≡◌, ℕ, ◌==◌, ◌+◌, ◌<◌, ◌≤◌, ◌⊎◌, inl, inr, true, false, is_some, List, [], ◌∷◌, Option, Some, None, Err, refl, sym, ap, ◌∙◌, subst, length, arith}
+use Rattle.std.proofs.Common.{◌≡◌, ℕ, ◌+◌, ◌<◌, ◌≤◌, ◌⊎◌, inl, inr, false, is_some, List, [], ◌∷◌, Option, Some, None, Err, refl, sym, ap, ◌∙◌, subst, length, arith}
 use Rattle.std.specs.List.{AllByRecursion}
-use Rattle.std.proofs.lemmas.Bool.{eqb-true}
 use Rattle.lt_tag.specs.Parts.{CoreParts, ExtensionParts, TForm, TagForm, LangTag, PrivateUse, Grandfathered}
 use Rattle.lt_tag.specs.Spelling.{spell_core}
 use Rattle.lt_tag.specs.Extensions.{transform, IsTransform}
@@ -64,10 +63,6 @@ plain_has_core R t v h = let both : Some v.core ≡ None = sym (ap core_of v.is)
 pub invalid_refused : (R : List EntryParts) (t : TagForm) (refused : ValidRefusal) → IsRefusal R t refused → IsCanonicalAnswer R t (Err (of_valid refused))
 invalid_refused R t (checks.Fault fault) h = h
 invalid_refused R t checks.OutOfMemory h = tt
-
-pub nothing_of_test : {A : Type 0} (xs : List A) → true ≡ (length xs == 0) → [] ≡ xs
-nothing_of_test [] h = refl
-nothing_of_test (x ∷ xs) h = let none : length (x ∷ xs) ≡ 0 = eqb-true (length (x ∷ xs)) 0 (sym h) in absurd (omega arith)
 
 -- what settling the extensions of a proper tag needs
 pub transforms_have_parts : (R : List EntryParts) (es : List ExtensionParts) → AllByRecursion (IsProperExtension R) es → AllByRecursion (λ (e : ExtensionParts). e.singleton ≡ transform → (p : TForm) × IsTransform e.subtags p) es

@@ -1,6 +1,6 @@
 -- Runs on the parts of a tag, one after another, to where no step leads on: these explain its canonical form.
-use Rattle.std.proofs.Common.{◌≡◌, ℕ, ◌==◌, ◌+◌, ◌<◌, false, inr, List, [], ◌∷◌, ◌++◌, Some, None, refl, sym, ap, ◌∙◌, subst, length, arith}
-use Rattle.std.specs.Prelude.{Result, Ok, Err, IfOk}
+use Rattle.std.proofs.Common.{◌≡◌, ℕ, ◌+◌, ◌<◌, true, false, is_some, inr, List, [], ◌∷◌, ◌++◌, Option, Some, None, refl, sym, ap, ◌∙◌, subst, length, arith}
+use Rattle.std.specs.Prelude.{Result, Ok, Err, IfOk, MatchOption}
 use Rattle.std.specs.List.{AllByRecursion}
 use Rattle.lt_tag.specs.Parts.{CoreParts, ExtensionParts, TForm, TagForm, LangTag, PrivateUse, Grandfathered}
 use Rattle.lt_tag.specs.Spelling.{spell_core}
@@ -38,12 +38,20 @@ pub if_ok : {A E : Type 0} (P Q : A → Type 0) (r : Result A E) → ((a : A) �
 if_ok P Q (Ok a) f h = f a h
 if_ok P Q (Err e) f h = h
 
-pub some_of_test : {A : Type 0} (xs : List A) → false ≡ (length xs == 0) → 0 < length xs
-some_of_test [] h = cc
-some_of_test (x ∷ xs) h = omega arith
+-- what a reader shows where it has an answer, and where it has none
+pub some_by : {A : Type 0} (o : Option A) (N : Type 0) (S : A → Type 0) → MatchOption o N S → true ≡ is_some o → (a : A) × S a
+some_by None N S h e = cc
+some_by (Some a) N S h e = (a, h)
 
-pub plain_made : (t : TagForm) (c : CoreParts) (es : List ExtensionParts) (ps : List (List ℕ)) → t ≡ LangTag c es ps → es ≡ [] → ps ≡ [] → t ≡ core_alone c
-plain_made t c es ps h e p = h ∙ (λ i. LangTag c (e i) (p i))
+pub none_by : {A : Type 0} (o : Option A) (N : Type 0) (S : A → Type 0) → MatchOption o N S → false ≡ is_some o → N
+none_by None N S h e = h
+none_by (Some a) N S h e = cc
+
+-- a langtag that is no core alone has more than its core
+more_than_core : (core : CoreParts) (es : List ExtensionParts) (ps : List (List ℕ)) → ((k : CoreParts) → LangTag core es ps ≡ core_alone k → ⊥) → 0 < length es + length ps
+more_than_core core [] [] h = absurd (h core refl)
+more_than_core core [] (p ∷ ps) h = omega arith
+more_than_core core (e ∷ es) ps h = omega arith
 
 -- a run goes by steps
 run_star : {A : Type 0} (Leads : A → Step → A → Type 0) (rank : A → Step → ℕ) (Move : A → A → Type 0) → ((a : A) (step : Step) (b : A) → Leads a step b → Move a b) → (run : List Step) (a b : A) → IsRun Leads rank a run b → Star Move a b
@@ -139,17 +147,21 @@ module _ (R : List EntryParts) where
         }
 
     -- a tag of a core alone, once its core is at rest
-    pub plain_explained : (t : TagForm) (core d : CoreParts) (es : List ExtensionParts) (ps : List (List ℕ)) (old mid : List Step) → IsProper R t → Some core ≡ core_of t → es ≡ extensions_of t → ps ≡ private_of t → [] ≡ es → [] ≡ ps → AddsOnCore R 0 core d old mid → IsProper R (core_alone d) × Adds (LeadsBy R) rank_in t (core_alone d) old mid
-    plain_explained t core d es ps old mid P k e p n m a =
-        let same : t ≡ core_alone core = langtag_of t core (sym k) ∙ (λ i. LangTag core (sym e i) (sym p i)) ∙ (λ i. LangTag core (sym n i) (sym m i)) in
+    pub plain_explained : (t : TagForm) (core d k : CoreParts) (old mid : List Step) → IsProper R t → Some core ≡ core_of t → t ≡ core_alone k → AddsOnCore R 0 core d old mid → IsProper R (core_alone d) × Adds (LeadsBy R) rank_in t (core_alone d) old mid
+    plain_explained t core d k old mid P h e a =
+        let both : Some core ≡ Some k = h ∙ ap core_of e in
+        let is : core ≡ k = cc in
+        let same : t ≡ core_alone core = e ∙ ap core_alone (sym is) in
         let on = adds_on_core core d [] [] old mid (subst (IsProper R) same P) a in
         (on.0, subst (λ x. Adds (LeadsBy R) rank_in x (core_alone d) old mid) (sym same) on.1)
 
     -- a langtag with extensions or private use
-    pub langtag_explained : (t : TagForm) (core d : CoreParts) (es fs : List ExtensionParts) (ps : List (List ℕ)) (start : ℕ) (old mid new : List Step) → IsProper R t → Some core ≡ core_of t → es ≡ extensions_of t → ps ≡ private_of t → 0 < length es + length ps → AddsOnCore R 0 core d old mid → NoneLeads (CoreLeads R 0 d) → start ≡ length (spell_core d) → AddsOnExtensions R start es fs mid new → NoneLeads (ExtensionsLeads R start fs) → LeadsToRest R t old new
-    langtag_explained t core d es fs ps start old mid new P k e p some a none at b nowhere =
-        let same : t ≡ LangTag core es ps = langtag_of t core (sym k) ∙ (λ i. LangTag core (sym e i) (sym p i)) in
+    pub langtag_explained : (t : TagForm) (core d : CoreParts) (es fs : List ExtensionParts) (start : ℕ) (old mid new : List Step) → IsProper R t → Some core ≡ core_of t → es ≡ extensions_of t → ((k : CoreParts) → t ≡ core_alone k → ⊥) → AddsOnCore R 0 core d old mid → NoneLeads (CoreLeads R 0 d) → start ≡ length (spell_core d) → AddsOnExtensions R start es fs mid new → NoneLeads (ExtensionsLeads R start fs) → LeadsToRest R t old new
+    langtag_explained t core d es fs start old mid new P h e more a none at b nowhere =
+        let ps : List (List ℕ) = private_of t in
+        let same : t ≡ LangTag core es ps = langtag_of t core (sym h) ∙ (λ i. LangTag core (sym e i) ps) in
         let on = adds_on_core core d es ps old mid (subst (IsProper R) same P) a in
+        let some = more_than_core core es ps (subst (λ x. (k : CoreParts) → x ≡ core_alone k → ⊥) same more) in
         let rest = extensions_rest_by d es fs ps mid new on.0 some none (subst (λ n. AddsOnExtensions R n es fs mid new) at b) (subst (λ n. NoneLeads (ExtensionsLeads R n fs)) at nowhere) in
         subst (λ x. LeadsToRest R x old new) (sym same) (first_adds (LangTag core es ps) (LangTag d es ps) old mid new on.1 rest)
 

@@ -1,4 +1,4 @@
-use Rattle.std.proofs.Common.{◌≡◌, ℕ, ◌+◌, ◌<◌, inl, List, [], Some, sym, ap, ◌∙◌, subst, length, arith}
+use Rattle.std.proofs.Common.{◌≡◌, inl, List, [], Some, sym, ap, ◌∙◌, subst, length, arith}
 use Rattle.std.specs.List.{AllByRecursion}
 use Rattle.lt_tag.specs.Parts.{CoreParts, ExtensionParts, TForm, TagForm}
 use Rattle.lt_tag.specs.Spelling.{spell_extensions}
@@ -12,9 +12,8 @@ use Rattle.lt_rewrite.proofs.StepLaws.{fits, few_subtags}
 use Rattle.lt_canon.specs.Explaining.{LeadsToRest}
 use Rattle.lt_rewrite.proofs.ProperTags.{proper_parts}
 use Rattle.lt_canon.proofs.TagProper.{core_spells_none}
-use Rattle.lt_canon.proofs.CanonicalForms.{none_of_test, nothing_of_test}
-use Rattle.lt_canon.proofs.Explained.{if_ok, some_of_test, plain_made, first_adds, plain_explained, langtag_explained, coreless_explained, transforms_of}
-use Rattle.lt_canon.proofs.explaining.explain_tag.Goals.{else-is_empty-via-then-is_empty+else-is_empty-2, else-is_empty-via-else-is_empty}
+use Rattle.lt_canon.proofs.CanonicalForms.{none_of_test}
+use Rattle.lt_canon.proofs.Explained.{if_ok, some_by, none_by, first_adds, plain_explained, langtag_explained, coreless_explained, transforms_of}
 use Rattle.lt_canon.proofs.explaining.explain_tag.Goals as goal
 
 pub returns-then-is_none : goal.returns-then-is_none
@@ -31,48 +30,44 @@ pub from_parts-settled-requires-clause-not_grandfathered :
 from_parts-settled-requires-clause-not_grandfathered g c =
     let R = g.L.Lookup.listed c.args.table.now in
     let d : CoreParts = c.in_ok-settled.settled in
-    let es = c.extensions-extensions.result.now in
-    let ps = c.private-private.result.now in
+    let alone = some_by c.core_alone.result _ _ c.core_alone.ensures.value (c.if-is_some.ensures {u = tt}) in
     let adds = subst (λ (x : CoreParts). AddsOnCore R 0 x d c.args.steps.items c.in_ok-settled.steps.items) (c.in_ok-copy.ensures {u = tt}) (c.in_ok-settled.ensures {u = tt}).adds in
-    let on = plain_explained R c.requires.checked c.args.tag.now c.in-Some.core.now d es ps c.args.steps.items c.in_ok-settled.steps.items c.requires.proper (c.in-Some.ensures {u = tt}).value c.extensions-extensions.ensures.value c.private-private.ensures.value (nothing_of_test es (c.if-is_empty.ensures {u = tt})) (nothing_of_test ps (c.if-is_empty-2.ensures {u = tt})) adds in
+    let on = plain_explained R c.requires.checked c.args.tag.now c.in-Some.core.now d alone.0.now c.args.steps.items c.in_ok-settled.steps.items c.requires.proper (c.in-Some.ensures {u = tt}).value alone.1 adds in
     inl (core_spells_none R c.requires.checked d (proper_parts R d [] [] on.0).core)
 
-pub explain_whole-requires-then-is_empty-2-clause-proper :
-    goal.explain_whole-requires-then-is_empty-2-clause-proper
-explain_whole-requires-then-is_empty-2-clause-proper g c =
+pub explain_whole-requires-then-is_some-clause-proper :
+    goal.explain_whole-requires-then-is_some-clause-proper
+explain_whole-requires-then-is_some-clause-proper g c =
     let R = g.L.Lookup.listed c.args.table.now in
     let d : CoreParts = c.in_ok-settled.settled in
-    let es = c.extensions-extensions.result.now in
-    let ps = c.private-private.result.now in
+    let alone = some_by c.core_alone.result _ _ c.core_alone.ensures.value (c.if-is_some.ensures {u = tt}) in
     let adds = subst (λ (x : CoreParts). AddsOnCore R 0 x d c.args.steps.items c.in_ok-settled.steps.items) (c.in_ok-copy.ensures {u = tt}) (c.in_ok-settled.ensures {u = tt}).adds in
-    let on = plain_explained R c.requires.checked c.args.tag.now c.in-Some.core.now d es ps c.args.steps.items c.in_ok-settled.steps.items c.requires.proper (c.in-Some.ensures {u = tt}).value c.extensions-extensions.ensures.value c.private-private.ensures.value (nothing_of_test es (c.if-is_empty.ensures {u = tt})) (nothing_of_test ps (c.if-is_empty-2.ensures {u = tt})) adds in
-    let same = plain_made c.from_parts-settled.result d c.new.result.items c.new-then-is_empty-2.result.items c.from_parts-settled.ensures c.new.ensures.items c.new-then-is_empty-2.ensures.items in
+    let on = plain_explained R c.requires.checked c.args.tag.now c.in-Some.core.now d alone.0.now c.args.steps.items c.in_ok-settled.steps.items c.requires.proper (c.in-Some.ensures {u = tt}).value alone.1 adds in
+    let same : c.from_parts-settled.result ≡ core_alone d = cc in
     subst (IsProper R) (sym same) on.0
 
-pub explain_whole-requires-then-is_empty-2-clause-at_rest :
-    goal.explain_whole-requires-then-is_empty-2-clause-at_rest
-explain_whole-requires-then-is_empty-2-clause-at_rest g c = λ b h.
+pub explain_whole-requires-then-is_some-clause-at_rest :
+    goal.explain_whole-requires-then-is_some-clause-at_rest
+explain_whole-requires-then-is_some-clause-at_rest g c = λ b h.
     let R = g.L.Lookup.listed c.args.table.now in
     let d : CoreParts = c.in_ok-settled.settled in
     let same : Some d ≡ Some b = sym (ap core_of c.from_parts-settled.ensures) ∙ h in
     let is : d ≡ b = cc in
     subst (λ (x : CoreParts). NoneLeads (CoreLeads R 0 x)) is (c.in_ok-settled.ensures {u = tt}).at_rest
 
-pub returns-then-is_empty-2 : goal.returns-then-is_empty-2
-returns-then-is_empty-2 g c =
+pub returns-then-is_some : goal.returns-then-is_some
+returns-then-is_some g c =
     let R = g.L.Lookup.listed c.args.table.now in
-    let t = c.args.tag.now in
     let d : CoreParts = c.in_ok-settled.settled in
-    let es = c.extensions-extensions.result.now in
-    let ps = c.private-private.result.now in
     let old : List Step = c.args.steps.items in
     let mid : List Step = c.in_ok-settled.steps.items in
+    let alone = some_by c.core_alone.result _ _ c.core_alone.ensures.value (c.if-is_some.ensures {u = tt}) in
     let adds = subst (λ (x : CoreParts). AddsOnCore R 0 x d old mid) (c.in_ok-copy.ensures {u = tt}) (c.in_ok-settled.ensures {u = tt}).adds in
-    let on = plain_explained R c.requires.checked t c.in-Some.core.now d es ps old mid c.requires.proper (c.in-Some.ensures {u = tt}).value c.extensions-extensions.ensures.value c.private-private.ensures.value (nothing_of_test es (c.if-is_empty.ensures {u = tt})) (nothing_of_test ps (c.if-is_empty-2.ensures {u = tt})) adds in
-    let same = plain_made c.from_parts-settled.result d c.new.result.items c.new-then-is_empty-2.result.items c.from_parts-settled.ensures c.new.ensures.items c.new-then-is_empty-2.ensures.items in
-    if_ok _ _ c.explain_whole-then-is_empty-2.result
-    (λ taken rest. first_adds R c.requires.checked t (core_alone d) old mid taken.items on.1 (subst (λ (x : TagForm). LeadsToRest R x mid taken.items) same rest))
-    c.explain_whole-then-is_empty-2.ensures
+    let on = plain_explained R c.requires.checked c.args.tag.now c.in-Some.core.now d alone.0.now old mid c.requires.proper (c.in-Some.ensures {u = tt}).value alone.1 adds in
+    let same : c.from_parts-settled.result ≡ core_alone d = cc in
+    if_ok _ _ c.explain_whole-then-is_some.result
+    (λ taken rest. first_adds R c.requires.checked c.args.tag.now (core_alone d) old mid taken.items on.1 (subst (λ (x : TagForm). LeadsToRest R x mid taken.items) same rest))
+    c.explain_whole-then-is_some.ensures
 
 pub explain_extensions-requires-clause-chains : goal.explain_extensions-requires-clause-chains
 explain_extensions-requires-clause-chains g c = c.requires.checked.passes.ending_chain
@@ -81,14 +76,14 @@ pub explain_extensions-requires-clause-transforms :
     goal.explain_extensions-requires-clause-transforms
 explain_extensions-requires-clause-transforms g c =
     let P : List ExtensionParts → Type 0 = AllByRecursion (λ (e : ExtensionParts). e.singleton ≡ transform → (p : TForm) × IsTransform e.subtags p) in
-    subst P (sym (c.in_ok-others.ensures {u = tt} ∙ c.extensions-extensions.ensures.value)) (transforms_of (g.L.Lookup.listed c.args.table.now) c.requires.checked c.args.tag.now c.requires.proper)
+    subst P (sym (c.in_ok-others.ensures {u = tt} ∙ c.extensions.ensures.value)) (transforms_of (g.L.Lookup.listed c.args.table.now) c.requires.checked c.args.tag.now c.requires.proper)
 
 pub explain_extensions-requires-clause-few : goal.explain_extensions-requires-clause-few
 explain_extensions-requires-clause-few g c =
     let t = c.args.tag.now in
-    let f = fits t c.extensions-extensions.ensures.tag.counts in
+    let f = fits t c.extensions.ensures.tag.counts in
     let n = few_subtags (extensions_of t) f.1 in
-    omega (arith, n, f.0, ap (λ es. length (spell_extensions es)) (c.in_ok-others.ensures {u = tt} ∙ c.extensions-extensions.ensures.value), c.core_length.ensures.few)
+    omega (arith, n, f.0, ap (λ es. length (spell_extensions es)) (c.in_ok-others.ensures {u = tt} ∙ c.extensions.ensures.value), c.core_length.ensures.few)
 
 pub returns : goal.returns
 returns g c =
@@ -96,16 +91,9 @@ returns g c =
     let t = c.args.tag.now in
     let core : CoreParts = c.in-Some.core.now in
     let d : CoreParts = c.in_ok-settled.settled in
-    let es : List ExtensionParts = c.in_ok-others.others.items in
-    let ps : List (List ℕ) = c.private-private.result.now in
     let old : List Step = c.args.steps.items in
     let mid : List Step = c.in_ok-settled.steps.items in
-    let start : ℕ = c.core_length.result in
-    let copied : es ≡ c.extensions-extensions.result.now = c.in_ok-others.ensures {u = tt} in
-    let some : 0 < length es + length ps = elim c.else-is_empty.branch [
-      | else-is_empty-via-then-is_empty+else-is_empty-2 w ↦ omega (arith, some_of_test ps (w.if-is_empty-2.ensures {u = tt}))
-      | else-is_empty-via-else-is_empty w ↦ omega (arith, ap length copied, some_of_test c.extensions-extensions.result.now (w.if-is_empty.ensures {u = tt}))
-    ] in
+    let more = none_by c.core_alone.result _ _ c.core_alone.ensures.value (c.if-is_some.ensures {u = tt}) in
     let adds = subst (λ (x : CoreParts). AddsOnCore R 0 x d old mid) (c.in_ok-copy.ensures {u = tt}) (c.in_ok-settled.ensures {u = tt}).adds in
     let given = c.in_ok-steps.ensures {u = tt} in
-    langtag_explained R c.requires.checked t core d es _ ps start old mid _ c.requires.proper (c.in-Some.ensures {u = tt}).value (copied ∙ c.extensions-extensions.ensures.value) c.private-private.ensures.value some adds (c.in_ok-settled.ensures {u = tt}).at_rest c.core_length.ensures.value given.adds given.at_rest
+    langtag_explained R c.requires.checked t core d c.in_ok-others.others.items _ c.core_length.result old mid _ c.requires.proper (c.in-Some.ensures {u = tt}).value (c.in_ok-others.ensures {u = tt} ∙ c.extensions.ensures.value) more adds (c.in_ok-settled.ensures {u = tt}).at_rest c.core_length.ensures.value given.adds given.at_rest
