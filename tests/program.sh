@@ -197,6 +197,9 @@ on_terminal canon "$sample"; is 'canon at a terminal' 1 'yue\n! UnknownLanguage 
 "$program" canon "$sample" < input > out 2> err; is 'canon at no terminal' 1 'yue\n! UnknownLanguage 1\n! BadByte 1\n' ''
 on_terminal tsv "$sample" 1; is 'tsv at a terminal' 1 'yue\t\nxx\tUnknownLanguage 1\nen_US\tBadByte 1\n' "3 lines, 2 refused\n$unknown"
 on_terminal csv "$sample" 1; is 'csv at a terminal' 1 'zh-yue,langtag_fault\nxx,UnknownLanguage 1\nen_US,BadByte 1\n' "$unknown"
+yes en | head -n 2500000 > input
+on_terminal canon "$sample"; ended=$?; tr '\r' '\n' < err | sed 's/[0-9]\{5\} lines$/..... lines/' > told; mv told err; cmp -s input out && : > out
+(exit "$ended"); is 'a long run at a terminal' 0 '' '10..... lines\n20..... lines\n2500000 lines, 0 refused\n'
 on_terminal check "$sample"; is 'check at a terminal' 0 'ok 46\n' ''
 on_terminal classify xx-; ended=$?; cut -c1-12 err > told; mv told err
 (exit "$ended"); is 'classify at a terminal' 1 '! EmptySubtag 2\n' 'EmptySubtag:\n'

@@ -2,7 +2,7 @@
 #![tactic(auto)]
 
 use lt_jar::Device;
-use lt_people::{Openings, run_for_people};
+use lt_people::{Openings, Progress, run_for_people};
 use lt_tool::run_program;
 use std::io::IsTerminal;
 use std::process::ExitCode;
@@ -15,13 +15,15 @@ fn main(rt: HostRuntime) -> ExitCode {
     let mut input = Device::new(rt.stdin());
     let mut errors = Device::new(rt.stderr());
     let status = if rt.stderr().is_terminal() {
+        let is_told = !rt.stdout().is_terminal();
+        let output = Progress::new(rt.alloc(), rt.stdout(), rt.stderr(), is_told);
         run_for_people(
             rt.alloc(),
             words,
             &mut opener,
             &openings,
             &mut input,
-            rt.stdout(),
+            output,
             rt.stderr(),
             &mut errors,
         )

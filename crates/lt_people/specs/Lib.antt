@@ -1,1 +1,2 @@
 pub mod People
+pub mod Progress

@@ -3,8 +3,10 @@
 #![tactic(auto)]
 
 mod openings;
+mod progress;
 mod run;
 mod telling;
 
 pub use openings::Openings;
+pub use progress::Progress;
 pub use run::run_for_people;

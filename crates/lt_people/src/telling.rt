@@ -81,7 +81,7 @@ fn are_counted(answers_lines: bool, status: u8) -> bool
 }
 
 /// Writes a text, up to the first write that fails, which the device counts.
-fn say<T: Write>(text: &[u8], people: &mut Device<T>)
+pub(crate) fn say<T: Write>(text: &[u8], people: &mut Device<T>)
     ensures { Says (stream T.contents people.old people.new) text.now }
 {
     let _ = write_text(text, people);

@@ -1,10 +1,10 @@
 //! Runs of the program, what they write, and what a person is told after each.
 use lt_jar::{Device, Takes};
 use lt_messages::message_of;
-use lt_people::{Openings, run_for_people};
+use lt_people::{Openings, Progress, run_for_people};
 use lt_tool::Status;
 use std::alloc::{AllocError, Global};
-use std::io::{self, ErrorKind};
+use std::io::{self, ErrorKind, Write};
 
 /// A registry of two languages.
 const OLD: &[u8] =
@@ -344,6 +344,38 @@ const NAMES: [&str; 60] = [
     "Write",
     "OutOfMemory",
 ];
+
+/// What a person is told while this many lines are written at once, so many times.
+fn told_of_lines(
+    alloc: Global,
+    at_once: usize,
+    times: usize,
+    is_told: bool,
+) -> io::Result<Vec<u8>> {
+    let piece = Vec::from_elem(alloc, b'\n', at_once)?;
+    let mut people = Vec::new(alloc);
+    let mut progress = Progress::new(alloc, Vec::new(alloc), &mut people, is_told);
+    for _ in 0..times {
+        progress.write_all(&piece)?;
+    }
+    drop(progress);
+    Ok(people)
+}
+
+#[test]
+fn lines_are_told_at_each_million(rt: HostRuntime) {
+    let rows: [(usize, usize, bool, &[u8]); 5] = [
+        (999_999, 1, true, b""),
+        (500_000, 2, true, b"1000000 lines\r"),
+        (700_000, 3, true, b"1400000 lines\r2100000 lines\r"),
+        (3_500_000, 1, true, b"3500000 lines\r"),
+        (3_500_000, 1, false, b""),
+    ];
+    for (at_once, times, is_told, told) in rows {
+        let answer = told_of_lines(rt.alloc(), at_once, times, is_told).expect(&rt, "memory");
+        assert!(rt; answer.as_slice() == told);
+    }
+}
 
 /// Whether the message for a name begins with it and a colon.
 fn is_told(name: &str) -> bool {
