@@ -11,13 +11,13 @@ tag_faults =
     codes "TooLong: A text of more than 1,024 bytes, which is no tag: see whether line ends are missing." ∷
     codes "BadLanguage: The first subtag is no language: begin with a language of 2 to 8 letters, or with x." ∷
     codes "Misplaced: A subtag that can't stand where it does: order them: language, extlang, script, region, variants, extensions, x." ∷
-    codes "Unfinished: The text ends behind a singleton or x: add what follows it, or remove it." ∷
+    codes "Unfinished: The text ends after a singleton or x: add what follows it, or remove it." ∷
     codes "UnknownLanguage: The registry lacks the language: correct it, or get a newer registry." ∷
     codes "UnknownExtlang: The registry lacks the extlang: correct it, or get a newer registry." ∷
     codes "UnknownScript: The registry lacks the script: correct it, or get a newer registry." ∷
     codes "UnknownRegion: The registry lacks the region: correct it, or get a newer registry." ∷
     codes "UnknownVariant: The registry lacks the variant: correct it, or get a newer registry." ∷
-    codes "ExtlangPrefix: The extlang belongs to another language: put it behind its own (zh-yue), or write it alone (yue)." ∷
+    codes "ExtlangPrefix: The extlang belongs to another language: put it after its own (zh-yue), or write it alone (yue)." ∷
     codes "TooManyExtlangs: A second extlang: keep one, or write it alone." ∷
     codes "DuplicateVariant: A variant stands twice: remove one." ∷
     codes "DuplicateSingleton: An extension stands twice: join the two, or remove one." ∷
@@ -31,7 +31,7 @@ abbrev pub explanation_faults : List (List ℕ)
 explanation_faults =
     codes "NoSuchStep: The step of the line leads nowhere (verify): mend the line, or name the registry by which the tag was explained." ∷
     codes "WrongEnd: The line of the end has another tag than the steps lead to (verify): mend the line, or the steps." ∷
-    codes "BadStep: The line is that of no step, has another tag than its step leads to, is missing, or stands behind the end (verify): mend it." ∷
+    codes "BadStep: The line is that of no step, has another tag than its step leads to, is missing, or comes after the end (verify): mend it." ∷
     []
 
 -- a file that is no registry

@@ -39,12 +39,12 @@ abbrev pub report_left : Seen → ℕ → Option (List ℕ)
 report_left s given = Some (drop given (report_of s))
 
 -- a text without its first line
-abbrev pub behind_line : List ℕ → List ℕ
-behind_line [] = []
-behind_line (byte ∷ rest) = if byte == 10 then rest else behind_line rest
+abbrev pub after_first_line : List ℕ → List ℕ
+after_first_line [] = []
+after_first_line (byte ∷ rest) = if byte == 10 then rest else after_first_line rest
 
 -- what a person is told after a run that wrote this to its output and that to its errors: how many lines were answered
 -- and refused, where they are counted, and what the first fault of each means
 abbrev pub lines_of : (counted : Bool) → (shown said : Seen) → List ℕ
 lines_of counted shown said =
-    (if counted then report_of shown else behind_line (report_of shown)) ++ behind_line (report_of said)
+    (if counted then report_of shown else after_first_line (report_of shown)) ++ after_first_line (report_of said)

@@ -8,6 +8,6 @@ mod sights;
 mod watched;
 
 pub use meanings::message_of;
-pub use reports::behind_line;
+pub use reports::after_first_line;
 pub use sights::Sight;
 pub use watched::Watched;

@@ -28,8 +28,8 @@ pub(crate) fn report_of(alloc: Global, sight: &Sight) -> Result<Vec<u8>, AllocEr
 }
 
 /// A text without its first line: what is after its first line feed, or nothing where there is none.
-pub fn behind_line(text: &[u8]) -> &[u8]
-    ensures { result.now ≡ spec.behind_line text.now }
+pub fn after_first_line(text: &[u8]) -> &[u8]
+    ensures { result.now ≡ spec.after_first_line text.now }
 {
     let mut rest = text;
     while let Some((byte, after)) = rest.split_first() {

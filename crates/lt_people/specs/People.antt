@@ -4,7 +4,7 @@ use Rattle.std.specs.List.{starts_with}
 use Rattle.lt_jar.specs.Devices.{inner_of}
 use Rattle.lt_jar.specs.declared.devices.Device.{Device}
 use Rattle.lt_messages.specs.Sights.{seen_of, unseen}
-use Rattle.lt_messages.specs.Watching.{behind_line, report_of}
+use Rattle.lt_messages.specs.Watching.{after_first_line, report_of}
 use Rattle.lt_messages.specs.declared.watched.Watched.{Watched}
 use Rattle.lt_words.specs.Reading.{answers_lines_of}
 use Rattle.lt_words.specs.declared.commands.Command.{Command}
@@ -25,7 +25,7 @@ refusal_of refusal meaning = if starts_with nat_eq meaning (codes "File: ") then
 -- the lines that a person is told by the reports on the output and on the errors
 abbrev pub told_lines : Bool → (refusal shown said : List ℕ) → List ℕ
 told_lines counted refusal shown said =
-    (if counted then shown else behind_line shown) ++ behind_line said ++ refusal_of refusal (behind_line said)
+    (if counted then shown else after_first_line shown) ++ after_first_line said ++ refusal_of refusal (after_first_line said)
 
 -- the report on the bytes that a writer holds, where they are known
 abbrev pub IsReport : Option (List ℕ) → List ℕ → Type 0

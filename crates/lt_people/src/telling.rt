@@ -9,7 +9,7 @@ ghost use Rattle.lt_tool.specs.Written.{Says};
 
 use lt_jar::Device;
 use lt_lines::write_text;
-use lt_messages::{Watched, behind_line};
+use lt_messages::{Watched, after_first_line};
 use lt_tool::{Status, read_words};
 use std::alloc::{AllocError, Global};
 use std::io::{self, Read, Write};
@@ -46,8 +46,8 @@ fn append_lines(
 ) -> Result<(), AllocError>
     ensures { OnOk result (lines.new.items ≡ lines.old.items ++ told_lines counted refusal.now shown.now said.now) }
 {
-    let answered = if counted { shown } else { behind_line(shown) };
-    let meaning = behind_line(said);
+    let answered = if counted { shown } else { after_first_line(shown) };
+    let meaning = after_first_line(said);
     lines.extend_from_slice(answered)?;
     lines.extend_from_slice(meaning)?;
     if meaning.starts_with(b"File: ") {

@@ -167,7 +167,7 @@ const SINGLE: [Run; 10] = [
         "",
         "! Unfinished 3\n",
         "",
-        "Unfinished: The text ends behind a singleton or x: add what follows it, or remove it.\n",
+        "Unfinished: The text ends after a singleton or x: add what follows it, or remove it.\n",
         Status::Refused,
     ),
     (&["check", "old"], "", "ok 2\n", "", "", Status::Done),
