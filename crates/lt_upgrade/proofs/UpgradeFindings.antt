@@ -1,16 +1,11 @@
--- A registry upgrades another, or what the check of an upgrade finds, by tests that compute.
+-- From a tag that reaches a proper one.
 use Rattle.lt_tag.specs.Parts.{TagForm}
 use Rattle.lt_registry.specs.Parts.{EntryParts}
 use Rattle.lt_registry.specs.Validity.{IsProper}
 use Rattle.lt_rewrite.specs.Rewriting.{Star, done, then}
 use Rattle.lt_rewrite.specs.TagSteps.{TagStep}
 use Rattle.lt_check.specs.Conditions.{IsChecked}
-use Rattle.std.proofs.Common.{List, [], ◌∷◌}
-use Rattle.lt_upgrade.specs.declared.conditions.UpgradeCondition.{UpgradeCondition}
-use Rattle.lt_upgrade.specs.declared.conditions.UpgradeCondition.TheVariants as upgrades
-
-abbrev pub all_upgrades : List UpgradeCondition
-all_upgrades = upgrades.StaysRegistered ∷ upgrades.SameEnds ∷ upgrades.SameExtlang ∷ upgrades.SameVariantLanguage ∷ upgrades.NoNewVariantLanguage ∷ upgrades.SameWhole ∷ []
+use Rattle.std.proofs.Common.{List}
 
 pub proper_from : (B : List EntryParts) → IsChecked B → {t u : TagForm} → Star (TagStep B) t u → IsProper B u → IsProper B t
 proper_from B C done p = p

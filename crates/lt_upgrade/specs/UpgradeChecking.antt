@@ -13,11 +13,6 @@ use Rattle.lt_upgrade.specs.declared.conditions.UpgradeCondition.TheVariants as 
 use Rattle.lt_upgrade.specs.declared.upgrades.UpgradeFault.{UpgradeFault}
 use Rattle.lt_upgrade.specs.declared.upgrades.UpgradeFault.TheVariants as faults
 
--- the condition speaks of the records of the newer registry
-abbrev pub is_of_newer : UpgradeCondition → Bool
-is_of_newer upgrades.NoNewVariantLanguage = true
-is_of_newer _ = false
-
 -- the lowest record at fault by a condition
 pub record IsFirstAtUpgradeFault (A B : List EntryParts) (condition : UpgradeCondition) (number : ℕ) : Type 0 where
   pub fault : IsAtUpgradeFault A B condition number
