@@ -1,12 +1,13 @@
 -- The ranges among entries contain what the entries cover.
-use Rattle.std.proofs.Common.{◌≡◌, ℕ, ◌+◌, ◌<◌, Bool, true, ◌&&◌, ◌||◌, ◌==◌, eqb, List, [], ◌∷◌, ◌++◌, length, take, get_or, Option, Some, None, refl, sym, ap, ◌∙◌, arith, inl, inr}
+use Rattle.std.proofs.Common.{◌≡◌, ℕ, Bool, ◌&&◌, ◌||◌, ◌==◌, eqb, List, [], ◌∷◌, length, refl, sym, ap, ◌∙◌}
 use Rattle.std.specs.List.{All, AllByRecursion, list_any, cons_option}
-use Rattle.std.specs.Ordering.{nat_cmp, ordering_then, ordering_reverse, is_le}
+use Rattle.std.specs.Ordering.{nat_cmp, ordering_then, ordering_reverse, is_le, is_eq}
 use Rattle.std.specs.Cmp.Lexicographic.{slice_cmp}
 use Rattle.std.specs.declared.cmp.Ordering.{Ordering}
 use Rattle.std.specs.declared.cmp.Ordering.TheVariants.{Less, Equal, Greater}
-use Rattle.std.proofs.lemmas.Bool.{cases_Bool, eq-eqb, ne_eqb}
-use Rattle.std.proofs.lemmas.Cmp.{ranked, by_ranked, nat_cmp_total}
+use Rattle.std.specs.Cmp.{both_ways, unsigned_ties}
+use Rattle.std.proofs.lemmas.Bool.{eqb-true, eq-eqb}
+use Rattle.std.proofs.lemmas.Cmp.{nat_cmp_total}
 use Rattle.std.proofs.lemmas.List.Elements.{recursion_from_All}
 use Rattle.lt_registry.specs.Parts.{EntryParts}
 use Rattle.lt_registry.specs.Same.{same_kind}
@@ -14,7 +15,6 @@ use Rattle.lt_registry.specs.Entries.{FitsName, IsEntry, letters_le}
 use Rattle.lt_registry.specs.declared.entries.Kind.{Kind}
 use Rattle.lt_registry.specs.declared.entries.EntryName.{EntryName}
 use Rattle.lt_registry.specs.declared.entries.EntryName.TheVariants as names
-use Rattle.lt_registry.proofs.ListLemmas.{take_turn}
 use Rattle.lt_registry.proofs.OrderLemmas.{at_most, letters_le_is}
 use Rattle.lt_registry.proofs.SortedLemmas.{and_false}
 use Rattle.lt_rewrite.proofs.Entries.{same_kind_is, same_kind_itself}
@@ -24,46 +24,25 @@ use Rattle.lt_upgrade.specs.WidestRanges.{range_end, contains, range_row, range_
 use Rattle.lt_upgrade.specs.declared.widest_ranges.RangeRow.{RangeRow}
 use Rattle.lt_check.proofs.OwnNames.{kinds_same}
 
--- rows are gathered entry by entry
-
-rows_append : (xs : List EntryParts) (e : EntryParts) → range_rows (xs ++ e ∷ []) ≡ range_rows xs ++ cons_option (range_row e.kind e.name) []
-rows_append [] e = refl
-rows_append (x ∷ xs) e =
-    ap (cons_option (range_row x.kind x.name)) (rows_append xs e) ∙ before (range_row x.kind x.name) (range_rows xs) (cons_option (range_row e.kind e.name) [])
-  where
-    before : (o : Option RangeRow) (ys zs : List RangeRow) → cons_option o (ys ++ zs) ≡ cons_option o ys ++ zs
-    before None ys zs = refl
-    before (Some y) ys zs = refl
-
-pub rows_turn : (R : List EntryParts) (i : ℕ) (e : EntryParts) → i < length R → e ≡ get_or R i e → range_rows (take (i + 1) R) ≡ range_rows (take i R) ++ cons_option (range_row e.kind e.name) []
-rows_turn R i e l is = ap range_rows (take_turn R i e l is) ∙ rows_append (take i R) e
-
 -- a range contains what it covers
 
-both : Ordering → Ordering → Ordering → Ordering → Bool
-both x y p q = is_le (ordering_then x p) && is_le (ordering_then y q)
-
 -- what is compared first has to be equal
+first_equal : (o p q : Ordering) (t r : Bool) → t ≡ is_eq o → (is_le p && is_le q) ≡ r → (is_le (ordering_then o p) && is_le (ordering_then (ordering_reverse o) q)) ≡ (t && r)
+first_equal Less p q t r e h = sym (ap (λ b. b && r) e)
+first_equal Equal p q t r e h = h ∙ sym (ap (λ b. b && r) e)
+first_equal Greater p q t r e h = sym (ap (λ b. b && r) e)
+
 layer : (m n : ℕ) (t : Bool) (p q : Ordering) (r : Bool) → t ≡ eqb m n → (is_le p && is_le q) ≡ r → (is_le (ordering_then (nat_cmp m n) p) && is_le (ordering_then (nat_cmp n m) q)) ≡ (t && r)
-unfolding both
 layer m n t p q r test rest =
-    by_ranked (m < n) (m ≡ n) (n < m) (nat_cmp m n) (ranked m n (nat_cmp m n) refl)
-    (λ o l.
-    ap (λ x. both x (nat_cmp n m) p q) o ∙ ap (λ y. both Less y p q) (nat_cmp_total.antisymm n m ∙ ap ordering_reverse o)
-    ∙ sym (ap (λ b. b && r) (test ∙ ne_eqb m n (λ e. omega (arith, l, e)))))
-    (λ o e.
-    ap (λ x. both x (nat_cmp n m) p q) o ∙ ap (λ y. both Equal y p q) (nat_cmp_total.antisymm n m ∙ ap ordering_reverse o)
-    ∙ rest ∙ sym (ap (λ b. b && r) (test ∙ eq-eqb m n e)))
-    (λ o l. ap (λ x. both x (nat_cmp n m) p q) o ∙ sym (ap (λ b. b && r) (test ∙ ne_eqb m n (λ e. omega (arith, l, e)))))
+    ap (λ o. is_le (ordering_then (nat_cmp m n) p) && is_le (ordering_then o q)) (nat_cmp_total.antisymm n m)
+    ∙ first_equal (nat_cmp m n) p q t r (test ∙ unsigned_ties m n) rest
 
 kinds_compared : (k l : Kind) → same_kind k l ≡ eqb (kind_number k) (kind_number l)
 kinds_compared k l =
-    elim (cases_Bool (same_kind k l)) [
-      | inl same ↦ same ∙ sym (eq-eqb (kind_number k) (kind_number l) (ap kind_number (same_kind_is k l same)))
-      | inr other ↦ other ∙ sym (ne_eqb (kind_number k) (kind_number l) (λ e. let same : same_kind k l ≡ true = ap (same_kind k) (sym (kinds_same k l e)) ∙ same_kind_itself k in cc))
-    ]
+    both_ways (same_kind k l) (eqb (kind_number k) (kind_number l)) (λ h. eq-eqb (kind_number k) (kind_number l) (ap kind_number (same_kind_is k l h)))
+    (λ h. ap (same_kind k) (sym (kinds_same k l (eqb-true (kind_number k) (kind_number l) h))) ∙ same_kind_itself k)
 
-letters_compared : (a b : List ℕ) → is_le (slice_cmp nat_cmp a b) ≡ letters_le a b
+pub letters_compared : (a b : List ℕ) → is_le (slice_cmp nat_cmp a b) ≡ letters_le a b
 letters_compared a b = sym (letters_le_is a b ∙ at_most_is (slice_cmp nat_cmp a b))
   where
     at_most_is : (o : Ordering) → at_most o ≡ is_le o

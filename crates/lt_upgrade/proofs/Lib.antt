@@ -4,7 +4,6 @@ mod UpgradeCores
 mod UpgradeTags
 mod UpgradeRepeats
 mod UpgradeLaw
-mod UpgradeFindings
 mod UpgradeChecks
 mod UpgradeWholes
 mod UpgradeFaults

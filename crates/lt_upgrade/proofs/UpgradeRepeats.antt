@@ -1,6 +1,8 @@
 -- The variant that a refusal of a newer registry names is one for a tag and for its old canonical form.
-use Rattle.std.proofs.Common.{◌≡◌, ℕ, ◌⊎◌, inl, inr, false, List, [], ◌∷◌, ◌++◌, Option, Some, None, refl, sym, ap, ◌∙◌, subst, arith}
-use Rattle.std.specs.List.{AllByRecursion}
+use Rattle.std.proofs.Common.{◌≡◌, ℕ, zero, suc, ◌+◌, ◌⊎◌, inl, inr, false, List, [], ◌∷◌, ◌++◌, take, drop, Option, Some, None, refl, sym, ap, ◌∙◌, subst, arith}
+use Rattle.std.specs.List.{AllByRecursion, Contains}
+use Rattle.std.proofs.lemmas.List.Elements.{Contains-append_left, Contains-append_right, Contains-append_cases}
+use Rattle.lt_registry.proofs.ListLemmas.{whole_turn}
 use Rattle.lt_tag.specs.Parts.{CoreParts, ExtensionParts, TForm, TagForm, LangTag, PrivateUse, Grandfathered}
 use Rattle.lt_registry.specs.Parts.{EntryParts}
 use Rattle.lt_registry.specs.Entries.{whole_value}
@@ -26,46 +28,18 @@ use Rattle.lt_canon.proofs.TagForm.{or_value, core_end, cores_formed, value_end,
 use Rattle.lt_upgrade.proofs.UpgradeCores.{old_core_step}
 use Rattle.lt_tag.specs.Values.{core_alone}
 
--- members of lists
+-- two neighbours that change places are there still
+swapped : (x a b : ExtensionParts) (after : List ExtensionParts) → Contains (a ∷ b ∷ after) x → Contains (b ∷ a ∷ after) x
+swapped x a b after (zero, n, e) = (1, omega arith, e)
+swapped x a b after (suc zero, n, e) = (0, omega arith, e)
+swapped x a b after (suc (suc k), n, e) = (suc (suc k), n, e)
 
-abbrev Member : {A : Type 0} → A → List A → Type 0
-Member x [] = ⊥
-Member x (y ∷ ys) = (y ≡ x) ⊎ Member x ys
-
-member_cases : {A : Type 0} (x : A) (xs ys : List A) → Member x (xs ++ ys) → Member x xs ⊎ Member x ys
-member_cases x [] ys m = inr m
-member_cases x (z ∷ zs) ys (inl e) = inl (inl e)
-member_cases x (z ∷ zs) ys (inr m) = elim (member_cases x zs ys m) [ inl k ↦ inl (inr k) | inr k ↦ inr k ]
-
-on_left : {A : Type 0} (x : A) (xs ys : List A) → Member x xs → Member x (xs ++ ys)
-on_left x [] ys m = absurd m
-on_left x (z ∷ zs) ys (inl e) = inl e
-on_left x (z ∷ zs) ys (inr m) = inr (on_left x zs ys m)
-
-on_right : {A : Type 0} (x : A) (xs ys : List A) → Member x ys → Member x (xs ++ ys)
-on_right x [] ys m = m
-on_right x (z ∷ zs) ys m = inr (on_right x zs ys m)
-
--- a member, and what is round it
-record Split {A : Type 0} (x : A) (xs : List A) : Type 0 where
-  before : List A
-  after : List A
-  there : xs ≡ before ++ x ∷ after
-
-split_member : {A : Type 0} (x : A) (xs : List A) → Member x xs → Split x xs
-split_member x [] m = absurd m
-split_member x (y ∷ ys) (inl e) = record { before = []; after = ys; there = ap (λ z. z ∷ ys) e }
-split_member x (y ∷ ys) (inr m) = let k = split_member x ys m in record { before = y ∷ k.before; after = k.after; there = ap (λ l. y ∷ l) k.there }
-
-swapped : {A : Type 0} (x a b : A) (after : List A) → Member x (a ∷ b ∷ after) → Member x (b ∷ a ∷ after)
-swapped x a b after (inl e) = inr (inl e)
-swapped x a b after (inr (inl e)) = inl e
-swapped x a b after (inr (inr m)) = inr (inr m)
-
-swap_keeps : (x : ExtensionParts) (es fs : List ExtensionParts) → ListStep false singleton_cmp es fs → Member x es → Member x fs
+swap_keeps : (x : ExtensionParts) (es fs : List ExtensionParts) → ListStep false singleton_cmp es fs → Contains es x → Contains fs x
 swap_keeps x es fs (by_swap before a b after s) m =
-    let k = member_cases x before (a ∷ b ∷ after) (subst (Member x) s.there m) in
-    subst (Member x) (sym s.result) (elim k [ inl n ↦ on_left x before (b ∷ a ∷ after) n | inr n ↦ on_right x before (b ∷ a ∷ after) (swapped x a b after n) ])
+    rw s.result (elim (Contains-append_cases before (a ∷ b ∷ after) x (rw s.there at m)) [
+      | inl n ↦ Contains-append_left before (b ∷ a ∷ after) x n
+      | inr n ↦ Contains-append_right before (b ∷ a ∷ after) x (swapped x a b after n)
+    ])
 swap_keeps x es fs (by_drop before a between b after o s) m = cc
 
 -- an extension whose source repeats the variant
@@ -77,7 +51,7 @@ record Carries (R : List EntryParts) (v : List ℕ) (e : ExtensionParts) : Type 
 -- one of the extensions does
 record Carrier (R : List EntryParts) (v : List ℕ) (es : List ExtensionParts) : Type 0 where
   extension : ExtensionParts
-  member : Member extension es
+  member : Contains es extension
   carries : Carries R v extension
 
 module _ (A B : List EntryParts) (CA : IsChecked A) (CB : IsChecked B) (U : Upgrades A B) where
@@ -113,29 +87,29 @@ module _ (A B : List EntryParts) (CA : IsChecked A) (CB : IsChecked B) (U : Upgr
   to_carrier : (v : List ℕ) (es : List ExtensionParts) → IsRepeatOfSource B es v → Carrier B v es
   to_carrier v es r = record {
     extension = r.extension;
-    member = subst (Member r.extension) (sym r.there) (on_right r.extension r.before (r.extension ∷ r.after) (inl refl));
+    member = rw r.there (Contains-append_right r.before (r.extension ∷ r.after) r.extension (0, omega arith, refl));
     carries = record { source = r.source; has_source = r.has_source; repeat = r.repeat };
   }
 
   from_carrier : (v : List ℕ) (es : List ExtensionParts) → Carrier B v es → IsRepeatOfSource B es v
   from_carrier v es k =
-      let s = split_member k.extension es k.member in
-      record { before = s.before; extension = k.extension; after = s.after; there = s.there; source = k.carries.source; has_source = k.carries.has_source; repeat = k.carries.repeat }
+      let m = k.member in
+      record { before = take m.0 es; extension = k.extension; after = drop (m.0 + 1) es; there = whole_turn es m.0 k.extension m.1 (sym m.2); source = k.carries.source; has_source = k.carries.has_source; repeat = k.carries.repeat }
 
   carrier_moves : (v : List ℕ) (es fs : List ExtensionParts) → AllByRecursion (IsProperExtension A) es → ExtensionsStep A es fs → Carrier B v es → Carrier B v fs
   carrier_moves v es fs P (among s) k = record { extension = k.extension; member = swap_keeps k.extension es fs s k.member; carries = k.carries }
-  carrier_moves v es fs P (inside before e f after w s) k = by (member_cases k.extension before (e ∷ after) (subst (Member k.extension) w.there k.member))
+  carrier_moves v es fs P (inside before e f after w s) k = by (Contains-append_cases before (e ∷ after) k.extension (rw w.there at k.member))
     where
       proper : IsProperExtension A e
       proper = all_middle (IsProperExtension A) before e after (subst (AllByRecursion (IsProperExtension A)) w.there P)
 
-      put : (x : ExtensionParts) → Carries B v x → Member x (before ++ f ∷ after) → Carrier B v fs
-      put x c m = record { extension = x; member = subst (Member x) (sym w.result) m; carries = c }
+      put : (x : ExtensionParts) → Carries B v x → Contains (before ++ f ∷ after) x → Carrier B v fs
+      put x c m = record { extension = x; member = rw w.result m; carries = c }
 
-      by : Member k.extension before ⊎ Member k.extension (e ∷ after) → Carrier B v fs
-      by (inl m) = put k.extension k.carries (on_left k.extension before (f ∷ after) m)
-      by (inr (inl q)) = put f (carried v e f proper s (subst (Carries B v) (sym q) k.carries)) (on_right f before (f ∷ after) (inl refl))
-      by (inr (inr m)) = put k.extension k.carries (on_right k.extension before (f ∷ after) (inr m))
+      by : Contains before k.extension ⊎ Contains (e ∷ after) k.extension → Carrier B v fs
+      by (inl m) = put k.extension k.carries (Contains-append_left before (f ∷ after) k.extension m)
+      by (inr (zero, n, q)) = put f (carried v e f proper s (subst (Carries B v) (sym q) k.carries)) (Contains-append_right before (f ∷ after) f (0, omega arith, refl))
+      by (inr (suc i, n, q)) = put k.extension k.carries (Contains-append_right before (f ∷ after) k.extension (suc i, n, q))
 
   -- a plain core whose end repeats no variant
   end_distinct : (d : CoreParts) → (o : Option TagForm) → whole_value B (core_alone d) ≡ o → RepeatsNoVariant (or_value (core_alone d) (value_end B CB) o) → Distinct d.variants

@@ -1,13 +1,13 @@
 -- The steps of an old registry keep the end form of a newer one.
-use Rattle.std.proofs.Common.{◌≡◌, false, List, ◌∷◌, ◌++◌, Some, refl, sym, ap, ◌∙◌, subst, map, IfSome}
+use Rattle.std.proofs.Common.{◌≡◌, List, ◌∷◌, ◌++◌, Some, refl, sym, ap, ◌∙◌, subst, map}
 use Rattle.std.specs.Prelude.{option_map}
 use Rattle.std.specs.List.{AllByRecursion}
 use Rattle.std.proofs.lemmas.List.{map-append}
-use Rattle.lt_tag.specs.Parts.{CoreParts, ExtensionParts, TForm, TagForm, LangTag}
+use Rattle.lt_tag.specs.Parts.{ExtensionParts, TagForm, LangTag}
 use Rattle.lt_registry.specs.Parts.{EntryParts}
-use Rattle.lt_registry.specs.Validity.{IsProperCore, IsProperExtension, HasProperParts, IsProperLangTag}
+use Rattle.lt_registry.specs.Validity.{IsProperExtension, HasProperParts, IsProperLangTag}
 use Rattle.lt_rewrite.specs.Rewriting.{Equivalent, same, forth, back}
-use Rattle.lt_rewrite.specs.Extensions.{singleton_cmp, separator_cmp, TransformStep, on_source, on_fields, ExtensionStep, in_unicode, in_transform, ExtensionsStep, inside, among}
+use Rattle.lt_rewrite.specs.Extensions.{TransformStep, on_source, on_fields, ExtensionStep, in_unicode, in_transform, ExtensionsStep, inside, among}
 use Rattle.lt_rewrite.specs.TagSteps.{TagChange, on_core, on_extensions, on_whole, TagStep}
 use Rattle.lt_rewrite.proofs.PartLists.{all_middle}
 use Rattle.lt_rewrite.proofs.ExtensionLaws.{extension_formed, one_by_one, same_source}
@@ -18,7 +18,7 @@ use Rattle.lt_upgrade.specs.declared.conditions.UpgradeCondition.TheVariants as 
 use Rattle.lt_check.proofs.Checks.{core_conditions}
 use Rattle.lt_check.proofs.CheckedRegistry.{valued_whole, whole_has}
 use Rattle.lt_canon.proofs.EndForms.{star_end}
-use Rattle.lt_canon.proofs.TagForm.{core_end, cores_formed, extension_end, extensions_end, extensions_end_formed, lang_end, tag_end, end_form, extensions_step_from, extensions_step_to, lang_end_some}
+use Rattle.lt_canon.proofs.TagForm.{core_end, extension_end, extensions_end, extensions_end_formed, lang_end, tag_end, end_form, extensions_step_from, extensions_step_to, lang_end_some}
 use Rattle.lt_upgrade.proofs.UpgradeCores.{old_core_step}
 
 module _ (A B : List EntryParts) (CA : IsChecked A) (CB : IsChecked B) (U : Upgrades A B) where

@@ -1,9 +1,14 @@
 -- What the old registry registers the new one does, so proper tags stay proper.
-use Rattle.std.proofs.Common.{◌≡◌, ℕ, zero, suc, ◌<◌, ◌==◌, ◌⊎◌, inl, inr, Bool, true, false, cond, ◌&&◌, List, [], ◌∷◌, Option, Some, None, refl, sym, ap, ◌∙◌, length, is_some, find, IfSome, arith}
-use Rattle.std.specs.Prelude.{nat_lt, Contains}
-use Rattle.std.proofs.lemmas.Bool.{and_parts, and_from, eqb-true, eq-eqb, ne_eqb, lt-ltb, ltb-true}
+use Rattle.std.proofs.Common.{◌≡◌, ℕ, ◌==◌, ◌⊎◌, inl, inr, Bool, true, false, cond, ◌&&◌, ◌||◌, List, [], ◌∷◌, Option, Some, None, refl, sym, ap, ◌∙◌, length, is_some, find, IfSome}
+use Rattle.std.specs.Prelude.{Contains}
+use Rattle.std.proofs.lemmas.Bool.{and_parts, and_from, eqb-true, eq-eqb}
 use Rattle.std.proofs.lemmas.Slice.Eq.{bytes_eq-Decides}
+use Rattle.std.specs.List.{list_any}
 use Rattle.std.specs.Option.{option_or}
+use Rattle.std.proofs.lemmas.Cmp.{nat_list_cmp_total}
+use Rattle.std.proofs.lemmas.List.Folds.{list_any-from_Any}
+use Rattle.lt_upgrade.proofs.CoveredRanges.{letters_compared}
+use Rattle.lt_upgrade.proofs.WidestRanges.{further}
 use Rattle.lt_subtag.specs.Shapes.{is_alphabetic}
 use Rattle.lt_tag.specs.Parts.{CoreParts, ExtensionParts, TagForm, LangTag, PrivateUse, Grandfathered}
 use Rattle.lt_tag.proofs.TagLemmas.{AllByRecursion-weaker}
@@ -22,53 +27,22 @@ use Rattle.lt_upgrade.specs.Upgrade.{StaysRegistered, IsCovered, IsSameExtlang, 
 use Rattle.lt_upgrade.specs.declared.conditions.UpgradeCondition.TheVariants as upgrades
 
 -- the letter order is transitive
-
-le_same : (x y : ℕ) (xs ys : List ℕ) → x ≡ y → letters_le xs ys ≡ true → letters_le (x ∷ xs) (y ∷ ys) ≡ true
-le_same x y xs ys e h = ap (λ b. cond b (letters_le xs ys) (nat_lt x y)) (eq-eqb x y e) ∙ h
-
-le_less : (x y : ℕ) (xs ys : List ℕ) → x < y → letters_le (x ∷ xs) (y ∷ ys) ≡ true
-le_less x y xs ys h = ap (λ b. cond b (letters_le xs ys) (nat_lt x y)) (ne_eqb x y (λ e. omega arith)) ∙ lt-ltb x y h
-
-le_cases : (x y : ℕ) (xs ys : List ℕ) → letters_le (x ∷ xs) (y ∷ ys) ≡ true → ((x ≡ y) × (letters_le xs ys ≡ true)) ⊎ (x < y)
-le_cases x y xs ys h = by (x == y) refl h
-  where
-    by : (b : Bool) → (x == y) ≡ b → cond b (letters_le xs ys) (nat_lt x y) ≡ true → ((x ≡ y) × (letters_le xs ys ≡ true)) ⊎ (x < y)
-    by true e k = inl (eqb-true x y e, k)
-    by false e k = inr (ltb-true x y k)
-
-le_trans_at : (x y z : ℕ) (xs ys zs : List ℕ) → (letters_le xs ys ≡ true → letters_le ys zs ≡ true → letters_le xs zs ≡ true) → ((x ≡ y) × (letters_le xs ys ≡ true)) ⊎ (x < y) → ((y ≡ z) × (letters_le ys zs ≡ true)) ⊎ (y < z) → letters_le (x ∷ xs) (z ∷ zs) ≡ true
-le_trans_at x y z xs ys zs ih (inl a) (inl b) = le_same x z xs zs (a.0 ∙ b.0) (ih a.1 b.1)
-le_trans_at x y z xs ys zs ih (inl a) (inr b) = le_less x z xs zs (omega (arith, a.0))
-le_trans_at x y z xs ys zs ih (inr a) (inl b) = le_less x z xs zs (omega (arith, b.0))
-le_trans_at x y z xs ys zs ih (inr a) (inr b) = le_less x z xs zs (omega arith)
-
 letters_trans : (a b c : List ℕ) → letters_le a b ≡ true → letters_le b c ≡ true → letters_le a c ≡ true
-letters_trans [] b c h k = refl
-letters_trans (x ∷ xs) [] c h k = cc
-letters_trans (x ∷ xs) (y ∷ ys) [] h k = cc
-letters_trans (x ∷ xs) (y ∷ ys) (z ∷ zs) h k = le_trans_at x y z xs ys zs (letters_trans xs ys zs) (le_cases x y xs ys h) (le_cases y z ys zs k)
+letters_trans a b c h k = sym (letters_compared a c) ∙ further nat_list_cmp_total a b c (letters_compared a b ∙ h) (letters_compared b c ∙ k)
 
 -- look-up finds what is there
-
-find_some_at : {A : Type 0} (test : A → Bool) (x : A) (xs : List A) → (b : Bool) → is_some (find test xs) ≡ true → is_some (cond b (Some x) (find test xs)) ≡ true
-find_some_at test x xs true h = refl
-find_some_at test x xs false h = h
-
-pub find_some : {A : Type 0} (test : A → Bool) (xs : List A) (a : A) → Contains xs a → test a ≡ true → is_some (find test xs) ≡ true
-find_some test [] a h t = absurd (omega (arith, h.1))
-find_some test (x ∷ xs) a (zero, n, e) t = ap (λ b. is_some (cond b (Some x) (find test xs))) (ap test e ∙ t)
-find_some test (x ∷ xs) a (suc k, n, e) t = find_some_at test x xs (test x) (find_some test xs a (k, omega (arith, n), e) t)
-
-by_range_at : (B : List EntryParts) (k : Kind) (s : List ℕ) → is_some (find (λ (e : EntryParts). same_kind e.kind k && holds s e.name) B) ≡ true → (o : Option EntryParts) → is_some (option_or o (find (λ (e : EntryParts). same_kind e.kind k && holds s e.name) B)) ≡ true
-by_range_at B k s h None = h
-by_range_at B k s h (Some e) = refl
+found_any : {A : Type 0} (test : A → Bool) (xs : List A) → is_some (find test xs) ≡ list_any test xs
+found_any test [] = refl
+found_any test (x ∷ xs) = elim (test x) as (λ b. is_some (cond b (Some x) (find test xs)) ≡ (b || list_any test xs)) [ true ↦ refl | false ↦ found_any test xs ]
 
 -- a range of the new registry that holds it registers it
 by_range : (B : List EntryParts) (k : Kind) (s : List ℕ) (f : EntryParts) → Contains B f → f.kind ≡ k → holds s f.name ≡ true → is_registered B k s ≡ true
 by_range B k s f g e h =
-    by_range_at B k s (find_some (λ (e : EntryParts). same_kind e.kind k && holds s e.name) B f g
-    (and_from (same_kind f.kind k) (holds s f.name) (ap (λ x. same_kind x k) e ∙ same_kind_itself k) h))
-    (find (λ (e : EntryParts). same_kind e.kind k && is_named s e.name) B)
+    elim (find (λ (e : EntryParts). same_kind e.kind k && is_named s e.name) B) as (λ o. is_some (option_or o (find (λ (e : EntryParts). same_kind e.kind k && holds s e.name) B)) ≡ true) [
+      | None ↦ found_any (λ (e : EntryParts). same_kind e.kind k && holds s e.name) B ∙ list_any-from_Any (λ (e : EntryParts). same_kind e.kind k && holds s e.name) B
+          (g.0, f, g.1, g.2, and_from (same_kind f.kind k) (holds s f.name) (ap (λ x. same_kind x k) e ∙ same_kind_itself k) h)
+      | Some _ ↦ refl
+    ]
 
 module _ (A B : List EntryParts) (CA : MeetsCoreConditions A) (U : Upgrades A B) where
   stays_at : (k : Kind) (s : List ℕ) (e : EntryParts) → StaysRegistered B e → e.kind ≡ k → (n : EntryName) → e.name ≡ n → (is_named s n ≡ true) ⊎ (holds s n ≡ true) → is_registered B k s ≡ true

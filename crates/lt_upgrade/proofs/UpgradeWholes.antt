@@ -1,5 +1,5 @@
 -- Whether two tags reach one canonical tag by a newer registry.
-use Rattle.std.proofs.Common.{◌≡◌, ◌↔◌, inl, inr, Bool, true, false, List, Some, refl, sym, ap, ◌∙◌, subst, IsTrue}
+use Rattle.std.proofs.Common.{◌≡◌, ◌↔◌, inl, inr, Bool, true, false, List, Some, refl, sym, ◌∙◌, subst, IsTrue}
 use Rattle.std.proofs.lemmas.List.Elements.{All-contains}
 use Rattle.std.specs.Prelude.{Contains}
 use Rattle.lt_tag.specs.Parts.{TagForm, Grandfathered}
@@ -11,7 +11,7 @@ use Rattle.lt_registry.specs.declared.entries.Kind.{Kind}
 use Rattle.lt_registry.specs.declared.entries.Kind.TheVariants as kinds
 use Rattle.lt_registry.specs.declared.entries.EntryName.TheVariants as names
 use Rattle.lt_rewrite.specs.Conditions.{HasFittingGrandfathered}
-use Rattle.lt_rewrite.specs.TagSteps.{IsReached, IsCanonical}
+use Rattle.lt_rewrite.specs.TagSteps.{IsReached, IsCanonical, TagStep}
 use Rattle.lt_check.specs.Conditions.{IsValidCoreAlone, HasValidWhole, IsChecked}
 use Rattle.lt_canon.specs.Equivalence.{IsEquivalenceAnswer, IsFirstRefusal}
 use Rattle.lt_canon.specs.Refusals.{IsRefusedWith}
@@ -22,7 +22,11 @@ use Rattle.lt_check.proofs.CheckedRegistry.{grandfathered_fit}
 use Rattle.lt_canon.proofs.EndForms.{star_end, rest_is_end}
 use Rattle.lt_canon.proofs.TagForm.{tag_end, end_form}
 use Rattle.lt_canon.proofs.TagRepeats.{repeats_at_end, form_is_end}
-use Rattle.lt_upgrade.proofs.UpgradeFindings.{proper_from}
+use Rattle.lt_rewrite.specs.Rewriting.{Star, done, then}
+
+proper_from : (R : List EntryParts) {t u : TagForm} → Star (TagStep R) t u → IsProper R u → IsProper R t
+proper_from R done p = p
+proper_from R (then s r) p = s.from
 
 module _ (R : List EntryParts) (C : IsChecked R) where
   canonical_end : (t c : TagForm) → IsCanonical R c → IsReached R t c → tag_end R C t ≡ c
@@ -41,7 +45,7 @@ module _ (R : List EntryParts) (C : IsChecked R) where
   -- a tag without repeats that reaches a canonical tag is not refused
   not_refused : (t c : TagForm) (refusal : Refusal) → RepeatsNoVariant t → (refusal ≡ refusals.OutOfMemory → ⊥) → IsCanonical R c → IsReached R t c → IsRefusedWith R t refusal → ⊥
   not_refused t c (refusals.Invalid fault) d n K r h =
-      let P : IsProper R t = proper_from R C r K.valid.proper in
+      let P : IsProper R t = proper_from R r K.valid.proper in
       let V : IsValid R t = record { proper = P; distinct = d } in
       (valid_law R t P.tag).0 V fault.kind fault.place h.there
   not_refused t c (refusals.ReplacementRepeats v) d n K r h =
@@ -72,11 +76,11 @@ module _ (R : List EntryParts) (C : IsChecked R) where
           let is : t ≡ Grandfathered g.0 = cc in
           subst RepeatsNoVariant (sym is) tt
 
-      by : (k : Kind) → e.kind ≡ k → is_whole_kind e.kind ≡ true → RepeatsNoVariant t
+      by : (k : Kind) → e.kind ≡ k → is_whole_kind k ≡ true → RepeatsNoVariant t
       by kinds.Grandfathered k h = named k
       by kinds.Redundant k h = (whole.1 k).valid.distinct
-      by kinds.Language k h = let x : false ≡ true = ap is_whole_kind (sym k) ∙ h in absurd (cc)
-      by kinds.Extlang k h = let x : false ≡ true = ap is_whole_kind (sym k) ∙ h in absurd (cc)
-      by kinds.Script k h = let x : false ≡ true = ap is_whole_kind (sym k) ∙ h in absurd (cc)
-      by kinds.Region k h = let x : false ≡ true = ap is_whole_kind (sym k) ∙ h in absurd (cc)
-      by kinds.Variant k h = let x : false ≡ true = ap is_whole_kind (sym k) ∙ h in absurd (cc)
+      by kinds.Language k h = cc
+      by kinds.Extlang k h = cc
+      by kinds.Script k h = cc
+      by kinds.Region k h = cc
+      by kinds.Variant k h = cc

@@ -1,5 +1,5 @@
 -- Ranges of which none lies within another hold what all hold.
-use Rattle.std.proofs.Common.{◌≡◌, ℕ, zero, suc, ◌<◌, ◌≤◌, Bool, true, false, ◌&&◌, ◌||◌, cond, List, [], ◌∷◌, length, get_or, refl, sym, ap, ◌∙◌, arith}
+use Rattle.std.proofs.Common.{◌≡◌, ℕ, zero, suc, ◌<◌, ◌≤◌, Bool, true, false, not, ◌&&◌, ◌||◌, cond, List, [], ◌∷◌, length, get_or, refl, sym, ap, ◌∙◌, arith}
 use Rattle.std.specs.List.{AllByRecursion, list_any, dedup, dedup_from}
 use Rattle.std.specs.List.Sorted.{IsSortedBy, IsPartitionedBy, IsPermutation}
 use Rattle.std.specs.Ordering.{ordering_reverse, is_le, is_lt, is_gt}
@@ -21,38 +21,34 @@ end_total =
     then_total (on_total (λ (e : RangeEnd). e.kind) nat_cmp_total)
     (then_total (on_total (λ (e : RangeEnd). e.length) nat_cmp_total) (on_total (λ (e : RangeEnd). e.subtag) nat_list_cmp_total))
 
-not_greater : (o : Ordering) → is_le o ≡ true → is_gt o ≡ false
-not_greater Less h = refl
-not_greater Equal h = refl
-not_greater Greater h = cc
+not_greater : (o : Ordering) → is_gt o ≡ not (is_le o)
+not_greater Less = refl
+not_greater Equal = refl
+not_greater Greater = refl
 
-no_greater : (o : Ordering) → is_gt o ≡ false → is_le o ≡ true
-no_greater Less h = refl
-no_greater Equal h = refl
-no_greater Greater h = cc
+pub further : {K : Type 0} {R : K → K → Ordering} → IsTotalOrder R → (a b c : K) → is_le (R a b) ≡ true → is_le (R b c) ≡ true → is_le (R a c) ≡ true
+further {R = R} total a b c h k =
+    not_false (is_le (R a c)) (sym (not_greater (R a c)) ∙ upto total a b c (not_greater (R a b) ∙ ap not h) (not_greater (R b c) ∙ ap not k))
+  where
+    not_false : (t : Bool) → not t ≡ false → t ≡ true
+    not_false true h = refl
+    not_false false h = cc
 
 up_to_further : (a b c : RangeEnd) → is_up_to a b ≡ true → is_up_to b c ≡ true → is_up_to a c ≡ true
-up_to_further a b c h k =
-    no_greater (end_cmp a c) (upto end_total a b c (not_greater (end_cmp a b) h) (not_greater (end_cmp b c) k))
+up_to_further = further end_total
 
-turned : (o p : Ordering) → o ≡ ordering_reverse p → is_le o ≡ false → is_le p ≡ true
-turned Less p e h = cc
-turned Equal p e h = cc
-turned Greater Less e h = refl
-turned Greater Equal e h = cc
-turned Greater Greater e h = cc
+turned : (o : Ordering) → is_le o ≡ false → is_le (ordering_reverse o) ≡ true
+turned Less h = cc
+turned Equal h = cc
+turned Greater h = refl
 
 other_way : (a b : RangeEnd) → is_up_to a b ≡ false → is_up_to b a ≡ true
-other_way a b h = turned (end_cmp a b) (end_cmp b a) (end_total.antisymm a b) h
+other_way a b h = ap is_le (end_total.antisymm b a) ∙ turned (end_cmp a b) h
 
-not_before : (o p : Ordering) → o ≡ ordering_reverse p → is_lt o ≡ false → is_le p ≡ true
-not_before Less p e h = cc
-not_before Equal Less e h = cc
-not_before Equal Equal e h = refl
-not_before Equal Greater e h = cc
-not_before Greater Less e h = refl
-not_before Greater Equal e h = cc
-not_before Greater Greater e h = cc
+not_before : (o : Ordering) → is_lt o ≡ false → is_le (ordering_reverse o) ≡ true
+not_before Less h = cc
+not_before Equal h = refl
+not_before Greater h = refl
 
 -- sorted ranges
 
@@ -76,7 +72,7 @@ sorted_rise rows up =
     (λ i j d le l.
     let v = get_or rows i d in
     let w = get_or rows j d in
-    not_before (end_cmp w.first v.first) (end_cmp v.first w.first) (end_total.antisymm w.first v.first) (sorted_far begins_before (ranks_by end_total (λ (r : RangeRow). r.first)) rows up i j d le l))
+    ap is_le (end_total.antisymm v.first w.first) ∙ not_before (end_cmp w.first v.first) (sorted_far begins_before (ranks_by end_total (λ (r : RangeRow). r.first)) rows up i j d le l))
 
 -- those are left out that end no later than an earlier one
 

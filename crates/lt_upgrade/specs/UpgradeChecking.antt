@@ -9,7 +9,6 @@ use Rattle.lt_registry.specs.declared.entries.EntryName.{EntryName}
 use Rattle.lt_registry.specs.declared.entries.EntryName.TheVariants as names
 use Rattle.lt_upgrade.specs.Upgrade.{MeetsUpgrade, records_of, upgrade_rank_of, IsAtUpgradeFault, IsUpgradeFinding}
 use Rattle.lt_upgrade.specs.declared.conditions.UpgradeCondition.{UpgradeCondition}
-use Rattle.lt_upgrade.specs.declared.conditions.UpgradeCondition.TheVariants as upgrades
 use Rattle.lt_upgrade.specs.declared.upgrades.UpgradeFault.{UpgradeFault}
 use Rattle.lt_upgrade.specs.declared.upgrades.UpgradeFault.TheVariants as faults
 

@@ -1,4 +1,4 @@
-use Rattle.std.proofs.Common.{◌≡◌, true, sym, ◌∙◌, subst}
+use Rattle.std.proofs.Common.{◌≡◌, true, subst}
 use Rattle.lt_registry.specs.Entries.{NumbersRise}
 use Rattle.lt_upgrade.specs.Upgrade.{records_of}
 use Rattle.lt_check.proofs.FirstFaults.{item_at}

@@ -1,4 +1,4 @@
-use Rattle.std.proofs.Common.{◌+◌, subst}
+use Rattle.std.proofs.Common.{subst}
 use Rattle.std.specs.Prelude.{slice_index_or}
 use Rattle.lt_upgrade.specs.UpgradeChecking.{IsLowestUpgradeFault}
 use Rattle.lt_upgrade.specs.declared.conditions.UpgradeCondition.TheVariants as upgrades
