@@ -1,14 +1,15 @@
 -- What the front of a line says of the line.
-use Rattle.std.proofs.Common.{◌≡◌, ◌≢◌, ◌<◌, ◌≤◌, ◌+◌, ◌^◌, ◌++◌, ◌∷◌, ◌∙◌, inl, inr, ℕ, List, [], Some, length, sym, ap, refl, arith, append_assoc, length-append}
+use Rattle.std.proofs.Common.{◌≡◌, ◌≢◌, ◌<◌, ◌≤◌, ◌+◌, ◌^◌, ◌++◌, ◌∷◌, ◌∙◌, inl, inr, ℕ, List, [], Some, true, leb, length, sym, ap, refl, arith, append_assoc, length-append}
 use Rattle.std.specs.Fmt.{decimal}
+use Rattle.std.proofs.lemmas.Bool.{leb-true}
 use Rattle.std.proofs.lemmas.Fmt.{length-decimal-le}
+use Rattle.lt_verify.proofs.StepLemmas.{each_kind}
 use Rattle.lt_tag.specs.Parts.{TagForm}
 use Rattle.lt_registry.specs.Parts.{EntryParts}
 use Rattle.lt_rewrite.specs.Labels.{LeadsBy}
 use Rattle.lt_rewrite.specs.Names.{name_of}
 use Rattle.lt_rewrite.specs.declared.steps.Step.{Step}
 use Rattle.lt_rewrite.specs.declared.steps.StepKind.{StepKind}
-use Rattle.lt_rewrite.specs.declared.steps.StepKind.TheVariants as kinds
 use Rattle.lt_verify.specs.Judging.{KeepsFew}
 use Rattle.lt_verify.specs.Verdicts.{NamesNoStep, NamesNothing}
 use Rattle.lt_verify.specs.StepLines.{IsNoName, IsStepLine, NamesNoEnd, end_line, step_line, text_of}
@@ -24,20 +25,7 @@ longer_front (x ∷ a) b (y ∷ c) d e le =
     (rest.0, ap (λ l. x ∷ l) rest.1 ∙ ap (λ z. z ∷ (c ++ rest.0)) first)
 
 name_short : (kind : StepKind) → length (name_of kind) ≤ 15
-name_short kinds.Extlang = omega arith
-name_short kinds.Language = omega arith
-name_short kinds.Script = omega arith
-name_short kinds.Region = omega arith
-name_short kinds.Variant = omega arith
-name_short kinds.VariantLanguage = omega arith
-name_short kinds.Whole = omega arith
-name_short kinds.SwapExtensions = omega arith
-name_short kinds.DropAttribute = omega arith
-name_short kinds.SwapAttributes = omega arith
-name_short kinds.DropKeyword = omega arith
-name_short kinds.SwapKeywords = omega arith
-name_short kinds.DropTrue = omega arith
-name_short kinds.SwapFields = omega arith
+name_short kind = leb-true (length (name_of kind)) 15 (each_kind (λ k. leb (length (name_of k)) 15) (λ _. true) refl kind)
 
 number_short : (n : ℕ) → n < 2 ^ 32 → length (decimal n) ≤ 10
 number_short n h = length-decimal-le 10 n (omega arith) (omega (arith, h)) (omega (arith, h))

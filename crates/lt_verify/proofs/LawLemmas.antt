@@ -19,47 +19,10 @@ use Rattle.lt_verify.specs.StepLines.{IsStepLine, end_line, text_of}
 use Rattle.lt_verify.specs.Verdicts.{EndsElsewhere, EndsHere, LeadsOn, NamesNoStep}
 use Rattle.lt_verify.specs.declared.verdicts.Verdict.{Verdict}
 use Rattle.lt_verify.specs.declared.verdicts.Verdict.TheVariants as verdicts
-use Rattle.lt_verify.proofs.StepLemmas.{name_free, number_free, one_split}
+use Rattle.lt_verify.proofs.StepLemmas.{each_kind, one_words, same_kind, step_words}
 use Rattle.lt_verify.proofs.VerdictLemmas.{judged_of}
 
 -- ---- a line names one step
-
-by_name : List ℕ → StepKind
-by_name name =
-    if bytes_eq name (name_of kinds.Extlang) then kinds.Extlang
-    else if bytes_eq name (name_of kinds.Language) then kinds.Language
-    else if bytes_eq name (name_of kinds.Script) then kinds.Script
-    else if bytes_eq name (name_of kinds.Region) then kinds.Region
-    else if bytes_eq name (name_of kinds.Variant) then kinds.Variant
-    else if bytes_eq name (name_of kinds.VariantLanguage) then kinds.VariantLanguage
-    else if bytes_eq name (name_of kinds.Whole) then kinds.Whole
-    else if bytes_eq name (name_of kinds.SwapExtensions) then kinds.SwapExtensions
-    else if bytes_eq name (name_of kinds.DropAttribute) then kinds.DropAttribute
-    else if bytes_eq name (name_of kinds.SwapAttributes) then kinds.SwapAttributes
-    else if bytes_eq name (name_of kinds.DropKeyword) then kinds.DropKeyword
-    else if bytes_eq name (name_of kinds.SwapKeywords) then kinds.SwapKeywords
-    else if bytes_eq name (name_of kinds.DropTrue) then kinds.DropTrue
-    else kinds.SwapFields
-
-named_back : (kind : StepKind) → by_name (name_of kind) ≡ kind
-unfolding by_name
-named_back kinds.Extlang = refl
-named_back kinds.Language = refl
-named_back kinds.Script = refl
-named_back kinds.Region = refl
-named_back kinds.Variant = refl
-named_back kinds.VariantLanguage = refl
-named_back kinds.Whole = refl
-named_back kinds.SwapExtensions = refl
-named_back kinds.DropAttribute = refl
-named_back kinds.SwapAttributes = refl
-named_back kinds.DropKeyword = refl
-named_back kinds.SwapKeywords = refl
-named_back kinds.DropTrue = refl
-named_back kinds.SwapFields = refl
-
-same_kind : (a b : StepKind) → name_of a ≡ name_of b → a ≡ b
-same_kind a b e = sym (named_back a) ∙ ap by_name e ∙ named_back b
 
 same_number : (m n : ℕ) → m < 2 ^ 32 → n < 2 ^ 32 → decimal m ≡ decimal n → m ≡ n
 same_number m n small few e =
@@ -71,39 +34,16 @@ same_parts a b kind place number =
 
 same_step : (line : List ℕ) (a b : Step) (x y : List ℕ) → IsStepLine line a x → IsStepLine line b y → (a ≡ b) × (x ≡ y)
 same_step line a b x y is are =
-    let first = one_split 32 (name_of a.kind) (name_of b.kind) _ _ (name_free a.kind) (name_free b.kind) (sym is.line_is ∙ are.line_is) in
-    let second = one_split 32 (decimal a.place) (decimal b.place) _ _ (number_free a.place is.place) (number_free b.place are.place) first.1 in
-    let third = one_split 32 (decimal a.number) (decimal b.number) _ _ (number_free a.number is.number) (number_free b.number are.number) second.1 in
-    (same_parts a b (same_kind a.kind b.kind first.0) (same_number a.place b.place is.place are.place second.0) (same_number a.number b.number is.number are.number third.0), third.1)
+    let words = one_words (step_words is) (step_words are) in
+    (same_parts a b (same_kind a.kind b.kind words.0) (same_number a.place b.place is.place are.place words.1) (same_number a.number b.number is.number are.number words.2), words.3)
 
 -- a line that names a step is not that of an end: no name begins with `=`
-is_equals : List ℕ → Bool
+abbrev is_equals : List ℕ → Bool
 is_equals [] = false
 is_equals (byte ∷ bytes) = byte == 61
 
-no_equals : (kind : StepKind) (more : List ℕ) → is_equals (name_of kind ++ more) ≡ false
-unfolding is_equals
-no_equals kinds.Extlang more = refl
-no_equals kinds.Language more = refl
-no_equals kinds.Script more = refl
-no_equals kinds.Region more = refl
-no_equals kinds.Variant more = refl
-no_equals kinds.VariantLanguage more = refl
-no_equals kinds.Whole more = refl
-no_equals kinds.SwapExtensions more = refl
-no_equals kinds.DropAttribute more = refl
-no_equals kinds.SwapAttributes more = refl
-no_equals kinds.DropKeyword more = refl
-no_equals kinds.SwapKeywords more = refl
-no_equals kinds.DropTrue more = refl
-no_equals kinds.SwapFields more = refl
-
-end_equals : (text : List ℕ) → is_equals (end_line text) ≡ true
-unfolding is_equals
-end_equals text = refl
-
 no_end_name : (kind : StepKind) (more text : List ℕ) → name_of kind ++ more ≢ end_line text
-no_end_name kind more text e = false≢true (sym (no_equals kind more) ∙ ap is_equals e ∙ end_equals text)
+no_end_name kind more text e = false≢true (sym (each_kind (λ k. is_equals (name_of k ++ more)) (λ _. false) refl kind) ∙ ap is_equals e)
 
 not_both : (line : List ℕ) (step : Step) (x text : List ℕ) → IsStepLine line step x → line ≡ end_line text → ⊥
 not_both line step x text is ends = no_end_name step.kind _ text (sym is.line_is ∙ ends)
