@@ -1,7 +1,6 @@
 -- One thing is judged of lines.
-use Rattle.std.proofs.Common.{◌≡◌, ◌≢◌, ◌<◌, ◌+◌, ◌^◌, ◌++◌, ◌∷◌, ◌∙◌, inl, inr, ℕ, List, [], Bool, true, false, ◌==◌, Option, Some, None, if◌then◌else◌, sym, ap, refl, subst, arith}
+use Rattle.std.proofs.Common.{◌≡◌, ◌≢◌, ◌<◌, ◌+◌, ◌^◌, ◌++◌, ◌∷◌, ◌∙◌, inl, inr, ℕ, List, [], Bool, false, ◌==◌, Option, Some, None, sym, ap, refl, subst, arith}
 use Rattle.std.specs.Fmt.{decimal}
-use Rattle.std.specs.Str.{bytes_eq}
 use Rattle.std.specs.Str.Parse.{digits_value}
 use Rattle.std.proofs.lemmas.Bool.{false≢true}
 use Rattle.std.proofs.lemmas.Fmt.{decimal_is_IsNumeral}
@@ -11,7 +10,6 @@ use Rattle.lt_rewrite.specs.Labels.{LeadsBy, step_at}
 use Rattle.lt_rewrite.specs.Names.{name_of}
 use Rattle.lt_rewrite.specs.declared.steps.Step.{Step}
 use Rattle.lt_rewrite.specs.declared.steps.StepKind.{StepKind}
-use Rattle.lt_rewrite.specs.declared.steps.StepKind.TheVariants as kinds
 use Rattle.lt_canon.specs.TraceLaws.{TracesHaveOneEnd}
 use Rattle.lt_verify.specs.Judging.{Judges, SettlesLine}
 use Rattle.lt_verify.specs.Laws.{HaveOneVerdict}
