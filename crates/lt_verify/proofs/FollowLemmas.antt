@@ -1,13 +1,11 @@
 -- What lines that come in pieces lead to.
-use Rattle.std.proofs.Common.{◌≡◌, ◌≢◌, ◌<◌, ◌≤◌, ◌+◌, ◌++◌, ◌∷◌, ◌∙◌, inl, inr, ℕ, List, [], Option, Some, None, length, sym, ap, refl, subst, arith, append_assoc, length-append}
+use Rattle.std.proofs.Common.{◌≡◌, ◌≢◌, ◌<◌, ◌≤◌, ◌+◌, ◌++◌, ◌∷◌, ◌∙◌, inr, ℕ, List, [], Option, Some, None, length, sym, ap, refl, subst, arith, append_assoc, length-append}
 use Rattle.std.proofs.lemmas.List.Elements.{All-append, All-nil}
 use Rattle.lt_jar.proofs.CutLemmas.{first_goes_on, lines_of-ended, lines_of-last}
 use Rattle.lt_jar.specs.Lines.{IsOneLine, lines_of}
 use Rattle.lt_tag.specs.Parts.{TagForm}
 use Rattle.lt_registry.specs.Parts.{EntryParts}
-use Rattle.lt_registry.specs.Validity.{IsProper}
-use Rattle.lt_verify.specs.Judging.{IsProperIf, Judges, KeepsFew, SettlesFront, SettlesLine}
-use Rattle.lt_verify.specs.Verdicts.{EndsHere, LeadsOn}
+use Rattle.lt_verify.specs.Judging.{IsProperIf, Judges, SettlesFront, SettlesLine}
 use Rattle.lt_verify.specs.Verifying.{GoesOn, GoesTo, JudgesEnd, KeepsMore, SettlesKept, Takes, TakesPiece}
 use Rattle.lt_verify.specs.declared.lines.Following.{Following}
 use Rattle.lt_verify.specs.declared.verdicts.Verdict.{Verdict}

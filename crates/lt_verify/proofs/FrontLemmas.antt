@@ -11,8 +11,7 @@ use Rattle.lt_rewrite.specs.Names.{name_of}
 use Rattle.lt_rewrite.specs.declared.steps.Step.{Step}
 use Rattle.lt_rewrite.specs.declared.steps.StepKind.{StepKind}
 use Rattle.lt_verify.specs.Judging.{KeepsFew}
-use Rattle.lt_verify.specs.Verdicts.{NamesNoStep, NamesNothing}
-use Rattle.lt_verify.specs.StepLines.{IsNoName, IsStepLine, NamesNoEnd, end_line, step_line, text_of}
+use Rattle.lt_verify.specs.StepLines.{IsNoName, IsStepLine, NamesNoEnd, step_line, text_of}
 
 -- the first of two parts is the front of a longer one
 longer_front : (a b c d : List ℕ) → a ++ b ≡ c ++ d → length c ≤ length a → (rest : List ℕ) × (a ≡ c ++ rest)
@@ -32,23 +31,11 @@ number_short n h = length-decimal-le 10 n (omega arith) (omega (arith, h)) (omeg
 
 -- a step's line goes on as its text does
 pub step_line-append : (step : Step) (text more : List ℕ) → step_line step text ++ more ≡ step_line step (text ++ more)
-step_line-append step text more =
-    let name = name_of step.kind in
-    let place = decimal step.place in
-    let number = decimal step.number in
-    append_assoc name (32 ∷ (place ++ 32 ∷ (number ++ 32 ∷ text))) more
-    ∙ ap (λ l. name ++ 32 ∷ l) (append_assoc place (32 ∷ (number ++ 32 ∷ text)) more ∙ ap (λ l. place ++ 32 ∷ l) (append_assoc number (32 ∷ text) more))
+step_line-append step text more = simp append_assoc
 
 label_short : (step : Step) → step.place < 2 ^ 32 → step.number < 2 ^ 32 → length (step_line step []) ≤ 38
 label_short step place number =
-    let a = name_short step.kind in
-    let b = number_short step.place place in
-    let c = number_short step.number number in
-    let third : length (decimal step.number ++ 32 ∷ []) ≡ length (decimal step.number) + 1 = length-append (decimal step.number) (32 ∷ []) in
-    let second : length (decimal step.place ++ 32 ∷ (decimal step.number ++ 32 ∷ [])) ≡ length (decimal step.place) + length (32 ∷ (decimal step.number ++ 32 ∷ [])) =
-    length-append (decimal step.place) (32 ∷ (decimal step.number ++ 32 ∷ [])) in
-    let first = length-append (name_of step.kind) (32 ∷ (decimal step.place ++ 32 ∷ (decimal step.number ++ 32 ∷ []))) in
-    omega (arith, a, b, c, first, second, third)
+    omega (arith, name_short step.kind, number_short step.place place, number_short step.number number, length-append {A = ℕ})
 
 -- a long front that names no step names none however it goes on
 pub front_no_name : (front more : List ℕ) → 38 < length front → IsNoName front → IsNoName (front ++ more)
@@ -66,20 +53,13 @@ front_no_end (a ∷ b ∷ front) more long none = λ text e.
     let second : b ≡ 32 = cc in
     none front (ap (λ c. c ∷ b ∷ front) first ∙ ap (λ c. 61 ∷ c ∷ front) second)
 
-pub front_names_nothing : (front more : List ℕ) → 38 < length front → IsNoName front → NamesNoEnd front → NamesNothing (front ++ more)
-front_names_nothing front more long name end = record { no_step = front_no_name front more long name; no_end = front_no_end front more long end }
-
 -- a step's line that goes on
-pub step_goes_on : (front more : List ℕ) (step : Step) (text : List ℕ) → IsStepLine front step text → IsStepLine (front ++ more) step (text ++ more)
-step_goes_on front more step text is = record {
+pub step_goes_on : {front text : List ℕ} {step : Step} (more : List ℕ) → IsStepLine front step text → IsStepLine (front ++ more) step (text ++ more)
+step_goes_on {text = text} {step = step} more is = record {
   place = is.place;
   number = is.number;
   line_is = ap (λ l. l ++ more) is.line_is ∙ step_line-append step text more;
 }
-
-pub front_stuck : (R : List EntryParts) (t : TagForm) (front more : List ℕ) (step : Step) (text : List ℕ) → IsStepLine front step text → ((u : TagForm) → LeadsBy R t step u → ⊥)
-    → NamesNoStep R t (front ++ more)
-front_stuck R t front more step text is stuck = record { step = step; text = text ++ more; is_line = step_goes_on front more step text is; stuck = stuck }
 
 pub longer_other : (text more other : List ℕ) → length other < length text → text ++ more ≢ other
 longer_other text more other lt e = absurd (omega (arith, lt, ap length e, length-append text more))
@@ -89,13 +69,9 @@ longer_other text more other lt e = absurd (omega (arith, lt, ap length e, lengt
 line_length : (step : Step) (text : List ℕ) → length (step_line step text) ≡ length (step_line step []) + length text
 line_length step text = ap length (sym (step_line-append step [] text)) ∙ length-append (step_line step []) text
 
-pub step_within : (R : List EntryParts) (t u : TagForm) (front : List ℕ) (step : Step) (text : List ℕ) → IsStepLine front step text → LeadsBy R t step u → length text ≤ length (text_of u)
-    → KeepsFew R (Some t) (length front)
-step_within R t u front step text is leads short = inr (record {
+pub step_within : {R : List EntryParts} {t u : TagForm} {front text : List ℕ} {step : Step} → IsStepLine front step text → LeadsBy R t step u → length text ≤ length (text_of u) → KeepsFew R (Some t) (length front)
+step_within {u = u} {text = text} {step = step} is leads short = inr (record {
   line = step_line step (text_of u);
   right = inl (u, record { step = step; leads = leads; is_line = record { place = is.place; number = is.number; line_is = refl } });
   long = omega (arith, short, line_length step text, line_length step (text_of u), ap length is.line_is);
 })
-
-pub end_within : (R : List EntryParts) (t : TagForm) (front text : List ℕ) → front ≡ end_line text → length text ≤ length (text_of t) → KeepsFew R (Some t) (length front)
-end_within R t front text is short = inr (record { line = end_line (text_of t); right = inr refl; long = omega (arith, short, ap length is) })

@@ -77,9 +77,7 @@ module _ {I : Type 0} {R : List EntryParts} {t : TagForm} {remaining : I → Opt
   -- what is judged behind the lines that were taken is the verdict on all bytes
   judged_bytes : (more : List ℕ) (judged : Verdict) → Judges R state.number state.here (lines_of (state.kept.items ++ more)) judged → IsVerdictOf R t judged (v.read ++ more)
   judged_bytes more judged is =
-      let ahead = subst (λ (l : List ℕ). Judges R v.start.number v.start.here (lines_of (l ++ (v.read ++ more))) judged) v.begins.kept (v.takes.follows more judged began is) in
-      verdict_of R t (lines_of (v.read ++ more)) judged
-      (subst (λ (n : ℕ). Judges R n (Some t) (lines_of (v.read ++ more)) judged) v.begins.number (subst (λ (h : Option TagForm). Judges R v.start.number h (lines_of (v.read ++ more)) judged) v.begins.here ahead))
+      verdict_of R t (lines_of (v.read ++ more)) judged (rw (v.begins.kept, v.begins.number, v.begins.here) at (v.takes.follows more judged began is))
 
   -- one read more
   read_more : (after : Device I) → reads_of after ≡ one_more (reads_of before) → HasRead input after (turn + 1)

@@ -21,15 +21,14 @@ module _ (R : List EntryParts) (t here : TagForm) (before : List (List ℕ)) (le
   stops line after Holds holds = record { before = before; line = line; after = after; there = refl; nth = refl; here = here; lead = lead; holds = holds }
 
   settled : (line : List ℕ) (after : List (List ℕ)) (v : Verdict) → SettlesLine R (length before + 1) here line v → IsVerdict R t (before ++ line ∷ after) v
-  settled line after v (inl (stuck, is)) = subst (IsVerdict R t (before ++ line ∷ after)) (sym is) (stops line after _ stuck)
-  settled line after v (inr (inl (ends, is))) = subst (IsVerdict R t (before ++ line ∷ after)) (sym is) (length before + 1, stops line after EndsElsewhere ends)
-  settled line after v (inr (inr (bad, is))) = subst (IsVerdict R t (before ++ line ∷ after)) (sym is) (inl (stops line after _ bad))
+  settled line after v (inl (stuck, is)) = rw is (stops line after _ stuck)
+  settled line after v (inr (inl (ends, is))) = rw is (length before + 1, stops line after EndsElsewhere ends)
+  settled line after v (inr (inr (bad, is))) = rw is (inl (stops line after _ bad))
 
   ended : (line : List ℕ) (after : List (List ℕ)) (v : Verdict) → EndsHere here line → Judges R (length before + 1 + 1) None after v → IsVerdict R t (before ++ line ∷ after) v
-  ended line [] v ends is =
-      subst (IsVerdict R t (before ++ line ∷ [])) (sym is) (record { steps = before; end = here; lead = lead; all = ap (λ (l : List ℕ). before ++ l ∷ []) ends })
+  ended line [] v ends is = rw is (record { steps = before; end = here; lead = lead; all = ap (λ (l : List ℕ). before ++ l ∷ []) ends })
   ended line (next ∷ after) v ends is =
-      subst (IsVerdict R t (before ++ line ∷ next ∷ after)) (sym is) (inr (inr (record {
+      rw is (inr (inr (record {
         steps = before;
         end = here;
         lead = lead;
@@ -41,18 +40,10 @@ module _ (R : List EntryParts) (t here : TagForm) (before : List (List ℕ)) (le
 
 verdict_behind : (R : List EntryParts) (t here : TagForm) (before lines : List (List ℕ)) (v : Verdict) → Lead R t before here → Judges R (length before + 1) (Some here) lines v
     → IsVerdict R t (before ++ lines) v
-verdict_behind R t here before [] v lead is =
-    let all : before ≡ before ++ [] = sym (append-nil before) in
-    subst (IsVerdict R t (before ++ [])) (sym is) (inr (inl (record {
-      here = here;
-      lead = subst (λ (l : List (List ℕ)). Lead R t l here) all lead;
-      nth = ap (λ (l : List (List ℕ)). length l + 1) all;
-    })))
+verdict_behind R t here before [] v lead is = rw (append-nil before, is) (inr (inl (record { here = here; lead = lead; nth = refl })))
 verdict_behind R t here before (line ∷ lines) v lead (inl (u, leads, behind)) =
     let one : length before + 1 + 1 ≡ length (before ++ line ∷ []) + 1 = omega (arith, length-append before (line ∷ [])) in
-    let rest =
-    verdict_behind R t u (before ++ line ∷ []) lines v (lead_more R before t here u line lead leads) (subst (λ (n : ℕ). Judges R n (Some u) lines v) one behind) in
-    subst (λ (l : List (List ℕ)). IsVerdict R t l v) (append_assoc before (line ∷ []) lines) rest
+    rw (← append_assoc before (line ∷ []) lines) (verdict_behind R t u (before ++ line ∷ []) lines v (lead_more R before t here u line lead leads) (rw one at behind))
 verdict_behind R t here before (line ∷ lines) v lead (inr (inl (ends, behind))) = ended R t here before lead line lines v ends behind
 verdict_behind R t here before (line ∷ lines) v lead (inr (inr settles)) = settled R t here before lead line lines v settles
 
@@ -66,7 +57,7 @@ judged_behind : (R : List EntryParts) (n : ℕ) (t here : TagForm) (before lines
     → Judges R n (Some t) (before ++ lines) v
 judged_behind R n t here [] lines v lead judged =
     let same : n + 0 ≡ n = omega arith in
-    subst (λ (m : ℕ). Judges R m (Some t) lines v) same (subst (λ (x : TagForm). Judges R (n + 0) (Some x) lines v) (sym lead) judged)
+    rw (lead, ← same) judged
 judged_behind R n t here (line ∷ before) lines v lead judged =
     let same : n + length (line ∷ before) ≡ n + 1 + length before = omega arith in
     inl (lead.0, lead.1, judged_behind R (n + 1) lead.0 here before lines v lead.2 (subst (λ (m : ℕ). Judges R m (Some here) lines v) same judged))
@@ -75,21 +66,16 @@ judged_at : (R : List EntryParts) (t : TagForm) (lines : List (List ℕ)) (n : �
     → SettlesLine R n s.here s.line v → Judges R 1 (Some t) lines v
 judged_at R t lines n Holds v s settles =
     let nth : n ≡ 1 + length s.before = omega (arith, s.nth) in
-    subst (λ (l : List (List ℕ)). Judges R 1 (Some t) l v) (sym s.there)
-    (judged_behind R 1 t s.here s.before (s.line ∷ s.after) v s.lead (inr (inr (subst (λ (m : ℕ). SettlesLine R m s.here s.line v) nth settles))))
+    rw s.there (judged_behind R 1 t s.here s.before (s.line ∷ s.after) v s.lead (inr (inr (rw nth at settles))))
 
 pub judged_of : (R : List EntryParts) (t : TagForm) (lines : List (List ℕ)) (v : Verdict) → IsVerdict R t lines v → Judges R 1 (Some t) lines v
-judged_of R t lines verdicts.Right is =
-    subst (λ (l : List (List ℕ)). Judges R 1 (Some t) l verdicts.Right) (sym is.all)
-    (judged_behind R 1 t is.end is.steps (end_line (text_of is.end) ∷ []) verdicts.Right is.lead (inr (inl (refl, refl))))
+judged_of R t lines verdicts.Right is = rw is.all (judged_behind R 1 t is.end is.steps (end_line (text_of is.end) ∷ []) verdicts.Right is.lead (inr (inl (refl, refl))))
 judged_of R t lines (verdicts.NoSuchStep n) is = judged_at R t lines n _ (verdicts.NoSuchStep n) is (inl (is.holds, refl))
 judged_of R t lines verdicts.WrongEnd is = judged_at R t lines is.0 EndsElsewhere verdicts.WrongEnd is.1 (inr (inl (is.1.holds, refl)))
 judged_of R t lines (verdicts.BadStep n) (inl is) = judged_at R t lines n _ (verdicts.BadStep n) is (inr (inr (is.holds, refl)))
 judged_of R t lines (verdicts.BadStep n) (inr (inl is)) =
     let nth : n ≡ 1 + length lines = omega (arith, is.nth) in
-    subst (λ (l : List (List ℕ)). Judges R 1 (Some t) l (verdicts.BadStep n)) (append-nil lines)
-    (judged_behind R 1 t is.here lines [] (verdicts.BadStep n) is.lead (ap (λ (m : ℕ). verdicts.BadStep m) nth))
+    rw (← append-nil lines) (judged_behind R 1 t is.here lines [] (verdicts.BadStep n) is.lead (ap (λ (m : ℕ). verdicts.BadStep m) nth))
 judged_of R t lines (verdicts.BadStep n) (inr (inr is)) =
     let nth : n ≡ 1 + length is.steps + 1 = omega (arith, is.nth) in
-    subst (λ (l : List (List ℕ)). Judges R 1 (Some t) l (verdicts.BadStep n)) (sym is.there)
-    (judged_behind R 1 t is.end is.steps (end_line (text_of is.end) ∷ is.line ∷ is.after) (verdicts.BadStep n) is.lead (inr (inl (refl, ap (λ (m : ℕ). verdicts.BadStep m) nth))))
+    rw is.there (judged_behind R 1 t is.end is.steps (end_line (text_of is.end) ∷ is.line ∷ is.after) (verdicts.BadStep n) is.lead (inr (inl (refl, ap (λ (m : ℕ). verdicts.BadStep m) nth))))

@@ -1,4 +1,4 @@
-use Rattle.std.proofs.Common.{◌≡◌, Option, arith}
+use Rattle.std.proofs.Common.{Option, arith}
 use Rattle.std.proofs.lemmas.Result.{IfOk-weaker}
 use Rattle.lt_verify.specs.declared.verdicts.Verdict.{Verdict}
 use Rattle.lt_verify.proofs.FollowLemmas.{first_turn, last_turn, next_turn, settled_turn, turn_proper, turn_room}
