@@ -13,9 +13,8 @@ use Rattle.lt_check.proofs.Checks.{core_conditions}
 use Rattle.lt_canon.proofs.EndForms.{end_equivalent, equivalent_sym, star_equivalent}
 use Rattle.lt_canon.proofs.TagForm.{tag_end, end_form, tag_reached}
 use Rattle.lt_canon.proofs.TagRepeats.{repeats_at_end, form_is_end, repeat_together}
-use Rattle.lt_upgrade.proofs.UpgradeRepeats.{steps_named}
-use Rattle.lt_upgrade.proofs.UpgradeTags.{old_equivalent}
-use Rattle.lt_upgrade.proofs.UpgradeValid.{proper_stays, valid_stays}
+use Rattle.lt_upgrade.proofs.UpgradeTags.{steps_named, old_equivalent}
+use Rattle.lt_upgrade.proofs.UpgradeCores.{proper_stays, valid_stays}
 
 module _ (A B : List EntryParts) (CA : IsChecked A) (CB : IsChecked B) (U : Upgrades A B) where
   stays : (t : TagForm) → IsValid A t → IsValid B t

@@ -1,7 +1,7 @@
 use Rattle.std.proofs.Common.{◌≡◌, ◌≤◌, ◌∙◌, ℕ, length, take, sym, ap, arith, length-take}
 use Rattle.std.proofs.lemmas.Result.{err_from_is_err_and}
 use Rattle.lt_lines.proofs.RunLemmas.{refilled}
-use Rattle.lt_verify.proofs.RunLemmas.{run_failed, run_finished, run_first, run_lacks, run_next, run_room, run_settled, run_stopped, run_turns}
+use Rattle.lt_verify.proofs.FollowLemmas.{run_failed, run_finished, run_first, run_lacks, run_next, run_room, run_settled, run_stopped, run_turns}
 use Rattle.lt_verify.proofs.lines.verify_lines.Goals as goal
 
 pub returns-in_err-buffer : goal.returns-in_err-buffer
