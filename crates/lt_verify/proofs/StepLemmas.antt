@@ -20,6 +20,7 @@ use Rattle.lt_tag.specs.Parts.{TagForm}
 use Rattle.lt_registry.specs.Parts.{EntryParts}
 use Rattle.lt_rewrite.specs.Labels.{LeadsBy}
 use Rattle.lt_verify.specs.Judging.{KeepsFew}
+use Rattle.lt_verify.specs.Verdicts.{HasOtherText, NamesNothing}
 
 -- ---- words that are parted by a space
 
@@ -174,20 +175,23 @@ label_short step place number =
     omega (arith, name_short step.kind, number_short step.place place, number_short step.number number, length-append {A = ℕ})
 
 -- a long front that names no step names none however it goes on
-pub front_no_name : (front more : List ℕ) → 38 < length front → IsNoName front → IsNoName (front ++ more)
+front_no_name : (front more : List ℕ) → 38 < length front → IsNoName front → IsNoName (front ++ more)
 front_no_name front more long none = λ step text is.
     let label : step_line step text ≡ step_line step [] ++ text = sym (step_line-append step [] text) in
     let short = label_short step is.place is.number in
     let rest = longer_front front more (step_line step []) text (is.line_is ∙ label) (omega (arith, short, long)) in
     none step rest.0 (record { place = is.place; number = is.number; line_is = rest.1 ∙ step_line-append step [] rest.0 })
 
-pub front_no_end : (front more : List ℕ) → 38 < length front → NamesNoEnd front → NamesNoEnd (front ++ more)
+front_no_end : (front more : List ℕ) → 38 < length front → NamesNoEnd front → NamesNoEnd (front ++ more)
 front_no_end [] more long none = absurd (omega (arith, long))
 front_no_end (a ∷ []) more long none = absurd (omega (arith, long))
 front_no_end (a ∷ b ∷ front) more long none = λ text e.
     let first : a ≡ 61 = cc in
     let second : b ≡ 32 = cc in
     none front (ap (λ c. c ∷ b ∷ front) first ∙ ap (λ c. 61 ∷ c ∷ front) second)
+
+pub front_names_nothing : (front more : List ℕ) → 38 < length front → IsNoName front → NamesNoEnd front → NamesNothing (front ++ more)
+front_names_nothing front more long name end = record { no_step = front_no_name front more long name; no_end = front_no_end front more long end }
 
 -- a step's line that goes on
 pub step_goes_on : {front text : List ℕ} {step : Step} (more : List ℕ) → IsStepLine front step text → IsStepLine (front ++ more) step (text ++ more)
@@ -197,8 +201,17 @@ step_goes_on {text = text} {step = step} more is = record {
   line_is = ap (λ l. l ++ more) is.line_is ∙ step_line-append step text more;
 }
 
-pub longer_other : (text more other : List ℕ) → length other < length text → text ++ more ≢ other
-longer_other text more other lt e = absurd (omega (arith, lt, ap length e, length-append text more))
+-- with a longer text than that of the tag to which the step leads
+pub front_other : {R : List EntryParts} {t u : TagForm} {front text : List ℕ} {step : Step} (more : List ℕ) → IsStepLine front step text → LeadsBy R t step u → length (text_of u) < length text
+    → HasOtherText R t (front ++ more)
+front_other {u = u} {text = text} {step = step} more is leads longer = record {
+  step = step;
+  text = text ++ more;
+  is_line = step_goes_on more is;
+  u = u;
+  leads = leads;
+  other = λ e. absurd (omega (arith, longer, ap length e, length-append text more));
+}
 
 -- ---- a front that may be kept
 
