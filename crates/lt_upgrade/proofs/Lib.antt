@@ -1,7 +1,6 @@
 -- What this crate alone uses.
 mod UpgradeCores
 mod UpgradeTags
-mod UpgradeLaw
 mod UpgradeChecks
 mod UpgradeWholes
 mod UpgradeFaults

@@ -1,14 +1,15 @@
--- The steps of an old registry keep the end form of a newer one, and the variant that a refusal names.
+-- The steps of an old registry keep the end form of a newer one, and the variant that a refusal names: so what follows
+-- for tags from an upgrade.
 use Rattle.std.proofs.Common.{◌≡◌, List, ◌∷◌, ◌++◌, Some, refl, sym, ap, ◌∙◌, subst, map, ℕ, zero, suc, ◌+◌, ◌⊎◌, inl, inr, false, [], take, drop, Option, None, arith}
 use Rattle.std.specs.Prelude.{option_map}
 use Rattle.std.specs.List.{AllByRecursion, Contains}
 use Rattle.std.proofs.lemmas.List.{map-append}
 use Rattle.lt_tag.specs.Parts.{ExtensionParts, TagForm, LangTag, CoreParts, TForm, PrivateUse, Grandfathered}
 use Rattle.lt_registry.specs.Parts.{EntryParts}
-use Rattle.lt_registry.specs.Validity.{IsProperExtension, HasProperParts, IsProperLangTag, RepeatsNoVariant, Distinct}
+use Rattle.lt_registry.specs.Validity.{IsProperExtension, HasProperParts, IsProperLangTag, RepeatsNoVariant, Distinct, IsValid}
 use Rattle.lt_rewrite.specs.Rewriting.{Equivalent, same, forth, back, Star, done, then}
 use Rattle.lt_rewrite.specs.Extensions.{TransformStep, on_source, on_fields, ExtensionStep, in_unicode, in_transform, ExtensionsStep, inside, among, singleton_cmp}
-use Rattle.lt_rewrite.specs.TagSteps.{TagChange, on_core, on_extensions, on_whole, TagStep, CanBeReplacedWhole}
+use Rattle.lt_rewrite.specs.TagSteps.{TagChange, on_core, on_extensions, on_whole, TagStep, CanBeReplacedWhole, IsReached, AreEquivalent}
 use Rattle.lt_rewrite.proofs.PartLists.{all_middle, empty_middle}
 use Rattle.lt_rewrite.proofs.ExtensionLaws.{extension_formed, one_by_one, same_source, one_transform}
 use Rattle.lt_rewrite.proofs.ProperTags.{source_proper}
@@ -17,9 +18,9 @@ use Rattle.lt_upgrade.specs.Upgrade.{MeetInCanonical, KeepsWhole, Upgrades}
 use Rattle.lt_upgrade.specs.declared.conditions.UpgradeCondition.TheVariants as upgrades
 use Rattle.lt_check.proofs.Checks.{core_conditions}
 use Rattle.lt_check.proofs.CheckedRegistry.{valued_whole, whole_has, IsGrandfatheredTag, tag_plain}
-use Rattle.lt_canon.proofs.EndForms.{star_end, rest_is_end}
-use Rattle.lt_canon.proofs.TagForm.{core_end, extension_end, extensions_end, extensions_end_formed, lang_end, tag_end, end_form, extensions_step_from, extensions_step_to, lang_end_some, or_value, cores_formed, value_end}
-use Rattle.lt_upgrade.proofs.UpgradeCores.{old_core_step}
+use Rattle.lt_canon.proofs.EndForms.{star_end, rest_is_end, end_equivalent, equivalent_sym, star_equivalent}
+use Rattle.lt_canon.proofs.TagForm.{core_end, extension_end, extensions_end, extensions_end_formed, lang_end, tag_end, end_form, extensions_step_from, extensions_step_to, lang_end_some, or_value, cores_formed, value_end, tag_reached}
+use Rattle.lt_upgrade.proofs.UpgradeCores.{old_core_step, proper_stays, valid_stays}
 use Rattle.std.proofs.lemmas.List.Elements.{Contains-append_left, Contains-append_right, Contains-append_cases}
 use Rattle.lt_registry.proofs.ListLemmas.{whole_turn}
 use Rattle.lt_registry.specs.Entries.{whole_value}
@@ -27,9 +28,11 @@ use Rattle.lt_registry.specs.Faults.{HasSource}
 use Rattle.lt_rewrite.specs.CoreSteps.{values_of, IsCoreNormalForm}
 use Rattle.lt_rewrite.specs.Orderings.{ListStep, by_swap, by_drop}
 use Rattle.lt_rewrite.proofs.NormalForms.{form_is_normal, normal_is_form}
-use Rattle.lt_canon.specs.Answers.{IsRepeatOfCore, IsRepeatOfSource, HasDistinctForm, IsNamedRepeat}
+use Rattle.lt_canon.specs.Answers.{IsRepeatOfCore, IsRepeatOfSource, HasDistinctForm, IsNamedRepeat, IsCanonicalFormOf}
 use Rattle.lt_canon.proofs.Distinctness.{second_repeats}
 use Rattle.lt_tag.specs.Values.{core_alone}
+use Rattle.lt_upgrade.specs.Laws.{UpgradeKeepsTags}
+use Rattle.lt_canon.proofs.TagRepeats.{repeats_at_end, form_is_end, repeat_together}
 
 module _ (A B : List EntryParts) (CA : IsChecked A) (CB : IsChecked B) (U : Upgrades A B) where
   new_extension_step : (e f : ExtensionParts) → ExtensionStep B e f → extension_end B CB e ≡ extension_end B CB f
@@ -199,14 +202,10 @@ module _ (A B : List EntryParts) (CA : IsChecked A) (CB : IsChecked B) (U : Upgr
       by (on_core c d es ps from to k) =
           let P : IsProperLangTag A c es = subst (HasProperParts A) from s.from.parts in
           let e : core_end B CB c ≡ core_end B CB d = old_core_step A B CA CB U c d P.core k in
-          let old : IsNamedRepeat B (LangTag c es ps) v = subst (λ x. IsNamedRepeat B x v) from r in
-          let new : IsNamedRepeat B (LangTag d es ps) v = elim old [ inl x ↦ inl (repeat_moves c d v e x) | inr x ↦ inr (distinct_moves c d e x.0, x.1) ] in
-          subst (λ x. IsNamedRepeat B x v) (sym to) new
+          rw to (elim (rw from at r) [ inl x ↦ inl (repeat_moves c d v e x) | inr x ↦ inr (distinct_moves c d e x.0, x.1) ])
       by (on_extensions c es fs ps from to k) =
           let P : IsProperLangTag A c es = subst (HasProperParts A) from s.from.parts in
-          let old : IsNamedRepeat B (LangTag c es ps) v = subst (λ x. IsNamedRepeat B x v) from r in
-          let new : IsNamedRepeat B (LangTag c fs ps) v = elim old [ inl x ↦ inl x | inr x ↦ inr (x.0, from_carrier v fs (carrier_moves v es fs P.extensions k (to_carrier v es x.1))) ] in
-          subst (λ x. IsNamedRepeat B x v) (sym to) new
+          rw to (elim (rw from at r) [ inl x ↦ inl x | inr x ↦ inr (x.0, from_carrier v fs (carrier_moves v es fs P.extensions k (to_carrier v es x.1))) ])
       by (on_whole is_plain has) =
           let w = valued_whole A t u has in
           let m : MeetInCanonical B t u = whole_has A t u (KeepsWhole B) (U upgrades.SameWhole) w t u w.named w.gives in
@@ -217,3 +216,38 @@ module _ (A B : List EntryParts) (CA : IsChecked A) (CB : IsChecked B) (U : Upgr
   pub steps_named : {t u : TagForm} (v : List ℕ) → Star (TagStep A) t u → IsNamedRepeat B t v → IsNamedRepeat B u v
   steps_named v done r = r
   steps_named v (then {a = a} {b = b} s k) r = steps_named v k (step_named a b v s r)
+
+-- ---- after an upgrade valid tags stay valid, equivalent tags equivalent, and an old canonical form comes to what its tag
+-- comes to.
+
+module _ (A B : List EntryParts) (CA : IsChecked A) (CB : IsChecked B) (U : Upgrades A B) where
+  stays : (t : TagForm) → IsValid A t → IsValid B t
+  stays = valid_stays A B (core_conditions A CA.passes) U
+
+  -- one end form: one canonical form
+  form_moves : (t u c : TagForm) → IsValid B u → tag_end B CB t ≡ tag_end B CB u → IsCanonicalFormOf B t c → IsCanonicalFormOf B u c
+  form_moves t u c V e h =
+      let end : tag_end B CB u ≡ c = sym e ∙ form_is_end B CB t c h in
+      record {
+        valid = V;
+        canonical = h.canonical;
+        reached = subst (IsReached B u) end (tag_reached B CB u V.proper);
+        repeats_none = λ r. repeats_at_end B CB u V r (subst RepeatsNoVariant (sym end) h.canonical.valid.distinct);
+      }
+
+  ends_meet : (t c : TagForm) → IsCanonicalFormOf A t c → tag_end B CB t ≡ tag_end B CB c
+  ends_meet t c h = old_equivalent A B CA CB U (star_equivalent h.reached)
+
+  class_of_form : (t c : TagForm) → IsCanonicalFormOf A t c → AreEquivalent B t c
+  class_of_form t c h = end_equivalent (end_form B CB) t c (stays t h.valid).proper (stays c h.canonical.valid).proper (ends_meet t c h)
+
+  pub upgrade_keeps : UpgradeKeepsTags A B
+  upgrade_keeps = record {
+    valid = stays;
+    equivalent = λ t u P Q e. end_equivalent (end_form B CB) t u (proper_stays A B (core_conditions A CA.passes) U t P) (proper_stays A B (core_conditions A CA.passes) U u Q) (old_equivalent A B CA CB U e);
+    form = λ t c d h k. form_moves t c d (stays c h.canonical.valid) (ends_meet t c h) k;
+    form_back = λ t c d h k. form_moves c t d (stays t h.valid) (sym (ends_meet t c h)) k;
+    repeats = λ t c h r. repeat_together B CB t c (stays t h.valid) (stays c h.canonical.valid) (class_of_form t c h) r;
+    repeats_back = λ t c h r. repeat_together B CB c t (stays c h.canonical.valid) (stays t h.valid) (equivalent_sym (class_of_form t c h)) r;
+    named = λ t c v h r. steps_named A B CA CB U v h.reached r;
+  }
