@@ -2,6 +2,5 @@
 mod UpgradeCores
 mod UpgradeTags
 mod UpgradeChecks
-mod UpgradeWholes
 mod UpgradeFaults
 mod WidestRanges

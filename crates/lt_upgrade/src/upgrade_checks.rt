@@ -205,7 +205,7 @@ pub(crate) fn had_variant_language<L: Lookup>(older: &L, entry: &Entry) -> bool
 }
 
 /// Whether two tags that repeat no variant reach one canonical tag.
-#[tactic(auto, using(crate::proofs::UpgradeWholes::forms_compared, crate::proofs::UpgradeWholes::refused_apart))]
+#[tactic(auto, using(crate::proofs::UpgradeChecks::forms_compared, crate::proofs::UpgradeChecks::refused_apart))]
 fn meet_in_canonical<L: Lookup>(
     alloc: Global,
     newer: &Checked<L>,

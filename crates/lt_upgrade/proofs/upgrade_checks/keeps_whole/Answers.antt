@@ -1,4 +1,4 @@
-use Rattle.lt_upgrade.proofs.UpgradeWholes.{whole_distinct}
+use Rattle.lt_upgrade.proofs.UpgradeChecks.{whole_distinct}
 use Rattle.lt_upgrade.proofs.upgrade_checks.keeps_whole.Goals as goal
 
 pub meet_in_canonical-requires : goal.meet_in_canonical-requires
