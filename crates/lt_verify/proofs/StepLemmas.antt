@@ -8,6 +8,7 @@ use Rattle.std.proofs.lemmas.Fmt.{decimal_is_IsNumeral, length-decimal-le}
 use Rattle.std.proofs.lemmas.Str.Parse.{digit_from_value}
 use Rattle.std.proofs.lemmas.Bool.Decides.{Decides-by_and, Decides-eqb, Decides-not}
 use Rattle.std.proofs.lemmas.List.{get_or-map}
+use Rattle.std.proofs.Math.Seq.{get_or-append_seam}
 use Rattle.std.proofs.lemmas.List.Elements.{All-append, All-cons, All-head, All-nil, All-tail}
 use Rattle.lt_lines.specs.Splitting.{IsFreeOf}
 use Rattle.lt_rewrite.specs.Names.{name_of}
@@ -39,12 +40,7 @@ one_split byte (b ∷ x) (c ∷ y) r s fx fy e =
 
 -- a list that is free of a byte is not parted by it
 pub no_split : (byte : ℕ) (line x r : List ℕ) → IsFreeOf byte line → line ≡ x ++ byte ∷ r → ⊥
-no_split byte [] [] r free e = cc
-no_split byte [] (b ∷ x) r free e = cc
-no_split byte (b ∷ line) [] r free e =
-    let same : b ≡ byte = cc in All-head (λ other. other ≢ byte) b line free same
-no_split byte (b ∷ line) (c ∷ x) r free e =
-    let more : line ≡ x ++ byte ∷ r = cc in no_split byte line x r (All-tail (λ other. other ≢ byte) b line free) more
+no_split byte line x r free e = free (length x) 0 (omega (arith, ap length e, length-append x (byte ∷ r))) (ap (λ l. get_or l (length x) 0) e ∙ get_or-append_seam x byte r 0)
 
 -- ---- the kinds
 
