@@ -1,13 +1,6 @@
 -- What this crate alone uses.
-mod UpgradeValid
 mod UpgradeCores
 mod UpgradeTags
-mod UpgradeRepeats
-mod UpgradeLaw
-mod UpgradeTests
-mod UpgradeFindings
 mod UpgradeChecks
-mod UpgradeWholes
 mod UpgradeFaults
 mod WidestRanges
-mod CoveredRanges

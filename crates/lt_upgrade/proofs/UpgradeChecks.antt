@@ -1,57 +1,93 @@
--- What decides the conditions on an upgrade that speak of one subtag after another.
-use Rattle.std.proofs.Common.{◌≡◌, ◌↔◌, ℕ, Bool, true, false, ◌&&◌, cond, List, [], ◌∷◌, length, Option, Some, None, refl, sym, ap, ◌∙◌, subst, IsTrue, is_some, bytes_eq, arith}
-use Rattle.std.specs.Prelude.{slice_index_or, unwrap_or}
-use Rattle.std.specs.List.{list_all, list_any}
+-- What decides the conditions on an upgrade that speak of one record after another.
+use Rattle.std.proofs.Common.{◌≡◌, ◌↔◌, ℕ, Bool, true, false, ◌&&◌, cond, List, [], ◌∷◌, length, Option, Some, None, refl, sym, ap, ◌∙◌, subst, ◌==◌, ◌<◌, IsTrue, is_some, bytes_eq, inl, inr}
+use Rattle.std.specs.Prelude.{Contains, slice_index_or, unwrap_or}
+use Rattle.std.specs.Bool.{Decides}
+use Rattle.std.specs.Cmp.{both_ways}
+use Rattle.std.specs.List.{list_all}
 use Rattle.std.specs.Option.{option_and_then, option_map_or}
+use Rattle.std.proofs.lemmas.Bool.{and_parts, and_from, eqb-true, eq-eqb}
+use Rattle.std.proofs.lemmas.List.Folds.{Any-from_list_any, list_any-from_Any, list_any_at}
 use Rattle.std.proofs.lemmas.Slice.Eq.{bytes_eq-Decides}
 use Rattle.lt_registry.specs.Parts.{EntryParts}
-use Rattle.lt_registry.specs.Entries.{preferred_value, one_of, entry, is_short, is_registered, language_value, has_prefix}
+use Rattle.lt_registry.specs.Entries.{preferred_value, one_of, entry, is_short, is_registered, language_value, has_prefix, letters_le, FitsName, IsEntry, is_whole_kind, tag_of}
 use Rattle.lt_registry.specs.Same.{same_kind, same_list}
 use Rattle.lt_registry.specs.declared.entries.Kind.{Kind}
 use Rattle.lt_registry.specs.declared.entries.Kind.TheVariants as kinds
+use Rattle.lt_registry.specs.declared.entries.EntryName.{EntryName}
 use Rattle.lt_registry.specs.declared.entries.EntryName.TheVariants as names
 use Rattle.lt_rewrite.specs.CoreSteps.{Ends, EndsIn}
-use Rattle.lt_rewrite.specs.Conditions.{next_value}
+use Rattle.lt_rewrite.specs.Conditions.{next_value, HasFittingGrandfathered}
 use Rattle.lt_rewrite.specs.ChainEnds.{ChainEnds, ChainEndsIn}
-use Rattle.lt_upgrade.specs.Upgrade.{SameEnd, StaysRegistered, KeepsKind, KeepsEnds, IsSameExtlang, IsSameVariantLanguage, HadVariantLanguage}
-use Rattle.lt_upgrade.specs.UpgradeChecking.{covers, is_among}
-use Rattle.lt_check.proofs.Deciding.{Decides-list}
+use Rattle.lt_upgrade.specs.Upgrade.{SameEnd, IsCovered, StaysRegistered, KeepsKind, KeepsEnds, IsSameExtlang, IsSameVariantLanguage, HadVariantLanguage, MeetInCanonical}
+use Rattle.lt_upgrade.specs.UpgradeChecking.{covers, some_covers, is_among}
+use Rattle.lt_rewrite.proofs.Entries.{same_kind_is, same_kind_itself}
+use Rattle.lt_check.proofs.Deciding.{Decides-true, Decides-list, Decides-all}
 use Rattle.lt_check.proofs.RecordChecks.{one_end}
-use Rattle.lt_upgrade.proofs.UpgradeTests.{stays_test, stays_at_test, covered_test, Decides-stays, within_test, same_prefix_test, Decides-same_prefix, Decides-is_some}
+use Rattle.std.proofs.lemmas.List.Elements.{All-contains}
+use Rattle.lt_tag.specs.Parts.{TagForm, Grandfathered}
+use Rattle.lt_registry.specs.Validity.{IsProper, IsValid, RepeatsNoVariant}
+use Rattle.lt_registry.proofs.ValidityLaws.{valid_law}
+use Rattle.lt_rewrite.specs.TagSteps.{IsReached, IsCanonical, TagStep}
+use Rattle.lt_check.specs.Conditions.{IsValidCoreAlone, HasValidWhole, IsChecked}
+use Rattle.lt_canon.specs.Equivalence.{IsEquivalenceAnswer, IsFirstRefusal}
+use Rattle.lt_canon.specs.Refusals.{IsRefusedWith}
+use Rattle.lt_canon.specs.declared.refusals.Refusal.{Refusal}
+use Rattle.lt_canon.specs.declared.refusals.Refusal.TheVariants as refusals
+use Rattle.lt_check.proofs.CheckedRegistry.{grandfathered_fit}
+use Rattle.lt_canon.proofs.EndForms.{star_end, rest_is_end}
+use Rattle.lt_canon.proofs.TagForm.{tag_end, end_form}
+use Rattle.lt_canon.proofs.TagRepeats.{repeats_at_end, form_is_end}
+use Rattle.lt_rewrite.specs.Rewriting.{Star, done, then}
 
 -- a range is covered
-pub covered_compared : (B : List EntryParts) (e : EntryParts) (k : Kind) (a b : List ℕ) (r : Bool) → e.name ≡ names.Range a b → k ≡ e.kind → r ≡ list_any (λ (f : EntryParts). same_kind f.kind k && covers f.name a b) B → IsTrue r ↔ StaysRegistered B e
+
+covered_at : (B : List EntryParts) (k : Kind) (a b : List ℕ) (f : EntryParts) → Contains B f → f.kind ≡ k → (n : EntryName) → f.name ≡ n → covers n a b ≡ true → IsCovered B k a b
+covered_at B k a b f c e (names.Range x y) m h =
+    let p = and_parts (length x == length a) (letters_le x a && letters_le b y) h in
+    let q = and_parts (letters_le x a) (letters_le b y) p.1 in
+    record { entry = f; there = c; of_kind = e; low = x; high = y; range = m; one_length = eqb-true (length x) (length a) p.0; from = q.0; to = q.1 }
+covered_at B k a b f c e (names.Single s) m h = cc
+covered_at B k a b f c e (names.Whole t) m h = cc
+
+Decides-covered : (B : List EntryParts) (k : Kind) (a b : List ℕ) → Decides (some_covers B k a b) (IsCovered B k a b)
+Decides-covered B k a b = (
+  (λ h.
+      let found = Any-from_list_any (λ (f : EntryParts). same_kind f.kind k && covers f.name a b) B h in
+      let f = found.1 in
+      let p = and_parts (same_kind f.kind k) (covers f.name a b) found.4 in
+      covered_at B k a b f (found.0, found.2, found.3) (same_kind_is f.kind k p.0) f.name refl p.1),
+  (λ (c : IsCovered B k a b).
+      let range = and_from (length c.low == length a) (letters_le c.low a && letters_le b c.high) (eq-eqb (length c.low) (length a) c.one_length) (and_from (letters_le c.low a) (letters_le b c.high) c.from c.to) in
+      let passes = and_from (same_kind c.entry.kind k) (covers c.entry.name a b) (ap (λ x. same_kind x k) c.of_kind ∙ same_kind_itself k) (ap (λ n. covers n a b) c.range ∙ range) in
+      list_any-from_Any (λ (f : EntryParts). same_kind f.kind k && covers f.name a b) B (c.there.0, c.entry, c.there.1, c.there.2, passes)),
+)
+
+pub covered_compared : (B : List EntryParts) (e : EntryParts) (k : Kind) (a b : List ℕ) (r : Bool) → e.name ≡ names.Range a b → k ≡ e.kind → r ≡ some_covers B k a b → IsTrue r ↔ StaysRegistered B e
 covered_compared B e k a b r n m same =
-    let d = Decides-stays B e in
-    let t : stays_test B e ≡ r = ap (stays_at_test B e.kind) n ∙ ap (λ x. covered_test B x a b) (sym m) ∙ sym same in
-    ((λ h. d.0 (t ∙ h)), (λ k. sym t ∙ d.1 k))
+    let d = Decides-covered B k a b in (
+      (λ h. record {
+        single = λ s i. cc;
+        range = λ c d' i. let x : a ≡ c = cc in let y : b ≡ d' = cc in rw (← m, ← x, ← y) (d.0 (sym same ∙ h));
+      }),
+      (λ (s : StaysRegistered B e). same ∙ d.1 (rw m (s.range a b n))),
+    )
 
 -- the chain of a kind, but for extlangs
-
-chain_in : (R : List EntryParts) (k : Kind) → (k ≡ kinds.Extlang → ⊥) → (s d : List ℕ) → ChainEndsIn R k s d → EndsIn (next_value R k) s d
-chain_in R kinds.Language n s d h = h
-chain_in R kinds.Extlang n s d h = absurd (n refl)
-chain_in R kinds.Script n s d h = h
-chain_in R kinds.Region n s d h = h
-chain_in R kinds.Variant n s d h = h
-chain_in R kinds.Grandfathered n s d h = h
-chain_in R kinds.Redundant n s d h = h
-
-chain_to : (R : List EntryParts) (k : Kind) → (k ≡ kinds.Extlang → ⊥) → (s : List ℕ) → Ends (next_value R k) s → ChainEnds R k s
-chain_to R kinds.Language n s h = h
-chain_to R kinds.Extlang n s h = absurd (n refl)
-chain_to R kinds.Script n s h = h
-chain_to R kinds.Region n s h = h
-chain_to R kinds.Variant n s h = h
-chain_to R kinds.Grandfathered n s h = h
-chain_to R kinds.Redundant n s h = h
+chain_is : (R : List EntryParts) (k : Kind) → (k ≡ kinds.Extlang → ⊥) → (s d : List ℕ) → (ChainEndsIn R k s d → EndsIn (next_value R k) s d) × (Ends (next_value R k) s → ChainEnds R k s)
+chain_is R kinds.Language n s d = ((λ h. h), (λ h. h))
+chain_is R kinds.Extlang n s d = absurd (n refl)
+chain_is R kinds.Script n s d = ((λ h. h), (λ h. h))
+chain_is R kinds.Region n s d = ((λ h. h), (λ h. h))
+chain_is R kinds.Variant n s d = ((λ h. h), (λ h. h))
+chain_is R kinds.Grandfathered n s d = ((λ h. h), (λ h. h))
+chain_is R kinds.Redundant n s d = ((λ h. h), (λ h. h))
 
 -- two chains that end come to one end exactly if their ends are equal
 pub ends_compared : (R : List EntryParts) (k : Kind) → (k ≡ kinds.Extlang → ⊥) → (s t d e : List ℕ) (b : Bool) → ChainEndsIn R k s d → ChainEndsIn R k t e → b ≡ bytes_eq d e → IsTrue b ↔ SameEnd (next_value R k) s t
 ends_compared R k n s t d e b h i same =
     let f = next_value R k in
-    let p : EndsIn f s d = chain_in R k n s d h in
-    let q : EndsIn f t e = chain_in R k n t e i in (
+    let p : EndsIn f s d = (chain_is R k n s d).0 h in
+    let q : EndsIn f t e = (chain_is R k n t e).0 i in (
       (λ x. let y : d ≡ e = (bytes_eq-Decides d e).0 (sym same ∙ x) in record { end = d; left = p; right = subst (EndsIn f t) (sym y) q }),
       (λ (a : SameEnd f s t). same ∙ (bytes_eq-Decides d e).1 (one_end f s d a.end p a.left ∙ sym (one_end f t e a.end q a.right))),
     )
@@ -60,7 +96,7 @@ ends_compared R k n s t d e b h i same =
 pub endless_apart : (R : List EntryParts) (k : Kind) → (k ≡ kinds.Extlang → ⊥) → (s t : List ℕ) → (ChainEnds R k t → ⊥) → IsTrue false ↔ SameEnd (next_value R k) s t
 endless_apart R k n s t endless = (
   (λ x. cc),
-  (λ (a : SameEnd (next_value R k) s t). absurd (endless (chain_to R k n t (a.right.0, ap (next_value R k) a.right.1 ∙ a.right.2)))),
+  (λ (a : SameEnd (next_value R k) s t). absurd (endless ((chain_is R k n t a.end).1 (a.right.0, ap (next_value R k) a.right.1 ∙ a.right.2)))),
 )
 
 -- a subtag and its old value
@@ -69,40 +105,43 @@ ends_kept B e s v b n o k h = (
   (λ x t w m p _.
       let a : s ≡ t = cc in
       let c : v ≡ w = cc in
-      subst (λ z. SameEnd (next_value B e.kind) z w) a (subst (λ z. SameEnd (next_value B e.kind) s z) c (h.0 x))),
+      rw (← a, ← c) (h.0 x)),
   (λ f. h.1 (f s v n o k)),
 )
 
 -- an extlang in the newer registry
 pub extlang_compared : (B : List EntryParts) (e f : EntryParts) (s old new : List ℕ) (b : Bool) → entry B kinds.Extlang s ≡ Some f → f.prefixes ≡ e.prefixes → old ≡ unwrap_or (one_of e.value) s → new ≡ unwrap_or (one_of f.value) s → IsTrue b ↔ SameEnd (next_value B kinds.Language) old new → IsTrue b ↔ IsSameExtlang B e s
 extlang_compared B e f s old new b there same o n h = (
-  (λ x. record { newer = f; there = there; prefixes = same; ends = subst (λ z. SameEnd (preferred_value B kinds.Language) z (unwrap_or (one_of f.value) s)) o (subst (λ z. SameEnd (preferred_value B kinds.Language) old z) n (h.0 x)) }),
+  (λ x. record { newer = f; there = there; prefixes = same; ends = rw (← o, ← n) (h.0 x) }),
   (λ (k : IsSameExtlang B e s).
       let t = k.there in
       let is : k.newer ≡ f = cc in
-      let right : unwrap_or (one_of k.newer.value) s ≡ new = ap (λ (z : EntryParts). unwrap_or (one_of z.value) s) is ∙ sym n in
-      h.1 (subst (λ z. SameEnd (preferred_value B kinds.Language) z new) (sym o) (subst (λ z. SameEnd (preferred_value B kinds.Language) (unwrap_or (one_of e.value) s) z) right k.ends))),
+      h.1 (rw (o, n, ← is) k.ends)),
 )
 
 -- sets of Prefixes
 
-within_each : (ps qs : List (List (List ℕ))) → within_test ps qs ≡ list_all (is_among qs) ps
-within_each [] qs = refl
-within_each ((l ∷ []) ∷ ps) qs = ap (λ b. has_prefix qs l && b) (within_each ps qs)
-within_each ([] ∷ ps) qs = within_each ps qs
-within_each ((l ∷ m ∷ r) ∷ ps) qs = within_each ps qs
+within_of : (ps qs : List (List (List ℕ))) → list_all (is_among qs) ps ≡ true → (l : List ℕ) → has_prefix ps l ≡ true → has_prefix qs l ≡ true
+within_of ps qs all l h =
+    let found = Any-from_list_any (λ p. same_list p (l ∷ [])) ps h in
+    let among = (Decides-all (λ p. is_among qs p ≡ true) (is_among qs) (λ p. Decides-true (is_among qs p)) ps).0 all found.0 found.1 found.2 in
+    ap (is_among qs) (sym (found.3 ∙ (Decides-list found.1 (l ∷ [])).0 found.4)) ∙ among
 
-pub languages_compared : (ps qs : List (List (List ℕ))) (r : Bool) → list_all (is_among qs) ps ≡ true → r ≡ list_all (is_among ps) qs → IsTrue r ↔ ((l : List ℕ) → has_prefix ps l ≡ has_prefix qs l)
-languages_compared ps qs r all same =
-    let d = Decides-same_prefix ps qs in
-    let t : same_prefix_test ps qs ≡ r = ap (λ b. b && within_test qs ps) (within_each ps qs ∙ all) ∙ within_each qs ps ∙ sym same in
-    ((λ h. d.0 (t ∙ h)), (λ k. sym t ∙ d.1 k))
+of_within : (ps qs : List (List (List ℕ))) → ((l : List ℕ) → has_prefix ps l ≡ true → has_prefix qs l ≡ true) → list_all (is_among qs) ps ≡ true
+of_within ps qs h = (Decides-all (λ p. is_among qs p ≡ true) (is_among qs) (λ p. Decides-true (is_among qs p)) ps).1 (λ k d n. one k d n (slice_index_or ps k d) refl)
+  where
+    one : (k : ℕ) (d : List (List ℕ)) → k < length ps → (p : List (List ℕ)) → slice_index_or ps k d ≡ p → is_among qs (slice_index_or ps k d) ≡ true
+    one k d n [] e = ap (is_among qs) e
+    one k d n (l ∷ []) e = ap (is_among qs) e ∙ h l (list_any_at (λ p. same_list p (l ∷ [])) ps k d n ((Decides-list (slice_index_or ps k d) (l ∷ [])).1 e))
+    one k d n (l ∷ m ∷ r) e = ap (is_among qs) e
 
-pub languages_apart : (ps qs : List (List (List ℕ))) (r : Bool) → r ≡ list_all (is_among qs) ps → r ≡ false → IsTrue r ↔ ((l : List ℕ) → has_prefix ps l ≡ has_prefix qs l)
-languages_apart ps qs r same none =
-    let d = Decides-same_prefix ps qs in
-    let t : same_prefix_test ps qs ≡ r = ap (λ b. b && within_test qs ps) (within_each ps qs ∙ sym same ∙ none) ∙ sym none in
-    ((λ h. d.0 (t ∙ h)), (λ k. sym t ∙ d.1 k))
+pub languages_compared : (ps qs : List (List (List ℕ))) (r : Bool) → r ≡ (list_all (is_among qs) ps && list_all (is_among ps) qs) → IsTrue r ↔ ((l : List ℕ) → has_prefix ps l ≡ has_prefix qs l)
+languages_compared ps qs r same = (
+  (λ h l.
+      let both = and_parts (list_all (is_among qs) ps) (list_all (is_among ps) qs) (sym same ∙ h) in
+      both_ways (has_prefix ps l) (has_prefix qs l) (within_of ps qs both.0 l) (within_of qs ps both.1 l)),
+  (λ f. same ∙ and_from (list_all (is_among qs) ps) (list_all (is_among ps) qs) (of_within ps qs (λ l h. sym (f l) ∙ h)) (of_within qs ps (λ l h. f l ∙ h))),
+)
 
 -- a variant with a language value in the newer registry
 pub variant_language_compared : (B : List EntryParts) (e f : EntryParts) (s v w : List ℕ) (b : Bool) → entry B kinds.Variant s ≡ Some f → one_of f.value ≡ Some w → is_short w ≡ true → ((l : List ℕ) → has_prefix f.prefixes l ≡ has_prefix e.prefixes l) → IsTrue b ↔ SameEnd (next_value B kinds.Language) v w → IsTrue b ↔ IsSameVariantLanguage B e s v
@@ -118,9 +157,76 @@ variant_language_compared B e f s v w b there gives short same h =
     )
 
 -- a variant with a language value that the older registry has
+Decides-is_some : {A : Type 0} → (o : Option A) → Decides (is_some o) ((a : A) × (o ≡ Some a))
+Decides-is_some None = ((λ h. cc), (λ k. let e = k.1 in cc))
+Decides-is_some (Some a) = ((λ h. (a, refl)), (λ k. refl))
+
 pub had_compared : (A : List EntryParts) (e : EntryParts) (s v : List ℕ) (b : Bool) → e.kind ≡ kinds.Variant → e.name ≡ names.Single s → one_of e.value ≡ Some v → is_short v ≡ true → is_registered A kinds.Variant s ≡ true → b ≡ is_some (language_value A s) → IsTrue b ↔ HadVariantLanguage A e
 had_compared A e s v b k n o short there same =
     let d = Decides-is_some (language_value A s) in (
       (λ x t w _ m _ _ _. let a : s ≡ t = cc in subst (λ z. (y : List ℕ) × (language_value A z ≡ Some y)) a (d.0 (sym same ∙ x))),
       (λ f. same ∙ d.1 (f s v k n o short there)),
     )
+
+-- ---- whether two tags reach one canonical tag by a newer registry
+
+proper_from : (R : List EntryParts) {t u : TagForm} → Star (TagStep R) t u → IsProper R u → IsProper R t
+proper_from R done p = p
+proper_from R (then s r) p = s.from
+
+module _ (R : List EntryParts) (C : IsChecked R) where
+  canonical_end : (t c : TagForm) → IsCanonical R c → IsReached R t c → tag_end R C t ≡ c
+  canonical_end t c K r = star_end (end_form R C) r ∙ rest_is_end (end_form R C) c K.valid.proper K.at_rest
+
+  -- two canonical forms are equal exactly if the tags meet in a canonical tag
+  pub forms_compared : (t u : TagForm) (answer : Bool) → IsEquivalenceAnswer R t u answer → IsTrue answer ↔ MeetInCanonical R t u
+  forms_compared t u answer a = (
+    (λ h. record { tag = a.first; canonical = a.first_form.canonical; left = a.first_form.reached; right = subst (IsReached R u) (sym (a.equal.0 h)) a.second_form.reached }),
+    (λ (m : MeetInCanonical R t u).
+        a.equal.1
+        (sym (form_is_end R C t a.first a.first_form) ∙ canonical_end t m.tag m.canonical m.left
+        ∙ sym (canonical_end u m.tag m.canonical m.right) ∙ form_is_end R C u a.second a.second_form)),
+  )
+
+  -- a tag without repeats that reaches a canonical tag is not refused
+  not_refused : (t c : TagForm) (refusal : Refusal) → RepeatsNoVariant t → (refusal ≡ refusals.OutOfMemory → ⊥) → IsCanonical R c → IsReached R t c → IsRefusedWith R t refusal → ⊥
+  not_refused t c (refusals.Invalid fault) d n K r h =
+      let P : IsProper R t = proper_from R r K.valid.proper in
+      let V : IsValid R t = record { proper = P; distinct = d } in
+      (valid_law R t P.tag).0 V fault.kind fault.place h.there
+  not_refused t c (refusals.ReplacementRepeats v) d n K r h =
+      repeats_at_end R C t h.valid h.repeats (subst RepeatsNoVariant (sym (canonical_end t c K r)) K.valid.distinct)
+  not_refused t c refusals.OutOfMemory d n K r h = n refl
+
+  pub refused_apart : (t u : TagForm) (refusal : Refusal) → RepeatsNoVariant t → RepeatsNoVariant u → (refusal ≡ refusals.OutOfMemory → ⊥) → IsFirstRefusal R t u refusal → IsTrue false ↔ MeetInCanonical R t u
+  refused_apart t u refusal dt du n h = ((λ x. cc), (λ (m : MeetInCanonical R t u). absurd (by m h)))
+    where
+      by : MeetInCanonical R t u → IsFirstRefusal R t u refusal → ⊥
+      by m (inl a) = not_refused t m.tag refusal dt n m.canonical m.left a
+      by m (inr b) = not_refused u m.tag refusal du n m.canonical m.right b.refused
+
+  -- a whole record with a value, and its value, repeat no variant
+  pub whole_distinct : (e : EntryParts) → Contains R e → (t u : TagForm) → e.name ≡ names.Whole t → tag_of e.value ≡ Some u → RepeatsNoVariant t × RepeatsNoVariant u
+  whole_distinct e c t u n o = (by e.kind refl (subst (FitsName e.kind) n form.name).0, whole.0.valid.distinct)
+    where
+      form : IsEntry e
+      form = All-contains IsEntry R e C.registry.forms c
+
+      whole : IsValidCoreAlone R u × (e.kind ≡ kinds.Redundant → IsValidCoreAlone R t)
+      whole = All-contains (HasValidWhole R) R e (C.passes.valid_whole) c t u n o
+
+      named : e.kind ≡ kinds.Grandfathered → RepeatsNoVariant t
+      named k =
+          let g = (All-contains (HasFittingGrandfathered R) R e (grandfathered_fit R C) c).named k in
+          let same : names.Whole t ≡ names.Whole (Grandfathered g.0) = sym n ∙ g.1 in
+          let is : t ≡ Grandfathered g.0 = cc in
+          subst RepeatsNoVariant (sym is) tt
+
+      by : (k : Kind) → e.kind ≡ k → is_whole_kind k ≡ true → RepeatsNoVariant t
+      by kinds.Grandfathered k h = named k
+      by kinds.Redundant k h = (whole.1 k).valid.distinct
+      by kinds.Language k h = cc
+      by kinds.Extlang k h = cc
+      by kinds.Script k h = cc
+      by kinds.Region k h = cc
+      by kinds.Variant k h = cc

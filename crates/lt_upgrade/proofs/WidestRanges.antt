@@ -1,18 +1,31 @@
--- Ranges of which none lies within another hold what all hold.
-use Rattle.std.proofs.Common.{◌≡◌, ℕ, zero, suc, ◌<◌, ◌≤◌, Bool, true, false, ◌&&◌, ◌||◌, cond, List, [], ◌∷◌, length, get_or, refl, sym, ap, ◌∙◌, arith}
-use Rattle.std.specs.List.{AllByRecursion, list_any, dedup, dedup_from}
+-- Ranges of which none lies within another hold what all hold, and the ranges among entries what the entries cover.
+use Rattle.std.proofs.Common.{◌≡◌, ℕ, zero, suc, ◌<◌, ◌≤◌, Bool, true, false, not, ◌&&◌, ◌||◌, cond, List, [], ◌∷◌, length, get_or, refl, sym, ap, ◌∙◌, arith, ◌==◌, eqb}
+use Rattle.std.specs.List.{AllByRecursion, list_any, dedup, dedup_from, All, cons_option}
 use Rattle.std.specs.List.Sorted.{IsSortedBy, IsPartitionedBy, IsPermutation}
-use Rattle.std.specs.Ordering.{ordering_reverse, is_le, is_lt, is_gt}
-use Rattle.std.specs.Cmp.{IsTotalOrder}
+use Rattle.std.specs.Ordering.{ordering_reverse, is_le, is_lt, is_gt, nat_cmp, ordering_then, is_eq}
+use Rattle.std.specs.Cmp.{IsTotalOrder, both_ways, unsigned_ties}
 use Rattle.std.specs.declared.cmp.Ordering.{Ordering}
 use Rattle.std.specs.declared.cmp.Ordering.TheVariants.{Less, Equal, Greater}
-use Rattle.std.proofs.lemmas.Bool.{and_parts, and_from}
+use Rattle.std.proofs.lemmas.Bool.{and_parts, and_from, eqb-true, eq-eqb}
 use Rattle.std.proofs.lemmas.Cmp.{upto, then_total, on_total, nat_cmp_total, nat_list_cmp_total}
 use Rattle.std.proofs.lemmas.List.Elements.{All-from_recursion, recursion_from_All}
 use Rattle.std.proofs.lemmas.List.Sorted.{ranks_by, sorted_far, list_any-IsPermutation}
-use Rattle.lt_upgrade.specs.WidestRanges.{end_cmp, is_up_to, contains, EndsRise}
+use Rattle.lt_upgrade.specs.WidestRanges.{end_cmp, is_up_to, contains, EndsRise, range_end, range_row, range_rows, HoldRanges}
 use Rattle.lt_upgrade.specs.declared.widest_ranges.RangeEnd.{RangeEnd}
 use Rattle.lt_upgrade.specs.declared.widest_ranges.RangeRow.{RangeRow}
+use Rattle.std.specs.Cmp.Lexicographic.{slice_cmp}
+use Rattle.lt_registry.specs.Parts.{EntryParts}
+use Rattle.lt_registry.specs.Same.{same_kind}
+use Rattle.lt_registry.specs.Entries.{FitsName, IsEntry, letters_le}
+use Rattle.lt_registry.specs.declared.entries.Kind.{Kind}
+use Rattle.lt_registry.specs.declared.entries.EntryName.{EntryName}
+use Rattle.lt_registry.specs.declared.entries.EntryName.TheVariants as names
+use Rattle.lt_registry.proofs.OrderLemmas.{at_most, letters_le_is}
+use Rattle.lt_registry.proofs.SortedLemmas.{and_false}
+use Rattle.lt_rewrite.proofs.Entries.{same_kind_is, same_kind_itself}
+use Rattle.lt_check.specs.NameChecks.{kind_number}
+use Rattle.lt_upgrade.specs.UpgradeChecking.{covers, some_covers}
+use Rattle.lt_check.proofs.OwnNames.{kinds_same}
 
 -- the order of ends
 
@@ -21,38 +34,34 @@ end_total =
     then_total (on_total (λ (e : RangeEnd). e.kind) nat_cmp_total)
     (then_total (on_total (λ (e : RangeEnd). e.length) nat_cmp_total) (on_total (λ (e : RangeEnd). e.subtag) nat_list_cmp_total))
 
-not_greater : (o : Ordering) → is_le o ≡ true → is_gt o ≡ false
-not_greater Less h = refl
-not_greater Equal h = refl
-not_greater Greater h = cc
+not_greater : (o : Ordering) → is_gt o ≡ not (is_le o)
+not_greater Less = refl
+not_greater Equal = refl
+not_greater Greater = refl
 
-no_greater : (o : Ordering) → is_gt o ≡ false → is_le o ≡ true
-no_greater Less h = refl
-no_greater Equal h = refl
-no_greater Greater h = cc
+pub further : {K : Type 0} {R : K → K → Ordering} → IsTotalOrder R → (a b c : K) → is_le (R a b) ≡ true → is_le (R b c) ≡ true → is_le (R a c) ≡ true
+further {R = R} total a b c h k =
+    not_false (is_le (R a c)) (sym (not_greater (R a c)) ∙ upto total a b c (not_greater (R a b) ∙ ap not h) (not_greater (R b c) ∙ ap not k))
+  where
+    not_false : (t : Bool) → not t ≡ false → t ≡ true
+    not_false true h = refl
+    not_false false h = cc
 
 up_to_further : (a b c : RangeEnd) → is_up_to a b ≡ true → is_up_to b c ≡ true → is_up_to a c ≡ true
-up_to_further a b c h k =
-    no_greater (end_cmp a c) (upto end_total a b c (not_greater (end_cmp a b) h) (not_greater (end_cmp b c) k))
+up_to_further = further end_total
 
-turned : (o p : Ordering) → o ≡ ordering_reverse p → is_le o ≡ false → is_le p ≡ true
-turned Less p e h = cc
-turned Equal p e h = cc
-turned Greater Less e h = refl
-turned Greater Equal e h = cc
-turned Greater Greater e h = cc
+turned : (o : Ordering) → is_le o ≡ false → is_le (ordering_reverse o) ≡ true
+turned Less h = cc
+turned Equal h = cc
+turned Greater h = refl
 
 other_way : (a b : RangeEnd) → is_up_to a b ≡ false → is_up_to b a ≡ true
-other_way a b h = turned (end_cmp a b) (end_cmp b a) (end_total.antisymm a b) h
+other_way a b h = ap is_le (end_total.antisymm b a) ∙ turned (end_cmp a b) h
 
-not_before : (o p : Ordering) → o ≡ ordering_reverse p → is_lt o ≡ false → is_le p ≡ true
-not_before Less p e h = cc
-not_before Equal Less e h = cc
-not_before Equal Equal e h = refl
-not_before Equal Greater e h = cc
-not_before Greater Less e h = refl
-not_before Greater Equal e h = cc
-not_before Greater Greater e h = cc
+not_before : (o : Ordering) → is_lt o ≡ false → is_le (ordering_reverse o) ≡ true
+not_before Less h = cc
+not_before Equal h = refl
+not_before Greater h = refl
 
 -- sorted ranges
 
@@ -76,7 +85,7 @@ sorted_rise rows up =
     (λ i j d le l.
     let v = get_or rows i d in
     let w = get_or rows j d in
-    not_before (end_cmp w.first v.first) (end_cmp v.first w.first) (end_total.antisymm w.first v.first) (sorted_far begins_before (ranks_by end_total (λ (r : RangeRow). r.first)) rows up i j d le l))
+    ap is_le (end_total.antisymm v.first w.first) ∙ not_before (end_cmp w.first v.first) (sorted_far begins_before (ranks_by end_total (λ (r : RangeRow). r.first)) rows up i j d le l))
 
 -- those are left out that end no later than an earlier one
 
@@ -179,3 +188,63 @@ parted (v ∷ rows) a up zero (suc j) d le l h =
     up_to_further v.first (get_or rows j d).first a later.0 h
 parted (v ∷ rows) a up (suc i) zero d le l h = absurd (omega (arith, le))
 parted (v ∷ rows) a up (suc i) (suc j) d le l h = parted rows a up.1 i j d (omega (arith, le)) (omega (arith, l)) h
+
+-- ---- the ranges among entries contain what the entries cover
+
+-- a range contains what it covers
+
+-- what is compared first has to be equal
+first_equal : (o p q : Ordering) (t r : Bool) → t ≡ is_eq o → (is_le p && is_le q) ≡ r → (is_le (ordering_then o p) && is_le (ordering_then (ordering_reverse o) q)) ≡ (t && r)
+first_equal Less p q t r e h = sym (ap (λ b. b && r) e)
+first_equal Equal p q t r e h = h ∙ sym (ap (λ b. b && r) e)
+first_equal Greater p q t r e h = sym (ap (λ b. b && r) e)
+
+layer : (m n : ℕ) (t : Bool) (p q : Ordering) (r : Bool) → t ≡ eqb m n → (is_le p && is_le q) ≡ r → (is_le (ordering_then (nat_cmp m n) p) && is_le (ordering_then (nat_cmp n m) q)) ≡ (t && r)
+layer m n t p q r test rest =
+    ap (λ o. is_le (ordering_then (nat_cmp m n) p) && is_le (ordering_then o q)) (nat_cmp_total.antisymm n m)
+    ∙ first_equal (nat_cmp m n) p q t r (test ∙ unsigned_ties m n) rest
+
+kinds_compared : (k l : Kind) → same_kind k l ≡ eqb (kind_number k) (kind_number l)
+kinds_compared k l =
+    both_ways (same_kind k l) (eqb (kind_number k) (kind_number l)) (λ h. eq-eqb (kind_number k) (kind_number l) (ap kind_number (same_kind_is k l h)))
+    (λ h. ap (same_kind k) (sym (kinds_same k l (eqb-true (kind_number k) (kind_number l) h))) ∙ same_kind_itself k)
+
+pub letters_compared : (a b : List ℕ) → is_le (slice_cmp nat_cmp a b) ≡ letters_le a b
+letters_compared a b = sym (letters_le_is a b ∙ at_most_is (slice_cmp nat_cmp a b))
+  where
+    at_most_is : (o : Ordering) → at_most o ≡ is_le o
+    at_most_is Less = refl
+    at_most_is Equal = refl
+    at_most_is Greater = refl
+
+range_agrees : (k l : Kind) (c d a b : List ℕ) → length c ≡ length d → length a ≡ length b
+    → contains (range_end l a) (range_end l b) (record { first = range_end k c; last = range_end k d }) ≡ (same_kind k l && covers (names.Range c d) a b)
+range_agrees k l c d a b one other =
+    layer (kind_number k) (kind_number l) (same_kind k l) (ordering_then (nat_cmp (length c) (length a)) (slice_cmp nat_cmp c a)) (ordering_then (nat_cmp (length b) (length d)) (slice_cmp nat_cmp b d)) (covers (names.Range c d) a b)
+    (kinds_compared k l)
+    (ap (λ (o : Ordering). is_le (ordering_then (nat_cmp (length c) (length a)) (slice_cmp nat_cmp c a)) && is_le (ordering_then o (slice_cmp nat_cmp b d))) lengths
+    ∙ layer (length c) (length a) (length c == length a) (slice_cmp nat_cmp c a) (slice_cmp nat_cmp b d) (letters_le c a && letters_le b d) refl letters)
+  where
+    lengths : nat_cmp (length b) (length d) ≡ nat_cmp (length a) (length c)
+    lengths = ap (λ n. nat_cmp n (length d)) (sym other) ∙ ap (nat_cmp (length a)) (sym one)
+
+    letters : (is_le (slice_cmp nat_cmp c a) && is_le (slice_cmp nat_cmp b d)) ≡ (letters_le c a && letters_le b d)
+    letters = ap (λ x. x && is_le (slice_cmp nat_cmp b d)) (letters_compared c a) ∙ ap (λ x. letters_le c a && x) (letters_compared b d)
+
+module _ (kind : Kind) (first last : List ℕ) (one : length first ≡ length last) where
+  abbrev asked : RangeRow → Bool
+  asked = contains (range_end kind first) (range_end kind last)
+
+  name_agrees : (k : Kind) (name : EntryName) (rows : List RangeRow) (rest : Bool) → FitsName k name → list_any asked rows ≡ rest
+      → list_any asked (cons_option (range_row k name) rows) ≡ ((same_kind k kind && covers name first last) || rest)
+  name_agrees k (names.Single s) rows rest fits h = h ∙ sym (ap (λ b. b || rest) (and_false (same_kind k kind)))
+  name_agrees k (names.Range a b) rows rest fits h =
+      ap (λ t. t || list_any asked rows) (range_agrees k kind a b first last fits.one_length one) ∙ ap (λ t. (same_kind k kind && covers (names.Range a b) first last) || t) h
+  name_agrees k (names.Whole t) rows rest fits h = h ∙ sym (ap (λ b. b || rest) (and_false (same_kind k kind)))
+
+  rows_agree : (R : List EntryParts) → AllByRecursion IsEntry R → list_any asked (range_rows R) ≡ some_covers R kind first last
+  rows_agree [] forms = refl
+  rows_agree (e ∷ es) forms = name_agrees e.kind e.name (range_rows es) (some_covers es kind first last) forms.0.name (rows_agree es forms.1)
+
+pub rows_hold : (R : List EntryParts) → All IsEntry R → HoldRanges R (range_rows R)
+rows_hold R forms kind first last one = rows_agree kind first last one R (recursion_from_All IsEntry R forms)

@@ -9,14 +9,8 @@ use Rattle.lt_registry.specs.declared.entries.EntryName.{EntryName}
 use Rattle.lt_registry.specs.declared.entries.EntryName.TheVariants as names
 use Rattle.lt_upgrade.specs.Upgrade.{MeetsUpgrade, records_of, upgrade_rank_of, IsAtUpgradeFault, IsUpgradeFinding}
 use Rattle.lt_upgrade.specs.declared.conditions.UpgradeCondition.{UpgradeCondition}
-use Rattle.lt_upgrade.specs.declared.conditions.UpgradeCondition.TheVariants as upgrades
 use Rattle.lt_upgrade.specs.declared.upgrades.UpgradeFault.{UpgradeFault}
 use Rattle.lt_upgrade.specs.declared.upgrades.UpgradeFault.TheVariants as faults
-
--- the condition speaks of the records of the newer registry
-abbrev pub is_of_newer : UpgradeCondition → Bool
-is_of_newer upgrades.NoNewVariantLanguage = true
-is_of_newer _ = false
 
 -- the lowest record at fault by a condition
 pub record IsFirstAtUpgradeFault (A B : List EntryParts) (condition : UpgradeCondition) (number : ℕ) : Type 0 where

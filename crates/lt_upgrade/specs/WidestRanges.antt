@@ -1,6 +1,6 @@
 -- The ranges among entries, and whether one of them covers another.
 use Rattle.std.specs.Prelude.{ℕ, ◌≡◌, Bool, true, ◌&&◌, List, [], ◌∷◌, length, Option, Some, None}
-use Rattle.std.specs.List.{AllByRecursion, list_any, cons_option}
+use Rattle.std.specs.List.{AllByRecursion, list_any, filter_map}
 use Rattle.std.specs.Ordering.{nat_cmp, ordering_then, is_le}
 use Rattle.std.specs.Cmp.Lexicographic.{slice_cmp}
 use Rattle.std.specs.declared.cmp.Ordering.{Ordering}
@@ -37,8 +37,7 @@ range_row kind _ = None
 
 -- the ranges of entries in the order of the file
 abbrev pub range_rows : List EntryParts → List RangeRow
-range_rows [] = []
-range_rows (e ∷ es) = cons_option (range_row e.kind e.name) (range_rows es)
+range_rows R = filter_map (λ (e : EntryParts). range_row e.kind e.name) R
 
 -- neither end of a range is before that of an earlier one
 abbrev pub EndsRise : List RangeRow → Type 0

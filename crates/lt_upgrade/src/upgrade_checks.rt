@@ -192,6 +192,7 @@ fn have_same_variant_language<L: Lookup>(
 }
 
 /// Whether a variant with a language value has one in the older registry, if it is registered there.
+#[tactic(auto, using(crate::proofs::UpgradeChecks::had_compared))]
 pub(crate) fn had_variant_language<L: Lookup>(older: &L, entry: &Entry) -> bool
     ensures { IsTrue result ↔ HadVariantLanguage (L.listed older.now) entry.now }
 {
@@ -204,6 +205,7 @@ pub(crate) fn had_variant_language<L: Lookup>(older: &L, entry: &Entry) -> bool
 }
 
 /// Whether two tags that repeat no variant reach one canonical tag.
+#[tactic(auto, using(crate::proofs::UpgradeChecks::forms_compared, crate::proofs::UpgradeChecks::refused_apart))]
 fn meet_in_canonical<L: Lookup>(
     alloc: Global,
     newer: &Checked<L>,

@@ -1,9 +1,10 @@
 //! The check of a newer registry beside an older one.
-ghost use Rattle.std.specs.Prelude.{◌≡◌, ◌≢◌, ◌↔◌, false, Contains, IsTrue, IfOk, IfErr, OnOk};
-ghost use Rattle.lt_rewrite.specs.Shortcuts.{AreShortcuts};
+ghost use Rattle.std.specs.Prelude.{◌≡◌, ◌↔◌, Contains, IsTrue, IfOk, IfErr, OnOk};
+ghost use Rattle.lt_registry.specs.Entries.{NumbersRise};
 ghost use Rattle.lt_upgrade.specs.Laws.{UpgradeKeepsTags};
-ghost use Rattle.lt_upgrade.specs.Upgrade.{MeetsUpgrade, Upgrades};
-ghost use Rattle.lt_upgrade.specs.UpgradeChecking.{is_of_newer, IsLowestUpgradeFault, IsUpgradeFault, no_upgrade_memory, upgrade_fault_name_of};
+ghost use Rattle.lt_upgrade.specs.Upgrade.{MeetsUpgrade, Upgrades, records_of};
+ghost use Rattle.lt_upgrade.specs.UpgradeChecking.{IsLowestUpgradeFault, IsUpgradeFault, no_upgrade_memory, upgrade_fault_name_of};
+ghost use Rattle.lt_upgrade.specs.WidestRanges.{HoldRanges};
 
 use crate::conditions::UpgradeCondition;
 use crate::upgrade_checks::{
@@ -14,7 +15,6 @@ use crate::upgrade_laws::upgrades_keep_tags;
 use crate::widest_ranges::WidestRanges;
 use lt_check::Checked;
 use lt_registry::{Entry, Lookup};
-use lt_rewrite::Shortcuts;
 use lt_tag::OutOfMemory;
 use std::alloc::{AllocError, Global};
 use thiserror::Error;
@@ -72,88 +72,46 @@ const IN_ORDER: [UpgradeCondition; 6] = [
     UpgradeCondition::SameWhole,
 ];
 
-/// Whether a record of the older registry meets a condition on such records after the first.
+/// The records that a condition speaks of.
+fn records_of<'a, A: Lookup, B: Lookup>(
+    older: &'a Checked<A>,
+    newer: &'a Checked<B>,
+    condition: UpgradeCondition,
+) -> &'a [Entry]
+    ensures value { result.now ≡ records_of condition (A.listed older.now) (B.listed newer.now) }
+    ensures rising { NumbersRise result.now }
+{
+    match condition {
+        UpgradeCondition::NoNewVariantLanguage => newer.table().entries(),
+        _ => older.table().entries(),
+    }
+}
+
+/// Whether a record that a condition speaks of meets it.
 fn meets<A: Lookup, B: Lookup>(
     alloc: Global,
     older: &Checked<A>,
     newer: &Checked<B>,
-    shortcuts: &Shortcuts,
+    ranges: &WidestRanges,
     condition: UpgradeCondition,
     entry: &Entry,
 ) -> Result<bool, OutOfMemory>
-    requires shortcuts { AreShortcuts (B.listed newer.now) shortcuts.now }
-    requires older { is_of_newer condition ≡ false }
-    requires further { condition ≢ UpgradeCondition.StaysRegistered }
-    requires listed { Contains (A.listed older.now) entry.now }
+    requires ranges { HoldRanges (B.listed newer.now) ranges.now }
+    requires listed { Contains (records_of condition (A.listed older.now) (B.listed newer.now)) entry.now }
     ensures { IfOk result (λ meets. IsTrue meets ↔ MeetsUpgrade condition (A.listed older.now) (B.listed newer.now) entry.now) }
 {
     let table = newer.table();
+    let shortcuts = newer.shortcuts();
     match condition {
+        UpgradeCondition::StaysRegistered => Ok(stays_registered(table, ranges, entry)),
         UpgradeCondition::SameEnds => Ok(keeps_ends(table, shortcuts, entry)),
         UpgradeCondition::SameExtlang => Ok(keeps_extlang(table, shortcuts, entry)),
         UpgradeCondition::SameVariantLanguage => Ok(keeps_variant_language(
             table, shortcuts, entry,
         )),
+        UpgradeCondition::NoNewVariantLanguage => Ok(had_variant_language(older.table(), entry)),
         UpgradeCondition::SameWhole => keeps_whole(alloc, older, newer, entry),
-        UpgradeCondition::StaysRegistered | UpgradeCondition::NoNewVariantLanguage =>
-            unreachable!(),
     }
-}
-
-/// The first record of the older registry that does not meet a condition on such records after the
-/// first.
-fn first_failing<A: Lookup, B: Lookup>(
-    alloc: Global,
-    older: &Checked<A>,
-    newer: &Checked<B>,
-    shortcuts: &Shortcuts,
-    condition: UpgradeCondition,
-) -> Result<Option<u32>, OutOfMemory>
-    requires shortcuts { AreShortcuts (B.listed newer.now) shortcuts.now }
-    requires older { is_of_newer condition ≡ false }
-    requires further { condition ≢ UpgradeCondition.StaysRegistered }
-    ensures { IfOk result (IsLowestUpgradeFault (A.listed older.now) (B.listed newer.now) condition) }
-{
-    for entry in older.table().entries() {
-        if !meets(alloc, older, newer, shortcuts, condition, entry)? {
-            return Ok(Some(entry.number()));
-        }
-    }
-    Ok(None)
-}
-
-/// The first record of the older registry whose name is not registered in the newer.
-fn first_unregistered<A: Lookup, B: Lookup>(
-    alloc: Global,
-    older: &Checked<A>,
-    newer: &Checked<B>,
-) -> Result<Option<u32>, OutOfMemory>
-    ensures { IfOk result (IsLowestUpgradeFault (A.listed older.now) (B.listed newer.now) UpgradeCondition.StaysRegistered) }
-{
-    let table = newer.table();
-    let ranges = WidestRanges::of_entries(alloc, table.entries())?;
-    for entry in older.table().entries() {
-        if !stays_registered(table, &ranges, entry) {
-            return Ok(Some(entry.number()));
-        }
-    }
-    Ok(None)
-}
-
-/// The first record of the newer registry that gives a variant of the older one its first language value.
-fn first_new_variant_language<A: Lookup, B: Lookup>(
-    older: &Checked<A>,
-    newer: &Checked<B>,
-) -> Option<u32>
-    ensures { IsLowestUpgradeFault (A.listed older.now) (B.listed newer.now) UpgradeCondition.NoNewVariantLanguage result }
-{
-    let table = older.table();
-    for entry in newer.table().entries() {
-        if !had_variant_language(table, entry) {
-            return Some(entry.number());
-        }
-    }
-    None
 }
 
 /// The lowest record at fault by a condition.
@@ -161,17 +119,18 @@ fn lowest_fault<A: Lookup, B: Lookup>(
     alloc: Global,
     older: &Checked<A>,
     newer: &Checked<B>,
-    shortcuts: &Shortcuts,
+    ranges: &WidestRanges,
     condition: UpgradeCondition,
 ) -> Result<Option<u32>, OutOfMemory>
-    requires { AreShortcuts (B.listed newer.now) shortcuts.now }
+    requires { HoldRanges (B.listed newer.now) ranges.now }
     ensures { IfOk result (IsLowestUpgradeFault (A.listed older.now) (B.listed newer.now) condition) }
 {
-    match condition {
-        UpgradeCondition::StaysRegistered => first_unregistered(alloc, older, newer),
-        UpgradeCondition::NoNewVariantLanguage => Ok(first_new_variant_language(older, newer)),
-        _ => first_failing(alloc, older, newer, shortcuts, condition),
+    for entry in records_of(older, newer, condition) {
+        if !meets(alloc, older, newer, ranges, condition, entry)? {
+            return Ok(Some(entry.number()));
+        }
     }
+    Ok(None)
 }
 
 /// Whether a newer registry upgrades an older one: whether it meets each of the six
@@ -193,10 +152,9 @@ pub fn upgrade_check<A: Lookup, B: Lookup>(
 {
     upgrades_keep_tags();
     let _ = older.table();
-    let _ = newer.table();
-    let shortcuts = newer.shortcuts();
+    let ranges = WidestRanges::of_entries(alloc, newer.table().entries())?;
     for condition in IN_ORDER {
-        if let Some(number) = lowest_fault(alloc, older, newer, shortcuts, condition)? {
+        if let Some(number) = lowest_fault(alloc, older, newer, &ranges, condition)? {
             return Err(UpgradeFault::Fails { condition, number });
         }
     }

@@ -1,17 +1,27 @@
--- What lines that come in pieces lead to.
-use Rattle.std.proofs.Common.{◌≡◌, ◌≢◌, ◌<◌, ◌≤◌, ◌+◌, ◌++◌, ◌∷◌, ◌∙◌, inl, inr, ℕ, List, [], Option, Some, None, length, sym, ap, refl, subst, arith, append_assoc, length-append}
+-- What lines that come in pieces lead to, and what the turns of a run over them keep.
+use Rattle.std.proofs.Common.{◌≡◌, ◌≢◌, ◌<◌, ◌≤◌, ◌+◌, ◌++◌, ◌∷◌, ◌∙◌, inr, ℕ, List, [], Option, Some, None, length, sym, ap, refl, subst, arith, append_assoc, length-append, ◌*◌, inl, Result, Ok, Err, add-one, append-nil}
 use Rattle.std.proofs.lemmas.List.Elements.{All-append, All-nil}
 use Rattle.lt_jar.proofs.CutLemmas.{first_goes_on, lines_of-ended, lines_of-last}
 use Rattle.lt_jar.specs.Lines.{IsOneLine, lines_of}
 use Rattle.lt_tag.specs.Parts.{TagForm}
 use Rattle.lt_registry.specs.Parts.{EntryParts}
-use Rattle.lt_registry.specs.Validity.{IsProper}
-use Rattle.lt_verify.specs.Judging.{IsProperIf, Judges, KeepsFew, SettlesFront, SettlesLine}
-use Rattle.lt_verify.specs.Verdicts.{EndsHere, LeadsOn}
-use Rattle.lt_verify.specs.Verifying.{GoesOn, GoesTo, JudgesEnd, KeepsMore, SettlesKept, Takes, TakesPiece}
+use Rattle.lt_verify.specs.Judging.{IsProperIf, Judges, SettlesFront, SettlesLine}
+use Rattle.lt_verify.specs.Verifying.{GoesOn, GoesTo, JudgesEnd, KeepsMore, SettlesKept, Takes, TakesPiece, Begins, EndsAs, IsVerdictOf, VerifiesLines}
 use Rattle.lt_verify.specs.declared.lines.Following.{Following}
 use Rattle.lt_verify.specs.declared.verdicts.Verdict.{Verdict}
 use Rattle.lt_verify.specs.declared.verdicts.Verdict.TheVariants as verdicts
+use Rattle.std.specs.Io.KnownBytes.{Consumes, IsAtEnd, Keeps}
+use Rattle.std.proofs.KnownBytes.{Consumes-kept, Consumes-nil, Consumes-trans}
+use Rattle.lt_jar.specs.Devices.{HasFailed, after_reads, failures_of, inner_of, last_given_of, one_more, reads_of}
+use Rattle.lt_jar.specs.Sources.{most_reads}
+use Rattle.lt_jar.specs.declared.devices.Device.{Device}
+use Rattle.lt_lines.proofs.DeviceLemmas.{failed_from}
+use Rattle.lt_lines.proofs.RunLemmas.{ReadsPiece}
+use Rattle.lt_lines.specs.declared.faults.ToolFault.{ToolFault}
+use Rattle.lt_lines.specs.Running.{HasRead}
+use Rattle.lt_lines.specs.declared.faults.ToolFault.TheVariants as faults
+use Rattle.lt_registry.specs.Validity.{IsProper}
+use Rattle.lt_verify.proofs.VerdictLemmas.{verdict_of}
 
 -- nothing was taken
 pub takes_nothing : (R : List EntryParts) (state : Following) → IsProperIf R state.here → Takes R [] state state
@@ -22,119 +32,11 @@ takes_nothing R state proper = record {
   follows = λ more v one judged. judged;
 }
 
--- the pieces of a text
-piece_more : (kept front part more : List ℕ) → kept ++ (front ++ (part ++ more)) ≡ kept ++ ((front ++ part) ++ more)
-piece_more kept front part more = ap (λ l. kept ++ l) (sym (append_assoc front part more))
-
 -- lines behind a line that is ended
 ended_line : (kept part more : List ℕ) → IsOneLine kept → IsOneLine part → lines_of (kept ++ ((part ++ 10 ∷ []) ++ more)) ≡ (kept ++ part) ∷ lines_of more
 ended_line kept part more one two =
     ap lines_of (ap (λ l. kept ++ l) (append_assoc part (10 ∷ []) more) ∙ sym (append_assoc kept part (10 ∷ more)))
     ∙ lines_of-ended (kept ++ part) more (All-append (λ byte. byte ≢ 10) kept part one two)
-
--- one line more was taken, and it goes on behind it
-pub takes_line : (R : List EntryParts) (front part : List ℕ) (old now mid new : Following) → Takes R front old now → IsOneLine part
-    → mid.kept.items ≡ now.kept.items ++ part → mid.here ≡ now.here → mid.number ≡ now.number → GoesOn R mid new → Takes R (front ++ (part ++ 10 ∷ [])) old new
-takes_line R front part old now mid new t one kept here number g = record {
-  proper = g.proper;
-  counted = let n = length-append front (part ++ 10 ∷ []) in let m = length-append part (10 ∷ []) in omega (arith, n, m, t.counted, g.counted, number);
-  one = λ was. subst IsOneLine (sym g.emptied) (All-nil (λ byte. byte ≢ 10));
-  follows = λ more v was judged.
-      let lines : lines_of (new.kept.items ++ more) ≡ lines_of more = ap (λ (l : List ℕ). lines_of (l ++ more)) g.emptied in
-      let behind = g.follows (lines_of more) v (subst (λ (l : List (List ℕ)). Judges R new.number new.here l v) lines judged) in
-      let there = subst (λ (n : ℕ). Judges R n now.here (mid.kept.items ∷ lines_of more) v) number (subst (λ (h : Option TagForm). Judges R mid.number h (mid.kept.items ∷ lines_of more) v) here behind) in
-      let whole : mid.kept.items ∷ lines_of more ≡ lines_of (now.kept.items ++ ((part ++ 10 ∷ []) ++ more)) =
-      ap (λ (l : List ℕ). l ∷ lines_of more) kept ∙ sym (ended_line now.kept.items part more (t.one was) one) in
-      let ahead = t.follows ((part ++ 10 ∷ []) ++ more) v was (subst (λ (l : List (List ℕ)). Judges R now.number now.here l v) whole there) in
-      subst (λ (l : List ℕ). Judges R old.number old.here (lines_of l) v) (piece_more old.kept.items front (part ++ 10 ∷ []) more) ahead;
-}
-
--- one line more settles what is judged
-pub settled_line : (R : List EntryParts) (front part rest piece : List ℕ) (old now mid : Following) (v : Verdict) → Takes R front old now → IsOneLine part
-    → mid.kept.items ≡ now.kept.items ++ part → mid.here ≡ now.here → mid.number ≡ now.number → piece ≡ front ++ ((part ++ 10 ∷ []) ++ rest)
-    → ((lines : List (List ℕ)) → Judges R mid.number mid.here (mid.kept.items ∷ lines) v)
-    → (more : List ℕ) → IsOneLine old.kept.items → Judges R old.number old.here (lines_of (old.kept.items ++ (piece ++ more))) v
-settled_line R front part rest piece old now mid v t one kept here number split judged = λ more was.
-    let behind = judged (lines_of (rest ++ more)) in
-    let there = subst (λ (n : ℕ). Judges R n now.here (mid.kept.items ∷ lines_of (rest ++ more)) v) number (subst (λ (h : Option TagForm). Judges R mid.number h (mid.kept.items ∷ lines_of (rest ++ more)) v) here behind) in
-    let whole : mid.kept.items ∷ lines_of (rest ++ more) ≡ lines_of (now.kept.items ++ ((part ++ 10 ∷ []) ++ (rest ++ more))) =
-    ap (λ (l : List ℕ). l ∷ lines_of (rest ++ more)) kept ∙ sym (ended_line now.kept.items part (rest ++ more) (t.one was) one) in
-    let ahead = t.follows ((part ++ 10 ∷ []) ++ (rest ++ more)) v was (subst (λ (l : List (List ℕ)). Judges R now.number now.here l v) whole there) in
-    let same : front ++ ((part ++ 10 ∷ []) ++ (rest ++ more)) ≡ piece ++ more =
-    ap (λ l. front ++ l) (sym (append_assoc (part ++ 10 ∷ []) rest more)) ∙ sym (append_assoc front ((part ++ 10 ∷ []) ++ rest) more) ∙ ap (λ l. l ++ more) (sym split) in
-    subst (λ (l : List ℕ). Judges R old.number old.here (lines_of (old.kept.items ++ l)) v) same ahead
-
--- the rest of a piece was kept
-pub takes_rest : (R : List EntryParts) (front rest piece : List ℕ) (old now new : Following) → Takes R front old now → IsOneLine rest → piece ≡ front ++ rest
-    → new.kept.items ≡ now.kept.items ++ rest → new.here ≡ now.here → new.number ≡ now.number → Takes R piece old new
-takes_rest R front rest piece old now new t one split kept here number = record {
-  proper = subst (IsProperIf R) (sym here) t.proper;
-  counted = omega (arith, ap length split, length-append front rest, t.counted, number);
-  one = λ was. subst IsOneLine (sym kept) (All-append (λ byte. byte ≢ 10) now.kept.items rest (t.one was) one);
-  follows = λ more v was judged.
-      let there = subst (λ (n : ℕ). Judges R n now.here (lines_of (new.kept.items ++ more)) v) number (subst (λ (h : Option TagForm). Judges R new.number h (lines_of (new.kept.items ++ more)) v) here judged) in
-      let whole : new.kept.items ++ more ≡ now.kept.items ++ (rest ++ more) = ap (λ (l : List ℕ). l ++ more) kept ∙ append_assoc now.kept.items rest more in
-      let ahead = t.follows (rest ++ more) v was (subst (λ (l : List ℕ). Judges R now.number now.here (lines_of l) v) whole there) in
-      let same : front ++ (rest ++ more) ≡ piece ++ more = sym (append_assoc front rest more) ∙ ap (λ l. l ++ more) (sym split) in
-      subst (λ (l : List ℕ). Judges R old.number old.here (lines_of (old.kept.items ++ l)) v) same ahead;
-}
-
--- the front of the line that is kept settles what is judged
-front_judges : (R : List EntryParts) (n : ℕ) (t : TagForm) (front more : List ℕ) (v : Verdict) → IsOneLine front → 0 < length front
-    → ((more : List ℕ) → SettlesLine R n t (front ++ more) v) → Judges R n (Some t) (lines_of (front ++ more)) v
-front_judges R n t [] more v one some settles = absurd (omega (arith, some))
-front_judges R n t (byte ∷ front) more v one some settles =
-    let goes = first_goes_on byte front more one in
-    subst (λ (l : List (List ℕ)). Judges R n (Some t) l v) (sym goes.2) (inr (inr (settles goes.0)))
-
-pub settled_kept : (R : List EntryParts) (t : TagForm) (state : Following) (v : Verdict) → state.here ≡ Some t → SettlesFront R state.number t state.kept.items (Some v)
-    → SettlesKept R state (Some v)
-settled_kept R t state v here settles = λ more one.
-    subst (λ (h : Option TagForm). Judges R state.number h (lines_of (state.kept.items ++ more)) v) (sym here) (front_judges R state.number t state.kept.items more v one settles.0 settles.1)
-
-pub settled_rest : (R : List EntryParts) (t : TagForm) (state : Following) → state.here ≡ Some t → (judged : Option Verdict) → SettlesFront R state.number t state.kept.items judged → SettlesKept R state judged
-settled_rest R t state here None settles = subst (λ (h : Option TagForm). KeepsFew R h (length state.kept.items)) (sym here) settles
-settled_rest R t state here (Some v) settles = settled_kept R t state v here settles
-
--- the last line, where it is anything
-last_lines : (line : List ℕ) → IsOneLine line → (line ≡ [] → ⊥) → lines_of line ≡ line ∷ []
-last_lines [] one some = absurd (some refl)
-last_lines (byte ∷ line) one some = lines_of-last (byte ∷ line) one (omega arith)
-
--- ---- the line that is kept
-
--- its step leads on
-pub led : (R : List EntryParts) (t u : TagForm) (old new : Following) → old.here ≡ Some t → GoesTo (Some u) old new → IsProper R u → LeadsOn R t old.kept.items u → GoesOn R old new
-led R t u old new here to proper leads = record {
-  proper = subst (IsProperIf R) (sym to.there) proper;
-  emptied = to.emptied;
-  counted = to.counted;
-  follows = λ lines v judged.
-      let behind = subst (λ (n : ℕ). Judges R n (Some u) lines v) to.counted (subst (λ (h : Option TagForm). Judges R new.number h lines v) to.there judged) in
-      subst (λ (h : Option TagForm). Judges R old.number h (old.kept.items ∷ lines) v) (sym here) (inl (u, leads, behind));
-}
-
--- it is that of the end
-pub ended : (R : List EntryParts) (t : TagForm) (old new : Following) → old.here ≡ Some t → GoesTo None old new → EndsHere t old.kept.items → GoesOn R old new
-ended R t old new here to ends = record {
-  proper = subst (IsProperIf R) (sym to.there) tt;
-  emptied = to.emptied;
-  counted = to.counted;
-  follows = λ lines v judged.
-      let behind = subst (λ (n : ℕ). Judges R n None lines v) to.counted (subst (λ (h : Option TagForm). Judges R new.number h lines v) to.there judged) in
-      subst (λ (h : Option TagForm). Judges R old.number h (old.kept.items ∷ lines) v) (sym here) (inr (inl (ends, behind)));
-}
-
-behind_judges : (R : List EntryParts) (n : ℕ) (line more : List ℕ) → IsOneLine line → (line ≡ [] → ⊥) → Judges R n None (lines_of (line ++ more)) (verdicts.BadStep n)
-behind_judges R n [] more one some = absurd (some refl)
-behind_judges R n (byte ∷ line) more one some =
-    let goes = first_goes_on byte line more one in
-    subst (λ (l : List (List ℕ)). Judges R n None l (verdicts.BadStep n)) (sym goes.2) refl
-
--- its front does
-pub kept_behind : (R : List EntryParts) (state : Following) → state.here ≡ None → (state.kept.items ≡ [] → ⊥) → SettlesKept R state (Some (verdicts.BadStep state.number))
-kept_behind R state here some = λ more one.
-    subst (λ (h : Option TagForm). Judges R state.number h (lines_of (state.kept.items ++ more)) (verdicts.BadStep state.number)) (sym here) (behind_judges R state.number state.kept.items more one some)
 
 -- ---- the lines of a piece
 
@@ -144,44 +46,238 @@ pub record PieceTurn (R : List EntryParts) (piece rest : List ℕ) (old now : Fo
   pub cut : piece ≡ front ++ rest
   pub takes : Takes R front old now
 
-pub first_turn : (R : List EntryParts) (piece : List ℕ) (state : Following) → IsProperIf R state.here → PieceTurn R piece piece state state
-first_turn R piece state proper = record { front = []; cut = refl; takes = takes_nothing R state proper }
+pub first_turn : {R : List EntryParts} {piece : List ℕ} {state : Following} → IsProperIf R state.here → PieceTurn R piece piece state state
+first_turn {R = R} {state = state} proper = record { front = []; cut = refl; takes = takes_nothing R state proper }
 
-cut_more : (front part after piece rest : List ℕ) → piece ≡ front ++ rest → rest ≡ part ++ 10 ∷ after → piece ≡ front ++ ((part ++ 10 ∷ []) ++ after)
-cut_more front part after piece rest cut split = cut ∙ ap (λ l. front ++ l) (split ∙ sym (append_assoc part (10 ∷ []) after))
+-- the tag at hand is proper
+pub turn_proper : {R : List EntryParts} {piece rest part : List ℕ} {old now mid : Following} → PieceTurn R piece rest old now → KeepsMore part now mid → IsProperIf R mid.here
+turn_proper {R = R} t keeps = subst (IsProperIf R) (sym keeps.here) t.takes.proper
 
-pub next_turn : (R : List EntryParts) (piece rest part after : List ℕ) (old now mid new : Following) → PieceTurn R piece rest old now → IsOneLine part × (rest ≡ part ++ 10 ∷ after)
-    → KeepsMore part now mid → GoesOn R mid new → PieceTurn R piece after old new
-next_turn R piece rest part after old now mid new t split keeps g = record {
-  front = t.front ++ (part ++ 10 ∷ []);
-  cut = cut_more t.front part after piece rest t.cut split.1 ∙ sym (append_assoc t.front (part ++ 10 ∷ []) after);
-  takes = takes_line R t.front part old now mid new t.takes split.0 keeps.kept keeps.here keeps.number g;
+-- a line more was ended, and kept
+module _ {R : List EntryParts} {piece rest : List ℕ} {old now mid : Following} (part after : List ℕ) (t : PieceTurn R piece rest old now) (split : IsOneLine part × (rest ≡ part ++ 10 ∷ after)) (keeps : KeepsMore part now mid) where
+  -- the number of the next line is far from the greatest
+  pub turn_room : mid.number + 1 ≤ old.number + length piece
+  turn_room = omega (arith, keeps.number, t.takes.counted, ap length t.cut, length-append t.front rest, ap length split.1, length-append part (10 ∷ after))
+
+  cut_more : piece ≡ t.front ++ ((part ++ 10 ∷ []) ++ after)
+  cut_more = t.cut ∙ ap (λ l. t.front ++ l) (split.1 ∙ sym (append_assoc part (10 ∷ []) after))
+
+  -- what is judged of it, and of what is behind it, is judged of the bytes
+  line_judged : (tail : List ℕ) (v : Verdict) → IsOneLine old.kept.items → Judges R mid.number mid.here (mid.kept.items ∷ lines_of tail) v
+      → Judges R old.number old.here (lines_of (old.kept.items ++ (t.front ++ ((part ++ 10 ∷ []) ++ tail)))) v
+  line_judged tail v was judged =
+      let there : Judges R now.number now.here ((now.kept.items ++ part) ∷ lines_of tail) v = rw (keeps.number, keeps.here, keeps.kept) at judged in
+      t.takes.follows ((part ++ 10 ∷ []) ++ tail) v was (rw (ended_line now.kept.items part tail (t.takes.one was) split.0) there)
+
+  pub next_turn : {new : Following} → GoesOn R mid new → PieceTurn R piece after old new
+  next_turn g = record {
+    front = t.front ++ (part ++ 10 ∷ []);
+    cut = cut_more ∙ sym (append_assoc t.front (part ++ 10 ∷ []) after);
+    takes = record {
+      proper = g.proper;
+      counted = omega (arith, length-append t.front (part ++ 10 ∷ []), length-append part (10 ∷ []), t.takes.counted, g.counted, keeps.number);
+      one = λ was. subst IsOneLine (sym g.emptied) (All-nil (λ byte. byte ≢ 10));
+      follows = λ more v was judged. rw (append_assoc t.front (part ++ 10 ∷ []) more) (line_judged more v was (g.follows (lines_of more) v (rw g.emptied at judged)));
+    };
+  }
+
+  pub settled_turn : (new : Following) (v : Verdict) → ((lines : List (List ℕ)) → Judges R mid.number mid.here (mid.kept.items ∷ lines) v) → TakesPiece R piece old new (Some v)
+  settled_turn new v judged = λ more was.
+      let same : piece ++ more ≡ t.front ++ ((part ++ 10 ∷ []) ++ (after ++ more)) =
+      ap (λ l. l ++ more) cut_more ∙ append_assoc t.front ((part ++ 10 ∷ []) ++ after) more ∙ ap (λ l. t.front ++ l) (append_assoc (part ++ 10 ∷ []) after more) in
+      rw same (line_judged (after ++ more) v was (judged (lines_of (after ++ more))))
+
+-- the rest of a piece was kept
+takes_rest : {R : List EntryParts} {piece rest : List ℕ} {old now new : Following} → PieceTurn R piece rest old now → IsOneLine rest → KeepsMore rest now new → Takes R piece old new
+takes_rest {R = R} {piece = piece} {rest = rest} {now = now} t one keeps = record {
+  proper = turn_proper t keeps;
+  counted = omega (arith, ap length t.cut, length-append t.front rest, t.takes.counted, keeps.number);
+  one = λ was. subst IsOneLine (sym keeps.kept) (All-append (λ byte. byte ≢ 10) now.kept.items rest (t.takes.one was) one);
+  follows = λ more v was judged.
+      let there : Judges R now.number now.here (lines_of (now.kept.items ++ (rest ++ more))) v = rw (keeps.number, keeps.here, keeps.kept, append_assoc now.kept.items rest more) at judged in
+      let same : piece ++ more ≡ t.front ++ (rest ++ more) = ap (λ l. l ++ more) t.cut ∙ append_assoc t.front rest more in
+      rw same (t.takes.follows (rest ++ more) v was there);
 }
 
-pub settled_turn : (R : List EntryParts) (piece rest part after : List ℕ) (old now mid new : Following) (v : Verdict) → PieceTurn R piece rest old now → IsOneLine part × (rest ≡ part ++ 10 ∷ after)
-    → KeepsMore part now mid → ((lines : List (List ℕ)) → Judges R mid.number mid.here (mid.kept.items ∷ lines) v) → TakesPiece R piece old new (Some v)
-settled_turn R piece rest part after old now mid new v t split keeps judged =
-    settled_line R t.front part after piece old now mid v t.takes split.0 keeps.kept keeps.here keeps.number (cut_more t.front part after piece rest t.cut split.1) judged
-
-pub last_turn : (R : List EntryParts) (piece rest : List ℕ) (old now new : Following) → PieceTurn R piece rest old now → IsOneLine rest → KeepsMore rest now new
+pub last_turn : {R : List EntryParts} {piece rest : List ℕ} {old now new : Following} → PieceTurn R piece rest old now → IsOneLine rest → KeepsMore rest now new
     → (judged : Option Verdict) → SettlesKept R new judged → TakesPiece R piece old new judged
-last_turn R piece rest old now new t one keeps None settles = (takes_rest R t.front rest piece old now new t.takes one t.cut keeps.kept keeps.here keeps.number, settles)
-last_turn R piece rest old now new t one keeps (Some v) settles = λ more was.
-    let takes = takes_rest R t.front rest piece old now new t.takes one t.cut keeps.kept keeps.here keeps.number in
-    takes.follows more v was (settles more (takes.one was))
+last_turn t one keeps None settles = (takes_rest t one keeps, settles)
+last_turn t one keeps (Some v) settles = λ more was. let takes = takes_rest t one keeps in takes.follows more v was (settles more (takes.one was))
 
--- the tag at hand is proper, and the number of the next line far from the greatest
-pub turn_proper : (R : List EntryParts) (piece rest part : List ℕ) (old now mid : Following) → PieceTurn R piece rest old now → KeepsMore part now mid → IsProperIf R mid.here
-turn_proper R piece rest part old now mid t keeps = subst (IsProperIf R) (sym keeps.here) t.takes.proper
+-- ---- the line that is kept
 
-pub turn_room : (R : List EntryParts) (piece rest part after : List ℕ) (old now mid : Following) → PieceTurn R piece rest old now → rest ≡ part ++ 10 ∷ after → KeepsMore part now mid
-    → mid.number + 1 ≤ old.number + length piece
-turn_room R piece rest part after old now mid t split keeps =
-    omega (arith, keeps.number, t.takes.counted, ap length t.cut, length-append t.front rest, ap length split, length-append part (10 ∷ after))
+-- it leads on, or is that of the end
+pub went_on : {R : List EntryParts} {t : TagForm} {here : Option TagForm} {old new : Following} → old.here ≡ Some t → GoesTo here old new → IsProperIf R here
+    → ((lines : List (List ℕ)) (v : Verdict) → Judges R (old.number + 1) here lines v → Judges R old.number (Some t) (old.kept.items ∷ lines) v) → GoesOn R old new
+went_on {R = R} there to proper follows = record {
+  proper = subst (IsProperIf R) (sym to.there) proper;
+  emptied = to.emptied;
+  counted = to.counted;
+  follows = λ lines v judged. rw there (follows lines v (rw (to.counted, to.there) at judged));
+}
+
+-- its front settles what is judged
+front_judges : (R : List EntryParts) (n : ℕ) (t : TagForm) (front more : List ℕ) (v : Verdict) → IsOneLine front → 0 < length front
+    → ((more : List ℕ) → SettlesLine R n t (front ++ more) v) → Judges R n (Some t) (lines_of (front ++ more)) v
+front_judges R n t [] more v one some settles = absurd (omega (arith, some))
+front_judges R n t (byte ∷ front) more v one some settles = let goes = first_goes_on byte front more one in rw goes.2 (inr (inr (settles goes.0)))
+
+pub settled_rest : (R : List EntryParts) (t : TagForm) (state : Following) → state.here ≡ Some t → (judged : Option Verdict) → SettlesFront R state.number t state.kept.items judged → SettlesKept R state judged
+settled_rest R t state here None settles = rw here settles
+settled_rest R t state here (Some v) settles = λ more one. rw here (front_judges R state.number t state.kept.items more v one settles.0 settles.1)
+
+-- anything after the end does
+behind_judges : (R : List EntryParts) (n : ℕ) (line more : List ℕ) → IsOneLine line → (line ≡ [] → ⊥) → Judges R n None (lines_of (line ++ more)) (verdicts.BadStep n)
+behind_judges R n [] more one some = absurd (some refl)
+behind_judges R n (byte ∷ line) more one some = let goes = first_goes_on byte line more one in rw goes.2 refl
+
+pub kept_behind : (R : List EntryParts) (state : Following) → state.here ≡ None → (state.kept.items ≡ [] → ⊥) → SettlesKept R state (Some (verdicts.BadStep state.number))
+kept_behind R state here some = λ more one. rw here (behind_judges R state.number state.kept.items more one some)
 
 -- ---- the end
 
+-- the last line, where it is anything
+last_lines : (line : List ℕ) → IsOneLine line → (line ≡ [] → ⊥) → lines_of line ≡ line ∷ []
+last_lines [] one some = absurd (some refl)
+last_lines (byte ∷ line) one some = lines_of-last (byte ∷ line) one (omega arith)
+
 -- what is judged of a last line that no line feed ends
 pub last_judged : (R : List EntryParts) (state : Following) (v : Verdict) → (state.kept.items ≡ [] → ⊥) → Judges R state.number state.here (state.kept.items ∷ []) v → JudgesEnd R state v
-last_judged R state v some judged = λ one.
-    subst (λ (l : List (List ℕ)). Judges R state.number state.here l v) (sym (last_lines state.kept.items one some)) judged
+last_judged R state v some judged = λ one. rw (last_lines state.kept.items one some) judged
+
+-- ---- what the turns of a run over the lines of an explanation keep, and how it ends
+
+-- so far the run from the beginning at a tag read this and took it
+pub record HasTurned {I : Type 0} (R : List EntryParts) (t : TagForm) (remaining : I → Option (List ℕ)) (input input' : Device I) (state : Following) (turn : ℕ) : Type 0 where
+  pub start : Following
+  pub begins : Begins t start
+  pub read : List ℕ
+  pub consumes : Consumes (remaining (inner_of input)) (remaining (inner_of input')) read
+  pub takes : Takes R read start state
+  pub calls : HasRead input input' turn
+  pub last_gave : 0 < turn → 0 < last_given_of input'
+  pub most : length read ≤ 65536 * turn
+  pub failures : failures_of input' ≡ failures_of input
+
+-- memory ran out before the first read
+pub run_lacks : {I : Type 0} {R : List EntryParts} {t : TagForm} {remaining : I → Option (List ℕ)} {input : Device I} → VerifiesLines R t remaining input input (Err faults.OutOfMemory)
+run_lacks = record {
+  read = [];
+  reads = 0;
+  consumes = Consumes-nil _;
+  calls = refl;
+  bounded = omega arith;
+  ends = tt;
+  read_rises = λ lt. absurd (omega (arith, lt));
+}
+
+pub run_first : {I : Type 0} (R : List EntryParts) (t : TagForm) (remaining : I → Option (List ℕ)) (input : Device I) (start : Following) → Begins t start → IsProper R t
+    → HasTurned R t remaining input input start 0
+run_first R t remaining input start begins proper = record {
+  start = start;
+  begins = begins;
+  read = [];
+  consumes = Consumes-nil _;
+  takes = takes_nothing R start (subst (IsProperIf R) (sym begins.here) proper);
+  calls = refl;
+  last_gave = λ some. absurd (omega (arith, some));
+  most = omega arith;
+  failures = refl;
+}
+
+takes_trans : (R : List EntryParts) (front piece : List ℕ) (old mid new : Following) → Takes R front old mid → Takes R piece mid new → Takes R (front ++ piece) old new
+takes_trans R front piece old mid new a b = record {
+  proper = b.proper;
+  counted = omega (arith, a.counted, b.counted, length-append front piece);
+  one = λ was. b.one (a.one was);
+  follows = λ more v was judged.
+      subst (λ (l : List ℕ). Judges R old.number old.here (lines_of (old.kept.items ++ l)) v) (sym (append_assoc front piece more)) (a.follows (piece ++ more) v was (b.follows more v (a.one was) judged));
+}
+
+-- behind these turns
+module _ {I : Type 0} {R : List EntryParts} {t : TagForm} {remaining : I → Option (List ℕ)} {input before : Device I} {state : Following} {turn : ℕ} (v : HasTurned R t remaining input before state turn) where
+  began : IsOneLine v.start.kept.items
+  began = subst IsOneLine (sym v.begins.kept) (All-nil (λ byte. byte ≢ 10))
+
+  -- what is judged behind the lines that were taken is the verdict on all bytes
+  judged_bytes : (more : List ℕ) (judged : Verdict) → Judges R state.number state.here (lines_of (state.kept.items ++ more)) judged → IsVerdictOf R t judged (v.read ++ more)
+  judged_bytes more judged is =
+      verdict_of R t (lines_of (v.read ++ more)) judged (rw (v.begins.kept, v.begins.number, v.begins.here) at (v.takes.follows more judged began is))
+
+  -- one read more
+  read_more : (after : Device I) → reads_of after ≡ one_more (reads_of before) → HasRead input after (turn + 1)
+  read_more after more = more ∙ ap one_more v.calls ∙ sym (ap (after_reads (reads_of input)) (add-one turn))
+
+  pub run_next : {after : Device I} {new : Following} (piece : List ℕ) → ReadsPiece remaining before after piece → length piece ≤ 65536 → 0 < last_given_of after → TakesPiece R piece state new None
+      → HasTurned R t remaining input after new (turn + 1)
+  run_next {after = after} {new = new} piece r short gave takes = record {
+    start = v.start;
+    begins = v.begins;
+    read = v.read ++ piece;
+    consumes = Consumes-trans _ _ _ _ _ v.consumes r.consumes;
+    takes = takes_trans R v.read piece v.start state new v.takes takes.0;
+    calls = read_more after r.calls;
+    last_gave = λ some. gave;
+    most = let n = length-append v.read piece in omega (arith, n, v.most, short);
+    failures = r.failures ∙ v.failures;
+  }
+
+  -- the number of the next line is far from the greatest
+  pub run_room : state.number ≤ 1 + 65536 * turn
+  run_room = omega (arith, v.begins.number, v.takes.counted, v.most)
+
+  -- a read failed
+  pub run_failed : {after : Device I} → turn < most_reads → Keeps (remaining (inner_of before)) (remaining (inner_of after)) → reads_of after ≡ one_more (reads_of before) → HasFailed before after
+      → VerifiesLines R t remaining input after (Err faults.Read)
+  run_failed {after = after} few kept more failed = record {
+    read = v.read;
+    reads = turn + 1;
+    consumes = Consumes-kept _ _ _ _ v.consumes kept;
+    calls = read_more after more;
+    bounded = omega (arith, few);
+    ends = failed_from input before after v.failures failed;
+    read_rises = λ lt. refl;
+  }
+
+  -- all reads were made
+  pub run_turns : turn ≡ most_reads → VerifiesLines R t remaining input before (Err faults.TooManyTurns)
+  run_turns all = record {
+    read = v.read;
+    reads = turn;
+    consumes = v.consumes;
+    calls = v.calls;
+    bounded = omega (arith, all);
+    ends = (all, v.last_gave (omega (arith, all)));
+    read_rises = λ lt. absurd (omega (arith, lt, v.failures));
+  }
+
+  -- a piece was read, and the run ended so
+  run_ended : {after : Device I} (piece : List ℕ) (r : Result Verdict ToolFault) → turn < most_reads → ReadsPiece remaining before after piece → EndsAs R t remaining input after (turn + 1) (v.read ++ piece) r
+      → VerifiesLines R t remaining input after r
+  run_ended {after = after} piece r few p ends = record {
+    read = v.read ++ piece;
+    reads = turn + 1;
+    consumes = Consumes-trans _ _ _ _ _ v.consumes p.consumes;
+    calls = read_more after p.calls;
+    bounded = omega (arith, few);
+    ends = ends;
+    read_rises = λ lt. absurd (omega (arith, lt, p.failures, v.failures));
+  }
+
+  -- memory ran out
+  pub run_stopped : {after : Device I} (piece : List ℕ) → turn < most_reads → ReadsPiece remaining before after piece → VerifiesLines R t remaining input after (Err faults.OutOfMemory)
+  run_stopped piece few p = run_ended piece (Err faults.OutOfMemory) few p tt
+
+  -- a piece settled what is judged
+  pub run_settled : {after : Device I} (new : Following) (piece : List ℕ) (judged : Verdict) → turn < most_reads → ReadsPiece remaining before after piece → TakesPiece R piece state new (Some judged)
+      → VerifiesLines R t remaining input after (Ok judged)
+  run_settled new piece judged few p takes =
+      run_ended piece (Ok judged) few p
+      (inl (λ more. subst (IsVerdictOf R t judged) (sym (append_assoc v.read piece more)) (judged_bytes (piece ++ more) judged (takes more (v.takes.one began)))))
+
+  -- the reader was at its end
+  pub run_finished : {after : Device I} (piece : List ℕ) (judged : Verdict) → turn < most_reads → ReadsPiece remaining before after piece → piece ≡ [] → IsAtEnd (remaining (inner_of after)) → JudgesEnd R state judged
+      → VerifiesLines R t remaining input after (Ok judged)
+  run_finished piece judged few p none end ends =
+      let here = subst (λ (l : List ℕ). Judges R state.number state.here (lines_of l) judged) (sym (append-nil state.kept.items)) (ends (v.takes.one began)) in
+      run_ended piece (Ok judged) few p (inr (end, subst (λ (l : List ℕ). IsVerdictOf R t judged (v.read ++ l)) (sym none) (judged_bytes [] judged here)))

@@ -22,23 +22,17 @@ use Rattle.lt_tag.specs.Splitting.{spell_source}
 
 -- ---- numbers
 
-abbrev HasBits : EntryParts → Type 0
-HasBits e = e.number < 2 ^ 32
+-- the number of what is found, if anything is
+few : (o : Option EntryParts) → ((e : EntryParts) → o ≡ Some e → e.number < 2 ^ 32) → number_of o < 2 ^ 32
+few None each = omega arith
+few (Some e) each = each e refl
 
 module _ (R : List EntryParts) (all : NumbersFit R) where
   entry_fits : (kind : Kind) (subtag : List ℕ) → number_of (entry R kind subtag) < 2 ^ 32
-  entry_fits kind subtag = by (entry R kind subtag) refl
-    where
-      by : (o : Option EntryParts) → entry R kind subtag ≡ o → number_of o < 2 ^ 32
-      by None is = omega arith
-      by (Some e) is = (entry_has R kind subtag HasBits all e is).0
+  entry_fits kind subtag = few (entry R kind subtag) (λ e is. (entry_has R kind subtag (λ (e : EntryParts). e.number < 2 ^ 32) all e is).0)
 
   whole_fits : (t : TagForm) → number_of (whole R t) < 2 ^ 32
-  whole_fits t = by (whole R t) refl
-    where
-      by : (o : Option EntryParts) → whole R t ≡ o → number_of o < 2 ^ 32
-      by None is = omega arith
-      by (Some e) is = (find_has HasBits (λ (e : EntryParts). is_whole t e.name) R e all is).0
+  whole_fits t = few (whole R t) (λ e is. (find_has (λ (e : EntryParts). e.number < 2 ^ 32) (λ (e : EntryParts). is_whole t e.name) R e all is).0)
 
 -- ---- places
 
@@ -48,11 +42,7 @@ record Fits (step : Step) (most : ℕ) : Type 0 where
   number : step.number < 2 ^ 32
 
 core_length : (c : CoreParts) → length (spell_core c) ≡ 1 + (length c.extlangs + (length (option_to_list c.script) + (length (option_to_list c.region) + length c.variants)))
-core_length c =
-    let a = length-append c.extlangs (option_to_list c.script ++ (option_to_list c.region ++ c.variants)) in
-    let b = length-append (option_to_list c.script) (option_to_list c.region ++ c.variants) in
-    let d = length-append (option_to_list c.region) c.variants in
-    omega (arith, a, b, d)
+core_length c = simp length-append (omega arith)
 
 attributes_count : (xs : List (List ℕ)) → length (flat_map (λ a. a ∷ []) xs) ≡ length xs
 attributes_count [] = refl

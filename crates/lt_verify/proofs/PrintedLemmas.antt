@@ -1,8 +1,7 @@
 -- The lines of the text of an explanation.
-use Rattle.std.proofs.Common.{◌≡◌, ◌≢◌, ◌<◌, ◌++◌, ◌∷◌, ◌∙◌, ◌==◌, ℕ, List, [], Bool, true, false, Result, Ok, Err, IsOk, if◌then◌else◌, length, suc, slice_index_or, sym, ap, refl, subst, arith, append_assoc}
+use Rattle.std.proofs.Common.{◌≡◌, ◌≢◌, ◌<◌, ◌++◌, ◌∷◌, ◌∙◌, ◌==◌, ℕ, List, [], Bool, true, false, Result, Ok, Err, IsOk, if◌then◌else◌, length, suc, slice_index_or, ap, refl, subst, arith, append_assoc}
 use Rattle.std.specs.Prelude.{codes}
 use Rattle.std.specs.Char.{is_ascii_alphanumeric}
-use Rattle.std.specs.Fmt.{decimal}
 use Rattle.std.specs.List.{AllByRecursion, list_all, onto_first}
 use Rattle.std.proofs.lemmas.Bool.{and_parts, eqb-true}
 use Rattle.std.proofs.lemmas.List.Elements.{All-cons, All-head, All-nil, All-tail}
@@ -17,11 +16,9 @@ use Rattle.lt_tag.specs.Lists.{pieces}
 use Rattle.lt_tag.specs.Parts.{TagForm}
 use Rattle.lt_tag.specs.WellFormed.{IsTag}
 use Rattle.lt_registry.specs.Parts.{EntryParts}
-use Rattle.lt_rewrite.specs.Names.{name_of}
 use Rattle.lt_rewrite.specs.declared.steps.Step.{Step}
 use Rattle.lt_canon.specs.ExplanationTexts as printed
 use Rattle.lt_canon.specs.ExplanationTexts.{AreLines, AreStepLines}
-use Rattle.lt_verify.proofs.FrontLemmas.{step_line-append}
 use Rattle.lt_verify.proofs.PlaceLemmas.{step_fits}
 use Rattle.lt_verify.proofs.StepLemmas.{step_is_line}
 use Rattle.lt_verify.specs.Laws.{ExplanationsAreRight, NumbersFit}
@@ -71,15 +68,7 @@ tag_line t is = text_line (text_of t) (pieces_lines (pieces (text_of t)) (text_o
 
 -- the line of a step, ended by a line feed
 line_is : (step : Step) (after : TagForm) → printed.step_line step after ≡ step_line step (text_of after) ++ 10 ∷ []
-line_is step after =
-    let gap : List ℕ = 32 ∷ [] in
-    let name = name_of step.kind in
-    let place = decimal step.place in
-    let number = decimal step.number in
-    let text = text_of after ++ 10 ∷ [] in
-    append_assoc (name ++ gap ++ place ++ gap ++ number) gap text ∙ append_assoc (name ++ gap ++ place ++ gap) number (32 ∷ text)
-    ∙ append_assoc (name ++ gap ++ place) gap (number ++ 32 ∷ text) ∙ append_assoc (name ++ gap) place (32 ∷ (number ++ 32 ∷ text))
-    ∙ append_assoc name gap (place ++ 32 ∷ (number ++ 32 ∷ text)) ∙ sym (step_line-append step (text_of after) (10 ∷ []))
+line_is step after = simp append_assoc
 
 -- lines that lead to a tag, and what follows their text
 record AreLed (R : List EntryParts) (t end : TagForm) (text : List ℕ) : Type 0 where

@@ -1,17 +1,27 @@
--- The words of a step's line.
-use Rattle.std.proofs.Common.{◌≡◌, ◌≢◌, ◌<◌, ◌^◌, ◌++◌, ◌∷◌, ◌∙◌, ◌==◌, ◌&&◌, ℕ, List, [], Bool, true, false, sym, ap, refl, subst, arith, rules, not}
+-- The words of a step's line, and what the front of a line says of the line.
+use Rattle.std.proofs.Common.{◌≡◌, ◌≢◌, ◌<◌, ◌^◌, ◌++◌, ◌∷◌, ◌∙◌, ◌==◌, ℕ, List, [], Option, Some, Bool, true, sym, ap, refl, arith, not, map, get_or, find, ◌≤◌, ◌+◌, inl, inr, leb, length, append_assoc, length-append}
+use Rattle.std.specs.List.{list_all}
+use Rattle.std.specs.Str.{bytes_eq}
 use Rattle.std.specs.Fmt.{decimal}
 use Rattle.std.specs.Str.Parse.{AllDigits}
-use Rattle.std.proofs.lemmas.Fmt.{decimal_is_IsNumeral}
+use Rattle.std.proofs.lemmas.Fmt.{decimal_is_IsNumeral, length-decimal-le}
 use Rattle.std.proofs.lemmas.Str.Parse.{digit_from_value}
-use Rattle.std.proofs.lemmas.Bool.{and_parts}
+use Rattle.std.proofs.lemmas.Bool.Decides.{Decides-by_and, Decides-eqb, Decides-not}
+use Rattle.std.proofs.lemmas.List.{get_or-map}
+use Rattle.std.proofs.Math.Seq.{get_or-append_seam}
 use Rattle.std.proofs.lemmas.List.Elements.{All-append, All-cons, All-head, All-nil, All-tail}
 use Rattle.lt_lines.specs.Splitting.{IsFreeOf}
 use Rattle.lt_rewrite.specs.Names.{name_of}
 use Rattle.lt_rewrite.specs.declared.steps.Step.{Step}
 use Rattle.lt_rewrite.specs.declared.steps.StepKind.{StepKind}
 use Rattle.lt_rewrite.specs.declared.steps.StepKind.TheVariants as kinds
-use Rattle.lt_verify.specs.StepLines.{IsNoName, IsNoNumber, IsStepLine, NamesNoKind, step_line}
+use Rattle.lt_verify.specs.StepLines.{HasFewWords, HasWords, IsStepLine, step_line, IsNoName, NamesNoEnd, text_of}
+use Rattle.std.proofs.lemmas.Bool.{leb-true}
+use Rattle.lt_tag.specs.Parts.{TagForm}
+use Rattle.lt_registry.specs.Parts.{EntryParts}
+use Rattle.lt_rewrite.specs.Labels.{LeadsBy}
+use Rattle.lt_verify.specs.Judging.{KeepsFew}
+use Rattle.lt_verify.specs.Verdicts.{HasOtherText, NamesNothing}
 
 -- ---- words that are parted by a space
 
@@ -30,61 +40,60 @@ one_split byte (b ∷ x) (c ∷ y) r s fx fy e =
 
 -- a list that is free of a byte is not parted by it
 pub no_split : (byte : ℕ) (line x r : List ℕ) → IsFreeOf byte line → line ≡ x ++ byte ∷ r → ⊥
-no_split byte [] [] r free e = cc
-no_split byte [] (b ∷ x) r free e = cc
-no_split byte (b ∷ line) [] r free e =
-    let same : b ≡ byte = cc in All-head (λ other. other ≢ byte) b line free same
-no_split byte (b ∷ line) (c ∷ x) r free e =
-    let more : line ≡ x ++ byte ∷ r = cc in no_split byte line x r (All-tail (λ other. other ≢ byte) b line free) more
+no_split byte line x r free e = free (length x) 0 (omega (arith, ap length e, length-append x (byte ∷ r))) (ap (λ l. get_or l (length x) 0) e ∙ get_or-append_seam x byte r 0)
+
+-- ---- the kinds
+
+abbrev all_kinds : List StepKind
+all_kinds =
+    kinds.Extlang ∷ kinds.Language ∷ kinds.Script ∷ kinds.Region ∷ kinds.Variant ∷ kinds.VariantLanguage ∷ kinds.Whole ∷ kinds.SwapExtensions ∷ kinds.DropAttribute
+    ∷ kinds.SwapAttributes ∷ kinds.DropKeyword ∷ kinds.SwapKeywords ∷ kinds.DropTrue ∷ kinds.SwapFields ∷ []
+
+-- each kind is among them
+pub kind_at : (kind : StepKind) → (k : ℕ) × (k < 14) × (get_or all_kinds k kinds.Extlang ≡ kind)
+kind_at kinds.Extlang = (0, omega arith, refl)
+kind_at kinds.Language = (1, omega arith, refl)
+kind_at kinds.Script = (2, omega arith, refl)
+kind_at kinds.Region = (3, omega arith, refl)
+kind_at kinds.Variant = (4, omega arith, refl)
+kind_at kinds.VariantLanguage = (5, omega arith, refl)
+kind_at kinds.Whole = (6, omega arith, refl)
+kind_at kinds.SwapExtensions = (7, omega arith, refl)
+kind_at kinds.DropAttribute = (8, omega arith, refl)
+kind_at kinds.SwapAttributes = (9, omega arith, refl)
+kind_at kinds.DropKeyword = (10, omega arith, refl)
+kind_at kinds.SwapKeywords = (11, omega arith, refl)
+kind_at kinds.DropTrue = (12, omega arith, refl)
+kind_at kinds.SwapFields = (13, omega arith, refl)
+
+-- what is the same of each of them is the same of each kind
+pub each_kind : {A : Type 0} (f g : StepKind → A) → map f all_kinds ≡ map g all_kinds → (kind : StepKind) → f kind ≡ g kind
+each_kind f g same kind =
+    let at = kind_at kind in
+    let d = f kinds.Extlang in
+    ap f (sym at.2) ∙ sym (get_or-map f all_kinds at.0 kinds.Extlang d at.1) ∙ ap (λ l. get_or l at.0 d) same ∙ get_or-map g all_kinds at.0 kinds.Extlang d at.1 ∙ ap g at.2
+
+-- no two have one name
+pub same_kind : (a b : StepKind) → name_of a ≡ name_of b → a ≡ b
+same_kind a b e =
+    let by_name : List ℕ → Option StepKind = λ name. find (λ (k : StepKind). bytes_eq name (name_of k)) all_kinds in
+    let same : Some a ≡ Some b = sym (each_kind (λ k. by_name (name_of k)) (λ k. Some k) refl a) ∙ ap by_name e ∙ each_kind (λ k. by_name (name_of k)) (λ k. Some k) refl b in
+    cc
 
 -- ---- names and numbers are free of spaces
 
-is_free : ℕ → List ℕ → Bool
-is_free byte [] = true
-is_free byte (b ∷ bytes) = not (b == byte) && is_free byte bytes
-
-free_first : (b byte : ℕ) (t : Bool) → (not (b == byte) && t) ≡ true → (b ≢ byte) × (t ≡ true)
-free_first b byte t e = by_test (b == byte) refl e
-  where
-    by_test : (s : Bool) → (b == byte) ≡ s → (not s && t) ≡ true → (b ≢ byte) × (t ≡ true)
-    by_test true is h = absurd (let bad : false ≡ true = h in cc)
-    by_test false is h = ((λ same. let bad = sym is ∙ same_is b byte same in cc), h)
-      where
-        same_is : (x y : ℕ) → x ≡ y → (x == y) ≡ true
-        same_is x y same = subst (λ z. (x == z) ≡ true) same (self x)
-          where
-            self : (z : ℕ) → (z == z) ≡ true
-            self z = search rules
+abbrev is_free : ℕ → List ℕ → Bool
+is_free byte bytes = list_all (λ b. not (b == byte)) bytes
 
 free_by_test : (byte : ℕ) (bytes : List ℕ) → is_free byte bytes ≡ true → IsFreeOf byte bytes
-unfolding is_free
-free_by_test byte [] e = All-nil (λ other. other ≢ byte)
-free_by_test byte (b ∷ bytes) e =
-    let parts = free_first b byte (is_free byte bytes) e in
-    All-cons (λ other. other ≢ byte) b bytes parts.0 (free_by_test byte bytes parts.1)
-
-plain_name : (kind : StepKind) → (is_free 32 (name_of kind) && is_free 10 (name_of kind)) ≡ true
-unfolding is_free
-plain_name kinds.Extlang = refl
-plain_name kinds.Language = refl
-plain_name kinds.Script = refl
-plain_name kinds.Region = refl
-plain_name kinds.Variant = refl
-plain_name kinds.VariantLanguage = refl
-plain_name kinds.Whole = refl
-plain_name kinds.SwapExtensions = refl
-plain_name kinds.DropAttribute = refl
-plain_name kinds.SwapAttributes = refl
-plain_name kinds.DropKeyword = refl
-plain_name kinds.SwapKeywords = refl
-plain_name kinds.DropTrue = refl
-plain_name kinds.SwapFields = refl
+free_by_test byte bytes h =
+    (Decides-by_and (λ b. not (b == byte)) (λ b. b ≢ byte) (is_free byte) (λ b. Decides-not (b == byte) (Decides-eqb b byte)) refl (λ _ _. refl) bytes).0 h
 
 pub name_free : (kind : StepKind) → IsFreeOf 32 (name_of kind)
-name_free kind = free_by_test 32 (name_of kind) (and_parts _ (is_free 10 (name_of kind)) (plain_name kind)).0
+name_free kind = free_by_test 32 (name_of kind) (each_kind (λ k. is_free 32 (name_of k)) (λ _. true) refl kind)
 
 name_is_line : (kind : StepKind) → IsFreeOf 10 (name_of kind)
-name_is_line kind = free_by_test 10 (name_of kind) (and_parts (is_free 32 (name_of kind)) _ (plain_name kind)).1
+name_is_line kind = free_by_test 10 (name_of kind) (each_kind (λ k. is_free 10 (name_of k)) (λ _. true) refl kind)
 
 -- digits are neither a space nor a line feed
 digits_free : (byte : ℕ) → byte < 48 → (ds : List ℕ) → AllDigits 10 ds → IsFreeOf byte ds
@@ -108,78 +117,106 @@ step_is_line step text place number one =
     word : (bytes more : List ℕ) → IsFreeOf 10 bytes → IsFreeOf 10 more → IsFreeOf 10 (bytes ++ 32 ∷ more)
     word bytes more one two = All-append (λ other. other ≢ 10) bytes (32 ∷ more) one (All-cons (λ other. other ≢ 10) 32 more (λ e. absurd (omega (arith, e))) two)
 
--- ---- the words of a step's line
+-- ---- the words of a line
 
--- the words of a line are those of the step that it names
-pub words_of : (line name places : List ℕ) (step : Step) (text : List ℕ) → IsFreeOf 32 name → line ≡ name ++ 32 ∷ places → IsStepLine line step text
-    → (name ≡ name_of step.kind) × (places ≡ decimal step.place ++ 32 ∷ (decimal step.number ++ 32 ∷ text))
-words_of line name places step text free split is =
-    one_split 32 name (name_of step.kind) places _ free (name_free step.kind) (sym split ∙ is.line_is)
+-- no name, no place and no number
+pub no_name : (line : List ℕ) → IsFreeOf 32 line → HasFewWords line
+no_name line free = λ name place number text w. no_split 32 line name _ free w.line_is
 
--- a line with no space
-pub no_word : (line : List ℕ) → IsFreeOf 32 line → IsNoName line
-no_word line free = λ step text is. no_split 32 line (name_of step.kind) _ free is.line_is
+pub no_place : (line name places : List ℕ) → IsFreeOf 32 name × (line ≡ name ++ 32 ∷ places) → IsFreeOf 32 places → HasFewWords line
+no_place line name places first none = λ other place number text w.
+    no_split 32 places place _ none (one_split 32 name other places _ first.0 w.name_free (sym first.1 ∙ w.line_is)).1
 
--- no place
-pub no_place : (line name places : List ℕ) → IsFreeOf 32 name → line ≡ name ++ 32 ∷ places → IsFreeOf 32 places → IsNoName line
-no_place line name places free split none = λ step text is.
-    let words = words_of line name places step text free split is in
-    no_split 32 places (decimal step.place) _ none words.1
+pub no_number : (line name places place numbers : List ℕ) → IsFreeOf 32 name × (line ≡ name ++ 32 ∷ places) → IsFreeOf 32 place × (places ≡ place ++ 32 ∷ numbers) → IsFreeOf 32 numbers → HasFewWords line
+no_number line name places place numbers first second none = λ other another number text w.
+    let behind = (one_split 32 name other places _ first.0 w.name_free (sym first.1 ∙ w.line_is)).1 in
+    no_split 32 numbers number _ none (one_split 32 place another numbers _ second.0 w.place_free (sym second.1 ∙ behind)).1
 
-places_of : (line name places place numbers : List ℕ) (step : Step) (text : List ℕ) → IsFreeOf 32 name → line ≡ name ++ 32 ∷ places → IsFreeOf 32 place → places ≡ place ++ 32 ∷ numbers
-    → IsStepLine line step text → (place ≡ decimal step.place) × (numbers ≡ decimal step.number ++ 32 ∷ text)
-places_of line name places place numbers step text free split free_place split_place is =
-    let words = words_of line name places step text free split is in
-    one_split 32 place (decimal step.place) numbers _ free_place (number_free step.place is.place) (sym split_place ∙ words.1)
-
--- no number
-pub no_number : (line name places place numbers : List ℕ) → IsFreeOf 32 name → line ≡ name ++ 32 ∷ places → IsFreeOf 32 place → places ≡ place ++ 32 ∷ numbers
-    → IsFreeOf 32 numbers → IsNoName line
-no_number line name places place numbers free split free_place split_place none = λ step text is.
-    let words = places_of line name places place numbers step text free split free_place split_place is in
-    no_split 32 numbers (decimal step.number) _ none words.1
-
--- the four words of a line
-pub record HasWords (line name place number text : List ℕ) : Type 0 where
-  pub name_free : IsFreeOf 32 name
-  pub place_free : IsFreeOf 32 place
-  pub number_free : IsFreeOf 32 number
-  pub line_is : line ≡ name ++ 32 ∷ (place ++ 32 ∷ (number ++ 32 ∷ text))
-
-pub has_words : (line name places place numbers number text : List ℕ) → IsFreeOf 32 name → line ≡ name ++ 32 ∷ places → IsFreeOf 32 place → places ≡ place ++ 32 ∷ numbers
-    → IsFreeOf 32 number → numbers ≡ number ++ 32 ∷ text → HasWords line name place number text
-has_words line name places place numbers number text free split free_place split_place free_number split_number = record {
-  name_free = free;
-  place_free = free_place;
-  number_free = free_number;
-  line_is = split ∙ ap (λ l. name ++ 32 ∷ l) (split_place ∙ ap (λ l. place ++ 32 ∷ l) split_number);
-}
-
--- the step that four words name
-pub step_words : (line name place number text : List ℕ) (step : Step) (other : List ℕ) → HasWords line name place number text → IsStepLine line step other
-    → (name ≡ name_of step.kind) × (place ≡ decimal step.place) × (number ≡ decimal step.number) × (text ≡ other)
-step_words line name place number text step other w is =
-    let first = words_of line name _ step other w.name_free w.line_is is in
-    let second = one_split 32 place (decimal step.place) _ _ w.place_free (number_free step.place is.place) first.1 in
-    let third = one_split 32 number (decimal step.number) _ _ w.number_free (number_free step.number is.number) second.1 in
+-- a line has its words in one way
+pub one_words : {line a b c d x y z u : List ℕ} → HasWords line a b c d → HasWords line x y z u → (a ≡ x) × (b ≡ y) × (c ≡ z) × (d ≡ u)
+one_words {a = a} {b = b} {c = c} {x = x} {y = y} {z = z} v w =
+    let first = one_split 32 a x _ _ v.name_free w.name_free (sym v.line_is ∙ w.line_is) in
+    let second = one_split 32 b y _ _ v.place_free w.place_free first.1 in
+    let third = one_split 32 c z _ _ v.number_free w.number_free second.1 in
     (first.0, second.0, third.0, third.1)
 
-pub bad_name : (line name place number text : List ℕ) → HasWords line name place number text → NamesNoKind name → IsNoName line
-bad_name line name place number text w none = λ step other is. none step.kind (sym (step_words line name place number text step other w is).0)
+pub step_words : {line text : List ℕ} {step : Step} → IsStepLine line step text → HasWords line (name_of step.kind) (decimal step.place) (decimal step.number) text
+step_words {step = step} is =
+    record { name_free = name_free step.kind; place_free = number_free step.place is.place; number_free = number_free step.number is.number; line_is = is.line_is }
 
-pub bad_place : (line name place number text : List ℕ) → HasWords line name place number text → IsNoNumber place → IsNoName line
-bad_place line name place number text w none = λ step other is. none step.place is.place (sym (step_words line name place number text step other w is).1)
+-- ---- what the front of a line says of the line
 
-pub bad_number : (line name place number text : List ℕ) → HasWords line name place number text → IsNoNumber number → IsNoName line
-bad_number line name place number text w none = λ step other is. none step.number is.number (sym (step_words line name place number text step other w is).2)
+-- the first of two parts is the front of a longer one
+longer_front : (a b c d : List ℕ) → a ++ b ≡ c ++ d → length c ≤ length a → (rest : List ℕ) × (a ≡ c ++ rest)
+longer_front a b [] d e le = (a, refl)
+longer_front [] b (y ∷ c) d e le = absurd (omega (arith, le))
+longer_front (x ∷ a) b (y ∷ c) d e le =
+    let first : x ≡ y = cc in
+    let more : a ++ b ≡ c ++ d = cc in
+    let rest = longer_front a b c d more (omega (arith, le)) in
+    (rest.0, ap (λ l. x ∷ l) rest.1 ∙ ap (λ z. z ∷ (c ++ rest.0)) first)
 
--- four words that name a step
-pub right_words : (line name place number text : List ℕ) (step : Step) → HasWords line name place number text → name_of step.kind ≡ name → decimal step.place ≡ place → decimal step.number ≡ number
-    → step.place < 2 ^ 32 → step.number < 2 ^ 32 → IsStepLine line step text
-right_words line name place number text step w n p m fits fits' = record {
-  place = fits;
-  number = fits';
-  line_is = w.line_is ∙ ap (λ l. l ++ 32 ∷ (place ++ 32 ∷ (number ++ 32 ∷ text))) (sym n)
-      ∙ ap (λ l. name_of step.kind ++ 32 ∷ (l ++ 32 ∷ (number ++ 32 ∷ text))) (sym p)
-      ∙ ap (λ l. name_of step.kind ++ 32 ∷ (decimal step.place ++ 32 ∷ (l ++ 32 ∷ text))) (sym m);
+name_short : (kind : StepKind) → length (name_of kind) ≤ 15
+name_short kind = leb-true (length (name_of kind)) 15 (each_kind (λ k. leb (length (name_of k)) 15) (λ _. true) refl kind)
+
+number_short : (n : ℕ) → n < 2 ^ 32 → length (decimal n) ≤ 10
+number_short n h = length-decimal-le 10 n (omega arith) (omega (arith, h)) (omega (arith, h))
+
+-- a step's line goes on as its text does
+pub step_line-append : (step : Step) (text more : List ℕ) → step_line step text ++ more ≡ step_line step (text ++ more)
+step_line-append step text more = simp append_assoc
+
+label_short : (step : Step) → step.place < 2 ^ 32 → step.number < 2 ^ 32 → length (step_line step []) ≤ 38
+label_short step place number =
+    omega (arith, name_short step.kind, number_short step.place place, number_short step.number number, length-append {A = ℕ})
+
+-- a long front that names no step names none however it goes on
+front_no_name : (front more : List ℕ) → 38 < length front → IsNoName front → IsNoName (front ++ more)
+front_no_name front more long none = λ step text is.
+    let label : step_line step text ≡ step_line step [] ++ text = sym (step_line-append step [] text) in
+    let short = label_short step is.place is.number in
+    let rest = longer_front front more (step_line step []) text (is.line_is ∙ label) (omega (arith, short, long)) in
+    none step rest.0 (record { place = is.place; number = is.number; line_is = rest.1 ∙ step_line-append step [] rest.0 })
+
+front_no_end : (front more : List ℕ) → 38 < length front → NamesNoEnd front → NamesNoEnd (front ++ more)
+front_no_end [] more long none = absurd (omega (arith, long))
+front_no_end (a ∷ []) more long none = absurd (omega (arith, long))
+front_no_end (a ∷ b ∷ front) more long none = λ text e.
+    let first : a ≡ 61 = cc in
+    let second : b ≡ 32 = cc in
+    none front (ap (λ c. c ∷ b ∷ front) first ∙ ap (λ c. 61 ∷ c ∷ front) second)
+
+pub front_names_nothing : (front more : List ℕ) → 38 < length front → IsNoName front → NamesNoEnd front → NamesNothing (front ++ more)
+front_names_nothing front more long name end = record { no_step = front_no_name front more long name; no_end = front_no_end front more long end }
+
+-- a step's line that goes on
+pub step_goes_on : {front text : List ℕ} {step : Step} (more : List ℕ) → IsStepLine front step text → IsStepLine (front ++ more) step (text ++ more)
+step_goes_on {text = text} {step = step} more is = record {
+  place = is.place;
+  number = is.number;
+  line_is = ap (λ l. l ++ more) is.line_is ∙ step_line-append step text more;
 }
+
+-- with a longer text than that of the tag to which the step leads
+pub front_other : {R : List EntryParts} {t u : TagForm} {front text : List ℕ} {step : Step} (more : List ℕ) → IsStepLine front step text → LeadsBy R t step u → length (text_of u) < length text
+    → HasOtherText R t (front ++ more)
+front_other {u = u} {text = text} {step = step} more is leads longer = record {
+  step = step;
+  text = text ++ more;
+  is_line = step_goes_on more is;
+  u = u;
+  leads = leads;
+  other = λ e. absurd (omega (arith, longer, ap length e, length-append text more));
+}
+
+-- ---- a front that may be kept
+
+line_length : (step : Step) (text : List ℕ) → length (step_line step text) ≡ length (step_line step []) + length text
+line_length step text = ap length (sym (step_line-append step [] text)) ∙ length-append (step_line step []) text
+
+pub step_within : {R : List EntryParts} {t u : TagForm} {front text : List ℕ} {step : Step} → IsStepLine front step text → LeadsBy R t step u → length text ≤ length (text_of u) → KeepsFew R (Some t) (length front)
+step_within {u = u} {text = text} {step = step} is leads short = inr (record {
+  line = step_line step (text_of u);
+  right = inl (u, record { step = step; leads = leads; is_line = record { place = is.place; number = is.number; line_is = refl } });
+  long = omega (arith, short, line_length step text, line_length step (text_of u), ap length is.line_is);
+})

@@ -4,6 +4,7 @@ use Rattle.std.specs.Fmt.{decimal}
 use Rattle.lt_tag.specs.Conventional.{conventional}
 use Rattle.lt_tag.specs.Parts.{TagForm}
 use Rattle.lt_tag.specs.WellFormed.{spell}
+use Rattle.lt_lines.specs.Splitting.{IsFreeOf}
 use Rattle.lt_rewrite.specs.Names.{name_of}
 use Rattle.lt_rewrite.specs.declared.steps.Step.{Step}
 use Rattle.lt_rewrite.specs.declared.steps.StepKind.{StepKind}
@@ -25,6 +26,17 @@ pub record IsStepLine (line : List ℕ) (step : Step) (text : List ℕ) : Type 0
   pub place : step.place < 2 ^ 32
   pub number : step.number < 2 ^ 32
   pub line_is : line ≡ step_line step text
+
+-- the line is these words, parted by spaces, with no space in the first three
+pub record HasWords (line name place number text : List ℕ) : Type 0 where
+  pub name_free : IsFreeOf 32 name
+  pub place_free : IsFreeOf 32 place
+  pub number_free : IsFreeOf 32 number
+  pub line_is : line ≡ name ++ 32 ∷ (place ++ 32 ∷ (number ++ 32 ∷ text))
+
+-- the line has fewer words
+abbrev pub HasFewWords : List ℕ → Type 0
+HasFewWords line = (name place number text : List ℕ) → HasWords line name place number text → ⊥
 
 -- the line names no step
 abbrev pub IsNoName : List ℕ → Type 0

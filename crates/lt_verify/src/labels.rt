@@ -2,7 +2,7 @@
 ghost use Rattle.std.specs.Prelude.{◌≡◌, ◌<◌, ◌^◌, MatchOption};
 ghost use Rattle.std.specs.Fmt.{decimal};
 ghost use Rattle.lt_rewrite.specs.Names.{name_of};
-ghost use Rattle.lt_verify.specs.StepLines.{IsStepLine, NamesNoEnd, IsNoName, IsNoNumber, NamesNoKind, end_line};
+ghost use Rattle.lt_verify.specs.StepLines.{HasFewWords, HasWords, IsStepLine, NamesNoEnd, IsNoName, IsNoNumber, NamesNoKind, end_line};
 
 use itoa::Buffer;
 use lt_lines::split_first;
@@ -55,22 +55,45 @@ fn number_of(digits: &[u8]) -> Option<u32>
     }
 }
 
-/// The step that a line names, and the text after it.
-pub(crate) fn read_step(line: &[u8]) -> Option<(Step, &[u8])>
-    ensures { MatchOption result (IsNoName line.now) (λ p. IsStepLine line.now p.0 p.1.now) }
+/// The words of a line.
+#[derive(Clone, Copy)]
+struct Words<'a> {
+    name: &'a [u8],
+    place: &'a [u8],
+    number: &'a [u8],
+    text: &'a [u8],
+}
+
+/// A name, a place and a number, each with a space after it, and the text that follows.
+fn words_of<'a>(line: &'a [u8]) -> Option<Words<'a>>
+    ensures { MatchOption result (HasFewWords line.now) (λ w. HasWords line.now w.name.now w.place.now w.number.now w.text.now) }
 {
     let (name, places) = split_first(b' ', line)?;
     let (place, numbers) = split_first(b' ', places)?;
     let (number, text) = split_first(b' ', numbers)?;
-    let kind = kind_named(name)?;
-    let place = number_of(place)?;
-    let number = number_of(number)?;
+    let words = Words {
+        name,
+        place,
+        number,
+        text,
+    };
+    Some(words)
+}
+
+/// The step that a line names, and the text after it.
+pub(crate) fn read_step(line: &[u8]) -> Option<(Step, &[u8])>
+    ensures { MatchOption result (IsNoName line.now) (λ p. IsStepLine line.now p.0 p.1.now) }
+{
+    let words = words_of(line)?;
+    let kind = kind_named(words.name)?;
+    let place = number_of(words.place)?;
+    let number = number_of(words.number)?;
     let step = Step {
         kind,
         place,
         number,
     };
-    Some((step, text))
+    Some((step, words.text))
 }
 
 /// The text of an end, if the line is that of one.

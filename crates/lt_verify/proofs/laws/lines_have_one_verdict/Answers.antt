@@ -1,6 +1,6 @@
 use Rattle.std.proofs.Common.{List}
 use Rattle.lt_registry.specs.Parts.{EntryParts}
-use Rattle.lt_verify.proofs.LawLemmas.{one_verdict}
+use Rattle.lt_verify.proofs.VerdictLemmas.{one_verdict}
 use Rattle.lt_verify.proofs.laws.lines_have_one_verdict.Goals as goal
 
 pub returns : goal.returns

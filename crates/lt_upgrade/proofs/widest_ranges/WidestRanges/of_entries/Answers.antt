@@ -1,7 +1,7 @@
 use Rattle.std.proofs.Common.{ap, ◌∙◌}
 use Rattle.std.specs.List.{list_any}
 use Rattle.lt_upgrade.specs.WidestRanges.{range_end, contains}
-use Rattle.lt_upgrade.proofs.CoveredRanges.{rows_hold}
+use Rattle.lt_upgrade.proofs.WidestRanges.{rows_hold}
 use Rattle.lt_upgrade.proofs.widest_ranges.WidestRanges.of_entries.Goals as goal
 
 pub returns : goal.returns

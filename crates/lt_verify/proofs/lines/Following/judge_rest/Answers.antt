@@ -1,7 +1,7 @@
-use Rattle.std.proofs.Common.{◌∙◌, ℕ, List, Option, sym, subst, vec_len}
+use Rattle.std.proofs.Common.{◌∙◌, Option, sym, subst, vec_len}
 use Rattle.std.proofs.lemmas.Result.{IfOk-weaker}
 use Rattle.lt_lines.proofs.TakenLemmas.{some_items}
-use Rattle.lt_verify.specs.Judging.{IsProperIf, SettlesFront}
+use Rattle.lt_verify.specs.Judging.{IsProperIf}
 use Rattle.lt_verify.specs.declared.verdicts.Verdict.{Verdict}
 use Rattle.lt_verify.proofs.FollowLemmas.{kept_behind, settled_rest}
 use Rattle.lt_verify.proofs.lines.Following.judge_rest.Goals as goal
@@ -16,7 +16,5 @@ judge_front-requires g c = subst (IsProperIf (g.L.Lookup.listed c.args.table.now
 
 pub returns : goal.returns
 returns g c =
-    let R = g.L.Lookup.listed c.args.table.now in
-    let self = c.args.self.now in
     IfOk-weaker c.judge_front.result _ _
-    (λ (j : Option Verdict) is. settled_rest R c.in-Some.here self c.in-Some.is j (subst (λ (l : List ℕ). SettlesFront R self.number c.in-Some.here l j) c.deref.ensures.value is)) c.judge_front.ensures
+    (λ (j : Option Verdict) is. settled_rest (g.L.Lookup.listed c.args.table.now) c.in-Some.here c.args.self.now c.in-Some.is j (rw c.deref.ensures.value at is)) c.judge_front.ensures
