@@ -1,186 +1,175 @@
--- How writing one flag changes what the flags tell.
-use Rattle.std.proofs.Common.{◌≡◌, ◌≢◌, ◌<◌, ℕ, ◌*◌, ◌/◌, ◌%◌, ◌^◌, ◌++◌, ◌==◌, ◌&&◌, ◌||◌, not, Bool, true, false, cond, List, [], ◌∷◌, length, set, get_or, replicate, bit_and, bit_or, w64, Option, Some, None, inl, inr, refl, sym, ap, subst, ◌∙◌, arith, is_none, is_some, bytes_eq}
-use Rattle.std.specs.Int.{bit_at, bit_not}
-use Rattle.std.specs.List.{list_any}
-use Rattle.std.proofs.lemmas.Bool.{cases_eq, cases_lt, cases_Bool, ne_eqb, eq-eqb, and_parts, and_right, false_from_ne_true}
-use Rattle.std.proofs.lemmas.List.{get_or-set_same, get_or-set_other, get_or-replicate, get_or_past, length-replicate}
-use Rattle.std.proofs.lemmas.List.Folds.{list_any-append}
-use Rattle.std.proofs.lemmas.Nat.Bits.{bit_at_set_same, bit_at_set_other, bit_at_clear_same, bit_at_clear_other, bit_at-zero}
+-- Two subtags of one kind have one place exactly if they are the same, letter case aside; and how writing one flag changes
+-- what the flags tell.
+use Rattle.std.proofs.Common.{◌≡◌, ◌≤◌, ◌<◌, ℕ, ◌+◌, ◌-◌, ◌*◌, ◌/◌, ◌%◌, ◌==◌, ◌&&◌, eqb, Bool, true, false, cond, List, [], ◌∷◌, length, map, get_or, Option, Some, None, IfSome, inl, inr, refl, sym, subst, ap, ◌∙◌, arith, bytes_eq, ◌^◌, not, set, replicate, bit_and, bit_or, w64, is_some}
+use Rattle.std.specs.Prelude.{nat_lt}
+use Rattle.std.specs.List.{list_all}
+use Rattle.std.specs.Option.{option_map_or}
+use Rattle.std.specs.Char.{is_ascii_lowercase, is_ascii_digit, to_ascii_lowercase}
+use Rattle.std.proofs.lemmas.Bool.{agree_below_at, eqb-true, false_from_ne_true, cases_eq, eq-eqb, ne_eqb}
+use Rattle.std.proofs.lemmas.Bool.Decides.{nat_tests}
 use Rattle.std.proofs.lemmas.Slice.Eq.{bytes_eq-Decides}
 use Rattle.lt_subtag.specs.Bytes.{folded}
-use Rattle.lt_registry.specs.Parts.{EntryParts}
+use Rattle.lt_subtag.specs.Shapes.{is_language}
+use Rattle.lt_tag.proofs.Apart.{script_is, region_is}
+use Rattle.lt_registry.specs.Entries.{has_form}
 use Rattle.lt_registry.specs.Same.{same_kind}
-use Rattle.lt_registry.specs.Entries.{has_form, is_named}
 use Rattle.lt_registry.specs.declared.entries.Kind.{Kind}
 use Rattle.lt_registry.specs.declared.entries.Kind.TheVariants as kinds
-use Rattle.lt_registry.specs.declared.entries.EntryName.{EntryName}
+use Rattle.lt_rewrite.proofs.Entries.{same_kind_is, same_kind_itself}
+use Rattle.lt_usual.specs.declared.places.TheConstants.{LETTERS}
+use Rattle.lt_usual.specs.Places.{letter, digit, place}
+use Rattle.std.specs.Int.{bit_not}
+use Rattle.std.proofs.lemmas.List.{get_or-set_same, get_or-set_other, get_or-replicate, get_or_past, length-replicate}
+use Rattle.std.proofs.lemmas.Nat.Bits.{bit_at_set_same, bit_at_set_other, bit_at_clear_same, bit_at_clear_other, bit_at-zero}
+use Rattle.lt_registry.specs.Parts.{EntryParts}
 use Rattle.lt_registry.specs.declared.entries.EntryName.TheVariants as names
-use Rattle.lt_rewrite.proofs.Entries.{same_kind_is}
-use Rattle.lt_usual.specs.Places.{place}
-use Rattle.lt_usual.specs.Flags.{flag, Tell, TellSingles, stays_beside}
-use Rattle.lt_usual.specs.Staying.{has_no_value, replaces_plain_of}
-use Rattle.lt_usual.proofs.PlaceLemmas.{Alike, same_place, place_folded}
+use Rattle.lt_usual.specs.Flags.{flag, TellSingles, with_subtag}
+use Rattle.lt_usual.specs.Staying.{has_no_value}
+
+-- the table of letters
+pub letter_reads : (b : ℕ) → b < 256 → get_or LETTERS b 0 ≡ letter b
+letter_reads b h = eqb-true _ _ (agree_below_at (λ x. eqb (get_or LETTERS x 0) (letter x)) (λ _. true) 256 b refl h)
+
+pub letter_few : (b : ℕ) → letter b ≤ 26
+letter_few b = grind (arith, nat_tests)
+
+digit_few : (b : ℕ) → digit b ≤ 10
+digit_few b = grind (arith, nat_tests)
+
+letter_folded : (b : ℕ) → letter (to_ascii_lowercase b) ≡ letter b
+letter_folded b = grind (arith, nat_tests)
+
+digit_folded : (b : ℕ) → digit (to_ascii_lowercase b) ≡ digit b
+digit_folded b = grind (arith, nat_tests)
+
+-- the number of a letter or a digit, by which it is known
+number : Bool → ℕ → ℕ
+number true = letter
+number false = digit
+
+is_numbered : Bool → ℕ → Bool
+is_numbered true = is_ascii_lowercase
+is_numbered false = is_ascii_digit
+
+same_byte : (lettered : Bool) (b t : ℕ) → number lettered b ≡ number lettered t → is_numbered lettered t ≡ true → to_ascii_lowercase b ≡ t
+unfolding number is_numbered
+same_byte true b t e h = grind (arith, nat_tests)
+same_byte false b t e h = grind (arith, nat_tests)
+
+same_bytes : (lettered : Bool) (s t : List ℕ) → map (number lettered) s ≡ map (number lettered) t → list_all (is_numbered lettered) t ≡ true → folded s ≡ t
+same_bytes lettered [] [] e h = refl
+same_bytes lettered (a ∷ s) (b ∷ t) e h = grind (arith, same_byte, same_bytes lettered s t)
+same_bytes lettered _ _ e h = cc
+
+-- what a place tells: the kind, whether it counts letters or digits, and their numbers
+decode : ℕ → Kind × Bool × List ℕ
+decode n =
+    cond (nat_lt n 729) (kinds.Language, true, n / 27 ∷ n % 27 ∷ [])
+    (cond (nat_lt n 20412) (kinds.Language, true, (n - 729) / 729 ∷ (n - 729) / 27 % 27 ∷ (n - 729) % 27 ∷ [])
+    (cond (nat_lt n 551853) (kinds.Script, true, (n - 20412) / 19683 ∷ (n - 20412) / 729 % 27 ∷ (n - 20412) / 27 % 27 ∷ (n - 20412) % 27 ∷ [])
+    (cond (nat_lt n 552582) (kinds.Region, true, (n - 551853) / 27 ∷ (n - 551853) % 27 ∷ [])
+    (kinds.Region, false, (n - 552582) / 121 ∷ (n - 552582) / 11 % 11 ∷ (n - 552582) % 11 ∷ []))))
+
+two : (x y : ℕ) → x ≤ 26 → y ≤ 26 → decode (x * 27 + y) ≡ (kinds.Language, true, x ∷ y ∷ [])
+unfolding decode
+two x y h k = grind (arith, nat_tests)
+
+three : (x y z : ℕ) → x ≤ 26 → y ≤ 26 → z ≤ 26 → decode (729 + (x * 27 + y) * 27 + z) ≡ (kinds.Language, true, x ∷ y ∷ z ∷ [])
+unfolding decode
+three x y z h k l = grind (arith, nat_tests)
+
+four : (x y z w : ℕ) → x ≤ 26 → y ≤ 26 → z ≤ 26 → w ≤ 26 → decode (20412 + ((x * 27 + y) * 27 + z) * 27 + w) ≡ (kinds.Script, true, x ∷ y ∷ z ∷ w ∷ [])
+unfolding decode
+four x y z w h k l m = grind (arith, nat_tests)
+
+region : (x y : ℕ) → x ≤ 26 → y ≤ 26 → decode (551853 + x * 27 + y) ≡ (kinds.Region, true, x ∷ y ∷ [])
+unfolding decode
+region x y h k = grind (arith, nat_tests)
+
+digits : (x y z : ℕ) → x ≤ 10 → y ≤ 10 → z ≤ 10 → decode (552582 + (x * 11 + y) * 11 + z) ≡ (kinds.Region, false, x ∷ y ∷ z ∷ [])
+unfolding decode
+digits x y z h k l = grind (arith, nat_tests)
+
+-- what is known of a subtag that has a place
+data IsPlace (k : Kind) (s : List ℕ) (n : ℕ) : Type 0 where
+  known : (lettered : Bool) → decode n ≡ (k, lettered, map (number lettered) s) → (has_form k s ≡ true → list_all (is_numbered lettered) s ≡ true) → place k (folded s) ≡ Some n → IsPlace k s n
+
+language_shaped : (s : List ℕ) → is_language s ≡ true → list_all (is_numbered true) s ≡ true
+unfolding is_language is_numbered
+language_shaped s h = grind arith
+
+region_shaped : (s : List ℕ) → has_form kinds.Region s ≡ true → list_all (is_numbered (length s == 2)) s ≡ true
+unfolding is_numbered
+region_shaped s h = let p = region_is s h in grind (arith, nat_tests)
+
+is_place : (k : Kind) (s : List ℕ) → IfSome (place k s) (IsPlace k s)
+unfolding number is_numbered
+is_place kinds.Language (a ∷ b ∷ []) =
+    known true (two (letter a) (letter b) (letter_few a) (letter_few b)) (language_shaped _)
+    (rw (letter_folded a, letter_folded b) refl)
+is_place kinds.Language (a ∷ b ∷ c ∷ []) =
+    known true (three (letter a) (letter b) (letter c) (letter_few a) (letter_few b) (letter_few c)) (language_shaped _)
+    (rw (letter_folded a, letter_folded b, letter_folded c) refl)
+is_place kinds.Script (a ∷ b ∷ c ∷ d ∷ []) =
+    known true (four (letter a) (letter b) (letter c) (letter d) (letter_few a) (letter_few b) (letter_few c) (letter_few d)) (λ h. (script_is _ h).0)
+    (rw (letter_folded a, letter_folded b, letter_folded c, letter_folded d) refl)
+is_place kinds.Region (a ∷ b ∷ []) =
+    known true (region (letter a) (letter b) (letter_few a) (letter_few b)) (region_shaped _)
+    (rw (letter_folded a, letter_folded b) refl)
+is_place kinds.Region (a ∷ b ∷ c ∷ []) =
+    known false (digits (digit a) (digit b) (digit c) (digit_few a) (digit_few b) (digit_few c)) (region_shaped _)
+    (rw (digit_folded a, digit_folded b, digit_folded c) refl)
+is_place _ _ = tt
+
+placed : (k : Kind) (s : List ℕ) (n : ℕ) → place k s ≡ Some n → IsPlace k s n
+placed k s n h = subst (λ o. IfSome o (IsPlace k s)) h (is_place k s)
+
+-- what has the place of a subtag that has the form of its kind is of that kind, and the same subtag, letter case aside
+alike : (j k : Kind) (t s : List ℕ) (n : ℕ) → has_form j t ≡ true → place j t ≡ Some n → place k s ≡ Some n → (same_kind j k && bytes_eq t (folded s)) ≡ true
+alike j k t s n form g h = let p = placed j t n g in let q = placed k s n h in grind (arith, same_bytes, same_kind_itself, bytes_eq-Decides)
+
+kept : (j k : Kind) (t s : List ℕ) (n : ℕ) → place k s ≡ Some n → (same_kind j k && bytes_eq t (folded s)) ≡ true → place j t ≡ Some n
+kept j k t s n h y = let p = placed k s n h in grind (arith, same_kind_is, bytes_eq-Decides)
+
+pub same_place : (j k : Kind) (t s : List ℕ) (n : ℕ) (o : Option ℕ) → has_form j t ≡ true → place j t ≡ o → place k s ≡ Some n
+    → (same_kind j k && bytes_eq t (folded s)) ≡ option_map_or (λ m. n == m) o false
+same_place j k t s n None form e h = false_from_ne_true _ (λ y. let here = kept j k t s n h y in cc)
+same_place j k t s n (Some m) form e h = elim (cases_eq n m) [
+  | inl i ↦ alike j k t s n form (e ∙ ap Some (sym i)) h ∙ sym (eq-eqb n m i)
+  | inr ne ↦ false_from_ne_true _ (λ y. let here : Some n ≡ Some m = sym (kept j k t s n h y) ∙ e in ne (cc)) ∙ sym (ne_eqb n m ne)
+]
 
 -- ---- one bit
 
 abbrev mask : ℕ → ℕ
 mask m = 1 * 2 ^ (m % 64) % 2 ^ 64
 
--- a word with one bit set or cleared
-abbrev put_bit : Bool → ℕ → ℕ → ℕ
-put_bit f w m = cond f (bit_or w (mask m)) (bit_and w (bit_not w64 (mask m)))
+-- a flag that was set or cleared, and the others
+pub set_flag : (words : List ℕ) (m : ℕ) → m / 64 < length words → (n : ℕ) → flag (set words (m / 64) (bit_or (get_or words (m / 64) 0) (mask m))) n ≡ cond (n == m) true (flag words n)
+set_flag words m within n = grind (arith, nat_tests, get_or-set_same {A = ℕ}, get_or-set_other {A = ℕ}, bit_at_set_same w64, bit_at_set_other w64)
 
-bit_put_same : (f : Bool) (w m i : ℕ) → i ≡ m % 64 → (bit_at (put_bit f w m) i == 1) ≡ f
-bit_put_same true w m i e = subst (λ j. (bit_at (bit_or w (mask m)) j == 1) ≡ true) (sym e) (ap (λ b. b == 1) (bit_at_set_same w64 w (m % 64) (omega arith)))
-bit_put_same false w m i e = subst (λ j. (bit_at (bit_and w (bit_not w64 (mask m))) j == 1) ≡ false) (sym e) (ap (λ b. b == 1) (bit_at_clear_same w64 w (m % 64) (omega arith)))
-
-bit_put_other : (f : Bool) (w m i : ℕ) → i < 64 → i ≢ m % 64 → bit_at (put_bit f w m) i ≡ bit_at w i
-bit_put_other true w m i lt ne = bit_at_set_other w64 w (m % 64) (omega arith) i ne
-bit_put_other false w m i lt ne = bit_at_clear_other w64 w (m % 64) (omega arith) i lt ne
-
--- a flag that was written, and the others
-pub put_flag : (words : List ℕ) (m : ℕ) (f : Bool) → m / 64 < length words → (n : ℕ) → flag (set words (m / 64) (put_bit f (get_or words (m / 64) 0) m)) n ≡ cond (n == m) f (flag words n)
-put_flag words m f within n =
-    let w = put_bit f (get_or words (m / 64) 0) m in
-    elim (cases_eq n m) [
-      | inl e ↦
-          let at : get_or (set words (m / 64) w) (n / 64) 0 ≡ w = rw e (get_or-set_same words (m / 64) w 0 within) in
-          rw (eq-eqb n m e, at) (bit_put_same f (get_or words (m / 64) 0) m (n % 64) (ap (λ k. k % 64) e))
-      | inr ne ↦ elim (cases_eq (n / 64) (m / 64)) [
-        | inl e ↦
-            let at : get_or (set words (m / 64) w) (n / 64) 0 ≡ w = rw e (get_or-set_same words (m / 64) w 0 within) in
-            let apart : n % 64 ≢ m % 64 = λ h. ne (omega (arith, h, e)) in
-            rw (ne_eqb n m ne, at, bit_put_other f (get_or words (m / 64) 0) m (n % 64) (omega arith) apart, e) refl
-        | inr h ↦ rw (ne_eqb n m ne, get_or-set_other words (m / 64) (n / 64) w 0 h) refl
-      ]
-    ]
+pub clear_flag : (words : List ℕ) (m : ℕ) → m / 64 < length words → (n : ℕ) → flag (set words (m / 64) (bit_and (get_or words (m / 64) 0) (bit_not w64 (mask m)))) n ≡ cond (n == m) false (flag words n)
+clear_flag words m within n = grind (arith, nat_tests, get_or-set_same {A = ℕ}, get_or-set_other {A = ℕ}, bit_at_clear_same w64, bit_at_clear_other w64)
 
 -- ---- what flags tell
 
 -- no flag is set
 pub tell_none : (words : List ℕ) (count none : ℕ) → none ≡ 0 → words ≡ replicate count none → TellSingles [] words
 tell_none words count none z e k s n h =
-    let zero : get_or words (n / 64) 0 ≡ 0 = rw (e, z) (zeros count (n / 64)) in
+    let zero : get_or words (n / 64) 0 ≡ 0 = grind (arith, get_or-replicate {A = ℕ}, get_or_past {X = ℕ}, length-replicate {A = ℕ}) in
     rw (zero, bit_at-zero (n % 64)) refl
-  where
-    zeros : (count i : ℕ) → ◌≡◌ {A = ℕ} (get_or (replicate count 0) i 0) 0
-    zeros count i = elim (cases_lt i count) [ inl h ↦ get_or-replicate count i 0 0 h | inr h ↦ get_or_past (replicate count 0) i 0 (omega (arith, length-replicate {A = ℕ} count 0)) ]
-
--- a flag that was written, where another test differs just there
-module _ (test other : Kind → List ℕ → Bool) (old new : List ℕ) (j : Kind) (t : List ℕ) where
-  pub tell_put : (m : ℕ) (f : Bool) → place j t ≡ Some m → has_form j t ≡ true → ((n : ℕ) → flag new n ≡ cond (n == m) f (flag old n))
-      → other j t ≡ f → ((k : Kind) (s : List ℕ) → (Alike j k t s → ⊥) → other k (folded s) ≡ test k (folded s)) → Tell test old → Tell other new
-  tell_put m f at form written here there tell k s n h = elim (cases_eq n m) [
-    | inl e ↦
-        let alike = same_place j k t s n form (subst (λ (i : ℕ). place j t ≡ Some i) (sym e) at) h in
-        written n ∙ rw (eq-eqb n m e) (sym here ∙ rw (alike.of_kind, alike.same) refl)
-    | inr ne ↦
-        let apart : Alike j k t s → ⊥ = λ alike.
-        let same : place j t ≡ Some n = rw (← alike.of_kind, ← alike.same) (place_folded k s n h) in
-        let both : Some n ≡ Some m = sym same ∙ at in
-        ne (cc) in
-        written n ∙ rw (ne_eqb n m ne) (tell k s n h ∙ sym (there k s apart))
-  ]
-
-  -- no flag need be written
-  pub tell_kept : place j t ≡ None → ((k : Kind) (s : List ℕ) → (Alike j k t s → ⊥) → other k (folded s) ≡ test k (folded s)) → Tell test old → Tell other old
-  tell_kept none there tell k s n h =
-      let apart : Alike j k t s → ⊥ = λ alike.
-      let same : place j t ≡ Some n = rw (← alike.of_kind, ← alike.same) (place_folded k s n h) in
-      let both : Some n ≡ None = sym same ∙ none in
-      cc in
-      tell k s n h ∙ sym (there k s apart)
-
--- two tests that are the same
-pub tell_same : (test other : Kind → List ℕ → Bool) (words : List ℕ) → ((k : Kind) (s : List ℕ) → other k s ≡ test k s) → Tell test words → Tell other words
-tell_same test other words same tell k s n h = tell k s n h ∙ sym (same k (folded s))
 
 -- ---- one record more in front, of those whose subtags are told
 
-abbrev names_it : Kind → List ℕ → EntryParts → Bool
-names_it k s e = same_kind e.kind k && is_named s e.name
+pub first_named : (e : EntryParts) (es : List EntryParts) (j : Kind) (t : List ℕ) (b : Bool) → e.kind ≡ j → e.name ≡ names.Single t → is_some e.value ≡ not b → (k : Kind) (s : List ℕ)
+    → has_no_value (e ∷ es) k s ≡ with_subtag j t b (has_no_value es) k s
+first_named e es j t b i h v k s = grind arith
 
-same_kind_self : (k : Kind) → same_kind k k ≡ true
-same_kind_self kinds.Language = refl
-same_kind_self kinds.Extlang = refl
-same_kind_self kinds.Script = refl
-same_kind_self kinds.Region = refl
-same_kind_self kinds.Variant = refl
-same_kind_self kinds.Grandfathered = refl
-same_kind_self kinds.Redundant = refl
-
-pub first_here : (e : EntryParts) (es : List EntryParts) (t : List ℕ) → e.name ≡ names.Single t → has_no_value (e ∷ es) e.kind t ≡ is_none e.value
-first_here e es t h =
-    let named : is_named t e.name ≡ true = rw h ((bytes_eq-Decides t t).1 refl) in
-    rw (same_kind_self e.kind, named) refl
-
-skipped : (e : EntryParts) (es : List EntryParts) (k : Kind) (s : List ℕ) → names_it k s e ≡ false → has_no_value (e ∷ es) k s ≡ has_no_value es k s
-skipped e es k s h = rw h refl
-
-pub first_apart : (e : EntryParts) (es : List EntryParts) (t : List ℕ) → e.name ≡ names.Single t → (k : Kind) (s : List ℕ) → (Alike e.kind k t s → ⊥) → has_no_value (e ∷ es) k (folded s) ≡ has_no_value es k (folded s)
-first_apart e es t h k s apart =
-    skipped e es k (folded s) (false_from_ne_true _ (λ q.
-    let p = and_parts (same_kind e.kind k) (is_named (folded s) e.name) q in
-    let named : bytes_eq t (folded s) ≡ true = subst (λ (n : EntryName). is_named (folded s) n ≡ true) h p.1 in
-    apart (record { of_kind = sym (same_kind_is e.kind k p.0); same = sym ((bytes_eq-Decides t (folded s)).0 named) })))
-
-pub first_unnamed : (e : EntryParts) (es : List EntryParts) → ((s : List ℕ) → is_named s e.name ≡ false) → (k : Kind) (s : List ℕ) → has_no_value (e ∷ es) k s ≡ has_no_value es k s
-first_unnamed e es h k s = skipped e es k s (and_right (same_kind e.kind k) (is_named s e.name) (h s))
-
-pub unnamed : (n : EntryName) → ((t : List ℕ) → n ≡ names.Single t → ⊥) → (s : List ℕ) → is_named s n ≡ false
-unnamed (names.Single t) h s = absurd (h t refl)
-unnamed (names.Range a b) h s = refl
-unnamed (names.Whole t) h s = refl
-
-pub none_is : {A : Type 0} (o : Option A) (b : Bool) → is_some o ≡ not b → is_none o ≡ b
-none_is None true h = refl
-none_is None false h = cc
-none_is (Some x) true h = cc
-none_is (Some x) false h = refl
+pub first_unnamed : (e : EntryParts) (es : List EntryParts) → ((t : List ℕ) → e.name ≡ names.Single t → ⊥) → (k : Kind) (s : List ℕ) → has_no_value (e ∷ es) k s ≡ has_no_value es k s
+first_unnamed e es h k s = grind arith
 
 -- ---- one record more at the end, of those that replace tags
 
-one_more : (x y : Bool) (l : Bool) (n : Bool) → y ≡ false → (n && not (l && (x || (y || false)))) ≡ (n && not (l && x))
-one_more true y l n h = refl
-one_more false y l n h = rw h refl
-
-dropped : (x l n : Bool) → l ≡ true → (n && not (l && (x || (true || false)))) ≡ false
-dropped true l true h = rw h refl
-dropped true l false h = refl
-dropped false l true h = rw h refl
-dropped false l false h = refl
-
-kept_of_kind : (x y l n : Bool) → l ≡ false → (n && not (l && (x || (y || false)))) ≡ (n && not (l && x))
-kept_of_kind x y l n h = rw h refl
-
-module _ (R es : List EntryParts) (e : EntryParts) where
-  appended : (k : Kind) (s : List ℕ) → stays_beside R (es ++ e ∷ []) k s ≡ (has_no_value R k s && not (same_kind k kinds.Language && (list_any (replaces_plain_of s) es || (replaces_plain_of s e || false))))
-  appended k s = ap (λ b. has_no_value R k s && not (same_kind k kinds.Language && b)) (list_any-append (replaces_plain_of s) es (e ∷ []))
-
-  -- a record that replaces no such tag
-  pub replaces_none : ((s : List ℕ) → replaces_plain_of s e ≡ false) → (k : Kind) (s : List ℕ) → stays_beside R (es ++ e ∷ []) k s ≡ stays_beside R es k s
-  replaces_none h k s =
-      appended k s ∙ one_more (list_any (replaces_plain_of s) es) (replaces_plain_of s e) (same_kind k kinds.Language) (has_no_value R k s) (h s)
-
-  -- a record that replaces a tag of a language
-  pub replaced_here : (l : List ℕ) → replaces_plain_of l e ≡ true → stays_beside R (es ++ e ∷ []) kinds.Language l ≡ false
-  replaced_here l h =
-      appended kinds.Language l ∙ rw h (dropped (list_any (replaces_plain_of l) es) true (has_no_value R kinds.Language l) refl)
-
-  pub replaced_apart : (l : List ℕ) → ((s : List ℕ) → replaces_plain_of s e ≡ true → s ≡ l) → (k : Kind) (s : List ℕ) → (Alike kinds.Language k l s → ⊥)
-      → stays_beside R (es ++ e ∷ []) k (folded s) ≡ stays_beside R es k (folded s)
-  replaced_apart l only k s apart = appended k (folded s) ∙ elim (cases_Bool (same_kind k kinds.Language)) [
-    | inl h ↦ one_more (list_any (replaces_plain_of (folded s)) es) (replaces_plain_of (folded s) e) (same_kind k kinds.Language) (has_no_value R k (folded s))
-        (false_from_ne_true _ (λ q. apart (record { of_kind = same_kind_is k kinds.Language h; same = only (folded s) q })))
-    | inr h ↦ kept_of_kind (list_any (replaces_plain_of (folded s)) es) (replaces_plain_of (folded s) e) (same_kind k kinds.Language) (has_no_value R k (folded s)) h
-  ]
-
--- nothing is replaced at first
-pub beside_none : (R : List EntryParts) (k : Kind) (s : List ℕ) → stays_beside R [] k s ≡ has_no_value R k s
-beside_none R k s = by_cases (same_kind k kinds.Language) (has_no_value R k s)
-  where
-    by_cases : (l n : Bool) → (n && not (l && false)) ≡ n
-    by_cases true true = refl
-    by_cases true false = refl
-    by_cases false true = refl
-    by_cases false false = refl
+pub language_first : (k : Kind) → same_kind kinds.Language k ≡ same_kind k kinds.Language
+language_first kinds.Language = refl
+language_first _ = refl

@@ -1,6 +1,4 @@
 -- What the crates above may use.
 pub mod TextLemmas
 -- What this crate alone uses.
-mod PlaceLemmas
 mod FlagLemmas
-mod ShownLemmas

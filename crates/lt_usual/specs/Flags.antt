@@ -1,5 +1,5 @@
 -- Flags by place, and what they say of the entries of a registry.
-use Rattle.std.specs.Prelude.{ℕ, ◌≡◌, ◌/◌, ◌%◌, ◌==◌, ◌&&◌, Bool, not, List, Some, All, slice_index}
+use Rattle.std.specs.Prelude.{ℕ, ◌≡◌, ◌/◌, ◌%◌, ◌==◌, ◌&&◌, if◌then◌else◌, Bool, not, List, Some, All, bytes_eq, slice_index}
 use Rattle.std.specs.Int.{bit_at}
 use Rattle.std.specs.List.{list_any}
 use Rattle.lt_subtag.specs.Bytes.{folded}
@@ -18,6 +18,10 @@ flag words n = bit_at (slice_index words (n / 64)) (n % 64) == 1
 -- the place of each subtag that has one tells this of it, in whatever letter case
 abbrev pub Tell : (Kind → List ℕ → Bool) → List ℕ → Type 0
 Tell test words = (k : Kind) (s : List ℕ) (n : ℕ) → place k s ≡ Some n → flag words n ≡ test k (folded s)
+
+-- the same test but for one subtag
+abbrev pub with_subtag : Kind → List ℕ → Bool → (Kind → List ℕ → Bool) → Kind → List ℕ → Bool
+with_subtag j t set test k s = if same_kind j k && bytes_eq t s then set else test k s
 
 -- which subtags have a record of their own, without a value
 abbrev pub TellSingles : List EntryParts → List ℕ → Type 0

@@ -24,9 +24,9 @@ static LETTERS: [u8; 256] = [
 
 /// The place of a letter among the letters, in either case, and 26 for any other byte.
 #[inline(always)]
+#[tactic(auto, using(crate::proofs::FlagLemmas::letter_reads))]
 fn letter(byte: u8) -> usize
-    ensures value { result ≡ places.letter byte }
-    ensures below { result ≤ 26 }
+    ensures { result ≡ places.letter byte }
 {
     usize::from(LETTERS[usize::from(byte)])
 }
@@ -42,6 +42,7 @@ fn digit(byte: u8) -> usize
 
 /// The place of a language of 2 letters.
 #[inline(always)]
+#[tactic(auto, using(crate::proofs::FlagLemmas::letter_few))]
 pub(crate) fn language_2(a: u8, b: u8) -> usize
     ensures value { result ≡ places.language_2 a b }
     ensures within { result < 729 }
@@ -51,6 +52,7 @@ pub(crate) fn language_2(a: u8, b: u8) -> usize
 
 /// The place of a language of 3 letters.
 #[inline(always)]
+#[tactic(auto, using(crate::proofs::FlagLemmas::letter_few))]
 pub(crate) fn language_3(a: u8, b: u8, c: u8) -> usize
     ensures value { result ≡ places.language_3 a b c }
     ensures within { result < 20_412 }
@@ -60,6 +62,7 @@ pub(crate) fn language_3(a: u8, b: u8, c: u8) -> usize
 
 /// The place of a script.
 #[inline(always)]
+#[tactic(auto, using(crate::proofs::FlagLemmas::letter_few))]
 pub(crate) fn script_4(a: u8, b: u8, c: u8, d: u8) -> usize
     ensures value { result ≡ places.script_4 a b c d }
     ensures within { result < 551_853 }
@@ -69,6 +72,7 @@ pub(crate) fn script_4(a: u8, b: u8, c: u8, d: u8) -> usize
 
 /// The place of a region of 2 letters.
 #[inline(always)]
+#[tactic(auto, using(crate::proofs::FlagLemmas::letter_few))]
 pub(crate) fn region_2(a: u8, b: u8) -> usize
     ensures value { result ≡ places.region_2 a b }
     ensures within { result < 552_582 }

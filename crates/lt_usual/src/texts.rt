@@ -72,6 +72,7 @@ impl UsualSubtags {
 
     /// The same, if it is a script, and a region where there is one.
     #[inline(always)]
+    #[tactic(auto, using(crate::proofs::TextLemmas::nine_reads))]
     fn from_script(&self, rest: &[u8]) -> Option<AfterLanguage>
         ensures value { result ≡ shown.from_script self.now rest.now }
         ensures few { IfSome result (λ after. after.count ≤ 9) }

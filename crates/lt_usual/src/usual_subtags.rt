@@ -1,10 +1,11 @@
 //! A table of flags, one for each subtag that stays as it is.
-ghost use Rattle.std.specs.Prelude.{◌≡◌, ◌<◌, ◌++◌, ◌∷◌, [], ◌==◌, ◌↔◌, true, false, if◌then◌else◌, ℕ, List, All, IfOk, OnErr, IsTrue, IfSome, MatchOption, length, bytes_eq};
+ghost use Rattle.std.specs.Prelude.{◌≡◌, ◌<◌, ◌++◌, ◌∷◌, [], ◌==◌, ◌↔◌, Bool, true, false, if◌then◌else◌, ℕ, List, All, IfOk, OnErr, IsTrue, IfSome, MatchOption, length, bytes_eq};
 ghost use Rattle.lt_subtag.specs.Shapes.{is_language};
 ghost use Rattle.lt_tag.specs.Lists.{list_of};
 ghost use Rattle.lt_tag.specs.Conventional.{conventional};
 ghost use Rattle.lt_registry.specs.Parts.{EntryParts};
-ghost use Rattle.lt_usual.specs.Flags.{flag, AreFlags, Tell, TellSingles, stays_beside};
+ghost use Rattle.lt_registry.specs.Entries.{has_form};
+ghost use Rattle.lt_usual.specs.Flags.{flag, AreFlags, Tell, TellSingles, stays_beside, with_subtag};
 ghost use Rattle.lt_usual.specs.Staying.{IsStaying, replaces_plain_of, stays};
 
 use crate::places::place;
@@ -42,8 +43,9 @@ impl UsualSubtags {
     {
         let mut words = vec![in alloc; 0; WORDS]?;
         let entries = table.entries();
-        put_singles(&mut words, entries);
-        drop_replaced(&mut words, entries);
+        let flags = words.as_mut_slice();
+        put_singles(flags, entries);
+        drop_replaced(flags, entries);
         Ok(UsualSubtags { words })
     }
 
@@ -77,14 +79,29 @@ impl UsualSubtags {
 }
 
 /// Sets or clears the flag of a place.
+#[tactic(auto, using(crate::proofs::FlagLemmas::set_flag, crate::proofs::FlagLemmas::clear_flag))]
 fn put(words: &mut [u64], place: usize, set: bool)
     requires room { length words.old ≡ 8655 }
     requires within { place < 553913 }
     ensures { (n : ℕ) → flag words.new n ≡ (if n == place then set else flag words.old n) }
 {
     let mask = 1 << (place % 64);
-    let word = words[place / 64];
-    words[place / 64] = if set { word | mask } else { word & !mask };
+    if set {
+        words[place / 64] |= mask;
+    } else {
+        words[place / 64] &= !mask;
+    }
+}
+
+/// Sets or clears the flag of a subtag, if it has a place.
+fn put_subtag(words: &mut [u64], kind: Kind, subtag: &Subtag, set: bool)
+    requires room { length words.old ≡ 8655 }
+    requires form { has_form kind subtag.now ≡ true }
+    ensures { (test : Kind → List ℕ → Bool) → Tell test words.old → Tell (with_subtag kind subtag.now set test) words.new }
+{
+    if let Some(place) = place(kind, subtag.bytes()) {
+        put(words, place, set);
+    }
 }
 
 /// Sets the flag of the subtag that a record names alone, if it has no value, and else clears it.
@@ -92,11 +109,8 @@ fn put_single(words: &mut [u64], entry: &Entry)
     requires { length words.old ≡ 8655 }
     ensures { (es : List EntryParts) → TellSingles es words.old → TellSingles (entry.now ∷ es) words.new }
 {
-    let EntryName::Single(subtag) = entry.name() else {
-        return;
-    };
-    if let Some(place) = place(entry.kind(), subtag.bytes()) {
-        put(words, place, entry.value().is_none());
+    if let EntryName::Single(subtag) = entry.name() {
+        put_subtag(words, entry.kind(), subtag, entry.value().is_none());
     }
 }
 
@@ -132,11 +146,8 @@ fn drop_language(words: &mut [u64], entry: &Entry)
     requires { length words.old ≡ 8655 }
     ensures { (R es : List EntryParts) → Tell (stays_beside R es) words.old → Tell (stays_beside R (es ++ entry.now ∷ [])) words.new }
 {
-    let Some(language) = replaced_language(entry) else {
-        return;
-    };
-    if let Some(place) = place(Kind::Language, language.bytes()) {
-        put(words, place, false);
+    if let Some(language) = replaced_language(entry) {
+        put_subtag(words, Kind::Language, language, false);
     }
 }
 
