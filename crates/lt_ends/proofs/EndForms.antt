@@ -20,7 +20,7 @@ use Rattle.lt_canon.proofs.CanonicalForms.{langtag_canonical}
 
 module _ (R : List EntryParts) (C : IsChecked R) where
   -- no step leads from the core of a canonical tag
-  core_rests : (c : CoreParts) → IsCanonical R (core_alone c) → Rests (CoreStep (values_of R)) c
+  pub core_rests : (c : CoreParts) → IsCanonical R (core_alone c) → Rests (CoreStep (values_of R)) c
   core_rests c K d s =
       K.at_rest (core_alone d) (record {
         from = K.valid.proper;

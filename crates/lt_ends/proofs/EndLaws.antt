@@ -28,23 +28,23 @@ use Rattle.lt_ends.proofs.EndLists.{list_append, list_single, no_single, single_
 use Rattle.lt_ends.proofs.EndForms.{form_is, form_with}
 
 -- extensions and private use
-abbrev spell_rest : List ExtensionParts → List (List ℕ) → List (List ℕ)
+abbrev pub spell_rest : List ExtensionParts → List (List ℕ) → List (List ℕ)
 spell_rest es ps = spell_extensions es ++ spell_private ps
 
-rest_single : (es : List ExtensionParts) (ps : List (List ℕ)) → single_first (spell_rest es ps) ≡ true
+pub rest_single : (es : List ExtensionParts) (ps : List (List ℕ)) → single_first (spell_rest es ps) ≡ true
 rest_single [] [] = refl
 rest_single [] (p ∷ ps) = refl
 rest_single (e ∷ es) ps = refl
 
-core_no_single : (c : CoreParts) → IsCore c → no_single (spell_core c) ≡ true
+pub core_no_single : (c : CoreParts) → IsCore c → no_single (spell_core c) ≡ true
 core_no_single c k = core_all (λ (s : List ℕ). not (length s == 1)) (λ s l. ap not (ne_eqb (length s) 1 (λ e. omega (arith, l.long)))) c k
 
 -- the list of an end
-abbrev list_after : {end : List ℕ} → IsEnd end → List (List ℕ)
+abbrev pub list_after : {end : List ℕ} → IsEnd end → List (List ℕ)
 list_after E = folded (E.singleton ∷ []) ∷ list_of E.rest
 
 -- the text is that core with the list of the end
-whole_list : (front end : List ℕ) (c : CoreParts) (E : IsEnd end) → HasTag front (core_alone c) → list_of (front ++ end) ≡ spell_core c ++ list_after E
+pub whole_list : (front end : List ℕ) (c : CoreParts) (E : IsEnd end) → HasTag front (core_alone c) → list_of (front ++ end) ≡ spell_core c ++ list_after E
 whole_list front end c E read =
     ap (λ (l : List ℕ). list_of (front ++ l)) E.whole ∙ list_append front (E.singleton ∷ 45 ∷ E.rest)
     ∙ ap (λ (l : List (List ℕ)). list_of front ++ l) (list_single E.singleton E.rest E.single)
@@ -57,7 +57,7 @@ pub record HasEnd (t : TagForm) (c : CoreParts) (list : List (List ℕ)) : Type 
   pub is : t ≡ LangTag c extensions private
   pub spelled : spell_rest extensions private ≡ list
 
-has_end : (t : TagForm) (c : CoreParts) (s : ℕ) (ss : List (List ℕ)) → IsTag t → IsCore c → spell t ≡ spell_core c ++ (s ∷ []) ∷ ss → HasEnd t c ((s ∷ []) ∷ ss)
+pub has_end : (t : TagForm) (c : CoreParts) (s : ℕ) (ss : List (List ℕ)) → IsTag t → IsCore c → spell t ≡ spell_core c ++ (s ∷ []) ∷ ss → HasEnd t c ((s ∷ []) ∷ ss)
 has_end (LangTag d es ps) c s ss T k e =
     let cut = one_cut (spell_core d) (spell_core c) (spell_rest es ps) ((s ∷ []) ∷ ss) (core_no_single d T.0.shaped_core) (core_no_single c k) (rest_single es ps) refl e in
     record { extensions = es; private = ps; is = ap (λ (x : CoreParts). LangTag x es ps) (one_core d c T.0.shaped_core k cut.0); spelled = cut.1 }
@@ -88,12 +88,12 @@ lang_text c [] (p ∷ ps) k n = rest_text c x_subtag (p ∷ ps) k refl
 lang_text c (e ∷ es) ps k n = rest_text c (e.singleton ∷ []) _ k refl
 
 -- the list of a text that is read as a core alone
-core_list : (front : List ℕ) (c : CoreParts) → HasTag front (core_alone c) → spell_core c ≡ list_of front
+pub core_list : (front : List ℕ) (c : CoreParts) → HasTag front (core_alone c) → spell_core c ≡ list_of front
 core_list front c read = sym (append-nil (spell_core c)) ∙ read.spelled
 
 module _ (R : List EntryParts) (C : IsChecked R) where
   -- the text of a canonical core in its form with extensions or private use
-  core_text : (front : List ℕ) (F : IsCanonicalCore R front) (es : List ExtensionParts) (ps : List (List ℕ)) → 0 < length es + length ps
+  pub core_text : (front : List ℕ) (F : IsCanonicalCore R front) (es : List ExtensionParts) (ps : List (List ℕ)) → 0 < length es + length ps
       → conventional (spell (LangTag F.core (extensions_end R C es) ps)) ≡ conventional (list_of front) ++ 45 ∷ join_with_byte 45 (spell_rest (extensions_end R C es) ps)
   core_text front F es ps n =
       let fs = extensions_end R C es in

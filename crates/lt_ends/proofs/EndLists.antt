@@ -66,7 +66,7 @@ shown_append (x ∷ xs) s ss h e =
       | inr a ↦ rw a (ap (λ (z : List (List ℕ)). shown x ∷ z) (shown_append xs s ss q.1 e))
     ]
 
-join_append : (x : List ℕ) (xs : List (List ℕ)) (s : List ℕ) (ss : List (List ℕ)) → join_with_byte 45 (x ∷ xs ++ s ∷ ss) ≡ join_with_byte 45 (x ∷ xs) ++ 45 ∷ join_with_byte 45 (s ∷ ss)
+pub join_append : (x : List ℕ) (xs : List (List ℕ)) (s : List ℕ) (ss : List (List ℕ)) → join_with_byte 45 (x ∷ xs ++ s ∷ ss) ≡ join_with_byte 45 (x ∷ xs) ++ 45 ∷ join_with_byte 45 (s ∷ ss)
 join_append x [] s ss = refl
 join_append x (y ∷ xs) s ss =
     ap (λ (z : List ℕ). x ++ 45 ∷ z) (join_append y xs s ss) ∙ sym (append_assoc x (45 ∷ join_with_byte 45 (y ∷ xs)) (45 ∷ join_with_byte 45 (s ∷ ss)))

@@ -4,3 +4,6 @@ pub mod KeptEnds
 mod EndLists
 mod EndForms
 mod EndLaws
+mod FieldForms
+mod FieldLaws
+mod FieldTexts

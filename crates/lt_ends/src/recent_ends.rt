@@ -1,11 +1,12 @@
 //! Canonical texts of ends that were given lately.
-ghost use Rattle.std.specs.Prelude.{◌≡◌, ◌≤◌, ◌⊎◌, List, IfOk, IfErr, OnOk, OnErr, vec_len};
+ghost use Rattle.std.specs.Prelude.{◌≡◌, ◌≤◌, ◌⊎◌, ◌++◌, ◌∷◌, List, IfOk, IfErr, IfSome, IsTrue, OnOk, OnErr, vec_len};
+ghost use Rattle.lt_subtag.specs.Bytes.{folded};
 ghost use Rattle.lt_registry.specs.Parts.{EntryParts};
 ghost use Rattle.lt_canon.specs.Texts.{AppendsCanonicalText, IsTextRefusal};
-ghost use Rattle.lt_ends.specs.Ends.{AreEnds};
-ghost use Rattle.lt_ends.specs.Appending.{AppendsFront, AppendsKept, EndsText};
+ghost use Rattle.lt_ends.specs.Ends.{AreEnds, IsCanonicalCore, IsEnd, IsTransformed};
+ghost use Rattle.lt_ends.specs.Appending.{AppendsEnd, AppendsFront, AppendsKept, AppendsTransformed, EndStands, EndsText};
 
-use crate::splitting::split_end;
+use crate::splitting::{split_end, split_source};
 use lt_canon::{Checked, TextRefusal, append_canonical_text};
 use lt_recent::Recent;
 use lt_registry::Lookup;
@@ -14,7 +15,8 @@ use std::alloc::Global;
 use std::marker::Model;
 
 /// The ends of tags that were made canonical lately, each with the end of the canonical text. An end begins with the
-/// hyphen before the first one-character subtag.
+/// hyphen before the first one-character subtag; where that is a `t` after which a source stays as it is, with the hyphen
+/// before the first field.
 #[derive(Drop)]
 pub struct RecentEnds {
     texts: Recent,
@@ -43,6 +45,54 @@ fn append_front<L: Lookup>(
     Ok(told)
 }
 
+/// Whether a text is a core whose subtags stay as they are. The other texts are left as they were.
+#[inline(always)]
+fn is_staying<L: Lookup>(checked: &Checked<L>, text: &[u8], texts: &mut Vec<u8>) -> bool
+    ensures core { IsTrue result → IsCanonicalCore (L.listed checked.now) text.now }
+    ensures kept { texts.new.items ≡ texts.old.items }
+{
+    let before = texts.len();
+    match append_front(checked, text, texts) {
+        Ok(stays) => {
+            texts.truncate(before);
+            stays
+        }
+        Err(_) => false,
+    }
+}
+
+/// The source of a `t` extension, where its subtags stay as they are, and its fields. The other texts are left as they
+/// were.
+#[inline(always)]
+fn staying_source<'e, L: Lookup>(
+    checked: &Checked<L>,
+    end: &'e [u8],
+    texts: &mut Vec<u8>,
+) -> Option<(&'e [u8], &'e [u8])>
+    ensures source { IfSome result (λ parts. IsCanonicalCore (L.listed checked.now) parts.0.now) }
+    ensures end { IfSome result (λ parts. IsTransformed parts.0.now parts.1.now end.now) }
+    ensures kept { texts.new.items ≡ texts.old.items }
+{
+    let (source, fields) = split_source(end)?;
+    if is_staying(checked, source, texts) {
+        Some((source, fields))
+    } else {
+        None
+    }
+}
+
+/// Appends a `t` extension up to its fields.
+#[inline(always)]
+fn append_source(source: &[u8], texts: &mut Vec<u8>) -> Result<(), OutOfMemory>
+    ensures { OnOk result (texts.new.items ≡ texts.old.items ++ (45 ∷ 116 ∷ 45 ∷ folded source.now)) }
+{
+    texts.extend_from_slice(b"-t-")?;
+    let start = texts.len();
+    texts.extend_from_slice(source)?;
+    texts[start..].make_ascii_lowercase();
+    Ok(())
+}
+
 impl RecentEnds {
     /// Ends of which none is kept. Where there is no memory for them, it stays so.
     pub fn new(alloc: Global) -> RecentEnds
@@ -67,6 +117,84 @@ impl RecentEnds {
         }
     }
 
+    /// Appends a `t` extension of a source and fields, where what follows a source is kept for the fields; tells whether
+    /// it did.
+    #[inline(always)]
+    fn append_transformed(
+        &self,
+        source: &[u8],
+        fields: &[u8],
+        texts: &mut Vec<u8>,
+    ) -> Result<bool, OutOfMemory>
+        ensures { IfOk result (AppendsTransformed self.now source.now fields.now texts.old.items texts.new.items) }
+    {
+        match self.texts.find(fields, fields.len()) {
+            Some(found) => {
+                append_source(source, texts)?;
+                found.answer.append_to(texts)?;
+                Ok(true)
+            }
+            None => Ok(false),
+        }
+    }
+
+    /// Appends what follows a core in a canonical text, for a `t` extension by what is kept for its fields; tells whether
+    /// it did.
+    #[inline(always)]
+    fn append_by_fields<L: Lookup>(
+        &self,
+        checked: &Checked<L>,
+        end: &[u8],
+        texts: &mut Vec<u8>,
+    ) -> Result<bool, OutOfMemory>
+        ensures { IfOk result (AppendsEnd (L.listed checked.now) self.now end.now texts.old.items texts.new.items) }
+    {
+        match staying_source(checked, end, texts) {
+            Some((source, fields)) => self.append_transformed(source, fields, texts),
+            None => Ok(false),
+        }
+    }
+
+    /// Appends what follows a core in a canonical text, by what is kept for an end or for its fields; tells whether it did.
+    #[inline(always)]
+    fn append_end<L: Lookup>(
+        &self,
+        checked: &Checked<L>,
+        end: &[u8],
+        texts: &mut Vec<u8>,
+    ) -> Result<bool, OutOfMemory>
+        requires { IsEnd end.now }
+        ensures { IfOk result (AppendsEnd (L.listed checked.now) self.now end.now texts.old.items texts.new.items) }
+    {
+        if self.append_by_fields(checked, end, texts)? {
+            return Ok(true);
+        }
+        Ok(self.append_kept(end, texts)?)
+    }
+
+    /// Keeps what texts end in, from a place on, for an end, or what follows the source for its fields. The texts are left
+    /// as they were.
+    fn keep<L: Lookup>(
+        &mut self,
+        checked: &Checked<L>,
+        end: &[u8],
+        from: usize,
+        texts: &mut Vec<u8>,
+    )
+        requires { EndStands (L.listed checked.now) end.now from texts.old.items }
+        ensures ends { AreEnds (L.listed checked.now) self.old → AreEnds (L.listed checked.now) self.new }
+        ensures kept { texts.new.items ≡ texts.old.items }
+    {
+        checked.table();
+        match staying_source(checked, end, texts) {
+            Some((source, fields)) => {
+                self.texts
+                    .put(fields, &texts[from + 3 + source.len()..], false)
+            }
+            None => self.texts.put(end, &texts[from..], false),
+        }
+    }
+
     /// Appends the canonical text of a text, and keeps what follows in it the first `count` bytes for an end.
     fn append_new<L: Lookup>(
         &mut self,
@@ -86,7 +214,7 @@ impl RecentEnds {
         let start = texts.len();
         checked.table();
         append_canonical_text(alloc, checked, text, texts)?;
-        self.texts.put(end, &texts[start + count..], false);
+        self.keep(checked, end, start + count, texts);
         Ok(())
     }
 
@@ -114,7 +242,7 @@ impl RecentEnds {
             return append_canonical_text(alloc, checked, text, texts);
         }
         let count = texts.len() - start;
-        if self.append_kept(end, texts)? {
+        if self.append_end(checked, end, texts)? {
             return Ok(());
         }
         texts.truncate(start);

@@ -1,0 +1,5 @@
+use Rattle.lt_ends.proofs.FieldLaws.{fields_shared}
+use Rattle.lt_ends.proofs.laws.fields_are_shared.Goals as goal
+
+pub returns : goal.returns
+returns c = fields_shared
