@@ -41,18 +41,20 @@ module _ (byte : ℕ) (text : List ℕ) where
   first_from i (suc n) k rest e =
       elim (cases_Bool (get_or text i 0 == byte)) [
         | inl is ↦
-          let first : i ≡ k = head_is i k (places_from (is_byte byte) text (i + 1) n) rest (rw is at e) in
-          (record { low = omega (arith, first); high = omega (arith, first); before = λ j low high. absurd (omega (arith, first, low, high)) }, subst has first is)
+            let first : i ≡ k = head_is i k (places_from (is_byte byte) text (i + 1) n) rest (rw is at e) in
+            (record { low = omega (arith, first); high = omega (arith, first); before = λ j low high. absurd (omega (arith, first, low, high)) }, subst has first is)
         | inr not ↦
-          let more = first_from (i + 1) n k rest (rw not at e) in
-          (record {
-            low = omega (arith, more.0.low);
-            high = omega (arith, more.0.high);
-            before = λ j low high. elim (cases_eq i j) [
-              | inl same ↦ λ passes. let bad : (get_or text i 0 == byte) ≡ true = subst has (sym same) passes in cc
-              | inr other ↦ more.0.before j (omega (arith, low, other)) high
-            ];
-          }, more.1)
+            let more = first_from (i + 1) n k rest (rw not at e) in (
+              record {
+                low = omega (arith, more.0.low);
+                high = omega (arith, more.0.high);
+                before = λ j low high. elim (cases_eq i j) [
+                  | inl same ↦ λ passes. let bad : (get_or text i 0 == byte) ≡ true = subst has (sym same) passes in cc
+                  | inr other ↦ more.0.before j (omega (arith, low, other)) high
+                ];
+              },
+              more.1,
+            )
       ]
 
   -- an empty one
@@ -63,11 +65,11 @@ module _ (byte : ℕ) (text : List ℕ) where
       elim (cases_Bool (get_or text i 0 == byte)) [
         | inl is ↦ let bad = rw is at e in cc
         | inr not ↦
-          let more = none_from (i + 1) n (rw not at e) in
-          λ j low high. elim (cases_eq i j) [
-            | inl same ↦ λ passes. let bad : (get_or text i 0 == byte) ≡ true = subst has (sym same) passes in cc
-            | inr other ↦ more j (omega (arith, low, other)) (omega (arith, high))
-          ]
+            let more = none_from (i + 1) n (rw not at e) in
+            λ j low high. elim (cases_eq i j) [
+              | inl same ↦ λ passes. let bad : (get_or text i 0 == byte) ≡ true = subst has (sym same) passes in cc
+              | inr other ↦ more j (omega (arith, low, other)) (omega (arith, high))
+            ]
       ]
 
   -- the first of all places

@@ -82,7 +82,13 @@ impl<W: Write, T: Write> Write for Progress<W, T> {
                 let before = self.lines;
                 let feeds = buf[..count].iter().filter(|byte| **byte == b'\n').count();
                 self.lines = before.saturating_add(feeds as u64);
-                tell_progress(self.alloc, self.is_told, before, self.lines, &mut self.people);
+                tell_progress(
+                    self.alloc,
+                    self.is_told,
+                    before,
+                    self.lines,
+                    &mut self.people,
+                );
                 Ok(count)
             }
             Err(error) => Err(error),

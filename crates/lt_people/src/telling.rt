@@ -46,7 +46,11 @@ fn append_lines(
 ) -> Result<(), AllocError>
     ensures { OnOk result (lines.new.items ≡ lines.old.items ++ told_lines counted refusal.now shown.now said.now) }
 {
-    let answered = if counted { shown } else { after_first_line(shown) };
+    let answered = if counted {
+        shown
+    } else {
+        after_first_line(shown)
+    };
     let meaning = after_first_line(said);
     lines.extend_from_slice(answered)?;
     lines.extend_from_slice(meaning)?;
