@@ -1,7 +1,7 @@
 -- What a walk over the records finds.
 use Rattle.std.specs.Prelude.{ℕ, ◌≤◌, Bool, true, false, List, Option, Some, None, All}
 use Rattle.lt_registry.specs.Parts.{EntryParts}
-use Rattle.lt_rewrite.specs.Shortcuts.{AreShortcuts}
+use Rattle.lt_rewrite.specs.Shortcuts.{ShortcutParts, AreShortcuts}
 use Rattle.lt_usual.specs.Flags.{AreFlags}
 use Rattle.lt_check.specs.Conditions.{Meets, IsAtFault, Passes, IsFinding, IsChecked}
 use Rattle.lt_check.specs.declared.conditions.Condition.{Condition}
@@ -47,7 +47,7 @@ IsFirstCause R (causes.Finding finding) = IsFinding R finding.condition finding.
 IsFirstCause R causes.OutOfMemory = Unit {0}
 
 -- a table that passes the check, shortcuts along its chains, and flags of its subtags that stay as they are
-pub record IsCheckedAlong (R : List EntryParts) (places flags : List ℕ) : Type 0 where
+pub record IsCheckedAlong (R : List EntryParts) (shortcuts : ShortcutParts) (flags : List ℕ) : Type 0 where
   pub checked : IsChecked R
-  pub shortcuts : AreShortcuts R places
+  pub along : AreShortcuts R shortcuts
   pub usual : AreFlags R flags

@@ -38,6 +38,7 @@ mod PlacedParts
 mod ValueForms
 mod CoreSettled
 mod PlacedVariants
+mod FoundRows
 mod ExtensionSettled
 mod ExtensionsSettled
 mod CoreLeading

@@ -10,7 +10,7 @@ use Rattle.lt_registry.specs.declared.entries.Kind.{Kind}
 use Rattle.lt_rewrite.specs.CoreSteps.{chase, Ends}
 use Rattle.lt_rewrite.specs.Conditions.{next_value}
 use Rattle.lt_rewrite.specs.ChainEnds.{following}
-use Rattle.lt_rewrite.specs.Shortcuts.{IsOnward, LeadsTo, IsShortcut, LeadOn, AreShortcuts}
+use Rattle.lt_rewrite.specs.Shortcuts.{IsOnward, LeadsTo, IsShortcut, LeadOn}
 use Rattle.lt_rewrite.proofs.Chains.{chase_rests, chase_next, chase_keeps}
 use Rattle.lt_rewrite.proofs.ChainLength.{chain_ends_within}
 use Rattle.lt_rewrite.proofs.ChainWalks.{next_form}
@@ -199,7 +199,7 @@ none_follows None r e h = sym e
 none_follows (Some v) r e h = cc
 
 -- the place to which the shortcut at an entry's place leads
-pub led_to : (R es : List EntryParts) (items places : List ℕ) (i j : ℕ) (e : EntryParts) → AreShortcuts R places → es ≡ R → items ≡ places → slice_get es i ≡ Some e → j ≡ get_or items i j → (slice_get R i ≡ Some e) × (slice_get places i ≡ Some j) × (j < length es)
+pub led_to : (R es : List EntryParts) (items places : List ℕ) (i j : ℕ) (e : EntryParts) → LeadOn R (length R) places → es ≡ R → items ≡ places → slice_get es i ≡ Some e → j ≡ get_or items i j → (slice_get R i ≡ Some e) × (slice_get places i ≡ Some j) × (j < length es)
 led_to R es items places i j e h same own at read =
     let here : i < length places = omega (arith, slice_get_within es i e at, ap (λ (xs : List EntryParts). length xs) same, h.one_each) in
     let led : slice_get places i ≡ Some j = slice_get_read places (length places) i j refl here (read ∙ ap (λ (ps : List ℕ). get_or ps i j) own) in (
@@ -208,7 +208,7 @@ led_to R es items places i j e h same own at read =
       omega (arith, h.within i j led, ap (λ (xs : List EntryParts). length xs) same),
     )
 
-pub led_far : (R es : List EntryParts) (k : Kind) (s v : List ℕ) (items places : List ℕ) (i j : ℕ) (e last : EntryParts) → AreShortcuts R places → es ≡ R → items ≡ places → entry R k s ≡ Some e → following k e ≡ Some v → slice_get es i ≡ Some e → j ≡ get_or items i j → last ≡ get_or es j last → (w : List ℕ) × (following k last ≡ Some w) × IsOnward (next_value R k) (length R) s w
+pub led_far : (R es : List EntryParts) (k : Kind) (s v : List ℕ) (items places : List ℕ) (i j : ℕ) (e last : EntryParts) → LeadOn R (length R) places → es ≡ R → items ≡ places → entry R k s ≡ Some e → following k e ≡ Some v → slice_get es i ≡ Some e → j ≡ get_or items i j → last ≡ get_or es j last → (w : List ℕ) × (following k last ≡ Some w) × IsOnward (next_value R k) (length R) s w
 led_far R es k s v items places i j e last h same own found follows at read there =
     let led = led_to R es items places i j e h same own at read in
     passed R k (length R) s v e last i j found follows led.0 (h.shortcut i j led.1)

@@ -11,6 +11,7 @@ pub mod Laws
 pub mod ChainEnds
 pub mod CoreSettling
 pub mod VariantLanguages
+pub mod VariantRows
 pub mod ExtensionSettling
 pub mod ExtensionsSettling
 pub mod Applying

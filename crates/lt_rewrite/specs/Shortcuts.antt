@@ -6,6 +6,8 @@ use Rattle.lt_registry.specs.declared.entries.Kind.{Kind}
 use Rattle.lt_rewrite.specs.CoreSteps.{chase}
 use Rattle.lt_rewrite.specs.Conditions.{next_value}
 use Rattle.lt_rewrite.specs.ChainEnds.{following}
+use Rattle.lt_rewrite.specs.VariantRows.{AreVariantRows}
+use Rattle.lt_rewrite.specs.declared.variant_rows.VariantRow.{VariantRow}
 
 -- t is n values on from s, or more; where the chain ends sooner, t is its end
 abbrev pub IsOnward : (List ℕ → Option (List ℕ)) → ℕ → List ℕ → List ℕ → Type 0
@@ -31,6 +33,12 @@ pub record LeadOn (R : List EntryParts) (n : ℕ) (places : List ℕ) : Type 0 w
   pub within : (i j : ℕ) → slice_get places i ≡ Some j → j < length R
   pub shortcut : (i j : ℕ) → slice_get places i ≡ Some j → IsShortcut R n i j
 
--- as many values on as there are records: to the end of each chain that has one
-abbrev pub AreShortcuts : List EntryParts → List ℕ → Type 0
-AreShortcuts R places = LeadOn R (length R) places
+-- what is kept of a table beside its records
+pub record ShortcutParts : Type 0 where
+  pub places : List ℕ
+  pub rows : List VariantRow
+
+-- places as many values on as there are records: at the end of each chain that has one; and the rows of variants
+pub record AreShortcuts (R : List EntryParts) (s : ShortcutParts) : Type 0 where
+  pub chains : LeadOn R (length R) s.places
+  pub variants : AreVariantRows R s.rows

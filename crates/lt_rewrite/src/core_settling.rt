@@ -178,14 +178,11 @@ fn settle_variant_languages<L: Lookup>(table: &L, shortcuts: Option<&Shortcuts>,
     }
 }
 
-/// The same of at most 256 variants, which are looked up once.
-fn settle_few_variant_languages<L: Lookup>(
-    table: &L,
-    shortcuts: Option<&Shortcuts>,
-    core: &mut Core,
-)
+/// The same of at most 256 variants by shortcuts: each variant is looked up once, and which of them have a
+/// step beside a language is told by the shortcuts.
+fn settle_few_variant_languages<L: Lookup>(table: &L, shortcuts: &Shortcuts, core: &mut Core)
     requires chains { All (HasEndingChain (L.listed table.now)) (L.listed table.now) }
-    requires shortcuts { IfSome shortcuts (λ s. AreShortcuts (L.listed table.now) s.now) }
+    requires shortcuts { AreShortcuts (L.listed table.now) shortcuts.now }
     requires alone { core.old.extlangs ≡ [] }
     requires variants { HasFinalVariants (values_of (L.listed table.now)) core.old }
     requires few { length core.old.variants ≤ 256 }
@@ -195,17 +192,22 @@ fn settle_few_variant_languages<L: Lookup>(
     ensures variants { HasFinalVariants (values_of (L.listed table.now)) core.new }
     ensures others { core.new ≡ record core.old { language = core.new.language; variants = core.new.variants } }
 {
-    settle_language(table, shortcuts, core);
+    settle_language(table, Some(shortcuts), core);
     let mut places = places_of(table, core.variants());
-    while let Some((index, language)) = first_variant_language_at(table, &places, core) {
+    while let Some((index, language)) = first_variant_language_at(
+        table,
+        shortcuts.rows(),
+        &places,
+        core,
+    ) {
         core.remove_variant(index);
         places.remove(index);
         core.set_language(language);
-        settle_language(table, shortcuts, core);
+        settle_language(table, Some(shortcuts), core);
     }
 }
 
-/// The same of any variants. Of two or three it costs less to look them up again.
+/// The same of any variants. Without shortcuts, and of two or three, each is looked up again for each language.
 fn settle_all_variant_languages<L: Lookup>(
     table: &L,
     shortcuts: Option<&Shortcuts>,
@@ -222,10 +224,11 @@ fn settle_all_variant_languages<L: Lookup>(
     ensures others { core.new ≡ record core.old { language = core.new.language; variants = core.new.variants } }
 {
     let count = core.variants().len();
-    if 3 < count && count <= 256 {
-        settle_few_variant_languages(table, shortcuts, core);
-    } else {
-        settle_variant_languages(table, shortcuts, core);
+    match shortcuts {
+        Some(shortcuts) if 3 < count && count <= 256 => {
+            settle_few_variant_languages(table, shortcuts, core)
+        }
+        _ => settle_variant_languages(table, shortcuts, core),
     }
 }
 
@@ -250,8 +253,8 @@ pub(crate) fn settle_along<L: Lookup>(table: &L, shortcuts: Option<&Shortcuts>, 
 /// language. The chains of the registry end, as they do where `first_cycle` is None.
 ///
 /// Takes no memory. Each subtag is looked up once, and once more for each value that replaces it. Where the
-/// core has no extlang then, each of 4 to 256 variants is looked up once more, and each of fewer or more once
-/// more for each language that the core comes to have, to find the VariantLanguage steps.
+/// core has no extlang then, each variant is looked up once more for each language that the core comes to
+/// have, to find the VariantLanguage steps; [`Shortcuts::settle_core`] takes one search for each language.
 pub fn settle_core<L: Lookup>(table: &L, core: &mut Core)
     requires { All (HasEndingChain (L.listed table.now)) (L.listed table.now) }
     ensures { IsCoreNormalForm (values_of (L.listed table.now)) core.old core.new }

@@ -27,6 +27,7 @@ mod transform_explaining;
 mod unicode_explaining;
 pub mod values;
 mod variant_languages;
+mod variant_rows;
 
 pub use apply_faults::ApplyFault;
 pub use applying::apply;

@@ -18,6 +18,7 @@ use crate::chain_ends::{Cycle, following, next_value, replacement};
 use crate::core_settling::settle_along;
 use crate::extensions_settling::settle_all;
 use crate::values::one_value;
+use crate::variant_rows::{VariantRow, variant_rows};
 use lt_registry::{Entry, Kind, Lookup};
 use lt_subtag::Subtag;
 use lt_tag::{Core, Extension, OutOfMemory};
@@ -25,35 +26,42 @@ use std::alloc::{AllocError, Global};
 use std::marker::Model;
 
 /// Shortcuts along the chains of values of a table's records, by which the end of a chain is found in
-/// a few look-ups, however long it is.
+/// a few look-ups, however long it is; and the variants with a language as their value by the languages
+/// that are their Prefixes, so that a VariantLanguage step is found without asking each variant.
 #[derive(Debug, Drop)]
 pub struct Shortcuts {
     /// For each record the place of a record on its chain.
     places: Vec<usize>,
+    /// Of such variants, in the order of those languages.
+    rows: Vec<VariantRow>,
 }
 
 impl Model for Shortcuts {
-    ghost use Rattle.std.specs.Prelude.{ℕ, List};
+    ghost use Rattle.lt_rewrite.specs.Shortcuts.{ShortcutParts};
 
-    ghost Value = { List ℕ };
+    ghost Value = { ShortcutParts };
 
-    ghost view = { λ s. s.places.items };
+    ghost view = { λ s. record { places = s.places.items; rows = s.rows.items } };
 }
 
 impl Shortcuts {
     /// The shortcuts of a table: for each record a place as many values on as there are records, so
-    /// at the end of each chain that has one. They take a place for each record, and look up each
-    /// value once. Refused only where memory runs out.
+    /// at the end of each chain that has one. They take a place for each record, and another for each
+    /// Prefix of a variant with a language as its value, and look up each value once. Refused only
+    /// where memory runs out.
     pub fn of_table<L: Lookup>(alloc: Global, table: &L) -> Result<Shortcuts, AllocError>
         ensures { IfOk result (AreShortcuts (L.listed table.now)) }
     {
-        let mut places = first_places(alloc, table)?;
-        let mut steps = 1;
-        while steps < places.len() {
-            lengthen(&mut places);
-            steps *= 2;
-        }
-        Ok(Shortcuts { places })
+        let places = last_places(alloc, table)?;
+        let rows = variant_rows(alloc, table)?;
+        Ok(Shortcuts { places, rows })
+    }
+
+    /// The rows of variants.
+    pub(crate) fn rows(&self) -> &[VariantRow]
+        ensures { result.now ≡ self.now.rows }
+    {
+        &self.rows
     }
 
     /// The subtag as many values on from a subtag as there are records: the end of its chain, if it
@@ -194,6 +202,19 @@ fn first_places<L: Lookup>(alloc: Global, table: &L) -> Result<Vec<usize>, Alloc
     let mut places = Vec::new(alloc);
     for (place, entry) in table.entries().iter().enumerate() {
         places.push(next_place(table, entry, place))?;
+    }
+    Ok(places)
+}
+
+/// The shortcut of each entry to as many values on as there are entries.
+fn last_places<L: Lookup>(alloc: Global, table: &L) -> Result<Vec<usize>, AllocError>
+    ensures { IfOk result (λ places. LeadOn (L.listed table.now) (length (L.listed table.now)) places.items) }
+{
+    let mut places = first_places(alloc, table)?;
+    let mut steps = 1;
+    while steps < places.len() {
+        lengthen(&mut places);
+        steps *= 2;
     }
     Ok(places)
 }

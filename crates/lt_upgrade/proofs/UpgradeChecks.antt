@@ -9,7 +9,7 @@ use Rattle.std.proofs.lemmas.Bool.{and_parts, and_from, eqb-true, eq-eqb}
 use Rattle.std.proofs.lemmas.List.Folds.{Any-from_list_any, list_any-from_Any, list_any_at}
 use Rattle.std.proofs.lemmas.Slice.Eq.{bytes_eq-Decides}
 use Rattle.lt_registry.specs.Parts.{EntryParts}
-use Rattle.lt_registry.specs.Entries.{preferred_value, one_of, entry, is_short, is_registered, language_value, has_prefix, letters_le, FitsName, IsEntry, is_whole_kind, tag_of}
+use Rattle.lt_registry.specs.Entries.{preferred_value, one_of, entry, is_short, is_registered, language_value, has_prefix, letters_le, FitsName, IsEntry, is_whole_kind, tag_of, whole_value}
 use Rattle.lt_registry.specs.Same.{same_kind, same_list}
 use Rattle.lt_registry.specs.declared.entries.Kind.{Kind}
 use Rattle.lt_registry.specs.declared.entries.Kind.TheVariants as kinds
@@ -23,19 +23,21 @@ use Rattle.lt_upgrade.specs.UpgradeChecking.{covers, some_covers, is_among}
 use Rattle.lt_rewrite.proofs.Entries.{same_kind_is, same_kind_itself}
 use Rattle.lt_check.proofs.Deciding.{Decides-true, Decides-list, Decides-all}
 use Rattle.lt_check.proofs.RecordChecks.{one_end}
-use Rattle.std.proofs.lemmas.List.Elements.{All-contains}
+use Rattle.std.proofs.lemmas.List.Elements.{All-contains, All-contains_itself}
 use Rattle.lt_tag.specs.Parts.{TagForm, Grandfathered}
+use Rattle.lt_tag.specs.Values.{IsTagValue, core_alone}
 use Rattle.lt_registry.specs.Validity.{IsProper, IsValid, RepeatsNoVariant}
 use Rattle.lt_registry.proofs.ValidityLaws.{valid_law}
-use Rattle.lt_rewrite.specs.TagSteps.{IsReached, IsCanonical, TagStep}
+use Rattle.lt_rewrite.specs.TagSteps.{CanBeReplacedWhole, IsReached, IsCanonical, TagStep}
 use Rattle.lt_check.specs.Conditions.{IsValidCoreAlone, HasValidWhole, IsChecked}
 use Rattle.lt_canon.specs.Equivalence.{IsEquivalenceAnswer, IsFirstRefusal}
 use Rattle.lt_canon.specs.Refusals.{IsRefusedWith}
 use Rattle.lt_canon.specs.declared.refusals.Refusal.{Refusal}
 use Rattle.lt_canon.specs.declared.refusals.Refusal.TheVariants as refusals
-use Rattle.lt_check.proofs.CheckedRegistry.{grandfathered_fit}
+use Rattle.lt_check.proofs.CheckedRegistry.{grandfathered_fit, valued_whole, whole_has, value_plain}
 use Rattle.lt_canon.proofs.EndForms.{star_end, rest_is_end}
-use Rattle.lt_canon.proofs.TagForm.{tag_end, end_form}
+use Rattle.lt_canon.proofs.CanonicalForms.{value_canonical}
+use Rattle.lt_canon.proofs.TagForm.{core_end, core_normal, cores_reached, tag_end, end_form}
 use Rattle.lt_canon.proofs.TagRepeats.{repeats_at_end, form_is_end}
 use Rattle.lt_rewrite.specs.Rewriting.{Star, done, then}
 
@@ -205,28 +207,45 @@ module _ (R : List EntryParts) (C : IsChecked R) where
       by m (inl a) = not_refused t m.tag refusal dt n m.canonical m.left a
       by m (inr b) = not_refused u m.tag refusal du n m.canonical m.right b.refused
 
-  -- a whole record with a value, and its value, repeat no variant
-  pub whole_distinct : (e : EntryParts) → Contains R e → (t u : TagForm) → e.name ≡ names.Whole t → tag_of e.value ≡ Some u → RepeatsNoVariant t × RepeatsNoVariant u
-  whole_distinct e c t u n o = (by e.kind refl (subst (FitsName e.kind) n form.name).0, whole.0.valid.distinct)
+  -- the tag of a whole record with a value is valid, and can be replaced whole
+  whole_replaced : (e : EntryParts) → Contains R e → (t u : TagForm) → e.name ≡ names.Whole t → tag_of e.value ≡ Some u → IsValid R t × CanBeReplacedWhole t
+  whole_replaced e c t u n o = by e.kind refl fits.0
     where
-      form : IsEntry e
-      form = All-contains IsEntry R e C.registry.forms c
+      fits : FitsName e.kind (names.Whole t)
+      fits = subst (FitsName e.kind) n (All-contains IsEntry R e C.registry.forms c).name
 
-      whole : IsValidCoreAlone R u × (e.kind ≡ kinds.Redundant → IsValidCoreAlone R t)
-      whole = All-contains (HasValidWhole R) R e (C.passes.valid_whole) c t u n o
-
-      named : e.kind ≡ kinds.Grandfathered → RepeatsNoVariant t
-      named k =
+      by : (k : Kind) → e.kind ≡ k → is_whole_kind k ≡ true → IsValid R t × CanBeReplacedWhole t
+      by kinds.Grandfathered k h =
           let g = (All-contains (HasFittingGrandfathered R) R e (grandfathered_fit R C) c).named k in
           let same : names.Whole t ≡ names.Whole (Grandfathered g.0) = sym n ∙ g.1 in
           let is : t ≡ Grandfathered g.0 = cc in
-          subst RepeatsNoVariant (sym is) tt
-
-      by : (k : Kind) → e.kind ≡ k → is_whole_kind k ≡ true → RepeatsNoVariant t
-      by kinds.Grandfathered k h = named k
-      by kinds.Redundant k h = (whole.1 k).valid.distinct
+          subst (λ x. IsValid R x × CanBeReplacedWhole x) (sym is)
+          (record { proper = record { tag = subst IsTagValue is fits.1; parts = tt }; distinct = tt }, tt)
+      by kinds.Redundant k h =
+          let plain = (All-contains (HasValidWhole R) R e C.passes.valid_whole c t u n o).1 k in
+          (plain.valid, subst CanBeReplacedWhole (sym plain.is) (refl, refl))
       by kinds.Language k h = cc
       by kinds.Extlang k h = cc
       by kinds.Script k h = cc
       by kinds.Region k h = cc
       by kinds.Variant k h = cc
+
+  -- neither it nor its value repeats a variant
+  pub whole_distinct : (e : EntryParts) → Contains R e → (t u : TagForm) → e.name ≡ names.Whole t → tag_of e.value ≡ Some u → RepeatsNoVariant t × RepeatsNoVariant u
+  whole_distinct e c t u n o =
+      ((whole_replaced e c t u n o).0.distinct, (All-contains (HasValidWhole R) R e C.passes.valid_whole c t u n o).0.valid.distinct)
+
+  -- a tag that is replaced whole by a value meets it
+  pub value_meets : (t u : TagForm) → whole_value R t ≡ Some u → MeetInCanonical R t u
+  value_meets t u e =
+      let w = valued_whole R t u e in
+      let v = whole_replaced w.at (whole_has R t u (Contains R) (All-contains_itself R) w) t u w.named w.gives in
+      let p = value_plain R C t u e in
+      let n = core_normal R C p.core in
+      let form = value_canonical R C t u (core_alone (core_end R C p.core)) v.1 v.0 e (record { core = p.core; form = core_end R C p.core; from = p.is; to = refl; normal = n }) in
+      record {
+        tag = core_alone (core_end R C p.core);
+        canonical = form.canonical;
+        left = form.reached;
+        right = subst (λ x. IsReached R x (core_alone (core_end R C p.core))) (sym p.is) (cores_reached R C n.reached [] [] (subst (IsProper R) p.is p.valid.proper));
+      }

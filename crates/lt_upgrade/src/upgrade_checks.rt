@@ -1,7 +1,8 @@
 //! Whether a record meets a condition on a newer registry beside an older one.
-ghost use Rattle.std.specs.Prelude.{◌≡◌, ◌≢◌, ◌↔◌, List, ℕ, length, IsTrue, IfOk, Contains, unwrap_or};
+ghost use Rattle.std.specs.Prelude.{◌≡◌, ◌≢◌, ◌↔◌, List, ℕ, Some, length, IsTrue, IfOk, Contains, unwrap_or};
 ghost use Rattle.std.specs.List.{list_all};
 ghost use Rattle.lt_registry.specs.Entries as entries;
+ghost use Rattle.lt_registry.specs.Entries.{whole_value};
 ghost use Rattle.lt_registry.specs.Validity.{RepeatsNoVariant};
 ghost use Rattle.lt_registry.specs.declared.entries.Kind.TheVariants as kinds;
 ghost use Rattle.lt_rewrite.specs.Conditions.{next_value};
@@ -15,7 +16,9 @@ use lt_canon::{Refusal, equivalent};
 use lt_check::Checked;
 use lt_registry::{Entry, EntryName, Kind, Lookup, Prefix};
 use lt_rewrite::Shortcuts;
-use lt_rewrite::values::{has_language_value, is_registered, is_short, one_value, tag_and_value};
+use lt_rewrite::values::{
+    has_language_value, is_registered, is_short, one_value, tag_and_value, whole_value,
+};
 use lt_subtag::Subtag;
 use lt_tag::{OutOfMemory, Tag};
 use std::alloc::Global;
@@ -227,8 +230,18 @@ fn meet_in_canonical<L: Lookup>(
     }
 }
 
+/// Whether the newer registry replaces a tag whole by a value.
+fn replaces<L: Lookup>(newer: &L, tag: &Tag, value: &Tag) -> bool
+    ensures { IsTrue result ↔ (whole_value (L.listed newer.now) tag.now ≡ Some value.now) }
+{
+    match whole_value(newer, tag) {
+        Some(other) => other == value,
+        None => false,
+    }
+}
+
 /// Whether the tag and the value of a record of the older registry, if it is a whole record with a value,
-/// reach one canonical tag by the newer registry.
+/// reach one canonical tag by the newer registry. Where the newer one has the same value for the tag, they do.
 pub(crate) fn keeps_whole<A: Lookup, B: Lookup>(
     alloc: Global,
     older: &Checked<A>,
@@ -240,6 +253,7 @@ pub(crate) fn keeps_whole<A: Lookup, B: Lookup>(
 {
     let _ = older.table();
     match tag_and_value(entry) {
+        Some((tag, value)) if replaces(newer.table(), tag, value) => Ok(true),
         Some((tag, value)) => meet_in_canonical(alloc, newer, tag, value),
         None => Ok(true),
     }

@@ -4,7 +4,7 @@ use Rattle.std.proofs.lemmas.Option.{slice_get_within}
 use Rattle.lt_registry.specs.Parts.{EntryParts}
 use Rattle.lt_rewrite.specs.Conditions.{next_value}
 use Rattle.lt_rewrite.specs.ChainEnds.{following}
-use Rattle.lt_rewrite.specs.Shortcuts.{IsOnward}
+use Rattle.lt_rewrite.specs.Shortcuts.{IsOnward, ShortcutParts}
 use Rattle.lt_rewrite.proofs.CycleWalks.{next_by}
 use Rattle.lt_rewrite.proofs.ShortWalks.{entry_there, entry_next, onward_rest, onward_form, led_to, led_far, some_follows, none_follows}
 use Rattle.lt_rewrite.proofs.shortcuts.Shortcuts.further.Goals as goal
@@ -33,12 +33,12 @@ pub index-requires : goal.index-requires
 index-requires g c =
     let es = c.entries-entries.result.now in
     let here : c.place_of.result < length es = slice_get_within es c.place_of.result c.in-Some.entry.now c.place_of.ensures in
-    let own = ap (λ (ps : List ℕ). length ps) c.self.view_is in
-    omega (arith, here, ap (λ (xs : List EntryParts). length xs) c.entries-entries.ensures.value, own, c.requires.one_each)
+    let own = ap (λ (s : ShortcutParts). length s.places) c.self.view_is in
+    omega (arith, here, ap (λ (xs : List EntryParts). length xs) c.entries-entries.ensures.value, own, c.requires.chains.one_each)
 
 pub bounds-entries-index : goal.bounds-entries-index
 bounds-entries-index g c =
-    (led_to (g.L.Lookup.listed c.args.table.now) c.entries-entries.result.now c.self.inside.places.items c.args.self.now c.place_of.result c.index.result.now c.in-Some.entry.now c.requires c.entries-entries.ensures.value c.self.view_is c.place_of.ensures c.index.ensures).2
+    (led_to (g.L.Lookup.listed c.args.table.now) c.entries-entries.result.now c.self.inside.places.items c.args.self.now.places c.place_of.result c.index.result.now c.in-Some.entry.now c.requires.chains c.entries-entries.ensures.value (ap (λ (s : ShortcutParts). s.places) c.self.view_is) c.place_of.ensures c.index.ensures).2
 
 pub unreachable-requires : goal.unreachable-requires
 unreachable-requires g c =
@@ -47,7 +47,7 @@ unreachable-requires g c =
     let e : EntryParts = c.in-Some.entry.now in
     let last : EntryParts = c.index-entries-index.result in
     let v = some_follows c.following.result (following k e) c.following.ensures c.if-is_none.ensures in
-    let far = led_far R c.entries-entries.result.now k c.args.subtag.now v.0 c.self.inside.places.items c.args.self.now c.place_of.result c.index.result.now e last c.requires c.entries-entries.ensures.value c.self.view_is (sym c.in-Some.ensures) v.1 c.place_of.ensures c.index.ensures c.index-entries-index.is in
+    let far = led_far R c.entries-entries.result.now k c.args.subtag.now v.0 c.self.inside.places.items c.args.self.now.places c.place_of.result c.index.result.now e last c.requires.chains c.entries-entries.ensures.value (ap (λ (s : ShortcutParts). s.places) c.self.view_is) (sym c.in-Some.ensures) v.1 c.place_of.ensures c.index.ensures c.index-entries-index.is in
     let gives : following k last ≡ Some far.0 = far.1 in
     let none : following k last ≡ None = sym c.in-None.ensures in
     cc
@@ -60,7 +60,7 @@ returns-clause-onward g c =
     let e : EntryParts = c.in-Some.entry.now in
     let last : EntryParts = c.index-entries-index.result in
     let v = some_follows c.following.result (following k e) c.following.ensures c.if-is_none.ensures in
-    let far = led_far R c.entries-entries.result.now k s v.0 c.self.inside.places.items c.args.self.now c.place_of.result c.index.result.now e last c.requires c.entries-entries.ensures.value c.self.view_is (sym c.in-Some.ensures) v.1 c.place_of.ensures c.index.ensures c.index-entries-index.is in
+    let far = led_far R c.entries-entries.result.now k s v.0 c.self.inside.places.items c.args.self.now.places c.place_of.result c.index.result.now e last c.requires.chains c.entries-entries.ensures.value (ap (λ (s : ShortcutParts). s.places) c.self.view_is) (sym c.in-Some.ensures) v.1 c.place_of.ensures c.index.ensures c.index-entries-index.is in
     let gives : following k last ≡ Some far.0 = far.1 in
     let its : following k last ≡ Some c.in-Some-following.value.now = sym c.in-Some-following.ensures in
     let same : far.0 ≡ c.in-Some-following.value.now = cc in

@@ -2,7 +2,7 @@ use Rattle.std.proofs.Common.{◌≡◌, ◌+◌, ◌*◌, ◌≤◌, ◌++◌, 
 use Rattle.std.proofs.Math.Seq.{take-append_seam}
 use Rattle.lt_rewrite.specs.Shortcuts.{LeadOn}
 use Rattle.lt_rewrite.proofs.ShortWalks.{lead_less}
-use Rattle.lt_rewrite.proofs.shortcuts.Shortcuts.of_table.Goals as goal
+use Rattle.lt_rewrite.proofs.shortcuts.last_places.Goals as goal
 
 pub loop-steps-preserved : goal.loop-steps-preserved
 loop-steps-preserved g c =

@@ -1,6 +1,6 @@
 use Rattle.std.proofs.Common.{◌<◌, ◌-◌, length}
 use Rattle.lt_rewrite.specs.Shortcuts.{LeadOn}
-use Rattle.lt_rewrite.proofs.shortcuts.Shortcuts.of_table.Given as goal
+use Rattle.lt_rewrite.proofs.shortcuts.last_places.Given as goal
 
 abbrev pub invariant-loop-steps : goal.invariant-loop-steps
 invariant-loop-steps g l = record {
