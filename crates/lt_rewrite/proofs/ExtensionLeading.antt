@@ -12,7 +12,7 @@ use Rattle.lt_rewrite.specs.Labels.{transform_label, extension_label, extensions
 use Rattle.lt_rewrite.specs.Applying.{Answers, SwapLeads, UnicodeLeads, TransformLeads, ExtensionLeads, ExtensionsLeads, LeadsAt}
 use Rattle.lt_rewrite.specs.declared.steps.Step.{Step}
 use Rattle.lt_rewrite.specs.declared.steps.StepKind.TheVariants as steps
-use Rattle.lt_rewrite.proofs.CoreSettled.{round}
+use Rattle.lt_rewrite.proofs.Cuts.{round}
 use Rattle.lt_rewrite.proofs.CoreLeading.{kind_of, place_of, number_at, other_kind}
 use Rattle.lt_rewrite.proofs.Cuts.{cut_at, cut_within}
 use Rattle.lt_rewrite.proofs.FoundParts.{one_unicode, one_transform}
