@@ -19,7 +19,7 @@ use Rattle.lt_rewrite.specs.declared.steps.StepKind.TheVariants as steps
 use Rattle.lt_rewrite.proofs.CoreCases.{there_alone, has_leftmost}
 use Rattle.lt_rewrite.proofs.CoreSpots.{IsPart, part_spot, core_rank}
 use Rattle.lt_rewrite.proofs.CoreLeading.{kind_of, place_of, leads_at, NeedsVariant, needs_variant, needs_variant_language, has_language, variant_there, not_before, no_value, variant_language_there, none_has_variant_language}
-use Rattle.lt_rewrite.proofs.FirstSteps.{some_rank, compared, is_first}
+use Rattle.lt_rewrite.proofs.FirstSteps.{compared, is_first}
 
 module _ (R : List EntryParts) (start : ℕ) (c : CoreParts) (step : Step) where
   -- the step at a spot is the leftmost of its kind, where each that leads on is no further left
@@ -70,7 +70,7 @@ module _ (R : List EntryParts) (start : ℕ) (c : CoreParts) where
   NoneUpTo (suc n) = NoneUpTo n × NoneOnCore R start c (suc n)
 
   none_of : (n : ℕ) → NoneUpTo n → (m : ℕ) → m < suc n → NoneOnCore R start c m
-  none_of zero h m l step b k r = omega (arith, some_rank step.kind, r, l)
+  none_of zero h m l step b k r = omega (arith, (core_rank R start c b k.0).some, ap kind_rank k.1, r, l)
   none_of (suc n) h m l step b k r = at (compared m (suc n))
     where
       at : (m < suc n) ⊎ ((m ≡ suc n) ⊎ (suc n < m)) → ⊥

@@ -1,5 +1,5 @@
 -- The one core normal form.
-use Rattle.std.proofs.Common.{◌≡◌, ℕ, zero, suc, ◌⊎◌, inl, inr, List, [], ◌∷◌, ◌++◌, Option, Some, None, refl, sym, ap, ◌∙◌, length, map}
+use Rattle.std.proofs.Common.{◌≡◌, ℕ, zero, suc, List, [], ◌∷◌, ◌++◌, Option, Some, None, refl, sym, ap, ◌∙◌, length, map}
 use Rattle.std.specs.Option.{option_map}
 use Rattle.std.specs.List.{AllByRecursion}
 use Rattle.lt_tag.specs.Parts.{CoreParts}
@@ -47,12 +47,6 @@ form_on V S (x ∷ y ∷ r) l sc re vs = core l (x ∷ y ∷ r) sc re vs
 -- the core normal form
 abbrev pub form : (V : Values) → Settles V → CoreParts → CoreParts
 form V S c = form_on V S c.extlangs c.language (option_map S.script c.script) (option_map S.region c.region) (map S.variant c.variants)
-
--- every step keeps the form
-
-pub none_or : (o : Option (List ℕ)) → (o ≡ None) ⊎ ((t : List ℕ) × (o ≡ Some t))
-none_or None = inl refl
-none_or (Some t) = inr (t, refl)
 
 variant_language_end_at : (V : Values) (S : Settles V) (l v : List ℕ) → (o : Option (List ℕ)) → V.variant v ≡ o → V.variant_language l (S.variant v) ≡ V.variant_language l v
 variant_language_end_at V S l v None e = ap (V.variant_language l) (end_same S.variant_end v e)
