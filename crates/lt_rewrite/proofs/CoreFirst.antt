@@ -71,12 +71,12 @@ module _ (R : List EntryParts) (start : ℕ) (c : CoreParts) where
 
   none_of : (n : ℕ) → NoneUpTo n → (m : ℕ) → m < suc n → NoneOnCore R start c m
   none_of zero h m l step b k r = omega (arith, (core_rank R start c b k.0).some, ap kind_rank k.1, r, l)
-  none_of (suc n) h m l step b k r = at (compared m (suc n))
+  none_of (suc n) h m l step b k r = at (none_of n h.0 m) (compared m (suc n))
     where
-      at : (m < suc n) ⊎ ((m ≡ suc n) ⊎ (suc n < m)) → ⊥
-      at (inl less) = none_of n h.0 m less step b k r
-      at (inr (inl same)) = h.1 step b k (r ∙ same)
-      at (inr (inr more)) = omega (arith, more, l)
+      at : (m < suc n → NoneOnCore R start c m) → (m < suc n) ⊎ ((m ≡ suc n) ⊎ (suc n < m)) → ⊥
+      at below (inl less) = below less step b k r
+      at below (inr (inl same)) = h.1 step b k (r ∙ same)
+      at below (inr (inr more)) = omega (arith, more, l)
 
   -- the leftmost of the next rank is the first
   pub first_after : (n : ℕ) (step : Step) → NoneUpTo n → IsLeftmostOnCore R start c (suc n) step → IsFirstOnCore R start c step

@@ -104,24 +104,27 @@ module _ (R : List EntryParts) (start : ℕ) (c : CoreParts) (step : Step) where
       let has = variant_value_is R n.subtag n.value n.has in
       none n.value (subst (λ u. IsValueBy R kinds.Variant u step.number n.value) is (record { has = has.0; by = n.number })) has.1
 
+  first_there : (i : ℕ) (m : List ℕ) → (t : IsFirstVariantLanguage (values_of R) c i m) → slice_get c.variants i ≡ Some t.variant
+  first_there i m t =
+      ap (slice_get c.variants) (sym (length-take-le i c.variants (omega (arith, t.within))))
+      ∙ get_at (take i c.variants) t.variant (drop (suc i) c.variants) c.variants t.there
+
   pub variant_language_there : (i : ℕ) (m v : List ℕ) → slice_get c.variants i ≡ Some v → IsFirstVariantLanguage (values_of R) c i m → (values_of R).variant_language c.language v ≡ Some m
   variant_language_there i m v there t =
-      let front = length-take-le i c.variants (omega (arith, t.within)) in
-      let is : v ≡ t.variant = same_Some v t.variant (sym there ∙ ap (slice_get c.variants) (sym front) ∙ get_at (take i c.variants) t.variant (drop (suc i) c.variants) c.variants t.there) in
-      ap ((values_of R).variant_language c.language) is ∙ t.has
+      ap ((values_of R).variant_language c.language) (same_Some v t.variant (sym there ∙ first_there i m t)) ∙ t.has
 
   -- the leftmost VariantLanguage step is that of another variant
-  pub variant_language_elsewhere : step.kind ≡ steps.VariantLanguage → (i : ℕ) (m v : List ℕ) → slice_get c.variants i ≡ Some v → IsFirstVariantLanguage (values_of R) c i m → (step.place ≡ start + before_variants c + i + 1 → ⊥) → (d : CoreParts) → CoreLeads R start c step d → ⊥
-  variant_language_elsewhere k i m v there t n d l =
+  pub variant_language_elsewhere : step.kind ≡ steps.VariantLanguage → (i : ℕ) (m : List ℕ) → IsFirstVariantLanguage (values_of R) c i m → (step.place ≡ start + before_variants c + i + 1 → ⊥) → (d : CoreParts) → CoreLeads R start c step d → ⊥
+  variant_language_elsewhere k i m t n d l =
       let f : List ℕ → Option (List ℕ) = (values_of R).variant_language c.language in
       let o = needs_variant_language R start c step (ap rank_of k) d l in
       let h = has_language R start c step o in
       let a = not_before f c.variants i o.index o.needs.subtag o.needs.value t.leftmost (variant_there R start c step o) h.1 in
-      let b = not_before f c.variants o.index i v m h.0 there (variant_language_there i m v there t) in
+      let b = not_before f c.variants o.index i t.variant m h.0 (first_there i m t) t.has in
       n (omega (arith, o.place, a, b))
 
   -- no variant has a VariantLanguage step
-  pub none_has_variant_language : step.kind ≡ steps.VariantLanguage → HasNoVariantLanguage (values_of R) c → (d : CoreParts) → CoreLeads R start c step d → ⊥
+  pub none_has_variant_language : kind_rank step ≡ 6 → HasNoVariantLanguage (values_of R) c → (d : CoreParts) → CoreLeads R start c step d → ⊥
   none_has_variant_language k none d l =
-      let o = needs_variant_language R start c step (ap rank_of k) d l in
+      let o = needs_variant_language R start c step k d l in
       no_value ((values_of R).variant_language c.language) c.variants o.index o.needs.subtag o.needs.value none (variant_there R start c step o) (has_language R start c step o).1

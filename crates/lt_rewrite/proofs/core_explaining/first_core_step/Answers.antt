@@ -22,6 +22,4 @@ returns-in-Some-variant_step g c =
 
 pub returns : goal.returns
 returns g c =
-    let R = g.L.Lookup.listed c.args.table.now in
-    let none = ((((tt, c.in_default.ensures), c.in_default-language_step.ensures), c.in_default-script_step.ensures), c.in_default-region_step.ensures) in
-    last R c.args.start c.args.core.now (none, c.in_default-variant_step.ensures) c.variant_language_step.result c.variant_language_step.ensures
+    last (g.L.Lookup.listed c.args.table.now) c.args.start c.args.core.now (((((tt, c.in_default.ensures), c.in_default-language_step.ensures), c.in_default-script_step.ensures), c.in_default-region_step.ensures), c.in_default-variant_step.ensures) c.variant_language_step.result c.variant_language_step.ensures
