@@ -12,13 +12,13 @@ use Rattle.lt_registry.specs.Entries.{one_of, preferred_value, entry, prefixes, 
 use Rattle.lt_registry.specs.Validity.{ExtlangsFit, IsProperCore, IsProper, IsValid}
 use Rattle.lt_registry.specs.declared.entries.Kind.TheVariants as kinds
 use Rattle.lt_rewrite.specs.Rewriting.{Rests, done}
-use Rattle.lt_rewrite.specs.CoreSteps.{values_of, CoreStep, by_extlang, by_language, EndsIn}
+use Rattle.lt_rewrite.specs.CoreSteps.{values_of, CoreStep, EndsIn}
 use Rattle.lt_rewrite.specs.Laws.{IsProperValue}
 use Rattle.lt_rewrite.specs.TagSteps.{TagStep, IsReached, IsCanonical, on_core}
 use Rattle.lt_rewrite.proofs.Entries.{prefixes_at}
 use Rattle.lt_rewrite.proofs.Forms.{ExtlangEntry, extlang_entry, replacement_at}
 use Rattle.lt_rewrite.proofs.NameForms.{language_form, extlang_form}
-use Rattle.lt_rewrite.proofs.CoreLaws.{one_end_one_form}
+use Rattle.lt_rewrite.proofs.CoreLaws.{one_end_one_form, by_extlang, by_language}
 use Rattle.lt_rewrite.proofs.ProperTags.{proper_parts, proper_langtag}
 use Rattle.lt_check.specs.Conditions.{IsChecked}
 use Rattle.lt_canon.specs.ExtlangForm.{prefix_of, behind, extlang_core}
@@ -65,7 +65,7 @@ module _ (R : List EntryParts) (C : IsChecked R) where
   no_extlang d es ps P h [] e = refl
   no_extlang d es ps P h (x ∷ []) e =
       let d' : CoreParts = core (replacement R x) [] d.script d.region d.variants in
-      let s : CoreStep (values_of R) d d' = by_extlang x (record { one = e; result = refl }) in
+      let s : CoreStep (values_of R) d d' = by_extlang (values_of R) d x e in
       absurd (h (LangTag d' es ps) (step_of_change R C (LangTag d es ps) (LangTag d' es ps) (on_core d d' es ps refl refl s) P))
   no_extlang d es ps P h (x ∷ y ∷ r) e = absurd (subst (ExtlangsFit R d.language) e P.parts.core.extlangs)
 
@@ -116,8 +116,8 @@ module _ (R : List EntryParts) (C : IsChecked R) where
       let at : List ℕ → CoreParts = λ u. core u [] d.script d.region d.variants in
       let back : unwrap_or (one_of x.at.value) x.fits.subtag ≡ replacement R l = ap (unwrap_or (one_of x.at.value)) x.same ∙ sym (replacement_at R l x.at x.found) in
       let Q : List ℕ → Type 0 = λ u. EndsIn (preferred_value R kinds.Language) u x.fits.end in
-      (cores_formed R C).kept (front_core d f) (at (replacement R l)) (by_extlang l (record { one = refl; result = refl }))
-      ∙ one_end_one_form R (core_conditions R C.passes) (preferred_value R kinds.Language) at (λ s t e. by_language t (record { alone = refl; has = e; result = refl }))
+      (cores_formed R C).kept (front_core d f) (at (replacement R l)) (by_extlang (values_of R) (front_core d f) l refl)
+      ∙ one_end_one_form R (core_conditions R C.passes) (preferred_value R kinds.Language) at (λ s t e. by_language (values_of R) (at s) t refl e)
       (replacement R l) l x.fits.end (subst Q back x.fits.replacement_ends) (subst Q x.same x.fits.ends)
       ∙ ap (λ xs. core_end R C (core l xs d.script d.region d.variants)) (sym none)
 

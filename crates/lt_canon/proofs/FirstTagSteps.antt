@@ -9,7 +9,7 @@ use Rattle.lt_tag.specs.Values.{core_of}
 use Rattle.lt_registry.specs.Parts.{EntryParts}
 use Rattle.lt_registry.specs.Entries.{whole, number_of}
 use Rattle.lt_registry.specs.Validity.{IsProper}
-use Rattle.lt_rewrite.specs.CoreSteps.{values_of, CoreStep, by_extlang, by_language, by_script, by_region, by_variant, by_variant_language}
+use Rattle.lt_rewrite.specs.CoreSteps.{values_of, CoreStep}
 use Rattle.lt_rewrite.specs.Orderings.{ListStep, by_swap, by_drop}
 use Rattle.lt_rewrite.specs.Extensions.{UnicodeStep, on_attributes, on_keywords, on_types, TransformStep, on_source, on_fields, ExtensionStep, in_unicode, in_transform, ExtensionsStep, inside, among}
 use Rattle.lt_rewrite.specs.TagSteps.{CanBeReplacedWhole, TagChange, on_core, on_extensions, on_whole}
@@ -19,7 +19,7 @@ use Rattle.lt_rewrite.specs.Runs.{rank_of, kind_rank, extension_rank, IsNoLater,
 use Rattle.lt_rewrite.specs.declared.steps.Step.{Step}
 use Rattle.lt_rewrite.specs.declared.steps.StepKind.{StepKind}
 use Rattle.lt_rewrite.specs.declared.steps.StepKind.TheVariants as steps
-use Rattle.lt_rewrite.proofs.StepLaws.{core_high}
+use Rattle.lt_rewrite.proofs.StepLaws.{core_rank, core_low, core_high}
 use Rattle.lt_check.specs.Conditions.{IsChecked}
 use Rattle.lt_canon.specs.Explaining.{rank_in}
 use Rattle.lt_canon.proofs.TagProper.{core_step_tag, extensions_step_tag}
@@ -27,14 +27,6 @@ use Rattle.lt_canon.proofs.TagForm.{extensions_step_from}
 use Rattle.lt_tag.specs.Splitting.{spell_source}
 
 -- the ranks of steps
-
-core_rank : (R : List EntryParts) (start : ℕ) (c d : CoreParts) (s : CoreStep (values_of R) c d) → kind_rank (core_label R start s) ≤ 6
-core_rank R start c d (by_extlang x s) = omega arith
-core_rank R start c d (by_language v s) = omega arith
-core_rank R start c d (by_script a v s) = omega arith
-core_rank R start c d (by_region a v s) = omega arith
-core_rank R start c d (by_variant before v w after s) = omega arith
-core_rank R start c d (by_variant_language before v m after s) = omega arith
 
 -- a step on extensions that begin after this many subtags
 record IsBehind (start : ℕ) (step : Step) : Type 0 where
@@ -49,12 +41,9 @@ by_kind : (start : ℕ) (step : Step) → 8 ≤ kind_rank step → IsBehind star
 by_kind start step h = record { late = late_rank (nat_le (kind_rank step) 6) (kind_rank step) h; behind = λ k. absurd (omega (arith, h, k)) }
 
 source_behind : (R : List EntryParts) (start place : ℕ) (c d : CoreParts) (s : CoreStep (values_of R) c d) → start ≤ place → IsBehind start (core_label R place s)
-source_behind R start place c d (by_extlang x s) h = record { late = omega arith; behind = λ _. omega arith }
-source_behind R start place c d (by_language v s) h = record { late = omega arith; behind = λ _. omega arith }
-source_behind R start place c d (by_script a v s) h = record { late = omega arith; behind = λ _. omega arith }
-source_behind R start place c d (by_region a v s) h = record { late = omega arith; behind = λ _. omega arith }
-source_behind R start place c d (by_variant before v w after s) h = record { late = omega arith; behind = λ _. omega arith }
-source_behind R start place c d (by_variant_language before v m after s) h = record { late = omega arith; behind = λ _. omega arith }
+source_behind R start place c d s h =
+    let r = core_rank R place c d s in
+    record { late = omega (arith, r.some, r.raised); behind = λ _. omega (arith, h, core_low R place c d s) }
 
 list_behind : {A : Type 0} {once : Bool} {cmp : A → A → Ordering} {xs ys : List A} (swap drop : StepKind) → 8 ≤ rank_of swap → 8 ≤ rank_of drop → (spell : A → List (List ℕ)) (start place : ℕ) (s : ListStep once cmp xs ys) → IsBehind start (list_label swap drop spell place s)
 list_behind swap drop h k spell start place (by_swap before a b after s) = by_kind start _ h
@@ -113,7 +102,7 @@ module _ (R : List EntryParts) (c : CoreParts) (es : List ExtensionParts) (ps : 
   -- a step on the core
   core_leads_rank : (step : Step) (d : CoreParts) → CoreLeads R 0 c step d → (rank_in here step ≡ kind_rank step) × (kind_rank step ≤ 6)
   core_leads_rank step d l =
-      (before_rank c es ps step (subst (λ (x : Step). x.place ≤ length (spell_core c)) l.1 (core_high R c d l.0)), subst (λ (x : Step). kind_rank x ≤ 6) l.1 (core_rank R 0 c d l.0))
+      (before_rank c es ps step (subst (λ (x : Step). x.place ≤ length (spell_core c)) l.1 (core_high R 0 c d l.0)), subst (λ (x : Step). kind_rank x ≤ 6) l.1 (core_rank R 0 c d l.0).most)
 
   -- a step on the extensions
   extensions_lead_rank : (step : Step) (fs : List ExtensionParts) → ExtensionsLeads R (length (spell_core c)) es step fs → (rank_in here step ≡ extension_rank step) × (8 ≤ extension_rank step)

@@ -1,9 +1,10 @@
 -- The one core normal form.
-use Rattle.std.proofs.Common.{◌≡◌, ℕ, zero, suc, ◌⊎◌, inl, inr, List, [], ◌∷◌, ◌++◌, Option, Some, None, refl, sym, ap, ◌∙◌, length, map}
+use Rattle.std.proofs.Common.{◌≡◌, ℕ, zero, suc, List, [], ◌∷◌, ◌++◌, Option, Some, None, refl, sym, ap, ◌∙◌, length, map}
 use Rattle.std.specs.Option.{option_map}
 use Rattle.std.specs.List.{AllByRecursion}
 use Rattle.lt_tag.specs.Parts.{CoreParts}
-use Rattle.lt_rewrite.specs.CoreSteps.{Values, CoreStep, by_extlang, by_language, by_script, by_region, by_variant, by_variant_language, ExtlangStep, LanguageStep, ScriptStep, RegionStep, VariantStep, VariantLanguageStep}
+use Rattle.lt_rewrite.specs.CoreSteps.{Values, CoreStep}
+use Rattle.lt_rewrite.proofs.CoreCases.{each_step}
 use Rattle.lt_rewrite.proofs.Chains.{IsEnd, end_same, end_next, end_keeps}
 
 -- the ends of the chains, and what the conditions on a registry say of them
@@ -46,12 +47,6 @@ form_on V S (x ∷ y ∷ r) l sc re vs = core l (x ∷ y ∷ r) sc re vs
 -- the core normal form
 abbrev pub form : (V : Values) → Settles V → CoreParts → CoreParts
 form V S c = form_on V S c.extlangs c.language (option_map S.script c.script) (option_map S.region c.region) (map S.variant c.variants)
-
--- every step keeps the form
-
-pub none_or : (o : Option (List ℕ)) → (o ≡ None) ⊎ ((t : List ℕ) × (o ≡ Some t))
-none_or None = inl refl
-none_or (Some t) = inr (t, refl)
 
 variant_language_end_at : (V : Values) (S : Settles V) (l v : List ℕ) → (o : Option (List ℕ)) → V.variant v ≡ o → V.variant_language l (S.variant v) ≡ V.variant_language l v
 variant_language_end_at V S l v None e = ap (V.variant_language l) (end_same S.variant_end v e)
@@ -105,58 +100,34 @@ pub map-append : {A B : Type 0} (f : A → B) (xs ys : List A) → map f (xs ++ 
 map-append f [] ys = refl
 map-append f (x ∷ xs) ys = ap (λ l. f x ∷ l) (map-append f xs ys)
 
-keeps_extlang : (V : Values) (S : Settles V) (c d : CoreParts) (x : List ℕ) → ExtlangStep V c x d → form V S c ≡ form V S d
-keeps_extlang V S c d x s =
-    ap (λ xs. form_on V S xs c.language (option_map S.script c.script) (option_map S.region c.region) (map S.variant c.variants)) s.one
-    ∙ sym (ap (form V S) s.result)
-
-keeps_language : (V : Values) (S : Settles V) (c d : CoreParts) (v : List ℕ) → LanguageStep V c v d → form V S c ≡ form V S d
-keeps_language V S c d v s =
-    let sc = option_map S.script c.script in
-    let re = option_map S.region c.region in
-    let vs = map S.variant c.variants in
-    ap (λ xs. form_on V S xs c.language sc re vs) s.alone
-    ∙ ap (λ x. let p = settled V S (length vs) x vs in core p.0 [] sc re p.1) (end_next S.language_end c.language v s.has)
-    ∙ ap (λ xs. form_on V S xs v sc re vs) (sym s.alone)
-    ∙ sym (ap (form V S) s.result)
-
-keeps_script : (V : Values) (S : Settles V) (c d : CoreParts) (s v : List ℕ) → ScriptStep V c s v d → form V S c ≡ form V S d
-keeps_script V S c d s v h =
-    ap (λ o. form_on V S c.extlangs c.language o (option_map S.region c.region) (map S.variant c.variants)) (ap (option_map S.script) h.there ∙ ap Some (end_next S.script_end s v h.has))
-    ∙ sym (ap (form V S) h.result)
-
-keeps_region : (V : Values) (S : Settles V) (c d : CoreParts) (s v : List ℕ) → RegionStep V c s v d → form V S c ≡ form V S d
-keeps_region V S c d s v h =
-    ap (λ o. form_on V S c.extlangs c.language (option_map S.script c.script) o (map S.variant c.variants)) (ap (option_map S.region) h.there ∙ ap Some (end_next S.region_end s v h.has))
-    ∙ sym (ap (form V S) h.result)
-
-keeps_variant : (V : Values) (S : Settles V) (c d : CoreParts) (before : List (List ℕ)) (v w : List ℕ) (after : List (List ℕ)) → VariantStep V c before v w after d → form V S c ≡ form V S d
-keeps_variant V S c d before v w after h =
-    ap (λ vs. form_on V S c.extlangs c.language (option_map S.script c.script) (option_map S.region c.region) vs)
-    (ap (map S.variant) h.there ∙ map-append S.variant before (v ∷ after) ∙ ap (λ u. map S.variant before ++ u ∷ map S.variant after) (end_next S.variant_end v w h.has) ∙ sym (map-append S.variant before (w ∷ after)))
-    ∙ sym (ap (form V S) h.result)
-
-keeps_variant_language : (V : Values) (S : Settles V) (c d : CoreParts) (before : List (List ℕ)) (v m : List ℕ) (after : List (List ℕ)) → VariantLanguageStep V c before v m after d → form V S c ≡ form V S d
-keeps_variant_language V S c d before v m after s =
-    let sc = option_map S.script c.script in
-    let re = option_map S.region c.region in
-    let vs = map S.variant c.variants in
-    let rest : S.language c.language ≡ c.language = end_same S.language_end c.language (S.variant_languages_at_rest c.language v m s.has) in
-    let found : pick V c.language vs ≡ Some (m, map S.variant (before ++ after)) =
-    pick_map V S c.language c.variants
-    ∙ ap (λ us. option_map (mapped S.variant) (pick V c.language us)) s.there
-    ∙ ap (option_map (mapped S.variant)) (pick_leftmost V c.language before v m after s.leftmost s.has) in
-    ap (λ xs. form_on V S xs c.language sc re vs) s.alone
-    ∙ ap (λ x. let p = settled V S (length vs) x vs in core p.0 [] sc re p.1) rest
-    ∙ ap (λ (p : List ℕ × List (List ℕ)). core p.0 [] sc re p.1) (settled_some V S c.language vs (m, map S.variant (before ++ after)) found)
-    ∙ ap (λ xs. form_on V S xs m sc re (map S.variant (before ++ after))) (sym s.alone)
-    ∙ sym (ap (form V S) s.result)
-
 -- every core step keeps the form
 pub step_keeps : (V : Values) (S : Settles V) (c d : CoreParts) → CoreStep V c d → form V S c ≡ form V S d
-step_keeps V S c d (by_extlang x s) = keeps_extlang V S c d x s
-step_keeps V S c d (by_language v s) = keeps_language V S c d v s
-step_keeps V S c d (by_script s v h) = keeps_script V S c d s v h
-step_keeps V S c d (by_region s v h) = keeps_region V S c d s v h
-step_keeps V S c d (by_variant before v w after h) = keeps_variant V S c d before v w after h
-step_keeps V S c d (by_variant_language before v m after s) = keeps_variant_language V S c d before v m after s
+step_keeps V S c =
+    let sc = option_map S.script c.script in
+    let re = option_map S.region c.region in
+    let vs = map S.variant c.variants in
+    let at : List (List ℕ) → CoreParts = λ xs. form_on V S xs c.language sc re vs in
+    each_step V c (λ d. form V S c ≡ form V S d) (record {
+      extlang = λ x one. ap at one;
+      language = λ v none has.
+          ap at none
+          ∙ ap (λ x. let p = settled V S (length vs) x vs in core p.0 [] sc re p.1) (end_next S.language_end c.language v has)
+          ∙ ap (λ xs. form_on V S xs v sc re vs) (sym none);
+      script = λ s v there has.
+          ap (λ o. form_on V S c.extlangs c.language o re vs) (ap (option_map S.script) there ∙ ap Some (end_next S.script_end s v has));
+      region = λ s v there has.
+          ap (λ o. form_on V S c.extlangs c.language sc o vs) (ap (option_map S.region) there ∙ ap Some (end_next S.region_end s v has));
+      variant = λ before v w after there has.
+          ap (form_on V S c.extlangs c.language sc re)
+          (ap (map S.variant) there ∙ map-append S.variant before (v ∷ after) ∙ ap (λ u. map S.variant before ++ u ∷ map S.variant after) (end_next S.variant_end v w has) ∙ sym (map-append S.variant before (w ∷ after)));
+      variant_language = λ before v m after none there has leftmost.
+          let rest : S.language c.language ≡ c.language = end_same S.language_end c.language (S.variant_languages_at_rest c.language v m has) in
+          let found : pick V c.language vs ≡ Some (m, map S.variant (before ++ after)) =
+          pick_map V S c.language c.variants
+          ∙ ap (λ us. option_map (mapped S.variant) (pick V c.language us)) there
+          ∙ ap (option_map (mapped S.variant)) (pick_leftmost V c.language before v m after leftmost has) in
+          ap at none
+          ∙ ap (λ x. let p = settled V S (length vs) x vs in core p.0 [] sc re p.1) rest
+          ∙ ap (λ (p : List ℕ × List (List ℕ)). core p.0 [] sc re p.1) (settled_some V S c.language vs (m, map S.variant (before ++ after)) found)
+          ∙ ap (λ xs. form_on V S xs m sc re (map S.variant (before ++ after))) (sym none);
+    })

@@ -13,6 +13,7 @@ use Rattle.lt_rewrite.proofs.CoreReach.{form_reached, chain}
 use Rattle.lt_rewrite.proofs.CoreRest as at_rest
 use Rattle.lt_rewrite.proofs.CoreSettles.{settles}
 use Rattle.lt_rewrite.proofs.Repeats as repeats
+pub use Rattle.lt_rewrite.proofs.CoreCases.{EachStep, each_step, by_extlang, by_language, by_script, by_region, by_variant, by_variant_language}
 pub use Rattle.lt_rewrite.proofs.CoreRest.{AtRest, rests}
 pub use Rattle.lt_rewrite.proofs.Repeats.{VariantLanguagesOnce, variant_languages_once_kept}
 

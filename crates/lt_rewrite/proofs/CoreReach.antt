@@ -4,7 +4,8 @@ use Rattle.std.specs.Option.{option_map}
 use Rattle.std.specs.List.{AllByRecursion}
 use Rattle.lt_tag.specs.Parts.{CoreParts}
 use Rattle.lt_rewrite.specs.Rewriting.{Star, done, then}
-use Rattle.lt_rewrite.specs.CoreSteps.{Values, chase, CoreStep, by_extlang, by_language, by_script, by_region, by_variant, by_variant_language}
+use Rattle.lt_rewrite.specs.CoreSteps.{Values, chase, CoreStep}
+use Rattle.lt_rewrite.proofs.CoreCases.{by_extlang, by_language, by_script, by_region, by_variant, by_variant_language}
 use Rattle.lt_rewrite.proofs.Stars.{star_trans, star_path}
 use Rattle.lt_rewrite.proofs.Chains.{IsEnd, chase_rests, chase_next}
 use Rattle.lt_rewrite.proofs.CoreForm.{Settles, pick_at, pick, settled, core, form_on, form}
@@ -24,26 +25,26 @@ to_end V f g E at step s = subst (λ u. Star (CoreStep V) (at s) (at u)) (E.reac
 language_to_end : (V : Values) (S : Settles V) (l : List ℕ) (sc re : Option (List ℕ)) (vs : List (List ℕ)) → Star (CoreStep V) (core l [] sc re vs) (core (S.language l) [] sc re vs)
 language_to_end V S l sc re vs =
     to_end V V.language S.language S.language_end (λ u. core u [] sc re vs)
-    (λ s t e. by_language t (record { alone = refl; has = e; result = refl })) l
+    (λ s t e. by_language V (core s [] sc re vs) t refl e) l
 
 script_to_end : (V : Values) (S : Settles V) (l : List ℕ) (xs : List (List ℕ)) (sc re : Option (List ℕ)) (vs : List (List ℕ)) → Star (CoreStep V) (core l xs sc re vs) (core l xs (option_map S.script sc) re vs)
 script_to_end V S l xs None re vs = done
 script_to_end V S l xs (Some a) re vs =
     to_end V V.script S.script S.script_end (λ u. core l xs (Some u) re vs)
-    (λ s t e. by_script s t (record { there = refl; has = e; result = refl })) a
+    (λ s t e. by_script V (core l xs (Some s) re vs) s t refl e) a
 
 region_to_end : (V : Values) (S : Settles V) (l : List ℕ) (xs : List (List ℕ)) (sc re : Option (List ℕ)) (vs : List (List ℕ)) → Star (CoreStep V) (core l xs sc re vs) (core l xs sc (option_map S.region re) vs)
 region_to_end V S l xs sc None vs = done
 region_to_end V S l xs sc (Some a) vs =
     to_end V V.region S.region S.region_end (λ u. core l xs sc (Some u) vs)
-    (λ s t e. by_region s t (record { there = refl; has = e; result = refl })) a
+    (λ s t e. by_region V (core l xs sc (Some s) vs) s t refl e) a
 
 variants_to_end : (V : Values) (S : Settles V) (l : List ℕ) (xs : List (List ℕ)) (sc re : Option (List ℕ)) (before after : List (List ℕ)) → Star (CoreStep V) (core l xs sc re (before ++ after)) (core l xs sc re (before ++ map S.variant after))
 variants_to_end V S l xs sc re before [] = done
 variants_to_end V S l xs sc re before (v ∷ vs) =
     let one : Star (CoreStep V) (core l xs sc re (before ++ v ∷ vs)) (core l xs sc re (before ++ S.variant v ∷ vs)) =
     to_end V V.variant S.variant S.variant_end (λ u. core l xs sc re (before ++ u ∷ vs))
-    (λ s t e. by_variant before s t vs (record { there = refl; has = e; result = refl })) v in
+    (λ s t e. by_variant V (core l xs sc re (before ++ s ∷ vs)) before s t vs refl e) v in
     let more = variants_to_end V S l xs sc re (before ++ S.variant v ∷ []) vs in
     let from : (before ++ S.variant v ∷ []) ++ vs ≡ before ++ S.variant v ∷ vs = append_assoc before (S.variant v ∷ []) vs in
     let to : (before ++ S.variant v ∷ []) ++ map S.variant vs ≡ before ++ S.variant v ∷ map S.variant vs = append_assoc before (S.variant v ∷ []) (map S.variant vs) in
@@ -83,7 +84,8 @@ variant_languages_at V S sc re n ih x vs (Some p) e =
     let k : Picked V x vs p = picked V x vs p e in
     let c' : CoreParts = core p.0 [] sc re p.1 in
     let s : CoreStep V (core x [] sc re vs) c' =
-    by_variant_language k.before k.variant p.0 k.after (record { alone = refl; there = k.there; has = k.has; leftmost = k.leftmost; result = ap (λ us. core p.0 [] sc re us) (sym k.left) }) in
+    subst (λ us. CoreStep V (core x [] sc re vs) (core p.0 [] sc re us)) k.left
+    (by_variant_language V (core x [] sc re vs) k.before k.variant p.0 k.after refl k.there k.has k.leftmost) in
     then s (star_trans (language_to_end V S p.0 sc re p.1) (ih (S.language p.0) p.1))
 
 variant_languages : (V : Values) (S : Settles V) (sc re : Option (List ℕ)) (n : ℕ) (x : List ℕ) (vs : List (List ℕ)) → (let p = settled V S n x vs in Star (CoreStep V) (core x [] sc re vs) (core p.0 [] sc re p.1))
@@ -94,7 +96,7 @@ on_reached : (V : Values) (S : Settles V) (xs : List (List ℕ)) (l : List ℕ) 
 on_reached V S [] l sc re vs = star_trans (language_to_end V S l sc re vs) (variant_languages V S sc re (length vs) (S.language l) vs)
 on_reached V S (x ∷ []) l sc re vs =
     let r = V.replacement x in
-    then (by_extlang x (record { one = refl; result = refl })) (star_trans (language_to_end V S r sc re vs) (variant_languages V S sc re (length vs) (S.language r) vs))
+    then (by_extlang V (core l (x ∷ []) sc re vs) x refl) (star_trans (language_to_end V S r sc re vs) (variant_languages V S sc re (length vs) (S.language r) vs))
 on_reached V S (x ∷ y ∷ r) l sc re vs = done
 
 -- core steps reach the form

@@ -1,9 +1,12 @@
 -- No core step leads from the form.
-use Rattle.std.proofs.Common.{◌≡◌, ℕ, zero, suc, List, [], ◌∷◌, ◌++◌, Option, Some, None, refl, subst, length, map}
+use Rattle.std.proofs.Common.{◌≡◌, ℕ, zero, suc, List, [], ◌∷◌, ◌++◌, Option, Some, None, refl, sym, ◌∙◌, subst, length, map}
+use Rattle.std.proofs.lemmas.Option.{none-some}
 use Rattle.std.specs.Option.{option_map}
 use Rattle.std.specs.List.{AllByRecursion}
 use Rattle.lt_tag.specs.Parts.{CoreParts}
-use Rattle.lt_rewrite.specs.CoreSteps.{Values, CoreStep, by_extlang, by_language, by_script, by_region, by_variant, by_variant_language}
+use Rattle.lt_rewrite.specs.CoreSteps.{Values, CoreStep}
+use Rattle.lt_rewrite.proofs.CoreCases.{each_step}
+use Rattle.lt_rewrite.proofs.PartLists.{all_middle}
 use Rattle.lt_rewrite.proofs.Chains.{IsEnd}
 use Rattle.lt_rewrite.proofs.CoreForm.{Settles, pick_at, pick, settled, form_on, form, pick_length}
 
@@ -16,24 +19,20 @@ pub record AtRest (V : Values) (d : CoreParts) : Type 0 where
   pub variant : AllByRecursion (λ v. V.variant v ≡ None) d.variants
   pub variant_language : d.extlangs ≡ [] → AllByRecursion (λ v. V.variant_language d.language v ≡ None) d.variants
 
-pub all_at : {A : Type 0} (P : A → Type 0) (before : List A) (v : A) (after : List A) → AllByRecursion P (before ++ v ∷ after) → P v
-all_at P [] v after h = h.0
-all_at P (u ∷ us) v after h = all_at P us v after h.1
-
 -- from such a core no step leads
 pub rests : (V : Values) (d e : CoreParts) → AtRest V d → CoreStep V d e → ⊥
-rests V d e R (by_extlang x s) = R.extlang x s.one
-rests V d e R (by_language v s) = let a = R.language s.alone in let b = s.has in cc
-rests V d e R (by_script s v h) = let a = R.script s h.there in let b = h.has in cc
-rests V d e R (by_region s v h) = let a = R.region s h.there in let b = h.has in cc
-rests V d e R (by_variant before v w after h) =
-    let P : List ℕ → Type 0 = λ u. V.variant u ≡ None in
-    let a : V.variant v ≡ None = all_at P before v after (subst (AllByRecursion P) h.there R.variant) in
-    let b = h.has in cc
-rests V d e R (by_variant_language before v m after s) =
-    let P : List ℕ → Type 0 = λ u. V.variant_language d.language u ≡ None in
-    let a : V.variant_language d.language v ≡ None = all_at P before v after (subst (AllByRecursion P) s.there (R.variant_language s.alone)) in
-    let b = s.has in cc
+rests V d e R = each_step V d (λ _. ⊥) (record {
+  extlang = R.extlang;
+  language = λ v none has. none-some v (sym (R.language none) ∙ has);
+  script = λ s v there has. none-some v (sym (R.script s there) ∙ has);
+  region = λ s v there has. none-some v (sym (R.region s there) ∙ has);
+  variant = λ before v w after there has.
+      let P : List ℕ → Type 0 = λ u. V.variant u ≡ None in
+      none-some w (sym (all_middle P before v after (subst (AllByRecursion P) there R.variant)) ∙ has);
+  variant_language = λ before v m after none there has leftmost.
+      let P : List ℕ → Type 0 = λ u. V.variant_language d.language u ≡ None in
+      none-some m (sym (all_middle P before v after (subst (AllByRecursion P) there (R.variant_language none))) ∙ has);
+}) e
 
 pick_none_at : (V : Values) (l v : List ℕ) (vs : List (List ℕ)) → ((pick V l vs ≡ None) → AllByRecursion (λ u. V.variant_language l u ≡ None) vs) → (o : Option (List ℕ)) → V.variant_language l v ≡ o → (r : Option (List ℕ × List (List ℕ))) → pick V l vs ≡ r → pick_at o v vs r ≡ None → AllByRecursion (λ u. V.variant_language l u ≡ None) (v ∷ vs)
 pick_none_at V l v vs ih (Some m) t r q e = cc

@@ -8,7 +8,9 @@ use Rattle.lt_tag.specs.Parts.{CoreParts}
 use Rattle.lt_registry.specs.Parts.{EntryParts}
 use Rattle.lt_registry.specs.declared.entries.Kind.TheVariants as kinds
 use Rattle.lt_rewrite.specs.Rewriting.{Star, Rests}
-use Rattle.lt_rewrite.specs.CoreSteps.{Values, values_of, CoreStep, IsCoreNormalForm, EndsIn, by_extlang, by_language, by_script, by_region, by_variant, by_variant_language}
+use Rattle.lt_rewrite.specs.CoreSteps.{Values, values_of, CoreStep, IsCoreNormalForm, EndsIn}
+use Rattle.lt_rewrite.proofs.CoreCases.{by_extlang, by_language, by_script, by_region, by_variant, by_variant_language}
+use Rattle.lt_rewrite.proofs.Cuts.{round}
 use Rattle.lt_rewrite.specs.Conditions.{next_value}
 use Rattle.lt_rewrite.specs.CoreSettling.{HasFinalLanguage, HasFinalScript, HasFinalRegion, HasFinalVariants, HasNoVariantLanguage, IsFirstVariantLanguage}
 use Rattle.lt_rewrite.proofs.Stars.{star_trans}
@@ -24,21 +26,17 @@ pub script_reached : (R : List EntryParts) (c : CoreParts) (s e : List ℕ) → 
 script_reached R c s e h ends =
     let at : Option (List ℕ) → CoreParts = λ o. record c { script = o } in
     subst (λ o. Star (CoreStep (values_of R)) (at o) (record c { script = Some e })) (sym h)
-    (along (values_of R) (next_value R kinds.Script) (λ u. at (Some u)) (λ u t f. by_script u t (record { there = refl; has = f; result = refl })) s e ends)
+    (along (values_of R) (next_value R kinds.Script) (λ u. at (Some u)) (λ u t f. by_script (values_of R) (at (Some u)) u t refl f) s e ends)
 
 pub region_reached : (R : List EntryParts) (c : CoreParts) (s e : List ℕ) → c.region ≡ Some s → EndsIn (next_value R kinds.Region) s e → Star (CoreStep (values_of R)) c (record c { region = Some e })
 region_reached R c s e h ends =
     let at : Option (List ℕ) → CoreParts = λ o. record c { region = o } in
     subst (λ o. Star (CoreStep (values_of R)) (at o) (record c { region = Some e })) (sym h)
-    (along (values_of R) (next_value R kinds.Region) (λ u. at (Some u)) (λ u t f. by_region u t (record { there = refl; has = f; result = refl })) s e ends)
+    (along (values_of R) (next_value R kinds.Region) (λ u. at (Some u)) (λ u t f. by_region (values_of R) (at (Some u)) u t refl f) s e ends)
 
 pub language_reached : (R : List EntryParts) (c : CoreParts) (e : List ℕ) → c.extlangs ≡ [] → EndsIn (next_value R kinds.Language) c.language e → Star (CoreStep (values_of R)) c (record c { language = e })
 language_reached R c e h ends =
-    along (values_of R) (next_value R kinds.Language) (λ u. record c { language = u }) (λ u t f. by_language t (record { alone = h; has = f; result = refl })) c.language e ends
-
--- a list round one of its elements
-pub round : {A : Type 0} (xs : List A) (i : ℕ) (x : A) → i < length xs → x ≡ get_or xs i x → xs ≡ take i xs ++ x ∷ drop (suc i) xs
-round xs i x h e = sym (set-get_or xs i x) ∙ ap (set xs i) (sym e) ∙ set_split xs i x h
+    along (values_of R) (next_value R kinds.Language) (λ u. record c { language = u }) (λ u t f. by_language (values_of R) (record c { language = u }) t h f) c.language e ends
 
 pub variant_reached : (R : List EntryParts) (c : CoreParts) (i : ℕ) (s e : List ℕ) → i < length c.variants → s ≡ get_or c.variants i s → EndsIn (next_value R kinds.Variant) s e → Star (CoreStep (values_of R)) c (record c { variants = set c.variants i e })
 variant_reached R c i s e h is ends =
@@ -47,7 +45,7 @@ variant_reached R c i s e h is ends =
     let at : List (List ℕ) → CoreParts = λ us. record c { variants = us } in
     let walk : Star (CoreStep V) (at (take i vs ++ s ∷ drop (suc i) vs)) (at (take i vs ++ e ∷ drop (suc i) vs)) =
     along V (next_value R kinds.Variant) (λ u. at (take i vs ++ u ∷ drop (suc i) vs))
-    (λ u t f. by_variant (take i vs) u t (drop (suc i) vs) (record { there = refl; has = f; result = refl })) s e ends in
+    (λ u t f. by_variant V (at (take i vs ++ u ∷ drop (suc i) vs)) (take i vs) u t (drop (suc i) vs) refl f) s e ends in
     subst (λ us. Star (CoreStep V) c (at us)) (sym (set_split vs i e h))
     (subst (λ us. Star (CoreStep V) (at us) (at (take i vs ++ e ∷ drop (suc i) vs))) (sym (round vs i s h is)) walk)
 
@@ -55,10 +53,10 @@ pub final_more : (P : List ℕ → Type 0) (vs : List (List ℕ)) (i : ℕ) (e :
 final_more P vs i e h all p = All-same P (take (i + 1) (set vs i e)) (take i vs ++ e ∷ []) (take_more_set vs i e h) (All-push P (take i vs) e all p)
 
 pub extlang_step : (R : List EntryParts) (c : CoreParts) (x l : List ℕ) → c.extlangs ≡ x ∷ [] → l ≡ (values_of R).replacement x → CoreStep (values_of R) c (record c { language = l; extlangs = [] })
-extlang_step R c x l h e = by_extlang x (record { one = h; result = ap (λ u. record c { language = u; extlangs = [] }) e })
+extlang_step R c x l h e = subst (λ u. CoreStep (values_of R) c (record c { language = u; extlangs = [] })) (sym e) (by_extlang (values_of R) c x h)
 
 pub variant_language_step : (R : List EntryParts) (c : CoreParts) (i : ℕ) (m : List ℕ) → c.extlangs ≡ [] → IsFirstVariantLanguage (values_of R) c i m → CoreStep (values_of R) c (record c { language = m; variants = remove c.variants i })
-variant_language_step R c i m h t = by_variant_language (take i c.variants) t.variant m (drop (suc i) c.variants) (record { alone = h; there = t.there; has = t.has; leftmost = t.leftmost; result = refl })
+variant_language_step R c i m h t = by_variant_language (values_of R) c (take i c.variants) t.variant m (drop (suc i) c.variants) h t.there t.has t.leftmost
 
 -- what all variants have, those that are left have
 pub final_without : (P : List ℕ → Type 0) (vs : List (List ℕ)) (i : ℕ) → All P vs → All P (remove vs i)
@@ -102,11 +100,7 @@ none_more V c i v vs h e t none =
     let P : List ℕ → Type 0 = λ u. V.variant_language c.language u ≡ None in
     All-more P vs i v h none (subst P e t)
 
--- an empty list
-pub is_none : (xs : List (List ℕ)) → eqb (length xs) 0 ≡ true → xs ≡ []
-is_none [] h = refl
-is_none (x ∷ xs) h = let e = eqb-true (length (x ∷ xs)) 0 h in absurd (omega arith)
-
+-- a list that is not empty
 pub is_some : (xs : List (List ℕ)) → eqb (length xs) 0 ≡ false → xs ≡ [] → ⊥
 is_some [] h e = cc
 is_some (x ∷ xs) h e = cc

@@ -6,7 +6,8 @@ use Rattle.lt_registry.specs.Parts.{EntryParts}
 use Rattle.lt_registry.specs.Entries.{replacement}
 use Rattle.lt_registry.specs.declared.entries.Kind.{Kind}
 use Rattle.lt_registry.specs.declared.entries.Kind.TheVariants as kinds
-use Rattle.lt_rewrite.specs.CoreSteps.{values_of, CoreStep, by_extlang, by_language, by_script, by_region, by_variant, by_variant_language, chase}
+use Rattle.lt_rewrite.specs.CoreSteps.{values_of, CoreStep, chase}
+use Rattle.lt_rewrite.proofs.CoreCases.{each_step}
 use Rattle.lt_rewrite.specs.Conditions.{next_value, HasEndingChain}
 use Rattle.lt_rewrite.proofs.Chains.{chase_next}
 use Rattle.lt_rewrite.proofs.Entries.{chains_end}
@@ -103,15 +104,16 @@ module _ (R : List EntryParts) where
 
   pub weight_falls : All (HasEndingChain R) R → (c d : CoreParts) → CoreStep (values_of R) c d → weight d < weight c
   unfolding weight
-  weight_falls C c d (by_extlang x s) =
-      omega (arith, ap weight s.result, ap (total (λ _. spare)) s.one, total_cons (λ _. spare) x [], total_none (λ _. spare), after_most kinds.Language (replacement R x))
-  weight_falls C c d (by_language v s) =
-      omega (arith, ap weight s.result, after_next C kinds.Language c.language v s.has)
-  weight_falls C c d (by_script a v s) =
-      omega (arith, ap weight s.result, of_some kinds.Script c.script a s.there, of_some kinds.Script (Some v) v refl, after_next C kinds.Script a v s.has)
-  weight_falls C c d (by_region a v s) =
-      omega (arith, ap weight s.result, of_some kinds.Region c.region a s.there, of_some kinds.Region (Some v) v refl, after_next C kinds.Region a v s.has)
-  weight_falls C c d (by_variant before v w vs s) =
-      omega (arith, ap weight s.result, ap (total (λ u. after kinds.Variant u + spare)) s.there, variants_with before v vs, variants_with before w vs, after_next C kinds.Variant v w s.has)
-  weight_falls C c d (by_variant_language before v m vs s) =
-      omega (arith, ap weight s.result, ap (total (λ u. after kinds.Variant u + spare)) s.there, variants_with before v vs, total_append (λ u. after kinds.Variant u + spare) before vs, after_most kinds.Language m)
+  weight_falls C c = each_step (values_of R) c (λ d. weight d < weight c) (record {
+    extlang = λ x one.
+        omega (arith, ap (total (λ _. spare)) one, total_cons (λ _. spare) x [], total_none (λ _. spare), after_most kinds.Language (replacement R x));
+    language = λ v none has. omega (arith, after_next C kinds.Language c.language v has);
+    script = λ a v there has.
+        omega (arith, of_some kinds.Script c.script a there, of_some kinds.Script (Some v) v refl, after_next C kinds.Script a v has);
+    region = λ a v there has.
+        omega (arith, of_some kinds.Region c.region a there, of_some kinds.Region (Some v) v refl, after_next C kinds.Region a v has);
+    variant = λ before v w vs there has.
+        omega (arith, ap (total (λ u. after kinds.Variant u + spare)) there, variants_with before v vs, variants_with before w vs, after_next C kinds.Variant v w has);
+    variant_language = λ before v m vs none there has leftmost.
+        omega (arith, ap (total (λ u. after kinds.Variant u + spare)) there, variants_with before v vs, total_append (λ u. after kinds.Variant u + spare) before vs, after_most kinds.Language m);
+  })

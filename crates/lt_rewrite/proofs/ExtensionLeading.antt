@@ -12,8 +12,10 @@ use Rattle.lt_rewrite.specs.Labels.{transform_label, extension_label, extensions
 use Rattle.lt_rewrite.specs.Applying.{Answers, SwapLeads, UnicodeLeads, TransformLeads, ExtensionLeads, ExtensionsLeads, LeadsAt}
 use Rattle.lt_rewrite.specs.declared.steps.Step.{Step}
 use Rattle.lt_rewrite.specs.declared.steps.StepKind.TheVariants as steps
-use Rattle.lt_rewrite.proofs.CoreSettled.{round}
-use Rattle.lt_rewrite.proofs.CoreLeading.{kind_of, place_of, number_at, other_kind}
+use Rattle.lt_rewrite.proofs.Cuts.{round}
+use Rattle.lt_rewrite.specs.Runs.{rank_of, kind_rank}
+use Rattle.lt_rewrite.proofs.CoreSpots.{core_rank}
+use Rattle.lt_rewrite.proofs.CoreLeading.{kind_of, place_of, number_at}
 use Rattle.lt_rewrite.proofs.Cuts.{cut_at, cut_within}
 use Rattle.lt_rewrite.proofs.FoundParts.{one_unicode, one_transform}
 use Rattle.lt_rewrite.proofs.Proper.{step_shaped}
@@ -64,7 +66,7 @@ module _ (R : List EntryParts) (start : ℕ) (e : ExtensionParts) (step : Step) 
   swaps_inside k f (in_transform p q _ _ _ _ s) h = by p q s h
     where
       by : (p q : TForm) (s : TransformStep R p q) → transform_label R start s ≡ step → ⊥
-      by p q (on_source c d _ _ s _) h = other_kind R start c step d (λ m. cc) (λ m. cc) (λ m. cc) (λ m. cc) (λ m. cc) (λ m. cc) s h
+      by p q (on_source c d _ _ s _) h = omega (arith, (core_rank R start c d s).most, ap kind_rank h, ap rank_of k)
       by p q (on_fields a (by_swap before x y after s)) h = let m = kind_of _ step h ∙ k in cc
       by p q (on_fields a (by_drop before x between y after o s)) h = cc
 

@@ -9,10 +9,10 @@ use Rattle.lt_registry.specs.Parts.{EntryParts}
 use Rattle.lt_registry.specs.Entries.{IsRegistry}
 use Rattle.lt_registry.specs.Validity.{Distinct}
 use Rattle.lt_rewrite.specs.Rewriting.{Star, then, Rests}
-use Rattle.lt_rewrite.specs.CoreSteps.{values_of, CoreStep, by_extlang, by_language, by_script, by_region, by_variant, by_variant_language}
+use Rattle.lt_rewrite.proofs.CoreSpots.{OnSource, core_rank}
 use Rattle.lt_rewrite.specs.Orderings.{ListStep, by_swap, by_drop}
 use Rattle.lt_rewrite.specs.Extensions.{singleton_cmp, UnicodeStep, on_attributes, on_keywords, on_types, TransformStep, on_source, on_fields, ExtensionStep, in_unicode, in_transform, ExtensionsStep, inside, among}
-use Rattle.lt_rewrite.specs.Labels.{core_label, unicode_label, transform_label, extension_label, extensions_label}
+use Rattle.lt_rewrite.specs.Labels.{unicode_label, transform_label, extension_label, extensions_label}
 use Rattle.lt_rewrite.specs.Applying.{UnicodeLeads, TransformLeads, ExtensionLeads, ExtensionsLeads}
 use Rattle.lt_rewrite.specs.Runs.{kind_rank, extension_rank, IsNoLater, IsFirst, IsRun, Adds, AddsOnExtensions}
 use Rattle.lt_rewrite.specs.declared.steps.Step.{Step}
@@ -46,20 +46,6 @@ u_rank k p q (on_attributes (by_drop before a between b after o s) e) = record {
 u_rank k p q (on_keywords e (by_swap before a b after s)) = record { least = omega arith; most = omega arith; same = refl }
 u_rank k p q (on_keywords e (by_drop before a between b after o s)) = record { least = omega arith; most = omega arith; same = refl }
 u_rank k p q (on_types e before a after s) = record { least = omega arith; most = omega arith; same = refl }
-
--- on the source of t
-record OnSource (step : Step) : Type 0 where
-  some : 0 < kind_rank step
-  most : kind_rank step ≤ 6
-  raised : extension_rank step ≡ kind_rank step + 13
-
-core_rank : (R : List EntryParts) (k : ℕ) (c d : CoreParts) (s : CoreStep (values_of R) c d) → OnSource (core_label R k s)
-core_rank R k c d (by_extlang x s) = record { some = omega arith; most = omega arith; raised = refl }
-core_rank R k c d (by_language v s) = record { some = omega arith; most = omega arith; raised = refl }
-core_rank R k c d (by_script a v s) = record { some = omega arith; most = omega arith; raised = refl }
-core_rank R k c d (by_region a v s) = record { some = omega arith; most = omega arith; raised = refl }
-core_rank R k c d (by_variant before v w after s) = record { some = omega arith; most = omega arith; raised = refl }
-core_rank R k c d (by_variant_language before v m after s) = record { some = omega arith; most = omega arith; raised = refl }
 
 -- in t
 abbrev InT : Step → Type 0

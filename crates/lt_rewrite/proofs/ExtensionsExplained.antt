@@ -22,7 +22,7 @@ use Rattle.lt_rewrite.specs.declared.steps.StepKind.TheVariants as steps
 use Rattle.lt_rewrite.proofs.NormalForms.{star_keeps}
 use Rattle.lt_rewrite.proofs.FirstSteps.{adds_none, adds_all, run_lift}
 use Rattle.lt_rewrite.proofs.PartLists.{all_swapped, all_step, all_mapped, all_unmapped, all_middle, all_both, spelled_step, spelled_replaced}
-use Rattle.lt_rewrite.proofs.CoreSettled.{round}
+use Rattle.lt_rewrite.proofs.Cuts.{round}
 use Rattle.lt_rewrite.proofs.CoreLeading.{kind_of, place_of, number_at}
 use Rattle.lt_rewrite.proofs.UnicodeLeading.{from_swap}
 use Rattle.lt_rewrite.proofs.UnicodeForms.{u_step_length}

@@ -24,7 +24,7 @@ use Rattle.lt_rewrite.proofs.UnicodeForms.{u_shaped}
 use Rattle.lt_rewrite.proofs.TransformForms.{t_shaped}
 use Rattle.lt_rewrite.proofs.ExtensionShapes.{extension_step_singleton}
 use Rattle.lt_rewrite.proofs.FoundParts.{one_unicode, one_transform}
-use Rattle.lt_rewrite.proofs.CoreSettled.{round}
+use Rattle.lt_rewrite.proofs.Cuts.{round}
 
 -- the normal form of one extension
 

@@ -37,6 +37,8 @@ mod ChainWalks
 mod PlacedParts
 mod ValueForms
 mod CoreSettled
+mod CoreCases
+mod CoreSpots
 mod PlacedVariants
 mod FoundRows
 mod ExtensionSettled

@@ -1,25 +1,23 @@
 -- The kind and the place of a step determine its record and its result.
 use Rattle.std.proofs.Common.{◌≡◌, ◌≢◌, ℕ, ◌+◌, ◌≤◌, ◌<◌, Bool, true, false, Ordering, List, [], ◌∷◌, ◌++◌, Option, Some, refl, sym, ap, ◌∙◌, subst, length, map, append_assoc, length-append, arith}
-use Rattle.std.specs.Prelude.{option_to_list, flat_map}
+use Rattle.std.specs.Prelude.{flat_map}
 use Rattle.lt_tag.specs.Parts.{CoreParts, ExtensionParts, UForm, TForm, TagForm, LangTag}
 use Rattle.lt_tag.specs.Spelling.{spell_core, spell_extension, spell_extensions}
 use Rattle.lt_tag.specs.Extensions.{spell_keyword, spell_u, spell_field, spell_t, transform, unicode}
 use Rattle.lt_tag.proofs.PartsLaws.{u_unique, t_unique}
 use Rattle.lt_registry.specs.Parts.{EntryParts}
-use Rattle.lt_registry.specs.Entries.{entry, whole_value, number_of}
-use Rattle.lt_registry.specs.Faults.{before_variants}
+use Rattle.lt_registry.specs.Entries.{whole_value}
 use Rattle.lt_registry.specs.Validity.{Distinct, IsProperLangTag, HasProperParts}
-use Rattle.lt_registry.specs.declared.entries.Kind.TheVariants as kinds
-use Rattle.lt_rewrite.specs.CoreSteps.{values_of, CoreStep, by_extlang, by_language, by_script, by_region, by_variant, by_variant_language}
+use Rattle.lt_rewrite.specs.CoreSteps.{values_of, Spot, at_extlang, at_language, at_script, at_region, at_variant, at_variant_language, CoreStep}
 use Rattle.lt_rewrite.specs.Orderings.{ListStep, by_swap, by_drop}
 use Rattle.lt_rewrite.specs.Extensions.{text_cmp, key_cmp, separator_cmp, singleton_cmp, UnicodeStep, on_attributes, on_keywords, on_types, TransformStep, on_source, on_fields, ExtensionStep, in_unicode, in_transform, ExtensionsStep, inside, among}
 use Rattle.lt_rewrite.specs.TagSteps.{TagChange, on_core, on_extensions, on_whole}
-use Rattle.lt_rewrite.specs.Labels.{core_label, list_label, unicode_label, transform_label, extension_label, extensions_label, tag_label}
+use Rattle.lt_rewrite.specs.Labels.{kind_at, place_at, core_label, list_label, unicode_label, transform_label, extension_label, extensions_label, tag_label}
 use Rattle.lt_rewrite.specs.Laws.{StepsAreDetermined}
 use Rattle.lt_rewrite.specs.declared.steps.Step.{Step}
 use Rattle.lt_rewrite.specs.declared.steps.StepKind.{StepKind}
 use Rattle.lt_rewrite.specs.declared.steps.StepKind.TheVariants as steps
-use Rattle.lt_rewrite.proofs.CoreForm.{core}
+use Rattle.lt_rewrite.proofs.CoreSpots.{core_low, core_high, one_step}
 use Rattle.lt_rewrite.proofs.SameCuts.{SameCut, same_cut, same_flat, flat_length, distinct_cut}
 use Rattle.lt_tag.specs.Splitting.{spell_source}
 
@@ -37,48 +35,10 @@ same_some : {A : Type 0} (o : Option A) (a b : A) → o ≡ Some a → o ≡ Som
 same_some o a b e f = cc
 
 one_core_result : (R : List EntryParts) (start : ℕ) (c d e : CoreParts) (s : CoreStep (values_of R) c d) (u : CoreStep (values_of R) c e) → SameSpot (core_label R start s) (core_label R start u) → SameEnd (core_label R start s) (core_label R start u) d e
-one_core_result R start c d e (by_extlang x s) (by_extlang y u) h =
-    let k : x ≡ y = let a = s.one in let b = u.one in cc in
-    record {
-      number = ap (λ z. number_of (entry R kinds.Extlang z)) k;
-      result = s.result ∙ ap (λ z. core ((values_of R).replacement z) [] c.script c.region c.variants) k ∙ sym u.result;
-    }
-one_core_result R start c d e (by_language v s) (by_language w u) h =
-    record {
-      number = refl;
-      result = s.result ∙ ap (λ z. core z c.extlangs c.script c.region c.variants) (same_some ((values_of R).language c.language) v w s.has u.has) ∙ sym u.result;
-    }
-one_core_result R start c d e (by_script a v s) (by_script b w u) h =
-    let k : a ≡ b = same_some c.script a b s.there u.there in
-    record {
-      number = ap (λ z. number_of (entry R kinds.Script z)) k;
-      result = s.result ∙ ap (λ z. core c.language c.extlangs (Some z) c.region c.variants) (same_some ((values_of R).script a) v w s.has (ap (values_of R).script k ∙ u.has)) ∙ sym u.result;
-    }
-one_core_result R start c d e (by_region a v s) (by_region b w u) h =
-    let k : a ≡ b = same_some c.region a b s.there u.there in
-    record {
-      number = ap (λ z. number_of (entry R kinds.Region z)) k;
-      result = s.result ∙ ap (λ z. core c.language c.extlangs c.script (Some z) c.variants) (same_some ((values_of R).region a) v w s.has (ap (values_of R).region k ∙ u.has)) ∙ sym u.result;
-    }
-one_core_result R start c d e (by_variant before v w after s) (by_variant before' v' w' after' u) h =
-    let p : start + before_variants c + length before + 1 ≡ start + before_variants c + length before' + 1 = h.place in
-    let l : length before ≡ length before' = omega (arith, p) in
-    let k : SameCut before before' v v' after after' = same_cut before before' v v' after after' (sym s.there ∙ u.there) l in
-    let q : w ≡ w' = same_some ((values_of R).variant v) w w' s.has (ap (values_of R).variant k.at ∙ u.has) in
-    record {
-      number = ap (λ z. number_of (entry R kinds.Variant z)) k.at;
-      result = s.result ∙ (λ i. core c.language c.extlangs c.script c.region (k.front i ++ q i ∷ k.rest i)) ∙ sym u.result;
-    }
-one_core_result R start c d e (by_variant_language before v m after s) (by_variant_language before' v' m' after' u) h =
-    let p : start + before_variants c + length before + 1 ≡ start + before_variants c + length before' + 1 = h.place in
-    let l : length before ≡ length before' = omega (arith, p) in
-    let k : SameCut before before' v v' after after' = same_cut before before' v v' after after' (sym s.there ∙ u.there) l in
-    let q : m ≡ m' = same_some ((values_of R).variant_language c.language v) m m' s.has (ap ((values_of R).variant_language c.language) k.at ∙ u.has) in
-    record {
-      number = ap (λ z. number_of (entry R kinds.Variant z)) k.at;
-      result = s.result ∙ (λ i. core (q i) c.extlangs c.script c.region (k.front i ++ k.rest i)) ∙ sym u.result;
-    }
-one_core_result R start c d e s u h = let k = h.kind in record { number = cc; result = cc }
+one_core_result R start c d e s u h =
+    let p : start + place_at c s.spot ≡ start + place_at c u.spot = h.place in
+    let k = one_step R start c d e s u h.kind (omega (arith, p)) in
+    record { number = k.number; result = k.result }
 
 one_core_any : (R : List EntryParts) (start : ℕ) (c c' d d' : CoreParts) → c ≡ c' → (s : CoreStep (values_of R) c d) (u : CoreStep (values_of R) c' d') → SameSpot (core_label R start s) (core_label R start u) → SameEnd (core_label R start s) (core_label R start u) d d'
 one_core_any R start c c' d d' e s u h =
@@ -122,33 +82,17 @@ class steps.SwapExtensions = 5
 class steps.Whole = 6
 class _ = 0
 
-core_class : (R : List EntryParts) (start : ℕ) (c d : CoreParts) (s : CoreStep (values_of R) c d) → class (core_label R start s).kind ≡ 0
+spot_class : (spot : Spot) → class (kind_at spot) ≡ 0
 unfolding class
-core_class R start c d (by_extlang x s) = refl
-core_class R start c d (by_language v s) = refl
-core_class R start c d (by_script a v s) = refl
-core_class R start c d (by_region a v s) = refl
-core_class R start c d (by_variant before v w after s) = refl
-core_class R start c d (by_variant_language before v m after s) = refl
+spot_class at_extlang = refl
+spot_class at_language = refl
+spot_class at_script = refl
+spot_class at_region = refl
+spot_class (at_variant i) = refl
+spot_class (at_variant_language i) = refl
 
-core_low : (R : List EntryParts) (start : ℕ) (c d : CoreParts) (k : CoreStep (values_of R) c d) → start < (core_label R start k).place
-core_low R start c d (by_extlang x k) = omega arith
-core_low R start c d (by_language v k) = omega arith
-core_low R start c d (by_script a v k) = omega arith
-core_low R start c d (by_region a v k) = omega arith
-core_low R start c d (by_variant before v w after k) = omega arith
-core_low R start c d (by_variant_language before v m after k) = omega arith
-
-core_length : (c : CoreParts) → length (spell_core c) ≡ before_variants c + length c.variants
-core_length c = omega (arith, length-append c.extlangs (option_to_list c.script ++ (option_to_list c.region ++ c.variants)), length-append (option_to_list c.script) (option_to_list c.region ++ c.variants), length-append (option_to_list c.region) c.variants)
-
-pub core_high : (R : List EntryParts) (c d : CoreParts) (k : CoreStep (values_of R) c d) → (core_label R 0 k).place ≤ length (spell_core c)
-core_high R c d (by_extlang x k) = omega (arith, core_length c, ap length k.one)
-core_high R c d (by_language v k) = omega (arith, core_length c)
-core_high R c d (by_script a v k) = omega (arith, core_length c, ap (λ o. length (option_to_list o)) k.there)
-core_high R c d (by_region a v k) = omega (arith, core_length c, ap (λ o. length (option_to_list o)) k.there)
-core_high R c d (by_variant before v w after k) = omega (arith, core_length c, ap length k.there, length-append before (v ∷ after))
-core_high R c d (by_variant_language before v m after k) = omega (arith, core_length c, ap length k.there, length-append before (v ∷ after))
+core_class : (R : List EntryParts) (start : ℕ) (c d : CoreParts) (s : CoreStep (values_of R) c d) → class (core_label R start s).kind ≡ 0
+core_class R start c d s = spot_class s.spot
 
 list_class : {A : Type 0} {once : Bool} {cmp : A → A → Ordering} {xs ys : List A} (swap drop : StepKind) (k : ℕ) → class swap ≡ k → class drop ≡ k → (spell : A → List (List ℕ)) (start : ℕ) (s : ListStep once cmp xs ys) → class (list_label swap drop spell start s).kind ≡ k
 list_class swap drop k a b spell start (by_swap before x y after s) = a
@@ -381,14 +325,14 @@ one_result R t u v P (on_core c d es ps from _ s) (on_extensions c' es' fs ps' b
     let k = core_class R 0 c d s in
     let m = ap class h.kind in
     let l = (extensions_low R (length (spell_core c')) es' fs r).1 (sym m ∙ k) in
-    absurd (omega (arith, core_high R c d s, ap (λ x. length (spell_core x)) ec, l, h.place))
+    absurd (omega (arith, core_high R 0 c d s, ap (λ x. length (spell_core x)) ec, l, h.place))
 one_result R t u v P (on_extensions c' es' fs ps' from _ r) (on_core c d es ps begins _ s) h =
     let same : LangTag c es ps ≡ LangTag c' es' ps' = sym begins ∙ from in
     let ec : c ≡ c' = cc in
     let k = core_class R 0 c d s in
     let m = ap class h.kind in
     let l = (extensions_low R (length (spell_core c')) es' fs r).1 (m ∙ k) in
-    absurd (omega (arith, core_high R c d s, ap (λ x. length (spell_core x)) ec, l, h.place))
+    absurd (omega (arith, core_high R 0 c d s, ap (λ x. length (spell_core x)) ec, l, h.place))
 
 pub steps_determined : (R : List EntryParts) → StepsAreDetermined R
 steps_determined R t u v step other a b k p =

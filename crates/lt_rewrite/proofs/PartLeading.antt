@@ -6,8 +6,7 @@ use Rattle.std.proofs.lemmas.List.{take_at, take_more, get_or-take, get_or_read,
 use Rattle.std.proofs.lemmas.List.Edits.{swap_is}
 use Rattle.std.proofs.lemmas.Grind.{flat_map-append}
 use Rattle.lt_rewrite.specs.Applying.{IsPlaceOf, HasLike, SwapLeads, DropLeads}
-use Rattle.lt_rewrite.proofs.CoreSettled.{round}
-use Rattle.lt_rewrite.proofs.Cuts.{cut_at, cut_within}
+use Rattle.lt_rewrite.proofs.Cuts.{cut_at, cut_within, round}
 
 -- two neighbours before and after they change places
 record Neighbours {A : Type 0} (i : ℕ) (xs ys : List A) (x y : A) : Type 0 where

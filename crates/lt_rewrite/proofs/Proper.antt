@@ -16,7 +16,8 @@ use Rattle.lt_registry.specs.Entries.{is_registered, IsRegistry}
 use Rattle.lt_registry.specs.Validity.{ExtlangsFit, IsProperCore, Distinct}
 use Rattle.lt_registry.specs.declared.entries.Kind.TheVariants as kinds
 use Rattle.lt_tag.specs.WellFormed.{IsNotGrandfathered}
-use Rattle.lt_rewrite.specs.CoreSteps.{values_of, CoreStep, by_extlang, by_language, by_script, by_region, by_variant, by_variant_language}
+use Rattle.lt_rewrite.specs.CoreSteps.{values_of, CoreStep}
+use Rattle.lt_rewrite.proofs.CoreCases.{each_step}
 use Rattle.lt_rewrite.specs.Conditions.{HasFittingGrandfathered, second_entry, MeetsCoreConditions}
 use Rattle.lt_rewrite.specs.Laws.{StepsKeepProper, ProperCoresSpellNone}
 use Rattle.lt_rewrite.proofs.CoreLengths.{core_step_no_longer}
@@ -45,42 +46,46 @@ short_none l xs e n = let m = ap length e in absurd (omega (arith, m, n))
 
 -- a core step keeps the shape
 pub step_shaped : (R : List EntryParts) → IsRegistry R → (c d : CoreParts) → IsCore c → CoreStep (values_of R) c d → IsCore d
-step_shaped R G c d S (by_extlang x s) =
-    let shape : is_extlang x ≡ true = (and_parts (is_extlang x) true (ap (list_all is_extlang) (sym s.one) ∙ S.extlangs)).0 in
-    subst IsCore (sym s.result) (record { language = replacement_form R G x shape; extlangs = refl; up_to_three = omega arith; after_short = λ n. absurd (omega (arith, n)); script = S.script; region = S.region; variants = S.variants })
-step_shaped R G c d S (by_language v s) =
-    subst IsCore (sym s.result) (record { language = value_form R G kinds.Language c.language v s.has; extlangs = S.extlangs; up_to_three = S.up_to_three; after_short = short_none v c.extlangs s.alone; script = S.script; region = S.region; variants = S.variants })
-step_shaped R G c d S (by_script a v s) =
-    subst IsCore (sym s.result) (record { language = S.language; extlangs = S.extlangs; up_to_three = S.up_to_three; after_short = S.after_short; script = value_form R G kinds.Script a v s.has; region = S.region; variants = S.variants })
-step_shaped R G c d S (by_region a v s) =
-    subst IsCore (sym s.result) (record { language = S.language; extlangs = S.extlangs; up_to_three = S.up_to_three; after_short = S.after_short; script = S.script; region = value_form R G kinds.Region a v s.has; variants = S.variants })
-step_shaped R G c d S (by_variant before v w after s) =
-    subst IsCore (sym s.result) (record { language = S.language; extlangs = S.extlangs; up_to_three = S.up_to_three; after_short = S.after_short; script = S.script; region = S.region; variants = test_replaced is_variant before v w after (ap (list_all is_variant) (sym s.there) ∙ S.variants) (variant_value_form R G v w s.has) })
-step_shaped R G c d S (by_variant_language before v m after s) =
-    let t = (variant_language_is R c.language v m s.has).1 in
-    subst IsCore (sym s.result) (record { language = language_value_form R G v m t; extlangs = S.extlangs; up_to_three = S.up_to_three; after_short = short_none m c.extlangs s.alone; script = S.script; region = S.region; variants = test_without is_variant before v after (ap (list_all is_variant) (sym s.there) ∙ S.variants) })
+step_shaped R G c d S = each_step (values_of R) c IsCore (record {
+  extlang = λ x one.
+      let shape : is_extlang x ≡ true = (and_parts (is_extlang x) true (ap (list_all is_extlang) (sym one) ∙ S.extlangs)).0 in
+      record { language = replacement_form R G x shape; extlangs = refl; up_to_three = omega arith; after_short = λ n. absurd (omega (arith, n)); script = S.script; region = S.region; variants = S.variants };
+  language = λ v none has.
+      record { language = value_form R G kinds.Language c.language v has; extlangs = S.extlangs; up_to_three = S.up_to_three; after_short = short_none v c.extlangs none; script = S.script; region = S.region; variants = S.variants };
+  script = λ a v there has.
+      record { language = S.language; extlangs = S.extlangs; up_to_three = S.up_to_three; after_short = S.after_short; script = value_form R G kinds.Script a v has; region = S.region; variants = S.variants };
+  region = λ a v there has.
+      record { language = S.language; extlangs = S.extlangs; up_to_three = S.up_to_three; after_short = S.after_short; script = S.script; region = value_form R G kinds.Region a v has; variants = S.variants };
+  variant = λ before v w after there has.
+      record { language = S.language; extlangs = S.extlangs; up_to_three = S.up_to_three; after_short = S.after_short; script = S.script; region = S.region; variants = test_replaced is_variant before v w after (ap (list_all is_variant) (sym there) ∙ S.variants) (variant_value_form R G v w has) };
+  variant_language = λ before v m after none there has leftmost.
+      let t = (variant_language_is R c.language v m has).1 in
+      record { language = language_value_form R G v m t; extlangs = S.extlangs; up_to_three = S.up_to_three; after_short = short_none m c.extlangs none; script = S.script; region = S.region; variants = test_without is_variant before v after (ap (list_all is_variant) (sym there) ∙ S.variants) };
+}) d
 
 abbrev RegisteredVariant : List EntryParts → List ℕ → Type 0
 RegisteredVariant R v = is_registered R kinds.Variant v ≡ true
 
 -- a core step keeps the core proper
 pub step_proper : (R : List EntryParts) → MeetsCoreConditions R → (c d : CoreParts) → IsProperCore R c → CoreStep (values_of R) c d → IsProperCore R d
-step_proper R C c d P (by_extlang x s) =
-    let fit : ExtlangsFit R c.language (x ∷ []) = subst (ExtlangsFit R c.language) s.one P.extlangs in
-    subst (IsProperCore R) (sym s.result) (record { language = replacement_registered R C x fit.0; extlangs = tt; script = P.script; region = P.region; variants = P.variants })
-step_proper R C c d P (by_language v s) =
-    subst (IsProperCore R) (sym s.result) (record { language = value_registered R C kinds.Language c.language v refl s.has; extlangs = fit_none R v c.extlangs s.alone; script = P.script; region = P.region; variants = P.variants })
-step_proper R C c d P (by_script a v s) =
-    subst (IsProperCore R) (sym s.result) (record { language = P.language; extlangs = P.extlangs; script = value_registered R C kinds.Script a v refl s.has; region = P.region; variants = P.variants })
-step_proper R C c d P (by_region a v s) =
-    subst (IsProperCore R) (sym s.result) (record { language = P.language; extlangs = P.extlangs; script = P.script; region = value_registered R C kinds.Region a v refl s.has; variants = P.variants })
-step_proper R C c d P (by_variant before v w after s) =
-    let all = subst (AllByRecursion (RegisteredVariant R)) s.there P.variants in
-    subst (IsProperCore R) (sym s.result) (record { language = P.language; extlangs = P.extlangs; script = P.script; region = P.region; variants = all_replaced (RegisteredVariant R) before v w after all (variant_value_fits R C v w s.has).0 })
-step_proper R C c d P (by_variant_language before v m after s) =
-    let t = (variant_language_is R c.language v m s.has).1 in
-    let all = subst (AllByRecursion (RegisteredVariant R)) s.there P.variants in
-    subst (IsProperCore R) (sym s.result) (record { language = language_value_fits R C v m t; extlangs = fit_none R m c.extlangs s.alone; script = P.script; region = P.region; variants = all_without (RegisteredVariant R) before v after all })
+step_proper R C c d P = each_step (values_of R) c (IsProperCore R) (record {
+  extlang = λ x one.
+      let fit : ExtlangsFit R c.language (x ∷ []) = subst (ExtlangsFit R c.language) one P.extlangs in
+      record { language = replacement_registered R C x fit.0; extlangs = tt; script = P.script; region = P.region; variants = P.variants };
+  language = λ v none has.
+      record { language = value_registered R C kinds.Language c.language v refl has; extlangs = fit_none R v c.extlangs none; script = P.script; region = P.region; variants = P.variants };
+  script = λ a v there has.
+      record { language = P.language; extlangs = P.extlangs; script = value_registered R C kinds.Script a v refl has; region = P.region; variants = P.variants };
+  region = λ a v there has.
+      record { language = P.language; extlangs = P.extlangs; script = P.script; region = value_registered R C kinds.Region a v refl has; variants = P.variants };
+  variant = λ before v w after there has.
+      let all = subst (AllByRecursion (RegisteredVariant R)) there P.variants in
+      record { language = P.language; extlangs = P.extlangs; script = P.script; region = P.region; variants = all_replaced (RegisteredVariant R) before v w after all (variant_value_fits R C v w has).0 };
+  variant_language = λ before v m after none there has leftmost.
+      let t = (variant_language_is R c.language v m has).1 in
+      let all = subst (AllByRecursion (RegisteredVariant R)) there P.variants in
+      record { language = language_value_fits R C v m t; extlangs = fit_none R m c.extlangs none; script = P.script; region = P.region; variants = all_without (RegisteredVariant R) before v after all };
+}) d
 
 pub steps_keep_proper : (R : List EntryParts) → IsRegistry R → MeetsCoreConditions R → StepsKeepProper R
 steps_keep_proper R G C c d P s = record {

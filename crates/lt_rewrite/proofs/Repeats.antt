@@ -9,7 +9,8 @@ use Rattle.lt_tag.proofs.TagLemmas.{AllByRecursion-weaker}
 use Rattle.lt_registry.specs.Parts.{EntryParts}
 use Rattle.lt_registry.specs.Entries.{variant_value, language_value, replacement}
 use Rattle.lt_registry.specs.Validity.{Distinct}
-use Rattle.lt_rewrite.specs.CoreSteps.{values_of, CoreStep, by_extlang, by_language, by_script, by_region, by_variant, by_variant_language}
+use Rattle.lt_rewrite.specs.CoreSteps.{values_of, CoreStep}
+use Rattle.lt_rewrite.proofs.CoreCases.{each_step}
 use Rattle.lt_rewrite.specs.Conditions.{MeetsCoreConditions}
 use Rattle.lt_rewrite.proofs.Chains.{end_same, end_keeps}
 use Rattle.lt_rewrite.proofs.CoreForm.{pick, settled, form_on, form}
@@ -100,29 +101,26 @@ module _ (R : List EntryParts) (C : MeetsCoreConditions R) where
   filter_middle_in T before v after e =
       filter-append T before (v ∷ after) ∙ ap (λ l. filter T before ++ l) (filter_in T v after e)
 
-  along : (c d : CoreParts) → c.variants ≡ d.variants → VariantLanguagesOnce R c → VariantLanguagesOnce R d
-  along c d e h = subst (λ vs. Distinct (filter (has_variant_language R) vs)) e h
-
   -- core steps make no second variant with a language value
   pub variant_languages_once_kept : (c d : CoreParts) → CoreStep (values_of R) c d → VariantLanguagesOnce R c → VariantLanguagesOnce R d
-  variant_languages_once_kept c d (by_extlang x s) h = along c d (sym (ap (λ (x : CoreParts). x.variants) s.result)) h
-  variant_languages_once_kept c d (by_language v s) h = along c d (sym (ap (λ (x : CoreParts). x.variants) s.result)) h
-  variant_languages_once_kept c d (by_script a v s) h = along c d (sym (ap (λ (x : CoreParts). x.variants) s.result)) h
-  variant_languages_once_kept c d (by_region a v s) h = along c d (sym (ap (λ (x : CoreParts). x.variants) s.result)) h
-  variant_languages_once_kept c d (by_variant before v w after s) h =
-      let n = no_language R C v w s.has in
-      let e : filter (has_variant_language R) c.variants ≡ filter (has_variant_language R) d.variants =
-      ap (filter (has_variant_language R)) s.there
-      ∙ filter_middle_out (has_variant_language R) before v after (stays v n.0)
-      ∙ sym (filter_middle_out (has_variant_language R) before w after (stays w n.1))
-      ∙ sym (ap (λ (x : CoreParts). filter (has_variant_language R) x.variants) s.result) in
-      subst Distinct e h
-  variant_languages_once_kept c d (by_variant_language before v m after s) h =
-      let e : filter (has_variant_language R) c.variants ≡ filter (has_variant_language R) before ++ v ∷ filter (has_variant_language R) after =
-      ap (filter (has_variant_language R)) s.there ∙ filter_middle_in (has_variant_language R) before v after (some_variant_language c.language v m s.has) in
-      let f : filter (has_variant_language R) before ++ filter (has_variant_language R) after ≡ filter (has_variant_language R) d.variants =
-      sym (filter-append (has_variant_language R) before after) ∙ sym (ap (λ (x : CoreParts). filter (has_variant_language R) x.variants) s.result) in
-      subst Distinct f (distinct_without (filter (has_variant_language R) before) v (filter (has_variant_language R) after) (subst Distinct e h))
+  variant_languages_once_kept c = each_step (values_of R) c (λ d. VariantLanguagesOnce R c → VariantLanguagesOnce R d) (record {
+    extlang = λ x one h. h;
+    language = λ v none has h. h;
+    script = λ a v there has h. h;
+    region = λ a v there has h. h;
+    variant = λ before v w after there has h.
+        let n = no_language R C v w has in
+        let e : filter (has_variant_language R) c.variants ≡ filter (has_variant_language R) (before ++ w ∷ after) =
+        ap (filter (has_variant_language R)) there
+        ∙ filter_middle_out (has_variant_language R) before v after (stays v n.0)
+        ∙ sym (filter_middle_out (has_variant_language R) before w after (stays w n.1)) in
+        subst Distinct e h;
+    variant_language = λ before v m after none there has leftmost h.
+        let e : filter (has_variant_language R) c.variants ≡ filter (has_variant_language R) before ++ v ∷ filter (has_variant_language R) after =
+        ap (filter (has_variant_language R)) there ∙ filter_middle_in (has_variant_language R) before v after (some_variant_language c.language v m has) in
+        subst Distinct (sym (filter-append (has_variant_language R) before after))
+        (distinct_without (filter (has_variant_language R) before) v (filter (has_variant_language R) after) (subst Distinct e h));
+  })
 
   end_has_variant_language_at : (v : List ℕ) (o : Option (List ℕ)) → variant_value R v ≡ o → has_variant_language R ((settles R C).variant v) ≡ has_variant_language R v
   end_has_variant_language_at v None e = ap (has_variant_language R) (end_same (settles R C).variant_end v e)

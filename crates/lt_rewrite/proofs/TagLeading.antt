@@ -14,7 +14,9 @@ use Rattle.lt_rewrite.specs.Labels.{transform_label, extension_label, extensions
 use Rattle.lt_rewrite.specs.Applying.{Changes, CoreLeads, ExtensionsLeads, IsWholeValueBy, TagLeads}
 use Rattle.lt_rewrite.specs.declared.steps.Step.{Step}
 use Rattle.lt_rewrite.specs.declared.steps.StepKind.TheVariants as steps
-use Rattle.lt_rewrite.proofs.CoreLeading.{same_step, kind_of, place_of, number_at, other_kind}
+use Rattle.lt_rewrite.specs.Runs.{rank_of, kind_rank}
+use Rattle.lt_rewrite.proofs.CoreSpots.{core_rank}
+use Rattle.lt_rewrite.proofs.CoreLeading.{same_step, kind_of, place_of, number_at}
 use Rattle.lt_rewrite.proofs.OneStep.{one_labelled}
 use Rattle.lt_rewrite.proofs.PartLists.{length_step, length_replaced}
 use Rattle.lt_rewrite.proofs.UnicodeLeading.{unicode_other}
@@ -84,7 +86,7 @@ module _ (R : List EntryParts) (t : TagForm) (step : Step) where
   whole_inside k start e f (in_transform p q _ _ _ _ s) h = by p q s h
     where
       by : (p q : TForm) (s : TransformStep R p q) → transform_label R start s ≡ step → ⊥
-      by p q (on_source c d _ _ s _) h = other_kind R start c step d (λ m. cc) (λ m. cc) (λ m. cc) (λ m. cc) (λ m. cc) (λ m. cc) s h
+      by p q (on_source c d _ _ s _) h = omega (arith, (core_rank R start c d s).most, ap kind_rank h, ap rank_of k)
       by p q (on_fields a (by_swap before x y after s)) h = let m = kind_of _ step h ∙ k in cc
       by p q (on_fields a (by_drop before x between y after o s)) h = cc
 
@@ -99,7 +101,7 @@ module _ (R : List EntryParts) (t : TagForm) (step : Step) where
     pub value : IsWholeValueBy R t step.number u
 
   to_whole : step.kind ≡ steps.Whole → (u : TagForm) (s : TagChange R t u) → tag_label R s ≡ step → WholeLeads u
-  to_whole k u (on_core c d es ps _ _ s) h = absurd (other_kind R 0 c step d (λ m. cc) (λ m. cc) (λ m. cc) (λ m. cc) (λ m. cc) (λ m. cc) s h)
+  to_whole k u (on_core c d es ps _ _ s) h = absurd (omega (arith, (core_rank R 0 c d s).most, ap kind_rank h, ap rank_of k))
   to_whole k u (on_extensions c es fs ps _ _ s) h = absurd (whole_among k (length (spell_core c)) es fs s h)
   to_whole k u (on_whole is_plain valued) h = record { place = place_of _ step h; plain = is_plain; value = record { has = valued; by = number_at _ step h } }
 

@@ -6,13 +6,13 @@ use Rattle.lt_tag.specs.Extensions.{spell_field, IsT}
 use Rattle.lt_registry.specs.Parts.{EntryParts}
 use Rattle.lt_registry.specs.Entries.{IsRegistry}
 use Rattle.lt_rewrite.specs.Orderings.{by_swap, by_drop}
-use Rattle.lt_rewrite.specs.CoreSteps.{values_of, CoreStep, by_extlang, by_language, by_script, by_region, by_variant, by_variant_language}
 use Rattle.lt_rewrite.specs.Extensions.{separator_cmp, TransformStep, on_source, on_fields}
-use Rattle.lt_rewrite.specs.Labels.{core_label, transform_label}
+use Rattle.lt_rewrite.specs.Labels.{transform_label}
 use Rattle.lt_rewrite.specs.Applying.{CoreLeads, TransformLeads}
 use Rattle.lt_rewrite.specs.Runs.{rank_of, kind_rank, IsNoLater, IsFirst, NoneLeads, SwapsBy, Adds, AddsOnCore, AddsOnTransform}
 use Rattle.lt_rewrite.specs.declared.steps.Step.{Step}
 use Rattle.lt_rewrite.specs.declared.steps.StepKind.TheVariants as steps
+use Rattle.lt_rewrite.proofs.CoreSpots.{core_rank}
 use Rattle.lt_rewrite.proofs.CoreLeading.{kind_of, place_of, number_at}
 use Rattle.lt_rewrite.proofs.UnicodeLeading.{from_swap}
 use Rattle.lt_rewrite.proofs.Proper.{step_shaped}
@@ -23,15 +23,6 @@ use Rattle.lt_tag.specs.Splitting.{spell_source}
 
 abbrev pub t_parts : Option CoreParts → List FieldParts → TForm
 t_parts source fields = record { source = source; fields = fields }
-
--- the kinds of steps on a core come before those on fields
-core_rank : (R : List EntryParts) (start : ℕ) (c d : CoreParts) (step : Step) (s : CoreStep (values_of R) c d) → core_label R start s ≡ step → kind_rank step < 20
-core_rank R start c d step (by_extlang x s) h = omega (arith, ap kind_rank h)
-core_rank R start c d step (by_language v s) h = omega (arith, ap kind_rank h)
-core_rank R start c d step (by_script a v s) h = omega (arith, ap kind_rank h)
-core_rank R start c d step (by_region a v s) h = omega (arith, ap kind_rank h)
-core_rank R start c d step (by_variant before v w after s) h = omega (arith, ap kind_rank h)
-core_rank R start c d step (by_variant_language before v m after s) h = omega (arith, ap kind_rank h)
 
 -- no step leads on from the source, if there is one
 abbrev pub IsSourceAtRest : List EntryParts → ℕ → Option CoreParts → Type 0
@@ -69,7 +60,7 @@ module _ (R : List EntryParts) (start : ℕ) (p : TForm) where
       let same : b ≡ c = let f = from in cc in
       h.first other a (subst (λ x. CoreLeads R start x other a) same (s, k))
   source_no_later c d step e h other q (on_fields f (by_swap before a b after s)) k =
-      inl (omega (arith, core_rank R start c d step h.leads.0 h.leads.1, ap kind_rank k))
+      inl (omega (arith, (core_rank R start c d h.leads.0).most, ap kind_rank h.leads.1, ap kind_rank k))
   source_no_later c d step e h other q (on_fields f (by_drop before a between b after o s)) k = cc
 
   pub source_first : (c d : CoreParts) (step : Step) → p.source ≡ Some c → IsFirst (CoreLeads R start c) kind_rank step d → IsFirst (TransformLeads R start p) kind_rank step (t_parts (Some d) p.fields)

@@ -1,5 +1,5 @@
 -- What a step of a kind is on the parts of a t extension.
-use Rattle.std.proofs.Common.{◌≡◌, ◌≢◌, ℕ, ◌+◌, Bool, false, List, Some, None, refl, sym, subst, length}
+use Rattle.std.proofs.Common.{◌≡◌, ◌≢◌, ℕ, ◌+◌, Bool, false, List, Some, None, refl, sym, ap, subst, length, arith}
 use Rattle.lt_tag.specs.Parts.{CoreParts, FieldParts, TForm}
 use Rattle.lt_tag.specs.Extensions.{spell_field}
 use Rattle.lt_registry.specs.Parts.{EntryParts}
@@ -10,13 +10,15 @@ use Rattle.lt_rewrite.specs.Labels.{core_label, transform_label}
 use Rattle.lt_rewrite.specs.Applying.{Answers, SwapLeads, CoreLeads, TransformLeads}
 use Rattle.lt_rewrite.specs.declared.steps.Step.{Step}
 use Rattle.lt_rewrite.specs.declared.steps.StepKind.TheVariants as steps
-use Rattle.lt_rewrite.proofs.CoreLeading.{kind_of, place_of, number_at, other_kind}
+use Rattle.lt_rewrite.specs.Runs.{rank_of, kind_rank}
+use Rattle.lt_rewrite.proofs.CoreSpots.{core_rank}
+use Rattle.lt_rewrite.proofs.CoreLeading.{kind_of, place_of, number_at}
 use Rattle.lt_rewrite.proofs.UnicodeLeading.{answers_by, from_swap}
 use Rattle.lt_tag.specs.Splitting.{spell_source}
 
 module _ (R : List EntryParts) (start : ℕ) (p : TForm) (step : Step) where
   no_core : step.kind ≡ steps.SwapFields → (c d : CoreParts) (s : CoreStep (values_of R) c d) → core_label R start s ≡ step → ⊥
-  no_core k c d s h = other_kind R start c step d (λ e. cc) (λ e. cc) (λ e. cc) (λ e. cc) (λ e. cc) (λ e. cc) s h
+  no_core k c d s h = omega (arith, (core_rank R start c d s).most, ap kind_rank h, ap rank_of k)
 
   abbrev FieldsLead : List FieldParts → Type 0
   FieldsLead = SwapLeads separator_cmp spell_field (start + length (spell_source p.source)) step.place p.fields

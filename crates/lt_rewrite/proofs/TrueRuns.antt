@@ -8,9 +8,8 @@ use Rattle.lt_rewrite.specs.Applying.{TrueLeads}
 use Rattle.lt_rewrite.specs.Runs.{NoneLeads, DropsTrueBy, Adds}
 use Rattle.lt_rewrite.specs.declared.steps.Step.{Step}
 use Rattle.lt_rewrite.specs.declared.steps.StepKind.TheVariants as steps
-use Rattle.lt_rewrite.proofs.CoreSettled.{round}
 use Rattle.lt_rewrite.proofs.PartLists.{spelled_replaced}
-use Rattle.lt_rewrite.proofs.Cuts.{cut_at, cut_within}
+use Rattle.lt_rewrite.proofs.Cuts.{cut_at, cut_within, round}
 use Rattle.lt_rewrite.proofs.PartLeading.{flat_more}
 use Rattle.lt_rewrite.proofs.UnicodeLeading.{true_led}
 use Rattle.lt_rewrite.proofs.FirstSteps.{adds_none, adds_more}

@@ -11,9 +11,8 @@ use Rattle.lt_rewrite.specs.Applying.{Answers, IsPlaceOf, SwapLeads, DropLeads, 
 use Rattle.lt_rewrite.specs.declared.steps.Step.{Step}
 use Rattle.lt_rewrite.specs.declared.steps.StepKind.{StepKind}
 use Rattle.lt_rewrite.specs.declared.steps.StepKind.TheVariants as steps
-use Rattle.lt_rewrite.proofs.CoreSettled.{round}
 use Rattle.lt_rewrite.proofs.CoreLeading.{same_step, kind_of, place_of, number_at}
-use Rattle.lt_rewrite.proofs.Cuts.{cut_at, cut_within}
+use Rattle.lt_rewrite.proofs.Cuts.{cut_at, cut_within, round}
 use Rattle.lt_rewrite.proofs.PartLeading.{same_front}
 
 -- one answer from another

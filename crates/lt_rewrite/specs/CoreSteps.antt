@@ -1,7 +1,7 @@
 -- The replacement steps on a core (RFC 5646, 4.5), over what a registry says of its subtags.
-use Rattle.std.specs.Prelude.{ℕ, ◌≡◌, zero, suc, if◌then◌else◌, List, [], ◌∷◌, ◌++◌, Option, Some, None}
+use Rattle.std.specs.Prelude.{ℕ, ◌≡◌, zero, suc, nat_eq, if◌then◌else◌, List, [], length, take, slice_get, slice_set, Option, Some, None, is_none}
 use Rattle.std.specs.Option.{option_map_or}
-use Rattle.std.specs.List.{AllByRecursion}
+use Rattle.std.specs.List.{list_all, remove}
 use Rattle.lt_tag.specs.Parts.{CoreParts}
 use Rattle.lt_registry.specs.Parts.{EntryParts}
 use Rattle.lt_registry.specs.Entries.{preferred_value, variant_value, language_value, replacement, prefixes, has_prefix}
@@ -29,56 +29,55 @@ values_of R = record {
   variant_language = λ l v. if has_prefix (prefixes R kinds.Variant v) l then language_value R v else None;
 }
 
--- the one extlang's replacement becomes the language (RFC 5646, 4.5, rule 3)
-pub record ExtlangStep (V : Values) (c : CoreParts) (x : List ℕ) (d : CoreParts) : Type 0 where
-  pub one : c.extlangs ≡ x ∷ []
-  pub result : d ≡ record c { language = V.replacement x; extlangs = [] }
+-- where a core step is taken; a variant by its index, counted from 0
+pub data Spot : Type 0 where
+  at_extlang : Spot
+  at_language : Spot
+  at_script : Spot
+  at_region : Spot
+  at_variant : ℕ → Spot
+  -- a variant that is dropped, and whose preferred value takes the place of the language
+  at_variant_language : ℕ → Spot
 
--- a language without extlangs is replaced by its preferred value (RFC 5646, 4.5, rule 3)
-pub record LanguageStep (V : Values) (c : CoreParts) (v : List ℕ) (d : CoreParts) : Type 0 where
-  pub alone : c.extlangs ≡ []
-  pub has : V.language c.language ≡ Some v
-  pub result : d ≡ record c { language = v }
+-- the subtag there (RFC 5646, 4.5, rule 3): the one extlang; the language, where there are no extlangs, and only there a
+-- variant's value takes its place
+abbrev pub subtag_at : CoreParts → Spot → Option (List ℕ)
+subtag_at c at_extlang = if nat_eq (length c.extlangs) 1 then slice_get c.extlangs 0 else None
+subtag_at c at_language = if nat_eq (length c.extlangs) 0 then Some c.language else None
+subtag_at c at_script = c.script
+subtag_at c at_region = c.region
+subtag_at c (at_variant i) = slice_get c.variants i
+subtag_at c (at_variant_language i) = if nat_eq (length c.extlangs) 0 then slice_get c.variants i else None
 
--- a script is replaced by its preferred value (RFC 5646, 4.5, rule 3)
-pub record ScriptStep (V : Values) (c : CoreParts) (s v : List ℕ) (d : CoreParts) : Type 0 where
-  pub there : c.script ≡ Some s
-  pub has : V.script s ≡ Some v
-  pub result : d ≡ record c { script = Some v }
+-- its value (RFC 5646, 4.5, rule 3); of several variants whose value takes the place of the language, which is one of
+-- their Prefixes, the leftmost has it (this project's own)
+abbrev pub value_at : Values → CoreParts → Spot → List ℕ → Option (List ℕ)
+value_at V c at_extlang s = Some (V.replacement s)
+value_at V c at_language s = V.language s
+value_at V c at_script s = V.script s
+value_at V c at_region s = V.region s
+value_at V c (at_variant i) s = V.variant s
+value_at V c (at_variant_language i) s =
+    let f = V.variant_language c.language in if list_all (λ v. is_none (f v)) (take i c.variants) then f s else None
 
--- a region is replaced by its preferred value (RFC 5646, 4.5, rule 3)
-pub record RegionStep (V : Values) (c : CoreParts) (s v : List ℕ) (d : CoreParts) : Type 0 where
-  pub there : c.region ≡ Some s
-  pub has : V.region s ≡ Some v
-  pub result : d ≡ record c { region = Some v }
-
--- a variant is replaced in its place (RFC 5646, 4.5, rule 3)
-pub record VariantStep (V : Values) (c : CoreParts) (before : List (List ℕ)) (v w : List ℕ) (after : List (List ℕ))
-    (d : CoreParts) : Type 0 where
-  pub there : c.variants ≡ before ++ v ∷ after
-  pub has : V.variant v ≡ Some w
-  pub result : d ≡ record c { variants = before ++ w ∷ after }
-
--- A variant is dropped, and its preferred value takes the place of the language, which is one of its Prefixes; of
--- several such variants the leftmost (this project's own).
-pub record VariantLanguageStep (V : Values) (c : CoreParts) (before : List (List ℕ)) (v m : List ℕ)
-    (after : List (List ℕ)) (d : CoreParts) : Type 0 where
-  pub alone : c.extlangs ≡ []
-  pub there : c.variants ≡ before ++ v ∷ after
-  pub has : V.variant_language c.language v ≡ Some m
-  pub leftmost : AllByRecursion (λ u. V.variant_language c.language u ≡ None) before
-  pub result : d ≡ record c { language = m; variants = before ++ after }
+-- the core with the value: an extlang's and such a variant's as its language, any other in its place (RFC 5646, 4.5,
+-- rule 3)
+abbrev pub replaced : CoreParts → Spot → List ℕ → CoreParts
+replaced c at_extlang v = record c { language = v; extlangs = [] }
+replaced c at_language v = record c { language = v }
+replaced c at_script v = record c { script = Some v }
+replaced c at_region v = record c { region = Some v }
+replaced c (at_variant i) v = record c { variants = slice_set c.variants i v }
+replaced c (at_variant_language i) v = record c { language = v; variants = remove c.variants i }
 
 -- one kind of replacement at one place (RFC 5646, 4.5, rule 3)
-pub data CoreStep (V : Values) (c d : CoreParts) : Type 0 where
-  by_extlang : (x : List ℕ) → ExtlangStep V c x d → CoreStep V c d
-  by_language : (v : List ℕ) → LanguageStep V c v d → CoreStep V c d
-  by_script : (s v : List ℕ) → ScriptStep V c s v d → CoreStep V c d
-  by_region : (s v : List ℕ) → RegionStep V c s v d → CoreStep V c d
-  by_variant : (before : List (List ℕ)) (v w : List ℕ) (after : List (List ℕ)) → VariantStep V c before v w after d →
-      CoreStep V c d
-  by_variant_language : (before : List (List ℕ)) (v m : List ℕ) (after : List (List ℕ)) →
-      VariantLanguageStep V c before v m after d → CoreStep V c d
+pub record CoreStep (V : Values) (c d : CoreParts) : Type 0 where
+  pub spot : Spot
+  pub subtag : List ℕ
+  pub there : subtag_at c spot ≡ Some subtag
+  pub value : List ℕ
+  pub has : value_at V c spot subtag ≡ Some value
+  pub result : d ≡ replaced c spot value
 
 -- core steps reach d, and none leads from it (RFC 5646, 4.5)
 abbrev pub IsCoreNormalForm : Values → CoreParts → CoreParts → Type 0

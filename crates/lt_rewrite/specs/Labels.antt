@@ -7,8 +7,9 @@ use Rattle.lt_tag.specs.Extensions.{spell_keyword, spell_field}
 use Rattle.lt_registry.specs.Parts.{EntryParts}
 use Rattle.lt_registry.specs.Entries.{entry, whole, number_of}
 use Rattle.lt_registry.specs.Faults.{before_script, before_region, before_variants}
+use Rattle.lt_registry.specs.declared.entries.Kind.{Kind}
 use Rattle.lt_registry.specs.declared.entries.Kind.TheVariants as kinds
-use Rattle.lt_rewrite.specs.CoreSteps.{values_of, CoreStep, by_extlang, by_language, by_script, by_region, by_variant, by_variant_language}
+use Rattle.lt_rewrite.specs.CoreSteps.{values_of, Spot, at_extlang, at_language, at_script, at_region, at_variant, at_variant_language, CoreStep}
 use Rattle.lt_rewrite.specs.Orderings.{ListStep, by_swap, by_drop}
 use Rattle.lt_rewrite.specs.Extensions.{UnicodeStep, on_attributes, on_keywords, on_types, TransformStep, on_source, on_fields, ExtensionStep, in_unicode, in_transform, ExtensionsStep, inside, among}
 use Rattle.lt_rewrite.specs.TagSteps.{TagChange, on_core, on_extensions, on_whole, TagStep}
@@ -21,19 +22,37 @@ use Rattle.lt_tag.specs.Splitting.{spell_source}
 abbrev pub step_at : StepKind → ℕ → ℕ → Step
 step_at kind place number = record { kind = kind; place = place; number = number }
 
+-- the kind of a core step at a spot
+abbrev pub kind_at : Spot → StepKind
+kind_at at_extlang = steps.Extlang
+kind_at at_language = steps.Language
+kind_at at_script = steps.Script
+kind_at at_region = steps.Region
+kind_at (at_variant i) = steps.Variant
+kind_at (at_variant_language i) = steps.VariantLanguage
+
+-- the kind of the subtag there
+abbrev pub subtag_kind_at : Spot → Kind
+subtag_kind_at at_extlang = kinds.Extlang
+subtag_kind_at at_language = kinds.Language
+subtag_kind_at at_script = kinds.Script
+subtag_kind_at at_region = kinds.Region
+subtag_kind_at (at_variant i) = kinds.Variant
+subtag_kind_at (at_variant_language i) = kinds.Variant
+
+-- its place in the core
+abbrev pub place_at : CoreParts → Spot → ℕ
+place_at c at_extlang = 2
+place_at c at_language = 1
+place_at c at_script = before_script c + 1
+place_at c at_region = before_region c + 1
+place_at c (at_variant i) = before_variants c + i + 1
+place_at c (at_variant_language i) = before_variants c + i + 1
+
 -- of a core that begins after this many subtags
 abbrev pub core_label : (R : List EntryParts) (start : ℕ) {c d : CoreParts} → CoreStep (values_of R) c d → Step
-core_label R start {c} (by_extlang x s) = step_at steps.Extlang (start + 2) (number_of (entry R kinds.Extlang x))
-core_label R start {c} (by_language v s) =
-    step_at steps.Language (start + 1) (number_of (entry R kinds.Language c.language))
-core_label R start {c} (by_script a v s) =
-    step_at steps.Script (start + before_script c + 1) (number_of (entry R kinds.Script a))
-core_label R start {c} (by_region a v s) =
-    step_at steps.Region (start + before_region c + 1) (number_of (entry R kinds.Region a))
-core_label R start {c} (by_variant before v w after s) =
-    step_at steps.Variant (start + before_variants c + length before + 1) (number_of (entry R kinds.Variant v))
-core_label R start {c} (by_variant_language before v m after s) =
-    step_at steps.VariantLanguage (start + before_variants c + length before + 1) (number_of (entry R kinds.Variant v))
+core_label R start {c} s =
+    step_at (kind_at s.spot) (start + place_at c s.spot) (number_of (entry R (subtag_kind_at s.spot) s.subtag))
 
 -- of a list of parts that begins after this many subtags: the kinds of a swap and of a drop, and the subtags of a part
 abbrev pub list_label : {A : Type 0} {once : Bool} {cmp : A → A → Ordering} {xs ys : List A}

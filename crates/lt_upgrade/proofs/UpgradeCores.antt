@@ -25,8 +25,8 @@ use Rattle.lt_rewrite.proofs.Entries.{same_kind_itself, IsEntryOf, entry_has, pr
 use Rattle.lt_rewrite.proofs.Forms.{registered_entry, ExtlangEntry, extlang_entry, replacement_at}
 use Rattle.lt_upgrade.specs.Upgrade.{StaysRegistered, IsCovered, IsSameExtlang, KeepsExtlang, Upgrades, SameEnd, KeepsKind, KeepsEnds, IsSameVariantLanguage, KeepsVariantLanguage, HadVariantLanguage}
 use Rattle.lt_upgrade.specs.declared.conditions.UpgradeCondition.TheVariants as upgrades
-use Rattle.lt_rewrite.specs.CoreSteps.{values_of, CoreStep, by_extlang, by_language, by_script, by_region, by_variant, by_variant_language}
-use Rattle.lt_rewrite.proofs.CoreLaws.{normal_core, cores_formed, one_end_one_form}
+use Rattle.lt_rewrite.specs.CoreSteps.{values_of, CoreStep}
+use Rattle.lt_rewrite.proofs.CoreLaws.{normal_core, cores_formed, one_end_one_form, each_step, by_extlang, by_language, by_script, by_region, by_variant, by_variant_language}
 use Rattle.lt_check.specs.Conditions.{IsChecked}
 use Rattle.lt_check.proofs.Checks.{core_conditions}
 
@@ -151,7 +151,7 @@ module _ (A B : List EntryParts) (CA : IsChecked A) (CB : IsChecked B) (U : Upgr
   one_end f at step s t h = one_end_one_form B (core_conditions B CB.passes) f at step s t h.end h.left h.right
 
   language_same : (c : CoreParts) (a b : List ℕ) → SameEnd (preferred_value B kinds.Language) a b → c.extlangs ≡ [] → new_form (record c { language = a }) ≡ new_form (record c { language = b })
-  language_same c a b h alone = one_end (preferred_value B kinds.Language) (λ u. record c { language = u }) (λ s t e. by_language t (record { alone = alone; has = e; result = refl })) a b h
+  language_same c a b h alone = one_end (preferred_value B kinds.Language) (λ u. record c { language = u }) (λ s t e. by_language (values_of B) (record c { language = s }) t alone e) a b h
 
   same_variant_language : (v m : List ℕ) → language_value A v ≡ Some m → (n : ValuedEntry A kinds.Variant v m) → IsSameVariantLanguage B n.at v m
   same_variant_language v m h n =
@@ -204,37 +204,32 @@ module _ (A B : List EntryParts) (CA : IsChecked A) (CB : IsChecked B) (U : Upgr
 
   -- an old core step keeps the new core normal form
   pub old_core_step : (c d : CoreParts) → IsProperCore A c → CoreStep (values_of A) c d → new_form c ≡ new_form d
-  old_core_step c d P (by_extlang x s) =
-      let fit : ExtlangsFit A c.language (x ∷ []) = subst (ExtlangsFit A c.language) s.one P.extlangs in
-      let en : ExtlangEntry A x = extlang_entry A (core_conditions A CA.passes) x fit.0 in
-      let k : IsSameExtlang B en.at x = same_extlang A B (core_conditions A CA.passes) U x en in
-      let to : replacement A x ≡ unwrap_or (one_of en.at.value) x = replacement_at A x en.at en.found in
-      let from : replacement B x ≡ unwrap_or (one_of k.newer.value) x = replacement_at B x k.newer k.there in
-      let mid : CoreParts = record c { language = replacement B x; extlangs = [] } in
-      new_step c mid (by_extlang x (record { one = s.one; result = refl }))
-      ∙ ap (λ u. new_form (record c { language = u; extlangs = [] })) from
-      ∙ sym (language_same (record c { extlangs = [] }) (unwrap_or (one_of en.at.value) x) (unwrap_or (one_of k.newer.value) x) k.ends refl)
-      ∙ ap (λ u. new_form (record c { language = u; extlangs = [] })) (sym to)
-      ∙ sym (ap new_form s.result)
-  old_core_step c d P (by_language v s) =
-      language_same c c.language v (value_same kinds.Language c.language v tt s.has) s.alone ∙ sym (ap new_form s.result)
-  old_core_step c d P (by_script a v s) =
-      ap (λ o. new_form (record c { script = o })) s.there
-      ∙ one_end (preferred_value B kinds.Script) (λ u. record c { script = Some u }) (λ s t e. by_script s t (record { there = refl; has = e; result = refl })) a v (value_same kinds.Script a v tt s.has)
-      ∙ sym (ap new_form s.result)
-  old_core_step c d P (by_region a v s) =
-      ap (λ o. new_form (record c { region = o })) s.there
-      ∙ one_end (preferred_value B kinds.Region) (λ u. record c { region = Some u }) (λ s t e. by_region s t (record { there = refl; has = e; result = refl })) a v (value_same kinds.Region a v tt s.has)
-      ∙ sym (ap new_form s.result)
-  old_core_step c d P (by_variant before v w after s) =
-      let p = variant_value_is A v w s.has in
-      ap (λ vs. new_form (record c { variants = vs })) s.there
-      ∙ one_end (variant_value B) (λ u. record c { variants = before ++ u ∷ after }) (λ s t e. by_variant before s t after (record { there = refl; has = e; result = refl })) v w (value_same kinds.Variant v w p.1 p.0)
-      ∙ sym (ap new_form s.result)
-  old_core_step c d P (by_variant_language before v m after s) =
-      let k = variant_language_both c.language v m s.has in
-      let r : AllByRecursion (λ v. is_registered A kinds.Variant v ≡ true) (before ++ v ∷ after) = subst (AllByRecursion (λ v. is_registered A kinds.Variant v ≡ true)) s.there P.variants in
-      let left : CoreParts = record c { variants = before ++ after } in
-      new_step c (record left { language = k.0 }) (by_variant_language before v k.0 after (record { alone = s.alone; there = s.there; has = k.1; leftmost = variant_languages_back c.language before (v ∷ after) r s.leftmost; result = refl }))
-      ∙ sym (language_same left m k.0 k.2 s.alone)
-      ∙ sym (ap new_form s.result)
+  old_core_step c d P = each_step (values_of A) c (λ d. new_form c ≡ new_form d) (record {
+    extlang = λ x one.
+        let fit : ExtlangsFit A c.language (x ∷ []) = subst (ExtlangsFit A c.language) one P.extlangs in
+        let en : ExtlangEntry A x = extlang_entry A (core_conditions A CA.passes) x fit.0 in
+        let k : IsSameExtlang B en.at x = same_extlang A B (core_conditions A CA.passes) U x en in
+        let to : replacement A x ≡ unwrap_or (one_of en.at.value) x = replacement_at A x en.at en.found in
+        let from : replacement B x ≡ unwrap_or (one_of k.newer.value) x = replacement_at B x k.newer k.there in
+        new_step c (record c { language = replacement B x; extlangs = [] }) (by_extlang (values_of B) c x one)
+        ∙ ap (λ u. new_form (record c { language = u; extlangs = [] })) from
+        ∙ sym (language_same (record c { extlangs = [] }) (unwrap_or (one_of en.at.value) x) (unwrap_or (one_of k.newer.value) x) k.ends refl)
+        ∙ ap (λ u. new_form (record c { language = u; extlangs = [] })) (sym to);
+    language = λ v none has. language_same c c.language v (value_same kinds.Language c.language v tt has) none;
+    script = λ a v there has.
+        ap (λ o. new_form (record c { script = o })) there
+        ∙ one_end (preferred_value B kinds.Script) (λ u. record c { script = Some u }) (λ s t e. by_script (values_of B) (record c { script = Some s }) s t refl e) a v (value_same kinds.Script a v tt has);
+    region = λ a v there has.
+        ap (λ o. new_form (record c { region = o })) there
+        ∙ one_end (preferred_value B kinds.Region) (λ u. record c { region = Some u }) (λ s t e. by_region (values_of B) (record c { region = Some s }) s t refl e) a v (value_same kinds.Region a v tt has);
+    variant = λ before v w after there has.
+        let p = variant_value_is A v w has in
+        ap (λ vs. new_form (record c { variants = vs })) there
+        ∙ one_end (variant_value B) (λ u. record c { variants = before ++ u ∷ after }) (λ s t e. by_variant (values_of B) (record c { variants = before ++ s ∷ after }) before s t after refl e) v w (value_same kinds.Variant v w p.1 p.0);
+    variant_language = λ before v m after none there has leftmost.
+        let k = variant_language_both c.language v m has in
+        let r : AllByRecursion (λ v. is_registered A kinds.Variant v ≡ true) (before ++ v ∷ after) = subst (AllByRecursion (λ v. is_registered A kinds.Variant v ≡ true)) there P.variants in
+        let left : CoreParts = record c { variants = before ++ after } in
+        new_step c (record left { language = k.0 }) (by_variant_language (values_of B) c before v k.0 after none there k.1 (variant_languages_back c.language before (v ∷ after) r leftmost))
+        ∙ sym (language_same left m k.0 k.2 none);
+  }) d

@@ -9,8 +9,8 @@ use Rattle.lt_registry.specs.Entries.{entry, is_whole, number_of, whole}
 use Rattle.lt_registry.specs.Parts.{EntryParts}
 use Rattle.lt_registry.specs.declared.entries.Kind.{Kind}
 use Rattle.lt_rewrite.proofs.Entries.{entry_has, find_has}
-use Rattle.lt_rewrite.proofs.StepLaws.{few_subtags, fits}
-use Rattle.lt_rewrite.specs.CoreSteps.{CoreStep, by_extlang, by_language, by_region, by_script, by_variant_language, by_variant, values_of}
+use Rattle.lt_rewrite.proofs.StepLaws.{core_high, few_subtags, fits}
+use Rattle.lt_rewrite.specs.CoreSteps.{CoreStep, values_of}
 use Rattle.lt_rewrite.specs.Extensions.{ExtensionStep, ExtensionsStep, TransformStep, UnicodeStep, among, in_transform, in_unicode, inside, on_attributes, on_fields, on_keywords, on_source, on_types}
 use Rattle.lt_rewrite.specs.Labels.{LeadsBy, core_label, extension_label, extensions_label, list_label, tag_label, transform_label, unicode_label}
 use Rattle.lt_rewrite.specs.Orderings.{ListStep, by_drop, by_swap}
@@ -69,14 +69,7 @@ list_fits xs ys swap drop spell start some (by_drop before a between b after o s
 
 module _ (R : List EntryParts) (all : NumbersFit R) where
   core_fits : (start : ℕ) (c d : CoreParts) (s : CoreStep (values_of R) c d) → Fits (core_label R start s) (start + length (spell_core c))
-  core_fits start c d (by_extlang x s) = record { place = omega (arith, core_length c, ap length s.one); number = entry_fits R all _ x }
-  core_fits start c d (by_language v s) = record { place = omega (arith, core_length c); number = entry_fits R all _ c.language }
-  core_fits start c d (by_script a v s) = record { place = omega (arith, core_length c, ap (λ o. length (option_to_list o)) s.there); number = entry_fits R all _ a }
-  core_fits start c d (by_region a v s) = record { place = omega (arith, core_length c, ap (λ o. length (option_to_list o)) s.there); number = entry_fits R all _ a }
-  core_fits start c d (by_variant before v w after s) =
-      record { place = omega (arith, core_length c, ap length s.there, length-append before (v ∷ after)); number = entry_fits R all _ v }
-  core_fits start c d (by_variant_language before v m after s) =
-      record { place = omega (arith, core_length c, ap length s.there, length-append before (v ∷ after)); number = entry_fits R all _ v }
+  core_fits start c d s = record { place = core_high R start c d s; number = entry_fits R all _ s.subtag }
 
   unicode_fits : (start : ℕ) (p q : UForm) (s : UnicodeStep p q) → Fits (unicode_label start s) (start + length (spell_u p) + 1)
   unicode_fits start p q (on_attributes s k) =

@@ -1,8 +1,10 @@
-use Rattle.std.proofs.Common.{◌≡◌, ℕ, List, get_or, sym, ap, ◌∙◌, subst, arith}
+use Rattle.std.proofs.Common.{◌≡◌, ℕ, List, Some, get_or, length, refl, sym, ap, ◌∙◌, subst, slice_get, arith}
+use Rattle.std.proofs.lemmas.Option.{slice_get_read}
 use Rattle.lt_tag.specs.Parts.{CoreParts}
 use Rattle.lt_rewrite.specs.Applying.{CoreLeads}
-use Rattle.lt_rewrite.proofs.CoreSettled.{is_none}
-use Rattle.lt_rewrite.proofs.CoreLeading.{variant_language_elsewhere, variant_language_led}
+use Rattle.lt_rewrite.specs.CoreSteps.{values_of, at_variant_language}
+use Rattle.lt_rewrite.proofs.CoreCases.{none_of, there_alone, has_leftmost}
+use Rattle.lt_rewrite.proofs.CoreLeading.{leads_at, variant_language_there, variant_language_elsewhere}
 use Rattle.lt_rewrite.proofs.core_applying.apply_variant_language.Goals as goal
 
 pub returns-then-step-start : goal.returns-then-step-start
@@ -16,7 +18,10 @@ returns g c =
     let core = c.args.core.now in
     let i = c.in-Some.index in
     let v : List ℕ = c.index-variants-index.result in
-    let is : v ≡ get_or core.variants i v = subst (λ vs. v ≡ get_or vs i v) c.variants.ensures.value c.index-variants-index.is in
-    subst (λ (d : CoreParts). CoreLeads R c.args.start core c.args.step d)
+    let t = c.in-Some.ensures.variant_language in
+    let there : slice_get core.variants i ≡ Some v = slice_get_read core.variants _ i v refl t.within (subst (λ vs. v ≡ get_or vs i v) c.variants.ensures.value c.index-variants-index.is) in
+    let none = sym c.extlangs.ensures.value ∙ none_of c.extlangs.result.now (sym c.is_empty.ensures ∙ c.if-not-is_empty.false) in
+    subst (CoreLeads R c.args.start core c.args.step)
     (sym (c.set_language.ensures ∙ ap (λ (d : CoreParts). record d { language = c.in-Some.language }) c.remove_variant.ensures))
-    (variant_language_led R c.args.start core c.args.step c.requires.kind (sym c.extlangs.ensures.value ∙ is_none c.extlangs.result.now (sym c.is_empty.ensures ∙ c.if-not-is_empty.false)) i c.in-Some.language v c.in-Some.ensures.variant_language is (omega (arith, c.if-step-start.false, c.before_variants.ensures.value)) (omega (arith, c.if-step-record_number.false, c.record_number.ensures)))
+    (leads_at R c.args.start core c.args.step (at_variant_language i) v c.in-Some.language c.requires.kind (omega (arith, c.if-step-start.false, c.before_variants.ensures.value)) (omega (arith, c.if-step-record_number.false, c.record_number.ensures))
+    (there_alone core (slice_get core.variants i) v none there) (has_leftmost (values_of R) core i v c.in-Some.language (variant_language_there R c.args.start core c.args.step i c.in-Some.language v there t) t.leftmost))

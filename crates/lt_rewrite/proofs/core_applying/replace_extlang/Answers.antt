@@ -1,7 +1,10 @@
-use Rattle.std.proofs.Common.{◌≡◌, ℕ, List, [], ◌∷◌, sym, ap, ◌∙◌, arith}
+use Rattle.std.proofs.Common.{◌≡◌, ℕ, List, [], ◌∷◌, refl, sym, ap, ◌∙◌, subst, arith}
 use Rattle.lt_tag.specs.Parts.{CoreParts}
+use Rattle.lt_rewrite.specs.Applying.{CoreLeads}
+use Rattle.lt_rewrite.specs.CoreSteps.{at_extlang}
+use Rattle.lt_rewrite.proofs.CoreCases.{extlang_there}
 use Rattle.lt_rewrite.proofs.CoreSettled.{sole}
-use Rattle.lt_rewrite.proofs.CoreLeading.{from_extlang}
+use Rattle.lt_rewrite.proofs.CoreLeading.{leads_at}
 use Rattle.lt_rewrite.proofs.core_applying.replace_extlang.Goals as goal
 
 pub returns : goal.returns
@@ -10,11 +13,6 @@ returns g c =
     let core = c.args.core.now in
     let x : List ℕ = c.extlang-item.result in
     let one : core.extlangs ≡ x ∷ [] = sym c.extlangs.ensures.value ∙ sole c.extlangs.result.now x c.extlang-item.is (omega arith) in
-    from_extlang R c.args.start core c.args.step c.set_language.new.self c.requires.kind
-    (record {
-      place = omega (arith, c.if-step-start.false);
-      extlang = x;
-      one = one;
-      number = omega (arith, c.record_number.ensures, c.if-step-record_number.false);
-      result = c.set_language.ensures ∙ ap (λ (d : CoreParts). record d { language = c.replacement-language.result }) c.drop_extlangs.ensures ∙ ap (λ l. record core { language = l; extlangs = [] }) c.replacement-language.ensures.value;
-    })
+    subst (CoreLeads R c.args.start core c.args.step)
+    (sym (c.set_language.ensures ∙ ap (λ (d : CoreParts). record d { language = c.replacement-language.result }) c.drop_extlangs.ensures ∙ ap (λ l. record core { language = l; extlangs = [] }) c.replacement-language.ensures.value))
+    (leads_at R c.args.start core c.args.step at_extlang x _ c.requires.kind (omega (arith, c.if-step-start.false)) (omega (arith, c.record_number.ensures, c.if-step-record_number.false)) (extlang_there core x one) refl)

@@ -1,6 +1,9 @@
 use Rattle.std.proofs.Common.{◌≡◌, ℕ, List, [], ◌∷◌, refl, sym, ◌∙◌, arith}
 use Rattle.lt_rewrite.proofs.CoreSettled.{sole}
-use Rattle.lt_rewrite.proofs.CoreFirst.{first_extlang}
+use Rattle.lt_registry.specs.Entries.{replacement}
+use Rattle.lt_rewrite.specs.CoreSteps.{at_extlang}
+use Rattle.lt_rewrite.proofs.CoreCases.{extlang_there}
+use Rattle.lt_rewrite.proofs.CoreFirst.{first_part}
 use Rattle.lt_rewrite.proofs.core_explaining.extlang_step.Goals as goal
 
 pub returns : goal.returns
@@ -9,4 +12,4 @@ returns g c =
     let core = c.args.core.now in
     let x : List ℕ = c.extlang-item.result in
     let one : core.extlangs ≡ x ∷ [] = sym c.extlangs.ensures.value ∙ sole c.extlangs.result.now x c.extlang-item.is (omega arith) in
-    first_extlang R c.args.start core _ x refl refl c.record_number.ensures one
+    first_part R c.args.start core _ at_extlang x (replacement R x) tt refl refl c.record_number.ensures (extlang_there core x one) refl

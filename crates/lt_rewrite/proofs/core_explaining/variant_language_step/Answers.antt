@@ -1,5 +1,6 @@
-use Rattle.std.proofs.Common.{◌≡◌, ℕ, List, get_or, refl, sym, ◌∙◌, subst, arith}
-use Rattle.lt_rewrite.proofs.CoreSettled.{is_none}
+use Rattle.std.proofs.Common.{◌≡◌, ℕ, List, Some, get_or, refl, sym, ◌∙◌, subst, slice_get, arith}
+use Rattle.std.proofs.lemmas.Option.{slice_get_read}
+use Rattle.lt_rewrite.proofs.CoreCases.{none_of}
 use Rattle.lt_rewrite.proofs.CoreFirst.{first_variant_language, none_variant_language}
 use Rattle.lt_rewrite.proofs.core_explaining.variant_language_step.Goals as goal
 
@@ -8,11 +9,11 @@ returns-in_default g c = none_variant_language (g.L.Lookup.listed c.args.table.n
 
 pub returns : goal.returns
 returns g c =
-    let R = g.L.Lookup.listed c.args.table.now in
     let core = c.args.core.now in
     let i = c.in-Some.index in
     let v : List ℕ = c.index-variants-index.result in
-    let is : v ≡ get_or core.variants i v = subst (λ vs. v ≡ get_or vs i v) c.variants.ensures.value c.index-variants-index.is in
-    first_variant_language R c.args.start core _ i c.in-Some._language v refl (omega (arith, c.before_variants.ensures.value)) c.record_number.ensures
-    (sym c.extlangs.ensures.value ∙ is_none c.extlangs.result.now (sym c.is_empty.ensures ∙ c.if-not-is_empty.false))
-    is c.in-Some.ensures.variant_language
+    let t = c.in-Some.ensures.variant_language in
+    let there : slice_get core.variants i ≡ Some v = slice_get_read core.variants _ i v refl t.within (subst (λ vs. v ≡ get_or vs i v) c.variants.ensures.value c.index-variants-index.is) in
+    first_variant_language (g.L.Lookup.listed c.args.table.now) c.args.start core _ i c.in-Some._language v refl (omega (arith, c.before_variants.ensures.value)) c.record_number.ensures
+    (sym c.extlangs.ensures.value ∙ none_of c.extlangs.result.now (sym c.is_empty.ensures ∙ c.if-not-is_empty.false))
+    there t

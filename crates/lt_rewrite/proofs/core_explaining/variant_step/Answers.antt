@@ -1,37 +1,36 @@
-use Rattle.std.proofs.Common.{◌≡◌, ◌<◌, ℕ, List, length, get_or, refl, sym, ap, ◌∙◌, subst, arith}
+use Rattle.std.proofs.Common.{◌≡◌, ℕ, ◌+◌, List, Some, None, All, length, take, get_or, refl, sym, ap, ◌∙◌, subst, slice_get, arith}
 use Rattle.std.specs.Option.{option_copied}
+use Rattle.std.proofs.lemmas.List.{take_all}
+use Rattle.std.proofs.lemmas.List.Elements.{All-more}
+use Rattle.std.proofs.lemmas.Option.{slice_get_read}
 use Rattle.lt_registry.specs.Entries.{variant_value}
-use Rattle.lt_rewrite.proofs.CoreFirst.{first_variant, none_more, none_varies}
+use Rattle.lt_rewrite.proofs.CoreFirst.{first_variant, none_varies}
 use Rattle.lt_rewrite.proofs.core_explaining.variant_step.Goals as goal
 
 pub returns-in-Some : goal.returns-in-Some
 returns-in-Some g c =
-    let R = g.L.Lookup.listed c.args.table.now in
     let core = c.args.core.now in
     let i = c.loop-index.index in
     let v : List ℕ = c.variant-item.result in
-    let is : v ≡ get_or core.variants i v = subst (λ vs. v ≡ get_or vs i v) c.variants-variant-items.ensures.value c.variant-item.is in
-    let within : i < length core.variants = omega (arith, c.loop-index-test.true, ap length c.variants-variant-items.ensures.value) in
-    first_variant R c.args.start core _ i v c.in-Some._next.now refl (omega (arith, c.before_variants.ensures.value)) c.record_number.ensures within is
+    let there : slice_get core.variants i ≡ Some v =
+    subst (λ vs. slice_get vs i ≡ Some v) c.variants-variant-items.ensures.value (slice_get_read c.variants-variant-items.result.now _ i v refl c.loop-index-test.true c.variant-item.is) in
+    first_variant (g.L.Lookup.listed c.args.table.now) c.args.start core _ i v c.in-Some._next.now refl (omega (arith, c.before_variants.ensures.value)) c.record_number.ensures there
     (sym c.next_value.ensures ∙ ap option_copied c.in-Some.is)
     c.loop-index.invariant
 
 pub loop-index-preserved : goal.loop-index-preserved
 loop-index-preserved g c =
-    let R = g.L.Lookup.listed c.args.table.now in
-    let core = c.args.core.now in
-    let i = c.loop-index.index in
+    let P : List ℕ → Type 0 = λ v. variant_value (g.L.Lookup.listed c.args.table.now) v ≡ None in
     let v : List ℕ = c.variant-item.result in
-    let is : v ≡ get_or core.variants i v = subst (λ vs. v ≡ get_or vs i v) c.variants-variant-items.ensures.value c.variant-item.is in
-    let within : i < length core.variants = omega (arith, c.loop-index-test.true, ap length c.variants-variant-items.ensures.value) in
-    none_more (variant_value R) core.variants i v within is
-    (sym c.next_value.ensures ∙ ap option_copied c.in_default.is)
-    c.loop-index.invariant
+    let i = c.loop-index.index in
+    let vs = c.variants-variant-items.result.now in
+    let more : All P (take (i + 1) vs) = All-more P vs i v c.loop-index-test.true (subst (λ us. All P (take i us)) (sym c.variants-variant-items.ensures.value) c.loop-index.invariant)
+    (subst P c.variant-item.is (sym c.next_value.ensures ∙ ap option_copied c.in_default.is)) in
+    subst (λ us. All P (take (i + 1) us)) c.variants-variant-items.ensures.value more
 
 pub returns : goal.returns
 returns g c =
-    let R = g.L.Lookup.listed c.args.table.now in
     let core = c.args.core.now in
-    let i = c.loop-index.index in
-    let all : length core.variants ≡ i = omega (arith, c.loop-index-test.false, c.loop-index.auto.index-end, ap length c.variants-variant-items.ensures.value) in
-    none_varies R c.args.start core (λ k d h. c.loop-index.invariant k d (omega (arith, h, all)))
+    let P : List ℕ → Type 0 = λ v. variant_value (g.L.Lookup.listed c.args.table.now) v ≡ None in
+    let all = take_all c.loop-index.index core.variants (omega (arith, c.loop-index-test.false, ap length c.variants-variant-items.ensures.value)) in
+    none_varies (g.L.Lookup.listed c.args.table.now) c.args.start core (subst (All P) all c.loop-index.invariant)

@@ -1,9 +1,9 @@
-use Rattle.std.proofs.Common.{sym, subst}
+use Rattle.std.proofs.Common.{◌≤◌, sym, subst, arith}
 use Rattle.lt_tag.specs.Parts.{ExtensionParts}
 use Rattle.lt_rewrite.specs.Applying.{ExtensionLeads}
 use Rattle.lt_registry.specs.Entries.{IsRegistry}
 use Rattle.lt_rewrite.proofs.Proper.{step_shaped}
-use Rattle.lt_rewrite.proofs.TransformForms.{t_shaped}
+use Rattle.lt_rewrite.proofs.TransformForms.{t_shaped, t_step_length}
 use Rattle.lt_rewrite.proofs.ExtensionLeading.{transform_changed, transform_kept}
 use Rattle.lt_rewrite.proofs.extension_applying.apply_in_transform.Goals as goal
 
@@ -16,6 +16,11 @@ join_t-requires-clause-shaped g c =
     let R = g.L.Lookup.listed c.args.table.now in
     let G : IsRegistry R = record { rising = c.entries.ensures.rising; forms = c.entries.ensures.forms } in
     t_shaped R (step_shaped R G) c.in-Ok.parts c.apply_to_transform.new.parts c.if-not-apply_to_transform.ensures.0 c.in-Ok.ensures.parts.shaped
+
+pub join_t-requires-clause-few : goal.join_t-requires-clause-few
+join_t-requires-clause-few g c =
+    let n = t_step_length (g.L.Lookup.listed c.args.table.now) c.in-Ok.parts c.apply_to_transform.new.parts c.if-not-apply_to_transform.ensures.0 in
+    omega (arith, n, c.in-Ok.ensures.few)
 
 pub returns : goal.returns
 returns g c =
