@@ -102,7 +102,8 @@ module _ (R : List EntryParts) (c : CoreParts) (es : List ExtensionParts) (ps : 
   -- a step on the core
   core_leads_rank : (step : Step) (d : CoreParts) → CoreLeads R 0 c step d → (rank_in here step ≡ kind_rank step) × (kind_rank step ≤ 6)
   core_leads_rank step d l =
-      (before_rank c es ps step (subst (λ (x : Step). x.place ≤ length (spell_core c)) l.1 (core_high R 0 c d l.0)), subst (λ (x : Step). kind_rank x ≤ 6) l.1 (core_rank R 0 c d l.0).most)
+      let high = core_high R 0 c d l.0 in
+      (before_rank c es ps step (subst (λ (x : Step). x.place ≤ length (spell_core c)) l.1 (omega (arith, high))), subst (λ (x : Step). kind_rank x ≤ 6) l.1 (core_rank R 0 c d l.0).most)
 
   -- a step on the extensions
   extensions_lead_rank : (step : Step) (fs : List ExtensionParts) → ExtensionsLeads R (length (spell_core c)) es step fs → (rank_in here step ≡ extension_rank step) × (8 ≤ extension_rank step)
