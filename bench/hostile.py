@@ -7,7 +7,8 @@ For each registry of `hostile_registries.py`, by the counts N, 2N and 4N less on
 time and memory of `check`, and of `upgrade` to itself and to the registry after it. Then the time of a tag of about 1,024
 bytes: of a line of `canon`, where no two lines are equal, and of `explain`, `equal` and `extlang` beside the same command
 with a short tag. The last line tells how many figures are past a limit: 2 seconds or 300 MB for a registry, 1 millisecond
-for a tag, or more than 2.6 times the time for twice the count. Ends with 1 if any is.
+for a tag and 0.05 more for each step that `explain` prints with the tag to which it leads, or more than 2.6 times the time
+for twice the count. Ends with 1 if any is.
 """
 
 import argparse
@@ -24,6 +25,7 @@ MOST_SECONDS = 2.0
 MOST_MEGABYTES = 300
 MOST_RATIO = 2.6
 MOST_MILLISECONDS = 1.0
+MOST_MILLISECONDS_A_STEP = 0.05
 # A shorter time says little of how it grows.
 LEAST_SECONDS = 0.2
 LINES = 200
@@ -33,7 +35,8 @@ FEW = 20
 
 
 def run(words, given, seconds):
-    """The status, the processor seconds, the megabytes and the last line of a run; no status where it took too long."""
+    """The status, the processor seconds, the megabytes, the last line and the number of lines of a run; no status where it
+    took too long."""
     with tempfile.TemporaryFile() as output, tempfile.TemporaryFile() as source:
         source.write(given)
         source.seek(0)
@@ -48,12 +51,12 @@ def run(words, given, seconds):
                 process.kill()
                 _, _, used = os.wait4(process.pid, 0)
                 process.returncode = 0
-                return None, seconds, used.ru_maxrss / 1024, "no answer"
+                return None, seconds, used.ru_maxrss / 1024, "no answer", 0
             time.sleep(0.005)
         process.returncode = os.waitstatus_to_exitcode(status)
         output.seek(0)
         lines = output.read().decode("utf-8", "replace").splitlines() or [""]
-        return process.returncode, used.ru_utime + used.ru_stime, used.ru_maxrss / 1024, lines[-1][:40]
+        return process.returncode, used.ru_utime + used.ru_stime, used.ru_maxrss / 1024, lines[-1][:40], len(lines)
 
 
 def path_of(folder, title, count):
@@ -76,7 +79,7 @@ def one_row(options, folder, command, title, other):
             "itself": ["upgrade", one, one],
             "next": ["upgrade", one, path_of(folder, other, count)],
         }[command]
-        status, seconds, used, answer = run([options.program] + words, b"", options.seconds)
+        status, seconds, used, answer, _ = run([options.program] + words, b"", options.seconds)
         times.append(seconds)
         memory = max(memory, used)
         if status is None or status not in (0, 2):
@@ -170,8 +173,10 @@ def tags(options, folder, found):
             short = words[:2] + ["aaa"] * (len(words) - 2)
             figures.append(1000 * (least(options, words) - least(options, short)) if count == FEW else float("nan"))
         print(f"{title:34}{len(first):6}" + "".join(f"{it:10.3f}" for it in figures) + f"  {runs[0][3]}", flush=True)
+        steps = run([options.program, "explain", path, first], b"", options.seconds)[4]
         for what, figure in zip(("canon", "explain", "equal", "extlang"), figures):
-            if figure > MOST_MILLISECONDS:
+            most = MOST_MILLISECONDS + (steps * MOST_MILLISECONDS_A_STEP if what == "explain" else 0)
+            if figure > most:
                 found.append(f"{what} of {title}: {figure:.2f} ms")
 
 

@@ -34,24 +34,24 @@ module _ (R : List EntryParts) (start : ℕ) (c : CoreParts) (step : Step) where
   pub first_part : (spot : Spot) (x v : List ℕ) → IsPart spot → step.kind ≡ kind_at spot → step.place ≡ start + place_at c spot → step.number ≡ number_of (entry R (subtag_kind_at spot) x) → subtag_at c spot ≡ Some x → value_at (values_of R) c spot x ≡ Some v → IsLeftmostOnCore R start c (rank_of (kind_at spot)) step
   first_part spot x v part k p n there has =
       first_at spot x v k p n there has (λ other b l r.
-        let m = part_spot l.0.spot spot part (ap rank_of (kind_of _ other l.1) ∙ r) in
-        omega (arith, place_of _ other l.1, ap (place_at c) m))
+      let m = part_spot l.0.spot spot part (ap rank_of (kind_of _ other l.1) ∙ r) in
+      omega (arith, place_of _ other l.1, ap (place_at c) m))
 
   pub first_variant : (i : ℕ) (v w : List ℕ) → step.kind ≡ steps.Variant → step.place ≡ start + (before_variants c + i + 1) → step.number ≡ number_of (entry R kinds.Variant v) → slice_get c.variants i ≡ Some v → variant_value R v ≡ Some w → All (λ u. variant_value R u ≡ None) (take i c.variants) → IsLeftmostOnCore R start c 5 step
   first_variant i v w k p n there has none =
       first_at (at_variant i) v w k p n there has (λ other b l r.
-        let m = needs_variant R start c other r b l in
-        let q = not_before (variant_value R) c.variants i m.index m.needs.subtag m.needs.value (recursion_from_All (λ u. variant_value R u ≡ None) (take i c.variants) none) m.needs.there m.needs.has in
-        omega (arith, m.place, q))
+      let m = needs_variant R start c other r b l in
+      let q = not_before (variant_value R) c.variants i m.index m.needs.subtag m.needs.value (recursion_from_All (λ u. variant_value R u ≡ None) (take i c.variants) none) m.needs.there m.needs.has in
+      omega (arith, m.place, q))
 
   pub first_variant_language : (i : ℕ) (m v : List ℕ) → step.kind ≡ steps.VariantLanguage → step.place ≡ start + (before_variants c + i + 1) → step.number ≡ number_of (entry R kinds.Variant v) → c.extlangs ≡ [] → slice_get c.variants i ≡ Some v → IsFirstVariantLanguage (values_of R) c i m → IsLeftmostOnCore R start c 6 step
   first_variant_language i m v k p n none there t =
       let f : List ℕ → Option (List ℕ) = (values_of R).variant_language c.language in
       first_at (at_variant_language i) v m k p n (there_alone c (slice_get c.variants i) v none there)
       (has_leftmost (values_of R) c i v m (variant_language_there R start c step i m v there t) t.leftmost) (λ other b l r.
-        let o = needs_variant_language R start c other r b l in
-        let q = not_before f c.variants i o.index o.needs.subtag o.needs.value t.leftmost (variant_there R start c other o) (has_language R start c other o).1 in
-        omega (arith, o.place, q))
+      let o = needs_variant_language R start c other r b l in
+      let q = not_before f c.variants i o.index o.needs.subtag o.needs.value t.leftmost (variant_there R start c other o) (has_language R start c other o).1 in
+      omega (arith, o.place, q))
 
 -- no variant has a value
 pub none_varies : (R : List EntryParts) (start : ℕ) (c : CoreParts) → All (λ u. variant_value R u ≡ None) c.variants → NoneOnCore R start c 5

@@ -63,11 +63,12 @@ fn settles_to(alloc: Global, table: &ListTable, text: &str, other: &str) -> Resu
 }
 
 /// Texts of cores and of their core normal forms.
-const CORES: [(&str, &str); 4] = [
+const CORES: [(&str, &str); 5] = [
     ("zh-yue-DD", "yue-DE"),
     ("iw-arevela", "he-arevela"),
     ("ja-heploc-alalc97", "ja-alalc97-alalc97"),
     ("hy-arevela-arevmda", "hyw"),
+    ("hy-1901-1996-rozaj-arevela-arevmda", "hyw-1901-1996-rozaj"),
 ];
 
 #[test]

@@ -232,7 +232,7 @@ fn meet_in_canonical<L: Lookup>(
 
 /// Whether the newer registry replaces a tag whole by a value.
 fn replaces<L: Lookup>(newer: &L, tag: &Tag, value: &Tag) -> bool
-    ensures { IsTrue result ↔ (whole_value (L.listed newer.now) tag.now ≡ Some value.now) }
+    ensures { IsTrue result → whole_value (L.listed newer.now) tag.now ≡ Some value.now }
 {
     match whole_value(newer, tag) {
         Some(other) => other == value,
@@ -252,8 +252,9 @@ pub(crate) fn keeps_whole<A: Lookup, B: Lookup>(
     ensures { IfOk result (λ meets. IsTrue meets ↔ KeepsWhole (B.listed newer.now) entry.now) }
 {
     let _ = older.table();
+    let table = newer.table();
     match tag_and_value(entry) {
-        Some((tag, value)) if replaces(newer.table(), tag, value) => Ok(true),
+        Some((tag, value)) if replaces(table, tag, value) => Ok(true),
         Some((tag, value)) => meet_in_canonical(alloc, newer, tag, value),
         None => Ok(true),
     }
