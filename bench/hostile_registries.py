@@ -241,15 +241,19 @@ def prefixes_and_tags(count):
     ]
 
 
-def in_turn(count, others):
+def in_turn(others, past=False, idle=0):
     """Languages, and as many variants as a tag may have: each has the language before it as Prefix, the next as value,
-    and so many Prefixes besides."""
+    and so many Prefixes besides; or all the languages after it too, so that a language is a Prefix of each variant that
+    turned before. And so many variants that no tag has, with all the languages as Prefixes."""
     beside = [name(n, 5) for n in range(others)]
-    heads = [record("language", name(n, 3)) for n in range(MOST_VARIANTS + 1)] + BY_RANGE
+    languages = [name(n, 3) for n in range(MOST_VARIANTS + 1)]
+    heads = [record("language", one) for one in languages] + BY_RANGE
     heads += [record("language", "aaaa..zzzz"), record("region", "AA")]
-    return heads + [
-        record("variant", short_variant(n), name(n + 1, 3), [name(n, 3)] + beside) for n in range(MOST_VARIANTS)
+    heads += [
+        record("variant", short_variant(n), languages[n + 1], languages[n:-1 if past else n + 1] + beside)
+        for n in range(MOST_VARIANTS)
     ]
+    return heads + [record("variant", name(n, 8), "aaa", languages[:-1]) for n in range(idle)]
 
 
 def turning(first=0):
@@ -257,17 +261,16 @@ def turning(first=0):
     return name(first, 3) + "".join("-" + short_variant(n) for n in reversed(range(first, MOST_VARIANTS)))
 
 
-def turns_in_values(count, others):
+def turns_in_values(count, heads):
     """Redundant tags whose values have all those variants."""
-    records = in_turn(count, others)
-    left = max(1, (100 * count - 14 * others * MOST_VARIANTS) // 1120)
-    return records + [record("redundant", name(n, 4) + "-AA", turning()) for n in range(left)]
+    left = max(1, (100 * count - sum(4 + len(one) for one in heads)) // 1120)
+    return heads + [record("redundant", name(n, 4) + "-AA", turning()) for n in range(left)]
 
 
 def turns_in_both(count):
     """Redundant tags with those variants, whose values have them too: all but one."""
     beside = [name(n, 8) for n in range(count // 22)]
-    heads = in_turn(count, 0) + [record("variant", one) for one in beside]
+    heads = in_turn(0) + [record("variant", one) for one in beside]
     first, second = turning(2), turning(3)
     return heads + [record("redundant", first + "-" + one, second + "-" + one) for one in beside]
 
@@ -403,9 +406,13 @@ REGISTRIES = {
     "long-tags": long_tags,
     "long-values": long_values,
     "chains-in-values": chains_in_values,
-    "turns-in-values": lambda count: turns_in_values(count, 0),
-    "turns-in-values-100": lambda count: turns_in_values(count, count // 1000),
-    "turns-in-values-1000": lambda count: turns_in_values(count, count // 100),
+    "turns-in-values": lambda count: turns_in_values(count, in_turn(0)),
+    "turns-in-values-100": lambda count: turns_in_values(count, in_turn(count // 1000)),
+    "turns-in-values-1000": lambda count: turns_in_values(count, in_turn(count // 100)),
+    "turns-after-others": lambda count: turns_in_values(count, in_turn(0, past=True)),
+    "turns-beside-3": lambda count: turns_in_values(count, in_turn(0, idle=3)),
+    "turns-beside-100": lambda count: turns_in_values(count, in_turn(0, idle=count // 1000)),
+    "turns-beside-1000": lambda count: turns_in_values(count, in_turn(0, idle=count // 100)),
     "turns-in-both": turns_in_both,
 }
 

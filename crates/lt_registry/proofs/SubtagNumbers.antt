@@ -1,14 +1,20 @@
 -- Subtags of one number are the same.
-use Rattle.std.proofs.Common.{◌≡◌, ℕ, zero, suc, ◌+◌, ◌-◌, ◌*◌, ◌^◌, ◌<◌, ◌≤◌, true, false, ◌||◌, cond, eqb, ltb, leb, List, [], ◌∷◌, ◌++◌, length, length-append, replicate, get_or, refl, sym, ap, ◌∙◌, arith, inl, inr}
+use Rattle.std.proofs.Common.{◌≡◌, ℕ, zero, suc, ◌+◌, ◌-◌, ◌*◌, ◌^◌, ◌<◌, ◌≤◌, Bool, true, false, ◌||◌, cond, eqb, ltb, leb, List, [], ◌∷◌, ◌++◌, length, length-append, map, replicate, get_or, true≢false, refl, sym, ap, ◌∙◌, arith, inl, inr}
 use Rattle.std.specs.Prelude.{bytes_eq}
 use Rattle.std.specs.Int.{to_be_bytes, from_be_bytes, w64}
-use Rattle.std.specs.List.{list_all, AllByRecursion}
+use Rattle.std.specs.List.{list_all, AllByRecursion, AllAdjacentBelow, IsDistinct}
+use Rattle.std.specs.List.Sorted.{IsPermutation}
+use Rattle.std.specs.Ordering.{nat_cmp, eq_by_cmp}
+use Rattle.std.specs.Cmp.{nat_cmp_is}
+use Rattle.std.specs.declared.cmp.Ordering.TheVariants.{Less}
 use Rattle.std.specs.Char.{is_ascii_lowercase, is_ascii_digit}
 use Rattle.std.specs.Cmp.Lexicographic.{same_text}
-use Rattle.std.proofs.lemmas.Bool.{and_parts, cases_Bool, cases_eq, cases_lt, eqb-true, eq-eqb, ne_eqb, lt-ltb, le-ltb, le-leb, lt-leb}
+use Rattle.std.proofs.lemmas.Bool.{and_parts, cases_Bool, cases_eq, cases_lt, eqb-true, ltb-true, eq-eqb, ne_eqb, lt-ltb, le-ltb, le-leb, lt-leb}
 use Rattle.std.proofs.lemmas.Bool.Decides.{nat_tests}
-use Rattle.std.proofs.lemmas.Cmp.{nat_list_eq_equiv}
+use Rattle.std.proofs.lemmas.Cmp.{nat_list_eq_equiv, nat_cmp_total, eq_by_cmp_equiv}
 use Rattle.std.proofs.lemmas.List.{length-replicate}
+use Rattle.std.proofs.lemmas.List.Sorted.{IsPermutation-sym}
+use Rattle.std.proofs.lemmas.Map.Keys.{IsDistinct-IsPermutation, IsDistinct-from_sorted, sorted_from_all_adjacent}
 use Rattle.std.proofs.lemmas.Nat.{be_bytes_8}
 use Rattle.lt_subtag.specs.Bytes.{is_subtag, is_subtag_byte}
 use Rattle.lt_subtag.specs.Shapes.{is_variant}
@@ -227,3 +233,26 @@ ranks_ordered s t h k one =
 
 pub subtag_short : (s : List ℕ) → is_subtag s ≡ true → length s ≤ 8
 subtag_short s h = (subtag_length s h).1
+
+-- numbers that differ are those of subtags that do
+
+abbrev by_order : ℕ → ℕ → Bool
+by_order = eq_by_cmp nat_cmp
+
+apart : (s t : List ℕ) (b : Bool) → b ≡ bytes_eq s t → by_order (number s) (number t) ≡ false → bytes_eq s t ≡ false
+apart s t true e d = absurd (true≢false (sym ((eq_by_cmp_equiv nat_cmp_total).refl (number s)) ∙ ap (λ u. by_order (number s) (number u)) (same_text s t e) ∙ d))
+apart s t false e d = sym e
+
+apart_from : (s : List ℕ) (ts : List (List ℕ)) → AllByRecursion (λ n. by_order (number s) n ≡ false) (map number ts) → AllByRecursion (λ t. bytes_eq s t ≡ false) ts
+apart_from s [] d = tt
+apart_from s (t ∷ ts) d = (apart s t (bytes_eq s t) refl d.0, apart_from s ts d.1)
+
+pub subtags_differ : (ss : List (List ℕ)) → IsDistinct by_order (map number ss) → IsDistinct bytes_eq ss
+unfolding IsDistinct
+subtags_differ [] d = tt
+subtags_differ (s ∷ ss) d = (apart_from s ss d.0, subtags_differ ss d.1)
+
+pub rising_differ : (ms ns : List ℕ) → IsPermutation ms ns → AllAdjacentBelow (λ m n. true ≡ ltb m n) ns (length ns) → IsDistinct by_order ms
+rising_differ ms ns moved up =
+    IsDistinct-IsPermutation by_order (eq_by_cmp_equiv nat_cmp_total).symm ns ms (IsPermutation-sym ms ns moved)
+    (IsDistinct-from_sorted nat_cmp ns (sorted_from_all_adjacent nat_cmp_total ns 0 (λ k l. sym (nat_cmp_is (get_or ns k 0) (get_or ns (k + 1) 0) Less (ltb-true _ _ (sym (up k 0 l)))))))

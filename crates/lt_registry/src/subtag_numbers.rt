@@ -1,8 +1,11 @@
 //! Subtags as numbers, which are compared at once.
-ghost use Rattle.std.specs.Prelude.{◌≡◌, ◌≤◌, ◌<◌, ◌^◌, true, length, slice_index_or};
+ghost use Rattle.std.specs.Prelude.{◌≡◌, ◌≤◌, ◌<◌, ◌^◌, true, length, map, slice_index_or, bytes_eq};
+ghost use Rattle.std.specs.List.{IsDistinct};
+ghost use Rattle.std.specs.Ordering.{nat_cmp, eq_by_cmp};
 ghost use Rattle.lt_subtag.specs.Bytes.{is_subtag};
 ghost use Rattle.lt_registry.specs.Sorted as sorted;
 
+use arrayvec::ArrayVec;
 use lt_subtag::Subtag;
 
 /// How many numbers there are.
@@ -56,4 +59,34 @@ fn filled(bytes: &[u8]) -> [u8; 8]
         byte_at(bytes, 6),
         byte_at(bytes, 7),
     ]
+}
+
+/// The numbers of subtags.
+fn numbers_of(subtags: &[Subtag]) -> ArrayVec<u64, 256>
+    requires { length subtags.now ≤ 256 }
+    ensures { result.items ≡ map sorted.number subtags.now }
+{
+    let mut numbers = ArrayVec::new();
+    for subtag in subtags {
+        numbers.push(number_of(subtag));
+    }
+    numbers
+}
+
+/// Whether numbers differ. It sorts them.
+fn differ(numbers: &mut [u64]) -> bool
+    ensures { result ≡ true → IsDistinct (eq_by_cmp nat_cmp) numbers.old }
+{
+    numbers.sort_unstable();
+    numbers.is_sorted_by(|number, next| number < next)
+}
+
+/// Whether a sort of their numbers shows that subtags differ. Of a few it is not asked, nor of more than 256.
+pub(crate) fn many_differ(subtags: &[Subtag]) -> bool
+    ensures { result ≡ true → IsDistinct bytes_eq subtags.now }
+{
+    if subtags.len() < 16 || 256 < subtags.len() {
+        return false;
+    }
+    differ(&mut numbers_of(subtags))
 }

@@ -11,6 +11,7 @@ ghost use Rattle.lt_registry.specs.Checking.{Counted, TellsOrLacks};
 use crate::entries::{Entry, Kind};
 use crate::faults::{ValidFault, ValidFaultKind, ValidRefusal};
 use crate::lookup::Lookup;
+use crate::subtag_numbers::many_differ;
 use lt_subtag::Subtag;
 use lt_tag::{Core, Extension, OutOfMemory, Tag, TransformFault, split_t};
 use std::alloc::Global;
@@ -170,6 +171,21 @@ fn check_part<L: Lookup>(
 }
 
 fn check_variants<L: Lookup>(
+    table: &L,
+    start: u32,
+    variants: &[Subtag],
+    may_repeat: bool,
+) -> Result<(), ValidFault>
+    requires place { start ≤ 1100000 + 6 }
+    requires few { length variants.now ≤ 1024 }
+    ensures { result ≡ checking.variants_check (L.listed table.now) may_repeat start [] variants.now }
+{
+    let differ_or_may_repeat = may_repeat || many_differ(variants);
+    check_each_variant(table, start, variants, differ_or_may_repeat)
+}
+
+/// Checks each variant. Where none may repeat it is looked for among those before it.
+fn check_each_variant<L: Lookup>(
     table: &L,
     start: u32,
     variants: &[Subtag],

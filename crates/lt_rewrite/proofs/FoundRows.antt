@@ -1,13 +1,14 @@
 -- The rows of variants are found by a language and a place.
 use Rattle.std.proofs.Common.{◌≡◌, ℕ, zero, suc, ◌+◌, ◌-◌, ◌<◌, ◌≤◌, Bool, true, false, cond, ◌&&◌, ◌||◌, eqb, leb, ltb, ltb-true, leb-false, List, [], ◌∷◌, ◌++◌, Option, Some, None, length, length-take, length-drop, get_or, slice_get, take, drop, refl, sym, ap, ◌∙◌, subst, arith}
 use Rattle.std.specs.Prelude.{bytes_eq, ◌==◌}
-use Rattle.std.specs.List.{list_any, filter_map, AllWithin}
+use Rattle.std.specs.List.{All, list_any, filter_map, AllWithin}
 use Rattle.std.specs.Option.{option_map_or, option_and_then}
-use Rattle.std.specs.List.Sorted.{IsPermutation, IsNonDecreasingBy}
+use Rattle.std.specs.Ordering.{ordering_index}
+use Rattle.std.specs.List.Sorted.{IsNonDecreasingBy}
 use Rattle.std.proofs.lemmas.Bool.{or_left, or_right, and_right, and_parts, eq-eqb, eqb-true}
-use Rattle.std.proofs.lemmas.List.{get_or-take, get_or-drop}
+use Rattle.std.proofs.lemmas.List.{get_or-take, get_or-drop, get_or_default}
 use Rattle.std.proofs.lemmas.List.Folds.{Any-from_list_any, list_any-append, list_any_at}
-use Rattle.std.proofs.lemmas.List.Sorted.{list_any-IsPermutation}
+use Rattle.std.proofs.lemmas.List.Sorted.{list_any-IsPermutation, IsNonDecreasingBy-drop, IsNonDecreasingBy-take}
 use Rattle.std.proofs.lemmas.Slice.Eq.{bytes_eq-Decides}
 use Rattle.lt_registry.specs.Parts.{EntryParts}
 use Rattle.lt_registry.specs.Entries.{entry, has_prefix, one_of, is_short}
@@ -15,8 +16,10 @@ use Rattle.lt_registry.specs.Same.{same_kind}
 use Rattle.lt_registry.specs.declared.entries.Kind.{Kind}
 use Rattle.lt_registry.specs.declared.entries.Kind.TheVariants as kinds
 use Rattle.lt_rewrite.specs.CoreSteps.{values_of}
+use Rattle.lt_rewrite.specs.VariantLanguages.{ArePlaces}
 use Rattle.lt_rewrite.proofs.Entries.{entry_of}
-use Rattle.lt_rewrite.specs.VariantRows.{number, prefix_row, becomes_language, rows_of, rows_from, is_row, is_at, AreVariantRows, HaveRowsBeside}
+use Rattle.lt_rewrite.proofs.PlacedVariants.{placed_at}
+use Rattle.lt_rewrite.specs.VariantRows.{number, prefix_row, becomes_language, rows_of, rows_from, is_row, row_order, AreSorted, AreVariantRows}
 use Rattle.lt_rewrite.specs.declared.variant_rows.VariantRow.{VariantRow}
 
 is_itself : (n place : ℕ) → is_row n place (record { number = n; place = place }) ≡ true
@@ -51,21 +54,21 @@ rows_there first (suc i) (x ∷ xs) e l there b h =
     list_any-append (is_row (number l) (first + suc i)) (rows_of first x) (rows_from (first + 1) xs)
     ∙ or_right _ _ (ap (λ n. list_any (is_row (number l) n) (rows_from (first + 1) xs)) here ∙ rows_there (first + 1) i xs e l there b h)
 
--- after some rows the others rise too
-pub others_rise : (rows : List VariantRow) (lower : ℕ) → IsNonDecreasingBy (λ (row : VariantRow). row.number) rows → IsNonDecreasingBy (λ (row : VariantRow). row.number) (drop lower rows)
-others_rise rows lower rise i j d le within =
-    let far = rise (lower + i) (lower + j) d (omega (arith, le)) (omega (arith, within, length-drop lower rows)) in
-    omega (arith, far, ap (λ (row : VariantRow). row.number) (get_or-drop lower rows i d), ap (λ (row : VariantRow). row.number) (get_or-drop lower rows j d))
+-- each record that becomes a language beside this one has its row
+row_of_each : (R : List EntryParts) (rows : List VariantRow) (l : List ℕ) (place : ℕ) (e : EntryParts) → AreVariantRows R rows → slice_get R place ≡ Some e → becomes_language e ≡ true → has_prefix e.prefixes l ≡ true → list_any (is_row (number l) place) rows ≡ true
+row_of_each R rows l place e are there b h =
+    let here : place ≡ 0 + place = omega arith in
+    sym (list_any-IsPermutation (is_row (number l) place) (rows_from 0 R) rows are.same)
+    ∙ ap (λ p. list_any (is_row (number l) p) (rows_from 0 R)) here ∙ rows_there 0 place R e l there b h
 
 -- the rows of a number are after those that are lower, and before those that are higher
-between : (rows : List VariantRow) (n place lower count : ℕ) → AllWithin (λ (row : VariantRow). ltb row.number n ≡ true) rows 0 lower → AllWithin (λ (row : VariantRow). leb row.number n ≡ false) (drop lower rows) count (length (drop lower rows)) → list_any (is_row n place) rows ≡ true → list_any (is_at place) (take count (drop lower rows)) ≡ true
+pub between : (rows : List VariantRow) (n place lower count : ℕ) → AllWithin (λ (row : VariantRow). ltb row.number n ≡ true) rows 0 lower → AllWithin (λ (row : VariantRow). leb row.number n ≡ false) (drop lower rows) count (length (drop lower rows)) → list_any (is_row n place) rows ≡ true → list_any (is_row n place) (take count (drop lower rows)) ≡ true
 between rows n place lower count low high h =
     let found = Any-from_list_any (is_row n place) rows h in
     let k : ℕ = found.0 in
     let x : VariantRow = found.1 in
     let at : get_or rows k x ≡ x = found.3 in
-    let both = and_parts (x.number == n) (x.place == place) found.4 in
-    let numbered : (get_or rows k x).number ≡ n = ap (λ (row : VariantRow). row.number) at ∙ eqb-true x.number n both.0 in
+    let numbered : (get_or rows k x).number ≡ n = ap (λ (row : VariantRow). row.number) at ∙ eqb-true x.number n (and_parts (x.number == n) (x.place == place) found.4).0 in
     let not_lower : k < lower → ⊥ = λ less. (let a = ltb-true _ _ (low k x (omega arith) less) in omega (arith, a, numbered)) in
     let i : ℕ = k - lower in
     let back : lower + i ≡ k = omega (arith, not_lower) in
@@ -73,20 +76,21 @@ between rows n place lower count low high h =
     let there : get_or (drop lower rows) i x ≡ get_or rows k x = get_or-drop lower rows i x ∙ ap (λ j. get_or rows j x) back in
     let not_higher : count ≤ i → ⊥ = λ more. (let a = leb-false _ _ (high i x more within) in omega (arith, a, numbered, ap (λ (row : VariantRow). row.number) there)) in
     let inside : i < count = omega (arith, not_higher) in
-    list_any_at (is_at place) (take count (drop lower rows)) i x (omega (arith, inside, within, length-take count (drop lower rows)))
-    (ap (is_at place) (get_or-take count (drop lower rows) i x inside ∙ there ∙ at) ∙ both.1)
+    list_any_at (is_row n place) (take count (drop lower rows)) i x (omega (arith, inside, within, length-take count (drop lower rows)))
+    (ap (is_row n place) (get_or-take count (drop lower rows) i x inside ∙ there ∙ at) ∙ found.4)
 
--- each record that becomes a language beside this one is found
-pub found_beside : (R : List EntryParts) (rows others : List VariantRow) (l : List ℕ) (n lower count : ℕ) → AreVariantRows R rows → others ≡ drop lower rows → n ≡ number l → AllWithin (λ (row : VariantRow). ltb row.number n ≡ true) rows 0 lower → AllWithin (λ (row : VariantRow). leb row.number n ≡ false) others count (length others) → HaveRowsBeside R l (take count others)
-found_beside R rows others l n lower count are same own low high place e there b h =
-    let here : place ≡ 0 + place = omega arith in
-    subst (λ xs. list_any (is_at place) (take count xs) ≡ true) (sym same)
-    (between rows n place lower count low (subst (λ xs. AllWithin (λ (row : VariantRow). leb row.number n ≡ false) xs count (length xs)) same high)
-    (ap (λ m. list_any (is_row m place) rows) own ∙ sym (list_any-IsPermutation (is_row (number l) place) (rows_from 0 R) rows are.same)
-    ∙ ap (λ p. list_any (is_row (number l) p) (rows_from 0 R)) here ∙ rows_there 0 place R e l there b h))
+-- some of sorted rows, one after another, are sorted
+pub sorted_within : (lower count : ℕ) (rows : List VariantRow) → AreSorted rows → AreSorted (take count (drop lower rows))
+sorted_within lower count rows s = record {
+  rising = within (λ (row : VariantRow). row.number) s.rising;
+  searched = λ row. within (λ other. ordering_index (row_order other row)) (s.searched row);
+}
+  where
+    within : (f : VariantRow → ℕ) → IsNonDecreasingBy f rows → IsNonDecreasingBy f (take count (drop lower rows))
+    within f up = IsNonDecreasingBy-take f count (drop lower rows) (IsNonDecreasingBy-drop f lower rows up)
 
--- where no row is that of its place, a variant becomes no language beside this one
-module _ (R : List EntryParts) (l v : List ℕ) (rows : List VariantRow) (place : ℕ) (have : HaveRowsBeside R l rows) (none : list_any (is_at place) rows ≡ true → ⊥) where
+-- a variant whose place has no row of this language becomes no language beside it
+module _ (R : List EntryParts) (l v : List ℕ) (rows : List VariantRow) (place : ℕ) (are : AreVariantRows R rows) (none : list_any (is_row (number l) place) rows ≡ true → ⊥) where
   abbrev language_of : Option EntryParts → Option (List ℕ)
   language_of o =
       cond (has_prefix (option_map_or (λ (e : EntryParts). e.prefixes) o []) l)
@@ -95,7 +99,7 @@ module _ (R : List EntryParts) (l v : List ℕ) (rows : List VariantRow) (place 
 
   by_short : (e : EntryParts) (w : List ℕ) → slice_get R place ≡ Some e → same_kind e.kind kinds.Variant ≡ true → one_of e.value ≡ Some w → has_prefix e.prefixes l ≡ true → (b : Bool) → is_short w ≡ b → cond b (Some w) None ≡ None
   by_short e w at kind value h true s =
-      absurd (none (have place e at ((λ i. kind i && option_map_or is_short (value i) false) ∙ s) h))
+      absurd (none (row_of_each R rows l place e are at ((λ i. kind i && option_map_or is_short (value i) false) ∙ s) h))
   by_short e w at kind value h false s = refl
 
   by_value : (e : EntryParts) → slice_get R place ≡ Some e → same_kind e.kind kinds.Variant ≡ true → has_prefix e.prefixes l ≡ true → (o : Option (List ℕ)) → one_of e.value ≡ o → option_and_then (λ w. cond (is_short w) (Some w) None) o ≡ None
@@ -112,5 +116,14 @@ module _ (R : List EntryParts) (l v : List ℕ) (rows : List VariantRow) (place 
       let kind : same_kind e.kind kinds.Variant ≡ true = ap (λ (k : Kind). same_kind k kinds.Variant) (entry_of R kinds.Variant v e found).of_kind in
       by_prefix e at kind (has_prefix e.prefixes l) refl
 
-  pub none_beside : slice_get R place ≡ entry R kinds.Variant v → (values_of R).variant_language l v ≡ None
+  none_beside : slice_get R place ≡ entry R kinds.Variant v → (values_of R).variant_language l v ≡ None
   none_beside at = by_entry (entry R kinds.Variant v) at refl
+
+-- so none of the variants before an index does, where none of their places has one
+pub none_before : (R : List EntryParts) (l : List ℕ) (rows : List VariantRow) (vs : List (List ℕ)) (ps : List ℕ) (first : ℕ) → AreVariantRows R rows → ArePlaces R vs ps → ((k : ℕ) → k < first → list_any (is_row (number l) (get_or ps k 0)) rows ≡ true → ⊥) → All (λ (v : List ℕ). (values_of R).variant_language l v ≡ None) (take first vs)
+none_before R l rows vs ps first are placed none k d h =
+    let below : k < first = omega (arith, h, length-take first vs) in
+    let within : k < length vs = omega (arith, h, length-take first vs) in
+    let v : List ℕ = get_or vs k d in
+    subst (λ u. (values_of R).variant_language l u ≡ None) (sym (get_or-take first vs k d below))
+    (none_beside R l v rows (get_or ps k 0) are (none k below) (placed_at R vs ps k v placed within (get_or_default vs k d v within)))

@@ -2,10 +2,12 @@
 -- 3.1.8), as rows to search.
 use Rattle.std.specs.Prelude.{ℕ, ◌≡◌, ◌+◌, ◌*◌, ◌%◌, ◌^◌, ◌==◌, Bool, true, false, if◌then◌else◌, ◌&&◌, List, [], ◌∷◌, ◌++◌, Option, Some, None}
 use Rattle.std.specs.Option.{option_map_or}
-use Rattle.std.specs.List.{filter_map, list_any, slice_get}
+use Rattle.std.specs.List.{filter_map}
 use Rattle.std.specs.List.Sorted.{IsPermutation, IsNonDecreasingBy}
+use Rattle.std.specs.Ordering.{nat_cmp, ordering_then, ordering_index}
+use Rattle.std.specs.declared.cmp.Ordering.{Ordering}
 use Rattle.lt_registry.specs.Parts.{EntryParts}
-use Rattle.lt_registry.specs.Entries.{one_of, is_short, has_prefix}
+use Rattle.lt_registry.specs.Entries.{one_of, is_short}
 use Rattle.lt_registry.specs.Same.{same_kind}
 use Rattle.lt_registry.specs.declared.entries.Kind.TheVariants as kinds
 use Rattle.lt_rewrite.specs.declared.variant_rows.VariantRow.{VariantRow}
@@ -44,13 +46,15 @@ is_row number place row = (row.number == number) && (row.place == place)
 abbrev pub is_at : ℕ → VariantRow → Bool
 is_at place row = row.place == place
 
--- the rows of a registry, in the order of their numbers
+-- rows in the order of their numbers and, under one number, of their places
+abbrev pub row_order : VariantRow → VariantRow → Ordering
+row_order v w = ordering_then (nat_cmp v.number w.number) (nat_cmp v.place w.place)
+
+pub record AreSorted (rows : List VariantRow) : Type 0 where
+  pub rising : IsNonDecreasingBy (λ (row : VariantRow). row.number) rows
+  pub searched : (row : VariantRow) → IsNonDecreasingBy (λ (other : VariantRow). ordering_index (row_order other row)) rows
+
+-- the rows of a registry
 pub record AreVariantRows (R : List EntryParts) (rows : List VariantRow) : Type 0 where
   pub same : IsPermutation (rows_from 0 R) rows
-  pub rising : IsNonDecreasingBy (λ (row : VariantRow). row.number) rows
-
--- the record at each place that becomes a language beside this one has one of the rows
-abbrev pub HaveRowsBeside : List EntryParts → List ℕ → List VariantRow → Type 0
-HaveRowsBeside R l rows =
-    (place : ℕ) (e : EntryParts) → slice_get R place ≡ Some e → becomes_language e ≡ true
-    → has_prefix e.prefixes l ≡ true → list_any (is_at place) rows ≡ true
+  pub sorted : AreSorted rows

@@ -8,11 +8,11 @@ ghost use Rattle.lt_registry.specs.declared.entries.Kind.TheVariants as kinds;
 ghost use Rattle.lt_rewrite.specs.CoreSteps.{values_of};
 ghost use Rattle.lt_rewrite.specs.CoreSettling.{IsFirstVariantLanguage, HasNoVariantLanguage};
 ghost use Rattle.lt_rewrite.specs.VariantLanguages.{ArePlaces};
-ghost use Rattle.lt_rewrite.specs.VariantRows.{AreVariantRows, HaveRowsBeside};
+ghost use Rattle.lt_rewrite.specs.VariantRows.{AreVariantRows};
 
 use crate::shortcuts::place_of;
 use crate::values::{is_short, one_value};
-use crate::variant_rows::{VariantRow, may_have, rows_beside};
+use crate::variant_rows::{VariantRow, first_with_row, number_of, rows_beside};
 use arrayvec::ArrayVec;
 use lt_registry::{Entry, Kind, Lookup};
 use lt_subtag::Subtag;
@@ -70,27 +70,9 @@ fn variant_language_at<'a, L: Lookup>(
     }
 }
 
-/// The same, by the rows of the language beside it: most variants have none of them, and are not looked at.
-fn variant_language_among<'a, L: Lookup>(
-    table: &'a L,
-    beside: &[VariantRow],
-    place: usize,
-    language: &Subtag,
-    _variant: &Subtag,
-) -> Option<&'a Subtag>
-    requires rows { HaveRowsBeside (L.listed table.now) language.now beside.now }
-    requires place { slice_get (L.listed table.now) place ≡ entry (L.listed table.now) kinds.Variant _variant.now }
-    ensures value { option_copied result ≡ (values_of (L.listed table.now)).variant_language language.now _variant.now }
-    ensures form { IfSome result (λ value. is_language value.now ≡ true) }
-{
-    if !may_have(beside, place) {
-        return None;
-    }
-    variant_language_at(table, place, language, _variant)
-}
-
 /// The leftmost variant with a VariantLanguage step, by the rows of variants and the places of the core's own:
-/// its index, counted from 0, and the language to which it leads.
+/// its index, counted from 0, and the language to which it leads. Variants before the first with a row of the
+/// language are not looked at.
 pub(crate) fn first_variant_language_at<L: Lookup>(
     table: &L,
     rows: &[VariantRow],
@@ -104,14 +86,15 @@ pub(crate) fn first_variant_language_at<L: Lookup>(
         (λ first. IsFirstVariantLanguage (values_of (L.listed table.now)) core.now first.0 first.1) }
     ensures form { IfSome result (λ first. is_language first.1 ≡ true) }
 {
-    let beside = rows_beside(rows, core.language());
-    for (index, variant) in core.variants().iter().enumerate() {
-        if let Some(language) = variant_language_among(
+    let number = number_of(core.language());
+    let first = first_with_row(rows_beside(rows, number), number, places);
+    let variants = core.variants();
+    for index in first..variants.len() {
+        if let Some(language) = variant_language_at(
             table,
-            beside,
             places[index],
             core.language(),
-            variant,
+            &variants[index],
         ) {
             return Some((index, language.copy()));
         }

@@ -1,10 +1,8 @@
 //! The variants that have a language as their value, by the languages that are their Prefixes (RFC 5646, 3.1.7
 //! and 3.1.8).
-ghost use Rattle.std.specs.Prelude.{◌≡◌, ◌++◌, List, IfOk, OnOk, true};
-ghost use Rattle.std.specs.List.{list_any};
-ghost use Rattle.std.specs.List.Sorted.{IsNonDecreasingBy};
-ghost use Rattle.lt_registry.specs.Parts.{EntryParts};
-ghost use Rattle.lt_rewrite.specs.VariantRows.{number, AreVariantRows, HaveRowsBeside, rows_of, rows_from, is_at};
+ghost use Rattle.std.specs.Prelude.{◌≡◌, ◌≤◌, ◌++◌, ◌==◌, ℕ, IfOk, OnOk, true, false, length};
+ghost use Rattle.std.specs.List.{list_any, AllWithin};
+ghost use Rattle.lt_rewrite.specs.VariantRows.{number, AreVariantRows, AreSorted, rows_of, rows_from, is_row, is_at};
 
 use crate::values::{is_short, one_value};
 use lt_registry::{Entry, Kind, Lookup};
@@ -13,14 +11,14 @@ use std::alloc::{AllocError, Global};
 
 /// The number of a language that is a Prefix of a variant with a language as its value, and the place of the
 /// variant's record among the entries.
-#[derive(Clone, Copy, Debug)]
+#[derive(Clone, Copy, Debug, PartialEq, Eq, PartialOrd, Ord)]
 pub(crate) struct VariantRow {
     number: u64,
     place: usize,
 }
 
 /// The bytes of a language as one number.
-fn number_of(language: &Subtag) -> u64
+pub(crate) fn number_of(language: &Subtag) -> u64
     ensures { result ≡ number language.now }
 {
     let mut number = 0u64;
@@ -61,7 +59,8 @@ fn rows_in_order(alloc: Global, entries: &[Entry]) -> Result<Vec<VariantRow>, Al
     Ok(rows)
 }
 
-/// The rows of a table's entries, in the order of their languages' numbers. Refused only where memory runs out.
+/// The rows of a table's entries, in the order of their languages' numbers and, under one number, of their places.
+/// Refused only where memory runs out.
 pub(crate) fn variant_rows<L: Lookup>(
     alloc: Global,
     table: &L,
@@ -69,34 +68,80 @@ pub(crate) fn variant_rows<L: Lookup>(
     ensures { IfOk result (λ rows. AreVariantRows (L.listed table.now) rows.items) }
 {
     let mut rows = rows_in_order(alloc, table.entries())?;
-    rows.sort_unstable_by_key(|row| row.number);
+    rows.sort_unstable();
     Ok(rows)
 }
 
-/// The rows of a language, among sorted rows.
-pub(crate) fn rows_beside<'a>(rows: &'a [VariantRow], language: &Subtag) -> &'a [VariantRow]
-    requires { IsNonDecreasingBy (λ (row : VariantRow). row.number) rows.now }
-    ensures { (R : List EntryParts) → AreVariantRows R rows.now → HaveRowsBeside R language.now result.now }
+/// The rows of a language's number, among sorted rows.
+pub(crate) fn rows_beside(rows: &[VariantRow], number: u64) -> &[VariantRow]
+    requires { AreSorted rows.now }
+    ensures sorted { AreSorted result.now }
+    ensures rows { (place : ℕ) → list_any (is_row number place) rows.now ≡ true → list_any (is_row number place) result.now ≡ true }
 {
-    let number = number_of(language);
     let lower = rows.partition_point(|row| row.number < number);
     let others = &rows[lower..];
     &others[..others.partition_point(|row| row.number <= number)]
 }
 
-/// Whether a row of the place is among the rows.
-fn have(rows: &[VariantRow], place: usize) -> bool
-    ensures { result ≡ list_any (is_at place) rows.now }
+/// Whether the row of a language's number and of a place is among sorted rows.
+fn have(rows: &[VariantRow], number: u64, place: usize) -> bool
+    requires { AreSorted rows.now }
+    ensures { result ≡ list_any (is_row number place) rows.now }
 {
-    rows.iter().any(|row| row.place == place)
+    rows.binary_search(&VariantRow { number, place }).is_ok()
 }
 
-/// How many rows are looked through one by one.
-const FEW: usize = 8;
-
-/// Whether a row of the place may be among the rows. Many rows are not looked through.
-pub(crate) fn may_have(rows: &[VariantRow], place: usize) -> bool
-    ensures { list_any (is_at place) rows.now ≡ true → result ≡ true }
+/// The index of the first of the places that is this one, or how many places there are.
+fn index_of(places: &[usize], wanted: usize) -> usize
+    ensures bound { result ≤ length places.now }
+    ensures first { AllWithin (λ place. (wanted == place) ≡ false) places.now 0 result }
 {
-    rows.len() > FEW || have(rows, place)
+    for (index, place) in places.iter().enumerate() {
+        if *place == wanted {
+            return index;
+        }
+    }
+    places.len()
+}
+
+/// How many rows are looked for one after another.
+const FEW: usize = 4;
+
+/// An index before which no place has one of the rows.
+fn first_of_few(rows: &[VariantRow], places: &[usize]) -> usize
+    ensures bound { result ≤ length places.now }
+    ensures first { AllWithin (λ place. list_any (is_at place) rows.now ≡ false) places.now 0 result }
+{
+    let mut first = places.len();
+    for row in rows {
+        first = index_of(&places[..first], row.place);
+    }
+    first
+}
+
+/// An index before which no place has a row of the number among the rows.
+fn first_of_many(rows: &[VariantRow], number: u64, places: &[usize]) -> usize
+    requires { AreSorted rows.now }
+    ensures bound { result ≤ length places.now }
+    ensures first { AllWithin (λ place. list_any (is_row number place) rows.now ≡ false) places.now 0 result }
+{
+    for (index, place) in places.iter().enumerate() {
+        if have(rows, number, *place) {
+            return index;
+        }
+    }
+    places.len()
+}
+
+/// An index before which no place has a row of the number among the rows of that number.
+pub(crate) fn first_with_row(rows: &[VariantRow], number: u64, places: &[usize]) -> usize
+    requires { AreSorted rows.now }
+    ensures bound { result ≤ length places.now }
+    ensures first { AllWithin (λ place. list_any (is_row number place) rows.now ≡ false) places.now 0 result }
+{
+    if rows.len() <= FEW {
+        first_of_few(rows, places)
+    } else {
+        first_of_many(rows, number, places)
+    }
 }

@@ -1,31 +1,35 @@
-use Rattle.std.proofs.Common.{◌≡◌, ◌<◌, ℕ, List, Option, Some, None, All, take, length, get_or, sym, ap, ◌∙◌, subst}
+use Rattle.std.proofs.Common.{◌≡◌, ◌<◌, ℕ, true, List, Option, Some, None, All, take, length, get_or, sym, ap, ◌∙◌, subst, true≢false, arith}
 use Rattle.std.specs.Option.{option_copied}
+use Rattle.std.specs.List.{list_any}
 use Rattle.std.proofs.lemmas.List.{take_all}
 use Rattle.lt_rewrite.specs.CoreSteps.{values_of}
 use Rattle.lt_rewrite.specs.VariantLanguages.{ArePlaces}
-use Rattle.lt_rewrite.specs.VariantRows.{HaveRowsBeside}
+use Rattle.lt_rewrite.specs.VariantRows.{number, is_row}
 use Rattle.lt_rewrite.proofs.CoreSettled.{first_variant_language_at, none_more}
+use Rattle.lt_rewrite.proofs.FoundRows.{none_before}
 use Rattle.lt_rewrite.proofs.PlacedVariants.{placed_at}
 use Rattle.lt_rewrite.proofs.variant_languages.first_variant_language_at.Goals as goal
 
-pub variant_language_among-requires-clause-rows : goal.variant_language_among-requires-clause-rows
-variant_language_among-requires-clause-rows g c =
+pub loop-index-init : goal.loop-index-init
+loop-index-init g c =
     let R = g.L.Lookup.listed c.args.table.now in
-    subst (λ l. HaveRowsBeside R l c.rows_beside-beside.result.now) (c.language.ensures.value ∙ sym c.language-in-loop-index.ensures.value)
-    (c.rows_beside-beside.ensures R c.requires.rows)
+    let same : c.number_of-number.result ≡ number c.args.core.now.language = c.number_of-number.ensures ∙ ap number c.language.ensures.value in
+    none_before R c.args.core.now.language c.args.rows.now c.variants-variants.result.now c.args.places.now c.first_with_row-first.result c.requires.rows
+    (subst (λ vs. ArePlaces R vs c.args.places.now) (sym c.variants-variants.ensures.value) c.requires.places)
+    (λ k below h. true≢false (sym (c.rows_beside.ensures.rows (get_or c.args.places.now k 0) (subst (λ n. list_any (is_row n (get_or c.args.places.now k 0)) c.args.rows.now ≡ true) (sym same) h)) ∙ c.first_with_row-first.ensures.first k 0 (omega arith) below))
 
-pub variant_language_among-requires-clause-place : goal.variant_language_among-requires-clause-place
-variant_language_among-requires-clause-place g c =
+pub variant_language_at-requires : goal.variant_language_at-requires
+variant_language_at-requires g c =
     let R = g.L.Lookup.listed c.args.table.now in
-    placed_at R c.variants-variant-items.result.now c.args.places.now c.loop-index.index c.variant-item.result
-    (subst (λ vs. ArePlaces R vs c.args.places.now) (sym c.variants-variant-items.ensures.value) c.requires.places)
-    c.loop-index-test.true c.variant-item.is
+    placed_at R c.variants-variants.result.now c.args.places.now c.loop-index.index c.index-variants-index.result
+    (subst (λ vs. ArePlaces R vs c.args.places.now) (sym c.variants-variants.ensures.value) c.requires.places)
+    c.loop-index-test.true c.index-variants-index.is
 
 pub returns-in-Some-clause-variant_language : goal.returns-in-Some-clause-variant_language
 returns-in-Some-clause-variant_language g c =
     let V = values_of (g.L.Lookup.listed c.args.table.now) in
-    first_variant_language_at V c.args.core.now c.loop-index.index c.variant-item.result c.copy.result c.variants-variant-items.result.now c.variants-variant-items.ensures.value c.loop-index-test.true c.variant-item.is
-    (ap (λ l. V.variant_language l c.variant-item.result) (sym c.language-in-loop-index.ensures.value) ∙ sym c.variant_language_among.ensures.value ∙ ap option_copied c.in-Some.is ∙ sym (ap some c.copy.ensures))
+    first_variant_language_at V c.args.core.now c.loop-index.index c.index-variants-index.result c.copy.result c.variants-variants.result.now c.variants-variants.ensures.value c.loop-index-test.true c.index-variants-index.is
+    (ap (λ l. V.variant_language l c.index-variants-index.result) (sym c.language-in-loop-index.ensures.value) ∙ sym c.variant_language_at.ensures.value ∙ ap option_copied c.in-Some.is ∙ sym (ap some c.copy.ensures))
     c.loop-index.invariant
   where
     some : List ℕ → Option (List ℕ)
@@ -34,13 +38,13 @@ returns-in-Some-clause-variant_language g c =
 pub loop-index-preserved : goal.loop-index-preserved
 loop-index-preserved g c =
     let V = values_of (g.L.Lookup.listed c.args.table.now) in
-    none_more V c.args.core.now c.loop-index.index c.variant-item.result c.variants-variant-items.result.now c.loop-index-test.true c.variant-item.is
-    (ap (λ l. V.variant_language l c.variant-item.result) (sym c.language-in-loop-index.ensures.value) ∙ sym c.variant_language_among.ensures.value ∙ ap option_copied c.in_default.is)
+    none_more V c.args.core.now c.loop-index.index c.index-variants-index.result c.variants-variants.result.now c.loop-index-test.true c.index-variants-index.is
+    (ap (λ l. V.variant_language l c.index-variants-index.result) (sym c.language-in-loop-index.ensures.value) ∙ sym c.variant_language_at.ensures.value ∙ ap option_copied c.in_default.is)
     c.loop-index.invariant
 
 pub returns-clause-variant_language : goal.returns-clause-variant_language
 returns-clause-variant_language g c =
     let V = values_of (g.L.Lookup.listed c.args.table.now) in
     let P : List ℕ → Type 0 = λ v. V.variant_language c.args.core.now.language v ≡ None in
-    let all : take c.loop-index.index c.variants-variant-items.result.now ≡ c.variants-variant-items.result.now = take_all c.loop-index.index c.variants-variant-items.result.now c.loop-index-test.false in
-    subst (All P) (all ∙ c.variants-variant-items.ensures.value) c.loop-index.invariant
+    let all : take c.loop-index.index c.variants-variants.result.now ≡ c.variants-variants.result.now = take_all c.loop-index.index c.variants-variants.result.now c.loop-index-test.false in
+    subst (All P) (all ∙ c.variants-variants.ensures.value) c.loop-index.invariant

@@ -4,4 +4,4 @@ use Rattle.lt_rewrite.proofs.variant_languages.first_variant_language_at.Given a
 
 -- none so far has a VariantLanguage step
 abbrev pub invariant-loop-index : goal.invariant-loop-index
-invariant-loop-index g l = All (λ (v : List ℕ). (values_of (g.L.Lookup.listed l.table)).variant_language l.core.language v ≡ None) (take l.index l.variant-items)
+invariant-loop-index g l = All (λ (v : List ℕ). (values_of (g.L.Lookup.listed l.table)).variant_language l.core.language v ≡ None) (take l.index l.variants)

@@ -1,6 +1,6 @@
 use Rattle.std.proofs.Common.{◌≡◌, ◌+◌, [], take, drop}
 use Rattle.lt_registry.specs.Checking.{variants_check}
-use Rattle.lt_registry.proofs.validity.check_variants.Given as goal
+use Rattle.lt_registry.proofs.validity.check_each_variant.Given as goal
 
 -- the variants that are left decide
 abbrev pub invariant-loop-index : goal.invariant-loop-index
