@@ -5,7 +5,7 @@ use Rattle.std.proofs.lemmas.Slice.Eq.{bytes_eq-Decides}
 use Rattle.lt_tag.specs.Parts.{CoreParts}
 use Rattle.lt_registry.specs.Validity.{Distinct}
 use Rattle.lt_rewrite.proofs.PartLists.{all_middle, first_same, others_same}
-use Rattle.lt_check.proofs.DistinctTests.{distinct_more}
+use Rattle.lt_registry.proofs.DistinctTests.{distinct_more}
 use Rattle.lt_canon.specs.Answers.{IsSecondOccurrence}
 
 -- a fact, or its refutation

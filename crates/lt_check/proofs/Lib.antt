@@ -2,7 +2,6 @@
 pub mod CheckedRegistry
 pub mod Checks
 pub mod Deciding
-pub mod DistinctTests
 pub mod RecordChecks
 pub mod FirstFaults
 pub mod OwnNames

@@ -10,7 +10,6 @@ mod name_checks;
 mod range_names;
 mod record_checks;
 mod rejections;
-mod variants;
 mod whole_checks;
 
 pub use checked::Checked;

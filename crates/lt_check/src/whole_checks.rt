@@ -14,8 +14,7 @@ ghost use Rattle.lt_check.specs.Conditions.{OfWhole, IsValidCoreAlone, Meets};
 ghost use Rattle.lt_check.specs.WholeChecks.{MeetsBelow, ComesToRest, ComeTogether};
 ghost use Rattle.lt_check.specs.declared.conditions.Condition.TheVariants as conditions;
 
-use crate::variants::are_distinct;
-use lt_registry::{Entry, Kind, Lookup, validate};
+use lt_registry::{Entry, Kind, Lookup, are_distinct, validate};
 use lt_rewrite::Shortcuts;
 use lt_rewrite::values::{tag_and_value, whole_value};
 use lt_tag::{Core, OutOfMemory, Tag};

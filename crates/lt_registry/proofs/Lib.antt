@@ -1,5 +1,6 @@
 pub mod CheckLemmas
 pub mod CoreFaultLemmas
+pub mod DistinctTests
 pub mod DraftLemmas
 pub mod EqualityLemmas
 pub mod ExtensionFaultLemmas

@@ -1,5 +1,5 @@
 -- Subtags of one number are the same.
-use Rattle.std.proofs.Common.{◌≡◌, ℕ, zero, suc, ◌+◌, ◌-◌, ◌*◌, ◌^◌, ◌<◌, ◌≤◌, Bool, true, false, ◌||◌, cond, eqb, ltb, leb, List, [], ◌∷◌, ◌++◌, length, length-append, map, replicate, get_or, true≢false, refl, sym, ap, ◌∙◌, arith, inl, inr}
+use Rattle.std.proofs.Common.{◌≡◌, ◌≢◌, ℕ, zero, suc, ◌+◌, ◌-◌, ◌*◌, ◌^◌, ◌<◌, ◌≤◌, Bool, true, false, ◌||◌, cond, eqb, ltb, leb, List, [], ◌∷◌, ◌++◌, length, length-append, map, replicate, get_or, true≢false, refl, sym, ap, ◌∙◌, arith, inl, inr}
 use Rattle.std.specs.Prelude.{bytes_eq}
 use Rattle.std.specs.Int.{to_be_bytes, from_be_bytes, w64}
 use Rattle.std.specs.List.{list_all, AllByRecursion, AllAdjacentBelow, IsDistinct}
@@ -22,6 +22,7 @@ use Rattle.lt_subtag.proofs.BytesLemmas.{subtag_length}
 use Rattle.lt_tag.proofs.Apart.{extlang_is, script_is, region_is}
 use Rattle.lt_tag.proofs.ShapeLemmas.{all_weaker, language_long}
 use Rattle.lt_registry.specs.Entries.{has_form, letters_le}
+use Rattle.lt_registry.specs.Validity.{Distinct}
 use Rattle.lt_registry.specs.Sorted.{filled, number, rank}
 use Rattle.lt_registry.specs.declared.entries.Kind.{Kind}
 use Rattle.lt_registry.specs.declared.entries.Kind.TheVariants as kinds
@@ -239,15 +240,12 @@ subtag_short s h = (subtag_length s h).1
 abbrev by_order : ℕ → ℕ → Bool
 by_order = eq_by_cmp nat_cmp
 
-apart : (s t : List ℕ) (b : Bool) → b ≡ bytes_eq s t → by_order (number s) (number t) ≡ false → bytes_eq s t ≡ false
-apart s t true e d = absurd (true≢false (sym ((eq_by_cmp_equiv nat_cmp_total).refl (number s)) ∙ ap (λ u. by_order (number s) (number u)) (same_text s t e) ∙ d))
-apart s t false e d = sym e
-
-apart_from : (s : List ℕ) (ts : List (List ℕ)) → AllByRecursion (λ n. by_order (number s) n ≡ false) (map number ts) → AllByRecursion (λ t. bytes_eq s t ≡ false) ts
+apart_from : (s : List ℕ) (ts : List (List ℕ)) → AllByRecursion (λ n. by_order (number s) n ≡ false) (map number ts) → AllByRecursion (λ t. t ≢ s) ts
 apart_from s [] d = tt
-apart_from s (t ∷ ts) d = (apart s t (bytes_eq s t) refl d.0, apart_from s ts d.1)
+apart_from s (t ∷ ts) d =
+    ((λ e. true≢false (sym ((eq_by_cmp_equiv nat_cmp_total).refl (number s)) ∙ ap (λ u. by_order (number s) (number u)) (sym e) ∙ d.0)), apart_from s ts d.1)
 
-pub subtags_differ : (ss : List (List ℕ)) → IsDistinct by_order (map number ss) → IsDistinct bytes_eq ss
+pub subtags_differ : (ss : List (List ℕ)) → IsDistinct by_order (map number ss) → Distinct ss
 unfolding IsDistinct
 subtags_differ [] d = tt
 subtags_differ (s ∷ ss) d = (apart_from s ss d.0, subtags_differ ss d.1)

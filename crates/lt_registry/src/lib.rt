@@ -21,6 +21,7 @@ mod rows;
 mod sorted_table;
 mod subtag_numbers;
 mod validity;
+mod variants;
 mod whole_index;
 
 pub use entries::{Entry, EntryName, EntryValue, Kind, Prefix};
@@ -32,3 +33,4 @@ pub use lookup::Lookup;
 pub use registry::Registry;
 pub use sorted_table::SortedTable;
 pub use validity::{proper, validate};
+pub use variants::are_distinct;

@@ -1,9 +1,10 @@
 //! Subtags as numbers, which are compared at once.
-ghost use Rattle.std.specs.Prelude.{◌≡◌, ◌≤◌, ◌<◌, ◌^◌, true, length, map, slice_index_or, bytes_eq};
+ghost use Rattle.std.specs.Prelude.{◌≡◌, ◌≤◌, ◌<◌, ◌^◌, true, length, map, slice_index_or};
 ghost use Rattle.std.specs.List.{IsDistinct};
 ghost use Rattle.std.specs.Ordering.{nat_cmp, eq_by_cmp};
 ghost use Rattle.lt_subtag.specs.Bytes.{is_subtag};
 ghost use Rattle.lt_registry.specs.Sorted as sorted;
+ghost use Rattle.lt_registry.specs.Validity.{Distinct};
 
 use arrayvec::ArrayVec;
 use lt_subtag::Subtag;
@@ -83,7 +84,7 @@ fn differ(numbers: &mut [u64]) -> bool
 
 /// Whether a sort of their numbers shows that subtags differ. Of a few it is not asked, nor of more than 256.
 pub(crate) fn many_differ(subtags: &[Subtag]) -> bool
-    ensures { result ≡ true → IsDistinct bytes_eq subtags.now }
+    ensures { result ≡ true → Distinct subtags.now }
 {
     if subtags.len() < 16 || 256 < subtags.len() {
         return false;

@@ -1,14 +1,12 @@
 -- The rows of variants are found by a language and a place.
-use Rattle.std.proofs.Common.{◌≡◌, ℕ, zero, suc, ◌+◌, ◌-◌, ◌<◌, ◌≤◌, Bool, true, false, cond, ◌&&◌, ◌||◌, eqb, leb, ltb, ltb-true, leb-false, List, [], ◌∷◌, ◌++◌, Option, Some, None, length, length-take, length-drop, get_or, slice_get, take, drop, refl, sym, ap, ◌∙◌, subst, arith}
+use Rattle.std.proofs.Common.{◌≡◌, ℕ, zero, suc, ◌+◌, ◌-◌, ◌<◌, ◌≤◌, Bool, true, false, cond, ◌&&◌, ◌||◌, eqb, leb, ltb, ltb-true, leb-false, List, [], ◌∷◌, ◌++◌, Option, Some, None, length, length-take, length-drop, get_or, slice_get, true≢false, take, drop, refl, sym, ap, ◌∙◌, subst, arith}
 use Rattle.std.specs.Prelude.{bytes_eq, ◌==◌}
 use Rattle.std.specs.List.{All, list_any, filter_map, AllWithin}
 use Rattle.std.specs.Option.{option_map_or, option_and_then}
-use Rattle.std.specs.Ordering.{ordering_index}
-use Rattle.std.specs.List.Sorted.{IsNonDecreasingBy}
 use Rattle.std.proofs.lemmas.Bool.{or_left, or_right, and_right, and_parts, eq-eqb, eqb-true}
 use Rattle.std.proofs.lemmas.List.{get_or-take, get_or-drop, get_or_default}
-use Rattle.std.proofs.lemmas.List.Folds.{Any-from_list_any, list_any-append, list_any_at}
-use Rattle.std.proofs.lemmas.List.Sorted.{list_any-IsPermutation, IsNonDecreasingBy-drop, IsNonDecreasingBy-take}
+use Rattle.std.proofs.lemmas.List.Folds.{Any-from_list_any, list_any-append, list_any_at, list_any_more, list_any_none}
+use Rattle.std.proofs.lemmas.List.Sorted.{list_any-IsPermutation}
 use Rattle.std.proofs.lemmas.Slice.Eq.{bytes_eq-Decides}
 use Rattle.lt_registry.specs.Parts.{EntryParts}
 use Rattle.lt_registry.specs.Entries.{entry, has_prefix, one_of, is_short}
@@ -19,7 +17,8 @@ use Rattle.lt_rewrite.specs.CoreSteps.{values_of}
 use Rattle.lt_rewrite.specs.VariantLanguages.{ArePlaces}
 use Rattle.lt_rewrite.proofs.Entries.{entry_of}
 use Rattle.lt_rewrite.proofs.PlacedVariants.{placed_at}
-use Rattle.lt_rewrite.specs.VariantRows.{number, prefix_row, becomes_language, rows_of, rows_from, is_row, row_order, AreSorted, AreVariantRows}
+use Rattle.lt_rewrite.specs.VariantRows.{number, prefix_row, becomes_language, rows_of, rows_from, is_row, is_at, AreVariantRows}
+use Rattle.lt_rewrite.specs.PlaceMarks.{is_marked}
 use Rattle.lt_rewrite.specs.declared.variant_rows.VariantRow.{VariantRow}
 
 is_itself : (n place : ℕ) → is_row n place (record { number = n; place = place }) ≡ true
@@ -79,17 +78,27 @@ between rows n place lower count low high h =
     list_any_at (is_row n place) (take count (drop lower rows)) i x (omega (arith, inside, within, length-take count (drop lower rows)))
     (ap (is_row n place) (get_or-take count (drop lower rows) i x inside ∙ there ∙ at) ∙ found.4)
 
--- some of sorted rows, one after another, are sorted
-pub sorted_within : (lower count : ℕ) (rows : List VariantRow) → AreSorted rows → AreSorted (take count (drop lower rows))
-sorted_within lower count rows s = record {
-  rising = within (λ (row : VariantRow). row.number) s.rising;
-  searched = λ row. within (λ other. ordering_index (row_order other row)) (s.searched row);
-}
-  where
-    within : (f : VariantRow → ℕ) → IsNonDecreasingBy f rows → IsNonDecreasingBy f (take count (drop lower rows))
-    within f up = IsNonDecreasingBy-take f count (drop lower rows) (IsNonDecreasingBy-drop f lower rows up)
+-- one row more
+pub few_more : (rows : List VariantRow) (places : List ℕ) (i first next : ℕ) (other : VariantRow) → i < length rows
+    → AllWithin (λ place. list_any (is_at place) (take i rows) ≡ false) places 0 first → next ≤ first
+    → AllWithin (λ place. ((get_or rows i other).place == place) ≡ false) (take first places) 0 next → AllWithin (λ place. list_any (is_at place) (take (i + 1) rows) ≡ false) places 0 next
+few_more rows places i first next other within before lower now k d a b =
+    let place : ℕ = get_or places k d in
+    let row : VariantRow = get_or rows i other in
+    list_any_more (is_at place) rows i other within
+    ∙ ap (λ t. t || is_at place row) (before k d a (omega (arith, b, lower)))
+    ∙ ap (λ p. row.place == p) (sym (get_or-take first places k d (omega (arith, b, lower)))) ∙ now k d a b
 
--- a variant whose place has no row of this language becomes no language beside it
+-- where the places of all rows have a mark, and this one has none, no row is of this place
+pub unmarked : (marks : List ℕ) (place : ℕ) (rows : List VariantRow) → AllWithin (λ (row : VariantRow). is_marked marks row.place ≡ true) rows 0 (length rows) → is_marked marks place ≡ false → list_any (is_at place) rows ≡ false
+unmarked marks place rows all none =
+    list_any_none (is_at place) rows (λ k d l. apart (get_or rows k d) (is_at place (get_or rows k d)) refl (all k d (omega arith) l))
+  where
+    apart : (row : VariantRow) (b : Bool) → is_at place row ≡ b → is_marked marks row.place ≡ true → b ≡ false
+    apart row false e h = refl
+    apart row true e h = absurd (true≢false (sym h ∙ ap (is_marked marks) (eqb-true row.place place e) ∙ none))
+
+-- a variant of whose place there is no row becomes no language beside it
 module _ (R : List EntryParts) (l v : List ℕ) (rows : List VariantRow) (place : ℕ) (are : AreVariantRows R rows) (none : list_any (is_row (number l) place) rows ≡ true → ⊥) where
   abbrev language_of : Option EntryParts → Option (List ℕ)
   language_of o =

@@ -14,7 +14,7 @@ pub mod ProperTags
 pub mod StepLaws
 -- What this crate alone uses.
 mod Numbers
-mod SortedRows
+mod Marks
 mod Sorting
 mod PartSteps
 mod UnicodeForms

@@ -42,16 +42,17 @@ onward_next f s t e = (1, omega arith, chase_next f 0 s t e)
 pub onward_rest : (f : List ℕ → Option (List ℕ)) (n : ℕ) (s : List ℕ) → f s ≡ None → IsOnward f n s s
 onward_rest f n s e = (n, omega arith, chase_rests f n s e)
 
--- the chain has no end if a value follows after as many as there are records
-pub onward_endless : (R : List EntryParts) (k : Kind) (s t u : List ℕ) → IsOnward (next_value R k) (length R) s t → next_value R k t ≡ Some u → Ends (next_value R k) s → ⊥
-onward_endless R k s t u a e ends =
+-- the chain has an end only if no value follows after as many as there are records
+pub onward_end : (R : List EntryParts) (k : Kind) (s t : List ℕ) → IsOnward (next_value R k) (length R) s t → Ends (next_value R k) s → next_value R k t ≡ None
+onward_end R k s t a ends =
     let f : List ℕ → Option (List ℕ) = next_value R k in
     let rest : ℕ = a.0 - length R in
     let all : a.0 ≡ length R + rest = omega (arith, a.1) in
     let done : f (chase f (length R) s) ≡ None = chain_ends_within R k s ends in
-    let same : t ≡ chase f (length R) s = sym a.2 ∙ ap (λ n. chase f n s) all ∙ chase_plus f (length R) rest s ∙ chase_rests f rest (chase f (length R) s) done in
-    let none : f t ≡ None = ap f same ∙ done in
-    cc
+    ap f (sym a.2 ∙ ap (λ n. chase f n s) all ∙ chase_plus f (length R) rest s ∙ chase_rests f rest (chase f (length R) s) done) ∙ done
+
+pub onward_endless : (R : List EntryParts) (k : Kind) (s t u : List ℕ) → IsOnward (next_value R k) (length R) s t → next_value R k t ≡ Some u → Ends (next_value R k) s → ⊥
+onward_endless R k s t u a e ends = let none : next_value R k t ≡ None = onward_end R k s t a ends in cc
 
 -- it has the form of the first
 pub onward_form : (R : List EntryParts) → IsRegistry R → (k : Kind) (n : ℕ) (s t : List ℕ) → IsOnward (next_value R k) n s t → has_form k s ≡ true → has_form k t ≡ true

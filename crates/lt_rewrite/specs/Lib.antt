@@ -12,6 +12,7 @@ pub mod ChainEnds
 pub mod CoreSettling
 pub mod VariantLanguages
 pub mod VariantRows
+pub mod PlaceMarks
 pub mod ExtensionSettling
 pub mod ExtensionsSettling
 pub mod Applying

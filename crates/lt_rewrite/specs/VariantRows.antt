@@ -4,8 +4,6 @@ use Rattle.std.specs.Prelude.{ℕ, ◌≡◌, ◌+◌, ◌*◌, ◌%◌, ◌^◌
 use Rattle.std.specs.Option.{option_map_or}
 use Rattle.std.specs.List.{filter_map}
 use Rattle.std.specs.List.Sorted.{IsPermutation, IsNonDecreasingBy}
-use Rattle.std.specs.Ordering.{nat_cmp, ordering_then, ordering_index}
-use Rattle.std.specs.declared.cmp.Ordering.{Ordering}
 use Rattle.lt_registry.specs.Parts.{EntryParts}
 use Rattle.lt_registry.specs.Entries.{one_of, is_short}
 use Rattle.lt_registry.specs.Same.{same_kind}
@@ -46,15 +44,7 @@ is_row number place row = (row.number == number) && (row.place == place)
 abbrev pub is_at : ℕ → VariantRow → Bool
 is_at place row = row.place == place
 
--- rows in the order of their numbers and, under one number, of their places
-abbrev pub row_order : VariantRow → VariantRow → Ordering
-row_order v w = ordering_then (nat_cmp v.number w.number) (nat_cmp v.place w.place)
-
-pub record AreSorted (rows : List VariantRow) : Type 0 where
-  pub rising : IsNonDecreasingBy (λ (row : VariantRow). row.number) rows
-  pub searched : (row : VariantRow) → IsNonDecreasingBy (λ (other : VariantRow). ordering_index (row_order other row)) rows
-
--- the rows of a registry
+-- the rows of a registry, in the order of their numbers
 pub record AreVariantRows (R : List EntryParts) (rows : List VariantRow) : Type 0 where
   pub same : IsPermutation (rows_from 0 R) rows
-  pub sorted : AreSorted rows
+  pub rising : IsNonDecreasingBy (λ (row : VariantRow). row.number) rows

@@ -1,16 +1,17 @@
 //! The core normal form (RFC 5646, 4.5).
-ghost use Rattle.std.specs.Prelude.{◌≡◌, ◌<◌, ◌≤◌, ℕ, true, Some, None, [], ◌∷◌, List, All, IfSome, IfOk, OnErr, length, MatchOption};
+ghost use Rattle.std.specs.Prelude.{◌≡◌, ◌<◌, ◌≤◌, ℕ, true, Some, None, [], ◌∷◌, List, All, IfSome, length, MatchOption};
 ghost use Rattle.std.specs.Option.{option_copied};
 ghost use Rattle.lt_subtag.specs.Shapes.{is_language};
 ghost use Rattle.lt_registry.specs.Entries.{has_form};
 ghost use Rattle.lt_rewrite.specs.Rewriting.{Star};
-ghost use Rattle.lt_rewrite.specs.CoreSteps.{values_of, CoreStep, IsCoreNormalForm, Ends, EndsIn};
+ghost use Rattle.lt_rewrite.specs.CoreSteps.{values_of, CoreStep, IsCoreNormalForm, EndsIn};
 ghost use Rattle.lt_rewrite.specs.Conditions as conditions;
 ghost use Rattle.lt_rewrite.specs.Conditions.{HasEndingChain};
 ghost use Rattle.lt_rewrite.specs.Shortcuts.{AreShortcuts};
 ghost use Rattle.lt_rewrite.specs.CoreSettling.{IsFirstVariantLanguage, HasNoVariantLanguage, HasFinalLanguage, HasFinalScript, HasFinalRegion, HasFinalVariants};
 
-use crate::chain_ends::{Cycle, end_of_chain, replacement};
+use crate::chain_ends::{end_of_chain, replacement};
+use crate::place_marks::WORDS;
 use crate::shortcuts::Shortcuts;
 use crate::values::{is_short, one_value};
 use crate::variant_languages::{first_variant_language_at, places_of};
@@ -18,25 +19,7 @@ use lt_registry::{Kind, Lookup};
 use lt_subtag::Subtag;
 use lt_tag::Core;
 
-/// Where the chain of a kind ends, by shortcuts if there are some.
-fn end_by<L: Lookup>(
-    table: &L,
-    shortcuts: Option<&Shortcuts>,
-    kind: Kind,
-    subtag: &Subtag,
-) -> Result<Subtag, Cycle>
-    requires { IfSome shortcuts (λ s. AreShortcuts (L.listed table.now) s.now) }
-    ensures end { IfOk result (λ end. EndsIn (conditions.next_value (L.listed table.now) kind) subtag.now end) }
-    ensures form { IfOk result (λ end. has_form kind subtag.now ≡ true → has_form kind end ≡ true) }
-    ensures cycle { OnErr result (Ends (conditions.next_value (L.listed table.now) kind) subtag.now → ⊥) }
-{
-    match shortcuts {
-        Some(shortcuts) => shortcuts.end_of_chain(table, kind, subtag),
-        None => end_of_chain(table, kind, subtag),
-    }
-}
-
-/// The end of a chain, in a registry whose chains end.
+/// The end of a chain, in a registry whose chains end, by shortcuts if there are some.
 fn certain_end<L: Lookup>(
     table: &L,
     shortcuts: Option<&Shortcuts>,
@@ -48,7 +31,11 @@ fn certain_end<L: Lookup>(
     ensures end { EndsIn (conditions.next_value (L.listed table.now) kind) subtag.now result }
     ensures form { has_form kind subtag.now ≡ true → has_form kind result ≡ true }
 {
-    match end_by(table, shortcuts, kind, subtag) {
+    let end = match shortcuts {
+        Some(shortcuts) => return shortcuts.certain_end(table, kind, subtag),
+        None => end_of_chain(table, kind, subtag),
+    };
+    match end {
         Ok(end) => end,
         Err(_) => unreachable!(),
     }
@@ -194,9 +181,11 @@ fn settle_few_variant_languages<L: Lookup>(table: &L, shortcuts: &Shortcuts, cor
 {
     settle_language(table, Some(shortcuts), core);
     let mut places = places_of(table, core.variants());
+    let mut marks = [0; WORDS];
     while let Some((index, language)) = first_variant_language_at(
         table,
         shortcuts.rows(),
+        &mut marks,
         &places,
         core,
     ) {

@@ -21,6 +21,7 @@ pub mod ordering_laws;
 mod part_applying;
 mod part_explaining;
 mod part_ordering;
+mod place_marks;
 mod shortcuts;
 mod steps;
 mod transform_explaining;

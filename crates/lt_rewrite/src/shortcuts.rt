@@ -104,6 +104,16 @@ impl Shortcuts {
         }
     }
 
+    /// Where the chain of a kind ends, in a registry whose chains end.
+    pub(crate) fn certain_end<L: Lookup>(&self, table: &L, kind: Kind, subtag: &Subtag) -> Subtag
+        requires chains { All (HasEndingChain (L.listed table.now)) (L.listed table.now) }
+        requires shortcuts { AreShortcuts (L.listed table.now) self.now }
+        ensures end { EndsIn (conditions.next_value (L.listed table.now) kind) subtag.now result }
+        ensures form { has_form kind subtag.now ≡ true → has_form kind result ≡ true }
+    {
+        self.further(table, kind, subtag).copy()
+    }
+
     /// Whether the chain of values from a record's value ends.
     pub fn has_end<L: Lookup>(&self, table: &L, entry: &Entry) -> bool
         requires { AreShortcuts (L.listed table.now) self.now }

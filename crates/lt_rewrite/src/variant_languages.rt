@@ -10,6 +10,7 @@ ghost use Rattle.lt_rewrite.specs.CoreSettling.{IsFirstVariantLanguage, HasNoVar
 ghost use Rattle.lt_rewrite.specs.VariantLanguages.{ArePlaces};
 ghost use Rattle.lt_rewrite.specs.VariantRows.{AreVariantRows};
 
+use crate::place_marks::WORDS;
 use crate::shortcuts::place_of;
 use crate::values::{is_short, one_value};
 use crate::variant_rows::{VariantRow, first_with_row, number_of, rows_beside};
@@ -72,10 +73,11 @@ fn variant_language_at<'a, L: Lookup>(
 
 /// The leftmost variant with a VariantLanguage step, by the rows of variants and the places of the core's own:
 /// its index, counted from 0, and the language to which it leads. Variants before the first with a row of the
-/// language are not looked at.
+/// language are not looked at. Marks change meanwhile.
 pub(crate) fn first_variant_language_at<L: Lookup>(
     table: &L,
     rows: &[VariantRow],
+    marks: &mut [u64; WORDS],
     places: &[usize],
     core: &Core,
 ) -> Option<(usize, Subtag)>
@@ -87,7 +89,7 @@ pub(crate) fn first_variant_language_at<L: Lookup>(
     ensures form { IfSome result (λ first. is_language first.1 ≡ true) }
 {
     let number = number_of(core.language());
-    let first = first_with_row(rows_beside(rows, number), number, places);
+    let first = first_with_row(marks, rows_beside(rows, number), places);
     let variants = core.variants();
     for index in first..variants.len() {
         if let Some(language) = variant_language_at(

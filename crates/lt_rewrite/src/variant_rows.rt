@@ -2,8 +2,10 @@
 //! and 3.1.8).
 ghost use Rattle.std.specs.Prelude.{◌≡◌, ◌≤◌, ◌++◌, ◌==◌, ℕ, IfOk, OnOk, true, false, length};
 ghost use Rattle.std.specs.List.{list_any, AllWithin};
-ghost use Rattle.lt_rewrite.specs.VariantRows.{number, AreVariantRows, AreSorted, rows_of, rows_from, is_row, is_at};
+ghost use Rattle.std.specs.List.Sorted.{IsNonDecreasingBy};
+ghost use Rattle.lt_rewrite.specs.VariantRows.{number, AreVariantRows, rows_of, rows_from, is_row, is_at};
 
+use crate::place_marks::{WORDS, first_marked, mark_all, unmark_all};
 use crate::values::{is_short, one_value};
 use lt_registry::{Entry, Kind, Lookup};
 use lt_subtag::Subtag;
@@ -11,10 +13,10 @@ use std::alloc::{AllocError, Global};
 
 /// The number of a language that is a Prefix of a variant with a language as its value, and the place of the
 /// variant's record among the entries.
-#[derive(Clone, Copy, Debug, PartialEq, Eq, PartialOrd, Ord)]
+#[derive(Clone, Copy, Debug)]
 pub(crate) struct VariantRow {
     number: u64,
-    place: usize,
+    pub(crate) place: usize,
 }
 
 /// The bytes of a language as one number.
@@ -59,8 +61,7 @@ fn rows_in_order(alloc: Global, entries: &[Entry]) -> Result<Vec<VariantRow>, Al
     Ok(rows)
 }
 
-/// The rows of a table's entries, in the order of their languages' numbers and, under one number, of their places.
-/// Refused only where memory runs out.
+/// The rows of a table's entries, in the order of their languages' numbers. Refused only where memory runs out.
 pub(crate) fn variant_rows<L: Lookup>(
     alloc: Global,
     table: &L,
@@ -68,27 +69,18 @@ pub(crate) fn variant_rows<L: Lookup>(
     ensures { IfOk result (λ rows. AreVariantRows (L.listed table.now) rows.items) }
 {
     let mut rows = rows_in_order(alloc, table.entries())?;
-    rows.sort_unstable();
+    rows.sort_unstable_by_key(|row| row.number);
     Ok(rows)
 }
 
 /// The rows of a language's number, among sorted rows.
 pub(crate) fn rows_beside(rows: &[VariantRow], number: u64) -> &[VariantRow]
-    requires { AreSorted rows.now }
-    ensures sorted { AreSorted result.now }
-    ensures rows { (place : ℕ) → list_any (is_row number place) rows.now ≡ true → list_any (is_row number place) result.now ≡ true }
+    requires { IsNonDecreasingBy (λ (row : VariantRow). row.number) rows.now }
+    ensures { (place : ℕ) → list_any (is_row number place) rows.now ≡ true → list_any (is_row number place) result.now ≡ true }
 {
     let lower = rows.partition_point(|row| row.number < number);
     let others = &rows[lower..];
     &others[..others.partition_point(|row| row.number <= number)]
-}
-
-/// Whether the row of a language's number and of a place is among sorted rows.
-fn have(rows: &[VariantRow], number: u64, place: usize) -> bool
-    requires { AreSorted rows.now }
-    ensures { result ≡ list_any (is_row number place) rows.now }
-{
-    rows.binary_search(&VariantRow { number, place }).is_ok()
 }
 
 /// The index of the first of the places that is this one, or how many places there are.
@@ -104,10 +96,7 @@ fn index_of(places: &[usize], wanted: usize) -> usize
     places.len()
 }
 
-/// How many rows are looked for one after another.
-const FEW: usize = 4;
-
-/// An index before which no place has one of the rows.
+/// An index before which no place has one of the rows, each of which is looked for.
 fn first_of_few(rows: &[VariantRow], places: &[usize]) -> usize
     ensures bound { result ≤ length places.now }
     ensures first { AllWithin (λ place. list_any (is_at place) rows.now ≡ false) places.now 0 result }
@@ -119,29 +108,29 @@ fn first_of_few(rows: &[VariantRow], places: &[usize]) -> usize
     first
 }
 
-/// An index before which no place has a row of the number among the rows.
-fn first_of_many(rows: &[VariantRow], number: u64, places: &[usize]) -> usize
-    requires { AreSorted rows.now }
+/// An index before which no place has one of the rows, whose places are marked meanwhile.
+fn first_of_many(marks: &mut [u64; WORDS], rows: &[VariantRow], places: &[usize]) -> usize
     ensures bound { result ≤ length places.now }
-    ensures first { AllWithin (λ place. list_any (is_row number place) rows.now ≡ false) places.now 0 result }
+    ensures first { AllWithin (λ place. list_any (is_at place) rows.now ≡ false) places.now 0 result }
 {
-    for (index, place) in places.iter().enumerate() {
-        if have(rows, number, *place) {
-            return index;
-        }
-    }
-    places.len()
+    mark_all(marks, rows);
+    let first = first_marked(marks, places);
+    unmark_all(marks, rows);
+    first
 }
 
-/// An index before which no place has a row of the number among the rows of that number.
-pub(crate) fn first_with_row(rows: &[VariantRow], number: u64, places: &[usize]) -> usize
-    requires { AreSorted rows.now }
+/// An index before which no place has one of the rows. Of very many rows it is the first.
+pub(crate) fn first_with_row(
+    marks: &mut [u64; WORDS],
+    rows: &[VariantRow],
+    places: &[usize],
+) -> usize
     ensures bound { result ≤ length places.now }
-    ensures first { AllWithin (λ place. list_any (is_row number place) rows.now ≡ false) places.now 0 result }
+    ensures first { AllWithin (λ place. list_any (is_at place) rows.now ≡ false) places.now 0 result }
 {
-    if rows.len() <= FEW {
-        first_of_few(rows, places)
-    } else {
-        first_of_many(rows, number, places)
+    match rows.len() {
+        0..=4 => first_of_few(rows, places),
+        5..=2000 => first_of_many(marks, rows, places),
+        _ => 0,
     }
 }

@@ -1,5 +1,5 @@
 use Rattle.std.proofs.Common.{sym, subst}
-use Rattle.lt_check.proofs.DistinctTests.{distinct_further}
+use Rattle.lt_registry.proofs.DistinctTests.{distinct_further}
 use Rattle.lt_canon.specs.Answers.{IsSecondOccurrence}
 use Rattle.lt_canon.proofs.SecondVariants.{second_here}
 use Rattle.lt_canon.proofs.repeats.second_occurrence.Goals as goal

@@ -2,7 +2,7 @@ use Rattle.std.proofs.Common.{◌≡◌, ◌∙◌, false, length, length-take, 
 use Rattle.std.specs.List.{list_any}
 use Rattle.std.proofs.lemmas.List.{take_all}
 use Rattle.lt_rewrite.specs.VariantRows.{is_at}
-use Rattle.lt_rewrite.proofs.SortedRows.{few_more}
+use Rattle.lt_rewrite.proofs.FoundRows.{few_more}
 use Rattle.lt_rewrite.proofs.variant_rows.first_of_few.Goals as goal
 
 pub loop-row-preserved : goal.loop-row-preserved

@@ -3,29 +3,24 @@ use Rattle.std.specs.List.{list_any, AllWithin}
 use Rattle.std.specs.List.Sorted.{IsNonDecreasingBy}
 use Rattle.std.proofs.lemmas.List.{take_all}
 use Rattle.std.proofs.lemmas.List.Sorted.{IsPartitionPoint-from_clause, IsPartitionedBy-ltb, IsPartitionedBy-leb, IsNonDecreasingBy-drop}
-use Rattle.lt_rewrite.specs.VariantRows.{AreSorted, is_row}
+use Rattle.lt_rewrite.specs.VariantRows.{is_row}
 use Rattle.lt_rewrite.specs.declared.variant_rows.VariantRow.{VariantRow}
-use Rattle.lt_rewrite.proofs.FoundRows.{between, sorted_within}
+use Rattle.lt_rewrite.proofs.FoundRows.{between}
 use Rattle.lt_rewrite.proofs.variant_rows.rows_beside.Goals as goal
 
 -- what is left after some of the rows
 left : (lower : ℕ) (rows : List VariantRow) → take (length rows - lower) (drop lower rows) ≡ drop lower rows
 left lower rows = take_all (length rows - lower) (drop lower rows) (omega (arith, length-drop lower rows))
 
-pub returns-clause-sorted : goal.returns-clause-sorted
-returns-clause-sorted c =
-    subst (λ others. AreSorted (take c.partition_point.result others)) (sym (left c.partition_point-lower.result c.args.rows.now))
-    (sorted_within c.partition_point-lower.result c.partition_point.result c.args.rows.now c.requires)
-
-pub returns-clause-rows : goal.returns-clause-rows
-returns-clause-rows c =
+pub returns : goal.returns
+returns c =
     let rows = c.args.rows.now in
     let n = c.args.number in
     let lower = c.partition_point-lower.result in
     let others : List VariantRow = take (length rows - lower) (drop lower rows) in
     let same : others ≡ drop lower rows = left lower rows in
-    let rise = subst (IsNonDecreasingBy (λ (row : VariantRow). row.number)) (sym same) (IsNonDecreasingBy-drop (λ (row : VariantRow). row.number) lower rows c.requires.rising) in
-    let low = IsPartitionPoint-from_clause (λ (row : VariantRow). ltb row.number n) _ _ c.partition_point-lower.ensures.partitioned (IsPartitionedBy-ltb (λ (row : VariantRow). row.number) rows n c.requires.rising) (λ a r f k. search rules) in
+    let rise = subst (IsNonDecreasingBy (λ (row : VariantRow). row.number)) (sym same) (IsNonDecreasingBy-drop (λ (row : VariantRow). row.number) lower rows c.requires) in
+    let low = IsPartitionPoint-from_clause (λ (row : VariantRow). ltb row.number n) _ _ c.partition_point-lower.ensures.partitioned (IsPartitionedBy-ltb (λ (row : VariantRow). row.number) rows n c.requires) (λ a r f k. search rules) in
     let high = IsPartitionPoint-from_clause (λ (row : VariantRow). leb row.number n) _ _ c.partition_point.ensures.partitioned (IsPartitionedBy-leb (λ (row : VariantRow). row.number) others n rise) (λ a r f k. search rules) in
     λ place h. subst (λ xs. list_any (is_row n place) (take c.partition_point.result xs) ≡ true) (sym same)
     (between rows n place lower c.partition_point.result low.0

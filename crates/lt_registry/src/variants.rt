@@ -1,8 +1,9 @@
-//! Tests on variants that take no memory.
+//! Variants that are distinct (RFC 5646, 2.2.5).
 ghost use Rattle.std.specs.Prelude.{◌≡◌, ◌↔◌, IsTrue};
 ghost use Rattle.lt_registry.specs.Checking as checking;
 ghost use Rattle.lt_registry.specs.Validity.{Distinct};
 
+use crate::subtag_numbers::many_differ;
 use lt_subtag::Subtag;
 
 /// Whether a variant is in a list.
@@ -12,8 +13,8 @@ fn stands_in(variants: &[Subtag], variant: &Subtag) -> bool
     variants.contains(variant)
 }
 
-/// Whether no variant occurs twice.
-pub(crate) fn are_distinct(variants: &[Subtag]) -> bool
+/// Whether none is found among those before it.
+fn none_repeats(variants: &[Subtag]) -> bool
     ensures { IsTrue result ↔ Distinct variants.now }
 {
     for (index, variant) in variants.iter().enumerate() {
@@ -22,4 +23,11 @@ pub(crate) fn are_distinct(variants: &[Subtag]) -> bool
         }
     }
     true
+}
+
+/// Whether no variant occurs twice (RFC 5646, 2.2.5). It takes no memory.
+pub fn are_distinct(variants: &[Subtag]) -> bool
+    ensures { IsTrue result ↔ Distinct variants.now }
+{
+    many_differ(variants) || none_repeats(variants)
 }

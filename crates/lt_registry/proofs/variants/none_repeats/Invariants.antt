@@ -1,6 +1,6 @@
 use Rattle.std.proofs.Common.{take}
 use Rattle.lt_registry.specs.Validity.{Distinct}
-use Rattle.lt_check.proofs.variants.are_distinct.Given as goal
+use Rattle.lt_registry.proofs.variants.none_repeats.Given as goal
 
 -- none so far occurs twice
 abbrev pub invariant-loop-index : goal.invariant-loop-index

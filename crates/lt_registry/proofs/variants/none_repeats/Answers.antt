@@ -1,6 +1,6 @@
 use Rattle.std.proofs.Common.{sym, ◌∙◌}
-use Rattle.lt_check.proofs.DistinctTests.{repeated_at, distinct_further}
-use Rattle.lt_check.proofs.variants.are_distinct.Goals as goal
+use Rattle.lt_registry.proofs.DistinctTests.{repeated_at, distinct_further}
+use Rattle.lt_registry.proofs.variants.none_repeats.Goals as goal
 
 pub returns-then-stands_in : goal.returns-then-stands_in
 returns-then-stands_in c =
