@@ -5,7 +5,7 @@ use Rattle.std.specs.List.{All, list_any, filter_map, AllWithin}
 use Rattle.std.specs.Option.{option_map_or, option_and_then}
 use Rattle.std.proofs.lemmas.Bool.{or_left, or_right, and_right, and_parts, eq-eqb, eqb-true}
 use Rattle.std.proofs.lemmas.List.{get_or-take, get_or-drop, get_or_default}
-use Rattle.std.proofs.lemmas.List.Folds.{Any-from_list_any, list_any-append, list_any_at, list_any_more, list_any_none}
+use Rattle.std.proofs.lemmas.List.Folds.{Any-from_list_any, list_any-from_Any, list_any-append, list_any_at, list_any_more, list_any_none}
 use Rattle.std.proofs.lemmas.List.Sorted.{list_any-IsPermutation}
 use Rattle.std.proofs.lemmas.Slice.Eq.{bytes_eq-Decides}
 use Rattle.lt_registry.specs.Parts.{EntryParts}
@@ -88,6 +88,16 @@ few_more rows places i first next other within before lower now k d a b =
     list_any_more (is_at place) rows i other within
     ∙ ap (λ t. t || is_at place row) (before k d a (omega (arith, b, lower)))
     ∙ ap (λ p. row.place == p) (sym (get_or-take first places k d (omega (arith, b, lower)))) ∙ now k d a b
+
+-- a row of a number and a place is one of the place
+at_any : (n place : ℕ) (rows : List VariantRow) (b : Bool) → list_any (is_row n place) rows ≡ b → list_any (is_at place) rows ≡ false → b ≡ false
+at_any n place rows false e none = refl
+at_any n place rows true e none =
+    let found = Any-from_list_any (is_row n place) rows e in
+    absurd (true≢false (sym (list_any-from_Any (is_at place) rows (found.0, found.1, found.2, found.3, (and_parts (found.1.number == n) (found.1.place == place) found.4).1)) ∙ none))
+
+pub none_at : (n place : ℕ) (rows : List VariantRow) → list_any (is_at place) rows ≡ false → list_any (is_row n place) rows ≡ false
+none_at n place rows none = at_any n place rows (list_any (is_row n place) rows) refl none
 
 -- where the places of all rows have a mark, and this one has none, no row is of this place
 pub unmarked : (marks : List ℕ) (place : ℕ) (rows : List VariantRow) → AllWithin (λ (row : VariantRow). is_marked marks row.place ≡ true) rows 0 (length rows) → is_marked marks place ≡ false → list_any (is_at place) rows ≡ false

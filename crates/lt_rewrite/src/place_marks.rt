@@ -18,10 +18,11 @@ fn mark(marks: &mut [u64; WORDS], place: usize)
 }
 
 /// Whether a place has a mark.
+#[tactic(auto, unfolding(crate::specs::PlaceMarks::is_marked))]
 fn is_marked(marks: &[u64; WORDS], place: usize) -> bool
     ensures { result ≡ bits.is_marked marks.now place }
 {
-    marks[place / 64 % WORDS] >> (place % 64) % 2 == 1
+    (marks[place / 64 % WORDS] >> (place % 64)) % 2 == 1
 }
 
 /// Marks the places of rows.
