@@ -13,7 +13,7 @@ use lt_subtag::Subtag;
 const NUMBERS: u128 = 1 << 64;
 
 /// The bytes of a subtag, filled up with zeros, as one number. Numbers are in the order of
-/// subtags. Most subtags have two or three bytes.
+/// subtags. Most subtags have two to four bytes.
 #[tactic(auto, unfolding(crate::specs::Sorted::number))]
 pub(crate) fn number_of(subtag: &Subtag) -> u64
     ensures value { result ≡ sorted.number subtag.now }
@@ -22,6 +22,9 @@ pub(crate) fn number_of(subtag: &Subtag) -> u64
     match subtag.bytes() {
         [first, second] => u64::from_be_bytes([*first, *second, 0, 0, 0, 0, 0, 0]),
         [first, second, third] => u64::from_be_bytes([*first, *second, *third, 0, 0, 0, 0, 0]),
+        [first, second, third, fourth] => {
+            u64::from_be_bytes([*first, *second, *third, *fourth, 0, 0, 0, 0])
+        }
         bytes => u64::from_be_bytes(filled(bytes)),
     }
 }

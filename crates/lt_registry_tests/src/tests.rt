@@ -1,5 +1,6 @@
 //! Records with their faults, and entries with their parts.
 mod answers;
+mod distinct;
 mod failing;
 mod growths;
 mod hostile;
