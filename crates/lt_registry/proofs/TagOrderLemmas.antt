@@ -1,5 +1,5 @@
 -- The order of tags is total, and tags are equal by it where they are the same.
-use Rattle.std.proofs.Common.{◌≡◌, ℕ, ◌+◌, ◌<◌, ◌≤◌, Bool, false, ◌&&◌, eqb, List, [], ◌∷◌, length, length-drop, drop, get_or, Option, Some, None, refl, ap, ◌∙◌, arith}
+use Rattle.std.proofs.Common.{◌≡◌, ℕ, Bool, false, ◌&&◌, eqb, List, [], ◌∷◌, Option, Some, None, refl, ◌∙◌, arith}
 use Rattle.std.specs.Ordering.{nat_cmp, ordering_then, is_eq}
 use Rattle.std.specs.Option.{option_cmp, option_eq}
 use Rattle.std.specs.Cmp.{IsTotalOrder}
@@ -8,10 +8,7 @@ use Rattle.std.specs.declared.cmp.Ordering.{Ordering}
 use Rattle.std.specs.declared.cmp.Ordering.TheVariants.{Less, Equal, Greater}
 use Rattle.std.specs.Prelude.{bytes_eq}
 use Rattle.std.proofs.lemmas.Bool.Decides.{nat_tests}
-use Rattle.std.proofs.lemmas.Cmp.{then_total, on_total, nat_cmp_total, nat_list_cmp_total, lists_total}
-use Rattle.std.proofs.lemmas.List.{drop_all}
 use Rattle.lt_tag.specs.Parts.{CoreParts, ExtensionParts, TagForm, LangTag, PrivateUse, Grandfathered}
-use Rattle.lt_tag.specs.Values.{core_of, extensions_of, private_of, number_of}
 use Rattle.lt_registry.specs.Same.{same_list, same_core, same_extension, same_tag}
 use Rattle.lt_tag.specs.OrderLaws.{tag_total}
 use Rattle.lt_tag.specs.Order.{subtag_cmp, list_cmp, core_cmp, extension_cmp, tag_cmp}

@@ -1,7 +1,7 @@
 -- Valid tags, and proper ones, in which variants may repeat (RFC 5646, 2.2.9).
 use Rattle.std.specs.Prelude.{ℕ, ◌≡◌, ◌≢◌, true, List, [], ◌∷◌, map, IfSome}
 use Rattle.std.specs.List.{AllByRecursion}
-use Rattle.lt_tag.specs.Parts.{CoreParts, ExtensionParts, TForm, TagForm, LangTag, PrivateUse, Grandfathered}
+use Rattle.lt_tag.specs.Parts.{CoreParts, ExtensionParts, TForm, TagForm, LangTag}
 use Rattle.lt_tag.specs.Extensions.{transform, IsTransform}
 use Rattle.lt_tag.specs.Values.{IsTagValue}
 use Rattle.lt_registry.specs.Parts.{EntryParts}

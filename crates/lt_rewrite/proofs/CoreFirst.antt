@@ -1,15 +1,13 @@
 -- The leftmost step of each kind on a core, and the first of them.
-use Rattle.std.proofs.Common.{◌≡◌, ℕ, zero, suc, ◌+◌, ◌<◌, ◌≤◌, ◌⊎◌, inl, inr, MatchOption, Bool, true, false, List, [], Option, Some, None, All, refl, sym, ap, ◌∙◌, length, get_or, take, arith}
+use Rattle.std.proofs.Common.{◌≡◌, ℕ, zero, suc, ◌+◌, ◌<◌, ◌≤◌, ◌⊎◌, inl, inr, MatchOption, Bool, true, false, List, [], Option, Some, None, All, refl, ap, ◌∙◌, take, arith}
 use Rattle.std.specs.Prelude.{slice_get}
-use Rattle.std.proofs.lemmas.Option.{none-some, slice_get_within, slice_get_read}
-use Rattle.std.proofs.lemmas.List.{take_all}
 use Rattle.std.proofs.lemmas.List.Elements.{recursion_from_All}
 use Rattle.lt_tag.specs.Parts.{CoreParts}
 use Rattle.lt_registry.specs.Parts.{EntryParts}
 use Rattle.lt_registry.specs.Entries.{entry, number_of, variant_value}
 use Rattle.lt_registry.specs.Faults.{before_variants}
 use Rattle.lt_registry.specs.declared.entries.Kind.TheVariants as kinds
-use Rattle.lt_rewrite.specs.CoreSteps.{values_of, Spot, at_variant, at_variant_language, subtag_at, value_at, replaced, CoreStep}
+use Rattle.lt_rewrite.specs.CoreSteps.{values_of, Spot, at_variant, at_variant_language, subtag_at, value_at, replaced}
 use Rattle.lt_rewrite.specs.CoreSettling.{IsFirstVariantLanguage, HasNoVariantLanguage}
 use Rattle.lt_rewrite.specs.Labels.{kind_at, subtag_kind_at, place_at}
 use Rattle.lt_rewrite.specs.Applying.{CoreLeads, Answers}
@@ -18,7 +16,7 @@ use Rattle.lt_rewrite.specs.declared.steps.Step.{Step}
 use Rattle.lt_rewrite.specs.declared.steps.StepKind.TheVariants as steps
 use Rattle.lt_rewrite.proofs.CoreCases.{there_alone, has_leftmost}
 use Rattle.lt_rewrite.proofs.CoreSpots.{IsPart, part_spot, core_rank}
-use Rattle.lt_rewrite.proofs.CoreLeading.{kind_of, place_of, leads_at, NeedsVariant, needs_variant, needs_variant_language, has_language, variant_there, not_before, no_value, variant_language_there, none_has_variant_language}
+use Rattle.lt_rewrite.proofs.CoreLeading.{kind_of, place_of, leads_at, needs_variant, needs_variant_language, has_language, variant_there, not_before, no_value, variant_language_there, none_has_variant_language}
 use Rattle.lt_rewrite.proofs.FirstSteps.{compared, is_first}
 
 module _ (R : List EntryParts) (start : ℕ) (c : CoreParts) (step : Step) where

@@ -1,8 +1,7 @@
 -- What the parts of the code that settle a core reach, and where they rest. Only the chains' ends are used.
-use Rattle.std.proofs.Common.{◌≡◌, ℕ, suc, ◌+◌, ◌<◌, true, false, eqb, List, [], ◌∷◌, ◌++◌, Option, Some, None, refl, sym, ap, ◌∙◌, subst, length, get_or, set, take, drop, All, IfSome, arith}
+use Rattle.std.proofs.Common.{◌≡◌, ℕ, suc, ◌+◌, ◌<◌, false, eqb, List, [], ◌∷◌, ◌++◌, Option, Some, None, refl, sym, ap, ◌∙◌, subst, length, get_or, set, take, drop, All, IfSome, arith}
 use Rattle.std.specs.List.{AllByRecursion, remove}
-use Rattle.std.proofs.lemmas.List.{set_split, set-get_or, take_more_set}
-use Rattle.std.proofs.lemmas.Bool.{eqb-true}
+use Rattle.std.proofs.lemmas.List.{set_split, take_more_set}
 use Rattle.std.proofs.lemmas.List.Elements.{All-same, All-more, All-push, All-append, All-take, All-drop, recursion_from_All}
 use Rattle.lt_tag.specs.Parts.{CoreParts}
 use Rattle.lt_registry.specs.Parts.{EntryParts}

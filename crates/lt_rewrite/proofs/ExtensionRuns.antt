@@ -2,7 +2,7 @@
 use Rattle.std.proofs.Common.{◌≡◌, ◌≢◌, ℕ, ◌+◌, ◌<◌, ◌≤◌, ◌⊎◌, inl, inr, false, List, [], ◌∷◌, ◌++◌, refl, sym, ap, ◌∙◌, subst, length, map, arith}
 use Rattle.std.specs.List.{AllByRecursion}
 use Rattle.std.specs.Ordering.{nat_cmp}
-use Rattle.lt_tag.specs.Parts.{CoreParts, ExtensionParts, UForm, TForm}
+use Rattle.lt_tag.specs.Parts.{ExtensionParts, UForm, TForm}
 use Rattle.lt_tag.specs.Spelling.{spell_extensions}
 use Rattle.lt_tag.specs.Extensions.{unicode, transform, spell_u, spell_t, IsU, IsT, IsUnicode, IsTransform}
 use Rattle.lt_registry.specs.Parts.{EntryParts}

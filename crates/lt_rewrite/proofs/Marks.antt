@@ -1,6 +1,5 @@
 -- A mark that is set is there, and the others stay.
-use Rattle.std.proofs.Common.{◌≡◌, ◌≢◌, ℕ, ◌*◌, ◌/◌, ◌%◌, ◌^◌, ◌<◌, true, List, length, get_or, set, refl, sym, ap, ◌∙◌, arith, inl, inr}
-use Rattle.std.specs.Prelude.{◌==◌}
+use Rattle.std.proofs.Common.{◌≡◌, ℕ, ◌*◌, ◌/◌, ◌%◌, ◌^◌, true, List, length, get_or, set, refl, sym, ap, ◌∙◌, arith, inl, inr}
 use Rattle.std.specs.Int.{bit_at, w64}
 use Rattle.std.specs.Int.Bits.{bit_or}
 use Rattle.std.proofs.lemmas.Bool.{cases_eq, eq-eqb, eqb-true}
@@ -35,7 +34,7 @@ mark_kept words place other l h =
             ∙ ap (λ n. bit_at n (other % 64)) (get_or-set_same words (place / 64 % 1600) _ 0 (omega (arith, l)))
             ∙ bit_at_set_other w64 (get_or words (place / 64 % 1600) 0) (place % 64) (omega arith) (other % 64) bits
             ∙ ap (λ w. bit_at (get_or words w 0) (other % 64)) (sym word) ∙ eqb-true _ 1 h)
-        ]
+      ]
       | inr words_differ ↦
           eq-eqb _ 1
           (ap (λ n. bit_at n (other % 64)) (get_or-set_other words (place / 64 % 1600) (other / 64 % 1600) _ 0 words_differ) ∙ eqb-true _ 1 h)

@@ -1,5 +1,5 @@
 -- The kind and the place of a step determine its record and its result.
-use Rattle.std.proofs.Common.{◌≡◌, ◌≢◌, ℕ, ◌+◌, ◌≤◌, ◌<◌, Bool, true, false, Ordering, List, [], ◌∷◌, ◌++◌, Option, Some, refl, sym, ap, ◌∙◌, subst, length, map, append_assoc, length-append, arith}
+use Rattle.std.proofs.Common.{◌≡◌, ◌≢◌, ℕ, ◌+◌, ◌≤◌, ◌<◌, Bool, true, false, Ordering, List, [], ◌∷◌, ◌++◌, Option, Some, refl, sym, ap, ◌∙◌, subst, length, map, append_assoc, arith}
 use Rattle.std.specs.Prelude.{flat_map}
 use Rattle.lt_tag.specs.Parts.{CoreParts, ExtensionParts, UForm, TForm, TagForm, LangTag}
 use Rattle.lt_tag.specs.Spelling.{spell_core, spell_extension, spell_extensions}
@@ -18,7 +18,7 @@ use Rattle.lt_rewrite.specs.declared.steps.Step.{Step}
 use Rattle.lt_rewrite.specs.declared.steps.StepKind.{StepKind}
 use Rattle.lt_rewrite.specs.declared.steps.StepKind.TheVariants as steps
 use Rattle.lt_rewrite.proofs.CoreSpots.{core_low, core_high, one_step}
-use Rattle.lt_rewrite.proofs.SameCuts.{SameCut, same_cut, same_flat, flat_length, distinct_cut}
+use Rattle.lt_rewrite.proofs.SameCuts.{SameCut, same_flat, flat_length, distinct_cut}
 use Rattle.lt_tag.specs.Splitting.{spell_source}
 
 -- two steps of one kind at one place

@@ -1,6 +1,6 @@
 -- A step that is the first on the source of a t extension is the first on its parts, and so is one that is the first on
 -- its fields, where the source is at rest.
-use Rattle.std.proofs.Common.{◌≡◌, ℕ, ◌+◌, ◌<◌, inl, inr, false, List, Option, Some, refl, sym, ap, ◌∙◌, subst, length, arith}
+use Rattle.std.proofs.Common.{◌≡◌, ℕ, ◌+◌, inl, inr, false, List, Option, Some, refl, sym, ap, ◌∙◌, subst, length, arith}
 use Rattle.lt_tag.specs.Parts.{CoreParts, FieldParts, TForm}
 use Rattle.lt_tag.specs.Extensions.{spell_field, IsT}
 use Rattle.lt_registry.specs.Parts.{EntryParts}

@@ -1,9 +1,7 @@
 -- The lowest record whose chain of values has no end (RFC 5646, 3.1.7), and orders of the records.
-use Rattle.std.specs.Prelude.{ℕ, ◌≡◌, ◌<◌, ◌*◌, ◌%◌, ◌^◌, List, Some, All, Contains}
+use Rattle.std.specs.Prelude.{ℕ, ◌≡◌, ◌<◌, ◌*◌, ◌%◌, ◌^◌, List, All, Contains}
 use Rattle.lt_registry.specs.Parts.{EntryParts}
-use Rattle.lt_registry.specs.Entries.{entry}
-use Rattle.lt_registry.specs.declared.entries.Kind.{Kind}
-use Rattle.lt_rewrite.specs.Conditions.{HasEndingChain, next_value}
+use Rattle.lt_rewrite.specs.Conditions.{HasEndingChain}
 use Rattle.lt_rewrite.specs.declared.cycles.Order.{Order}
 use Rattle.lt_rewrite.specs.declared.cycles.Order.TheVariants as orders
 

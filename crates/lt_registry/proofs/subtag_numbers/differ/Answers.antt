@@ -1,4 +1,4 @@
-use Rattle.std.proofs.Common.{◌≡◌, true, ltb, rules, subst}
+use Rattle.std.proofs.Common.{◌≡◌, ltb, rules, subst}
 use Rattle.std.specs.List.{IsAllAdjacentAnswer}
 use Rattle.std.proofs.lemmas.List.Sorted.{answers_always}
 use Rattle.lt_registry.proofs.SubtagNumbers.{rising_differ}

@@ -1,4 +1,4 @@
-use Rattle.std.proofs.Common.{◌≡◌, Bool, true, false, ◌||◌, [], ap, ◌∙◌, sym, refl}
+use Rattle.std.proofs.Common.{◌||◌, [], ap, ◌∙◌, sym}
 use Rattle.lt_registry.specs.Checking.{variants_check}
 use Rattle.lt_registry.proofs.CheckLemmas.{differing_pass}
 use Rattle.lt_registry.proofs.validity.check_variants.Goals as goal

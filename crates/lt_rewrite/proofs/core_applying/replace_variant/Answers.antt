@@ -1,6 +1,5 @@
-use Rattle.std.proofs.Common.{◌≡◌, ◌<◌, ℕ, true, false, Option, Some, List, length, get_or, set, refl, sym, ap, ◌∙◌, subst, slice_get, arith}
+use Rattle.std.proofs.Common.{◌≡◌, ℕ, true, false, Option, Some, List, get_or, set, refl, sym, ap, ◌∙◌, subst, slice_get, arith}
 use Rattle.std.proofs.lemmas.Option.{slice_get_read, slice_get_within}
-use Rattle.lt_tag.specs.Parts.{CoreParts}
 use Rattle.lt_registry.specs.Entries.{preferred_value, is_short}
 use Rattle.lt_registry.specs.declared.entries.Kind.TheVariants as kinds
 use Rattle.lt_rewrite.specs.Applying.{CoreLeads}

@@ -1,4 +1,4 @@
-use Rattle.std.proofs.Common.{◌≤◌, sym, subst, arith}
+use Rattle.std.proofs.Common.{sym, subst, arith}
 use Rattle.lt_tag.specs.Parts.{ExtensionParts}
 use Rattle.lt_rewrite.specs.Applying.{ExtensionLeads}
 use Rattle.lt_registry.specs.Entries.{IsRegistry}

@@ -1,4 +1,4 @@
-use Rattle.std.proofs.Common.{◌≡◌, List, Contains, length, sym, ap, ◌∙◌, subst, arith, slice_get}
+use Rattle.std.proofs.Common.{List, Contains, length, sym, ap, ◌∙◌, subst, arith}
 use Rattle.std.specs.Option.{option_copied}
 use Rattle.std.proofs.lemmas.Option.{slice_get_past}
 use Rattle.lt_registry.specs.Parts.{EntryParts}

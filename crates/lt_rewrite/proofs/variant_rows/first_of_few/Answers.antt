@@ -1,4 +1,4 @@
-use Rattle.std.proofs.Common.{◌≡◌, ◌∙◌, false, length, length-take, take, ap, sym, subst, arith}
+use Rattle.std.proofs.Common.{◌∙◌, length-take, ap, sym, arith}
 use Rattle.std.specs.List.{list_any}
 use Rattle.std.proofs.lemmas.List.{take_all}
 use Rattle.lt_rewrite.specs.VariantRows.{is_at}
