@@ -5,7 +5,7 @@ use Rattle.std.specs.List.{All, list_any, filter_map, AllWithin}
 use Rattle.std.specs.Option.{option_map_or, option_and_then}
 use Rattle.std.proofs.lemmas.Bool.{or_left, or_right, and_right, and_parts, eq-eqb, eqb-true}
 use Rattle.std.proofs.lemmas.List.{get_or-take, get_or-drop, get_or_default}
-use Rattle.std.proofs.lemmas.List.Folds.{Any-from_list_any, list_any-from_Any, list_any-append, list_any_at, list_any_more, list_any_none}
+use Rattle.std.proofs.lemmas.List.Folds.{Any-from_list_any, list_any-from_Any, list_any-append, list_any_at}
 use Rattle.std.proofs.lemmas.List.Sorted.{list_any-IsPermutation}
 use Rattle.std.proofs.lemmas.Slice.Eq.{bytes_eq-Decides}
 use Rattle.lt_registry.specs.Parts.{EntryParts}
@@ -18,7 +18,6 @@ use Rattle.lt_rewrite.specs.VariantLanguages.{ArePlaces}
 use Rattle.lt_rewrite.proofs.Entries.{entry_of}
 use Rattle.lt_rewrite.proofs.PlacedVariants.{placed_at}
 use Rattle.lt_rewrite.specs.VariantRows.{number, prefix_row, becomes_language, rows_of, rows_from, is_row, is_at, AreVariantRows}
-use Rattle.lt_rewrite.specs.PlaceMarks.{is_marked}
 use Rattle.lt_rewrite.specs.declared.variant_rows.VariantRow.{VariantRow}
 
 is_itself : (n place : ℕ) → is_row n place (record { number = n; place = place }) ≡ true
@@ -78,17 +77,6 @@ between rows n place lower count low high h =
     list_any_at (is_row n place) (take count (drop lower rows)) i x (omega (arith, inside, within, length-take count (drop lower rows)))
     (ap (is_row n place) (get_or-take count (drop lower rows) i x inside ∙ there ∙ at) ∙ found.4)
 
--- one row more
-pub few_more : (rows : List VariantRow) (places : List ℕ) (i first next : ℕ) (other : VariantRow) → i < length rows
-    → AllWithin (λ place. list_any (is_at place) (take i rows) ≡ false) places 0 first → next ≤ first
-    → AllWithin (λ place. ((get_or rows i other).place == place) ≡ false) (take first places) 0 next → AllWithin (λ place. list_any (is_at place) (take (i + 1) rows) ≡ false) places 0 next
-few_more rows places i first next other within before lower now k d a b =
-    let place : ℕ = get_or places k d in
-    let row : VariantRow = get_or rows i other in
-    list_any_more (is_at place) rows i other within
-    ∙ ap (λ t. t || is_at place row) (before k d a (omega (arith, b, lower)))
-    ∙ ap (λ p. row.place == p) (sym (get_or-take first places k d (omega (arith, b, lower)))) ∙ now k d a b
-
 -- a row of a number and a place is one of the place
 at_any : (n place : ℕ) (rows : List VariantRow) (b : Bool) → list_any (is_row n place) rows ≡ b → list_any (is_at place) rows ≡ false → b ≡ false
 at_any n place rows false e none = refl
@@ -98,15 +86,6 @@ at_any n place rows true e none =
 
 pub none_at : (n place : ℕ) (rows : List VariantRow) → list_any (is_at place) rows ≡ false → list_any (is_row n place) rows ≡ false
 none_at n place rows none = at_any n place rows (list_any (is_row n place) rows) refl none
-
--- where the places of all rows have a mark, and this one has none, no row is of this place
-pub unmarked : (marks : List ℕ) (place : ℕ) (rows : List VariantRow) → AllWithin (λ (row : VariantRow). is_marked marks row.place ≡ true) rows 0 (length rows) → is_marked marks place ≡ false → list_any (is_at place) rows ≡ false
-unmarked marks place rows all none =
-    list_any_none (is_at place) rows (λ k d l. apart (get_or rows k d) (is_at place (get_or rows k d)) refl (all k d (omega arith) l))
-  where
-    apart : (row : VariantRow) (b : Bool) → is_at place row ≡ b → is_marked marks row.place ≡ true → b ≡ false
-    apart row false e h = refl
-    apart row true e h = absurd (true≢false (sym h ∙ ap (is_marked marks) (eqb-true row.place place e) ∙ none))
 
 -- a variant of whose place there is no row becomes no language beside it
 module _ (R : List EntryParts) (l v : List ℕ) (rows : List VariantRow) (place : ℕ) (are : AreVariantRows R rows) (none : list_any (is_row (number l) place) rows ≡ true → ⊥) where

@@ -14,7 +14,6 @@ pub mod ProperTags
 pub mod StepLaws
 -- What this crate alone uses.
 mod Numbers
-mod Marks
 mod Sorting
 mod PartSteps
 mod UnicodeForms
@@ -62,6 +61,7 @@ mod ListRests
 mod UnicodeFirst
 mod UnicodeRuns
 mod TrueRuns
+mod Indices
 mod Inversions
 mod FirstParts
 mod TransformFirst

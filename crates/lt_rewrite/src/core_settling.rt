@@ -11,7 +11,7 @@ ghost use Rattle.lt_rewrite.specs.Shortcuts.{AreShortcuts};
 ghost use Rattle.lt_rewrite.specs.CoreSettling.{IsFirstVariantLanguage, HasNoVariantLanguage, HasFinalLanguage, HasFinalScript, HasFinalRegion, HasFinalVariants};
 
 use crate::chain_ends::{end_of_chain, replacement};
-use crate::place_marks::WORDS;
+use crate::place_indices::{indices_of, take_out};
 use crate::shortcuts::Shortcuts;
 use crate::values::{is_short, one_value};
 use crate::variant_languages::{first_variant_language_at, places_of};
@@ -181,22 +181,23 @@ fn settle_few_variant_languages<L: Lookup>(table: &L, shortcuts: &Shortcuts, cor
 {
     settle_language(table, Some(shortcuts), core);
     let mut places = places_of(table, core.variants());
-    let mut marks = [0; WORDS];
+    let mut indices = indices_of(&places);
     while let Some((index, language)) = first_variant_language_at(
         table,
         shortcuts.rows(),
-        &mut marks,
+        &indices,
         &places,
         core,
     ) {
         core.remove_variant(index);
+        take_out(&mut indices, &places, index);
         places.remove(index);
         core.set_language(language);
         settle_language(table, Some(shortcuts), core);
     }
 }
 
-/// The same of any variants. Without shortcuts, and of two or three, each is looked up again for each language.
+/// The same of any variants. Without shortcuts, and of a few, each is looked up again for each language.
 fn settle_all_variant_languages<L: Lookup>(
     table: &L,
     shortcuts: Option<&Shortcuts>,
@@ -214,7 +215,7 @@ fn settle_all_variant_languages<L: Lookup>(
 {
     let count = core.variants().len();
     match shortcuts {
-        Some(shortcuts) if 3 < count && count <= 256 => {
+        Some(shortcuts) if 16 <= count && count <= 256 => {
             settle_few_variant_languages(table, shortcuts, core)
         }
         _ => settle_variant_languages(table, shortcuts, core),

@@ -21,7 +21,7 @@ pub mod ordering_laws;
 mod part_applying;
 mod part_explaining;
 mod part_ordering;
-mod place_marks;
+mod place_indices;
 mod shortcuts;
 mod steps;
 mod transform_explaining;

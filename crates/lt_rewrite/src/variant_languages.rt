@@ -9,11 +9,12 @@ ghost use Rattle.lt_rewrite.specs.CoreSteps.{values_of};
 ghost use Rattle.lt_rewrite.specs.CoreSettling.{IsFirstVariantLanguage, HasNoVariantLanguage};
 ghost use Rattle.lt_rewrite.specs.VariantLanguages.{ArePlaces};
 ghost use Rattle.lt_rewrite.specs.VariantRows.{AreVariantRows};
+ghost use Rattle.lt_rewrite.specs.PlaceIndices.{AreBounds};
 
-use crate::place_marks::WORDS;
+use crate::place_indices::{Indices, first_with_row};
 use crate::shortcuts::place_of;
 use crate::values::{is_short, one_value};
-use crate::variant_rows::{VariantRow, first_with_row, number_of, rows_beside};
+use crate::variant_rows::{VariantRow, number_of, rows_beside};
 use arrayvec::ArrayVec;
 use lt_registry::{Entry, Kind, Lookup};
 use lt_subtag::Subtag;
@@ -73,23 +74,24 @@ fn variant_language_at<'a, L: Lookup>(
 
 /// The leftmost variant with a VariantLanguage step, by the rows of variants and the places of the core's own:
 /// its index, counted from 0, and the language to which it leads. Variants before the first with a row of the
-/// language are not looked at. Marks change meanwhile.
+/// language are not looked at.
 pub(crate) fn first_variant_language_at<L: Lookup>(
     table: &L,
     rows: &[VariantRow],
-    marks: &mut [u64; WORDS],
+    indices: &Indices,
     places: &[usize],
     core: &Core,
 ) -> Option<(usize, Subtag)>
     requires rows { AreVariantRows (L.listed table.now) rows.now }
     requires places { ArePlaces (L.listed table.now) core.now.variants places.now }
+    requires indices { AreBounds places.now indices.now }
     ensures variant_language { MatchOption result
         (HasNoVariantLanguage (values_of (L.listed table.now)) core.now)
         (λ first. IsFirstVariantLanguage (values_of (L.listed table.now)) core.now first.0 first.1) }
     ensures form { IfSome result (λ first. is_language first.1 ≡ true) }
 {
     let number = number_of(core.language());
-    let first = first_with_row(marks, rows_beside(rows, number), places);
+    let first = first_with_row(indices, rows_beside(rows, number), places);
     let variants = core.variants();
     for index in first..variants.len() {
         if let Some(language) = variant_language_at(

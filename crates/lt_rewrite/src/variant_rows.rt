@@ -1,11 +1,10 @@
 //! The variants that have a language as their value, by the languages that are their Prefixes (RFC 5646, 3.1.7
 //! and 3.1.8).
-ghost use Rattle.std.specs.Prelude.{◌≡◌, ◌≤◌, ◌++◌, ◌==◌, ℕ, IfOk, OnOk, true, false, length};
-ghost use Rattle.std.specs.List.{list_any, AllWithin};
+ghost use Rattle.std.specs.Prelude.{◌≡◌, ◌++◌, ℕ, IfOk, OnOk, true};
+ghost use Rattle.std.specs.List.{list_any};
 ghost use Rattle.std.specs.List.Sorted.{IsNonDecreasingBy};
-ghost use Rattle.lt_rewrite.specs.VariantRows.{number, AreVariantRows, rows_of, rows_from, is_row, is_at};
+ghost use Rattle.lt_rewrite.specs.VariantRows.{number, AreVariantRows, rows_of, rows_from, is_row};
 
-use crate::place_marks::{WORDS, first_marked, mark_all, unmark_all};
 use crate::values::{is_short, one_value};
 use lt_registry::{Entry, Kind, Lookup};
 use lt_subtag::Subtag;
@@ -81,56 +80,4 @@ pub(crate) fn rows_beside(rows: &[VariantRow], number: u64) -> &[VariantRow]
     let lower = rows.partition_point(|row| row.number < number);
     let others = &rows[lower..];
     &others[..others.partition_point(|row| row.number <= number)]
-}
-
-/// The index of the first of the places that is this one, or how many places there are.
-fn index_of(places: &[usize], wanted: usize) -> usize
-    ensures bound { result ≤ length places.now }
-    ensures first { AllWithin (λ place. (wanted == place) ≡ false) places.now 0 result }
-{
-    for (index, place) in places.iter().enumerate() {
-        if *place == wanted {
-            return index;
-        }
-    }
-    places.len()
-}
-
-/// An index before which no place has one of the rows, each of which is looked for.
-fn first_of_few(rows: &[VariantRow], places: &[usize]) -> usize
-    ensures bound { result ≤ length places.now }
-    ensures first { AllWithin (λ place. list_any (is_at place) rows.now ≡ false) places.now 0 result }
-{
-    let mut first = places.len();
-    for row in rows {
-        first = index_of(&places[..first], row.place);
-    }
-    first
-}
-
-/// An index before which no place has one of the rows, whose places are marked meanwhile.
-fn first_of_many(marks: &mut [u64; WORDS], rows: &[VariantRow], places: &[usize]) -> usize
-    ensures bound { result ≤ length places.now }
-    ensures first { AllWithin (λ place. list_any (is_at place) rows.now ≡ false) places.now 0 result }
-{
-    mark_all(marks, rows);
-    let first = first_marked(marks, places);
-    unmark_all(marks, rows);
-    first
-}
-
-/// An index before which no place has one of the rows. Of very many rows it is the first.
-pub(crate) fn first_with_row(
-    marks: &mut [u64; WORDS],
-    rows: &[VariantRow],
-    places: &[usize],
-) -> usize
-    ensures bound { result ≤ length places.now }
-    ensures first { AllWithin (λ place. list_any (is_at place) rows.now ≡ false) places.now 0 result }
-{
-    match rows.len() {
-        0..=4 => first_of_few(rows, places),
-        5..=2000 => first_of_many(marks, rows, places),
-        _ => 0,
-    }
 }

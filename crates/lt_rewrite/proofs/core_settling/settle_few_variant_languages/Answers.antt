@@ -4,6 +4,7 @@ use Rattle.lt_tag.specs.Parts.{CoreParts}
 use Rattle.lt_rewrite.specs.Rewriting.{Star, then}
 use Rattle.lt_rewrite.specs.CoreSteps.{values_of, CoreStep}
 use Rattle.lt_rewrite.specs.VariantLanguages.{ArePlaces}
+use Rattle.lt_rewrite.specs.PlaceIndices.{AreBounds}
 use Rattle.lt_rewrite.proofs.PlacedVariants.{placed_without}
 use Rattle.lt_rewrite.proofs.Stars.{star_trans}
 use Rattle.lt_rewrite.proofs.CoreSettled.{variant_language_step, final_without}
@@ -29,6 +30,8 @@ loop-index-preserved g c =
       variants = subst (All P) (sym (ap (λ (d : CoreParts). d.variants) others)) (final_without P core.variants c.in-Some.index c.loop-index.invariant.variants);
       places = subst (λ vs. ArePlaces R vs c.remove.new.self.items) (sym (ap (λ (d : CoreParts). d.variants) others))
           (subst (ArePlaces R (remove core.variants c.in-Some.index)) (sym c.remove.ensures.items) (placed_without R core.variants c.loop-index.places.items c.in-Some.index c.loop-index.invariant.places));
+      indices = subst (λ ps. AreBounds ps c.take_out.new.indices) (sym c.remove.ensures.items)
+          (subst (λ ps. AreBounds ps c.loop-index.indices → AreBounds (remove ps c.in-Some.index) c.take_out.new.indices) c.deref-in-Some.ensures.0 c.take_out.ensures c.loop-index.invariant.indices);
       others =
           others
           ∙ ap (λ (d : CoreParts). record d { language = c.settle_language-in-Some.new.core.language; variants = remove core.variants c.in-Some.index }) c.loop-index.invariant.others
