@@ -13,7 +13,7 @@ use Rattle.lt_tag.specs.Lists.{list_of}
 use Rattle.lt_tag.specs.Splitting.{before}
 use Rattle.lt_ends.specs.Ends.{IsTransformed}
 use Rattle.lt_ends.specs.Appending.{FollowsSingleton, IsSeparated}
-use Rattle.lt_ends.proofs.EndLists.{list_append}
+use Rattle.lt_ends.proofs.EndLaws.{list_append}
 
 -- subtags are as long in lower case
 pub folded_lengths : (ps : List (List ℕ)) → list_all (λ (s : List ℕ). not (length s == 1)) ps ≡ list_all (λ (s : List ℕ). not (length s == 1)) (map folded ps)

@@ -19,8 +19,7 @@ use Rattle.lt_recent.specs.declared.Kept.{Kept}
 use Rattle.lt_tag.proofs.ListLemmas.{tail_is}
 use Rattle.lt_ends.specs.Ends.{IsCanonicalCore, IsEnd, IsEndText, IsFields, IsFieldsText, IsKeptEnd, IsTransformed, AreEnds}
 use Rattle.lt_ends.specs.Appending.{AppendsEnd, AppendsFront, AppendsKept, AppendsTransformed, EndStands, EndsText}
-use Rattle.lt_ends.proofs.EndLists.{list_single}
-use Rattle.lt_ends.proofs.EndLaws.{ends_shared}
+use Rattle.lt_ends.proofs.EndLaws.{ends_shared, list_single}
 use Rattle.lt_ends.proofs.FieldLaws.{fields_shared}
 
 -- what holds of each holds of each where two are exchanged
