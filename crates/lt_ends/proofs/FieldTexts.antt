@@ -2,7 +2,7 @@
 use Rattle.std.proofs.Common.{◌≡◌, ◌≢◌, ◌-◌, ◌==◌, ◌∷◌, ◌++◌, ◌∙◌, ℕ, List, [], true, not, length, take, drop, refl, sym, ap, arith}
 use Rattle.std.specs.List.{list_all}
 use Rattle.std.specs.Char.{is_ascii_alphabetic, is_ascii_digit, is_ascii_lowercase, to_ascii_lowercase}
-use Rattle.std.proofs.lemmas.Bool.{and_from, and_parts, ne_eqb}
+use Rattle.std.proofs.lemmas.Bool.{and_parts, ne_eqb}
 use Rattle.std.proofs.lemmas.Bool.Decides.{nat_tests}
 use Rattle.std.proofs.lemmas.List.{take_rest}
 use Rattle.lt_subtag.specs.Bytes.{folded}
@@ -11,7 +11,6 @@ use Rattle.lt_tag.specs.Lists.{list_of}
 use Rattle.lt_tag.specs.Splitting.{before}
 use Rattle.lt_ends.specs.Ends.{IsTransformed}
 use Rattle.lt_ends.specs.Appending.{FollowsSingleton, IsSeparated}
-use Rattle.lt_ends.proofs.EndLaws.{list_append}
 
 -- a letter is one in lower case, and a digit is the same
 letter_lower : (letter : ℕ) → is_ascii_alphabetic letter ≡ true → is_ascii_lowercase (to_ascii_lowercase letter) ≡ true
