@@ -17,31 +17,6 @@ use Rattle.lt_lines.specs.declared.forms.LineForm.{LineForm}
 use Rattle.lt_lines.specs.declared.recent_answers.RecentAnswers.{RecentAnswers}
 use Rattle.lt_lines.specs.declared.forms.LineForm.TheVariants as forms
 
--- what the table has for a text is right
-recent_right : (T : Terms) (table : List (Option Kept)) (text answer : List ℕ) (refused : Bool) → All (IsRecent T) table
-    → Holds table (take (length text) text) answer refused → IsRecent T (kept text answer refused)
-recent_right T table text answer refused all held =
-    let whole : take (length text) text ≡ text = take_all (length text) text (omega arith) in
-    All-contains (IsRecent T) table (kept text answer refused) all (subst (λ (l : List ℕ). Holds table l answer refused) whole held)
-
--- an answer that the table has for a text is owed for it
-pub recent_owed : (R : List EntryParts) (table : List (Option Kept)) (text answer old new : List ℕ) (refused : Bool) → All (IsRecent (terms R forms.Tag)) table
-    → Holds table (take (length text) text) answer refused → new ≡ old ++ answer → AppendsTextReply R text old new refused
-recent_owed R table text answer old new refused all held grown = record {
-  bytes = answer;
-  grown = grown;
-  owed = recent_right (terms R forms.Tag) table text answer refused all held;
-}
-
--- a canonical text that the table has for a field is its own
-pub recent_field : (R : List EntryParts) (before : ℕ) (table : List (Option Kept)) (text answer old new : List ℕ) (refused : Bool) → All (IsRecent (terms R (forms.Row before))) table
-    → Holds table (take (length text) text) answer refused → new ≡ old ++ answer → AppendsCanonicalText R text old new
-recent_field R before table text answer old new refused all held grown = record {
-  canonical = answer;
-  grown = grown;
-  is_canonical = recent_right (terms R (forms.Row before)) table text answer refused all held;
-}
-
 -- the answer that was appended for a text may be put
 pub put_answer : (R : List EntryParts) (before after : List (Option Kept)) (text old new answer : List ℕ) (refused : Bool) → PutsIn before after text answer refused
     → answer ≡ drop (length old) new → AppendsTextReply R text old new refused → All (IsRecent (terms R forms.Tag)) before → All (IsRecent (terms R forms.Tag)) after

@@ -47,28 +47,6 @@ skips_last S count wanted row rest s one few = record {
   fewer = omega (arith, s.number, few);
 }
 
--- what is before the rest
-front_of_rest : (row front rest : List ℕ) → row ≡ front ++ rest → take (length row - length rest) row ≡ front
-front_of_rest row front rest is =
-    let long : length row - length rest ≡ length front = omega (arith, ap length is, length-append front rest) in
-    ap (λ n. take n row) long ∙ ap (take (length front)) is ∙ take-append_seam front rest
-
--- the first field of the rest
-pub found_field : (S : Separator) (count : ℕ) (row rest field after : List ℕ) → Skips S count row rest → IsField S field → IsAfterField S field after → rest ≡ field ++ after
-    → HasField S count row (take (length row - length rest) row) field after
-found_field S count row rest field after s one ends split =
-    let front = front_of_rest row (separated S s.before) rest s.row_is in
-    record {
-      before = s.before;
-      each = s.each;
-      number = s.number;
-      front_is = front;
-      one = one;
-      ends = ends;
-      row_is = s.row_is ∙ ap (λ l. l ++ rest) (sym front) ∙ ap (λ l. take (length row - length rest) row ++ l) split
-          ∙ sym (append_assoc (take (length row - length rest) row) field after);
-    }
-
 -- more bytes in front of a row
 row_line-append : (S : Separator) (front row last line : List ℕ) → front ++ row_line S row last line ≡ row_line S (front ++ row) last line
 row_line-append S front row last line =
@@ -135,18 +113,3 @@ row_refused S R before line front field after quotes text old fronted filled new
         refl,
       );
     }
-
--- what is owed for a row is owed for a line of its form
-pub line_of_tabs : (R : List EntryParts) (before : ℕ) (first : Bool) (line old new : List ℕ) (refused : Bool) → AppendsRowReply separators.Tab R before line old new refused
-    → AppendsReply (terms R (forms.Row before)) first line old new refused
-line_of_tabs R before first line old new refused a = record { bytes = a.bytes; grown = a.grown; owed = a.owed }
-
-pub line_of_commas : (R : List EntryParts) (before : ℕ) (line old new : List ℕ) (refused : Bool) → AppendsRowReply separators.Comma R before line old new refused
-    → AppendsReply (terms R (forms.Csv before)) false line old new refused
-line_of_commas R before line old new refused a = record { bytes = a.bytes; grown = a.grown; owed = a.owed }
-
--- what is owed for a heading is owed for the first record
-pub line_of_heading : (R : List EntryParts) (before : ℕ) (line old new : List ℕ)
-    → new ≡ old ++ row_line separators.Comma (content_of line) (codes "langtag_fault") line → AppendsReply (terms R (forms.Csv before)) true line old new false
-line_of_heading R before line old new grown =
-    record { bytes = row_line separators.Comma (content_of line) (codes "langtag_fault") line; grown = grown; owed = (refl, refl) }

@@ -142,21 +142,14 @@ taken_part T bytes out part old new t one kept inside feeds owed counts recent =
 -- some of what is owed was written
 pub taken_write : (T : Terms) (bytes out part : List ℕ) (old new : Answering) → IsTaken T bytes out old → KeepsLine old new
     → old.owed.items ≡ part ++ new.owed.items → IsTaken T bytes (out ++ part) new
-taken_write T bytes out part old new t same wrote = record {
-  lines = t.lines;
-  last = t.last;
-  cut = t.cut;
-  each_one = t.each_one;
-  last_one = t.last_one;
+taken_write T bytes out part old new t same wrote = record t {
   kept = same.kept ∙ t.kept;
   goes_on = same.goes_on ∙ t.goes_on;
   feeds = same.feeds ∙ t.feeds;
-  owed = t.owed;
-  each = t.each;
   all = append_assoc out part new.owed.items ∙ ap (λ (l : List ℕ). out ++ l) (sym wrote) ∙ t.all;
-  count = ap (λ (c : Counts). c.lines) same.counts ∙ t.count;
-  refused = ap (λ (c : Counts). c.refused) same.counts ∙ t.refused;
-  recent = subst (AreRecent T) (sym same.recent) t.recent;
+  count = rw same.counts t.count;
+  refused = rw same.counts t.refused;
+  recent = rw same.recent t.recent;
 }
 
 -- a front of what is owed was written, whatever follows

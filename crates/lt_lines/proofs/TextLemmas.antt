@@ -124,7 +124,3 @@ pub canonical_answers : (R : List EntryParts) (text canonical : List ℕ) → Is
 canonical_answers R text canonical h =
     let listed = (text_of_tag h.form h.is_form.canonical.valid.proper.tag.tag).0 in
     unmarked canonical [] (subst HasList (sym h.written) listed)
-
--- a refusal is one
-pub refusal_refuses : (refusal : TextRefusal) (line : List ℕ) → IsRefusalLine refusal line → is_refusal line ≡ true
-refusal_refuses refusal line e = ap is_refusal e.line_is
