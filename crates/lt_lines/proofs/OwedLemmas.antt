@@ -18,56 +18,47 @@ IsNoFeed byte = byte ≢ 10
 -- ---- lines by their form
 
 pub units_none : (form : LineForm) → units_of form [] ≡ []
-units_none forms.Tag = refl
-units_none (forms.Row before) = refl
 units_none (forms.Csv before) = refl
+units_none form = refl
 
 pub open_none : (form : LineForm) → is_open form [] ≡ false
-open_none forms.Tag = refl
-open_none (forms.Row before) = refl
 open_none (forms.Csv before) = refl
+open_none form = refl
 
 pub unit_none : (form : LineForm) → IsUnit form []
-unit_none forms.Tag = λ k d lt. absurd (omega (arith, lt))
-unit_none (forms.Row before) = λ k d lt. absurd (omega (arith, lt))
 unit_none (forms.Csv before) = tt
+unit_none form = λ k d lt. absurd (omega (arith, lt))
 
 -- a line and its line feed
 pub units-ended : (form : LineForm) (line rest : List ℕ) → IsWhole form line → units_of form (line ++ 10 ∷ rest) ≡ line ∷ units_of form rest
-units-ended forms.Tag line rest h = lines_of-ended line rest h.unit
-units-ended (forms.Row before) line rest h = lines_of-ended line rest h.unit
 units-ended (forms.Csv before) line rest h = records_from-ended false line rest h.unit h.closed
+units-ended form line rest h = lines_of-ended line rest h.unit
 
 -- a last line
 pub units-last : (form : LineForm) (line : List ℕ) → IsUnit form line → 0 < length line → units_of form line ≡ line ∷ []
-units-last forms.Tag line one some = lines_of-last line one some
-units-last (forms.Row before) line one some = lines_of-last line one some
 units-last (forms.Csv before) line one some = records_from-last false line one some
+units-last form line one some = lines_of-last line one some
 
 -- a line goes on with bytes before the next line feed
 pub unit-append : (form : LineForm) (last part : List ℕ) → IsUnit form last → IsOneLine part → IsUnit form (last ++ part)
-unit-append forms.Tag last part h one = All-append IsNoFeed last part h one
-unit-append (forms.Row before) last part h one = All-append IsNoFeed last part h one
 unit-append (forms.Csv before) last part h one = free-append 10 false last part h (free_of_none 10 (is_inside false last) part one)
+unit-append form last part h one = All-append IsNoFeed last part h one
 
 pub open-append : (form : LineForm) (last part : List ℕ) → is_open form (last ++ part) ≡ open_after form (is_open form last) part
-open-append forms.Tag last part = refl
-open-append (forms.Row before) last part = refl
 open-append (forms.Csv before) last part = is_inside-append false last part
+open-append form last part = refl
 
 never : false ≡ true → ⊥
 never e = cc
 
 -- a line feed within quotes
 pub unit-feed : (form : LineForm) (last : List ℕ) → IsUnit form last → is_open form last ≡ true → IsUnit form (last ++ 10 ∷ [])
-unit-feed forms.Tag last h inside = absurd (never inside)
-unit-feed (forms.Row before) last h inside = absurd (never inside)
 unit-feed (forms.Csv before) last h inside = free-append 10 false last (10 ∷ []) h (λ e. inside, tt)
+unit-feed form last h inside = absurd (never inside)
 
 pub open-feed : (form : LineForm) (last : List ℕ) → is_open form last ≡ true → is_open form (last ++ 10 ∷ []) ≡ true
-open-feed forms.Tag last inside = inside
-open-feed (forms.Row before) last inside = inside
 open-feed (forms.Csv before) last inside = is_inside-append false last (10 ∷ []) ∙ ap (λ b. is_inside b (10 ∷ [])) inside
+open-feed form last inside = inside
 
 -- lines that are ended come first
 pub ended_first : (form : LineForm) (lines : List (List ℕ)) (more : List ℕ) → AllByRecursion (IsWhole form) lines
@@ -87,9 +78,8 @@ inside_after_ended before (line ∷ lines) last h =
 
 pub open_after_ended : (form : LineForm) (lines : List (List ℕ)) (last : List ℕ) → AllByRecursion (IsWhole form) lines
     → is_open form (ended lines ++ last) ≡ is_open form last
-open_after_ended forms.Tag lines last h = refl
-open_after_ended (forms.Row before) lines last h = refl
 open_after_ended (forms.Csv before) lines last h = inside_after_ended before lines last h
+open_after_ended form lines last h = refl
 
 -- one more line that is ended
 pub ended-append : (lines : List (List ℕ)) (line : List ℕ) → ended (lines ++ line ∷ []) ≡ ended lines ++ (line ++ 10 ∷ [])

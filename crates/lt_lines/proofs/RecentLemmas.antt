@@ -1,18 +1,16 @@
 -- Answers that were given lately.
-use Rattle.std.proofs.Common.{◌≡◌, ◌++◌, ℕ, List, Bool, false, Option, Result, OnOk, length, take, drop, sym, ap, subst, ◌∙◌, arith}
+use Rattle.std.proofs.Common.{◌≡◌, ℕ, List, Bool, false, Option, Result, OnOk, length, drop, sym, ap, subst, ◌∙◌}
 use Rattle.std.specs.List.{All}
-use Rattle.std.proofs.lemmas.List.Elements.{All-contains}
-use Rattle.std.proofs.lemmas.List.{take_all}
 use Rattle.std.proofs.lemmas.Result.{on_ok_weaker}
 use Rattle.std.proofs.Math.Seq.{drop-append_seam}
 use Rattle.lt_tag.specs.declared.faults.OutOfMemory.{OutOfMemory}
 use Rattle.lt_registry.specs.Parts.{EntryParts}
 use Rattle.lt_canon.specs.Texts.{AppendsCanonicalText}
-use Rattle.lt_recent.specs.Recent.{Holds, PutsIn, kept}
+use Rattle.lt_recent.specs.Recent.{PutsIn}
 use Rattle.lt_recent.specs.declared.Kept.{Kept}
 use Rattle.lt_lines.specs.Answering.{AppendsTextReply, AreRecent, IsRecent}
 use Rattle.lt_ends.proofs.KeptEnds.{all_put}
-use Rattle.lt_lines.specs.Owed.{Terms, terms}
+use Rattle.lt_lines.specs.Owed.{terms}
 use Rattle.lt_lines.specs.declared.forms.LineForm.{LineForm}
 use Rattle.lt_lines.specs.declared.recent_answers.RecentAnswers.{RecentAnswers}
 use Rattle.lt_lines.specs.declared.forms.LineForm.TheVariants as forms

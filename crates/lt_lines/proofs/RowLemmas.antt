@@ -1,17 +1,14 @@
 -- The fields of a row, and what is owed for it.
-use Rattle.std.proofs.Common.{◌≡◌, ◌<◌, ◌+◌, ◌-◌, ◌++◌, ◌∷◌, ◌∙◌, inl, inr, ℕ, List, [], Bool, true, false, codes, length, take, sym, ap, refl, arith, append_assoc, length-append}
+use Rattle.std.proofs.Common.{◌≡◌, ◌<◌, ◌+◌, ◌++◌, ◌∷◌, ◌∙◌, inl, inr, ℕ, List, [], true, false, sym, ap, refl, arith, append_assoc, length-append}
 use Rattle.std.specs.List.{AllByRecursion}
-use Rattle.std.proofs.Math.Seq.{take-append_seam}
 use Rattle.lt_jar.specs.Lines.{content_of}
 use Rattle.lt_registry.specs.Parts.{EntryParts}
 use Rattle.lt_canon.specs.Texts.{AppendsCanonicalText, IsTextRefusal}
 use Rattle.lt_canon.specs.declared.refusals.TextRefusal.{TextRefusal}
-use Rattle.lt_lines.specs.Answering.{AppendsReply, AppendsRowReply, EndsRefused}
-use Rattle.lt_lines.specs.Owed.{end_of, row_line, terms}
-use Rattle.lt_lines.specs.Rows.{HasFewer, HasField, IsAfterField, IsEnded, IsField, IsTextIn, Skips, separated, separator}
-use Rattle.lt_lines.specs.declared.forms.LineForm.TheVariants as forms
+use Rattle.lt_lines.specs.Answering.{AppendsRowReply, EndsRefused}
+use Rattle.lt_lines.specs.Owed.{end_of, row_line}
+use Rattle.lt_lines.specs.Rows.{HasFewer, HasField, IsEnded, IsField, IsTextIn, Skips, separated, separator}
 use Rattle.lt_lines.specs.declared.rows.Separator.{Separator}
-use Rattle.lt_lines.specs.declared.rows.Separator.TheVariants as separators
 
 -- one field more that a separator ends
 separated-append : (S : Separator) (fields : List (List ℕ)) (field : List ℕ) → separated S (fields ++ field ∷ []) ≡ separated S fields ++ (field ++ separator S ∷ [])

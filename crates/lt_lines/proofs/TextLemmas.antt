@@ -19,7 +19,6 @@ use Rattle.lt_canon.specs.Texts.{IsCanonicalTextOf, IsTextRefusal}
 use Rattle.lt_canon.specs.declared.refusals.TextRefusal.{TextRefusal}
 use Rattle.lt_canon.specs.declared.refusals.TextRefusal.TheVariants as refusals
 use Rattle.lt_lines.specs.Answering.{kept_of, longest_kept}
-use Rattle.lt_lines.specs.Refusals.{IsRefusalLine}
 use Rattle.lt_lines.specs.Owed.{AnswersText, IsReplyIn, IsTextReply, RefusesText, Reply, is_refusal}
 use Rattle.lt_lines.specs.declared.forms.LineForm.{LineForm}
 use Rattle.lt_lines.specs.declared.forms.LineForm.TheVariants as forms
@@ -86,8 +85,7 @@ reply_for_front R line r owed = by_length (leb_tells (length line) longest_kept)
 -- what is owed for the front of a line, as far as it is kept, is owed for the line
 pub reply_for_kept : (R : List EntryParts) (form : LineForm) (first : Bool) (line : List ℕ) (r : Reply) → IsReplyIn R form first (kept_of form line) r → IsReplyIn R form first line r
 reply_for_kept R forms.Tag first line r owed = reply_for_front R line r owed
-reply_for_kept R (forms.Row before) first line r owed = owed
-reply_for_kept R (forms.Csv before) first line r owed = owed
+reply_for_kept R form first line r owed = owed
 
 -- ---- refusals
 
