@@ -6,7 +6,7 @@ use Rattle.std.proofs.lemmas.List.Elements.{All-append, All-head, All-tail}
 use Rattle.std.proofs.lemmas.List.Sums.{sum_by-append}
 use Rattle.lt_jar.proofs.CutLemmas.{lines_of-ended, lines_of-last}
 use Rattle.lt_lines.specs.Answering.{one_if, open_after}
-use Rattle.lt_lines.specs.Owed.{AreReplies, AreRepliesFrom, IsOneLine, IsReplyTo, IsUnit, IsWhole, Reply, Terms, bytes_in, ended, feeds_in, is_open, refused_in, units_of}
+use Rattle.lt_lines.specs.Owed.{AreRepliesFrom, IsOneLine, IsReplyTo, IsUnit, IsWhole, Reply, Terms, bytes_in, ended, feeds_in, is_open, refused_in, units_of}
 use Rattle.lt_lines.specs.Quotes.{is_inside}
 use Rattle.lt_lines.specs.declared.forms.LineForm.{LineForm}
 use Rattle.lt_lines.specs.declared.forms.LineForm.TheVariants as forms
@@ -48,13 +48,10 @@ pub open-append : (form : LineForm) (last part : List ℕ) → is_open form (las
 open-append (forms.Csv before) last part = is_inside-append false last part
 open-append form last part = refl
 
-never : false ≡ true → ⊥
-never e = cc
-
 -- a line feed within quotes
 pub unit-feed : (form : LineForm) (last : List ℕ) → IsUnit form last → is_open form last ≡ true → IsUnit form (last ++ 10 ∷ [])
 unit-feed (forms.Csv before) last h inside = free-append 10 false last (10 ∷ []) h (λ e. inside, tt)
-unit-feed form last h inside = absurd (never inside)
+unit-feed form last h inside = let bad : false ≡ true = inside in cc
 
 pub open-feed : (form : LineForm) (last : List ℕ) → is_open form last ≡ true → is_open form (last ++ 10 ∷ []) ≡ true
 open-feed (forms.Csv before) last inside = is_inside-append false last (10 ∷ []) ∙ ap (λ b. is_inside b (10 ∷ [])) inside
@@ -105,8 +102,7 @@ feeds_in-append text more = sum_by-append (λ (byte : ℕ). cond (byte == 10) 1 
 pub no_feeds : (text : List ℕ) → IsOneLine text → feeds_in text ≡ 0
 no_feeds [] one = refl
 no_feeds (byte ∷ text) one =
-    feeds_in-append (byte ∷ []) text ∙ ap (λ t. (0 + cond t 1 0) + feeds_in text) (ne_eqb byte 10 (All-head IsNoFeed byte text one))
-    ∙ ap (λ n. 0 + n) (no_feeds text (All-tail IsNoFeed byte text one))
+    rw (ne_eqb byte 10 (All-head IsNoFeed byte text one)) (omega (arith, no_feeds text (All-tail IsNoFeed byte text one)))
 
 pub one_feed : (text part : List ℕ) → IsOneLine part → feeds_in (text ++ (part ++ 10 ∷ [])) ≡ feeds_in text + 1
 one_feed text part one =
@@ -128,39 +124,26 @@ pub first_by_count : (lines : List (List ℕ)) (count : ℕ) → count ≡ lengt
 first_by_count [] count is = eq-eqb count 0 is
 first_by_count (line ∷ lines) count is = ne_eqb count 0 (λ none. omega (arith, none, is))
 
-replies_from-append : (T : Terms) (first : Bool) (lines : List (List ℕ)) (owed : List Reply) (line : List ℕ) (r : Reply)
+pub replies-append : (T : Terms) (first : Bool) (lines : List (List ℕ)) (owed : List Reply) (line : List ℕ) (r : Reply)
     → AreRepliesFrom T first lines owed → IsReplyTo T (first_after first lines) line r → AreRepliesFrom T first (lines ++ line ∷ []) (owed ++ r ∷ [])
-replies_from-append T first [] [] line r h one = (one, tt)
-replies_from-append T first [] (o ∷ owed) line r h one = absurd h
-replies_from-append T first (l ∷ lines) [] line r h one = absurd h
-replies_from-append T first (l ∷ lines) (o ∷ owed) line r h one =
-    (h.0, replies_from-append T false lines owed line r h.1 (subst (λ b. IsReplyTo T b line r) (sym (none_first lines)) one))
-
-pub AreReplies-append : (T : Terms) (lines : List (List ℕ)) (owed : List Reply) (line : List ℕ) (r : Reply) → AreReplies T lines owed
-    → IsReplyTo T (first_after true lines) line r → AreReplies T (lines ++ line ∷ []) (owed ++ r ∷ [])
-AreReplies-append T lines owed line r h one = replies_from-append T true lines owed line r h one
-
-replies_from-length : (T : Terms) (first : Bool) (lines : List (List ℕ)) (owed : List Reply) → AreRepliesFrom T first lines owed → length owed ≡ length lines
-replies_from-length T first [] [] h = refl
-replies_from-length T first [] (o ∷ owed) h = absurd h
-replies_from-length T first (l ∷ lines) [] h = absurd h
-replies_from-length T first (l ∷ lines) (o ∷ owed) h = ap (λ n. suc n) (replies_from-length T false lines owed h.1)
+replies-append T first [] [] line r h one = (one, tt)
+replies-append T first [] (o ∷ owed) line r h one = absurd h
+replies-append T first (l ∷ lines) [] line r h one = absurd h
+replies-append T first (l ∷ lines) (o ∷ owed) line r h one =
+    (h.0, replies-append T false lines owed line r h.1 (subst (λ b. IsReplyTo T b line r) (sym (none_first lines)) one))
 
 -- an answer is owed for each line
-pub AreReplies-length : (T : Terms) (lines : List (List ℕ)) (owed : List Reply) → AreReplies T lines owed → length owed ≡ length lines
-AreReplies-length T lines owed h = replies_from-length T true lines owed h
+pub replies-length : (T : Terms) (first : Bool) (lines : List (List ℕ)) (owed : List Reply) → AreRepliesFrom T first lines owed → length owed ≡ length lines
+replies-length T first [] [] h = refl
+replies-length T first [] (o ∷ owed) h = absurd h
+replies-length T first (l ∷ lines) [] h = absurd h
+replies-length T first (l ∷ lines) (o ∷ owed) h = ap (λ n. suc n) (replies-length T false lines owed h.1)
 
 pub bytes_in-last : (owed : List Reply) (r : Reply) → bytes_in (owed ++ r ∷ []) ≡ bytes_in owed ++ r.bytes
 bytes_in-last [] r = append-nil r.bytes
 bytes_in-last (o ∷ owed) r = ap (λ l. o.bytes ++ l) (bytes_in-last owed r) ∙ sym (append_assoc o.bytes (bytes_in owed) r.bytes)
 
-pub length-last : (owed : List Reply) (r : Reply) → length (owed ++ r ∷ []) ≡ length owed + 1
-length-last owed r = length-append owed (r ∷ [])
-
 pub refused_in-last : (owed : List Reply) (r : Reply) → refused_in (owed ++ r ∷ []) ≡ refused_in owed + one_if r.refused
 refused_in-last owed r =
-    sum_by-append (λ (o : Reply). cond o.refused 1 0) owed (r ∷ []) ∙ ap (λ n. refused_in owed + n) (by_test r.refused)
-  where
-    by_test : (t : Bool) → 0 + cond t 1 0 ≡ one_if t
-    by_test true = refl
-    by_test false = refl
+    sum_by-append (λ (o : Reply). cond o.refused 1 0) owed (r ∷ [])
+    ∙ ap (λ n. refused_in owed + n) (elim r.refused as (λ t. 0 + cond t 1 0 ≡ one_if t) [ true ↦ refl | false ↦ refl ])

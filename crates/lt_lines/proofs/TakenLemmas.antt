@@ -1,5 +1,5 @@
 -- What was taken of lines that come in pieces.
-use Rattle.std.proofs.Common.{◌≡◌, ◌≤◌, ◌<◌, ◌+◌, ◌-◌, ◌++◌, ◌∷◌, ◌∙◌, ◌⊎◌, inl, inr, ℕ, List, [], true, false, length, take, sym, ap, refl, subst, arith, append_assoc, append-nil, length-append, leb, ◌==◌}
+use Rattle.std.proofs.Common.{◌≡◌, ◌≤◌, ◌<◌, ◌+◌, ◌-◌, ◌++◌, ◌∷◌, ◌∙◌, inl, inr, ℕ, List, [], true, false, length, take, sym, ap, refl, subst, arith, append_assoc, append-nil, length-append, ◌==◌}
 use Rattle.std.proofs.lemmas.Bool.{eqb-true, eqb-false}
 use Rattle.std.proofs.lemmas.Bool.Decides.{leb_tells}
 use Rattle.std.proofs.lemmas.List.{take_all, length-take, length-take-le, nil_from_length}
@@ -12,7 +12,7 @@ use Rattle.lt_lines.specs.declared.forms.LineForm.{LineForm}
 use Rattle.lt_lines.specs.declared.forms.LineForm.TheVariants as forms
 use Rattle.lt_lines.specs.DeviceOutput.{IsFrontOf}
 use Rattle.lt_lines.specs.declared.answering.Answering.{Answering}
-use Rattle.lt_lines.proofs.OwedLemmas.{AreReplies-append, AreReplies-length, bytes_in-last, ended-append, ended-length, ended_first, feeds_in-append, first_by_count, length-last, no_feeds, one_feed, open-append, open-feed, open_after_ended, open_none, refused_in-last, unit-append, unit-feed, unit_none, units-ended, units-last, units_none, whole_lines-append}
+use Rattle.lt_lines.proofs.OwedLemmas.{bytes_in-last, ended-append, ended-length, ended_first, feeds_in-append, first_by_count, no_feeds, one_feed, open-append, open-feed, open_after_ended, open_none, refused_in-last, replies-append, replies-length, unit-append, unit-feed, unit_none, units-ended, units-last, units_none, whole_lines-append}
 
 -- whether there are bytes, by their count
 pub no_items : (items : List ℕ) (count : ℕ) → count ≡ length items → (count == 0) ≡ true → items ≡ []
@@ -24,18 +24,17 @@ some_items items count is e none = eqb-false count 0 e (is ∙ ap length none)
 -- what is kept of a tag that goes on
 tag_more : (kept last part new : List ℕ) → kept ≡ take longest_kept last → new ≡ kept ++ take (longest_kept - length kept) part
     → new ≡ take longest_kept (last ++ part)
-tag_more kept last part new is e = by_length (leb_tells (length last) longest_kept)
-  where
-    by_length : ((leb (length last) longest_kept ≡ true) × (length last ≤ longest_kept)) ⊎ ((leb (length last) longest_kept ≡ false) × (longest_kept < length last)) → new ≡ take longest_kept (last ++ part)
-    by_length (inl short) =
-        let all : kept ≡ last = is ∙ take_all longest_kept last short.1 in
-        let room : longest_kept ≡ length last + (longest_kept - length last) = omega (arith, short.1) in
-        e ∙ ap (λ (l : List ℕ). l ++ take (longest_kept - length l) part) all
-        ∙ sym (ap (λ (n : ℕ). take n (last ++ part)) room ∙ take-append-add last part (longest_kept - length last))
-    by_length (inr long) =
-        let full : length kept ≡ longest_kept = ap length is ∙ length-take-le longest_kept last (omega (arith, long.1)) in
-        let none : longest_kept - length kept ≡ 0 = omega (arith, full) in
-        e ∙ ap (λ (n : ℕ). kept ++ take n part) none ∙ append-nil kept ∙ is ∙ sym (take-append-le longest_kept last part (omega (arith, long.1)))
+tag_more kept last part new is e = elim (leb_tells (length last) longest_kept) [
+  | inl short ↦
+      let all : kept ≡ last = is ∙ take_all longest_kept last short.1 in
+      let room : longest_kept ≡ length last + (longest_kept - length last) = omega (arith, short.1) in
+      e ∙ ap (λ (l : List ℕ). l ++ take (longest_kept - length l) part) all
+      ∙ sym (ap (λ (n : ℕ). take n (last ++ part)) room ∙ take-append-add last part (longest_kept - length last))
+  | inr long ↦
+      let full : length kept ≡ longest_kept = ap length is ∙ length-take-le longest_kept last (omega (arith, long.1)) in
+      let none : longest_kept - length kept ≡ 0 = omega (arith, full) in
+      e ∙ ap (λ (n : ℕ). kept ++ take n part) none ∙ append-nil kept ∙ is ∙ sym (take-append-le longest_kept last part (omega (arith, long.1)))
+]
 
 -- what is kept of a line that goes on
 pub kept_more : (form : LineForm) (kept last part new : List ℕ) → kept ≡ kept_of form last → new ≡ kept ++ part_kept form (length kept) part → new ≡ kept_of form (last ++ part)
@@ -55,7 +54,7 @@ kept_none form = refl
 
 -- all is kept of a line that can go on after a line feed
 kept_open : (form : LineForm) (kept last : List ℕ) → kept ≡ kept_of form last → is_open form last ≡ true → kept ≡ last
-kept_open forms.Tag kept last is inside = absurd (let no : ⊥ = cc in no)
+kept_open forms.Tag kept last is inside = let bad : false ≡ true = inside in cc
 kept_open form kept last is inside = is
 
 -- a line was ended and answered
@@ -80,10 +79,10 @@ taken_line T bytes out part r old new t one owed_for grown none closed feeds lin
       goes_on = closed ∙ sym (open_none T.form);
       feeds = feeds ∙ ap (λ n. n + 1) t.feeds ∙ sym (one_feed bytes part one.one);
       owed = t.owed ++ r ∷ [];
-      each = AreReplies-append T t.lines t.owed whole r t.each
-          (subst (λ b. IsReplyTo T b whole r) (first_by_count t.lines old.counts.lines (t.count ∙ AreReplies-length T t.lines t.owed t.each)) (owed_for t.last t.kept));
+      each = replies-append T true t.lines t.owed whole r t.each
+          (subst (λ b. IsReplyTo T b whole r) (first_by_count t.lines old.counts.lines (t.count ∙ replies-length T true t.lines t.owed t.each)) (owed_for t.last t.kept));
       all = ap (λ (l : List ℕ). out ++ l) grown ∙ sym (append_assoc out old.owed.items r.bytes) ∙ ap (λ (l : List ℕ). l ++ r.bytes) t.all ∙ sym (bytes_in-last t.owed r);
-      count = lines ∙ ap (λ (n : ℕ). n + 1) t.count ∙ sym (length-last t.owed r);
+      count = omega (arith, lines, t.count, length-append t.owed (r ∷ []));
       refused = refusals ∙ ap (λ (n : ℕ). n + one_if r.refused) t.refused ∙ sym (refused_in-last t.owed r);
       recent = recent;
     }
@@ -241,7 +240,7 @@ begun_answered T bytes out part state a front = record {
 pub taken_room : (T : Terms) (bytes out : List ℕ) (state : Answering) → IsTaken T bytes out state
     → (state.counts.lines ≤ length bytes) × (state.counts.refused ≤ state.counts.lines) × (state.feeds ≤ length bytes)
 taken_room T bytes out state t =
-    let all = AreReplies-length T t.lines t.owed t.each in
+    let all = replies-length T true t.lines t.owed t.each in
     let most = ended-length t.lines in
     let fewer = count_by-le-length (λ (r : Reply). r.refused) t.owed in
     (omega (arith, t.count, all, most, ap length t.cut, length-append (ended t.lines) t.last), omega (arith, t.count, t.refused, fewer), omega (arith, t.feeds, count_by-le-length (λ (byte : ℕ). byte == 10) bytes))

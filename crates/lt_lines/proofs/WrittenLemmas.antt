@@ -1,11 +1,11 @@
 -- What the turns of a loop that writes a text keep.
-use Rattle.std.proofs.Common.{◌≡◌, ◌≤◌, ◌+◌, ◌-◌, ◌++◌, ℕ, List, Option, Result, Ok, Err, IfOk, IfErr, append_assoc, take, drop, length, sym, ap, ◌∙◌, subst, length-drop}
+use Rattle.std.proofs.Common.{◌≡◌, ◌≤◌, ◌+◌, ◌-◌, ◌++◌, ℕ, List, Option, Result, Ok, Err, IfOk, IfErr, append_assoc, take-append-drop, take, drop, length, sym, ap, ◌∙◌, subst, length-drop}
 use Rattle.std.specs.Io.KnownBytes.{Appends}
 use Rattle.std.proofs.KnownBytes.{Appends-trans}
 use Rattle.std.proofs.Math.Seq.{take-add, take-length}
 use Rattle.lt_jar.specs.declared.devices.Device.{Device}
 use Rattle.lt_lines.specs.DeviceOutput.{WritesText}
-use Rattle.lt_jar.specs.Devices.{HasFailed, failures_of}
+use Rattle.lt_jar.specs.Devices.{HasFailed, failures_of, inner_of}
 use Rattle.lt_lines.specs.declared.faults.ToolFault.{ToolFault}
 use Rattle.lt_lines.specs.declared.faults.ToolFault.TheVariants as faults
 use Rattle.lt_lines.proofs.DeviceLemmas.{failed_from}
@@ -25,6 +25,17 @@ pub appends_more : (a b c : Option (List ℕ)) (text : List ℕ) (at n : ℕ) �
 appends_more a b c text at n first second =
     subst (Appends a c) (sym (take-add at n text))
     (Appends-trans a b c _ _ first (subst (λ (l : List ℕ). Appends b c (take n l)) (range_from text at) second))
+
+-- the front of a text was written
+pub wrote_front : {W : Type 0} (contents : W → Option (List ℕ)) (text : List ℕ) (at : ℕ) (before after : Device W) (r : Result (Unit {0}) ToolFault) → Appends (contents (inner_of before)) (contents (inner_of after)) (take at text)
+    → IfOk r (λ _. (take at text ≡ text) × (failures_of after ≡ failures_of before)) → IfErr r (λ f. (f ≡ faults.Write) × HasFailed before after) → WritesText contents text before after r
+wrote_front contents text at before after r appends done stopped = record {
+  written = take at text;
+  appends = appends;
+  front = (drop at text, sym (take-append-drop at text));
+  done = done;
+  stopped = stopped;
+}
 
 -- a text was written, and then another
 pub wrote_more : {W : Type 0} (contents : W → Option (List ℕ)) (text more : List ℕ) (before between after : Device W) (r : Result (Unit {0}) ToolFault)
