@@ -179,12 +179,8 @@ front_no_name front more long none = λ step text is.
     none step rest.0 (record { place = is.place; number = is.number; line_is = rest.1 ∙ step_line-append step [] rest.0 })
 
 front_no_end : (front more : List ℕ) → 38 < length front → NamesNoEnd front → NamesNoEnd (front ++ more)
-front_no_end [] more long none = absurd (omega (arith, long))
-front_no_end (a ∷ []) more long none = absurd (omega (arith, long))
-front_no_end (a ∷ b ∷ front) more long none = λ text e.
-    let first : a ≡ 61 = cc in
-    let second : b ≡ 32 = cc in
-    none front (ap (λ c. c ∷ b ∷ front) first ∙ ap (λ c. 61 ∷ c ∷ front) second)
+front_no_end front more long none = λ text e.
+    let rest = longer_front front more (61 ∷ 32 ∷ []) text e (omega (arith, long)) in none rest.0 rest.1
 
 pub front_names_nothing : (front more : List ℕ) → 38 < length front → IsNoName front → NamesNoEnd front → NamesNothing (front ++ more)
 front_names_nothing front more long name end = record { no_step = front_no_name front more long name; no_end = front_no_end front more long end }

@@ -11,7 +11,7 @@ use Rattle.std.specs.Fmt.{decimal}
 use Rattle.std.specs.Str.Parse.{digits_value}
 use Rattle.std.proofs.lemmas.Bool.{false≢true}
 use Rattle.std.proofs.lemmas.Fmt.{decimal_is_IsNumeral}
-use Rattle.lt_rewrite.specs.Labels.{LeadsBy, step_at}
+use Rattle.lt_rewrite.specs.Labels.{LeadsBy}
 use Rattle.lt_rewrite.specs.Names.{name_of}
 use Rattle.lt_rewrite.specs.declared.steps.Step.{Step}
 use Rattle.lt_rewrite.specs.declared.steps.StepKind.{StepKind}
@@ -97,14 +97,12 @@ same_number : (m n : ℕ) → m < 2 ^ 32 → n < 2 ^ 32 → decimal m ≡ decima
 same_number m n small few e =
     sym (decimal_is_IsNumeral m (omega (arith, small))).1 ∙ ap (digits_value 10) e ∙ (decimal_is_IsNumeral n (omega (arith, few))).1
 
-same_parts : (a b : Step) → a.kind ≡ b.kind → a.place ≡ b.place → a.number ≡ b.number → a ≡ b
-same_parts a b kind place number =
-    ap (λ (k : StepKind). step_at k a.place a.number) kind ∙ ap (λ (p : ℕ). step_at b.kind p a.number) place ∙ ap (λ (n : ℕ). step_at b.kind b.place n) number
-
 same_step : (line : List ℕ) (a b : Step) (x y : List ℕ) → IsStepLine line a x → IsStepLine line b y → (a ≡ b) × (x ≡ y)
 same_step line a b x y is are =
     let words = one_words (step_words is) (step_words are) in
-    (same_parts a b (same_kind a.kind b.kind words.0) (same_number a.place b.place is.place are.place words.1) (same_number a.number b.number is.number are.number words.2), words.3)
+    let place = same_number a.place b.place is.place are.place words.1 in
+    let number = same_number a.number b.number is.number are.number words.2 in
+    ((λ i. let s : Step = record { kind = same_kind a.kind b.kind words.0 i; place = place i; number = number i } in s), words.3)
 
 -- a line that names a step is not that of an end: no name begins with `=`
 abbrev is_equals : List ℕ → Bool
