@@ -1,6 +1,5 @@
 -- Ends in a table of answers that were given lately.
-use Rattle.std.proofs.Common.{◌≡◌, ◌<◌, ◌≤◌, ◌+◌, ◌-◌, ◌==◌, ◌++◌, ℕ, List, [], ◌∷◌, Bool, true, false, not, Option, length, drop, take, inl, inr, refl, sym, ap, subst, ◌∙◌, arith, slice_index_or, slice_set}
-use Rattle.std.specs.Prelude.{IsTrue}
+use Rattle.std.proofs.Common.{◌≡◌, ◌<◌, ◌≤◌, ◌+◌, ◌-◌, ◌==◌, ◌++◌, ℕ, List, [], ◌∷◌, Bool, true, false, not, Option, length, drop, take, inl, inr, refl, sym, ap, subst, ◌∙◌, arith, slice_index_or, slice_set, IsTrue}
 use Rattle.std.specs.List.{All, list_all, swap}
 use Rattle.std.proofs.lemmas.List.Elements.{All-contains, All-set}
 use Rattle.std.proofs.lemmas.List.{append_assoc, length-append, length-map, take_rest}

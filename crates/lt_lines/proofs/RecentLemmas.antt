@@ -1,6 +1,5 @@
 -- Answers that were given lately.
-use Rattle.std.proofs.Common.{◌≡◌, ◌++◌, ℕ, List, Bool, Option, Result, OnOk, length, drop, sym, ap, subst, ◌∙◌}
-use Rattle.std.specs.List.{All}
+use Rattle.std.proofs.Common.{◌≡◌, ◌++◌, ℕ, List, Bool, Option, Result, OnOk, length, drop, sym, ap, subst, ◌∙◌, All}
 use Rattle.std.proofs.lemmas.Result.{on_ok_weaker}
 use Rattle.std.proofs.Math.Seq.{drop-append_seam}
 use Rattle.lt_tag.specs.declared.faults.OutOfMemory.{OutOfMemory}

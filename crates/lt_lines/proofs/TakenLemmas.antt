@@ -2,10 +2,9 @@
 use Rattle.std.proofs.Common.{◌≡◌, ◌≤◌, ◌<◌, ◌+◌, ◌-◌, ◌++◌, ◌∷◌, ◌∙◌, inl, inr, ℕ, List, [], true, false, length, take, sym, ap, refl, subst, arith, append_assoc, append-nil, length-append, ◌==◌}
 use Rattle.std.proofs.lemmas.Bool.{eqb-true, eqb-false}
 use Rattle.std.proofs.lemmas.Bool.Decides.{leb_tells}
-use Rattle.std.proofs.lemmas.List.{take_all, length-take, length-take-le, nil_from_length}
+use Rattle.std.proofs.lemmas.List.{take_all, length-take, length-take-le, nil_from_length, take-append-le}
 use Rattle.std.proofs.lemmas.List.Sums.{count_by-le-length}
 use Rattle.std.proofs.Math.Seq.{take-append-add}
-use Rattle.std.proofs.lemmas.List.{take-append-le}
 use Rattle.lt_lines.specs.Answering.{AreRecent, GoesOn, IsAnswered, IsTaken, IsWholeAfter, KeepsLine, kept_of, longest_kept, one_if, open_after, part_kept}
 use Rattle.lt_lines.specs.Owed.{EndsInQuotes, IsBegun, IsOneLine, IsOwed, IsOwedToLastFeed, IsReplyTo, IsUnit, Reply, Terms, ended, feeds_in, is_open, units_of}
 use Rattle.lt_lines.specs.declared.forms.LineForm.{LineForm}

@@ -1,8 +1,7 @@
 -- What is owed for a text by its first bytes: a long one is too long, and a canonical one is no refusal.
-use Rattle.std.proofs.Common.{◌≡◌, ◌≤◌, ◌<◌, ◌+◌, ◌-◌, ◌++◌, ◌∷◌, inl, inr, ℕ, List, [], Bool, true, false, Result, Err, IsOk, length, take, sym, ap, ◌∙◌, append_assoc, refl, subst, arith, if◌then◌else◌, ◌==◌, ◌&&◌, slice_index_or}
+use Rattle.std.proofs.Common.{◌≡◌, ◌≤◌, ◌<◌, ◌+◌, ◌-◌, ◌++◌, ◌∷◌, inl, inr, ℕ, List, [], Bool, true, false, Result, Err, IsOk, length, take, sym, ap, ◌∙◌, append_assoc, refl, subst, arith, if◌then◌else◌, ◌==◌, ◌&&◌, slice_index_or, take_all, length-take-le}
 use Rattle.std.proofs.lemmas.Bool.{cases_Bool, eqb-true}
 use Rattle.std.proofs.lemmas.Bool.Decides.{leb_tells}
-use Rattle.std.proofs.lemmas.List.{take_all, length-take-le}
 use Rattle.std.specs.Io.BufRead.{ends_with_byte}
 use Rattle.std.specs.List.{onto_first}
 use Rattle.lt_subtag.specs.Reading.{subtag_of}

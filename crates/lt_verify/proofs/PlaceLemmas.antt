@@ -1,6 +1,5 @@
 -- The place of a step and the number of its record have 32 bits.
-use Rattle.std.proofs.Common.{◌≡◌, ◌<◌, ◌≤◌, ◌+◌, ◌^◌, ◌++◌, ◌∷◌, ℕ, Bool, List, [], Option, Some, None, Ordering, length, ap, refl, subst, arith, length-append}
-use Rattle.std.specs.Prelude.{flat_map, option_to_list}
+use Rattle.std.proofs.Common.{◌≡◌, ◌<◌, ◌≤◌, ◌+◌, ◌^◌, ◌++◌, ◌∷◌, ℕ, Bool, List, [], Option, Some, None, Ordering, length, ap, refl, subst, arith, length-append, flat_map, option_to_list}
 use Rattle.lt_tag.specs.Parts.{CoreParts, ExtensionParts, UForm, TForm, TagForm, LangTag}
 use Rattle.lt_tag.specs.Extensions.{spell_field, spell_keyword, spell_t, spell_u}
 use Rattle.lt_tag.specs.Spelling.{IsCore, spell_core, spell_extension, spell_extensions}

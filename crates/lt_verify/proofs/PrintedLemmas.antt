@@ -1,6 +1,5 @@
 -- The lines of the text of an explanation.
-use Rattle.std.proofs.Common.{◌≡◌, ◌≢◌, ◌<◌, ◌++◌, ◌∷◌, ◌∙◌, ℕ, List, [], Bool, true, false, Result, Ok, Err, IsOk, if◌then◌else◌, length, suc, slice_index_or, ap, refl, subst, arith, append_assoc}
-use Rattle.std.specs.Prelude.{codes}
+use Rattle.std.proofs.Common.{◌≡◌, ◌≢◌, ◌<◌, ◌++◌, ◌∷◌, ◌∙◌, ℕ, List, [], Bool, true, false, Result, Ok, Err, IsOk, if◌then◌else◌, length, suc, slice_index_or, ap, refl, subst, arith, append_assoc, codes}
 use Rattle.std.specs.Char.{is_ascii_alphanumeric}
 use Rattle.std.specs.List.{AllByRecursion, join_with_byte, list_all}
 use Rattle.std.proofs.lemmas.Bool.{and_parts}

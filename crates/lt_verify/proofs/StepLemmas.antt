@@ -1,8 +1,6 @@
 -- The words of a step's line, and what the front of a line says of the line.
-use Rattle.std.proofs.Common.{◌≡◌, ◌≢◌, ◌<◌, ◌^◌, ◌++◌, ◌∷◌, ◌∙◌, ◌==◌, ℕ, List, [], Option, Some, Bool, true, sym, ap, refl, arith, not, map, get_or, find, ◌≤◌, ◌+◌, inl, inr, leb, length, append_assoc, length-append}
+use Rattle.std.proofs.Common.{◌≡◌, ◌≢◌, ◌<◌, ◌^◌, ◌++◌, ◌∷◌, ◌∙◌, ◌==◌, ℕ, List, [], Option, Some, Bool, true, sym, ap, refl, arith, not, map, get_or, find, ◌≤◌, ◌+◌, inl, inr, leb, length, append_assoc, length-append, bytes_eq, decimal, leb-true}
 use Rattle.std.specs.List.{list_all}
-use Rattle.std.specs.Str.{bytes_eq}
-use Rattle.std.specs.Fmt.{decimal}
 use Rattle.std.specs.Str.Parse.{AllDigits}
 use Rattle.std.proofs.lemmas.Fmt.{decimal_is_IsNumeral, length-decimal-le}
 use Rattle.std.proofs.lemmas.Str.Parse.{digit_from_value}
@@ -16,7 +14,6 @@ use Rattle.lt_rewrite.specs.declared.steps.Step.{Step}
 use Rattle.lt_rewrite.specs.declared.steps.StepKind.{StepKind}
 use Rattle.lt_rewrite.specs.declared.steps.StepKind.TheVariants as kinds
 use Rattle.lt_verify.specs.StepLines.{HasFewWords, HasWords, IsStepLine, step_line, IsNoName, NamesNoEnd, text_of}
-use Rattle.std.proofs.lemmas.Bool.{leb-true}
 use Rattle.lt_tag.specs.Parts.{TagForm}
 use Rattle.lt_registry.specs.Parts.{EntryParts}
 use Rattle.lt_rewrite.specs.Labels.{LeadsBy}

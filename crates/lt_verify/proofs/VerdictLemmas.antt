@@ -1,5 +1,5 @@
 -- What is judged of lines one after another is their verdict, and one thing is judged.
-use Rattle.std.proofs.Common.{◌≡◌, ◌+◌, ◌++◌, ◌∷◌, inl, inr, ℕ, List, [], Some, None, length, sym, ap, refl, subst, arith, append-nil, append_assoc, length-append, ◌≢◌, ◌<◌, ◌^◌, ◌∙◌, Bool, false, ◌==◌, Option}
+use Rattle.std.proofs.Common.{◌≡◌, ◌+◌, ◌++◌, ◌∷◌, inl, inr, ℕ, List, [], Some, None, length, sym, ap, refl, subst, arith, append-nil, append_assoc, length-append, ◌≢◌, ◌<◌, ◌^◌, ◌∙◌, Bool, false, ◌==◌, Option, decimal}
 use Rattle.lt_tag.specs.Parts.{TagForm}
 use Rattle.lt_registry.specs.Parts.{EntryParts}
 use Rattle.lt_verify.specs.Judging.{Judges, SettlesLine}
@@ -7,7 +7,6 @@ use Rattle.lt_verify.specs.StepLines.{end_line, text_of, IsStepLine}
 use Rattle.lt_verify.specs.Verdicts.{EndsElsewhere, EndsHere, IsVerdict, Lead, LeadsOn, StopsAt, NamesNoStep}
 use Rattle.lt_verify.specs.declared.verdicts.Verdict.{Verdict}
 use Rattle.lt_verify.specs.declared.verdicts.Verdict.TheVariants as verdicts
-use Rattle.std.specs.Fmt.{decimal}
 use Rattle.std.specs.Str.Parse.{digits_value}
 use Rattle.std.proofs.lemmas.Bool.{false≢true}
 use Rattle.std.proofs.lemmas.Fmt.{decimal_is_IsNumeral}

@@ -1,5 +1,4 @@
-use Rattle.std.proofs.Common.{◌≡◌, ◌++◌, ◌∙◌, ℕ, Bool, List, sym, ap, subst, arith, length, take, vec_len}
-use Rattle.std.proofs.lemmas.List.{take_all}
+use Rattle.std.proofs.Common.{◌≡◌, ◌++◌, ◌∙◌, ℕ, Bool, List, sym, ap, subst, arith, length, take, vec_len, take_all}
 use Rattle.std.proofs.lemmas.Result.{IfOk-weaker}
 use Rattle.lt_lines.specs.Answering.{AppendsLine, AppendsReply, kept_of, part_kept}
 use Rattle.lt_lines.specs.Owed.{IsReplyTo, Terms, reply, terms}

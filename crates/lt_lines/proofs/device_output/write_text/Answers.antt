@@ -1,6 +1,5 @@
-use Rattle.std.proofs.Common.{◌<◌, ◌≤◌, ◌-◌, ◌+◌, ◌∙◌, ℕ, length, take, drop, refl, ap, subst, arith, length-drop}
+use Rattle.std.proofs.Common.{◌<◌, ◌≤◌, ◌-◌, ◌+◌, ◌∙◌, ℕ, length, take, drop, refl, ap, subst, arith, length-drop, take_all}
 use Rattle.std.proofs.KnownBytes.{Appends-kept}
-use Rattle.std.proofs.lemmas.List.{take_all}
 use Rattle.lt_lines.proofs.WrittenLemmas.{appends_more, range_from, wrote_front}
 use Rattle.lt_lines.proofs.DeviceLemmas.{failed_from}
 use Rattle.lt_lines.proofs.device_output.write_text.Goals as goal
