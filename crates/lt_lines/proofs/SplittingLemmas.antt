@@ -50,7 +50,8 @@ module _ (byte : ℕ) (text : List ℕ) where
         (record { low = omega (arith, first); high = omega (arith, first); before = λ j low high. absurd (omega (arith, first, low, high)) }, subst has first is)
     | inr not ↦
         let more = first_from (i + 1) n k rest (rw not at e) in
-        (record { low = omega (arith, more.0.low); high = omega (arith, more.0.high); before = not_here i k not more.0.before }, more.1)
+        let before = not_here i k not more.0.before in
+        (record { low = omega (arith, more.0.low); high = omega (arith, more.0.high); before = before }, more.1)
   ]
 
   -- an empty one

@@ -39,7 +39,9 @@ reply_for_long : (R : List EntryParts) (text other : List ℕ) (r : Reply) → l
 reply_for_long R text other r long longer is = record {
   owed = elim is.owed [
     | inl a ↦ absurd (omega (arith, a.0.is_canonical.read.short))
-    | inr a ↦ inr (record { refusal = a.0.refusal; is_refusal = long_refusal R text other a.0.refusal long longer a.0.is_refusal; line_is = a.0.line_is }, a.1)
+    | inr a ↦
+        let is_refusal = long_refusal R text other a.0.refusal long longer a.0.is_refusal in
+        inr (record { refusal = a.0.refusal; is_refusal = is_refusal; line_is = a.0.line_is }, a.1)
   ];
   marked = is.marked;
 }

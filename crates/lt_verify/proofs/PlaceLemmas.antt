@@ -58,7 +58,8 @@ part_count spell (b ∷ before) a after =
 list_fits : {A : Type 0} {once : Bool} {cmp : A → A → Ordering} (xs ys : List A) (swap drop : StepKind) (spell : A → List (List ℕ)) (start : ℕ) → ((a : A) → 0 < length (spell a))
     → (s : ListStep once cmp xs ys) → Fits (list_label swap drop spell start s) (start + length (flat_map spell xs))
 list_fits xs ys swap drop spell start some (by_swap before a b after s) =
-    record { place = omega (arith, part_count spell before a (b ∷ after), some a, ap (λ l. length (flat_map spell l)) s.there); number = omega arith }
+    let count = part_count spell before a (b ∷ after) in
+    record { place = omega (arith, count, some a, ap (λ l. length (flat_map spell l)) s.there); number = omega arith }
 list_fits xs ys swap drop spell start some (by_drop before a between b after o s) =
     let count = part_count spell before a (between ++ b ∷ after) in
     let behind = part_count spell between b after in
@@ -71,21 +72,26 @@ module _ (R : List EntryParts) (all : NumbersFit R) where
   unicode_fits : (start : ℕ) (p q : UForm) (s : UnicodeStep p q) → Fits (unicode_label start s) (start + length (spell_u p) + 1)
   unicode_fits start p q (on_attributes s k) =
       let fits = list_fits p.attributes q.attributes _ _ (λ a. a ∷ []) start (λ a. omega arith) s in
-      record { place = omega (arith, fits.place, length-append p.attributes (flat_map spell_keyword p.keywords), attributes_count p.attributes); number = fits.number }
+      let count = length-append p.attributes (flat_map spell_keyword p.keywords) in
+      record { place = omega (arith, fits.place, count, attributes_count p.attributes); number = fits.number }
   unicode_fits start p q (on_keywords a s) =
       let fits = list_fits p.keywords q.keywords _ _ spell_keyword (start + length p.attributes) (λ a. omega arith) s in
-      record { place = omega (arith, fits.place, length-append p.attributes (flat_map spell_keyword p.keywords)); number = fits.number }
+      let count = length-append p.attributes (flat_map spell_keyword p.keywords) in
+      record { place = omega (arith, fits.place, count); number = fits.number }
   unicode_fits start p q (on_types a before k after s) =
       let count = length-append p.attributes (flat_map spell_keyword p.keywords) in
-      record { place = omega (arith, part_count spell_keyword before k after, count, ap (λ l. length (flat_map spell_keyword l)) s.there); number = omega arith }
+      let parts = part_count spell_keyword before k after in
+      record { place = omega (arith, parts, count, ap (λ l. length (flat_map spell_keyword l)) s.there); number = omega arith }
 
   transform_fits : (start : ℕ) (p q : TForm) (s : TransformStep R p q) → Fits (transform_label R start s) (start + length (spell_t p))
   transform_fits start p q (on_source c d from _ s _) =
       let fits = core_fits start c d s in
-      record { place = omega (arith, fits.place, length-append (spell_source p.source) (flat_map spell_field p.fields), ap (λ o. length (spell_source o)) from); number = fits.number }
+      let count = length-append (spell_source p.source) (flat_map spell_field p.fields) in
+      record { place = omega (arith, fits.place, count, ap (λ o. length (spell_source o)) from); number = fits.number }
   transform_fits start p q (on_fields a s) =
       let fits = list_fits p.fields q.fields _ _ spell_field (start + length (spell_source p.source)) (λ a. omega arith) s in
-      record { place = omega (arith, fits.place, length-append (spell_source p.source) (flat_map spell_field p.fields)); number = fits.number }
+      let count = length-append (spell_source p.source) (flat_map spell_field p.fields) in
+      record { place = omega (arith, fits.place, count); number = fits.number }
 
   extension_fits : (start : ℕ) (e f : ExtensionParts) (s : ExtensionStep R e f) → Fits (extension_label R start s) (start + length e.subtags + 1)
   extension_fits start e f (in_unicode p q _ _ from _ s) =
@@ -96,7 +102,8 @@ module _ (R : List EntryParts) (all : NumbersFit R) where
   extensions_fit : (start : ℕ) (es fs : List ExtensionParts) (s : ExtensionsStep R es fs) → Fits (extensions_label R start s) (start + length (spell_extensions es) + 1)
   extensions_fit start es fs (inside before e f after w s) =
       let fits = extension_fits (start + length (spell_extensions before) + 1) e f s in
-      record { place = omega (arith, fits.place, part_count spell_extension before e after, ap (λ l. length (spell_extensions l)) w.there); number = fits.number }
+      let count = part_count spell_extension before e after in
+      record { place = omega (arith, fits.place, count, ap (λ l. length (spell_extensions l)) w.there); number = fits.number }
   extensions_fit start es fs (among s) =
       let fits = list_fits es fs _ _ spell_extension start (λ a. omega arith) s in record { place = omega (arith, fits.place); number = fits.number }
 
@@ -116,8 +123,9 @@ module _ (R : List EntryParts) (all : NumbersFit R) where
   change_fits t u value (on_extensions c es fs ps from _ s) =
       let is = subst IsTagValue from value in
       let counts = fits (LangTag c es ps) is.counts in
+      let few = few_subtags es counts.1 in
       let fit = extensions_fit (length (spell_core c)) es fs s in
-      record { place = omega (arith, fit.place, core_few c is.tag.0.shaped_core is.counts.0, few_subtags es counts.1, counts.0); number = fit.number }
+      record { place = omega (arith, fit.place, core_few c is.tag.0.shaped_core is.counts.0, few, counts.0); number = fit.number }
   change_fits t u value (on_whole _ _) = record { place = omega arith; number = whole_fits R all t }
 
   pub step_fits : (t u : TagForm) (step : Step) → LeadsBy R t step u → (step.place < 2 ^ 32) × (step.number < 2 ^ 32)

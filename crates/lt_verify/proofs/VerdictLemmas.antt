@@ -99,9 +99,10 @@ same_number m n small few e =
 same_step : (line : List ℕ) (a b : Step) (x y : List ℕ) → IsStepLine line a x → IsStepLine line b y → (a ≡ b) × (x ≡ y)
 same_step line a b x y is are =
     let words = one_words (step_words is) (step_words are) in
+    let kind = same_kind a.kind b.kind words.0 in
     let place = same_number a.place b.place is.place are.place words.1 in
     let number = same_number a.number b.number is.number are.number words.2 in
-    ((λ i. let s : Step = record { kind = same_kind a.kind b.kind words.0 i; place = place i; number = number i } in s), words.3)
+    ((λ i. let s : Step = record { kind = kind i; place = place i; number = number i } in s), words.3)
 
 -- a line that names a step is not that of an end: no name begins with `=`
 abbrev is_equals : List ℕ → Bool

@@ -25,13 +25,13 @@ returns g c = wrote_front _ c.args.text.now c.loop-at.at _ _ _ c.loop-at.invaria
 
 pub loop-at-preserved : goal.loop-at-preserved
 loop-at-preserved g c =
-    let turns = c.loop-at.invariant in
+    let t = c.loop-at.invariant in
     let text = c.args.text.now in
     let at = c.loop-at.at in
     let n = c.in-Ok.count in
     let ensures = c.in-Ok.ensures in
     let room : n ≤ length text - at = subst (λ (m : ℕ). n ≤ m) (ap length (range_from text at) ∙ length-drop at text) ensures.bound in
     record {
-      front = record { appends = appends_more _ _ _ text at n turns.front.appends ensures.bytes; in_range = omega arith };
-      failures = ensures.works (omega (arith, c.in-Ok.count-test)) ∙ turns.failures;
+      front = record { appends = appends_more _ _ _ text at n t.front.appends ensures.bytes; in_range = omega arith };
+      failures = ensures.works (omega (arith, c.in-Ok.count-test)) ∙ t.failures;
     }

@@ -54,7 +54,11 @@ reads g c =
     let held = c.loop-read.buffer in
     let ensures = c.in-Ok.ensures in
     let full : length c.read.new.buf ≡ length held.items = omega (arith, c.read.auto.buf, ap length c.deref_mut.ensures.value) in
-    (full ∙ c.loop-read.invariant.buffer, record { consumes = ensures.bytes.0; calls = ensures.reads; failures = ensures.works }, c.deref.ensures.value ∙ refilled held.len held.items c.read.new.buf held.ok.0 full)
+    (
+      full ∙ c.loop-read.invariant.buffer,
+      record { consumes = ensures.bytes.0; calls = ensures.reads; failures = ensures.works },
+      c.deref.ensures.value ∙ refilled held.len held.items c.read.new.buf held.ok.0 full,
+    )
 
 pub returns-in_err-verdict-in-Ok : goal.returns-in_err-verdict-in-Ok
 returns-in_err-verdict-in-Ok g c =

@@ -34,7 +34,8 @@ pub returns-in_err-keep : goal.returns-in_err-keep
 returns-in_err-keep g c =
     let p = err_from_is_err_and c.from_residual-in_err-keep.result c.from_residual-in_err-keep.ensures.1 in
     let now = c.loop-line.self in
-    rw (p.1, p.2) (turn_lacks _ _ _ _ _ _ (record { kept = c.keep.new.kept; is_open = c.is_open_after-self.result; feeds = now.feeds; owed = now.owed; counts = now.counts; recent = now.recent }) _ _ c.loop-line.invariant)
+    let new : Answering = record { kept = c.keep.new.kept; is_open = c.is_open_after-self.result; feeds = now.feeds; owed = now.owed; counts = now.counts; recent = now.recent } in
+    rw (p.1, p.2) (turn_lacks _ _ _ _ _ _ new _ _ c.loop-line.invariant)
 
 pub returns : goal.returns
 returns g c =
