@@ -1,5 +1,5 @@
 -- Where a byte is first.
-use Rattle.std.proofs.Common.{◌≡◌, ◌≢◌, ◌≤◌, ◌<◌, ◌+◌, ◌-◌, ◌==◌, ◌++◌, [], ◌∷◌, ◌∙◌, ℕ, true, false, List, Option, Some, None, length, sym, ap, arith, zero, suc, subst, take, drop, get_or, add-one, take-append-drop, inl, inr}
+use Rattle.std.proofs.Common.{refl, ◌≡◌, ◌≢◌, ◌≤◌, ◌<◌, ◌+◌, ◌-◌, ◌==◌, ◌++◌, [], ◌∷◌, ◌∙◌, ℕ, true, false, List, Option, Some, None, length, sym, ap, arith, zero, suc, subst, take, drop, get_or, add-one, take-append-drop, inl, inr}
 use Rattle.std.proofs.Math.Seq.{drop-cons, take-length}
 use Rattle.std.proofs.lemmas.Bool.{eq-eqb, cases_Bool, cases_eq}
 use Rattle.std.proofs.lemmas.List.{take_rest, length-take-le, get_or-take}
@@ -8,16 +8,10 @@ use Rattle.lt_tag.proofs.ListLemmas.{head_is}
 use Rattle.memchr.specs.Find.{IsFirstByte, Nowhere, NoneBefore, Passes, TakesFirst, is_byte, places, places_from}
 use Rattle.lt_lines.specs.Splitting.{IsFreeOf}
 
--- the rest from a byte on
-pub from_byte : (byte : ℕ) (text : List ℕ) (i : ℕ) → i < length text → get_or text i 0 ≡ byte → drop i text ≡ byte ∷ drop (i + 1) text
-from_byte byte text i below is =
-    let next : drop (suc i) text ≡ drop (i + 1) text = ap (λ n. drop n text) (sym (add-one i)) in
-    drop-cons text i 0 below ∙ ap (λ b. b ∷ drop (suc i) text) is ∙ ap (λ l. byte ∷ l) next
-
 -- the first such byte is at i
 pub split_at : (byte : ℕ) (text : List ℕ) (i : ℕ) → i < length text → get_or text i 0 ≡ byte → text ≡ take i text ++ byte ∷ take (length text - (i + 1)) (drop (i + 1) text)
 split_at byte text i below is =
-    sym (take-append-drop i text) ∙ ap (λ l. take i text ++ l) (from_byte byte text i below is ∙ ap (λ l. byte ∷ l) (sym (take_rest text (i + 1))))
+    sym (take-append-drop i text) ∙ ap (λ l. take i text ++ l) (rw (take_rest, add-one, drop-cons text i 0 below, is) refl)
 
 -- the bytes before it
 pub free_front : (byte : ℕ) (text : List ℕ) (i : ℕ) → i ≤ length text → Nowhere (Passes (is_byte byte) text) 0 i → IsFreeOf byte (take i text)

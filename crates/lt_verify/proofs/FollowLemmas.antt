@@ -21,6 +21,7 @@ use Rattle.lt_lines.specs.declared.faults.ToolFault.{ToolFault}
 use Rattle.lt_lines.specs.Running.{HasRead}
 use Rattle.lt_lines.specs.declared.faults.ToolFault.TheVariants as faults
 use Rattle.lt_registry.specs.Validity.{IsProper}
+use Rattle.lt_rewrite.proofs.PartLists.{some_long}
 use Rattle.lt_verify.proofs.VerdictLemmas.{verdict_of}
 
 -- nothing was taken
@@ -136,14 +137,9 @@ kept_behind R state here some = λ more one. rw here (behind_judges R state.numb
 
 -- ---- the end
 
--- the last line, where it is anything
-last_lines : (line : List ℕ) → IsOneLine line → (line ≡ [] → ⊥) → lines_of line ≡ line ∷ []
-last_lines [] one some = absurd (some refl)
-last_lines (byte ∷ line) one some = lines_of-last (byte ∷ line) one (omega arith)
-
 -- what is judged of a last line that no line feed ends
 pub last_judged : (R : List EntryParts) (state : Following) (v : Verdict) → (state.kept.items ≡ [] → ⊥) → Judges R state.number state.here (state.kept.items ∷ []) v → JudgesEnd R state v
-last_judged R state v some judged = λ one. rw (last_lines state.kept.items one some) judged
+last_judged R state v some judged = λ one. rw (lines_of-last state.kept.items one (some_long state.kept.items some)) judged
 
 -- ---- what the turns of a run over the lines of an explanation keep, and how it ends
 

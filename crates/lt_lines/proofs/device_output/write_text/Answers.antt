@@ -1,6 +1,7 @@
 use Rattle.std.proofs.Common.{◌<◌, ◌≤◌, ◌-◌, ◌+◌, ◌∙◌, ℕ, length, take, drop, refl, ap, subst, arith, length-drop, take_all}
 use Rattle.std.proofs.KnownBytes.{Appends-kept}
-use Rattle.lt_lines.proofs.WrittenLemmas.{appends_more, range_from, wrote_front}
+use Rattle.std.proofs.lemmas.List.{take_rest}
+use Rattle.lt_lines.proofs.WrittenLemmas.{appends_more, wrote_front}
 use Rattle.lt_lines.proofs.DeviceLemmas.{failed_from}
 use Rattle.lt_lines.proofs.device_output.write_text.Goals as goal
 
@@ -10,7 +11,7 @@ returns-in-Ok-eq0 g c =
     let at = c.loop-at.at in
     let n = c.in-Ok-eq0.field-0 in
     let ensures = c.in-Ok-eq0.ensures in
-    let some : 0 < length (take (length text - at) (drop at text)) = rw (range_from text at, length-drop) (omega arith) in
+    let some : 0 < length (take (length text - at) (drop at text)) = rw (take_rest text at, length-drop) (omega arith) in
     wrote_front _ text (at + n) _ _ _ (appends_more _ _ _ text at n c.loop-at.invariant.front.appends ensures.bytes) tt
     (refl, failed_from c.args.output.now c.loop-at.output c.write.new.self c.loop-at.invariant.failures (ensures.takes_none c.in-Ok-eq0.field-0-test some))
 
@@ -30,7 +31,7 @@ loop-at-preserved g c =
     let at = c.loop-at.at in
     let n = c.in-Ok.count in
     let ensures = c.in-Ok.ensures in
-    let room : n ≤ length text - at = subst (λ (m : ℕ). n ≤ m) (ap length (range_from text at) ∙ length-drop at text) ensures.bound in
+    let room : n ≤ length text - at = subst (λ (m : ℕ). n ≤ m) (ap length (take_rest text at) ∙ length-drop at text) ensures.bound in
     record {
       front = record { appends = appends_more _ _ _ text at n t.front.appends ensures.bytes; in_range = omega arith };
       failures = ensures.works (omega (arith, c.in-Ok.count-test)) ∙ t.failures;
