@@ -1,15 +1,14 @@
 -- What is owed for a text by its first bytes: a long one is too long, and a canonical one is no refusal.
-use Rattle.std.proofs.Common.{◌≡◌, ◌≤◌, ◌<◌, ◌+◌, ◌-◌, ◌++◌, ◌∷◌, inl, inr, ℕ, List, [], Bool, true, false, Result, Err, IsOk, length, take, sym, ap, ◌∙◌, append_assoc, refl, subst, arith, if◌then◌else◌, ◌==◌, ◌&&◌, slice_index_or, take_all, length-take-le}
+use Rattle.std.proofs.Common.{map, ◌≡◌, ◌≤◌, ◌<◌, ◌+◌, ◌-◌, ◌++◌, ◌∷◌, inl, inr, ℕ, List, [], Bool, true, false, length, take, sym, ap, ◌∙◌, append_assoc, refl, subst, arith, if◌then◌else◌, ◌==◌, ◌&&◌, take_all, length-take-le}
 use Rattle.std.proofs.lemmas.Bool.{cases_Bool, eqb-true}
 use Rattle.std.proofs.lemmas.Bool.Decides.{leb_tells}
 use Rattle.std.specs.Io.BufRead.{ends_with_byte}
-use Rattle.std.specs.List.{onto_first}
-use Rattle.lt_subtag.specs.Reading.{subtag_of}
-use Rattle.lt_subtag.specs.declared.SubtagFault.{SubtagFault}
-use Rattle.lt_subtag.specs.declared.SubtagFault.TheVariants as faults
+use Rattle.std.specs.List.{list_all, onto_first}
+use Rattle.lt_subtag.specs.Bytes.{folded, is_subtag}
 use Rattle.lt_tag.specs.Faults.{HasList}
 use Rattle.lt_tag.specs.Lists.{pieces, longest_text}
 use Rattle.lt_tag.specs.declared.faults.TagFaultKind.TheVariants as kinds
+use Rattle.lt_tag.proofs.LetterLemmas.{from_HasList}
 use Rattle.lt_tag.proofs.FaultLemmas.{one_fault}
 use Rattle.lt_tag.proofs.OneTagLemmas.{text_of_tag}
 use Rattle.lt_jar.specs.Lines.{content_of}
@@ -69,16 +68,13 @@ reply_for_kept R form first line r owed = owed
 -- ---- refusals
 
 -- no subtag begins with an exclamation mark
-no_subtag : (text : List ℕ) → IsOk (subtag_of (33 ∷ text)) → ⊥
-no_subtag text ok =
-    (elim (length (33 ∷ text) == 0) as (λ t. IsOk (if t then Err faults.Empty else (let r : Result (List ℕ) SubtagFault = Err faults.BadByte in r)) → ⊥) [ true ↦ λ h. cc | false ↦ λ h. cc ]) ok
-
 marked : (text : List ℕ) → HasList (33 ∷ text) → ⊥
-marked text listed = by_pieces (pieces text) (listed 0)
+unfolding is_subtag
+marked text listed = by_pieces (pieces text) (from_HasList (33 ∷ text) listed)
   where
-    by_pieces : (ps : List (List ℕ)) → (0 < length (onto_first 33 ps) → IsOk (subtag_of (slice_index_or (onto_first 33 ps) 0 []))) → ⊥
-    by_pieces [] h = no_subtag [] (h (omega arith))
-    by_pieces (p ∷ ps) h = no_subtag p (h (omega arith))
+    by_pieces : (ps : List (List ℕ)) → list_all is_subtag (map folded (onto_first 33 ps)) ≡ true → ⊥
+    by_pieces [] h = cc
+    by_pieces (p ∷ ps) h = cc
 
 unmarked_byte : (byte : ℕ) (text : List ℕ) → HasList (byte ∷ text) → (byte == 33) ≡ false
 unmarked_byte byte text listed = elim (cases_Bool (byte == 33)) [
