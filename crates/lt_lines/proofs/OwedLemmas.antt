@@ -83,10 +83,9 @@ ended-append [] line = refl
 ended-append (l ∷ lines) line =
     ap (λ t. l ++ 10 ∷ t) (ended-append lines line) ∙ sym (append_assoc l (10 ∷ ended lines) (line ++ 10 ∷ []))
 
-pub whole_lines-append : (form : LineForm) (lines : List (List ℕ)) (line : List ℕ) → AllByRecursion (IsWhole form) lines → IsWhole form line
-    → AllByRecursion (IsWhole form) (lines ++ line ∷ [])
-whole_lines-append form [] line h one = (one, tt)
-whole_lines-append form (l ∷ lines) line h one = (h.0, whole_lines-append form lines line h.1 one)
+pub each-last : {X : Type 0} (P : X → Type 0) (xs : List X) (x : X) → AllByRecursion P xs → P x → AllByRecursion P (xs ++ x ∷ [])
+each-last P [] x h one = (one, tt)
+each-last P (y ∷ xs) x h one = (h.0, each-last P xs x h.1 one)
 
 -- there are no more lines than bytes that end them
 pub ended-length : (lines : List (List ℕ)) → length lines ≤ length (ended lines)

@@ -9,16 +9,13 @@ use Rattle.lt_lines.specs.Answering.{AppendsRowReply, EndsRefused}
 use Rattle.lt_lines.specs.Owed.{end_of, row_line}
 use Rattle.lt_lines.specs.Rows.{HasFewer, HasField, IsEnded, IsField, IsTextIn, Skips, separated, separator}
 use Rattle.lt_lines.specs.declared.rows.Separator.{Separator}
+use Rattle.lt_lines.proofs.OwedLemmas.{each-last}
 
 -- one field more that a separator ends
 separated-append : (S : Separator) (fields : List (List ℕ)) (field : List ℕ) → separated S (fields ++ field ∷ []) ≡ separated S fields ++ (field ++ separator S ∷ [])
 separated-append S [] field = refl
 separated-append S (f ∷ fields) field =
     ap (λ t. f ++ separator S ∷ t) (separated-append S fields field) ∙ sym (append_assoc f (separator S ∷ separated S fields) (field ++ separator S ∷ []))
-
-fields-append : (S : Separator) (fields : List (List ℕ)) (field : List ℕ) → AllByRecursion (IsEnded S) fields → IsEnded S field → AllByRecursion (IsEnded S) (fields ++ field ∷ [])
-fields-append S [] field h one = (one, tt)
-fields-append S (f ∷ fields) field h one = (h.0, fields-append S fields field h.1 one)
 
 pub skips_none : (S : Separator) (row : List ℕ) → Skips S 0 row row
 skips_none S row = record { before = []; each = tt; number = refl; row_is = refl }
@@ -27,7 +24,7 @@ skips_none S row = record { before = []; each = tt; number = refl; row_is = refl
 pub skips_more : (S : Separator) (count : ℕ) (row rest field after : List ℕ) → Skips S count row rest → IsEnded S field → rest ≡ field ++ separator S ∷ after → Skips S (count + 1) row after
 skips_more S count row rest field after s one split = record {
   before = s.before ++ field ∷ [];
-  each = fields-append S s.before field s.each one;
+  each = each-last (IsEnded S) s.before field s.each one;
   number = length-append s.before (field ∷ []) ∙ ap (λ n. n + 1) s.number;
   row_is = s.row_is ∙ ap (λ l. separated S s.before ++ l) (split ∙ sym (append_assoc field (separator S ∷ []) after))
       ∙ sym (append_assoc (separated S s.before) (field ++ separator S ∷ []) after) ∙ ap (λ l. l ++ after) (sym (separated-append S s.before field));

@@ -6,12 +6,12 @@ use Rattle.std.proofs.lemmas.List.{take_all, length-take, length-take-le, nil_fr
 use Rattle.std.proofs.lemmas.List.Sums.{count_by-le-length}
 use Rattle.std.proofs.Math.Seq.{take-append-add}
 use Rattle.lt_lines.specs.Answering.{AreRecent, GoesOn, IsAnswered, IsTaken, IsWholeAfter, KeepsLine, kept_of, longest_kept, one_if, open_after, part_kept}
-use Rattle.lt_lines.specs.Owed.{EndsInQuotes, IsBegun, IsOneLine, IsOwed, IsOwedToLastFeed, IsReplyTo, IsUnit, Reply, Terms, ended, feeds_in, is_open, units_of}
+use Rattle.lt_lines.specs.Owed.{EndsInQuotes, IsBegun, IsOneLine, IsOwed, IsOwedToLastFeed, IsReplyTo, IsUnit, IsWhole, Reply, Terms, ended, feeds_in, is_open, units_of}
 use Rattle.lt_lines.specs.declared.forms.LineForm.{LineForm}
 use Rattle.lt_lines.specs.declared.forms.LineForm.TheVariants as forms
 use Rattle.lt_lines.specs.DeviceOutput.{IsFrontOf}
 use Rattle.lt_lines.specs.declared.answering.Answering.{Answering}
-use Rattle.lt_lines.proofs.OwedLemmas.{bytes_in-last, ended-append, ended-length, ended_first, feeds_in-append, first_by_count, no_feeds, one_feed, open-append, open-feed, open_after_ended, open_none, refused_in-last, replies-append, replies-length, unit-append, unit-feed, unit_none, units-ended, units-last, units_none, whole_lines-append}
+use Rattle.lt_lines.proofs.OwedLemmas.{bytes_in-last, each-last, ended-append, ended-length, ended_first, feeds_in-append, first_by_count, no_feeds, one_feed, open-append, open-feed, open_after_ended, open_none, refused_in-last, replies-append, replies-length, unit-append, unit-feed, unit_none, units-ended, units-last, units_none}
 
 -- whether there are bytes, by their count
 pub no_items : (items : List ℕ) (count : ℕ) → count ≡ length items → (count == 0) ≡ true → items ≡ []
@@ -69,7 +69,7 @@ taken_line T bytes out part r old new t one owed_for grown none closed feeds lin
       last = [];
       cut = ap (λ (l : List ℕ). l ++ (part ++ 10 ∷ [])) t.cut ∙ append_assoc (ended t.lines) t.last (part ++ 10 ∷ []) ∙ ap (λ (l : List ℕ). ended t.lines ++ l) split
           ∙ sym (ended-append t.lines whole) ∙ sym (append-nil (ended (t.lines ++ whole ∷ [])));
-      each_one = whole_lines-append T.form t.lines whole t.each_one (record {
+      each_one = each-last (IsWhole T.form) t.lines whole t.each_one (record {
         unit = unit-append T.form t.last part t.last_one one.one;
         closed = open-append T.form t.last part ∙ ap (λ b. open_after T.form b part) (sym t.goes_on) ∙ one.closed;
       });

@@ -15,7 +15,7 @@ end_line-requires-clause-count g c =
 pub returns-in_err-end_line : goal.returns-in_err-end_line
 returns-in_err-end_line g c =
     let p = err_from_is_err_and c.from_residual.result c.from_residual.ensures.1 in
-    rw (p.1, p.2) (turn_lacks _ _ _ _ _ _ c.end_line.new.self _ _ c.loop-line.invariant)
+    rw (p.1, p.2) (turn_lacks _ _ _ _ _ _ _ _ _ c.loop-line.invariant)
 
 -- after the answer to a line
 after_line : (g : _) (c : goal.In_ok-end_line g)
@@ -33,9 +33,7 @@ loop-line-preserved g c = turn_written _ _ _ _ _ _ _ _ _ _ (after_line g (goal.a
 pub returns-in_err-keep : goal.returns-in_err-keep
 returns-in_err-keep g c =
     let p = err_from_is_err_and c.from_residual-in_err-keep.result c.from_residual-in_err-keep.ensures.1 in
-    let now = c.loop-line.self in
-    let new : Answering = record { kept = c.keep.new.kept; is_open = c.is_open_after-self.result; feeds = now.feeds; owed = now.owed; counts = now.counts; recent = now.recent } in
-    rw (p.1, p.2) (turn_lacks _ _ _ _ _ _ new _ _ c.loop-line.invariant)
+    rw (p.1, p.2) (turn_lacks _ _ _ _ _ _ _ _ _ c.loop-line.invariant)
 
 pub returns : goal.returns
 returns g c =
