@@ -157,20 +157,16 @@ label_short : (step : Step) → step.place < 2 ^ 32 → step.number < 2 ^ 32 →
 label_short step place number =
     omega (arith, name_short step.kind, number_short step.place place, number_short step.number number, length-append {A = ℕ})
 
--- a long front that names no step names none however it goes on
-front_no_name : (front more : List ℕ) → 38 < length front → IsNoName front → IsNoName (front ++ more)
-front_no_name front more long none = λ step text is.
-    let label : step_line step text ≡ step_line step [] ++ text = sym (step_line-append step [] text) in
-    let short = label_short step is.place is.number in
-    let rest = longer_front front more (step_line step []) text (is.line_is ∙ label) (omega (arith, short, long)) in
-    none step rest.0 (record { place = is.place; number = is.number; line_is = rest.1 ∙ step_line-append step [] rest.0 })
-
-front_no_end : (front more : List ℕ) → 38 < length front → NamesNoEnd front → NamesNoEnd (front ++ more)
-front_no_end front more long none = λ text e.
-    let rest = longer_front front more (61 ∷ 32 ∷ []) text e (omega (arith, long)) in none rest.0 rest.1
-
+-- a long front that names no step and no end names none however it goes on
 pub front_names_nothing : (front more : List ℕ) → 38 < length front → IsNoName front → NamesNoEnd front → NamesNothing (front ++ more)
-front_names_nothing front more long name end = record { no_step = front_no_name front more long name; no_end = front_no_end front more long end }
+front_names_nothing front more long name end = record {
+  no_step = λ step text is.
+      let label = step_line step [] in
+      let short = label_short step is.place is.number in
+      let rest = longer_front front more label text (is.line_is ∙ sym (step_line-append step [] text)) (omega (arith, short, long)) in
+      name step rest.0 (record { place = is.place; number = is.number; line_is = rest.1 ∙ step_line-append step [] rest.0 });
+  no_end = λ text e. let rest = longer_front front more (61 ∷ 32 ∷ []) text e (omega (arith, long)) in end rest.0 rest.1;
+}
 
 -- a step's line that goes on
 pub step_goes_on : {front text : List ℕ} {step : Step} (more : List ℕ) → IsStepLine front step text → IsStepLine (front ++ more) step (text ++ more)

@@ -109,11 +109,10 @@ abbrev is_equals : List ℕ → Bool
 is_equals [] = false
 is_equals (byte ∷ bytes) = byte == 61
 
-no_end_name : (kind : StepKind) (more text : List ℕ) → name_of kind ++ more ≢ end_line text
-no_end_name kind more text e = false≢true (sym (each_kind (λ k. is_equals (name_of k ++ more)) (λ _. false) refl kind) ∙ ap is_equals e)
-
 not_both : (line : List ℕ) (step : Step) (x text : List ℕ) → IsStepLine line step x → line ≡ end_line text → ⊥
-not_both line step x text is ends = no_end_name step.kind _ text (sym is.line_is ∙ ends)
+not_both line step x text is ends =
+    let more = 32 ∷ (decimal step.place ++ 32 ∷ (decimal step.number ++ 32 ∷ x)) in
+    false≢true (sym (each_kind (λ k. is_equals (name_of k ++ more)) (λ _. false) refl step.kind) ∙ ap is_equals (sym is.line_is ∙ ends))
 
 same_text : (line x y : List ℕ) → line ≡ end_line x → line ≡ end_line y → x ≡ y
 same_text line x y a b = let e : end_line x ≡ end_line y = sym a ∙ b in cc e
