@@ -94,8 +94,7 @@ is_single s = length s == 1
 
 rest_single : (es : List ExtensionParts) (ps : List (List ℕ)) → before is_single (spell_rest es ps) ≡ []
 rest_single [] [] = refl
-rest_single [] (p ∷ ps) = refl
-rest_single (e ∷ es) ps = refl
+rest_single es ps = refl
 
 pub core_no_single : (c : CoreParts) → IsCore c → no_single (spell_core c) ≡ true
 core_no_single c k = core_all (λ (s : List ℕ). not (length s == 1)) (λ s l. ap not (ne_eqb (length s) 1 (λ e. omega (arith, l.long)))) c k
@@ -142,8 +141,7 @@ has_end (Grandfathered n) c s ss T k e =
 -- some extension or private use
 has_some : (es : List ExtensionParts) (ps : List (List ℕ)) (s : List ℕ) (ss : List (List ℕ)) → spell_rest es ps ≡ s ∷ ss → 0 < length es + length ps
 has_some [] [] s ss e = cc
-has_some [] (p ∷ ps) s ss e = omega arith
-has_some (e ∷ es) ps s ss h = omega arith
+has_some es ps s ss e = omega arith
 
 -- the text of a core with it
 lang_text : (c : CoreParts) (es : List ExtensionParts) (ps : List (List ℕ)) → IsCore c → 0 < length es + length ps

@@ -84,8 +84,7 @@ transformed_list source fields end c T read =
 -- no more than one extension
 none_more : (es : List ExtensionParts) (ps : List (List ℕ)) → no_single (spell_rest es ps) ≡ true → (es ≡ []) × (ps ≡ [])
 none_more [] [] h = (refl, refl)
-none_more [] (p ∷ ps) h = cc
-none_more (x ∷ es) ps h = cc
+none_more es ps h = cc
 
 one_extension : (es : List ExtensionParts) (ps xs : List (List ℕ)) → spell_rest es ps ≡ (116 ∷ []) ∷ xs → no_single xs ≡ true → (es ≡ record { singleton = transform; subtags = xs } ∷ []) × (ps ≡ [])
 one_extension [] [] xs e h = cc

@@ -125,17 +125,15 @@ first_by_count (line ∷ lines) count is = ne_eqb count 0 (λ none. omega (arith
 pub replies-append : (T : Terms) (first : Bool) (lines : List (List ℕ)) (owed : List Reply) (line : List ℕ) (r : Reply)
     → AreRepliesFrom T first lines owed → IsReplyTo T (first_after first lines) line r → AreRepliesFrom T first (lines ++ line ∷ []) (owed ++ r ∷ [])
 replies-append T first [] [] line r h one = (one, tt)
-replies-append T first [] (o ∷ owed) line r h one = absurd h
-replies-append T first (l ∷ lines) [] line r h one = absurd h
 replies-append T first (l ∷ lines) (o ∷ owed) line r h one =
     (h.0, replies-append T false lines owed line r h.1 (subst (λ b. IsReplyTo T b line r) (sym (none_first lines)) one))
+replies-append T first lines owed line r h one = absurd h
 
 -- an answer is owed for each line
 pub replies-length : (T : Terms) (first : Bool) (lines : List (List ℕ)) (owed : List Reply) → AreRepliesFrom T first lines owed → length owed ≡ length lines
 replies-length T first [] [] h = refl
-replies-length T first [] (o ∷ owed) h = absurd h
-replies-length T first (l ∷ lines) [] h = absurd h
 replies-length T first (l ∷ lines) (o ∷ owed) h = ap (λ n. suc n) (replies-length T false lines owed h.1)
+replies-length T first lines owed h = absurd h
 
 pub bytes_in-last : (owed : List Reply) (r : Reply) → bytes_in (owed ++ r ∷ []) ≡ bytes_in owed ++ r.bytes
 bytes_in-last [] r = append-nil r.bytes

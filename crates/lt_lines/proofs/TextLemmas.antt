@@ -29,9 +29,8 @@ long_refusal : (R : List EntryParts) (text other : List ℕ) (refusal : TextRefu
 long_refusal R text other (refusals.NotATag fault) long longer f =
     let same = one_fault text fault.kind kinds.TooLong fault.place 0 f (record { fault = (long, refl); memory_aside = λ e. cc }) in
     rw (same.0, same.1) (record { fault = (longer, refl); memory_aside = λ e. cc })
-long_refusal R text other (refusals.Invalid fault) long longer f = absurd (omega (arith, f.read.short))
-long_refusal R text other (refusals.ReplacementRepeats variant) long longer f = absurd (omega (arith, f.read.short))
 long_refusal R text other refusals.OutOfMemory long longer f = tt
+long_refusal R text other refusal long longer f = absurd (omega (arith, f.read.short))
 
 -- what is owed for a long text is owed for any other
 reply_for_long : (R : List EntryParts) (text other : List ℕ) (r : Reply) → longest_text < length text → longest_text < length other → IsTextReply R text r → IsTextReply R other r
