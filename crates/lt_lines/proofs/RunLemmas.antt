@@ -73,7 +73,7 @@ run_first T remaining contents input output state items place counts recent = re
 }
 
 -- one read more
-read_more : {I : Type 0} (input before after : Device I) (turn : ℕ) → HasRead input before turn → reads_of after ≡ one_more (reads_of before) → HasRead input after (turn + 1)
+pub read_more : {I : Type 0} (input before after : Device I) (turn : ℕ) → HasRead input before turn → reads_of after ≡ one_more (reads_of before) → HasRead input after (turn + 1)
 read_more input before after turn has more = more ∙ ap one_more has ∙ ap (after_reads (reads_of input)) (sym (add-one turn))
 
 -- a piece was read and taken

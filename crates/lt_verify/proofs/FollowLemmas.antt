@@ -1,5 +1,5 @@
 -- What lines that come in pieces lead to, and what the turns of a run over them keep.
-use Rattle.std.proofs.Common.{◌≡◌, ◌≢◌, ◌<◌, ◌≤◌, ◌+◌, ◌++◌, ◌∷◌, ◌∙◌, inr, ℕ, List, [], Option, Some, None, length, sym, ap, refl, subst, arith, append_assoc, length-append, ◌*◌, inl, Result, Ok, Err, add-one, append-nil}
+use Rattle.std.proofs.Common.{◌≡◌, ◌≢◌, ◌<◌, ◌≤◌, ◌+◌, ◌++◌, ◌∷◌, ◌∙◌, inr, ℕ, List, [], Option, Some, None, length, sym, ap, refl, subst, arith, append_assoc, length-append, ◌*◌, inl, Result, Ok, Err, append-nil}
 use Rattle.std.proofs.lemmas.List.Elements.{All-append, All-nil}
 use Rattle.lt_jar.proofs.CutLemmas.{first_goes_on, lines_of-ended, lines_of-last}
 use Rattle.lt_jar.specs.Lines.{IsOneLine, lines_of}
@@ -12,11 +12,11 @@ use Rattle.lt_verify.specs.declared.verdicts.Verdict.{Verdict}
 use Rattle.lt_verify.specs.declared.verdicts.Verdict.TheVariants as verdicts
 use Rattle.std.specs.Io.KnownBytes.{Consumes, IsAtEnd, Keeps}
 use Rattle.std.proofs.KnownBytes.{Consumes-kept, Consumes-nil, Consumes-trans}
-use Rattle.lt_jar.specs.Devices.{HasFailed, after_reads, failures_of, inner_of, last_given_of, one_more, reads_of}
+use Rattle.lt_jar.specs.Devices.{HasFailed, failures_of, inner_of, last_given_of, one_more, reads_of}
 use Rattle.lt_jar.specs.Sources.{most_reads}
 use Rattle.lt_jar.specs.declared.devices.Device.{Device}
 use Rattle.lt_lines.proofs.DeviceLemmas.{failed_from}
-use Rattle.lt_lines.proofs.RunLemmas.{ReadsPiece}
+use Rattle.lt_lines.proofs.RunLemmas.{ReadsPiece, read_more}
 use Rattle.lt_lines.specs.declared.faults.ToolFault.{ToolFault}
 use Rattle.lt_lines.specs.Running.{HasRead}
 use Rattle.lt_lines.specs.declared.faults.ToolFault.TheVariants as faults
@@ -200,10 +200,6 @@ module _ {I : Type 0} {R : List EntryParts} {t : TagForm} {remaining : I → Opt
   judged_bytes more judged is =
       verdict_of R t (lines_of (v.read ++ more)) judged (rw (v.begins.kept, v.begins.number, v.begins.here) at (v.takes.follows more judged began is))
 
-  -- one read more
-  read_more : (after : Device I) → reads_of after ≡ one_more (reads_of before) → HasRead input after (turn + 1)
-  read_more after more = more ∙ ap one_more v.calls ∙ sym (ap (after_reads (reads_of input)) (add-one turn))
-
   pub run_next : {after : Device I} {new : Following} (piece : List ℕ) → ReadsPiece remaining before after piece → length piece ≤ 65536 → 0 < last_given_of after → TakesPiece R piece state new None
       → HasTurned R t remaining input after new (turn + 1)
   run_next {after = after} {new = new} piece r short gave takes = record {
@@ -212,7 +208,7 @@ module _ {I : Type 0} {R : List EntryParts} {t : TagForm} {remaining : I → Opt
     read = v.read ++ piece;
     consumes = Consumes-trans _ _ _ _ _ v.consumes r.consumes;
     takes = takes_trans R v.read piece v.start state new v.takes takes.0;
-    calls = read_more after r.calls;
+    calls = read_more input before after turn v.calls r.calls;
     last_gave = λ some. gave;
     most = let n = length-append v.read piece in omega (arith, n, v.most, short);
     failures = r.failures ∙ v.failures;
@@ -229,7 +225,7 @@ module _ {I : Type 0} {R : List EntryParts} {t : TagForm} {remaining : I → Opt
     read = v.read;
     reads = turn + 1;
     consumes = Consumes-kept _ _ _ _ v.consumes kept;
-    calls = read_more after more;
+    calls = read_more input before after turn v.calls more;
     bounded = omega (arith, few);
     ends = failed_from input before after v.failures failed;
     read_rises = λ lt. refl;
@@ -254,7 +250,7 @@ module _ {I : Type 0} {R : List EntryParts} {t : TagForm} {remaining : I → Opt
     read = v.read ++ piece;
     reads = turn + 1;
     consumes = Consumes-trans _ _ _ _ _ v.consumes p.consumes;
-    calls = read_more after p.calls;
+    calls = read_more input before after turn v.calls p.calls;
     bounded = omega (arith, few);
     ends = ends;
     read_rises = λ lt. absurd (omega (arith, lt, p.failures, v.failures));

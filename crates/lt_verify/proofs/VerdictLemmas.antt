@@ -1,5 +1,5 @@
 -- What is judged of lines one after another is their verdict, and one thing is judged.
-use Rattle.std.proofs.Common.{◌≡◌, ◌+◌, ◌++◌, ◌∷◌, inl, inr, ℕ, List, [], Some, None, length, sym, ap, refl, subst, arith, append-nil, append_assoc, length-append, ◌≢◌, ◌<◌, ◌^◌, ◌∙◌, Bool, false, ◌==◌, Option, decimal}
+use Rattle.std.proofs.Common.{◌≡◌, ◌+◌, ◌++◌, ◌∷◌, inl, inr, ℕ, List, [], Some, None, length, sym, ap, refl, subst, arith, append-nil, append_assoc, length-append, ◌<◌, ◌^◌, ◌∙◌, Bool, false, ◌==◌, Option, decimal}
 use Rattle.lt_tag.specs.Parts.{TagForm}
 use Rattle.lt_registry.specs.Parts.{EntryParts}
 use Rattle.lt_verify.specs.Judging.{Judges, SettlesLine}
@@ -13,7 +13,6 @@ use Rattle.std.proofs.lemmas.Fmt.{decimal_is_IsNumeral}
 use Rattle.lt_rewrite.specs.Labels.{LeadsBy}
 use Rattle.lt_rewrite.specs.Names.{name_of}
 use Rattle.lt_rewrite.specs.declared.steps.Step.{Step}
-use Rattle.lt_rewrite.specs.declared.steps.StepKind.{StepKind}
 use Rattle.lt_canon.specs.TraceLaws.{TracesHaveOneEnd}
 use Rattle.lt_verify.specs.Laws.{HaveOneVerdict}
 use Rattle.lt_verify.proofs.StepLemmas.{each_kind, one_words, same_kind, step_words}

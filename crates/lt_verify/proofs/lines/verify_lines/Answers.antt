@@ -68,7 +68,7 @@ returns-in_err-verdict-in-Ok g c =
 pub take_piece-requires : goal.take_piece-requires
 take_piece-requires g c =
     let turn = c.loop-read.invariant.turn in
-    let full : length c.read.new.buf ≡ 65536 = omega (arith, c.read.auto.buf, ap length c.deref_mut.ensures.value, c.loop-read.invariant.buffer) in
+    let full = (reads g (goal.at.take_piece-requires g c).After-deref).0 in
     let short : length (take c.in-Ok.count c.deref.result.now) ≤ 65536 = omega (arith, length-take c.in-Ok.count c.deref.result.now, c.in-Ok.ensures.bound.0, full) in
     record { proper = turn.takes.proper; room = omega (arith, run_room turn, short, c.loop-read-test.true) }
 
