@@ -117,23 +117,21 @@ went_on {R = R} there to proper follows = record {
   follows = λ lines v judged. rw there (follows lines v (rw (to.counted, to.there) at judged));
 }
 
--- its front settles what is judged
-front_judges : (R : List EntryParts) (n : ℕ) (t : TagForm) (front more : List ℕ) (v : Verdict) → IsOneLine front → 0 < length front
-    → ((more : List ℕ) → SettlesLine R n t (front ++ more) v) → Judges R n (Some t) (lines_of (front ++ more)) v
-front_judges R n t [] more v one some settles = absurd (omega (arith, some))
-front_judges R n t (byte ∷ front) more v one some settles = let goes = first_goes_on byte front more one in rw goes.2 (inr (inr (settles goes.0)))
+-- a line begins with its front
+begun_line : (front more : List ℕ) → IsOneLine front → (front ≡ [] → ⊥) → (rest : List ℕ) × (after : List (List ℕ)) × (lines_of (front ++ more) ≡ (front ++ rest) ∷ after)
+begun_line [] more one some = absurd (some refl)
+begun_line (byte ∷ front) more one some = first_goes_on byte front more one
 
+-- which may settle what is judged
 pub settled_rest : (R : List EntryParts) (t : TagForm) (state : Following) → state.here ≡ Some t → (judged : Option Verdict) → SettlesFront R state.number t state.kept.items judged → SettlesKept R state judged
 settled_rest R t state here None settles = rw here settles
-settled_rest R t state here (Some v) settles = λ more one. rw here (front_judges R state.number t state.kept.items more v one settles.0 settles.1)
+settled_rest R t state here (Some v) settles = λ more one.
+    let goes = begun_line state.kept.items more one (λ e. absurd (omega (arith, settles.0, ap length e))) in
+    rw (here, goes.2) (inr (inr (settles.1 goes.0)))
 
--- anything after the end does
-behind_judges : (R : List EntryParts) (n : ℕ) (line more : List ℕ) → IsOneLine line → (line ≡ [] → ⊥) → Judges R n None (lines_of (line ++ more)) (verdicts.BadStep n)
-behind_judges R n [] more one some = absurd (some refl)
-behind_judges R n (byte ∷ line) more one some = let goes = first_goes_on byte line more one in rw goes.2 refl
-
+-- and anything after the end does
 pub kept_behind : (R : List EntryParts) (state : Following) → state.here ≡ None → (state.kept.items ≡ [] → ⊥) → SettlesKept R state (Some (verdicts.BadStep state.number))
-kept_behind R state here some = λ more one. rw here (behind_judges R state.number state.kept.items more one some)
+kept_behind R state here some = λ more one. rw (here, (begun_line state.kept.items more one some).2) refl
 
 -- ---- the end
 
