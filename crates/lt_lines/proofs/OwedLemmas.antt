@@ -4,7 +4,7 @@ use Rattle.std.specs.List.{AllByRecursion}
 use Rattle.std.proofs.lemmas.List.Elements.{All-append, All-head, All-tail}
 use Rattle.std.proofs.lemmas.List.Sums.{sum_by-append}
 use Rattle.lt_jar.proofs.CutLemmas.{lines_of-ended, lines_of-last}
-use Rattle.lt_lines.specs.Answering.{one_if, open_after}
+use Rattle.lt_lines.specs.Answering.{kept_of, one_if, open_after}
 use Rattle.lt_lines.specs.Owed.{AreRepliesFrom, IsOneLine, IsReplyTo, IsUnit, IsWhole, Reply, Terms, bytes_in, ended, feeds_in, is_open, refused_in, units_of}
 use Rattle.lt_lines.specs.Quotes.{is_inside}
 use Rattle.lt_lines.specs.declared.forms.LineForm.{LineForm}
@@ -16,17 +16,16 @@ IsNoFeed byte = byte ≢ 10
 
 -- ---- lines by their form
 
-pub units_none : (form : LineForm) → units_of form [] ≡ []
-units_none (forms.Csv before) = refl
-units_none form = refl
+-- of no bytes
+pub record HasNone (form : LineForm) : Type 0 where
+  pub units : units_of form [] ≡ []
+  pub unit : IsUnit form []
+  pub closed : is_open form [] ≡ false
+  pub kept : kept_of form [] ≡ []
 
-pub open_none : (form : LineForm) → is_open form [] ≡ false
-open_none (forms.Csv before) = refl
-open_none form = refl
-
-pub unit_none : (form : LineForm) → IsUnit form []
-unit_none (forms.Csv before) = tt
-unit_none form = λ k d lt. absurd (omega (arith, lt))
+pub of_none : (form : LineForm) → HasNone form
+of_none (forms.Csv before) = record { units = refl; unit = tt; closed = refl; kept = refl }
+of_none form = record { units = refl; unit = λ k d lt. absurd (omega (arith, lt)); closed = refl; kept = refl }
 
 -- a line and its line feed
 pub units-ended : (form : LineForm) (line rest : List ℕ) → IsWhole form line → units_of form (line ++ 10 ∷ rest) ≡ line ∷ units_of form rest

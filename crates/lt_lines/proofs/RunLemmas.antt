@@ -13,8 +13,8 @@ use Rattle.lt_lines.specs.declared.faults.ToolFault.{ToolFault}
 use Rattle.lt_lines.specs.declared.faults.ToolFault.TheVariants as faults
 use Rattle.lt_lines.specs.declared.runs.Counts.{Counts}
 use Rattle.lt_lines.proofs.DeviceLemmas.{failed_from}
-use Rattle.lt_lines.proofs.OwedLemmas.{open_none, unit_none}
-use Rattle.lt_lines.proofs.TakenLemmas.{begun_nothing, begun_to_last_feed, kept_none, owed_to_last_feed, taken_room}
+use Rattle.lt_lines.proofs.OwedLemmas.{of_none}
+use Rattle.lt_lines.proofs.TakenLemmas.{begun_nothing, begun_to_last_feed, owed_to_last_feed, taken_room}
 use Rattle.std.proofs.Math.Seq.{take-append_seam}
 
 -- so far this was read and answered
@@ -52,9 +52,9 @@ run_first T remaining contents input output state items place counts recent = re
     last = [];
     cut = refl;
     each_one = tt;
-    last_one = unit_none T.form;
-    kept = items.0 ∙ sym (kept_none T.form);
-    goes_on = place.0 ∙ sym (open_none T.form);
+    last_one = (of_none T.form).unit;
+    kept = items.0 ∙ sym (of_none T.form).kept;
+    goes_on = place.0 ∙ sym (of_none T.form).closed;
     feeds = place.1;
     owed = [];
     each = tt;

@@ -11,7 +11,7 @@ use Rattle.lt_lines.specs.declared.forms.LineForm.{LineForm}
 use Rattle.lt_lines.specs.declared.forms.LineForm.TheVariants as forms
 use Rattle.lt_lines.specs.DeviceOutput.{IsFrontOf}
 use Rattle.lt_lines.specs.declared.answering.Answering.{Answering}
-use Rattle.lt_lines.proofs.OwedLemmas.{bytes_in-last, each-last, ended-append, ended-length, ended_first, feeds_in-append, first_by_count, no_feeds, one_feed, open-append, open-feed, open_after_ended, open_none, refused_in-last, replies-append, replies-length, unit-append, unit-feed, unit_none, units-ended, units-last, units_none}
+use Rattle.lt_lines.proofs.OwedLemmas.{bytes_in-last, each-last, ended-append, ended-length, ended_first, feeds_in-append, first_by_count, no_feeds, of_none, one_feed, open-append, open-feed, open_after_ended, refused_in-last, replies-append, replies-length, unit-append, unit-feed, units-ended, units-last}
 
 -- whether there are bytes, by their count
 pub no_items : (items : List ℕ) (count : ℕ) → count ≡ length items → (count == 0) ≡ true → items ≡ []
@@ -46,11 +46,6 @@ nothing_kept forms.Tag kept [] is none = refl
 nothing_kept forms.Tag kept (byte ∷ last) is none = absurd (omega (arith, ap length (sym is ∙ none), length-take longest_kept (byte ∷ last)))
 nothing_kept form kept last is none = sym is ∙ none
 
--- nothing is kept of an empty line
-pub kept_none : (form : LineForm) → kept_of form [] ≡ []
-kept_none forms.Tag = refl
-kept_none form = refl
-
 -- all is kept of a line that can go on after a line feed
 kept_open : (form : LineForm) (kept last : List ℕ) → kept ≡ kept_of form last → is_open form last ≡ true → kept ≡ last
 kept_open forms.Tag kept last is inside = let bad : false ≡ true = inside in cc
@@ -73,9 +68,9 @@ taken_line T bytes out part r old new t one owed_for grown none closed feeds lin
         unit = unit-append T.form t.last part t.last_one one.one;
         closed = open-append T.form t.last part ∙ ap (λ b. open_after T.form b part) (sym t.goes_on) ∙ one.closed;
       });
-      last_one = unit_none T.form;
-      kept = none ∙ sym (kept_none T.form);
-      goes_on = closed ∙ sym (open_none T.form);
+      last_one = (of_none T.form).unit;
+      kept = none ∙ sym (of_none T.form).kept;
+      goes_on = closed ∙ sym (of_none T.form).closed;
       feeds = feeds ∙ ap (λ n. n + 1) t.feeds ∙ sym (one_feed bytes part one.one);
       owed = t.owed ++ r ∷ [];
       each = replies-append T true t.lines t.owed whole r t.each
@@ -172,7 +167,7 @@ taken_open T bytes out state t = ap (is_open T.form) t.cut ∙ open_after_ended 
 units_taken : (T : Terms) (bytes out : List ℕ) (state : Answering) (t : IsTaken T bytes out state) → state.kept.items ≡ [] → units_of T.form bytes ≡ t.lines
 units_taken T bytes out state t none =
     ap (units_of T.form) t.cut ∙ ended_first T.form t.lines t.last t.each_one ∙ ap (λ (l : List ℕ). t.lines ++ units_of T.form l) (nothing_kept T.form state.kept.items t.last t.kept none)
-    ∙ ap (λ (l : List (List ℕ)). t.lines ++ l) (units_none T.form) ∙ append-nil t.lines
+    ∙ ap (λ (l : List (List ℕ)). t.lines ++ l) (of_none T.form).units ∙ append-nil t.lines
 
 -- what was taken of other bytes answers these, if they have the same lines
 answered_by : (T : Terms) (bytes others out : List ℕ) (state : Answering) (t : IsTaken T others out state) → is_open T.form bytes ≡ false → units_of T.form bytes ≡ t.lines → IsAnswered T bytes out state
@@ -189,7 +184,7 @@ answered_by T bytes others out state t closed all = record {
 pub answered_none : (T : Terms) (bytes out : List ℕ) (state : Answering) → IsTaken T bytes out state → state.kept.items ≡ [] → IsAnswered T bytes out state
 answered_none T bytes out state t none =
     let last = nothing_kept T.form state.kept.items t.last t.kept none in
-    answered_by T bytes bytes out state t (taken_open T bytes out state t ∙ ap (is_open T.form) last ∙ open_none T.form) (units_taken T bytes out state t none)
+    answered_by T bytes bytes out state t (taken_open T bytes out state t ∙ ap (is_open T.form) last ∙ (of_none T.form).closed) (units_taken T bytes out state t none)
 
 -- a line feed after a last line ends no further line
 last_ended : (T : Terms) (bytes out : List ℕ) (state : Answering) → IsTaken T bytes out state → (state.kept.items ≡ [] → ⊥) → state.is_open ≡ false
@@ -199,10 +194,10 @@ last_ended T bytes out state t some closed =
     let units = units_of T.form in
     rw (t.cut, append_assoc (ended t.lines) t.last (10 ∷ []), ended_first T.form t.lines (t.last ++ 10 ∷ []) t.each_one, ended_first T.form t.lines t.last t.each_one)
     (ap (λ (l : List (List ℕ)). t.lines ++ l) (units-ended T.form t.last [] (record { unit = t.last_one; closed = sym t.goes_on ∙ closed })
-    ∙ ap (λ (l : List (List ℕ)). t.last ∷ l) (units_none T.form) ∙ sym (units-last T.form t.last t.last_one long)))
+    ∙ ap (λ (l : List (List ℕ)). t.last ∷ l) (of_none T.form).units ∙ sym (units-last T.form t.last t.last_one long)))
   where
     last_length : (last : List ℕ) → state.kept.items ≡ kept_of T.form last → 0 < length last
-    last_length [] is = absurd (some (is ∙ kept_none T.form))
+    last_length [] is = absurd (some (is ∙ (of_none T.form).kept))
     last_length (byte ∷ last) is = omega arith
 
 -- a last line was ended and answered

@@ -1,4 +1,4 @@
-use Rattle.std.proofs.Common.{◌+◌, false, refl, take}
+use Rattle.std.proofs.Common.{refl, take}
 use Rattle.lt_lines.specs.Owed.{reply, terms}
 use Rattle.lt_lines.proofs.TakenLemmas.{taken_line}
 use Rattle.lt_lines.proofs.answering.Answering.answer_line.Goals as goal
