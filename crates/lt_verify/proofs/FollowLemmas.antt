@@ -5,7 +5,7 @@ use Rattle.lt_jar.proofs.CutLemmas.{first_goes_on, lines_of-ended, lines_of-last
 use Rattle.lt_jar.specs.Lines.{IsOneLine, lines_of}
 use Rattle.lt_tag.specs.Parts.{TagForm}
 use Rattle.lt_registry.specs.Parts.{EntryParts}
-use Rattle.lt_verify.specs.Judging.{IsProperIf, Judges, SettlesFront, SettlesLine}
+use Rattle.lt_verify.specs.Judging.{IsProperIf, Judges, SettlesFront}
 use Rattle.lt_verify.specs.Verifying.{GoesOn, GoesTo, JudgesEnd, KeepsMore, SettlesKept, Takes, TakesPiece, Begins, EndsAs, IsVerdictOf, VerifiesLines}
 use Rattle.lt_verify.specs.declared.lines.Following.{Following}
 use Rattle.lt_verify.specs.declared.verdicts.Verdict.{Verdict}
