@@ -1,94 +1,72 @@
 -- What one canonical source says of fields holds with each.
-use Rattle.std.proofs.Common.{◌≡◌, ℕ, ◌≤◌, ◌<◌, ◌==◌, true, not, List, [], ◌∷◌, ◌++◌, Option, Some, IfSome, length, map, refl, sym, ap, ◌∙◌, subst, arith, inl, inr}
-use Rattle.std.specs.List.{AllByRecursion, join_with_byte, list_all, onto_first}
+use Rattle.std.proofs.Common.{◌≡◌, ◌≢◌, ℕ, ◌≤◌, ◌==◌, true, false, not, List, [], ◌∷◌, ◌++◌, Option, Some, IfSome, length, refl, sym, ap, ◌∙◌, subst, arith, inl, inr, flat_map}
+use Rattle.std.specs.List.{AllByRecursion, join_with_byte, list_all}
 use Rattle.std.specs.Char.{to_ascii_lowercase}
-use Rattle.std.proofs.lemmas.Bool.{and_from, and_parts, cases_Bool, eqb-true}
+use Rattle.std.proofs.lemmas.Bool.{and_from, and_parts, cases_Bool}
 use Rattle.std.proofs.lemmas.List.{append-nil, append_assoc, length-append, length-map}
+use Rattle.std.proofs.lemmas.List.Folds.{list_all-append as all-append}
 use Rattle.lt_subtag.specs.Bytes.{folded}
 use Rattle.lt_subtag.specs.Shapes.{is_separator}
-use Rattle.lt_tag.specs.Parts.{CoreParts, ExtensionParts, TForm, TagForm, LangTag}
+use Rattle.lt_tag.specs.Parts.{CoreParts, ExtensionParts, FieldParts, TForm, LangTag}
 use Rattle.lt_tag.specs.Values.{core_alone}
 use Rattle.lt_tag.specs.Lists.{list_of, longest_text, pieces}
-use Rattle.lt_tag.specs.Spelling.{x_subtag, spell_core, spell_extensions, spell_private, IsCore}
-use Rattle.lt_tag.specs.WellFormed.{spell, IsNotGrandfathered}
-use Rattle.lt_tag.specs.Conventional.{conventional}
+use Rattle.lt_tag.specs.Spelling.{x_subtag, spell_core, spell_extension, spell_extensions, spell_private, IsCore}
+use Rattle.lt_tag.specs.WellFormed.{IsNotGrandfathered}
 use Rattle.lt_tag.specs.Faults.{HasTag}
-use Rattle.lt_tag.specs.Extensions.{IsTransform}
-use Rattle.lt_tag.specs.Splitting.{before, fields_of, has_values}
+use Rattle.lt_tag.specs.Extensions.{transform, spell_field, spell_t, IsField, IsT, IsTransform}
+use Rattle.lt_tag.specs.Splitting.{before, fields_of, spell_source}
 use Rattle.lt_tag.proofs.ListLemmas.{head_is, list_all-append, tail_is}
 use Rattle.lt_tag.proofs.ListedLemmas.{length-pieces}
-use Rattle.lt_tag.proofs.PartsLemmas.{t_value}
+use Rattle.lt_tag.proofs.LetterLemmas.{join_pieces, list_of_is}
+use Rattle.lt_tag.proofs.PartsLemmas.{t_again, t_value}
+use Rattle.lt_tag.proofs.SplitLemmas.{fields-append, fields-spelled}
 use Rattle.lt_tag.proofs.TextLemmas.{some_pieces}
 use Rattle.lt_registry.specs.Parts.{EntryParts}
 use Rattle.lt_registry.specs.Validity.{Distinct, IsValid, HasDistinctSource}
-use Rattle.lt_rewrite.specs.Rewriting.{done}
-use Rattle.lt_rewrite.proofs.NormalForms.{form_is_normal}
-use Rattle.lt_rewrite.proofs.ExtensionLaws.{one_transform}
+use Rattle.lt_rewrite.specs.Rewriting.{Star, done, then}
+use Rattle.lt_rewrite.specs.Orderings.{ListStep, by_swap, by_drop}
+use Rattle.lt_rewrite.specs.Extensions.{separator_cmp, singleton_cmp, ExtensionStep, in_unicode, in_transform, on_source, on_fields}
+use Rattle.lt_rewrite.specs.CoreSteps.{values_of, CoreStep}
+use Rattle.lt_rewrite.proofs.NormalForms.{star_rests, normal_is_form}
+use Rattle.lt_rewrite.proofs.PartLists.{all_step, step_some}
+use Rattle.lt_rewrite.proofs.ExtensionLaws.{extension_formed, extensions_ordered, one_transform}
 use Rattle.lt_rewrite.proofs.ProperTags.{proper_parts, proper_langtag}
 use Rattle.lt_check.specs.Conditions.{IsChecked}
-use Rattle.lt_canon.specs.Answers.{IsCanonicalFormOf}
-use Rattle.lt_canon.specs.Texts.{IsCanonicalTextOf}
-use Rattle.lt_canon.proofs.TagForm.{extensions_end, extensions_end_formed}
-use Rattle.lt_canon.proofs.CanonicalForms.{langtag_canonical}
-use Rattle.lt_ends.specs.Ends.{IsCanonicalCore, IsEnd, IsFields, IsTransformed, FieldsAreShared}
-use Rattle.lt_ends.proofs.EndLists.{join_append, list_append, no_single, one_cut}
-use Rattle.lt_ends.proofs.EndForms.{core_rests, form_is}
-use Rattle.lt_ends.proofs.EndLaws.{core_list, core_no_single, core_text, has_end, list_after, rest_single, spell_rest, whole_list}
-use Rattle.lt_ends.proofs.FieldForms.{end_parts, end_source, end_with, fields_end, fields_valued, one_end, source_parts, t_extension, with_source}
+use Rattle.lt_check.proofs.Checks.{core_conditions}
+use Rattle.lt_canon.proofs.TagForm.{extension_end, extensions_end}
+use Rattle.lt_ends.specs.Ends.{IsCanonicalCore, IsEnd, IsFields, IsFieldsText, IsTransformed, FieldsAreShared}
+use Rattle.lt_ends.proofs.EndLaws.{CanFollow, core_list, core_no_single, core_rests, extension_alone, has_end, join_append, list_after, list_append, no_single, one_text, spell_rest, text_with, whole_list}
 
--- the subtags of a text, joined, are the text in lower case
-join_onto : (b : ℕ) (ps : List (List ℕ)) → 0 < length ps → join_with_byte 45 (map folded (onto_first b ps)) ≡ to_ascii_lowercase b ∷ join_with_byte 45 (map folded ps)
-join_onto b [] n = absurd (omega arith)
-join_onto b (p ∷ []) n = refl
-join_onto b (p ∷ q ∷ qs) n = refl
+-- ---- the subtags of a source and fields
 
-join_empty : (ps : List (List ℕ)) → 0 < length ps → join_with_byte 45 ([] ∷ map folded ps) ≡ 45 ∷ join_with_byte 45 (map folded ps)
-join_empty [] n = absurd (omega arith)
-join_empty (p ∷ ps) n = refl
-
-pub join_list : (text : List ℕ) → join_with_byte 45 (list_of text) ≡ folded text
-join_list [] = refl
-join_list (b ∷ bs) =
-    elim (cases_Bool (b == 45)) [
-      | inl e ↦ rw e (join_empty (pieces bs) (some_pieces bs) ∙ ap (λ (l : List ℕ). 45 ∷ l) (join_list bs) ∙ ap (λ (n : ℕ). to_ascii_lowercase n ∷ folded bs) (sym (eqb-true b 45 e)))
-      | inr e ↦ rw e (join_onto b (pieces bs) (some_pieces bs) ∙ ap (λ (l : List ℕ). to_ascii_lowercase b ∷ l) (join_list bs))
+-- where no field is found, no subtag is a separator
+no_fields : (ss : List (List ℕ)) → fields_of ss ≡ [] → list_all (λ (s : List ℕ). not (is_separator s)) ss ≡ true
+no_fields [] e = refl
+no_fields (s ∷ ss) e =
+    elim (cases_Bool (is_separator s)) [
+      | inl h ↦ let bad = rw h at e in cc
+      | inr h ↦ and_from (not (is_separator s)) _ (rw h refl) (no_fields ss (rw h at e))
     ]
 
--- two lists, joined
-join_both : (x : List ℕ) (xs ys : List (List ℕ)) → 0 < length ys → join_with_byte 45 (x ∷ xs ++ ys) ≡ join_with_byte 45 (x ∷ xs) ++ 45 ∷ join_with_byte 45 ys
-join_both x xs [] n = absurd (omega arith)
-join_both x xs (y ∷ ys) n = join_append x xs y ys
+-- a source and fields, and the extension of them
+abbrev with_source : CoreParts → List FieldParts → TForm
+with_source c fs = record { source = Some c; fields = fs }
 
--- no more than one extension
-none_more : (es : List ExtensionParts) (ps : List (List ℕ)) → spell_rest es ps ≡ [] → (es ≡ []) × (ps ≡ [])
-none_more [] [] e = (refl, refl)
-none_more [] (p ∷ ps) e = cc
-none_more (x ∷ es) ps e = cc
+abbrev t_of : CoreParts → List FieldParts → ExtensionParts
+t_of c fs = record { singleton = transform; subtags = spell_t (with_source c fs) }
 
-all_front : (xs ys : List (List ℕ)) → no_single (xs ++ ys) ≡ true → no_single xs ≡ true
-all_front [] ys h = refl
-all_front (x ∷ xs) ys h =
-    let p = and_parts (not (length x == 1)) (no_single (xs ++ ys)) h in
-    and_from (not (length x == 1)) (no_single xs) p.0 (all_front xs ys p.1)
+-- the fields after a source are those of the subtags after it
+fields_after : (c : CoreParts) (ss : List (List ℕ)) → IsCore c → fields_of (spell_core c ++ ss) ≡ fields_of ss
+fields_after c ss k =
+    let shaped : IsT (with_source c []) = record { source = k; fields = tt; some = omega arith } in
+    fields-append (spell_core c) ss (no_fields (spell_core c) (ap fields_of (sym (append-nil (spell_core c))) ∙ (t_again _ shaped).fields))
 
-one_extension : (es : List ExtensionParts) (ps xs : List (List ℕ)) → spell_rest es ps ≡ (116 ∷ []) ∷ xs → no_single xs ≡ true → (es ≡ t_extension xs ∷ []) × (ps ≡ [])
-one_extension [] [] xs e h = cc
-one_extension [] (p ∷ ps) xs e h = let bad : x_subtag ≡ 116 ∷ [] = head_is x_subtag (116 ∷ []) (p ∷ ps) xs e in absurd (omega (arith, head_is 120 116 [] [] bad))
-one_extension (x ∷ es) ps xs e h =
-    let first : x.singleton ∷ [] ≡ 116 ∷ [] = head_is (x.singleton ∷ []) (116 ∷ []) _ xs e in
-    let rest : x.subtags ++ spell_rest es ps ≡ xs = sym (append_assoc x.subtags (spell_extensions es) (spell_private ps)) ∙ tail_is (x.singleton ∷ []) (116 ∷ []) _ xs e in
-    let cut = one_cut x.subtags xs (spell_rest es ps) [] (all_front x.subtags (spell_rest es ps) (ap no_single rest ∙ h)) h (rest_single es ps) refl (rest ∙ sym (append-nil xs)) in
-    let none = none_more es ps cut.1 in
-    let one : x ≡ t_extension xs = (λ i. let e : ExtensionParts = record { singleton = (head_is x.singleton 116 [] [] first) i; subtags = cut.0 i } in e) in
-    (ap (λ (l : List ExtensionParts). x ∷ l) none.0 ∙ ap (λ (y : ExtensionParts). y ∷ []) one, none.1)
+-- fields spell the subtags that they are found in
+fields_list : {fields : List ℕ} (K : IsFields fields) → list_of K.rest ≡ flat_map spell_field (fields_of (list_of K.rest))
+fields_list K = sym (fields-spelled (list_of K.rest)) ∙ ap (λ (l : List (List ℕ)). l ++ flat_map spell_field (fields_of (list_of K.rest))) K.separator
 
--- the subtags of a source and fields
-source_list : (source fields : List ℕ) (c : CoreParts) (K : IsFields fields) → HasTag source (core_alone c) → list_of (source ++ fields) ≡ spell_core c ++ list_of K.rest
-source_list source fields c K read =
-    ap (λ (l : List ℕ). list_of (source ++ l)) K.whole ∙ list_append source K.rest ∙ ap (λ (l : List (List ℕ)). l ++ list_of K.rest) (sym (core_list source c read))
-
--- a `t` extension is an end
-abbrev pub transformed_end : (source fields end : List ℕ) → IsTransformed source fields end → IsEnd end
+-- a `t` extension is an end, with a list of its own
+abbrev transformed_end : (source fields end : List ℕ) → IsTransformed source fields end → IsEnd end
 transformed_end source fields end T = record {
   singleton = T.singleton;
   rest = source ++ fields;
@@ -96,121 +74,149 @@ transformed_end source fields end T = record {
   whole = T.whole;
 }
 
--- with a list of its own
-transformed_list : (source fields end : List ℕ) (T : IsTransformed source fields end) (c : CoreParts) → HasTag source (core_alone c) → list_after (transformed_end source fields end T) ≡ (116 ∷ []) ∷ (spell_core c ++ list_of T.is_fields.rest)
-transformed_list source fields end T c read = λ i. (T.is_t i ∷ []) ∷ source_list source fields c T.is_fields read i
+transformed_list : (source fields end : List ℕ) (c : CoreParts) (T : IsTransformed source fields end) → HasTag source (core_alone c)
+    → list_after (transformed_end source fields end T) ≡ spell_extension (t_of c (fields_of (list_of T.is_fields.rest)))
+transformed_list source fields end c T read =
+    let K = T.is_fields in
+    let list = ap (λ (l : List ℕ). list_of (source ++ l)) K.whole ∙ list_append source K.rest ∙ (λ i. core_list source c read i ++ fields_list K i) in
+    λ i. (T.is_t i ∷ []) ∷ list i
 
--- which fits a text
-short_list : (front source fields end : List ℕ) → IsTransformed source fields end → length (front ++ end) ≤ longest_text → length (list_of (source ++ fields)) ≤ longest_text
-short_list front source fields end T short =
-    let x = source ++ fields in
-    omega (arith, short, length-append front end, ap length T.whole, length-map (pieces x) folded, length-pieces x)
+-- no more than one extension
+none_more : (es : List ExtensionParts) (ps : List (List ℕ)) → no_single (spell_rest es ps) ≡ true → (es ≡ []) × (ps ≡ [])
+none_more [] [] h = (refl, refl)
+none_more es ps h = cc
 
-extension_alone : (xs : List (List ℕ)) → spell_rest (t_extension xs ∷ []) [] ≡ (116 ∷ []) ∷ xs
-extension_alone xs = append-nil _ ∙ append-nil ((116 ∷ []) ∷ xs)
+one_extension : (es : List ExtensionParts) (ps xs : List (List ℕ)) → spell_rest es ps ≡ (116 ∷ []) ∷ xs → no_single xs ≡ true → (es ≡ record { singleton = transform; subtags = xs } ∷ []) × (ps ≡ [])
+one_extension [] [] xs e h = cc
+one_extension [] (p ∷ ps) xs e h = absurd (omega (arith, head_is 120 116 [] [] (head_is x_subtag (116 ∷ []) (p ∷ ps) xs e)))
+one_extension (x ∷ es) ps xs e h =
+    let rest : x.subtags ++ spell_rest es ps ≡ xs = sym (append_assoc x.subtags (spell_extensions es) (spell_private ps)) ∙ tail_is (x.singleton ∷ []) (116 ∷ []) _ xs e in
+    let none = none_more es ps (and_parts (no_single x.subtags) _ (sym (all-append _ x.subtags (spell_rest es ps)) ∙ ap no_single rest ∙ h)).1 in
+    let first : x.singleton ≡ 116 = cc in
+    let subtags : x.subtags ≡ xs = sym (append-nil x.subtags) ∙ (λ i. x.subtags ++ spell_rest (sym none.0 i) (sym none.1 i)) ∙ rest in
+    ((λ i. let e : ExtensionParts = record { singleton = first i; subtags = subtags i } in e ∷ none.0 i), none.1)
 
-extension_text : (c : CoreParts) (ss : List (List ℕ)) → 0 < length ss → join_with_byte 45 (spell_rest (t_extension (spell_core c ++ ss) ∷ []) []) ≡ 116 ∷ 45 ∷ (join_with_byte 45 (spell_core c) ++ 45 ∷ join_with_byte 45 ss)
-extension_text c ss some = ap (join_with_byte 45) (extension_alone (spell_core c ++ ss)) ∙ ap (λ (l : List ℕ). 116 ∷ 45 ∷ l) (join_both c.language _ ss some)
+-- some fields
+record AreFields (fs : List FieldParts) : Type 0 where
+  each : AllByRecursion IsField fs
+  some : fs ≢ []
 
-some_list : (text : List ℕ) → 0 < length (list_of text)
-some_list text = omega (arith, some_pieces text, length-map (pieces text) folded)
+fields_next : (fs gs : List FieldParts) → AreFields fs → ListStep false separator_cmp fs gs → AreFields gs
+fields_next fs gs A s = record { each = all_step IsField fs gs s A.each; some = step_some fs gs s }
+
+fields_some : {fields : List ℕ} (K : IsFields fields) → fields_of (list_of K.rest) ≢ []
+fields_some K none = omega (arith, some_pieces K.rest, length-map (pieces K.rest) folded, ap length (fields_list K ∙ ap (flat_map spell_field) none))
+
+-- the text of a `t` extension
+extension_text : (source : List ℕ) (c : CoreParts) (fs : List FieldParts) → HasTag source (core_alone c) → fs ≢ []
+    → join_with_byte 45 (spell_rest (t_of c fs ∷ []) []) ≡ 116 ∷ 45 ∷ (folded source ++ 45 ∷ join_with_byte 45 (flat_map spell_field fs))
+extension_text source c [] read some = absurd (some refl)
+extension_text source c (f ∷ fs) read some =
+    ap (join_with_byte 45) (extension_alone (t_of c (f ∷ fs))) ∙ ap (λ (l : List ℕ). 116 ∷ 45 ∷ l) (join_append c.language _ f.separator _)
+    ∙ ap (λ (l : List ℕ). 116 ∷ 45 ∷ (l ++ 45 ∷ join_with_byte 45 (flat_map spell_field (f ∷ fs)))) (ap (join_with_byte 45) (sym (core_list source c read) ∙ list_of_is source) ∙ join_pieces (folded source))
 
 module _ (R : List EntryParts) (C : IsChecked R) where
-  core_shaped : (front : List ℕ) (F : IsCanonicalCore R front) → IsCore F.core
-  core_shaped front F = F.read.tag.0.shaped_core
+  formed : {source : List ℕ} (G : IsCanonicalCore R source) (fs : List FieldParts) → AreFields fs → IsTransform (spell_t (with_source G.core fs)) (with_source G.core fs)
+  formed G fs A = record { shaped = record { source = G.read.tag.0.shaped_core; fields = A.each; some = omega arith }; spelled = refl }
 
-  distinct_source : (source : List ℕ) (G : IsCanonicalCore R source) (ss : List (List ℕ)) (p : TForm) → IsTransform ss p → p.source ≡ Some G.core → HasDistinctSource (t_extension ss)
-  distinct_source source G ss p is has = λ t q k.
-      subst (λ (o : Option CoreParts). IfSome o (λ (c : CoreParts). Distinct c.variants)) (sym has ∙ ap (λ (z : TForm). z.source) (one_transform ss p q is k)) G.canonical.valid.distinct.0
+  -- ---- steps after a canonical source are steps on fields
 
-  -- a canonical core with a `t` extension of a canonical source and valid fields is valid
-  valid_fields : (front source : List ℕ) (F : IsCanonicalCore R front) (G : IsCanonicalCore R source) (ss : List (List ℕ)) → before is_separator ss ≡ [] → list_all has_values (fields_of ss) ≡ true
-      → length (spell_core G.core ++ ss) ≤ longest_text → IsValid R (LangTag F.core (t_extension (spell_core G.core ++ ss) ∷ []) [])
-  valid_fields front source F G ss first values few =
-      let P = proper_parts R F.core [] [] F.canonical.valid.proper in
-      let Q = proper_parts R G.core [] [] G.canonical.valid.proper in
-      let parts = with_source G.core ss in
-      let is = source_parts G.core ss (core_shaped source G) first values in
-      let other : IsNotGrandfathered (spell_core F.core) = subst IsNotGrandfathered (append-nil (spell_core F.core)) F.canonical.valid.proper.tag.tag.1 in
+  field_step : {source : List ℕ} (G : IsCanonicalCore R source) (fs gs : List FieldParts) → AreFields fs → ListStep false separator_cmp fs gs → ExtensionStep R (t_of G.core fs) (t_of G.core gs)
+  field_step G fs gs A s = in_transform _ _ refl refl (formed G fs A) (formed G gs (fields_next fs gs A s)) (on_fields refl s)
+
+  step_fields : {source : List ℕ} (G : IsCanonicalCore R source) (fs : List FieldParts) (f : ExtensionParts) → AreFields fs → ExtensionStep R (t_of G.core fs) f
+      → (gs : List FieldParts) × ListStep false separator_cmp fs gs × (f ≡ t_of G.core gs)
+  step_fields G fs f A (in_unicode a b u same from to s) = absurd (omega (arith, u))
+  step_fields G fs f A (in_transform a b t same from to (on_source d g has gives s keeps)) =
+      let there : Some d ≡ Some G.core = sym has ∙ ap (λ (z : TForm). z.source) (one_transform _ a _ from (formed G fs A)) in
+      let core : d ≡ G.core = cc in
+      absurd (core_rests R C G.core G.canonical g (subst (λ (x : CoreParts). CoreStep (values_of R) x g) core s))
+  step_fields G fs f A (in_transform a b t same from to (on_fields keeps s)) =
+      let is = one_transform _ a _ from (formed G fs A) in
+      let subtags = sym to.spelled ∙ ap (λ (o : Option CoreParts). spell_source o ++ flat_map spell_field b.fields) (keeps ∙ ap (λ (z : TForm). z.source) is) in
+      (b.fields, subst (λ (z : TForm). ListStep false separator_cmp z.fields b.fields) is s, λ i. let e : ExtensionParts = record { singleton = same i; subtags = subtags i } in e)
+
+  -- so they lead on after each
+  fields_reached : {source : List ℕ} (G : IsCanonicalCore R source) {a b : ExtensionParts} → Star (ExtensionStep R) a b → (fs : List FieldParts) → a ≡ t_of G.core fs → AreFields fs
+      → (gs : List FieldParts) × AreFields gs × (b ≡ t_of G.core gs) × ((other : List ℕ) (H : IsCanonicalCore R other) → Star (ExtensionStep R) (t_of H.core fs) (t_of H.core gs))
+  fields_reached G done fs is A = (fs, A, is, λ other H. done)
+  fields_reached G (then {b = b} s more) fs is A =
+      let one = step_fields G fs b A (subst (λ (e : ExtensionParts). ExtensionStep R e b) is s) in
+      let rest = fields_reached G more one.0 one.2 (fields_next fs one.0 A one.1) in
+      (rest.0, rest.1, rest.2, λ other H. then (field_step H fs one.0 A one.1) (rest.3 other H))
+
+  -- one extension is in order
+  no_step : (e : ExtensionParts) (fs : List ExtensionParts) → ListStep false singleton_cmp (e ∷ []) fs → ⊥
+  no_step e fs (by_swap before a b after s) = omega (arith, ap length s.there, length-append before (a ∷ b ∷ after))
+  no_step e fs (by_drop before a between b after o s) = let bad : false ≡ true = o in cc
+
+  -- fields in their normal form, after each source
+  fields_end : {source : List ℕ} (G : IsCanonicalCore R source) (fs : List FieldParts) → AreFields fs
+      → (gs : List FieldParts) × AreFields gs × ((other : List ℕ) (H : IsCanonicalCore R other) → extensions_end R C (t_of H.core fs ∷ []) ≡ t_of H.core gs ∷ [])
+  fields_end G fs A =
+      let form = extension_formed R C.registry (core_conditions R C.passes) in
+      let n = fields_reached G (form.reached (t_of G.core fs)) fs refl A in
+      (n.0, n.1, λ other H.
+      sym (star_rests (extensions_ordered R C.registry (core_conditions R C.passes) (t_of H.core fs ∷ [])) (no_step (extension_end R C (t_of H.core fs))))
+      ∙ ap (λ (e : ExtensionParts). e ∷ []) (normal_is_form form (t_of H.core fs) (t_of H.core n.0) (record {
+        reached = n.3 other H;
+        at_rest = λ f s.
+            let one = step_fields H n.0 f n.1 s in
+            form.rests (t_of G.core fs) (t_of G.core one.0) (subst (λ (e : ExtensionParts). ExtensionStep R e (t_of G.core one.0)) (sym n.2) (field_step G n.0 one.0 n.1 one.1));
+      })))
+
+  -- they can follow each canonical core
+  distinct_source : {source : List ℕ} (G : IsCanonicalCore R source) (fs : List FieldParts) → AreFields fs → HasDistinctSource (t_of G.core fs)
+  distinct_source G fs A = λ t q k.
+      subst (λ (p : TForm). IfSome p.source (λ (c : CoreParts). Distinct c.variants)) (one_transform _ _ q (formed G fs A) k) G.canonical.valid.distinct.0
+
+  fields_follow : {source : List ℕ} (G : IsCanonicalCore R source) (fs gs : List FieldParts) → AreFields fs → AreFields gs → extensions_end R C (t_of G.core fs ∷ []) ≡ t_of G.core gs ∷ []
+      → length (spell_t (with_source G.core fs)) ≤ longest_text → CanFollow R C (t_of G.core fs ∷ []) []
+  fields_follow G fs gs A B end few =
+      let P = proper_parts R G.core [] [] G.canonical.valid.proper in
+      let is = formed G fs A in
       record {
-        proper = proper_langtag R F.core (t_extension (spell_core G.core ++ ss) ∷ []) [] other (record {
-          core = P.core;
-          values = (t_value parts (spell_core G.core ++ ss) is.shaped (subst (λ (l : List (List ℕ)). length l ≤ longest_text) (sym is.spelled) few) (sym is.spelled), tt);
-          count = omega arith;
-          private = refl;
-          private_count = omega arith;
-          extensions = ((λ t. (parts, is, Q.core.proper)), tt);
-          singletons = (tt, tt);
-        });
-        distinct = (F.canonical.valid.distinct.0, (distinct_source source G (spell_core G.core ++ ss) parts is refl, tt));
-      }
-
-  -- so is its form
-  fields_form : (source : List ℕ) (G : IsCanonicalCore R source) (ss : List (List ℕ)) → 0 < length ss → before is_separator ss ≡ [] → list_all has_values (fields_of ss) ≡ true
-      → extensions_end R C (t_extension (spell_core G.core ++ ss) ∷ []) ≡ t_extension (spell_core G.core ++ fields_end R C ss) ∷ []
-  fields_form source G ss some first values =
-      one_end R C (t_extension (spell_core G.core ++ ss)) ∙ ap (λ (x : ExtensionParts). x ∷ []) (end_with R C G.core ss (core_shaped source G) G.canonical some first values)
-
-  fields_canonical : (front source : List ℕ) (F : IsCanonicalCore R front) (G : IsCanonicalCore R source) (ss : List (List ℕ)) → 0 < length ss → before is_separator ss ≡ [] → list_all has_values (fields_of ss) ≡ true
-      → length (spell_core G.core ++ ss) ≤ longest_text
-      → IsCanonicalFormOf R (LangTag F.core (t_extension (spell_core G.core ++ ss) ∷ []) []) (LangTag F.core (extensions_end R C (t_extension (spell_core G.core ++ ss) ∷ [])) [])
-  fields_canonical front source F G ss some first values few =
-      let es = t_extension (spell_core G.core ++ ss) ∷ [] in
-      let distinct = distinct_source source G (spell_core G.core ++ fields_end R C ss) _ (end_source R C G.core ss some first values (core_shaped source G)) refl in
-      langtag_canonical R C F.core F.core es (extensions_end R C es) [] (valid_fields front source F G ss first values few)
-      (record { normal = record { reached = done; at_rest = core_rests R C F.core F.canonical }; distinct = F.canonical.valid.distinct.0 })
-      (form_is_normal (extensions_end_formed R C) es) (subst (AllByRecursion HasDistinctSource) (sym (fields_form source G ss some first values)) (distinct, tt)) (omega arith)
-
-  -- and its text
-  fields_text : (front source : List ℕ) (F : IsCanonicalCore R front) (G : IsCanonicalCore R source) (ss : List (List ℕ)) → 0 < length ss → before is_separator ss ≡ [] → list_all has_values (fields_of ss) ≡ true
-      → conventional (spell (LangTag F.core (extensions_end R C (t_extension (spell_core G.core ++ ss) ∷ [])) []))
-      ≡ conventional (list_of front) ++ (45 ∷ 116 ∷ 45 ∷ folded source ++ 45 ∷ join_with_byte 45 (fields_end R C ss))
-  fields_text front source F G ss some first values =
-      let n = end_parts R C ss some first values in
-      let after = fields_end R C ss in
-      let own : join_with_byte 45 (spell_core G.core) ≡ folded source = ap (join_with_byte 45) (core_list source G.core G.read) ∙ join_list source in
-      core_text R C front F (t_extension (spell_core G.core ++ ss) ∷ []) [] (omega arith)
-      ∙ ap (λ (es : List ExtensionParts). conventional (list_of front) ++ 45 ∷ join_with_byte 45 (spell_rest es [])) (fields_form source G ss some first values)
-      ∙ ap (λ (l : List ℕ). conventional (list_of front) ++ 45 ∷ l) (extension_text G.core after (subst (λ (l : List (List ℕ)). 0 < length l) n.formed.spelled n.formed.shaped.some))
-      ∙ ap (λ (l : List ℕ). conventional (list_of front) ++ (45 ∷ 116 ∷ 45 ∷ l ++ 45 ∷ join_with_byte 45 after)) own
-
-  -- the canonical text of each such text
-  with_fields : (front source fields end : List ℕ) (F : IsCanonicalCore R front) (G : IsCanonicalCore R source) (T : IsTransformed source fields end) → list_all has_values (fields_of (list_of T.is_fields.rest)) ≡ true → length (front ++ end) ≤ longest_text
-      → IsCanonicalTextOf R (front ++ end) (conventional (list_of front) ++ (45 ∷ 116 ∷ 45 ∷ folded source ++ 45 ∷ join_with_byte 45 (fields_end R C (list_of T.is_fields.rest))))
-  with_fields front source fields end F G T values short =
-      let ss = list_of T.is_fields.rest in
-      let some = some_list T.is_fields.rest in
-      let few = subst (λ (l : List (List ℕ)). length l ≤ longest_text) (source_list source fields G.core T.is_fields G.read) (short_list front source fields end T short) in
-      let form = fields_canonical front source F G ss some T.is_fields.separator values few in
-      record {
-        tag = LangTag F.core (t_extension (spell_core G.core ++ ss) ∷ []) [];
-        read = record {
-          short = short;
-          tag = form.valid.proper.tag.tag;
-          spelled = ap (λ (l : List (List ℕ)). spell_core F.core ++ l) (extension_alone (spell_core G.core ++ ss) ∙ sym (transformed_list source fields end T G.core G.read))
-              ∙ sym (whole_list front end F.core (transformed_end source fields end T) F.read);
+        core = G.core;
+        valid = record {
+          proper = proper_langtag R G.core (t_of G.core fs ∷ []) [] (subst IsNotGrandfathered (append-nil (spell_core G.core)) G.read.tag.1) (record {
+            core = P.core;
+            values = (t_value _ _ is.shaped few refl, tt);
+            count = omega arith;
+            private = refl;
+            private_count = omega arith;
+            extensions = ((λ t. (_, is, P.core.proper)), tt);
+            singletons = (tt, tt);
+          });
+          distinct = (G.canonical.valid.distinct.0, (distinct_source G fs A, tt));
         };
-        form = LangTag F.core (extensions_end R C (t_extension (spell_core G.core ++ ss) ∷ [])) [];
-        is_form = form;
-        written = sym (fields_text front source F G ss some T.is_fields.separator values);
+        sources = subst (AllByRecursion HasDistinctSource) (sym end) (distinct_source G gs B, tt);
+        some = omega arith;
       }
+
+  with_fields : (fields : List ℕ) (K : IsFields fields) (gs : List FieldParts) → AreFields (fields_of (list_of K.rest)) → AreFields gs
+      → ((source : List ℕ) (G : IsCanonicalCore R source) → extensions_end R C (t_of G.core (fields_of (list_of K.rest)) ∷ []) ≡ t_of G.core gs ∷ []) → IsFieldsText R fields (45 ∷ join_with_byte 45 (flat_map spell_field gs))
+  with_fields fields K gs A B reached front source end F G U short =
+      let fs = fields_of (list_of K.rest) in
+      let T : IsTransformed source fields end = record { singleton = U.singleton; is_t = U.is_t; whole = U.whole; is_fields = K } in
+      let list = transformed_list source fields end G.core T G.read in
+      let few : length (spell_t (with_source G.core fs)) ≤ longest_text =
+      omega (arith, short, length-append front end, ap length U.whole, length-map (pieces (source ++ fields)) folded, length-pieces (source ++ fields), ap length list) in
+      text_with R C front end _ F (t_of G.core fs ∷ []) [] (fields_follow G fs gs A B (reached source G) few)
+      (whole_list front end F.core (transformed_end source fields end T) F.read ∙ ap (λ (l : List (List ℕ)). spell_core F.core ++ l) (list ∙ sym (extension_alone (t_of G.core fs))))
+      (ap (λ (es : List ExtensionParts). join_with_byte 45 (spell_rest es [])) (reached source G) ∙ extension_text source G.core gs G.read B.some) short
 
   pub fields_shared : FieldsAreShared R
   fields_shared front source fields end canonical F G T a =
       let K = T.is_fields in
-      let ss = list_of K.rest in
-      let xs = spell_core G.core ++ ss in
+      let fs = fields_of (list_of K.rest) in
       let E = transformed_end source fields end T in
-      let H = has_end a.tag F.core _ (list_of E.rest) a.read.tag (core_shaped front F) (a.read.spelled ∙ whole_list front end F.core E F.read) in
-      let none = list_all-append (λ (s : List ℕ). not (length s == 1)) (spell_core G.core) ss (core_no_single G.core (core_shaped source G)) K.no_singleton in
-      let one = one_extension H.extensions H.private xs (H.spelled ∙ transformed_list source fields end T G.core G.read) none in
-      let is : a.tag ≡ LangTag F.core (t_extension xs ∷ []) [] = H.is ∙ (λ i. LangTag F.core (one.0 i) (one.1 i)) in
-      let form : IsCanonicalFormOf R (LangTag F.core (t_extension xs ∷ []) []) a.form = subst (λ (t : TagForm). IsCanonicalFormOf R t a.form) is a.is_form in
-      let parts = form.valid.proper.parts.extensions.0 refl in
-      let values = fields_valued G.core ss parts.0 (core_shaped source G) parts.1 in
-      record {
-        rest = 45 ∷ join_with_byte 45 (fields_end R C ss);
-        whole = a.written ∙ ap (λ (t : TagForm). conventional (spell t)) (form_is R C F.core (t_extension xs ∷ []) [] a.form F.canonical (omega arith) form)
-            ∙ fields_text front source F G ss (some_list K.rest) K.separator values;
-        shared = λ other origin tail I J U short. with_fields other origin fields tail I J (record { singleton = U.singleton; is_t = U.is_t; whole = U.whole; is_fields = K }) values short;
-      }
+      let H = has_end a.tag F.core _ (list_of E.rest) a.read.tag F.read.tag.0.shaped_core (a.read.spelled ∙ whole_list front end F.core E F.read) in
+      let none = list_all-append (λ (s : List ℕ). not (length s == 1)) (spell_core G.core) (list_of K.rest) (core_no_single G.core G.read.tag.0.shaped_core) K.no_singleton in
+      let one = one_extension H.extensions H.private (t_of G.core fs).subtags (H.spelled ∙ transformed_list source fields end G.core T G.read) (ap (λ (l : List (List ℕ)). no_single (spell_core G.core ++ l)) (sym (fields_list K)) ∙ none) in
+      let valid = subst (IsValid R) (H.is ∙ (λ i. LangTag F.core (one.0 i) (one.1 i))) a.is_form.valid in
+      let parts = valid.proper.parts.extensions.0 refl in
+      let found : parts.0.fields ≡ fs = sym (t_again parts.0 parts.1.shaped).fields ∙ ap fields_of parts.1.spelled ∙ fields_after G.core _ G.read.tag.0.shaped_core ∙ ap fields_of (sym (fields_list K)) in
+      let A : AreFields fs = record { each = subst (AllByRecursion IsField) found parts.1.shaped.fields; some = fields_some K } in
+      let N = fields_end G fs A in
+      let shared = with_fields fields K N.0 A N.1 N.2 in
+      record { rest = _; whole = one_text R C (front ++ end) _ _ a (shared front source end F G T a.read.short); shared = shared }

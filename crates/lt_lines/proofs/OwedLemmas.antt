@@ -1,12 +1,11 @@
 -- Lines that are ended, and what is owed for them.
-use Rattle.std.proofs.Common.{◌≡◌, ◌≢◌, ◌≤◌, ◌<◌, ◌+◌, ◌++◌, ◌∷◌, ◌∙◌, ℕ, List, [], Bool, true, false, length, sym, ap, refl, subst, arith, append_assoc, append-nil, length-append, suc, cond, ◌==◌}
+use Rattle.std.proofs.Common.{◌≡◌, ◌≢◌, ◌≤◌, ◌<◌, ◌+◌, ◌++◌, ◌∷◌, ◌∙◌, ℕ, List, [], Bool, true, false, length, sym, ap, refl, subst, arith, append_assoc, append-nil, length-append, suc, cond, ◌==◌, eq-eqb, ne_eqb}
 use Rattle.std.specs.List.{AllByRecursion}
-use Rattle.std.proofs.lemmas.Bool.{eq-eqb, ne_eqb}
 use Rattle.std.proofs.lemmas.List.Elements.{All-append, All-head, All-tail}
 use Rattle.std.proofs.lemmas.List.Sums.{sum_by-append}
 use Rattle.lt_jar.proofs.CutLemmas.{lines_of-ended, lines_of-last}
-use Rattle.lt_lines.specs.Answering.{one_if, open_after}
-use Rattle.lt_lines.specs.Owed.{AreReplies, AreRepliesFrom, IsOneLine, IsReplyTo, IsUnit, IsWhole, Reply, Terms, bytes_in, ended, feeds_in, is_open, refused_in, units_of}
+use Rattle.lt_lines.specs.Answering.{kept_of, one_if, open_after}
+use Rattle.lt_lines.specs.Owed.{AreRepliesFrom, IsOneLine, IsReplyTo, IsUnit, IsWhole, Reply, Terms, bytes_in, ended, feeds_in, is_open, refused_in, units_of}
 use Rattle.lt_lines.specs.Quotes.{is_inside}
 use Rattle.lt_lines.specs.declared.forms.LineForm.{LineForm}
 use Rattle.lt_lines.specs.declared.forms.LineForm.TheVariants as forms
@@ -17,57 +16,44 @@ IsNoFeed byte = byte ≢ 10
 
 -- ---- lines by their form
 
-pub units_none : (form : LineForm) → units_of form [] ≡ []
-units_none forms.Tag = refl
-units_none (forms.Row before) = refl
-units_none (forms.Csv before) = refl
+-- of no bytes
+pub record HasNone (form : LineForm) : Type 0 where
+  pub units : units_of form [] ≡ []
+  pub unit : IsUnit form []
+  pub closed : is_open form [] ≡ false
+  pub kept : kept_of form [] ≡ []
 
-pub open_none : (form : LineForm) → is_open form [] ≡ false
-open_none forms.Tag = refl
-open_none (forms.Row before) = refl
-open_none (forms.Csv before) = refl
-
-pub unit_none : (form : LineForm) → IsUnit form []
-unit_none forms.Tag = λ k d lt. absurd (omega (arith, lt))
-unit_none (forms.Row before) = λ k d lt. absurd (omega (arith, lt))
-unit_none (forms.Csv before) = tt
+pub of_none : (form : LineForm) → HasNone form
+of_none (forms.Csv before) = record { units = refl; unit = tt; closed = refl; kept = refl }
+of_none form = record { units = refl; unit = λ k d lt. absurd (omega (arith, lt)); closed = refl; kept = refl }
 
 -- a line and its line feed
 pub units-ended : (form : LineForm) (line rest : List ℕ) → IsWhole form line → units_of form (line ++ 10 ∷ rest) ≡ line ∷ units_of form rest
-units-ended forms.Tag line rest h = lines_of-ended line rest h.unit
-units-ended (forms.Row before) line rest h = lines_of-ended line rest h.unit
 units-ended (forms.Csv before) line rest h = records_from-ended false line rest h.unit h.closed
+units-ended form line rest h = lines_of-ended line rest h.unit
 
 -- a last line
 pub units-last : (form : LineForm) (line : List ℕ) → IsUnit form line → 0 < length line → units_of form line ≡ line ∷ []
-units-last forms.Tag line one some = lines_of-last line one some
-units-last (forms.Row before) line one some = lines_of-last line one some
 units-last (forms.Csv before) line one some = records_from-last false line one some
+units-last form line one some = lines_of-last line one some
 
 -- a line goes on with bytes before the next line feed
 pub unit-append : (form : LineForm) (last part : List ℕ) → IsUnit form last → IsOneLine part → IsUnit form (last ++ part)
-unit-append forms.Tag last part h one = All-append IsNoFeed last part h one
-unit-append (forms.Row before) last part h one = All-append IsNoFeed last part h one
 unit-append (forms.Csv before) last part h one = free-append 10 false last part h (free_of_none 10 (is_inside false last) part one)
+unit-append form last part h one = All-append IsNoFeed last part h one
 
 pub open-append : (form : LineForm) (last part : List ℕ) → is_open form (last ++ part) ≡ open_after form (is_open form last) part
-open-append forms.Tag last part = refl
-open-append (forms.Row before) last part = refl
 open-append (forms.Csv before) last part = is_inside-append false last part
-
-never : false ≡ true → ⊥
-never e = cc
+open-append form last part = refl
 
 -- a line feed within quotes
 pub unit-feed : (form : LineForm) (last : List ℕ) → IsUnit form last → is_open form last ≡ true → IsUnit form (last ++ 10 ∷ [])
-unit-feed forms.Tag last h inside = absurd (never inside)
-unit-feed (forms.Row before) last h inside = absurd (never inside)
 unit-feed (forms.Csv before) last h inside = free-append 10 false last (10 ∷ []) h (λ e. inside, tt)
+unit-feed form last h inside = let bad : false ≡ true = inside in cc
 
 pub open-feed : (form : LineForm) (last : List ℕ) → is_open form last ≡ true → is_open form (last ++ 10 ∷ []) ≡ true
-open-feed forms.Tag last inside = inside
-open-feed (forms.Row before) last inside = inside
 open-feed (forms.Csv before) last inside = is_inside-append false last (10 ∷ []) ∙ ap (λ b. is_inside b (10 ∷ [])) inside
+open-feed form last inside = inside
 
 -- lines that are ended come first
 pub ended_first : (form : LineForm) (lines : List (List ℕ)) (more : List ℕ) → AllByRecursion (IsWhole form) lines
@@ -87,9 +73,8 @@ inside_after_ended before (line ∷ lines) last h =
 
 pub open_after_ended : (form : LineForm) (lines : List (List ℕ)) (last : List ℕ) → AllByRecursion (IsWhole form) lines
     → is_open form (ended lines ++ last) ≡ is_open form last
-open_after_ended forms.Tag lines last h = refl
-open_after_ended (forms.Row before) lines last h = refl
 open_after_ended (forms.Csv before) lines last h = inside_after_ended before lines last h
+open_after_ended form lines last h = refl
 
 -- one more line that is ended
 pub ended-append : (lines : List (List ℕ)) (line : List ℕ) → ended (lines ++ line ∷ []) ≡ ended lines ++ (line ++ 10 ∷ [])
@@ -97,10 +82,9 @@ ended-append [] line = refl
 ended-append (l ∷ lines) line =
     ap (λ t. l ++ 10 ∷ t) (ended-append lines line) ∙ sym (append_assoc l (10 ∷ ended lines) (line ++ 10 ∷ []))
 
-pub whole_lines-append : (form : LineForm) (lines : List (List ℕ)) (line : List ℕ) → AllByRecursion (IsWhole form) lines → IsWhole form line
-    → AllByRecursion (IsWhole form) (lines ++ line ∷ [])
-whole_lines-append form [] line h one = (one, tt)
-whole_lines-append form (l ∷ lines) line h one = (h.0, whole_lines-append form lines line h.1 one)
+pub each-last : {X : Type 0} (P : X → Type 0) (xs : List X) (x : X) → AllByRecursion P xs → P x → AllByRecursion P (xs ++ x ∷ [])
+each-last P [] x h one = (one, tt)
+each-last P (y ∷ xs) x h one = (h.0, each-last P xs x h.1 one)
 
 -- there are no more lines than bytes that end them
 pub ended-length : (lines : List (List ℕ)) → length lines ≤ length (ended lines)
@@ -115,8 +99,7 @@ feeds_in-append text more = sum_by-append (λ (byte : ℕ). cond (byte == 10) 1 
 pub no_feeds : (text : List ℕ) → IsOneLine text → feeds_in text ≡ 0
 no_feeds [] one = refl
 no_feeds (byte ∷ text) one =
-    feeds_in-append (byte ∷ []) text ∙ ap (λ t. (0 + cond t 1 0) + feeds_in text) (ne_eqb byte 10 (All-head IsNoFeed byte text one))
-    ∙ ap (λ n. 0 + n) (no_feeds text (All-tail IsNoFeed byte text one))
+    rw (ne_eqb byte 10 (All-head IsNoFeed byte text one)) (omega (arith, no_feeds text (All-tail IsNoFeed byte text one)))
 
 pub one_feed : (text part : List ℕ) → IsOneLine part → feeds_in (text ++ (part ++ 10 ∷ [])) ≡ feeds_in text + 1
 one_feed text part one =
@@ -138,39 +121,24 @@ pub first_by_count : (lines : List (List ℕ)) (count : ℕ) → count ≡ lengt
 first_by_count [] count is = eq-eqb count 0 is
 first_by_count (line ∷ lines) count is = ne_eqb count 0 (λ none. omega (arith, none, is))
 
-replies_from-append : (T : Terms) (first : Bool) (lines : List (List ℕ)) (owed : List Reply) (line : List ℕ) (r : Reply)
+pub replies-append : (T : Terms) (first : Bool) (lines : List (List ℕ)) (owed : List Reply) (line : List ℕ) (r : Reply)
     → AreRepliesFrom T first lines owed → IsReplyTo T (first_after first lines) line r → AreRepliesFrom T first (lines ++ line ∷ []) (owed ++ r ∷ [])
-replies_from-append T first [] [] line r h one = (one, tt)
-replies_from-append T first [] (o ∷ owed) line r h one = absurd h
-replies_from-append T first (l ∷ lines) [] line r h one = absurd h
-replies_from-append T first (l ∷ lines) (o ∷ owed) line r h one =
-    (h.0, replies_from-append T false lines owed line r h.1 (subst (λ b. IsReplyTo T b line r) (sym (none_first lines)) one))
-
-pub AreReplies-append : (T : Terms) (lines : List (List ℕ)) (owed : List Reply) (line : List ℕ) (r : Reply) → AreReplies T lines owed
-    → IsReplyTo T (first_after true lines) line r → AreReplies T (lines ++ line ∷ []) (owed ++ r ∷ [])
-AreReplies-append T lines owed line r h one = replies_from-append T true lines owed line r h one
-
-replies_from-length : (T : Terms) (first : Bool) (lines : List (List ℕ)) (owed : List Reply) → AreRepliesFrom T first lines owed → length owed ≡ length lines
-replies_from-length T first [] [] h = refl
-replies_from-length T first [] (o ∷ owed) h = absurd h
-replies_from-length T first (l ∷ lines) [] h = absurd h
-replies_from-length T first (l ∷ lines) (o ∷ owed) h = ap (λ n. suc n) (replies_from-length T false lines owed h.1)
+replies-append T first [] [] line r h one = (one, tt)
+replies-append T first (l ∷ lines) (o ∷ owed) line r h one =
+    (h.0, replies-append T false lines owed line r h.1 (subst (λ b. IsReplyTo T b line r) (sym (none_first lines)) one))
+replies-append T first lines owed line r h one = absurd h
 
 -- an answer is owed for each line
-pub AreReplies-length : (T : Terms) (lines : List (List ℕ)) (owed : List Reply) → AreReplies T lines owed → length owed ≡ length lines
-AreReplies-length T lines owed h = replies_from-length T true lines owed h
+pub replies-length : (T : Terms) (first : Bool) (lines : List (List ℕ)) (owed : List Reply) → AreRepliesFrom T first lines owed → length owed ≡ length lines
+replies-length T first [] [] h = refl
+replies-length T first (l ∷ lines) (o ∷ owed) h = ap (λ n. suc n) (replies-length T false lines owed h.1)
+replies-length T first lines owed h = absurd h
 
 pub bytes_in-last : (owed : List Reply) (r : Reply) → bytes_in (owed ++ r ∷ []) ≡ bytes_in owed ++ r.bytes
 bytes_in-last [] r = append-nil r.bytes
 bytes_in-last (o ∷ owed) r = ap (λ l. o.bytes ++ l) (bytes_in-last owed r) ∙ sym (append_assoc o.bytes (bytes_in owed) r.bytes)
 
-pub length-last : (owed : List Reply) (r : Reply) → length (owed ++ r ∷ []) ≡ length owed + 1
-length-last owed r = length-append owed (r ∷ [])
-
 pub refused_in-last : (owed : List Reply) (r : Reply) → refused_in (owed ++ r ∷ []) ≡ refused_in owed + one_if r.refused
 refused_in-last owed r =
-    sum_by-append (λ (o : Reply). cond o.refused 1 0) owed (r ∷ []) ∙ ap (λ n. refused_in owed + n) (by_test r.refused)
-  where
-    by_test : (t : Bool) → 0 + cond t 1 0 ≡ one_if t
-    by_test true = refl
-    by_test false = refl
+    sum_by-append (λ (o : Reply). cond o.refused 1 0) owed (r ∷ [])
+    ∙ ap (λ n. refused_in owed + n) (elim r.refused as (λ t. 0 + cond t 1 0 ≡ one_if t) [ true ↦ refl | false ↦ refl ])

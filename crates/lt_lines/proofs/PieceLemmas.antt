@@ -8,7 +8,6 @@ use Rattle.lt_jar.specs.declared.devices.Device.{Device}
 use Rattle.lt_lines.specs.Answering.{CountsFeed, IsTaken, TakesPiece, WritesOwed, open_after, part_kept}
 use Rattle.lt_lines.specs.Owed.{IsOneLine, Terms}
 use Rattle.lt_lines.specs.declared.answering.Answering.{Answering}
-use Rattle.lt_lines.specs.declared.runs.Counts.{Counts}
 use Rattle.lt_lines.specs.declared.faults.ToolFault.{ToolFault}
 use Rattle.lt_lines.specs.declared.faults.ToolFault.TheVariants as faults
 use Rattle.lt_lines.proofs.DeviceLemmas.{failed_from}
@@ -44,38 +43,43 @@ turn_first T contents piece old before refused = record {
   refused = refused;
 }
 
--- the line that was answered begins the rest of the piece
-pub answered_front : (T : Terms) (rest line after : List ℕ) (now mid : Answering) → rest ≡ line ++ 10 ∷ after
+-- a line of the piece was answered
+pub turn_line : {W : Type 0} (T : Terms) (contents : W → Option (List ℕ)) (piece rest line after : List ℕ) (old now mid : Answering) (before between : Device W)
+    → PieceTurn T contents piece rest old now before between → IsOneLine line × (rest ≡ line ++ 10 ∷ after)
     → ((bytes out : List ℕ) → IsOneLine (take (length line) rest) → IsTaken T bytes out now → IsTaken T (bytes ++ (take (length line) rest ++ 10 ∷ [])) out mid)
-    → (bytes out : List ℕ) → IsOneLine line → IsTaken T bytes out now → IsTaken T (bytes ++ (line ++ 10 ∷ [])) out mid
-answered_front T rest line after now mid split answered =
-    subst (λ (l : List ℕ). (bytes out : List ℕ) → IsOneLine l → IsTaken T bytes out now → IsTaken T (bytes ++ (l ++ 10 ∷ [])) out mid)
-    (ap (take (length line)) split ∙ take-append_seam line (10 ∷ after)) answered
-
--- a line of the piece was answered, and some of what is owed was written
-pub turn_next : {W : Type 0} (T : Terms) (contents : W → Option (List ℕ)) (piece rest line after : List ℕ) (old now mid new : Answering) (before between last : Device W)
-    → PieceTurn T contents piece rest old now before between → rest ≡ line ++ 10 ∷ after → IsOneLine line
-    → ((bytes out : List ℕ) → IsOneLine line → IsTaken T bytes out now → IsTaken T (bytes ++ (line ++ 10 ∷ [])) out mid)
-    → CountsFeed now mid → WritesOwed contents mid new between last (Ok tt) → PieceTurn T contents piece after old new before last
-turn_next T contents piece rest line after old now mid new before between last t split one answered counted w =
-    let lines : new.counts.lines ≡ mid.counts.lines = ap (λ (c : Counts). c.lines) w.same.counts in
-    let refusals : new.counts.refused ≡ mid.counts.refused = ap (λ (c : Counts). c.refused) w.same.counts in
+    → CountsFeed now mid → PieceTurn T contents piece after old mid before between
+turn_line T contents piece rest line after old now mid before between t split answered counted =
+    let whole : take (length line) rest ≡ line = ap (take (length line)) split.1 ∙ take-append_seam line (10 ∷ after) in
+    let long = ap length split.1 ∙ length-append line (10 ∷ after) in
     record {
       front = t.front ++ (line ++ 10 ∷ []);
-      split = t.split ∙ ap (λ (l : List ℕ). t.front ++ l) (split ∙ sym (append_assoc line (10 ∷ []) after)) ∙ sym (append_assoc t.front (line ++ 10 ∷ []) after);
-      written = t.written ++ w.written;
-      appends = Appends-trans _ _ _ _ _ t.appends w.appends;
-      failures = w.done.1 ∙ t.failures;
-      taken = λ bytes out old_taken.
-          let now_taken = t.taken bytes out old_taken in
-          let mid_taken = answered (bytes ++ t.front) (out ++ t.written) one now_taken in
-          let new_taken = taken_write T ((bytes ++ t.front) ++ (line ++ 10 ∷ [])) (out ++ t.written) w.written mid new mid_taken w.same w.done.0 in
-          subst (λ (l : List ℕ). IsTaken T l (out ++ (t.written ++ w.written)) new) (append_assoc bytes t.front (line ++ 10 ∷ []))
-          (subst (λ (l : List ℕ). IsTaken T ((bytes ++ t.front) ++ (line ++ 10 ∷ [])) l new) (append_assoc out t.written w.written) new_taken);
-      room = let long = ap length split ∙ length-append line (10 ∷ after) in omega (arith, t.room, lines, counted.lines, long);
-      feeds = let long = ap length split ∙ length-append line (10 ∷ after) in omega (arith, t.feeds, w.same.feeds, counted.feeds, long);
-      refused = omega (arith, lines, refusals, counted.refused);
+      split = t.split ∙ ap (λ (l : List ℕ). t.front ++ l) (split.1 ∙ sym (append_assoc line (10 ∷ []) after)) ∙ sym (append_assoc t.front (line ++ 10 ∷ []) after);
+      written = t.written;
+      appends = t.appends;
+      failures = t.failures;
+      taken = λ bytes out old_taken. subst (λ (l : List ℕ). IsTaken T l (out ++ t.written) mid) (append_assoc bytes t.front (line ++ 10 ∷ []))
+          (subst (λ (l : List ℕ). IsTaken T ((bytes ++ t.front) ++ (l ++ 10 ∷ [])) (out ++ t.written) mid) whole
+          (answered (bytes ++ t.front) (out ++ t.written) (subst IsOneLine (sym whole) split.0) (t.taken bytes out old_taken)));
+      room = omega (arith, t.room, counted.lines, long);
+      feeds = omega (arith, t.feeds, counted.feeds, long);
+      refused = counted.refused;
     }
+
+-- some of what is owed was written
+pub turn_written : {W : Type 0} (T : Terms) (contents : W → Option (List ℕ)) (piece rest : List ℕ) (old mid new : Answering) (before between last : Device W)
+    → PieceTurn T contents piece rest old mid before between → WritesOwed contents mid new between last (Ok tt) → PieceTurn T contents piece rest old new before last
+turn_written T contents piece rest old mid new before between last t w = record {
+  front = t.front;
+  split = t.split;
+  written = t.written ++ w.written;
+  appends = Appends-trans _ _ _ _ _ t.appends w.appends;
+  failures = w.done.1 ∙ t.failures;
+  taken = λ bytes out old_taken. subst (λ (l : List ℕ). IsTaken T (bytes ++ t.front) l new) (append_assoc out t.written w.written)
+      (taken_write T (bytes ++ t.front) (out ++ t.written) w.written mid new (t.taken bytes out old_taken) w.same w.done.0);
+  room = rw w.same.counts t.room;
+  feeds = rw w.same.feeds t.feeds;
+  refused = rw w.same.counts t.refused;
+}
 
 -- memory ran out
 pub turn_lacks : {W : Type 0} (T : Terms) (contents : W → Option (List ℕ)) (piece rest : List ℕ) (old now new : Answering) (before after : Device W)
@@ -92,59 +96,47 @@ turn_lacks T contents piece rest old now new before after t = record {
 }
 
 -- a write failed
-pub turn_fails : {W : Type 0} (T : Terms) (contents : W → Option (List ℕ)) (piece front rest written : List ℕ) (old mid new : Answering) (before between last : Device W) (f : ToolFault)
-    → piece ≡ front ++ rest → Appends (contents (inner_of before)) (contents (inner_of between)) written → failures_of between ≡ failures_of before
-    → ((bytes out : List ℕ) → IsTaken T bytes out old → IsTaken T (bytes ++ front) (out ++ written) mid)
-    → WritesOwed contents mid new between last (Err f) → TakesPiece T contents piece old new before last (Err f)
-turn_fails T contents piece front rest written old mid new before between last f split appends failures taken w = record {
-  written = written ++ w.written;
-  appends = Appends-trans _ _ _ _ _ appends w.appends;
+pub turn_fails : {W : Type 0} (T : Terms) (contents : W → Option (List ℕ)) (piece rest : List ℕ) (old mid new : Answering) (before between last : Device W) (f : ToolFault)
+    → PieceTurn T contents piece rest old mid before between → WritesOwed contents mid new between last (Err f) → TakesPiece T contents piece old new before last (Err f)
+turn_fails T contents piece rest old mid new before between last f t w = record {
+  written = t.written ++ w.written;
+  appends = Appends-trans _ _ _ _ _ t.appends w.appends;
   done = tt;
   stopped = (
-    inl (w.stopped.0, failed_from before between last failures w.stopped.1),
+    inl (w.stopped.0, failed_from before between last t.failures w.stopped.1),
     λ bytes out old_taken.
-        begun_front T (bytes ++ front) (out ++ written) w.written rest (bytes ++ piece) (out ++ (written ++ w.written)) mid (taken bytes out old_taken) w.stopped.2
-        (joined bytes front rest piece split) (sym (append_assoc out written w.written)),
+        begun_front T (bytes ++ t.front) (out ++ t.written) w.written rest (bytes ++ piece) (out ++ (t.written ++ w.written)) mid (t.taken bytes out old_taken) w.stopped.2
+        (joined bytes t.front rest piece t.split) (sym (append_assoc out t.written w.written)),
   );
 }
 
 -- the rest of the piece is kept
 pub turn_kept : {W : Type 0} (T : Terms) (contents : W → Option (List ℕ)) (piece rest : List ℕ) (old now mid : Answering) (before after : Device W)
-    → (t : PieceTurn T contents piece rest old now before after) → IsOneLine rest → mid.kept.items ≡ now.kept.items ++ part_kept T.form (length now.kept.items) rest
+    → PieceTurn T contents piece rest old now before after → IsOneLine rest → mid.kept.items ≡ now.kept.items ++ part_kept T.form (length now.kept.items) rest
     → mid.is_open ≡ open_after T.form now.is_open rest → mid.feeds ≡ now.feeds → mid.owed.items ≡ now.owed.items → mid.counts ≡ now.counts → mid.recent ≡ now.recent
-    → (bytes out : List ℕ) → IsTaken T bytes out old → IsTaken T (bytes ++ piece) (out ++ t.written) mid
-turn_kept T contents piece rest old now mid before after t one kept inside feeds owed counts recent = λ bytes out old_taken.
-    subst (λ (l : List ℕ). IsTaken T l (out ++ t.written) mid) (sym (joined bytes t.front rest piece t.split))
-    (taken_part T (bytes ++ t.front) (out ++ t.written) rest now mid (t.taken bytes out old_taken) one kept inside feeds owed counts recent)
+    → PieceTurn T contents piece [] old mid before after
+turn_kept T contents piece rest old now mid before after t one kept inside feeds owed counts recent = record {
+  front = piece;
+  split = sym (append-nil piece);
+  written = t.written;
+  appends = t.appends;
+  failures = t.failures;
+  taken = λ bytes out old_taken. subst (λ (l : List ℕ). IsTaken T l (out ++ t.written) mid) (sym (joined bytes t.front rest piece t.split))
+      (taken_part T (bytes ++ t.front) (out ++ t.written) rest now mid (t.taken bytes out old_taken) one kept inside feeds owed counts recent);
+  room = rw counts (omega (arith, t.room));
+  feeds = omega (arith, t.feeds, feeds);
+  refused = rw counts t.refused;
+}
 
 -- the last write over the piece
-pub turn_last : {W : Type 0} (T : Terms) (contents : W → Option (List ℕ)) (piece written : List ℕ) (old mid new : Answering) (before between last : Device W) (r : Result (Unit {0}) ToolFault)
-    → Appends (contents (inner_of before)) (contents (inner_of between)) written → failures_of between ≡ failures_of before
-    → ((bytes out : List ℕ) → IsTaken T bytes out old → IsTaken T (bytes ++ piece) (out ++ written) mid)
-    → WritesOwed contents mid new between last r → OnOk r (new.owed.items ≡ []) → TakesPiece T contents piece old new before last r
-turn_last T contents piece written old mid new before between last (Ok u) appends failures taken w none = record {
-  written = written ++ w.written;
-  appends = Appends-trans _ _ _ _ _ appends w.appends;
-  done = (
-    w.done.1 ∙ failures,
-    none,
-    λ bytes out old_taken.
-        subst (λ (l : List ℕ). IsTaken T (bytes ++ piece) l new) (append_assoc out written w.written)
-        (taken_write T (bytes ++ piece) (out ++ written) w.written mid new (taken bytes out old_taken) w.same w.done.0),
-  );
-  stopped = tt;
-}
-turn_last T contents piece written old mid new before between last (Err f) appends failures taken w none =
-    turn_fails T contents piece piece [] written old mid new before between last f (sym (append-nil piece)) appends failures taken w
-
--- a line of the piece was answered, and a write failed
-pub turn_breaks : {W : Type 0} (T : Terms) (contents : W → Option (List ℕ)) (piece rest line after : List ℕ) (old now mid new : Answering) (before between last : Device W) (f : ToolFault)
-    → PieceTurn T contents piece rest old now before between → rest ≡ line ++ 10 ∷ after → IsOneLine line
-    → ((bytes out : List ℕ) → IsOneLine line → IsTaken T bytes out now → IsTaken T (bytes ++ (line ++ 10 ∷ [])) out mid)
-    → WritesOwed contents mid new between last (Err f) → TakesPiece T contents piece old new before last (Err f)
-turn_breaks T contents piece rest line after old now mid new before between last f t split one answered w =
-    turn_fails T contents piece (t.front ++ (line ++ 10 ∷ [])) after t.written old mid new before between last f
-    (t.split ∙ ap (λ (l : List ℕ). t.front ++ l) (split ∙ sym (append_assoc line (10 ∷ []) after)) ∙ sym (append_assoc t.front (line ++ 10 ∷ []) after)) t.appends t.failures
-    (λ bytes out old_taken. subst (λ (l : List ℕ). IsTaken T l (out ++ t.written) mid) (append_assoc bytes t.front (line ++ 10 ∷ []))
-    (answered (bytes ++ t.front) (out ++ t.written) one (t.taken bytes out old_taken)))
-    w
+pub turn_last : {W : Type 0} (T : Terms) (contents : W → Option (List ℕ)) (piece : List ℕ) (old mid new : Answering) (before between last : Device W) (r : Result (Unit {0}) ToolFault)
+    → PieceTurn T contents piece [] old mid before between → WritesOwed contents mid new between last r → OnOk r (new.owed.items ≡ []) → TakesPiece T contents piece old new before last r
+turn_last T contents piece old mid new before between last (Ok u) t w none =
+    let n = turn_written T contents piece [] old mid new before between last t w in
+    record {
+      written = n.written;
+      appends = n.appends;
+      done = (n.failures, none, λ bytes out old_taken. subst (λ (l : List ℕ). IsTaken T (bytes ++ l) (out ++ n.written) new) (sym (append-nil n.front) ∙ sym n.split) (n.taken bytes out old_taken));
+      stopped = tt;
+    }
+turn_last T contents piece old mid new before between last (Err f) t w none = turn_fails T contents piece [] old mid new before between last f t w

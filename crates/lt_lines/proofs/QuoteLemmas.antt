@@ -1,7 +1,5 @@
 -- What is within quotes, and where records end.
-use Rattle.std.proofs.Common.{◌≡◌, ◌≢◌, ◌<◌, ◌+◌, ◌++◌, ◌∷◌, ◌∙◌, ℕ, List, [], Bool, true, false, not, length, take, get_or, ap, refl, subst, sym, arith, ◌==◌, ◌&&◌, if◌then◌else◌}
-use Rattle.std.specs.List.{All}
-use Rattle.std.proofs.lemmas.Bool.{ne_eqb}
+use Rattle.std.proofs.Common.{◌≡◌, ◌≢◌, ◌<◌, ◌+◌, ◌++◌, ◌∷◌, ◌∙◌, ℕ, List, [], Bool, true, false, not, length, take, get_or, ap, refl, subst, sym, arith, ◌==◌, ◌&&◌, if◌then◌else◌, All, ne_eqb}
 use Rattle.std.proofs.lemmas.List.{take_more}
 use Rattle.std.proofs.lemmas.List.Elements.{All-head, All-tail}
 use Rattle.lt_jar.specs.Lines.{begin_first}
@@ -24,17 +22,10 @@ free_of_none stop inside (byte ∷ text) h = (
   free_of_none stop (is_inside_after inside byte) text (All-tail (λ (b : ℕ). b ≢ stop) byte text h),
 )
 
-and_false : (t : Bool) → (t && false) ≡ false
-and_false true = refl
-and_false false = refl
-
-not_both : false ≡ true → ⊥
-not_both e = cc
-
 -- a line feed within quotes ends no record
 goes_on : (byte : ℕ) (inside : Bool) → (byte ≡ 10 → inside ≡ true) → ((byte == 10) && not inside) ≡ false
-goes_on byte true h = and_false (byte == 10)
-goes_on byte false h = ap (λ t. t && not false) (ne_eqb byte 10 (λ e. not_both (h e)))
+goes_on byte true h = elim (byte == 10) as (λ t. (t && false) ≡ false) [ true ↦ refl | false ↦ refl ]
+goes_on byte false h = ap (λ t. t && not false) (ne_eqb byte 10 (λ e. let bad = h e in cc))
 
 begins : (inside : Bool) (byte : ℕ) (text : List ℕ) → (byte ≡ 10 → inside ≡ true) → records_from inside (byte ∷ text) ≡ begin_first byte (records_from (is_inside_after inside byte) text)
 begins inside byte text h =

@@ -1,27 +1,20 @@
 -- The fields of a row, and what is owed for it.
-use Rattle.std.proofs.Common.{◌≡◌, ◌<◌, ◌+◌, ◌-◌, ◌++◌, ◌∷◌, ◌∙◌, inl, inr, ℕ, List, [], Bool, true, false, codes, length, take, sym, ap, refl, arith, append_assoc, length-append}
-use Rattle.std.specs.List.{AllByRecursion}
-use Rattle.std.proofs.Math.Seq.{take-append_seam}
+use Rattle.std.proofs.Common.{◌≡◌, ◌<◌, ◌+◌, ◌++◌, ◌∷◌, ◌∙◌, inl, inr, ℕ, List, [], true, false, sym, ap, refl, arith, append_assoc, length-append}
 use Rattle.lt_jar.specs.Lines.{content_of}
 use Rattle.lt_registry.specs.Parts.{EntryParts}
 use Rattle.lt_canon.specs.Texts.{AppendsCanonicalText, IsTextRefusal}
 use Rattle.lt_canon.specs.declared.refusals.TextRefusal.{TextRefusal}
-use Rattle.lt_lines.specs.Answering.{AppendsReply, AppendsRowReply, EndsRefused}
-use Rattle.lt_lines.specs.Owed.{end_of, row_line, terms}
-use Rattle.lt_lines.specs.Rows.{HasFewer, HasField, IsAfterField, IsEnded, IsField, IsTextIn, Skips, separated, separator}
-use Rattle.lt_lines.specs.declared.forms.LineForm.TheVariants as forms
+use Rattle.lt_lines.specs.Answering.{AppendsRowReply, EndsRefused}
+use Rattle.lt_lines.specs.Owed.{end_of, row_line}
+use Rattle.lt_lines.specs.Rows.{HasFewer, HasField, IsEnded, IsField, IsTextIn, Skips, separated, separator}
 use Rattle.lt_lines.specs.declared.rows.Separator.{Separator}
-use Rattle.lt_lines.specs.declared.rows.Separator.TheVariants as separators
+use Rattle.lt_lines.proofs.OwedLemmas.{each-last}
 
 -- one field more that a separator ends
 separated-append : (S : Separator) (fields : List (List ℕ)) (field : List ℕ) → separated S (fields ++ field ∷ []) ≡ separated S fields ++ (field ++ separator S ∷ [])
 separated-append S [] field = refl
 separated-append S (f ∷ fields) field =
     ap (λ t. f ++ separator S ∷ t) (separated-append S fields field) ∙ sym (append_assoc f (separator S ∷ separated S fields) (field ++ separator S ∷ []))
-
-fields-append : (S : Separator) (fields : List (List ℕ)) (field : List ℕ) → AllByRecursion (IsEnded S) fields → IsEnded S field → AllByRecursion (IsEnded S) (fields ++ field ∷ [])
-fields-append S [] field h one = (one, tt)
-fields-append S (f ∷ fields) field h one = (h.0, fields-append S fields field h.1 one)
 
 pub skips_none : (S : Separator) (row : List ℕ) → Skips S 0 row row
 skips_none S row = record { before = []; each = tt; number = refl; row_is = refl }
@@ -30,7 +23,7 @@ skips_none S row = record { before = []; each = tt; number = refl; row_is = refl
 pub skips_more : (S : Separator) (count : ℕ) (row rest field after : List ℕ) → Skips S count row rest → IsEnded S field → rest ≡ field ++ separator S ∷ after → Skips S (count + 1) row after
 skips_more S count row rest field after s one split = record {
   before = s.before ++ field ∷ [];
-  each = fields-append S s.before field s.each one;
+  each = each-last (IsEnded S) s.before field s.each one;
   number = length-append s.before (field ∷ []) ∙ ap (λ n. n + 1) s.number;
   row_is = s.row_is ∙ ap (λ l. separated S s.before ++ l) (split ∙ sym (append_assoc field (separator S ∷ []) after))
       ∙ sym (append_assoc (separated S s.before) (field ++ separator S ∷ []) after) ∙ ap (λ l. l ++ after) (sym (separated-append S s.before field));
@@ -46,28 +39,6 @@ skips_last S count wanted row rest s one few = record {
   row_is = s.row_is;
   fewer = omega (arith, s.number, few);
 }
-
--- what is before the rest
-front_of_rest : (row front rest : List ℕ) → row ≡ front ++ rest → take (length row - length rest) row ≡ front
-front_of_rest row front rest is =
-    let long : length row - length rest ≡ length front = omega (arith, ap length is, length-append front rest) in
-    ap (λ n. take n row) long ∙ ap (take (length front)) is ∙ take-append_seam front rest
-
--- the first field of the rest
-pub found_field : (S : Separator) (count : ℕ) (row rest field after : List ℕ) → Skips S count row rest → IsField S field → IsAfterField S field after → rest ≡ field ++ after
-    → HasField S count row (take (length row - length rest) row) field after
-found_field S count row rest field after s one ends split =
-    let front = front_of_rest row (separated S s.before) rest s.row_is in
-    record {
-      before = s.before;
-      each = s.each;
-      number = s.number;
-      front_is = front;
-      one = one;
-      ends = ends;
-      row_is = s.row_is ∙ ap (λ l. l ++ rest) (sym front) ∙ ap (λ l. take (length row - length rest) row ++ l) split
-          ∙ sym (append_assoc (take (length row - length rest) row) field after);
-    }
 
 -- more bytes in front of a row
 row_line-append : (S : Separator) (front row last line : List ℕ) → front ++ row_line S row last line ≡ row_line S (front ++ row) last line
@@ -135,18 +106,3 @@ row_refused S R before line front field after quotes text old fronted filled new
         refl,
       );
     }
-
--- what is owed for a row is owed for a line of its form
-pub line_of_tabs : (R : List EntryParts) (before : ℕ) (first : Bool) (line old new : List ℕ) (refused : Bool) → AppendsRowReply separators.Tab R before line old new refused
-    → AppendsReply (terms R (forms.Row before)) first line old new refused
-line_of_tabs R before first line old new refused a = record { bytes = a.bytes; grown = a.grown; owed = a.owed }
-
-pub line_of_commas : (R : List EntryParts) (before : ℕ) (line old new : List ℕ) (refused : Bool) → AppendsRowReply separators.Comma R before line old new refused
-    → AppendsReply (terms R (forms.Csv before)) false line old new refused
-line_of_commas R before line old new refused a = record { bytes = a.bytes; grown = a.grown; owed = a.owed }
-
--- what is owed for a heading is owed for the first record
-pub line_of_heading : (R : List EntryParts) (before : ℕ) (line old new : List ℕ)
-    → new ≡ old ++ row_line separators.Comma (content_of line) (codes "langtag_fault") line → AppendsReply (terms R (forms.Csv before)) true line old new false
-line_of_heading R before line old new grown =
-    record { bytes = row_line separators.Comma (content_of line) (codes "langtag_fault") line; grown = grown; owed = (refl, refl) }

@@ -1,24 +1,21 @@
 -- What the turns of a run over lines keep, and how it ends.
-use Rattle.std.proofs.Common.{◌≡◌, ◌≤◌, ◌<◌, ◌+◌, ◌*◌, ◌++◌, ◌∙◌, inl, inr, ℕ, List, [], false, Option, Result, Ok, Err, length, sym, ap, refl, subst, arith, add-one, append-nil, length-append, take, drop}
+use Rattle.std.proofs.Common.{◌≡◌, ◌≤◌, ◌<◌, ◌+◌, ◌*◌, ◌++◌, ◌∙◌, inl, inr, ℕ, List, [], false, Option, Result, Ok, Err, IfOk, IfErr, length, sym, ap, refl, subst, arith, add-one, append-nil, length-append, take, drop}
 use Rattle.std.specs.Io.KnownBytes.{Appends, Consumes, IsAtEnd, Keeps}
 use Rattle.std.proofs.KnownBytes.{Appends-nil, Appends-trans, Consumes-kept, Consumes-nil, Consumes-trans}
 use Rattle.lt_jar.specs.Devices.{HasFailed, after_reads, failures_of, inner_of, last_given_of, one_more, reads_of}
 use Rattle.lt_jar.specs.Sources.{most_reads}
 use Rattle.lt_jar.specs.declared.devices.Device.{Device}
 use Rattle.lt_lines.specs.Answering.{AreRecent, FinishesLines, HasRoom, IsLastStop, IsStop, IsTaken, TakesPiece}
-use Rattle.lt_lines.specs.Owed.{AreReplies, EndsInQuotes, IsBegun, IsOwed, Terms, units_of}
+use Rattle.lt_lines.specs.Owed.{EndsInQuotes, IsBegun, IsOwed, Terms, units_of}
 use Rattle.lt_lines.specs.Running.{EndsAs, HasRead, RunsLines}
 use Rattle.lt_lines.specs.declared.answering.Answering.{Answering}
 use Rattle.lt_lines.specs.declared.faults.ToolFault.{ToolFault}
 use Rattle.lt_lines.specs.declared.faults.ToolFault.TheVariants as faults
 use Rattle.lt_lines.specs.declared.runs.Counts.{Counts}
 use Rattle.lt_lines.proofs.DeviceLemmas.{failed_from}
-use Rattle.lt_lines.proofs.OwedLemmas.{open_none, unit_none}
-use Rattle.lt_lines.proofs.TakenLemmas.{begun_nothing, begun_to_last_feed, kept_none, owed_to_last_feed, taken_room}
+use Rattle.lt_lines.proofs.OwedLemmas.{of_none}
+use Rattle.lt_lines.proofs.TakenLemmas.{begun_nothing, begun_to_last_feed, owed_to_last_feed, taken_room}
 use Rattle.std.proofs.Math.Seq.{take-append_seam}
-
-after_more_reads : (count reads : ℕ) → after_reads count (reads + 1) ≡ one_more (after_reads count reads)
-after_more_reads count reads = ap (after_reads count) (add-one reads)
 
 -- so far this was read and answered
 pub record RunTurn {I O : Type 0} (T : Terms) (remaining : I → Option (List ℕ)) (contents : O → Option (List ℕ))
@@ -42,35 +39,31 @@ pub record ReadsPiece {I : Type 0} (remaining : I → Option (List ℕ)) (before
   pub calls : reads_of after ≡ one_more (reads_of before)
   pub failures : failures_of after ≡ failures_of before
 
-nothing_taken : (T : Terms) (state : Answering) → state.kept.items ≡ [] → state.owed.items ≡ [] → state.is_open ≡ false → state.feeds ≡ 0
-    → state.counts.lines ≡ 0 → state.counts.refused ≡ 0 → ((T : Terms) → AreRecent T state.recent) → IsTaken T [] [] state
-nothing_taken T state kept owed closed feeds lines refused recent = record {
-  lines = [];
-  last = [];
-  cut = refl;
-  each_one = tt;
-  last_one = unit_none T.form;
-  kept = kept ∙ sym (kept_none T.form);
-  goes_on = closed ∙ sym (open_none T.form);
-  feeds = feeds;
-  owed = [];
-  each = tt;
-  all = owed;
-  count = lines;
-  refused = refused;
-  recent = recent T;
-}
-
 pub run_first : {I O : Type 0} (T : Terms) (remaining : I → Option (List ℕ)) (contents : O → Option (List ℕ)) (input : Device I) (output : Device O) (state : Answering)
-    → state.kept.items ≡ [] → state.owed.items ≡ [] → state.is_open ≡ false → state.feeds ≡ 0 → state.counts.lines ≡ 0 → state.counts.refused ≡ 0 → ((T : Terms) → AreRecent T state.recent)
+    → (state.kept.items ≡ []) × (state.owed.items ≡ []) → (state.is_open ≡ false) × (state.feeds ≡ 0) → (state.counts.lines ≡ 0) × (state.counts.refused ≡ 0) → ((T : Terms) → AreRecent T state.recent)
     → RunTurn T remaining contents input input output output state 0
-run_first T remaining contents input output state kept owed closed feeds lines refused recent = record {
+run_first T remaining contents input output state items place counts recent = record {
   read = [];
   written = [];
   consumes = Consumes-nil _;
   appends = Appends-nil _;
-  taken = nothing_taken T state kept owed closed feeds lines refused recent;
-  emptied = owed;
+  taken = record {
+    lines = [];
+    last = [];
+    cut = refl;
+    each_one = tt;
+    last_one = (of_none T.form).unit;
+    kept = items.0 ∙ sym (of_none T.form).kept;
+    goes_on = place.0 ∙ sym (of_none T.form).closed;
+    feeds = place.1;
+    owed = [];
+    each = tt;
+    all = items.1;
+    count = counts.0;
+    refused = counts.1;
+    recent = recent T;
+  };
+  emptied = items.1;
   calls = refl;
   some = omega arith;
   last_gave = λ some. absurd (omega (arith, some));
@@ -80,8 +73,8 @@ run_first T remaining contents input output state kept owed closed feeds lines r
 }
 
 -- one read more
-read_more : {I : Type 0} (input before after : Device I) (turn : ℕ) → HasRead input before turn → reads_of after ≡ one_more (reads_of before) → HasRead input after (turn + 1)
-read_more input before after turn has more = more ∙ ap one_more has ∙ sym (after_more_reads (reads_of input) turn)
+pub read_more : {I : Type 0} (input before after : Device I) (turn : ℕ) → HasRead input before turn → reads_of after ≡ one_more (reads_of before) → HasRead input after (turn + 1)
+read_more input before after turn has more = more ∙ ap one_more has ∙ ap (after_reads (reads_of input)) (sym (add-one turn))
 
 -- a piece was read and taken
 pub run_next : {I O : Type 0} (T : Terms) (remaining : I → Option (List ℕ)) (contents : O → Option (List ℕ)) (input before after : Device I) (output between last : Device O)
@@ -155,89 +148,60 @@ run_turns T remaining contents input after output last state turn t all = record
   write_rises = λ lt. absurd (omega (arith, lt, t.write_failures));
 }
 
--- how a run ends whose lines could not all be answered or written
-stopped_ends : {I O : Type 0} (T : Terms) (remaining : I → Option (List ℕ)) (input after : Device I) (output between last : Device O) (reads : ℕ) (read written : List ℕ) (f : ToolFault)
-    → failures_of between ≡ failures_of output → IsStop between last f → EndsAs T remaining input after output last reads read written (Err f)
-stopped_ends T remaining input after output between last reads read written f same (inl wrote) =
-    subst (λ (e : ToolFault). EndsAs T remaining input after output last reads read written (Err e)) (sym wrote.0) (failed_from output between last same wrote.1)
-stopped_ends T remaining input after output between last reads read written f same (inr lacks) =
-    subst (λ (e : ToolFault). EndsAs T remaining input after output last reads read written (Err e)) (sym lacks.0) tt
-
-stopped_rises : {O : Type 0} (output between last : Device O) (f : ToolFault) → failures_of between ≡ failures_of output → IsStop between last f
-    → failures_of output < failures_of last → (let r : Result Counts ToolFault = Err f in r) ≡ Err faults.Write
-stopped_rises output between last f same (inl wrote) lt = ap (λ (e : ToolFault). let r : Result Counts ToolFault = Err e in r) wrote.0
-stopped_rises output between last f same (inr lacks) lt = absurd (omega (arith, lt, same, lacks.1))
+-- a run that ends after a read
+run_after : {I O : Type 0} (T : Terms) (remaining : I → Option (List ℕ)) (contents : O → Option (List ℕ)) (input before after : Device I) (output between last : Device O)
+    (state : Answering) (turn : ℕ) (piece part : List ℕ) (r : Result Counts ToolFault) (t : RunTurn T remaining contents input before output between state turn) → turn < most_reads → ReadsPiece remaining before after piece
+    → Appends (contents (inner_of between)) (contents (inner_of last)) part → IsBegun T (t.read ++ piece) (t.written ++ part) → EndsAs T remaining input after output last (turn + 1) (t.read ++ piece) (t.written ++ part) r
+    → (failures_of output < failures_of last → r ≡ Err faults.Write) → RunsLines T remaining contents input after output last r
+run_after T remaining contents input before after output between last state turn piece part r t few reads appends begun ends rises = record {
+  read = t.read ++ piece;
+  written = t.written ++ part;
+  reads = turn + 1;
+  consumes = Consumes-trans _ _ _ _ _ t.consumes reads.consumes;
+  appends = Appends-trans _ _ _ _ _ t.appends appends;
+  begun = begun;
+  calls = read_more input before after turn t.calls reads.calls;
+  bounded = omega (arith, few);
+  ends = ends;
+  read_rises = λ lt. absurd (omega (arith, lt, reads.failures, t.read_failures));
+  write_rises = rises;
+}
 
 -- a run over lines that could not all be answered or written
 pub run_stopped : {I O : Type 0} (T : Terms) (remaining : I → Option (List ℕ)) (contents : O → Option (List ℕ)) (input before after : Device I) (output between last : Device O)
-    (state : Answering) (turn : ℕ) (piece all part : List ℕ) (f : ToolFault) → (t : RunTurn T remaining contents input before output between state turn) → turn < most_reads → ReadsPiece remaining before after piece
-    → all ≡ t.read ++ piece → Appends (contents (inner_of between)) (contents (inner_of last)) part → IsStop between last f → IsBegun T all (t.written ++ part)
-    → RunsLines T remaining contents input after output last (Err f)
-run_stopped T remaining contents input before after output between last state turn piece all part f t few r all_is appends stop begun = record {
-  read = t.read ++ piece;
-  written = t.written ++ part;
-  reads = turn + 1;
-  consumes = Consumes-trans _ _ _ _ _ t.consumes r.consumes;
-  appends = Appends-trans _ _ _ _ _ t.appends appends;
-  begun = subst (λ (l : List ℕ). IsBegun T l (t.written ++ part)) all_is begun;
-  calls = read_more input before after turn t.calls r.calls;
-  bounded = omega (arith, few);
-  ends = stopped_ends T remaining input after output between last (turn + 1) (t.read ++ piece) (t.written ++ part) f t.write_failures stop;
-  read_rises = λ lt. absurd (omega (arith, lt, r.failures, t.read_failures));
-  write_rises = stopped_rises output between last f t.write_failures stop;
-}
-
--- a run over a reader that ends within quotes
-run_ends_in_quotes : {I O : Type 0} (T : Terms) (remaining : I → Option (List ℕ)) (contents : O → Option (List ℕ)) (input before after : Device I) (output between last : Device O)
-    (state : Answering) (turn : ℕ) (piece part : List ℕ) (line : ℕ) → (t : RunTurn T remaining contents input before output between state turn) → turn < most_reads → ReadsPiece remaining before after piece
-    → IsAtEnd (remaining (inner_of after)) → Appends (contents (inner_of between)) (contents (inner_of last)) part → failures_of last ≡ failures_of between
-    → EndsInQuotes T (t.read ++ piece) (t.written ++ part) line → RunsLines T remaining contents input after output last (Err (faults.BadCsv line))
-run_ends_in_quotes T remaining contents input before after output between last state turn piece part line t few r end appends same ends = record {
-  read = t.read ++ piece;
-  written = t.written ++ part;
-  reads = turn + 1;
-  consumes = Consumes-trans _ _ _ _ _ t.consumes r.consumes;
-  appends = Appends-trans _ _ _ _ _ t.appends appends;
-  begun = begun_to_last_feed T (t.read ++ piece) (t.written ++ part) ends.owed;
-  calls = read_more input before after turn t.calls r.calls;
-  bounded = omega (arith, few);
-  ends = record { end = end; ends = ends };
-  read_rises = λ lt. absurd (omega (arith, lt, r.failures, t.read_failures));
-  write_rises = λ lt. absurd (omega (arith, lt, same, t.write_failures));
-}
+    (state : Answering) (turn : ℕ) (piece part : List ℕ) (f : ToolFault) (t : RunTurn T remaining contents input before output between state turn) → turn < most_reads → ReadsPiece remaining before after piece
+    → Appends (contents (inner_of between)) (contents (inner_of last)) part → IsStop between last f → IsBegun T (t.read ++ piece) (t.written ++ part) → RunsLines T remaining contents input after output last (Err f)
+run_stopped T remaining contents input before after output between last state turn piece part f t few reads appends (inl wrote) begun = rw wrote.0
+    (run_after T remaining contents input before after output between last state turn piece part _ t few reads appends begun (failed_from output between last t.write_failures wrote.1) (λ _. refl))
+run_stopped T remaining contents input before after output between last state turn piece part f t few reads appends (inr lacks) begun = rw lacks.0
+    (run_after T remaining contents input before after output between last state turn piece part _ t few reads appends begun tt (λ lt. absurd (omega (arith, lt, t.write_failures, lacks.1))))
 
 -- the reader was at its end
 pub run_finished : {I O : Type 0} (T : Terms) (remaining : I → Option (List ℕ)) (contents : O → Option (List ℕ)) (input before after : Device I) (output between last : Device O)
     (state : Answering) (turn : ℕ) (piece : List ℕ) (r : Result Counts ToolFault) → RunTurn T remaining contents input before output between state turn → turn < most_reads → ReadsPiece remaining before after piece
     → piece ≡ [] → IsAtEnd (remaining (inner_of after)) → FinishesLines T contents state between last r → RunsLines T remaining contents input after output last r
-run_finished T remaining contents input before after output between last state turn piece (Ok counts) t few r none end finish =
-    let all : t.read ++ piece ≡ t.read = ap (λ (l : List ℕ). t.read ++ l) none ∙ append-nil t.read in
-    let owed = finish.done.1 t.read t.written t.taken in
-    record {
-      read = t.read ++ piece;
-      written = t.written ++ finish.written;
-      reads = turn + 1;
-      consumes = Consumes-trans _ _ _ _ _ t.consumes r.consumes;
-      appends = Appends-trans _ _ _ _ _ t.appends finish.appends;
-      begun = record { lines = units_of T.form (t.read ++ piece); others = []; cut = sym (append-nil (units_of T.form (t.read ++ piece))); owed = owed.owed; each = subst (λ (l : List ℕ). AreReplies T (units_of T.form l) owed.owed) (sym all) owed.each; rest = []; front = sym owed.all ∙ sym (append-nil _) };
-      calls = read_more input before after turn t.calls r.calls;
-      bounded = omega (arith, few);
-      ends = record { end = end; owed = subst (λ (l : List ℕ). IsOwed T l (t.written ++ finish.written) counts) (sym all) owed };
-      read_rises = λ lt. absurd (omega (arith, lt, r.failures, t.read_failures));
-      write_rises = λ lt. absurd (omega (arith, lt, finish.done.0, t.write_failures));
-    }
-run_finished T remaining contents input before after output between last state turn piece (Err f) t few r none end finish =
-    by_stop finish.stopped
+run_finished T remaining contents input before after output between last state turn piece r t few reads none end finish =
+    by_result r finish.done finish.stopped
   where
     all : t.read ≡ t.read ++ piece
     all = sym (append-nil t.read) ∙ ap (λ (l : List ℕ). t.read ++ l) (sym none)
 
-    by_stop : IsLastStop T state between last finish.written f → RunsLines T remaining contents input after output last (Err f)
-    by_stop (inl q) =
-        subst (λ (e : ToolFault). RunsLines T remaining contents input after output last (Err e)) (sym q.fault)
-        (run_ends_in_quotes T remaining contents input before after output between last state turn piece finish.written q.line t few r end finish.appends q.same
-        (subst (λ (l : List ℕ). EndsInQuotes T l (t.written ++ finish.written) q.line) all (q.ends t.read t.written t.taken t.emptied)))
-    by_stop (inr stop) = run_stopped T remaining contents input before after output between last state turn piece t.read finish.written f t few r all finish.appends stop.0 (stop.1 t.read t.written t.taken)
+    run : (r : Result Counts ToolFault) → IsBegun T (t.read ++ piece) (t.written ++ finish.written) → EndsAs T remaining input after output last (turn + 1) (t.read ++ piece) (t.written ++ finish.written) r
+        → failures_of last ≡ failures_of between → RunsLines T remaining contents input after output last r
+    run r begun ends same = run_after T remaining contents input before after output between last state turn piece finish.written r t few reads finish.appends begun ends
+        (λ lt. absurd (omega (arith, lt, same, t.write_failures)))
+
+    by_result : (r : Result Counts ToolFault) → IfOk r (λ counts. (failures_of last ≡ failures_of between) × ((bytes out : List ℕ) → IsTaken T bytes out state → IsOwed T bytes (out ++ finish.written) counts))
+        → IfErr r (IsLastStop T state between last finish.written) → RunsLines T remaining contents input after output last r
+    by_result (Ok counts) done stopped =
+        let owed = subst (λ (l : List ℕ). IsOwed T l (t.written ++ finish.written) counts) all (done.1 t.read t.written t.taken) in
+        run (Ok counts) (record { lines = units_of T.form (t.read ++ piece); others = []; cut = sym (append-nil (units_of T.form (t.read ++ piece))); owed = owed.owed; each = owed.each; rest = []; front = sym owed.all ∙ sym (append-nil _) })
+        (record { end = end; owed = owed }) done.0
+    by_result (Err f) done (inl q) =
+        let quotes = subst (λ (l : List ℕ). EndsInQuotes T l (t.written ++ finish.written) q.line) all (q.ends t.read t.written t.taken t.emptied) in
+        rw q.fault (run (Err (faults.BadCsv q.line)) (begun_to_last_feed T (t.read ++ piece) (t.written ++ finish.written) quotes.owed) (record { end = end; ends = quotes }) q.same)
+    by_result (Err f) done (inr stop) = run_stopped T remaining contents input before after output between last state turn piece finish.written f t few reads finish.appends stop.0
+        (subst (λ (l : List ℕ). IsBegun T l (t.written ++ finish.written)) all (stop.1 t.read t.written t.taken))
 
 -- the pieces' buffer after a read
 pub refilled : (count : ℕ) (items buffer : List ℕ) → count ≡ length items → length buffer ≡ length items → take count (buffer ++ drop (length buffer) items) ≡ buffer

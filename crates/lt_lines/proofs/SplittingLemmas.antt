@@ -1,5 +1,5 @@
 -- Where a byte is first.
-use Rattle.std.proofs.Common.{◌≡◌, ◌≢◌, ◌≤◌, ◌<◌, ◌+◌, ◌-◌, ◌==◌, ◌++◌, [], ◌∷◌, ◌∙◌, ℕ, true, List, Option, Some, None, length, sym, ap, arith, zero, suc, subst, take, drop, get_or, add-one, take-append-drop, inl, inr}
+use Rattle.std.proofs.Common.{refl, ◌≡◌, ◌≢◌, ◌≤◌, ◌<◌, ◌+◌, ◌-◌, ◌==◌, ◌++◌, [], ◌∷◌, ◌∙◌, ℕ, true, false, List, Option, Some, None, length, sym, ap, arith, zero, suc, subst, take, drop, get_or, add-one, take-append-drop, inl, inr}
 use Rattle.std.proofs.Math.Seq.{drop-cons, take-length}
 use Rattle.std.proofs.lemmas.Bool.{eq-eqb, cases_Bool, cases_eq}
 use Rattle.std.proofs.lemmas.List.{take_rest, length-take-le, get_or-take}
@@ -8,16 +8,10 @@ use Rattle.lt_tag.proofs.ListLemmas.{head_is}
 use Rattle.memchr.specs.Find.{IsFirstByte, Nowhere, NoneBefore, Passes, TakesFirst, is_byte, places, places_from}
 use Rattle.lt_lines.specs.Splitting.{IsFreeOf}
 
--- the rest from a byte on
-pub from_byte : (byte : ℕ) (text : List ℕ) (i : ℕ) → i < length text → get_or text i 0 ≡ byte → drop i text ≡ byte ∷ drop (i + 1) text
-from_byte byte text i below is =
-    let next : drop (suc i) text ≡ drop (i + 1) text = ap (λ n. drop n text) (sym (add-one i)) in
-    drop-cons text i 0 below ∙ ap (λ b. b ∷ drop (suc i) text) is ∙ ap (λ l. byte ∷ l) next
-
 -- the first such byte is at i
 pub split_at : (byte : ℕ) (text : List ℕ) (i : ℕ) → i < length text → get_or text i 0 ≡ byte → text ≡ take i text ++ byte ∷ take (length text - (i + 1)) (drop (i + 1) text)
 split_at byte text i below is =
-    sym (take-append-drop i text) ∙ ap (λ l. take i text ++ l) (from_byte byte text i below is ∙ ap (λ l. byte ∷ l) (sym (take_rest text (i + 1))))
+    sym (take-append-drop i text) ∙ ap (λ l. take i text ++ l) (rw (take_rest, add-one, drop-cons text i 0 below, is) refl)
 
 -- the bytes before it
 pub free_front : (byte : ℕ) (text : List ℕ) (i : ℕ) → i ≤ length text → Nowhere (Passes (is_byte byte) text) 0 i → IsFreeOf byte (take i text)
@@ -34,43 +28,34 @@ module _ (byte : ℕ) (text : List ℕ) where
   abbrev has : ℕ → Type 0
   has = Passes (is_byte byte) text
 
+  not_here : (i j : ℕ) → (get_or text i 0 == byte) ≡ false → Nowhere has (i + 1) j → Nowhere has i j
+  not_here i j not more k low high = elim (cases_eq i k) [
+    | inl same ↦ λ passes. let bad : (get_or text i 0 == byte) ≡ true = subst has (sym same) passes in cc
+    | inr other ↦ more k (omega (arith, low, other)) high
+  ]
+
   -- the first place of a list of places
   first_from : (i n k : ℕ) (rest : List ℕ) → places_from (is_byte byte) text i n ≡ k ∷ rest → NoneBefore has i (i + n) k × has k
   unfolding places_from
   first_from i zero k rest e = cc
-  first_from i (suc n) k rest e =
-      elim (cases_Bool (get_or text i 0 == byte)) [
-        | inl is ↦
-            let first : i ≡ k = head_is i k (places_from (is_byte byte) text (i + 1) n) rest (rw is at e) in
-            (record { low = omega (arith, first); high = omega (arith, first); before = λ j low high. absurd (omega (arith, first, low, high)) }, subst has first is)
-        | inr not ↦
-            let more = first_from (i + 1) n k rest (rw not at e) in (
-              record {
-                low = omega (arith, more.0.low);
-                high = omega (arith, more.0.high);
-                before = λ j low high. elim (cases_eq i j) [
-                  | inl same ↦ λ passes. let bad : (get_or text i 0 == byte) ≡ true = subst has (sym same) passes in cc
-                  | inr other ↦ more.0.before j (omega (arith, low, other)) high
-                ];
-              },
-              more.1,
-            )
-      ]
+  first_from i (suc n) k rest e = elim (cases_Bool (get_or text i 0 == byte)) [
+    | inl is ↦
+        let first : i ≡ k = head_is i k (places_from (is_byte byte) text (i + 1) n) rest (rw is at e) in
+        (record { low = omega (arith, first); high = omega (arith, first); before = λ j low high. absurd (omega (arith, first, low, high)) }, subst has first is)
+    | inr not ↦
+        let more = first_from (i + 1) n k rest (rw not at e) in
+        let before = not_here i k not more.0.before in
+        (record { low = omega (arith, more.0.low); high = omega (arith, more.0.high); before = before }, more.1)
+  ]
 
   -- an empty one
   none_from : (i n : ℕ) → places_from (is_byte byte) text i n ≡ [] → Nowhere has i (i + n)
   unfolding places_from
   none_from i zero e = λ j low high. absurd (omega (arith, low, high))
-  none_from i (suc n) e =
-      elim (cases_Bool (get_or text i 0 == byte)) [
-        | inl is ↦ let bad = rw is at e in cc
-        | inr not ↦
-            let more = none_from (i + 1) n (rw not at e) in
-            λ j low high. elim (cases_eq i j) [
-              | inl same ↦ λ passes. let bad : (get_or text i 0 == byte) ≡ true = subst has (sym same) passes in cc
-              | inr other ↦ more j (omega (arith, low, other)) (omega (arith, high))
-            ]
-      ]
+  none_from i (suc n) e = elim (cases_Bool (get_or text i 0 == byte)) [
+    | inl is ↦ let bad = rw is at e in cc
+    | inr not ↦ not_here i (i + suc n) not (λ j low high. none_from (i + 1) n (rw not at e) j low (omega (arith, high)))
+  ]
 
   -- the first of all places
   pub first_byte : (r : Option ℕ) (rest : List ℕ) → TakesFirst (places (is_byte byte) text) r rest → IsFirstByte (is_byte byte) text r

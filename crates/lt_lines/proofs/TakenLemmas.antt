@@ -1,19 +1,17 @@
 -- What was taken of lines that come in pieces.
-use Rattle.std.proofs.Common.{◌≡◌, ◌≤◌, ◌<◌, ◌+◌, ◌-◌, ◌++◌, ◌∷◌, ◌∙◌, ◌⊎◌, inl, inr, ℕ, List, [], true, false, length, take, sym, ap, refl, subst, arith, add-zero, append_assoc, append-nil, length-append, leb, ◌==◌}
+use Rattle.std.proofs.Common.{◌≡◌, ◌≤◌, ◌<◌, ◌+◌, ◌-◌, ◌++◌, ◌∷◌, ◌∙◌, inl, inr, ℕ, List, [], true, false, length, take, sym, ap, refl, subst, arith, append_assoc, append-nil, length-append, ◌==◌}
 use Rattle.std.proofs.lemmas.Bool.{eqb-true, eqb-false}
 use Rattle.std.proofs.lemmas.Bool.Decides.{leb_tells}
-use Rattle.std.proofs.lemmas.List.{take_all, length-take, length-take-le, nil_from_length}
+use Rattle.std.proofs.lemmas.List.{take_all, length-take, length-take-le, nil_from_length, take-append-le}
 use Rattle.std.proofs.lemmas.List.Sums.{count_by-le-length}
 use Rattle.std.proofs.Math.Seq.{take-append-add}
-use Rattle.std.proofs.lemmas.List.{take-append-le}
 use Rattle.lt_lines.specs.Answering.{AreRecent, GoesOn, IsAnswered, IsTaken, IsWholeAfter, KeepsLine, kept_of, longest_kept, one_if, open_after, part_kept}
-use Rattle.lt_lines.specs.Owed.{AreReplies, EndsInQuotes, IsBegun, IsOneLine, IsOwed, IsOwedToLastFeed, IsReplyTo, Reply, Terms, ended, feeds_in, is_open, units_of}
+use Rattle.lt_lines.specs.Owed.{EndsInQuotes, IsBegun, IsOneLine, IsOwed, IsOwedToLastFeed, IsReplyTo, IsUnit, IsWhole, Reply, Terms, ended, feeds_in, is_open, units_of}
 use Rattle.lt_lines.specs.declared.forms.LineForm.{LineForm}
 use Rattle.lt_lines.specs.declared.forms.LineForm.TheVariants as forms
 use Rattle.lt_lines.specs.DeviceOutput.{IsFrontOf}
 use Rattle.lt_lines.specs.declared.answering.Answering.{Answering}
-use Rattle.lt_lines.specs.declared.runs.Counts.{Counts}
-use Rattle.lt_lines.proofs.OwedLemmas.{AreReplies-append, AreReplies-length, bytes_in-last, ended-append, ended-length, ended_first, feeds_in-append, first_by_count, length-last, no_feeds, one_feed, open-append, open-feed, open_after_ended, open_none, refused_in-last, unit-append, unit-feed, unit_none, units-ended, units-last, units_none, whole_lines-append}
+use Rattle.lt_lines.proofs.OwedLemmas.{bytes_in-last, each-last, ended-append, ended-length, ended_first, feeds_in-append, first_by_count, no_feeds, of_none, one_feed, open-append, open-feed, open_after_ended, refused_in-last, replies-append, replies-length, unit-append, unit-feed, units-ended, units-last}
 
 -- whether there are bytes, by their count
 pub no_items : (items : List ℕ) (count : ℕ) → count ≡ length items → (count == 0) ≡ true → items ≡ []
@@ -25,43 +23,33 @@ some_items items count is e none = eqb-false count 0 e (is ∙ ap length none)
 -- what is kept of a tag that goes on
 tag_more : (kept last part new : List ℕ) → kept ≡ take longest_kept last → new ≡ kept ++ take (longest_kept - length kept) part
     → new ≡ take longest_kept (last ++ part)
-tag_more kept last part new is e = by_length (leb_tells (length last) longest_kept)
-  where
-    by_length : ((leb (length last) longest_kept ≡ true) × (length last ≤ longest_kept)) ⊎ ((leb (length last) longest_kept ≡ false) × (longest_kept < length last)) → new ≡ take longest_kept (last ++ part)
-    by_length (inl short) =
-        let all : kept ≡ last = is ∙ take_all longest_kept last short.1 in
-        let room : longest_kept ≡ length last + (longest_kept - length last) = omega (arith, short.1) in
-        e ∙ ap (λ (l : List ℕ). l ++ take (longest_kept - length l) part) all
-        ∙ sym (ap (λ (n : ℕ). take n (last ++ part)) room ∙ take-append-add last part (longest_kept - length last))
-    by_length (inr long) =
-        let full : length kept ≡ longest_kept = ap length is ∙ length-take-le longest_kept last (omega (arith, long.1)) in
-        let none : longest_kept - length kept ≡ 0 = omega (arith, full) in
-        e ∙ ap (λ (n : ℕ). kept ++ take n part) none ∙ append-nil kept ∙ is ∙ sym (take-append-le longest_kept last part (omega (arith, long.1)))
+tag_more kept last part new is e = elim (leb_tells (length last) longest_kept) [
+  | inl short ↦
+      let all : kept ≡ last = is ∙ take_all longest_kept last short.1 in
+      let room : longest_kept ≡ length last + (longest_kept - length last) = omega (arith, short.1) in
+      e ∙ ap (λ (l : List ℕ). l ++ take (longest_kept - length l) part) all
+      ∙ sym (ap (λ (n : ℕ). take n (last ++ part)) room ∙ take-append-add last part (longest_kept - length last))
+  | inr long ↦
+      let full : length kept ≡ longest_kept = ap length is ∙ length-take-le longest_kept last (omega (arith, long.1)) in
+      let none : longest_kept - length kept ≡ 0 = omega (arith, full) in
+      e ∙ ap (λ (n : ℕ). kept ++ take n part) none ∙ append-nil kept ∙ is ∙ sym (take-append-le longest_kept last part (omega (arith, long.1)))
+]
 
 -- what is kept of a line that goes on
 pub kept_more : (form : LineForm) (kept last part new : List ℕ) → kept ≡ kept_of form last → new ≡ kept ++ part_kept form (length kept) part → new ≡ kept_of form (last ++ part)
 kept_more forms.Tag kept last part new is e = tag_more kept last part new is e
-kept_more (forms.Row before) kept last part new is e = e ∙ ap (λ (l : List ℕ). l ++ part) is
-kept_more (forms.Csv before) kept last part new is e = e ∙ ap (λ (l : List ℕ). l ++ part) is
+kept_more form kept last part new is e = e ∙ ap (λ (l : List ℕ). l ++ part) is
 
 -- a line of which nothing is kept is empty
 pub nothing_kept : (form : LineForm) (kept last : List ℕ) → kept ≡ kept_of form last → kept ≡ [] → last ≡ []
 nothing_kept forms.Tag kept [] is none = refl
 nothing_kept forms.Tag kept (byte ∷ last) is none = absurd (omega (arith, ap length (sym is ∙ none), length-take longest_kept (byte ∷ last)))
-nothing_kept (forms.Row before) kept last is none = sym is ∙ none
-nothing_kept (forms.Csv before) kept last is none = sym is ∙ none
-
--- nothing is kept of an empty line
-pub kept_none : (form : LineForm) → kept_of form [] ≡ []
-kept_none forms.Tag = refl
-kept_none (forms.Row before) = refl
-kept_none (forms.Csv before) = refl
+nothing_kept form kept last is none = sym is ∙ none
 
 -- all is kept of a line that can go on after a line feed
 kept_open : (form : LineForm) (kept last : List ℕ) → kept ≡ kept_of form last → is_open form last ≡ true → kept ≡ last
-kept_open forms.Tag kept last is inside = absurd (let no : ⊥ = cc in no)
-kept_open (forms.Row before) kept last is inside = is
-kept_open (forms.Csv before) kept last is inside = is
+kept_open forms.Tag kept last is inside = let bad : false ≡ true = inside in cc
+kept_open form kept last is inside = is
 
 -- a line was ended and answered
 pub taken_line : (T : Terms) (bytes out part : List ℕ) (r : Reply) (old new : Answering) → IsTaken T bytes out old → IsWholeAfter T.form old.is_open part
@@ -76,68 +64,62 @@ taken_line T bytes out part r old new t one owed_for grown none closed feeds lin
       last = [];
       cut = ap (λ (l : List ℕ). l ++ (part ++ 10 ∷ [])) t.cut ∙ append_assoc (ended t.lines) t.last (part ++ 10 ∷ []) ∙ ap (λ (l : List ℕ). ended t.lines ++ l) split
           ∙ sym (ended-append t.lines whole) ∙ sym (append-nil (ended (t.lines ++ whole ∷ [])));
-      each_one = whole_lines-append T.form t.lines whole t.each_one (record {
+      each_one = each-last (IsWhole T.form) t.lines whole t.each_one (record {
         unit = unit-append T.form t.last part t.last_one one.one;
         closed = open-append T.form t.last part ∙ ap (λ b. open_after T.form b part) (sym t.goes_on) ∙ one.closed;
       });
-      last_one = unit_none T.form;
-      kept = none ∙ sym (kept_none T.form);
-      goes_on = closed ∙ sym (open_none T.form);
+      last_one = (of_none T.form).unit;
+      kept = none ∙ sym (of_none T.form).kept;
+      goes_on = closed ∙ sym (of_none T.form).closed;
       feeds = feeds ∙ ap (λ n. n + 1) t.feeds ∙ sym (one_feed bytes part one.one);
       owed = t.owed ++ r ∷ [];
-      each = AreReplies-append T t.lines t.owed whole r t.each
-          (subst (λ b. IsReplyTo T b whole r) (first_by_count t.lines old.counts.lines (t.count ∙ AreReplies-length T t.lines t.owed t.each)) (owed_for t.last t.kept));
+      each = replies-append T true t.lines t.owed whole r t.each
+          (subst (λ b. IsReplyTo T b whole r) (first_by_count t.lines old.counts.lines (t.count ∙ replies-length T true t.lines t.owed t.each)) (owed_for t.last t.kept));
       all = ap (λ (l : List ℕ). out ++ l) grown ∙ sym (append_assoc out old.owed.items r.bytes) ∙ ap (λ (l : List ℕ). l ++ r.bytes) t.all ∙ sym (bytes_in-last t.owed r);
-      count = lines ∙ ap (λ (n : ℕ). n + 1) t.count ∙ sym (length-last t.owed r);
+      count = omega (arith, lines, t.count, length-append t.owed (r ∷ []));
       refused = refusals ∙ ap (λ (n : ℕ). n + one_if r.refused) t.refused ∙ sym (refused_in-last t.owed r);
       recent = recent;
     }
 
--- a line went on after a line feed
+-- a line went on
+taken_more : (T : Terms) (bytes out more : List ℕ) (old new : Answering) (t : IsTaken T bytes out old) → IsUnit T.form (t.last ++ more) → new.kept.items ≡ kept_of T.form (t.last ++ more)
+    → new.is_open ≡ is_open T.form (t.last ++ more) → new.feeds ≡ old.feeds + feeds_in more → new.owed.items ≡ old.owed.items → new.counts ≡ old.counts → new.recent ≡ old.recent → IsTaken T (bytes ++ more) out new
+taken_more T bytes out more old new t one kept inside feeds owed counts recent = record {
+  lines = t.lines;
+  last = t.last ++ more;
+  cut = ap (λ (l : List ℕ). l ++ more) t.cut ∙ append_assoc (ended t.lines) t.last more;
+  each_one = t.each_one;
+  last_one = one;
+  kept = kept;
+  goes_on = inside;
+  feeds = omega (arith, feeds, t.feeds, feeds_in-append bytes more);
+  owed = t.owed;
+  each = t.each;
+  all = rw owed t.all;
+  count = rw counts t.count;
+  refused = rw counts t.refused;
+  recent = rw recent t.recent;
+}
+
+-- after a line feed
 pub taken_within : (T : Terms) (bytes out part : List ℕ) (old new : Answering) → IsTaken T bytes out old → IsOneLine part → open_after T.form old.is_open part ≡ true
     → GoesOn T.form part old new → IsTaken T (bytes ++ (part ++ 10 ∷ [])) out new
 taken_within T bytes out part old new t one inside g =
     let whole = t.last ++ part in
     let after : is_open T.form whole ≡ true = open-append T.form t.last part ∙ ap (λ b. open_after T.form b part) (sym t.goes_on) ∙ inside in
+    let split = append_assoc t.last part (10 ∷ []) in
     let front = old.kept.items ++ part_kept T.form (length old.kept.items) part in
-    record {
-      lines = t.lines;
-      last = whole ++ 10 ∷ [];
-      cut = ap (λ (l : List ℕ). l ++ (part ++ 10 ∷ [])) t.cut ∙ append_assoc (ended t.lines) t.last (part ++ 10 ∷ [])
-          ∙ ap (λ (l : List ℕ). ended t.lines ++ l) (sym (append_assoc t.last part (10 ∷ [])));
-      each_one = t.each_one;
-      last_one = unit-feed T.form whole (unit-append T.form t.last part t.last_one one) after;
-      kept = kept_more T.form front whole (10 ∷ []) new.kept.items (kept_more T.form old.kept.items t.last part front t.kept refl) g.kept;
-      goes_on = g.goes_on ∙ sym (open-feed T.form whole after);
-      feeds = g.feeds ∙ ap (λ n. n + 1) t.feeds ∙ sym (one_feed bytes part one);
-      owed = t.owed;
-      each = t.each;
-      all = ap (λ (l : List ℕ). out ++ l) g.owed ∙ t.all;
-      count = ap (λ (c : Counts). c.lines) g.counts ∙ t.count;
-      refused = ap (λ (c : Counts). c.refused) g.counts ∙ t.refused;
-      recent = subst (AreRecent T) (sym g.recent) t.recent;
-    }
+    taken_more T bytes out (part ++ 10 ∷ []) old new t (subst (IsUnit T.form) split (unit-feed T.form whole (unit-append T.form t.last part t.last_one one) after))
+    (kept_more T.form front whole (10 ∷ []) new.kept.items (kept_more T.form old.kept.items t.last part front t.kept refl) g.kept ∙ ap (kept_of T.form) split)
+    (g.goes_on ∙ sym (open-feed T.form whole after) ∙ ap (is_open T.form) split) (g.feeds ∙ ap (λ n. old.feeds + n) (sym (one_feed [] part one))) g.owed g.counts g.recent
 
--- a line went on
+-- with no line feed
 pub taken_part : (T : Terms) (bytes out part : List ℕ) (old new : Answering) → IsTaken T bytes out old → IsOneLine part
     → new.kept.items ≡ old.kept.items ++ part_kept T.form (length old.kept.items) part → new.is_open ≡ open_after T.form old.is_open part → new.feeds ≡ old.feeds
     → new.owed.items ≡ old.owed.items → new.counts ≡ old.counts → new.recent ≡ old.recent → IsTaken T (bytes ++ part) out new
-taken_part T bytes out part old new t one kept inside feeds owed counts recent = record {
-  lines = t.lines;
-  last = t.last ++ part;
-  cut = ap (λ (l : List ℕ). l ++ part) t.cut ∙ append_assoc (ended t.lines) t.last part;
-  each_one = t.each_one;
-  last_one = unit-append T.form t.last part t.last_one one;
-  kept = kept_more T.form old.kept.items t.last part new.kept.items t.kept kept;
-  goes_on = inside ∙ ap (λ b. open_after T.form b part) t.goes_on ∙ sym (open-append T.form t.last part);
-  feeds = feeds ∙ t.feeds ∙ sym (feeds_in-append bytes part ∙ ap (λ n. feeds_in bytes + n) (no_feeds part one) ∙ add-zero (feeds_in bytes));
-  owed = t.owed;
-  each = t.each;
-  all = ap (λ (l : List ℕ). out ++ l) owed ∙ t.all;
-  count = ap (λ (c : Counts). c.lines) counts ∙ t.count;
-  refused = ap (λ (c : Counts). c.refused) counts ∙ t.refused;
-  recent = subst (AreRecent T) (sym recent) t.recent;
-}
+taken_part T bytes out part old new t one kept inside feeds owed counts recent =
+    taken_more T bytes out part old new t (unit-append T.form t.last part t.last_one one) (kept_more T.form old.kept.items t.last part new.kept.items t.kept kept)
+    (inside ∙ ap (λ b. open_after T.form b part) t.goes_on ∙ sym (open-append T.form t.last part)) (omega (arith, feeds, no_feeds part one)) owed counts recent
 
 -- some of what is owed was written
 pub taken_write : (T : Terms) (bytes out part : List ℕ) (old new : Answering) → IsTaken T bytes out old → KeepsLine old new
@@ -154,9 +136,9 @@ taken_write T bytes out part old new t same wrote = record {
   owed = t.owed;
   each = t.each;
   all = append_assoc out part new.owed.items ∙ ap (λ (l : List ℕ). out ++ l) (sym wrote) ∙ t.all;
-  count = ap (λ (c : Counts). c.lines) same.counts ∙ t.count;
-  refused = ap (λ (c : Counts). c.refused) same.counts ∙ t.refused;
-  recent = subst (AreRecent T) (sym same.recent) t.recent;
+  count = rw same.counts t.count;
+  refused = rw same.counts t.refused;
+  recent = rw same.recent t.recent;
 }
 
 -- a front of what is owed was written, whatever follows
@@ -181,20 +163,28 @@ begun_nothing T bytes out more all state t all_is = begun_front T bytes out [] m
 taken_open : (T : Terms) (bytes out : List ℕ) (state : Answering) → (t : IsTaken T bytes out state) → is_open T.form bytes ≡ is_open T.form t.last
 taken_open T bytes out state t = ap (is_open T.form) t.cut ∙ open_after_ended T.form t.lines t.last t.each_one
 
+-- the lines of the bytes, where nothing is kept
+units_taken : (T : Terms) (bytes out : List ℕ) (state : Answering) (t : IsTaken T bytes out state) → state.kept.items ≡ [] → units_of T.form bytes ≡ t.lines
+units_taken T bytes out state t none =
+    ap (units_of T.form) t.cut ∙ ended_first T.form t.lines t.last t.each_one ∙ ap (λ (l : List ℕ). t.lines ++ units_of T.form l) (nothing_kept T.form state.kept.items t.last t.kept none)
+    ∙ ap (λ (l : List (List ℕ)). t.lines ++ l) (of_none T.form).units ∙ append-nil t.lines
+
+-- what was taken of other bytes answers these, if they have the same lines
+answered_by : (T : Terms) (bytes others out : List ℕ) (state : Answering) (t : IsTaken T others out state) → is_open T.form bytes ≡ false → units_of T.form bytes ≡ t.lines → IsAnswered T bytes out state
+answered_by T bytes others out state t closed all = record {
+  closed = closed;
+  owed = t.owed;
+  each = rw all t.each;
+  all = t.all;
+  count = t.count;
+  refused = t.refused;
+}
+
 -- no line feed is at the end, or all lines are ended
 pub answered_none : (T : Terms) (bytes out : List ℕ) (state : Answering) → IsTaken T bytes out state → state.kept.items ≡ [] → IsAnswered T bytes out state
 answered_none T bytes out state t none =
     let last = nothing_kept T.form state.kept.items t.last t.kept none in
-    let all : units_of T.form bytes ≡ t.lines = ap (units_of T.form) t.cut ∙ ended_first T.form t.lines t.last t.each_one
-    ∙ ap (λ (l : List ℕ). t.lines ++ units_of T.form l) last ∙ ap (λ (l : List (List ℕ)). t.lines ++ l) (units_none T.form) ∙ append-nil t.lines in
-    record {
-      closed = taken_open T bytes out state t ∙ ap (is_open T.form) last ∙ open_none T.form;
-      owed = t.owed;
-      each = subst (λ (l : List (List ℕ)). AreReplies T l t.owed) (sym all) t.each;
-      all = t.all;
-      count = t.count;
-      refused = t.refused;
-    }
+    answered_by T bytes bytes out state t (taken_open T bytes out state t ∙ ap (is_open T.form) last ∙ (of_none T.form).closed) (units_taken T bytes out state t none)
 
 -- a line feed after a last line ends no further line
 last_ended : (T : Terms) (bytes out : List ℕ) (state : Answering) → IsTaken T bytes out state → (state.kept.items ≡ [] → ⊥) → state.is_open ≡ false
@@ -202,28 +192,19 @@ last_ended : (T : Terms) (bytes out : List ℕ) (state : Answering) → IsTaken 
 last_ended T bytes out state t some closed =
     let long : 0 < length t.last = last_length t.last t.kept in
     let units = units_of T.form in
-    ap (λ (l : List ℕ). units (l ++ 10 ∷ [])) t.cut ∙ ap units (append_assoc (ended t.lines) t.last (10 ∷ [])) ∙ ended_first T.form t.lines (t.last ++ 10 ∷ []) t.each_one
-    ∙ ap (λ (l : List (List ℕ)). t.lines ++ l) (units-ended T.form t.last [] (record { unit = t.last_one; closed = sym t.goes_on ∙ closed })
-    ∙ ap (λ (l : List (List ℕ)). t.last ∷ l) (units_none T.form) ∙ sym (units-last T.form t.last t.last_one long))
-    ∙ sym (ap units t.cut ∙ ended_first T.form t.lines t.last t.each_one)
+    rw (t.cut, append_assoc (ended t.lines) t.last (10 ∷ []), ended_first T.form t.lines (t.last ++ 10 ∷ []) t.each_one, ended_first T.form t.lines t.last t.each_one)
+    (ap (λ (l : List (List ℕ)). t.lines ++ l) (units-ended T.form t.last [] (record { unit = t.last_one; closed = sym t.goes_on ∙ closed })
+    ∙ ap (λ (l : List (List ℕ)). t.last ∷ l) (of_none T.form).units ∙ sym (units-last T.form t.last t.last_one long)))
   where
     last_length : (last : List ℕ) → state.kept.items ≡ kept_of T.form last → 0 < length last
-    last_length [] is = absurd (some (is ∙ kept_none T.form))
+    last_length [] is = absurd (some (is ∙ (of_none T.form).kept))
     last_length (byte ∷ last) is = omega arith
 
 -- a last line was ended and answered
 pub answered_last : (T : Terms) (bytes out : List ℕ) (old new : Answering) → IsTaken T bytes out old → (old.kept.items ≡ [] → ⊥) → old.is_open ≡ false
     → IsTaken T (bytes ++ 10 ∷ []) out new → new.kept.items ≡ [] → IsAnswered T bytes out new
 answered_last T bytes out old new t some closed after none =
-    let a = answered_none T (bytes ++ 10 ∷ []) out new after none in
-    record {
-      closed = taken_open T bytes out old t ∙ sym t.goes_on ∙ closed;
-      owed = a.owed;
-      each = subst (λ (l : List (List ℕ)). AreReplies T l a.owed) (last_ended T bytes out old t some closed) a.each;
-      all = a.all;
-      count = a.count;
-      refused = a.refused;
-    }
+    answered_by T bytes (bytes ++ 10 ∷ []) out new after (taken_open T bytes out old t ∙ sym t.goes_on ∙ closed) (sym (last_ended T bytes out old t some closed) ∙ units_taken T (bytes ++ 10 ∷ []) out new after none)
 
 -- all that is owed was written
 pub owed_all : (T : Terms) (bytes out part : List ℕ) (state new : Answering) → IsAnswered T bytes out state → KeepsLine state new
@@ -233,8 +214,8 @@ owed_all T bytes out part state new a same wrote none = record {
   owed = a.owed;
   each = a.each;
   all = ap (λ (l : List ℕ). out ++ l) (sym (append-nil part) ∙ ap (λ (l : List ℕ). part ++ l) (sym none) ∙ sym wrote) ∙ a.all;
-  lines = ap (λ (c : Counts). c.lines) same.counts ∙ a.count;
-  refused = ap (λ (c : Counts). c.refused) same.counts ∙ a.refused;
+  lines = rw same.counts a.count;
+  refused = rw same.counts a.refused;
 }
 
 -- what is answered is a front of what is owed
@@ -253,7 +234,7 @@ begun_answered T bytes out part state a front = record {
 pub taken_room : (T : Terms) (bytes out : List ℕ) (state : Answering) → IsTaken T bytes out state
     → (state.counts.lines ≤ length bytes) × (state.counts.refused ≤ state.counts.lines) × (state.feeds ≤ length bytes)
 taken_room T bytes out state t =
-    let all = AreReplies-length T t.lines t.owed t.each in
+    let all = replies-length T true t.lines t.owed t.each in
     let most = ended-length t.lines in
     let fewer = count_by-le-length (λ (r : Reply). r.refused) t.owed in
     (omega (arith, t.count, all, most, ap length t.cut, length-append (ended t.lines) t.last), omega (arith, t.count, t.refused, fewer), omega (arith, t.feeds, count_by-le-length (λ (byte : ℕ). byte == 10) bytes))

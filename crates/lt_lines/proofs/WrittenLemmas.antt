@@ -1,11 +1,12 @@
 -- What the turns of a loop that writes a text keep.
-use Rattle.std.proofs.Common.{◌≡◌, ◌≤◌, ◌+◌, ◌-◌, ◌++◌, ℕ, List, Option, Result, Ok, Err, IfOk, IfErr, append_assoc, take, drop, length, sym, ap, ◌∙◌, subst, length-drop}
+use Rattle.std.proofs.Common.{◌≡◌, ◌≤◌, ◌+◌, ◌-◌, ◌++◌, ℕ, List, Option, Result, Ok, Err, IfOk, IfErr, append_assoc, take-append-drop, take, drop, length, sym, ap, ◌∙◌, subst}
 use Rattle.std.specs.Io.KnownBytes.{Appends}
 use Rattle.std.proofs.KnownBytes.{Appends-trans}
-use Rattle.std.proofs.Math.Seq.{take-add, take-length}
+use Rattle.std.proofs.Math.Seq.{take-add}
+use Rattle.std.proofs.lemmas.List.{take_rest}
 use Rattle.lt_jar.specs.declared.devices.Device.{Device}
 use Rattle.lt_lines.specs.DeviceOutput.{WritesText}
-use Rattle.lt_jar.specs.Devices.{HasFailed, failures_of}
+use Rattle.lt_jar.specs.Devices.{HasFailed, failures_of, inner_of}
 use Rattle.lt_lines.specs.declared.faults.ToolFault.{ToolFault}
 use Rattle.lt_lines.specs.declared.faults.ToolFault.TheVariants as faults
 use Rattle.lt_lines.proofs.DeviceLemmas.{failed_from}
@@ -15,16 +16,23 @@ pub record Writing (before after : Option (List ℕ)) (text : List ℕ) (at : �
   pub appends : Appends before after (take at text)
   pub in_range : at ≤ length text
 
--- the text from an index on, as a range gives it
-pub range_from : (text : List ℕ) (at : ℕ) → take (length text - at) (drop at text) ≡ drop at text
-range_from text at = ap (λ (n : ℕ). take n (drop at text)) (sym (length-drop at text)) ∙ take-length (drop at text)
-
 -- a further write took some more
 pub appends_more : (a b c : Option (List ℕ)) (text : List ℕ) (at n : ℕ) → Appends a b (take at text)
     → Appends b c (take n (take (length text - at) (drop at text))) → Appends a c (take (at + n) text)
 appends_more a b c text at n first second =
     subst (Appends a c) (sym (take-add at n text))
-    (Appends-trans a b c _ _ first (subst (λ (l : List ℕ). Appends b c (take n l)) (range_from text at) second))
+    (Appends-trans a b c _ _ first (subst (λ (l : List ℕ). Appends b c (take n l)) (take_rest text at) second))
+
+-- the front of a text was written
+pub wrote_front : {W : Type 0} (contents : W → Option (List ℕ)) (text : List ℕ) (at : ℕ) (before after : Device W) (r : Result (Unit {0}) ToolFault) → Appends (contents (inner_of before)) (contents (inner_of after)) (take at text)
+    → IfOk r (λ _. (take at text ≡ text) × (failures_of after ≡ failures_of before)) → IfErr r (λ f. (f ≡ faults.Write) × HasFailed before after) → WritesText contents text before after r
+wrote_front contents text at before after r appends done stopped = record {
+  written = take at text;
+  appends = appends;
+  front = (drop at text, sym (take-append-drop at text));
+  done = done;
+  stopped = stopped;
+}
 
 -- a text was written, and then another
 pub wrote_more : {W : Type 0} (contents : W → Option (List ℕ)) (text more : List ℕ) (before between after : Device W) (r : Result (Unit {0}) ToolFault)

@@ -1,26 +1,27 @@
 -- What lines that come in pieces lead to, and what the turns of a run over them keep.
-use Rattle.std.proofs.Common.{◌≡◌, ◌≢◌, ◌<◌, ◌≤◌, ◌+◌, ◌++◌, ◌∷◌, ◌∙◌, inr, ℕ, List, [], Option, Some, None, length, sym, ap, refl, subst, arith, append_assoc, length-append, ◌*◌, inl, Result, Ok, Err, add-one, append-nil}
+use Rattle.std.proofs.Common.{◌≡◌, ◌≢◌, ◌<◌, ◌≤◌, ◌+◌, ◌++◌, ◌∷◌, ◌∙◌, inr, ℕ, List, [], Option, Some, None, length, sym, ap, refl, subst, arith, append_assoc, length-append, ◌*◌, inl, Result, Ok, Err, append-nil}
 use Rattle.std.proofs.lemmas.List.Elements.{All-append, All-nil}
 use Rattle.lt_jar.proofs.CutLemmas.{first_goes_on, lines_of-ended, lines_of-last}
 use Rattle.lt_jar.specs.Lines.{IsOneLine, lines_of}
 use Rattle.lt_tag.specs.Parts.{TagForm}
 use Rattle.lt_registry.specs.Parts.{EntryParts}
-use Rattle.lt_verify.specs.Judging.{IsProperIf, Judges, SettlesFront, SettlesLine}
+use Rattle.lt_verify.specs.Judging.{IsProperIf, Judges, SettlesFront}
 use Rattle.lt_verify.specs.Verifying.{GoesOn, GoesTo, JudgesEnd, KeepsMore, SettlesKept, Takes, TakesPiece, Begins, EndsAs, IsVerdictOf, VerifiesLines}
 use Rattle.lt_verify.specs.declared.lines.Following.{Following}
 use Rattle.lt_verify.specs.declared.verdicts.Verdict.{Verdict}
 use Rattle.lt_verify.specs.declared.verdicts.Verdict.TheVariants as verdicts
 use Rattle.std.specs.Io.KnownBytes.{Consumes, IsAtEnd, Keeps}
 use Rattle.std.proofs.KnownBytes.{Consumes-kept, Consumes-nil, Consumes-trans}
-use Rattle.lt_jar.specs.Devices.{HasFailed, after_reads, failures_of, inner_of, last_given_of, one_more, reads_of}
+use Rattle.lt_jar.specs.Devices.{HasFailed, failures_of, inner_of, last_given_of, one_more, reads_of}
 use Rattle.lt_jar.specs.Sources.{most_reads}
 use Rattle.lt_jar.specs.declared.devices.Device.{Device}
 use Rattle.lt_lines.proofs.DeviceLemmas.{failed_from}
-use Rattle.lt_lines.proofs.RunLemmas.{ReadsPiece}
+use Rattle.lt_lines.proofs.RunLemmas.{ReadsPiece, read_more}
 use Rattle.lt_lines.specs.declared.faults.ToolFault.{ToolFault}
 use Rattle.lt_lines.specs.Running.{HasRead}
 use Rattle.lt_lines.specs.declared.faults.ToolFault.TheVariants as faults
 use Rattle.lt_registry.specs.Validity.{IsProper}
+use Rattle.lt_rewrite.proofs.PartLists.{some_long}
 use Rattle.lt_verify.proofs.VerdictLemmas.{verdict_of}
 
 -- nothing was taken
@@ -116,34 +117,27 @@ went_on {R = R} there to proper follows = record {
   follows = λ lines v judged. rw there (follows lines v (rw (to.counted, to.there) at judged));
 }
 
--- its front settles what is judged
-front_judges : (R : List EntryParts) (n : ℕ) (t : TagForm) (front more : List ℕ) (v : Verdict) → IsOneLine front → 0 < length front
-    → ((more : List ℕ) → SettlesLine R n t (front ++ more) v) → Judges R n (Some t) (lines_of (front ++ more)) v
-front_judges R n t [] more v one some settles = absurd (omega (arith, some))
-front_judges R n t (byte ∷ front) more v one some settles = let goes = first_goes_on byte front more one in rw goes.2 (inr (inr (settles goes.0)))
+-- a line begins with its front
+begun_line : (front more : List ℕ) → IsOneLine front → (front ≡ [] → ⊥) → (rest : List ℕ) × (after : List (List ℕ)) × (lines_of (front ++ more) ≡ (front ++ rest) ∷ after)
+begun_line [] more one some = absurd (some refl)
+begun_line (byte ∷ front) more one some = first_goes_on byte front more one
 
+-- which may settle what is judged
 pub settled_rest : (R : List EntryParts) (t : TagForm) (state : Following) → state.here ≡ Some t → (judged : Option Verdict) → SettlesFront R state.number t state.kept.items judged → SettlesKept R state judged
 settled_rest R t state here None settles = rw here settles
-settled_rest R t state here (Some v) settles = λ more one. rw here (front_judges R state.number t state.kept.items more v one settles.0 settles.1)
+settled_rest R t state here (Some v) settles = λ more one.
+    let goes = begun_line state.kept.items more one (λ e. absurd (omega (arith, settles.0, ap length e))) in
+    rw (here, goes.2) (inr (inr (settles.1 goes.0)))
 
--- anything after the end does
-behind_judges : (R : List EntryParts) (n : ℕ) (line more : List ℕ) → IsOneLine line → (line ≡ [] → ⊥) → Judges R n None (lines_of (line ++ more)) (verdicts.BadStep n)
-behind_judges R n [] more one some = absurd (some refl)
-behind_judges R n (byte ∷ line) more one some = let goes = first_goes_on byte line more one in rw goes.2 refl
-
+-- and anything after the end does
 pub kept_behind : (R : List EntryParts) (state : Following) → state.here ≡ None → (state.kept.items ≡ [] → ⊥) → SettlesKept R state (Some (verdicts.BadStep state.number))
-kept_behind R state here some = λ more one. rw here (behind_judges R state.number state.kept.items more one some)
+kept_behind R state here some = λ more one. rw (here, (begun_line state.kept.items more one some).2) refl
 
 -- ---- the end
 
--- the last line, where it is anything
-last_lines : (line : List ℕ) → IsOneLine line → (line ≡ [] → ⊥) → lines_of line ≡ line ∷ []
-last_lines [] one some = absurd (some refl)
-last_lines (byte ∷ line) one some = lines_of-last (byte ∷ line) one (omega arith)
-
 -- what is judged of a last line that no line feed ends
 pub last_judged : (R : List EntryParts) (state : Following) (v : Verdict) → (state.kept.items ≡ [] → ⊥) → Judges R state.number state.here (state.kept.items ∷ []) v → JudgesEnd R state v
-last_judged R state v some judged = λ one. rw (last_lines state.kept.items one some) judged
+last_judged R state v some judged = λ one. rw (lines_of-last state.kept.items one (some_long state.kept.items some)) judged
 
 -- ---- what the turns of a run over the lines of an explanation keep, and how it ends
 
@@ -204,10 +198,6 @@ module _ {I : Type 0} {R : List EntryParts} {t : TagForm} {remaining : I → Opt
   judged_bytes more judged is =
       verdict_of R t (lines_of (v.read ++ more)) judged (rw (v.begins.kept, v.begins.number, v.begins.here) at (v.takes.follows more judged began is))
 
-  -- one read more
-  read_more : (after : Device I) → reads_of after ≡ one_more (reads_of before) → HasRead input after (turn + 1)
-  read_more after more = more ∙ ap one_more v.calls ∙ sym (ap (after_reads (reads_of input)) (add-one turn))
-
   pub run_next : {after : Device I} {new : Following} (piece : List ℕ) → ReadsPiece remaining before after piece → length piece ≤ 65536 → 0 < last_given_of after → TakesPiece R piece state new None
       → HasTurned R t remaining input after new (turn + 1)
   run_next {after = after} {new = new} piece r short gave takes = record {
@@ -216,7 +206,7 @@ module _ {I : Type 0} {R : List EntryParts} {t : TagForm} {remaining : I → Opt
     read = v.read ++ piece;
     consumes = Consumes-trans _ _ _ _ _ v.consumes r.consumes;
     takes = takes_trans R v.read piece v.start state new v.takes takes.0;
-    calls = read_more after r.calls;
+    calls = read_more input before after turn v.calls r.calls;
     last_gave = λ some. gave;
     most = let n = length-append v.read piece in omega (arith, n, v.most, short);
     failures = r.failures ∙ v.failures;
@@ -233,7 +223,7 @@ module _ {I : Type 0} {R : List EntryParts} {t : TagForm} {remaining : I → Opt
     read = v.read;
     reads = turn + 1;
     consumes = Consumes-kept _ _ _ _ v.consumes kept;
-    calls = read_more after more;
+    calls = read_more input before after turn v.calls more;
     bounded = omega (arith, few);
     ends = failed_from input before after v.failures failed;
     read_rises = λ lt. refl;
@@ -258,7 +248,7 @@ module _ {I : Type 0} {R : List EntryParts} {t : TagForm} {remaining : I → Opt
     read = v.read ++ piece;
     reads = turn + 1;
     consumes = Consumes-trans _ _ _ _ _ v.consumes p.consumes;
-    calls = read_more after p.calls;
+    calls = read_more input before after turn v.calls p.calls;
     bounded = omega (arith, few);
     ends = ends;
     read_rises = λ lt. absurd (omega (arith, lt, p.failures, v.failures));

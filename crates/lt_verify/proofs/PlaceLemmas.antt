@@ -1,6 +1,5 @@
 -- The place of a step and the number of its record have 32 bits.
-use Rattle.std.proofs.Common.{◌≡◌, ◌<◌, ◌≤◌, ◌+◌, ◌^◌, ◌++◌, ◌∷◌, ℕ, Bool, List, [], Option, Some, None, Ordering, length, ap, refl, subst, arith, length-append}
-use Rattle.std.specs.Prelude.{flat_map, option_to_list}
+use Rattle.std.proofs.Common.{◌≡◌, ◌<◌, ◌≤◌, ◌+◌, ◌^◌, ◌++◌, ◌∷◌, ℕ, Bool, List, [], Option, Some, None, Ordering, length, ap, refl, subst, arith, length-append, flat_map, option_to_list}
 use Rattle.lt_tag.specs.Parts.{CoreParts, ExtensionParts, UForm, TForm, TagForm, LangTag}
 use Rattle.lt_tag.specs.Extensions.{spell_field, spell_keyword, spell_t, spell_u}
 use Rattle.lt_tag.specs.Spelling.{IsCore, spell_core, spell_extension, spell_extensions}
@@ -53,8 +52,7 @@ part_count : {A : Type 0} (spell : A → List (List ℕ)) (before : List A) (a :
     → length (flat_map spell (before ++ a ∷ after)) ≡ length (flat_map spell before) + (length (spell a) + length (flat_map spell after))
 part_count spell [] a after = omega (arith, length-append (spell a) (flat_map spell after))
 part_count spell (b ∷ before) a after =
-    let rest = part_count spell before a after in
-    omega (arith, rest, length-append (spell b) (flat_map spell (before ++ a ∷ after)), length-append (spell b) (flat_map spell before))
+    omega (arith, part_count spell before a after, length-append (spell b) (flat_map spell (before ++ a ∷ after)), length-append (spell b) (flat_map spell before))
 
 -- a step on a list of parts, each of which has a subtag
 list_fits : {A : Type 0} {once : Bool} {cmp : A → A → Ordering} (xs ys : List A) (swap drop : StepKind) (spell : A → List (List ℕ)) (start : ℕ) → ((a : A) → 0 < length (spell a))

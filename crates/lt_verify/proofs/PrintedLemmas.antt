@@ -1,16 +1,13 @@
 -- The lines of the text of an explanation.
-use Rattle.std.proofs.Common.{◌≡◌, ◌≢◌, ◌<◌, ◌++◌, ◌∷◌, ◌∙◌, ◌==◌, ℕ, List, [], Bool, true, false, Result, Ok, Err, IsOk, if◌then◌else◌, length, suc, slice_index_or, ap, refl, subst, arith, append_assoc}
-use Rattle.std.specs.Prelude.{codes}
-use Rattle.std.specs.Char.{is_ascii_alphanumeric}
-use Rattle.std.specs.List.{AllByRecursion, list_all, onto_first}
-use Rattle.std.proofs.lemmas.Bool.{and_parts, eqb-true}
-use Rattle.std.proofs.lemmas.List.Elements.{All-cons, All-head, All-nil, All-tail}
+use Rattle.std.proofs.Common.{map, ◌≡◌, ◌≢◌, ◌++◌, ◌∷◌, ◌∙◌, ℕ, List, [], true, ap, refl, subst, arith, append_assoc, codes}
+use Rattle.std.specs.Char.{to_ascii_lowercase}
+use Rattle.std.specs.List.{AllByRecursion, join_with_byte, list_all}
+use Rattle.std.proofs.lemmas.Bool.{and_parts}
+use Rattle.std.proofs.lemmas.List.Elements.{All-append, All-cons, All-nil}
 use Rattle.lt_jar.proofs.CutLemmas.{lines_of-ended}
 use Rattle.lt_jar.specs.Lines.{IsOneLine, lines_of}
-use Rattle.lt_subtag.specs.Bytes.{folded}
-use Rattle.lt_subtag.specs.Reading.{subtag_of}
-use Rattle.lt_subtag.specs.declared.SubtagFault.{SubtagFault}
-use Rattle.lt_subtag.specs.declared.SubtagFault.TheVariants as faults
+use Rattle.lt_subtag.specs.Bytes.{folded, is_subtag, is_subtag_byte}
+use Rattle.lt_tag.proofs.LetterLemmas.{from_HasList, join_pieces}
 use Rattle.lt_tag.proofs.OneTagLemmas.{one_tag_of_text, text_of_tag}
 use Rattle.lt_tag.specs.Lists.{pieces}
 use Rattle.lt_tag.specs.Parts.{TagForm}
@@ -31,38 +28,27 @@ IsNoFeed byte = byte ≢ 10
 
 -- ---- the text of a tag is one line
 
-alphanumeric_line : (piece : List ℕ) → list_all is_ascii_alphanumeric piece ≡ true → IsOneLine piece
-alphanumeric_line [] h = All-nil IsNoFeed
-alphanumeric_line (b ∷ piece) h =
-    let k = and_parts (is_ascii_alphanumeric b) (list_all is_ascii_alphanumeric piece) h in
-    All-cons IsNoFeed b piece (λ e. let bad : is_ascii_alphanumeric 10 ≡ true = subst (λ x. is_ascii_alphanumeric x ≡ true) e k.0 in cc) (alphanumeric_line piece k.1)
+bytes_line : (piece : List ℕ) → list_all is_subtag_byte (folded piece) ≡ true → IsOneLine piece
+bytes_line [] h = All-nil IsNoFeed
+bytes_line (b ∷ piece) h =
+    let k = and_parts (is_subtag_byte (to_ascii_lowercase b)) (list_all is_subtag_byte (folded piece)) h in
+    All-cons IsNoFeed b piece (λ e. let bad = rw e at k.0 in cc) (bytes_line piece k.1)
 
-abbrev subtag_by : List ℕ → (none fine short : Bool) → Result (List ℕ) SubtagFault
-subtag_by piece none fine short = if none then Err faults.Empty else (if fine then (if short then Ok (folded piece) else Err faults.TooLong) else Err faults.BadByte)
-
-fine_by : (piece : List ℕ) (none fine short : Bool) → IsOk (subtag_by piece none fine short) → fine ≡ true
-fine_by piece true fine short h = cc
-fine_by piece false true short h = refl
-fine_by piece false false short h = cc
-
-pieces_lines : (ps : List (List ℕ)) → ((i : ℕ) → i < length ps → IsOk (subtag_of (slice_index_or ps i []))) → AllByRecursion IsOneLine ps
+pieces_lines : (ps : List (List ℕ)) → list_all is_subtag (map folded ps) ≡ true → AllByRecursion IsOneLine ps
+unfolding is_subtag
 pieces_lines [] h = tt
-pieces_lines (p ∷ ps) h = (alphanumeric_line p (fine_by p _ (list_all is_ascii_alphanumeric p) _ (h 0 (omega arith))), pieces_lines ps (λ i n. h (suc i) (omega arith)))
+pieces_lines (p ∷ ps) h =
+    let k = and_parts (is_subtag (folded p)) (list_all is_subtag (map folded ps)) h in
+    (bytes_line p (and_parts (list_all is_subtag_byte (folded p)) _ k.0).0, pieces_lines ps k.1)
 
-text_line : (text : List ℕ) → AllByRecursion IsOneLine (pieces text) → IsOneLine text
-text_line [] h = All-nil IsNoFeed
-text_line (b ∷ text) h = by_test (b == 45) refl (text_line text) h
-  where
-    by_pieces : (ps : List (List ℕ)) → (AllByRecursion IsOneLine ps → IsOneLine text) → AllByRecursion IsOneLine (onto_first b ps) → IsOneLine (b ∷ text)
-    by_pieces [] rest h = All-cons IsNoFeed b text (All-head IsNoFeed b [] h.0) (rest tt)
-    by_pieces (p ∷ ps) rest h = All-cons IsNoFeed b text (All-head IsNoFeed b p h.0) (rest (All-tail IsNoFeed b p h.0, h.1))
-
-    by_test : (t : Bool) → (b == 45) ≡ t → (AllByRecursion IsOneLine (pieces text) → IsOneLine text) → AllByRecursion IsOneLine (if t then [] ∷ pieces text else onto_first b (pieces text)) → IsOneLine (b ∷ text)
-    by_test true is rest h = All-cons IsNoFeed b text (λ e. absurd (omega (arith, e, eqb-true b 45 is))) (rest h.1)
-    by_test false is rest h = by_pieces (pieces text) rest h
+join_line : (ps : List (List ℕ)) → AllByRecursion IsOneLine ps → IsOneLine (join_with_byte 45 ps)
+join_line [] h = All-nil IsNoFeed
+join_line (p ∷ []) h = h.0
+join_line (p ∷ q ∷ ps) h =
+    All-append IsNoFeed p (45 ∷ join_with_byte 45 (q ∷ ps)) h.0 (All-cons IsNoFeed 45 (join_with_byte 45 (q ∷ ps)) (λ e. absurd (omega (arith, e))) (join_line (q ∷ ps) h.1))
 
 tag_line : (t : TagForm) → IsTag t → IsOneLine (text_of t)
-tag_line t is = text_line (text_of t) (pieces_lines (pieces (text_of t)) (text_of_tag t is).0)
+tag_line t is = subst IsOneLine (join_pieces (text_of t)) (join_line (pieces (text_of t)) (pieces_lines (pieces (text_of t)) (from_HasList (text_of t) (text_of_tag t is).0)))
 
 -- ---- the lines
 

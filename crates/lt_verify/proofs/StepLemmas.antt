@@ -1,14 +1,12 @@
 -- The words of a step's line, and what the front of a line says of the line.
-use Rattle.std.proofs.Common.{◌≡◌, ◌≢◌, ◌<◌, ◌^◌, ◌++◌, ◌∷◌, ◌∙◌, ◌==◌, ℕ, List, [], Option, Some, Bool, true, sym, ap, refl, arith, not, map, get_or, find, ◌≤◌, ◌+◌, inl, inr, leb, length, append_assoc, length-append}
+use Rattle.std.proofs.Common.{take, drop, take-append-drop, ◌≡◌, ◌≢◌, ◌<◌, ◌^◌, ◌++◌, ◌∷◌, ◌∙◌, ◌==◌, ℕ, List, [], Option, Some, Bool, true, sym, ap, refl, arith, not, map, get_or, find, ◌≤◌, ◌+◌, inl, inr, leb, length, append_assoc, length-append, bytes_eq, decimal, leb-true}
 use Rattle.std.specs.List.{list_all}
-use Rattle.std.specs.Str.{bytes_eq}
-use Rattle.std.specs.Fmt.{decimal}
 use Rattle.std.specs.Str.Parse.{AllDigits}
 use Rattle.std.proofs.lemmas.Fmt.{decimal_is_IsNumeral, length-decimal-le}
 use Rattle.std.proofs.lemmas.Str.Parse.{digit_from_value}
 use Rattle.std.proofs.lemmas.Bool.Decides.{Decides-by_and, Decides-eqb, Decides-not}
-use Rattle.std.proofs.lemmas.List.{get_or-map}
-use Rattle.std.proofs.Math.Seq.{get_or-append_seam}
+use Rattle.std.proofs.lemmas.List.{get_or-map, take-append-le}
+use Rattle.std.proofs.Math.Seq.{get_or-append_seam, take-append_seam}
 use Rattle.std.proofs.lemmas.List.Elements.{All-append, All-cons, All-head, All-nil, All-tail}
 use Rattle.lt_lines.specs.Splitting.{IsFreeOf}
 use Rattle.lt_rewrite.specs.Names.{name_of}
@@ -16,7 +14,6 @@ use Rattle.lt_rewrite.specs.declared.steps.Step.{Step}
 use Rattle.lt_rewrite.specs.declared.steps.StepKind.{StepKind}
 use Rattle.lt_rewrite.specs.declared.steps.StepKind.TheVariants as kinds
 use Rattle.lt_verify.specs.StepLines.{HasFewWords, HasWords, IsStepLine, step_line, IsNoName, NamesNoEnd, text_of}
-use Rattle.std.proofs.lemmas.Bool.{leb-true}
 use Rattle.lt_tag.specs.Parts.{TagForm}
 use Rattle.lt_registry.specs.Parts.{EntryParts}
 use Rattle.lt_rewrite.specs.Labels.{LeadsBy}
@@ -28,15 +25,12 @@ use Rattle.lt_verify.specs.Verdicts.{HasOtherText, NamesNothing}
 -- the first byte of a kind parts a list in one way
 pub one_split : (byte : ℕ) (x y r s : List ℕ) → IsFreeOf byte x → IsFreeOf byte y → x ++ byte ∷ r ≡ y ++ byte ∷ s → (x ≡ y) × (r ≡ s)
 one_split byte [] [] r s fx fy e = (refl, cc)
-one_split byte [] (b ∷ y) r s fx fy e =
-    let same : b ≡ byte = cc in absurd (All-head (λ other. other ≢ byte) b y fy same)
-one_split byte (b ∷ x) [] r s fx fy e =
-    let same : b ≡ byte = cc in absurd (All-head (λ other. other ≢ byte) b x fx same)
+one_split byte [] (b ∷ y) r s fx fy e = absurd (All-head (λ other. other ≢ byte) b y fy (cc))
+one_split byte (b ∷ x) [] r s fx fy e = absurd (All-head (λ other. other ≢ byte) b x fx (cc))
 one_split byte (b ∷ x) (c ∷ y) r s fx fy e =
-    let first : b ≡ c = cc in
-    let more : x ++ byte ∷ r ≡ y ++ byte ∷ s = cc in
-    let rest = one_split byte x y r s (All-tail (λ other. other ≢ byte) b x fx) (All-tail (λ other. other ≢ byte) c y fy) more in
-    (ap (λ d. d ∷ x) first ∙ ap (λ l. c ∷ l) rest.0, rest.1)
+    let rest = one_split byte x y r s (All-tail (λ other. other ≢ byte) b x fx) (All-tail (λ other. other ≢ byte) c y fy) (cc) in
+    let front : b ∷ x ≡ c ∷ y = cc in
+    (front, rest.1)
 
 -- a list that is free of a byte is not parted by it
 pub no_split : (byte : ℕ) (line x r : List ℕ) → IsFreeOf byte line → line ≡ x ++ byte ∷ r → ⊥
@@ -102,17 +96,14 @@ digits_free byte low (d ∷ ds) h =
     let range = digit_from_value d h.0 in
     All-cons (λ other. other ≢ byte) d ds (λ same. absurd (omega (arith, range.0, same, low))) (digits_free byte low ds h.1)
 
-number_free_of : (byte n : ℕ) → byte < 48 → n < 2 ^ 32 → IsFreeOf byte (decimal n)
-number_free_of byte n low h = digits_free byte low (decimal n) (decimal_is_IsNumeral n (omega (arith, h))).0.1
-
-pub number_free : (n : ℕ) → n < 2 ^ 32 → IsFreeOf 32 (decimal n)
-number_free n h = number_free_of 32 n (omega arith) h
+pub number_free : (byte n : ℕ) → byte < 48 → n < 2 ^ 32 → IsFreeOf byte (decimal n)
+number_free byte n low h = digits_free byte low (decimal n) (decimal_is_IsNumeral n (omega (arith, h))).0.1
 
 -- so the line of a step is one line where its text is
 pub step_is_line : (step : Step) (text : List ℕ) → step.place < 2 ^ 32 → step.number < 2 ^ 32 → IsFreeOf 10 text → IsFreeOf 10 (step_line step text)
 step_is_line step text place number one =
     word (name_of step.kind) _ (name_is_line step.kind)
-    (word (decimal step.place) _ (number_free_of 10 step.place (omega arith) place) (word (decimal step.number) text (number_free_of 10 step.number (omega arith) number) one))
+    (word (decimal step.place) _ (number_free 10 step.place (omega arith) place) (word (decimal step.number) text (number_free 10 step.number (omega arith) number) one))
   where
     word : (bytes more : List ℕ) → IsFreeOf 10 bytes → IsFreeOf 10 more → IsFreeOf 10 (bytes ++ 32 ∷ more)
     word bytes more one two = All-append (λ other. other ≢ 10) bytes (32 ∷ more) one (All-cons (λ other. other ≢ 10) 32 more (λ e. absurd (omega (arith, e))) two)
@@ -142,19 +133,15 @@ one_words {a = a} {b = b} {c = c} {x = x} {y = y} {z = z} v w =
 
 pub step_words : {line text : List ℕ} {step : Step} → IsStepLine line step text → HasWords line (name_of step.kind) (decimal step.place) (decimal step.number) text
 step_words {step = step} is =
-    record { name_free = name_free step.kind; place_free = number_free step.place is.place; number_free = number_free step.number is.number; line_is = is.line_is }
+    record { name_free = name_free step.kind; place_free = number_free 32 step.place (omega arith) is.place; number_free = number_free 32 step.number (omega arith) is.number; line_is = is.line_is }
 
 -- ---- what the front of a line says of the line
 
 -- the first of two parts is the front of a longer one
 longer_front : (a b c d : List ℕ) → a ++ b ≡ c ++ d → length c ≤ length a → (rest : List ℕ) × (a ≡ c ++ rest)
-longer_front a b [] d e le = (a, refl)
-longer_front [] b (y ∷ c) d e le = absurd (omega (arith, le))
-longer_front (x ∷ a) b (y ∷ c) d e le =
-    let first : x ≡ y = cc in
-    let more : a ++ b ≡ c ++ d = cc in
-    let rest = longer_front a b c d more (omega (arith, le)) in
-    (rest.0, ap (λ l. x ∷ l) rest.1 ∙ ap (λ z. z ∷ (c ++ rest.0)) first)
+longer_front a b c d e le =
+    let n = length c in
+    (drop n a, sym (take-append-drop n a) ∙ ap (λ l. l ++ drop n a) (sym (take-append-le n a b le) ∙ ap (take n) e ∙ take-append_seam c d))
 
 name_short : (kind : StepKind) → length (name_of kind) ≤ 15
 name_short kind = leb-true (length (name_of kind)) 15 (each_kind (λ k. leb (length (name_of k)) 15) (λ _. true) refl kind)
@@ -170,24 +157,16 @@ label_short : (step : Step) → step.place < 2 ^ 32 → step.number < 2 ^ 32 →
 label_short step place number =
     omega (arith, name_short step.kind, number_short step.place place, number_short step.number number, length-append {A = ℕ})
 
--- a long front that names no step names none however it goes on
-front_no_name : (front more : List ℕ) → 38 < length front → IsNoName front → IsNoName (front ++ more)
-front_no_name front more long none = λ step text is.
-    let label : step_line step text ≡ step_line step [] ++ text = sym (step_line-append step [] text) in
-    let short = label_short step is.place is.number in
-    let rest = longer_front front more (step_line step []) text (is.line_is ∙ label) (omega (arith, short, long)) in
-    none step rest.0 (record { place = is.place; number = is.number; line_is = rest.1 ∙ step_line-append step [] rest.0 })
-
-front_no_end : (front more : List ℕ) → 38 < length front → NamesNoEnd front → NamesNoEnd (front ++ more)
-front_no_end [] more long none = absurd (omega (arith, long))
-front_no_end (a ∷ []) more long none = absurd (omega (arith, long))
-front_no_end (a ∷ b ∷ front) more long none = λ text e.
-    let first : a ≡ 61 = cc in
-    let second : b ≡ 32 = cc in
-    none front (ap (λ c. c ∷ b ∷ front) first ∙ ap (λ c. 61 ∷ c ∷ front) second)
-
+-- a long front that names no step and no end names none however it goes on
 pub front_names_nothing : (front more : List ℕ) → 38 < length front → IsNoName front → NamesNoEnd front → NamesNothing (front ++ more)
-front_names_nothing front more long name end = record { no_step = front_no_name front more long name; no_end = front_no_end front more long end }
+front_names_nothing front more long name end = record {
+  no_step = λ step text is.
+      let label = step_line step [] in
+      let short = label_short step is.place is.number in
+      let rest = longer_front front more label text (is.line_is ∙ sym (step_line-append step [] text)) (omega (arith, short, long)) in
+      name step rest.0 (record { place = is.place; number = is.number; line_is = rest.1 ∙ step_line-append step [] rest.0 });
+  no_end = λ text e. let rest = longer_front front more (61 ∷ 32 ∷ []) text e (omega (arith, long)) in end rest.0 rest.1;
+}
 
 -- a step's line that goes on
 pub step_goes_on : {front text : List ℕ} {step : Step} (more : List ℕ) → IsStepLine front step text → IsStepLine (front ++ more) step (text ++ more)

@@ -1,5 +1,5 @@
 -- What is judged of lines one after another is their verdict, and one thing is judged.
-use Rattle.std.proofs.Common.{◌≡◌, ◌+◌, ◌++◌, ◌∷◌, inl, inr, ℕ, List, [], Some, None, length, sym, ap, refl, subst, arith, append-nil, append_assoc, length-append, ◌≢◌, ◌<◌, ◌^◌, ◌∙◌, Bool, false, ◌==◌, Option}
+use Rattle.std.proofs.Common.{◌≡◌, ◌+◌, ◌++◌, ◌∷◌, inl, inr, ℕ, List, [], Some, None, length, sym, ap, refl, subst, arith, append-nil, append_assoc, length-append, ◌<◌, ◌^◌, ◌∙◌, Bool, false, ◌==◌, Option, decimal}
 use Rattle.lt_tag.specs.Parts.{TagForm}
 use Rattle.lt_registry.specs.Parts.{EntryParts}
 use Rattle.lt_verify.specs.Judging.{Judges, SettlesLine}
@@ -7,14 +7,12 @@ use Rattle.lt_verify.specs.StepLines.{end_line, text_of, IsStepLine}
 use Rattle.lt_verify.specs.Verdicts.{EndsElsewhere, EndsHere, IsVerdict, Lead, LeadsOn, StopsAt, NamesNoStep}
 use Rattle.lt_verify.specs.declared.verdicts.Verdict.{Verdict}
 use Rattle.lt_verify.specs.declared.verdicts.Verdict.TheVariants as verdicts
-use Rattle.std.specs.Fmt.{decimal}
 use Rattle.std.specs.Str.Parse.{digits_value}
 use Rattle.std.proofs.lemmas.Bool.{false≢true}
 use Rattle.std.proofs.lemmas.Fmt.{decimal_is_IsNumeral}
-use Rattle.lt_rewrite.specs.Labels.{LeadsBy, step_at}
+use Rattle.lt_rewrite.specs.Labels.{LeadsBy}
 use Rattle.lt_rewrite.specs.Names.{name_of}
 use Rattle.lt_rewrite.specs.declared.steps.Step.{Step}
-use Rattle.lt_rewrite.specs.declared.steps.StepKind.{StepKind}
 use Rattle.lt_canon.specs.TraceLaws.{TracesHaveOneEnd}
 use Rattle.lt_verify.specs.Laws.{HaveOneVerdict}
 use Rattle.lt_verify.proofs.StepLemmas.{each_kind, one_words, same_kind, step_words}
@@ -97,25 +95,23 @@ same_number : (m n : ℕ) → m < 2 ^ 32 → n < 2 ^ 32 → decimal m ≡ decima
 same_number m n small few e =
     sym (decimal_is_IsNumeral m (omega (arith, small))).1 ∙ ap (digits_value 10) e ∙ (decimal_is_IsNumeral n (omega (arith, few))).1
 
-same_parts : (a b : Step) → a.kind ≡ b.kind → a.place ≡ b.place → a.number ≡ b.number → a ≡ b
-same_parts a b kind place number =
-    ap (λ (k : StepKind). step_at k a.place a.number) kind ∙ ap (λ (p : ℕ). step_at b.kind p a.number) place ∙ ap (λ (n : ℕ). step_at b.kind b.place n) number
-
 same_step : (line : List ℕ) (a b : Step) (x y : List ℕ) → IsStepLine line a x → IsStepLine line b y → (a ≡ b) × (x ≡ y)
 same_step line a b x y is are =
     let words = one_words (step_words is) (step_words are) in
-    (same_parts a b (same_kind a.kind b.kind words.0) (same_number a.place b.place is.place are.place words.1) (same_number a.number b.number is.number are.number words.2), words.3)
+    let kind = same_kind a.kind b.kind words.0 in
+    let place = same_number a.place b.place is.place are.place words.1 in
+    let number = same_number a.number b.number is.number are.number words.2 in
+    ((λ i. let s : Step = record { kind = kind i; place = place i; number = number i } in s), words.3)
 
 -- a line that names a step is not that of an end: no name begins with `=`
 abbrev is_equals : List ℕ → Bool
 is_equals [] = false
 is_equals (byte ∷ bytes) = byte == 61
 
-no_end_name : (kind : StepKind) (more text : List ℕ) → name_of kind ++ more ≢ end_line text
-no_end_name kind more text e = false≢true (sym (each_kind (λ k. is_equals (name_of k ++ more)) (λ _. false) refl kind) ∙ ap is_equals e)
-
 not_both : (line : List ℕ) (step : Step) (x text : List ℕ) → IsStepLine line step x → line ≡ end_line text → ⊥
-not_both line step x text is ends = no_end_name step.kind _ text (sym is.line_is ∙ ends)
+not_both line step x text is ends =
+    let more = 32 ∷ (decimal step.place ++ 32 ∷ (decimal step.number ++ 32 ∷ x)) in
+    false≢true (sym (each_kind (λ k. is_equals (name_of k ++ more)) (λ _. false) refl step.kind) ∙ ap is_equals (sym is.line_is ∙ ends))
 
 same_text : (line x y : List ℕ) → line ≡ end_line x → line ≡ end_line y → x ≡ y
 same_text line x y a b = let e : end_line x ≡ end_line y = sym a ∙ b in cc e

@@ -1,17 +1,5 @@
-use Rattle.std.proofs.Common.{◌++◌, ◌∷◌, ◌∙◌, ℕ, List, [], inl, refl, sym, ap, append_assoc}
-use Rattle.lt_lines.proofs.TextLemmas.{canonical_answers}
+use Rattle.lt_lines.proofs.TextLemmas.{canonical_reply}
 use Rattle.lt_lines.proofs.answer_lines.append_answer.Goals as goal
 
 pub returns-in_ok-push-in-Ok-clause-owed : goal.returns-in_ok-push-in-Ok-clause-owed
-returns-in_ok-push-in-Ok-clause-owed g c = λ ends.
-    let R = g.L.Lookup.listed c.args.checked.now in
-    let appended = c.in-Ok.ensures.appended ends in
-    let text = appended.canonical in
-    record {
-      bytes = text ++ 10 ∷ [];
-      grown = c.in_ok-push-in-Ok.ensures.items ∙ ap (λ (l : List ℕ). l ++ 10 ∷ []) appended.grown ∙ append_assoc c.args.lines.now.items text (10 ∷ []);
-      owed = record {
-        owed = inl (record { canonical = text; is_canonical = appended.is_canonical; line_is = refl }, refl);
-        marked = sym (canonical_answers R c.args.text.now text appended.is_canonical);
-      };
-    }
+returns-in_ok-push-in-Ok-clause-owed g c = λ ends. canonical_reply _ _ _ _ _ (c.in-Ok.ensures.appended ends) c.in_ok-push-in-Ok.ensures.items

@@ -1,5 +1,4 @@
-use Rattle.std.proofs.Common.{arith}
-use Rattle.std.proofs.lemmas.Bool.{eqb-true}
+use Rattle.std.proofs.Common.{arith, eqb-true}
 use Rattle.lt_lines.proofs.SplittingLemmas.{free_front, free_whole, split_at}
 use Rattle.lt_lines.proofs.splitting.split_first.Goals as goal
 

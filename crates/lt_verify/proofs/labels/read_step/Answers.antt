@@ -1,5 +1,4 @@
-use Rattle.std.proofs.Common.{sym}
-use Rattle.std.specs.Fmt.{decimal}
+use Rattle.std.proofs.Common.{sym, decimal}
 use Rattle.lt_rewrite.specs.Names.{name_of}
 use Rattle.lt_verify.proofs.StepLemmas.{one_words, step_words}
 use Rattle.lt_verify.proofs.labels.read_step.Goals as goal

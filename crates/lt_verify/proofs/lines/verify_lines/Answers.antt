@@ -1,8 +1,9 @@
 use Rattle.std.proofs.Common.{◌≡◌, ◌≤◌, ◌∙◌, ℕ, length, take, sym, ap, arith, length-take}
 use Rattle.std.proofs.lemmas.Result.{err_from_is_err_and}
-use Rattle.lt_lines.proofs.RunLemmas.{refilled}
+use Rattle.lt_lines.proofs.RunLemmas.{ReadsPiece, refilled}
 use Rattle.lt_verify.proofs.FollowLemmas.{run_failed, run_finished, run_first, run_lacks, run_next, run_room, run_settled, run_stopped, run_turns}
 use Rattle.lt_verify.proofs.lines.verify_lines.Goals as goal
+use Rattle.lt_verify.proofs.lines.verify_lines.Goals.{After-deref}
 
 pub returns-in_err-buffer : goal.returns-in_err-buffer
 returns-in_err-buffer g c =
@@ -47,42 +48,42 @@ returns-in_err-finish-in-Ok-eq0 g c =
     let ensures = c.in-Ok-eq0.ensures in
     rw (p.1, p.2) (run_stopped c.loop-read.invariant.turn (take c.in-Ok-eq0.field-0 c.read.new.buf) c.loop-read-test.true (record { consumes = ensures.bytes.0; calls = ensures.reads; failures = ensures.works }))
 
+-- what was read is in the buffer
+reads : (g : _) (c : goal.After-deref g) → (length c.read.new.buf ≡ 65536) × ReadsPiece g.R.Read.remaining c.loop-read.input c.read.new.self (take c.in-Ok.count c.read.new.buf) × (c.deref.result.now ≡ c.read.new.buf)
+reads g c =
+    let held = c.loop-read.buffer in
+    let ensures = c.in-Ok.ensures in
+    let full : length c.read.new.buf ≡ length held.items = omega (arith, c.read.auto.buf, ap length c.deref_mut.ensures.value) in
+    (
+      full ∙ c.loop-read.invariant.buffer,
+      record { consumes = ensures.bytes.0; calls = ensures.reads; failures = ensures.works },
+      c.deref.ensures.value ∙ refilled held.len held.items c.read.new.buf held.ok.0 full,
+    )
+
 pub returns-in_err-verdict-in-Ok : goal.returns-in_err-verdict-in-Ok
 returns-in_err-verdict-in-Ok g c =
     let p = err_from_is_err_and c.from_residual-in_err-verdict-in-Ok.result c.from_residual-in_err-verdict-in-Ok.ensures.1 in
-    let ensures = c.in-Ok.ensures in
-    rw (p.1, p.2) (run_stopped c.loop-read.invariant.turn (take c.in-Ok.count c.read.new.buf) c.loop-read-test.true (record { consumes = ensures.bytes.0; calls = ensures.reads; failures = ensures.works }))
+    rw (p.1, p.2) (run_stopped c.loop-read.invariant.turn (take c.in-Ok.count c.read.new.buf) c.loop-read-test.true (reads g (goal.at.returns-in_err-verdict-in-Ok g c).After-deref).1)
 
 pub take_piece-requires : goal.take_piece-requires
 take_piece-requires g c =
     let turn = c.loop-read.invariant.turn in
-    let full : length c.read.new.buf ≡ 65536 = omega (arith, c.read.auto.buf, ap length c.deref_mut.ensures.value, c.loop-read.invariant.buffer) in
+    let full = (reads g (goal.at.take_piece-requires g c).After-deref).0 in
     let short : length (take c.in-Ok.count c.deref.result.now) ≤ 65536 = omega (arith, length-take c.in-Ok.count c.deref.result.now, c.in-Ok.ensures.bound.0, full) in
     record { proper = turn.takes.proper; room = omega (arith, run_room turn, short, c.loop-read-test.true) }
 
 pub returns-in-Some : goal.returns-in-Some
 returns-in-Some g c =
-    let buffer = c.read.new.buf in
-    let count = c.in-Ok.count in
-    let ensures = c.in-Ok.ensures in
-    let held = c.loop-read.buffer in
-    let full : length buffer ≡ length held.items = omega (arith, c.read.auto.buf, ap length c.deref_mut.ensures.value) in
-    let same = ap (take count) (c.deref.ensures.value ∙ refilled held.len held.items buffer held.ok.0 full) in
-    let judged = rw (c.in-Some.is, same) at c.in_ok-verdict-in-Ok.ensures in
-    run_settled c.loop-read.invariant.turn c.take_piece.new.self (take count buffer) c.in-Some.verdict c.loop-read-test.true (record { consumes = ensures.bytes.0; calls = ensures.reads; failures = ensures.works }) judged
+    let read = reads g (goal.at.returns-in-Some g c).After-deref in
+    run_settled c.loop-read.invariant.turn c.take_piece.new.self (take c.in-Ok.count c.read.new.buf) c.in-Some.verdict c.loop-read-test.true read.1 (rw (c.in-Some.is, read.2) at c.in_ok-verdict-in-Ok.ensures)
 
 pub loop-read-preserved : goal.loop-read-preserved
 loop-read-preserved g c =
     let buffer = c.read.new.buf in
-    let count = c.in-Ok.count in
-    let ensures = c.in-Ok.ensures in
     let held = c.loop-read.buffer in
-    let full : length buffer ≡ length held.items = omega (arith, c.read.auto.buf, ap length c.deref_mut.ensures.value) in
-    let held_is = refilled held.len held.items buffer held.ok.0 full in
-    let same = ap (take count) (c.deref.ensures.value ∙ held_is) in
-    let short : length (take count buffer) ≤ 65536 = omega (arith, length-take count buffer, ensures.bound.0, full, c.loop-read.invariant.buffer) in
-    let takes = rw (c.in_default.is, same) at c.in_ok-verdict-in-Ok.ensures in
+    let read = reads g (goal.at.loop-read-preserved g c).After-deref in
+    let short : length (take c.in-Ok.count buffer) ≤ 65536 = omega (arith, length-take c.in-Ok.count buffer, c.in-Ok.ensures.bound.0, read.0) in
     record {
-      turn = run_next c.loop-read.invariant.turn (take count buffer) (record { consumes = ensures.bytes.0; calls = ensures.reads; failures = ensures.works }) short (omega (arith, ensures.last, c.in-Ok.count-test)) takes;
-      buffer = ap length held_is ∙ full ∙ c.loop-read.invariant.buffer;
+      turn = run_next c.loop-read.invariant.turn (take c.in-Ok.count buffer) read.1 short (omega (arith, c.in-Ok.ensures.last, c.in-Ok.count-test)) (rw (c.in_default.is, read.2) at c.in_ok-verdict-in-Ok.ensures);
+      buffer = ap length (refilled held.len held.items buffer held.ok.0 (read.0 ∙ sym c.loop-read.invariant.buffer)) ∙ read.0;
     }

@@ -6,16 +6,13 @@ use Rattle.lt_ends.proofs.recent_ends.RecentEnds.append_new.Goals as goal
 -- the end stands in what was appended
 pub keep-requires : goal.keep-requires
 keep-requires g c =
-    let R = g.L.Lookup.listed c.args.checked.now in
     let start : length c.args.texts.now.items ≡ c.len-start.result = sym (c.len-start.ensures ∙ c.args.texts.now.ok.0) in
-    subst (λ (n : ℕ). EndStands R c.args.end.now (n + c.args.count) c.append_canonical_text.new.texts.items) start
-    (end_stands R c.args.text.now c.args.end.now c.args.texts.now.items c.append_canonical_text.new.texts.items c.args.count c.requires (c.in_ok-append_canonical_text.ensures {u = tt}).appended)
+    subst (λ (n : ℕ). EndStands (g.L.Lookup.listed c.args.checked.now) c.args.end.now (n + c.args.count) c.append_canonical_text.new.texts.items) start
+    (end_stands _ c.args.text.now _ _ _ c.args.count c.requires (c.in_ok-append_canonical_text.ensures {u = tt}).appended)
 
 pub overflow_add-start : goal.overflow_add-start
 overflow_add-start g c =
-    let R = g.L.Lookup.listed c.args.checked.now in
-    let old = c.args.texts.now.items in
     let new = c.append_canonical_text.new.texts in
-    let stands = end_stands R c.args.text.now c.args.end.now old new.items c.args.count c.requires (c.in_ok-append_canonical_text.ensures {u = tt}).appended in
-    let within = (follows_front R c.table.ensures.checked c.args.end.now new.items (length old + c.args.count) stands).1.within in
+    let stands = end_stands _ c.args.text.now _ _ _ c.args.count c.requires (c.in_ok-append_canonical_text.ensures {u = tt}).appended in
+    let within = (follows_front _ c.table.ensures.checked _ _ _ stands).within in
     omega (arith, within, c.len-start.ensures, c.args.texts.now.ok.0, new.ok.0, new.small)

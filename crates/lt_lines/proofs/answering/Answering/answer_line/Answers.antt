@@ -1,6 +1,5 @@
-use Rattle.std.proofs.Common.{◌+◌, false, refl, take}
+use Rattle.std.proofs.Common.{refl, take}
 use Rattle.lt_lines.specs.Owed.{reply, terms}
-use Rattle.lt_lines.specs.declared.answering.Answering.{Answering}
 use Rattle.lt_lines.proofs.TakenLemmas.{taken_line}
 use Rattle.lt_lines.proofs.answering.Answering.answer_line.Goals as goal
 
@@ -9,13 +8,5 @@ returns-clause-taken g c = λ bytes out one t.
     let T = terms (g.L.Lookup.listed c.args.checked.now) c.args.form in
     let part = take c.args.count c.args.text.now in
     let a = c.in_ok-refused.ensures.owed t.recent in
-    let new : Answering = record {
-      kept = c.clear.new.self;
-      is_open = false;
-      feeds = c.args.self.now.feeds + 1;
-      owed = c.append_line.new.lines;
-      counts = c.count.new.self;
-      recent = c.append_line.new.recent;
-    } in
-    taken_line T bytes out part (reply a.bytes c.in_ok-refused.refused) c.args.self.now new t one a.owed
+    taken_line T bytes out part (reply a.bytes c.in_ok-refused.refused) c.args.self.now _ t one a.owed
     a.grown c.clear.ensures.items refl refl c.count.ensures.lines c.count.ensures.refused (c.in_ok-refused.ensures.recent t.recent)

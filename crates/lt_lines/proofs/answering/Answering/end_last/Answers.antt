@@ -9,9 +9,8 @@ use Rattle.lt_lines.proofs.TakenLemmas.{answered_last, answered_none, no_items, 
 use Rattle.lt_lines.proofs.answering.Answering.end_last.Goals as goal
 
 nothing_after : (form : LineForm) (inside : Bool) → inside ≡ false → open_after form inside [] ≡ false
-nothing_after forms.Tag inside closed = refl
-nothing_after (forms.Row before) inside closed = refl
 nothing_after (forms.Csv before) inside closed = closed
+nothing_after form inside closed = refl
 
 -- whether the last line was answered
 last_answered : (T : Terms) (old new : Answering) (r : Result (Unit {0}) OutOfMemory) → (old.kept.items ≡ [] → ⊥) → old.is_open ≡ false

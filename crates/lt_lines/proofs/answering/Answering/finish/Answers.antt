@@ -1,12 +1,10 @@
-use Rattle.std.proofs.Common.{List, ℕ, [], inl, refl, sym, subst, append-nil}
+use Rattle.std.proofs.Common.{[], inl, refl, append-nil}
 use Rattle.std.proofs.KnownBytes.{Appends-nil}
-use Rattle.lt_lines.specs.Owed.{EndsInQuotes, terms}
 use Rattle.lt_lines.proofs.TakenLemmas.{ends_in_quotes}
 use Rattle.lt_lines.proofs.answering.Answering.finish.Goals as goal
 
 pub returns-then-self : goal.returns-then-self
 returns-then-self g c =
-    let T = terms (g.L.Lookup.listed c.args.checked.now) c.args.form in
     let line = c.kept_from.result in
     record {
       written = [];
@@ -16,7 +14,6 @@ returns-then-self g c =
         line = line;
         fault = refl;
         same = refl;
-        ends = λ bytes out t none. subst (λ (l : List ℕ). EndsInQuotes T bytes l line) (sym (append-nil out))
-            (ends_in_quotes T bytes out c.args.self.now line t none c.if-self.true c.kept_from.ensures);
+        ends = λ bytes out t none. rw append-nil (ends_in_quotes _ bytes out c.args.self.now line t none c.if-self.true c.kept_from.ensures);
       });
     }

@@ -1,5 +1,4 @@
-use Rattle.std.proofs.Common.{[], inl, inr, refl, sym, subst, append-nil}
-use Rattle.lt_lines.specs.Owed.{IsBegun, terms}
+use Rattle.std.proofs.Common.{[], inl, inr, refl, sym, append-nil}
 use Rattle.std.proofs.KnownBytes.{Appends-nil}
 use Rattle.std.proofs.lemmas.Result.{err_from_is_err_and}
 use Rattle.lt_lines.proofs.TakenLemmas.{begun_answered, begun_nothing, owed_all}
@@ -7,34 +6,31 @@ use Rattle.lt_lines.proofs.answering.Answering.finish_closed.Goals as goal
 
 pub returns-in_err-end_last : goal.returns-in_err-end_last
 returns-in_err-end_last g c =
-    let T = terms (g.L.Lookup.listed c.args.checked.now) c.args.form in
     let p = err_from_is_err_and c.from_residual.result c.from_residual.ensures.1 in
     rw (p.1, p.2) (record {
       written = [];
       appends = Appends-nil _;
       done = tt;
-      stopped = inr (inr (refl, refl), λ bytes out t. subst (IsBegun T bytes) (sym (append-nil out)) (begun_nothing T bytes out [] bytes c.args.self.now t (sym (append-nil bytes))));
+      stopped = inr (inr (refl, refl), λ bytes out t. rw append-nil (begun_nothing _ bytes out [] bytes _ t (sym (append-nil bytes))));
     })
 
 pub returns-in_err-write : goal.returns-in_err-write
 returns-in_err-write g c =
-    let T = terms (g.L.Lookup.listed c.args.checked.now) c.args.form in
     let p = err_from_is_err_and c.from_residual-in_err-write.result c.from_residual-in_err-write.ensures.1 in
     let w = c.in_err-write.ensures.writes in
     rw (p.1, p.2) (record {
       written = w.written;
       appends = w.appends;
       done = tt;
-      stopped = inr (inl (w.stopped.0, w.stopped.1), λ bytes out t. begun_answered T bytes out w.written c.end_last.new.self (c.in_ok-end_last.ensures bytes out t) w.stopped.2);
+      stopped = inr (inl (w.stopped.0, w.stopped.1), λ bytes out t. begun_answered _ bytes out w.written c.end_last.new.self (c.in_ok-end_last.ensures bytes out t) w.stopped.2);
     })
 
 pub returns : goal.returns
 returns g c =
-    let T = terms (g.L.Lookup.listed c.args.checked.now) c.args.form in
     let w = c.in_ok-write.ensures.writes in
     record {
       written = w.written;
       appends = w.appends;
-      done = (w.done.1, λ bytes out t. owed_all T bytes out w.written c.end_last.new.self c.write.new.self (c.in_ok-end_last.ensures bytes out t) w.same w.done.0 c.in_ok-write.ensures.emptied);
+      done = (w.done.1, λ bytes out t. owed_all _ bytes out w.written c.end_last.new.self c.write.new.self (c.in_ok-end_last.ensures bytes out t) w.same w.done.0 c.in_ok-write.ensures.emptied);
       stopped = tt;
     }
