@@ -141,13 +141,6 @@ bare_extlang R c d es ps e h = e ∙ sym (ap (λ o. LangTag (behind o d) es ps) 
 pub fronted_extlang : (R : List EntryParts) (c : TagForm) (d : CoreParts) (p : List ℕ) (es : List ExtensionParts) (ps : List (List ℕ)) → c ≡ LangTag d es ps → prefix_of (prefixes R kinds.Extlang d.language) ≡ Some p → LangTag (record d { language = p; extlangs = d.language ∷ [] }) es ps ≡ extlang_form R c
 fronted_extlang R c d p es ps e h = sym (ap (λ o. LangTag (behind o d) es ps) h) ∙ sym (ap (extlang_form R) e)
 
--- the language and the extlang of a core set one after the other
-pub fronted_core : (d a b y : CoreParts) (p q m : List ℕ) → a ≡ d → b ≡ record a { language = q } → q ≡ p → y ≡ record b { extlangs = m ∷ [] } → m ≡ d.language → y ≡ record d { language = p; extlangs = d.language ∷ [] }
-fronted_core d a b y p q m ha hb hq hy hm =
-    hy
-    ∙ (λ i. let x : CoreParts = hb i in record x { extlangs = hm i ∷ [] })
-    ∙ (λ i. let x : CoreParts = ha i in record x { language = hq i; extlangs = d.language ∷ [] })
-
 module _ (R : List EntryParts) (C : IsChecked R) where
   pub no_extlang_there : (c : TagForm) (d : CoreParts) → IsCanonical R c → core_of c ≡ Some d → d.extlangs ≡ []
   no_extlang_there c d K h =
