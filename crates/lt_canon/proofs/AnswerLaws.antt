@@ -18,7 +18,7 @@ use Rattle.lt_registry.specs.Parts.{EntryParts}
 use Rattle.lt_registry.specs.Entries.{entry, prefixes, is_short}
 use Rattle.lt_registry.specs.Validity.{IsProper}
 use Rattle.lt_registry.specs.declared.entries.Kind.TheVariants as kinds
-use Rattle.lt_rewrite.specs.Rewriting.{Rests, done}
+use Rattle.lt_rewrite.specs.Rewriting.{Rests}
 use Rattle.lt_rewrite.specs.TagSteps.{TagStep, IsCanonical}
 use Rattle.lt_rewrite.proofs.Entries.{prefixes_at}
 use Rattle.lt_rewrite.proofs.Forms.{ExtlangEntry, extlang_entry}
@@ -30,12 +30,13 @@ use Rattle.lt_canon.specs.ExtlangForm.{prefix_of, behind, extlang_form, IsExtlan
 use Rattle.lt_canon.specs.Corollaries.{EquivalenceIsEquality}
 use Rattle.lt_canon.specs.Laws.{EquivalenceIsEqualText, CanonicalTwiceIsOnce, CanonicalTextTwiceIsOnce}
 use Rattle.lt_check.proofs.Checks.{core_conditions}
-use Rattle.lt_canon.proofs.TagRepeats.{form_is_end}
+use Rattle.lt_canon.proofs.TagRepeats.{end_canonical, form_is_end}
 use Rattle.lt_canon.proofs.ExtlangForms.{no_extlang, forms_lead_back}
 use Rattle.lt_rewrite.proofs.ProperTags.{proper_parts}
 use Rattle.lt_canon.proofs.TagProper.{core_spells_none}
 use Rattle.lt_canon.proofs.CanonicalForms.{langtag_of}
-use Rattle.lt_canon.proofs.Answering.{canonical_form}
+use Rattle.lt_canon.proofs.EndForms.{rest_is_end, reached_is_end}
+use Rattle.lt_canon.proofs.TagForm.{end_form}
 use Rattle.lt_tag.specs.Lists.{longest_text}
 
 -- the text of a tag
@@ -79,7 +80,7 @@ equivalence_answer R E t u c d answer h k e =
 
 module _ (R : List EntryParts) (C : IsChecked R) where
   own_form : (c : TagForm) → IsCanonical R c → IsCanonicalFormOf R c c
-  own_form c K = canonical_form R C c c K.valid (record { reached = done; at_rest = K.at_rest }) K.valid.distinct
+  own_form c K = end_canonical R C c c K.valid (rest_is_end (end_form R C) c K.valid.proper K.at_rest) K.valid.distinct
 
   one_form : (t c d : TagForm) → IsCanonicalFormOf R t c → IsCanonicalFormOf R t d → c ≡ d
   one_form t c d h k = sym (form_is_end R C t c h) ∙ form_is_end R C t d k
@@ -105,7 +106,7 @@ module _ (R : List EntryParts) (C : IsChecked R) where
   pub extlang_answer : (t c form : TagForm) → IsCanonicalFormOf R t c → form ≡ extlang_form R c → IsExtlangFormOf R t form
   extlang_answer t c form h e =
       let L = forms_lead_back R C c h.canonical in
-      let back : IsCanonicalFormOf R (extlang_form R c) c = canonical_form R C (extlang_form R c) c L.valid (record { reached = L.reached; at_rest = h.canonical.at_rest }) h.canonical.valid.distinct in
+      let back : IsCanonicalFormOf R (extlang_form R c) c = end_canonical R C (extlang_form R c) c L.valid (reached_is_end (end_form R C) (extlang_form R c) c L.valid.proper L.reached h.canonical.at_rest) h.canonical.valid.distinct in
       subst (IsExtlangFormOf R t) (sym e) (record { canonical = c; canonical_form = h; is = refl; valid = L.valid; back = back })
 
   prefix_short : (l p : List ℕ) (x : ExtlangEntry R l) (b : Bool) → is_short x.fits.prefix ≡ b → cond b (Some x.fits.prefix) None ≡ Some p → IsFittingPrefix l p

@@ -31,6 +31,10 @@ confluent {A} {P} {Step} {f} F a b c p r t =
 pub rest_is_end : {A : Type 0} {P : A → Type 0} {Step : A → A → Type 0} {f : A → A} → IsEndForm P Step f → (a : A) → P a → Rests Step a → f a ≡ a
 rest_is_end F a p h = sym (star_rests (F.reached a p) h)
 
+-- to which steps lead and no further is the end
+pub reached_is_end : {A : Type 0} {P : A → Type 0} {Step : A → A → Type 0} {f : A → A} → IsEndForm P Step f → (a b : A) → P a → Star Step a b → Rests Step b → f a ≡ b
+reached_is_end F a b p r h = star_end F r ∙ rest_is_end F b (star_proper F r p) h
+
 pub equivalent_trans : {A : Type 0} {Step : A → A → Type 0} {a b c : A} → Equivalent Step a b → Equivalent Step b c → Equivalent Step a c
 equivalent_trans same t = t
 equivalent_trans (forth s r) t = forth s (equivalent_trans r t)

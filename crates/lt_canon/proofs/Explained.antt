@@ -26,10 +26,11 @@ use Rattle.lt_check.specs.Conditions.{IsChecked}
 use Rattle.lt_canon.specs.Answers.{IsCanonicalFormOf}
 use Rattle.lt_canon.specs.Explaining.{rank_in, IsExplanation, RestsOnCore, LeadsToRest}
 use Rattle.lt_check.proofs.CheckedRegistry.{value_plain}
-use Rattle.lt_canon.proofs.TagForm.{core_end, cores_formed, value_rests, extensions_step_from}
+use Rattle.lt_canon.proofs.TagForm.{core_end, cores_formed, value_rests, extensions_step_from, end_form}
 use Rattle.lt_canon.proofs.TagRest.{lang_at_end, grandfathered_rests, private_rests, none_rests}
 use Rattle.lt_canon.proofs.TagLaws.{traces_reach_their_end}
-use Rattle.lt_canon.proofs.Answering.{EndsAt, end_is}
+use Rattle.lt_canon.proofs.EndForms.{reached_is_end}
+use Rattle.lt_canon.proofs.TagRepeats.{form_is_end}
 use Rattle.lt_canon.proofs.CanonicalForms.{langtag_of, transforms_have_parts, form_some}
 use Rattle.lt_canon.proofs.FirstTagSteps.{core_is_first, extensions_is_first}
 
@@ -180,9 +181,8 @@ module _ (R : List EntryParts) where
     pub explained : (t end : TagForm) (run : List Step) → IsCanonicalFormOf R t end → LeadsToRest R t [] run → IsExplanation R t run end
     explained t end run F h =
         let trace : IsTrace R t h.adds.run h.end = run_trace h.adds.run t h.end h.adds.is_run in
-        let here : EndsAt R C t h.end = record { reached = (traces_reach_their_end R t h.end h.adds.run trace).0; at_rest = h.at_rest } in
-        let there : EndsAt R C t end = record { reached = F.reached; at_rest = F.canonical.at_rest } in
-        let same : h.end ≡ end = sym (end_is R C t h.end F.valid.proper here) ∙ end_is R C t end F.valid.proper there in
+        let reached = (traces_reach_their_end R t h.end h.adds.run trace).0 in
+        let same : h.end ≡ end = sym (reached_is_end (end_form R C) t h.end F.valid.proper reached h.at_rest) ∙ form_is_end R C t end F in
         let all : run ≡ h.adds.run = h.adds.added in
         record {
           form = F;

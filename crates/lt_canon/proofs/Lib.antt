@@ -10,10 +10,8 @@ mod AppendedTexts
 mod TagProper
 mod TagRest
 mod TagLaws
-mod SecondVariants
 mod NamedRepeats
 mod ExtlangForms
-mod Answering
 mod SourceRepeats
 mod AnswerLaws
 mod OneExplanation

@@ -1,5 +1,5 @@
 -- Langtags whose subtags stay as they are: they are their own canonical forms.
-use Rattle.std.proofs.Common.{◌≡◌, ℕ, ◌+◌, ◌&&◌, get_or, not, true, false, List, ◌++◌, Option, Some, None, Ok, IfSome, is_none, is_some, length, refl, sym, ap, ◌∙◌, arith, All}
+use Rattle.std.proofs.Common.{◌≡◌, ℕ, inr, ◌+◌, ◌&&◌, get_or, not, true, false, List, ◌++◌, Option, Some, None, Ok, IfSome, is_none, is_some, length, refl, sym, ap, ◌∙◌, arith, All}
 use Rattle.std.specs.List.{list_any}
 use Rattle.std.specs.Option.{option_and_then, option_to_list}
 use Rattle.std.proofs.lemmas.Bool.{and_parts, not-true, false_from_ne_true}
@@ -25,8 +25,8 @@ use Rattle.lt_check.proofs.CheckedRegistry.{found_name}
 use Rattle.lt_canon.specs.Answers.{IsCanonicalFormOf}
 use Rattle.lt_canon.specs.Texts.{AppendsCanonicalText}
 use Rattle.lt_canon.specs.UsualTags.{IsUsual, one_valued, part_valued, core_valued}
-use Rattle.lt_canon.proofs.UsualTags.{usual_valid, usual_form}
-use Rattle.lt_canon.proofs.CanonicalForms.{core_canonical}
+use Rattle.lt_canon.proofs.UsualTags.{usual_valid, usual_settled}
+use Rattle.lt_canon.proofs.CanonicalForms.{settled_canonical}
 
 -- ---- no subtag has a value
 
@@ -85,7 +85,7 @@ module _ (R : List EntryParts) (text : List ℕ) (c : CoreParts) (stay : StaysAs
       none_of (tag_of e.value) (ap (λ b. is_some (tag_of e.value) && b) (sym plain) ∙ other)
 
   pub stays_canonical : IsChecked R → IsCanonicalFormOf R (core_alone c) (core_alone c)
-  stays_canonical C = core_canonical R C c c valid (usual_form R (core_alone c) c usual refl valid valued) (no_value (whole R (core_alone c)) refl)
+  stays_canonical C = settled_canonical R C (core_alone c) (core_alone c) (core_alone c) valid (usual_settled R (core_alone c) c usual refl value valued) (inr (record { none = λ _. no_value (whole R (core_alone c)) refl; same = refl }))
 
 -- its conventional text is its canonical text
 pub stays_appended : (R : List EntryParts) → IsChecked R → (text old new : List ℕ) → IsStaying R text → new ≡ old ++ conventional (list_of text) → AppendsCanonicalText R text old new

@@ -107,7 +107,7 @@ module _ (R : List EntryParts) (C : IsChecked R) where
   pub value_rests : (t : TagForm) (c : CoreParts) → whole_value R t ≡ Some (core_alone c) → whole_value R (core_alone (core_end c)) ≡ None
   value_rests t c e = no_value R (core_alone (core_end c)) (resting t c e).1
 
-  value_end_is : (t : TagForm) (c : CoreParts) → whole_value R t ≡ Some (core_alone c) → tag_end (core_alone c) ≡ core_alone (core_end c)
+  pub value_end_is : (t : TagForm) (c : CoreParts) → whole_value R t ≡ Some (core_alone c) → tag_end (core_alone c) ≡ core_alone (core_end c)
   value_end_is t c e = whole_end_none (core_alone (core_end c)) (value_rests t c e)
 
   -- a core that is a whole record with a value: its own end is that of its value
@@ -127,7 +127,7 @@ module _ (R : List EntryParts) (C : IsChecked R) where
       by (inl s) = whole_end_some (core_alone (core_end c)) (core_alone q) (ap (λ d. whole_value R (core_alone d)) s ∙ e)
       by (inr n) = then_by (agree n)
 
-  whole_kept_at : (t : TagForm) (q : CoreParts) → CanBeReplacedWhole t → whole_value R t ≡ Some (core_alone q) → tag_end t ≡ tag_end (core_alone q)
+  pub whole_kept_at : (t : TagForm) (q : CoreParts) → CanBeReplacedWhole t → whole_value R t ≡ Some (core_alone q) → tag_end t ≡ tag_end (core_alone q)
   whole_kept_at (Grandfathered n) q h e = whole_end_some (Grandfathered n) (core_alone q) e ∙ sym (value_end_is (Grandfathered n) q e)
   whole_kept_at (LangTag c [] []) q h e = plain_kept c q e ∙ sym (value_end_is (core_alone c) q e)
   whole_kept_at (LangTag c (x ∷ es) ps) q h e = let a = h.0 in cc
@@ -165,6 +165,9 @@ module _ (R : List EntryParts) (C : IsChecked R) where
   extensions_reached d r ps P =
       star_map_while (λ x. IsProper R (LangTag d x ps)) (λ x. LangTag d x ps) (λ x y s p. extensions_step_tag R C d x y ps s p)
       (λ x y s p q. step_of_change R C (LangTag d x ps) (LangTag d y ps) (on_extensions d x y ps refl refl s) p) r P
+
+  pub parts_reached : {c d : CoreParts} {es fs : List ExtensionParts} → Star (CoreStep (values_of R)) c d → Star (ExtensionsStep R) es fs → (ps : List (List ℕ)) → IsProper R (LangTag c es ps) → IsReached R (LangTag c es ps) (LangTag d fs ps)
+  parts_reached {c} {d} {es} {fs} r s ps P = star_trans (cores_reached r es ps P) (extensions_reached d s ps (cores_proper r es ps P))
 
   whole_reached_at : (t : TagForm) → CanBeReplacedWhole t → IsProper R t → (o : Option TagForm) → whole_value R t ≡ o → IsReached R t (or_value t value_end o)
   whole_reached_at t h P None e = done

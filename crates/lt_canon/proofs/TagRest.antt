@@ -74,7 +74,7 @@ module _ (R : List EntryParts) (C : IsChecked R) where
   whole_rests_at t h None e = h e
   whole_rests_at t h (Some u) e = value_rests_at t u e
 
-  some_end : (es : List ExtensionParts) → es ≢ [] → extensions_end R C es ≢ []
+  pub some_end : (es : List ExtensionParts) → es ≢ [] → extensions_end R C es ≢ []
   some_end es n = star_keeps (λ l. l ≢ []) (λ a b s _. extensions_step_to R a b s) ((extensions_end_formed R C).reached es) n
 
   lang_rests : (c : CoreParts) (es : List ExtensionParts) (ps : List (List ℕ)) → NoChange R (lang_end R C (core_end R C c) es ps)

@@ -1,7 +1,7 @@
 use Rattle.std.proofs.Common.{◌≡◌, inl, [], refl, sym, ap, ◌∙◌, length, arith}
 use Rattle.std.proofs.lemmas.Result.{IfOk-weaker}
 use Rattle.lt_tag.specs.Spelling.{spell_extensions}
-use Rattle.lt_tag.specs.Values.{core_of, extensions_of, number_of, core_alone}
+use Rattle.lt_tag.specs.Values.{extensions_of, number_of, core_alone}
 use Rattle.lt_registry.specs.Validity.{IsProper}
 use Rattle.lt_rewrite.specs.Labels.{LeadsBy}
 use Rattle.lt_rewrite.specs.Runs.{Adds}

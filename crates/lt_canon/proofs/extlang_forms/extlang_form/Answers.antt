@@ -1,7 +1,6 @@
-use Rattle.std.proofs.Common.{◌≡◌, ℕ, ◌≤◌, true, inl, List, [], ◌∷◌, Some, sym, ◌∙◌, subst, length}
+use Rattle.std.proofs.Common.{◌≡◌, inl, [], ◌∷◌, Some, sym}
 use Rattle.std.proofs.lemmas.Result.{err_from_is_err_and}
-use Rattle.lt_subtag.specs.Shapes.{is_language, is_extlang}
-use Rattle.lt_tag.specs.Parts.{CoreParts, LangTag}
+use Rattle.lt_tag.specs.Parts.{CoreParts}
 use Rattle.lt_tag.specs.Values.{extensions_of, private_of}
 use Rattle.lt_registry.specs.Entries.{prefixes}
 use Rattle.lt_registry.specs.declared.entries.Kind.TheVariants as kinds

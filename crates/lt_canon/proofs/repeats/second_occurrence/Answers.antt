@@ -1,7 +1,7 @@
 use Rattle.std.proofs.Common.{sym, subst}
 use Rattle.lt_check.proofs.DistinctTests.{distinct_further}
 use Rattle.lt_canon.specs.Answers.{IsSecondOccurrence}
-use Rattle.lt_canon.proofs.SecondVariants.{second_here}
+use Rattle.lt_canon.proofs.Distinctness.{second_here}
 use Rattle.lt_canon.proofs.repeats.second_occurrence.Goals as goal
 
 pub returns-then-contains : goal.returns-then-contains

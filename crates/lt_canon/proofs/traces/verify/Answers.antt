@@ -1,10 +1,10 @@
-use Rattle.std.proofs.Common.{◌≡◌, sym, ◌∙◌, true≢false, rules}
+use Rattle.std.proofs.Common.{sym, ◌∙◌, true≢false, rules}
 use Rattle.std.proofs.lemmas.Result.{err_from_is_err_and}
 use Rattle.lt_tag.specs.OrderLaws.{same_exactly, tag_total, tags_apart}
 use Rattle.lt_registry.specs.Validity.{IsValid}
 use Rattle.lt_registry.proofs.ValidityLaws.{valid_law}
 use Rattle.lt_rewrite.specs.Labels.{IsTrace}
-use Rattle.lt_canon.specs.Traces.{IsValidTrace, IsTraceFault}
+use Rattle.lt_canon.specs.Traces.{IsTraceFault}
 use Rattle.lt_canon.specs.declared.traces.TraceFault.TheVariants as faults
 use Rattle.lt_canon.proofs.Tracing.{invalid_trace, follow_fault, fault_excludes}
 use Rattle.lt_canon.proofs.traces.verify.Goals as goal
