@@ -1,6 +1,6 @@
 -- A tag has one explanation: the first of the steps that lead on is one alone.
-use Rattle.std.proofs.Common.{◌≡◌, ℕ, ◌+◌, inl, inr, Bool, true, false, List, [], ◌∷◌, refl, sym, ap, ◌∙◌, subst, arith}
-use Rattle.std.specs.Prelude.{nat_eq, nat_le, if◌then◌else◌}
+use Rattle.std.proofs.Common.{◌≡◌, ℕ, ◌+◌, inl, inr, Bool, true, false, List, [], ◌∷◌, get_or, refl, sym, ap, ◌∙◌, subst, arith}
+use Rattle.std.specs.Prelude.{nat_le, if◌then◌else◌}
 use Rattle.lt_tag.specs.Parts.{TagForm}
 use Rattle.lt_registry.specs.Parts.{EntryParts}
 use Rattle.lt_rewrite.specs.Rewriting.{Rests}
@@ -14,16 +14,12 @@ use Rattle.lt_rewrite.specs.declared.steps.StepKind.TheVariants as steps
 use Rattle.lt_rewrite.proofs.StepLaws.{steps_determined}
 use Rattle.lt_canon.specs.Explaining.{is_of_source, rank_in, HasOneExplanation}
 
--- the kind of a rank, which is one of a step on a source from 14 to 19
+-- the kinds by their ranks, those of steps on a source after the others and before SwapFields
 kind_at : ℕ → StepKind
-kind_at n =
-    if nat_eq n 1 then steps.Extlang else (if nat_eq n 2 then steps.Language else (if nat_eq n 3 then steps.Script else (
-    if nat_eq n 4 then steps.Region else (if nat_eq n 5 then steps.Variant else (if nat_eq n 6 then steps.VariantLanguage else (
-    if nat_eq n 7 then steps.Whole else (if nat_eq n 8 then steps.SwapExtensions else (if nat_eq n 9 then steps.DropAttribute else (
-    if nat_eq n 10 then steps.SwapAttributes else (if nat_eq n 11 then steps.DropKeyword else (if nat_eq n 12 then steps.SwapKeywords else (
-    if nat_eq n 13 then steps.DropTrue else (if nat_eq n 14 then steps.Extlang else (if nat_eq n 15 then steps.Language else (
-    if nat_eq n 16 then steps.Script else (if nat_eq n 17 then steps.Region else (if nat_eq n 18 then steps.Variant else (
-    if nat_eq n 19 then steps.VariantLanguage else steps.SwapFields))))))))))))))))))
+kind_at n = get_or (
+    steps.Whole ∷ steps.Extlang ∷ steps.Language ∷ steps.Script ∷ steps.Region ∷ steps.Variant ∷ steps.VariantLanguage ∷ steps.Whole ∷
+    steps.SwapExtensions ∷ steps.DropAttribute ∷ steps.SwapAttributes ∷ steps.DropKeyword ∷ steps.SwapKeywords ∷ steps.DropTrue ∷
+    steps.Extlang ∷ steps.Language ∷ steps.Script ∷ steps.Region ∷ steps.Variant ∷ steps.VariantLanguage ∷ []) n steps.SwapFields
 
 -- the rank of a kind, on a source or elsewhere
 rank_on : Bool → StepKind → ℕ
@@ -32,33 +28,9 @@ rank_on source kind = if source then (if nat_le (rank_of kind) 6 then rank_of ki
 kind_back : (source : Bool) (kind : StepKind) → kind_at (rank_on source kind) ≡ kind
 unfolding kind_at rank_on
 kind_back true steps.Extlang = refl
-kind_back true steps.Language = refl
-kind_back true steps.Script = refl
-kind_back true steps.Region = refl
-kind_back true steps.Variant = refl
-kind_back true steps.VariantLanguage = refl
-kind_back true steps.Whole = refl
-kind_back true steps.SwapExtensions = refl
-kind_back true steps.DropAttribute = refl
-kind_back true steps.SwapAttributes = refl
-kind_back true steps.DropKeyword = refl
-kind_back true steps.SwapKeywords = refl
-kind_back true steps.DropTrue = refl
-kind_back true steps.SwapFields = refl
+kind_back true _ = refl
 kind_back false steps.Extlang = refl
-kind_back false steps.Language = refl
-kind_back false steps.Script = refl
-kind_back false steps.Region = refl
-kind_back false steps.Variant = refl
-kind_back false steps.VariantLanguage = refl
-kind_back false steps.Whole = refl
-kind_back false steps.SwapExtensions = refl
-kind_back false steps.DropAttribute = refl
-kind_back false steps.SwapAttributes = refl
-kind_back false steps.DropKeyword = refl
-kind_back false steps.SwapKeywords = refl
-kind_back false steps.DropTrue = refl
-kind_back false steps.SwapFields = refl
+kind_back false _ = refl
 
 -- so the rank of a step among the steps on a tag tells its kind
 rank_tells : (t : TagForm) (step : Step) → kind_at (rank_in t step) ≡ step.kind
