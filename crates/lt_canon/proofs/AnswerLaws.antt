@@ -1,11 +1,7 @@
 -- Canonical forms are their own, equal texts tell equivalent tags, and the extlang form goes back to the canonical one.
-use Rattle.std.proofs.Common.{◌≡◌, ℕ, ◌≤◌, Bool, true, false, ◌↔◌, IsTrue, List, [], ◌∷◌, Option, Some, None, refl, sym, ap, ◌∙◌, subst, length, cond}
-use Rattle.std.specs.Prelude.{is_some}
+use Rattle.std.proofs.Common.{◌≡◌, ℕ, ◌≤◌, Bool, ◌↔◌, IsTrue, List, [], Option, Some, None, refl, sym, ap, ◌∙◌, subst, length}
 use Rattle.std.specs.Ordering.{eq_by_cmp}
-use Rattle.std.proofs.lemmas.Bool.{leb-true}
-use Rattle.std.specs.Option.{option_map_or}
-use Rattle.lt_subtag.specs.Shapes.{is_language, is_extlang}
-use Rattle.lt_tag.specs.Parts.{CoreParts, ExtensionParts, TagForm, LangTag, PrivateUse, Grandfathered}
+use Rattle.lt_tag.specs.Parts.{CoreParts, TagForm, LangTag, PrivateUse, Grandfathered}
 use Rattle.lt_tag.specs.Spelling.{spell_core}
 use Rattle.lt_tag.specs.Values.{core_of, extensions_of, private_of}
 use Rattle.lt_tag.specs.WellFormed.{spell, IsTag, IsNotGrandfathered}
@@ -15,21 +11,17 @@ use Rattle.lt_tag.specs.OrderLaws.{same_exactly, tag_total, tags_apart}
 use Rattle.lt_tag.specs.Faults.{HasTag}
 use Rattle.lt_tag.proofs.OneTagLemmas.{one_tag_of_text, read_again, same_text}
 use Rattle.lt_registry.specs.Parts.{EntryParts}
-use Rattle.lt_registry.specs.Entries.{entry, prefixes, is_short}
+use Rattle.lt_registry.specs.Entries.{prefixes}
 use Rattle.lt_registry.specs.Validity.{IsProper}
 use Rattle.lt_registry.specs.declared.entries.Kind.TheVariants as kinds
 use Rattle.lt_rewrite.specs.Rewriting.{Rests}
 use Rattle.lt_rewrite.specs.TagSteps.{TagStep, IsCanonical}
-use Rattle.lt_rewrite.proofs.Entries.{prefixes_at}
-use Rattle.lt_rewrite.proofs.Forms.{ExtlangEntry, extlang_entry}
-use Rattle.lt_rewrite.proofs.NameForms as names
 use Rattle.lt_check.specs.Conditions.{IsChecked}
 use Rattle.lt_canon.specs.Answers.{IsCanonicalFormOf}
 use Rattle.lt_canon.specs.Equivalence.{IsEquivalenceAnswer}
 use Rattle.lt_canon.specs.ExtlangForm.{prefix_of, behind, extlang_form, IsExtlangFormOf}
 use Rattle.lt_canon.specs.Corollaries.{EquivalenceIsEquality}
 use Rattle.lt_canon.specs.Laws.{EquivalenceIsEqualText, CanonicalTwiceIsOnce, CanonicalTextTwiceIsOnce}
-use Rattle.lt_check.proofs.Checks.{core_conditions}
 use Rattle.lt_canon.proofs.TagRepeats.{end_canonical, form_is_end}
 use Rattle.lt_canon.proofs.ExtlangForms.{no_extlang, forms_lead_back}
 use Rattle.lt_rewrite.proofs.ProperTags.{proper_parts}
@@ -42,12 +34,6 @@ use Rattle.lt_tag.specs.Lists.{longest_text}
 -- the text of a tag
 abbrev text_of : TagForm → List ℕ
 text_of t = conventional (spell t)
-
--- the Prefix of a language as an extlang, and the language, have their forms
-pub record IsFittingPrefix (l p : List ℕ) : Type 0 where
-  pub prefix : is_language p ≡ true
-  pub short : length p ≤ 3
-  pub extlang : is_extlang l ≡ true
 
 is_tag : (R : List EntryParts) (t c : TagForm) → IsCanonicalFormOf R t c → IsTag c
 is_tag R t c h = h.canonical.valid.proper.tag.tag
@@ -109,38 +95,15 @@ module _ (R : List EntryParts) (C : IsChecked R) where
       let back : IsCanonicalFormOf R (extlang_form R c) c = end_canonical R C (extlang_form R c) c L.valid (reached_is_end (end_form R C) (extlang_form R c) c L.valid.proper L.reached h.canonical.at_rest) h.canonical.valid.distinct in
       subst (IsExtlangFormOf R t) (sym e) (record { canonical = c; canonical_form = h; is = refl; valid = L.valid; back = back })
 
-  prefix_short : (l p : List ℕ) (x : ExtlangEntry R l) (b : Bool) → is_short x.fits.prefix ≡ b → cond b (Some x.fits.prefix) None ≡ Some p → IsFittingPrefix l p
-  prefix_short l p x true s e =
-      let same : x.fits.prefix ≡ p = cc in
-      record {
-        prefix = subst (λ q. is_language q ≡ true) same (names.language_form R C.registry x.fits.prefix x.fits.final_prefix.registered);
-        short = subst (λ q. length q ≤ 3) same (leb-true (length x.fits.prefix) 3 s);
-        extlang = names.extlang_form R C.registry l x;
-      }
-  prefix_short l p x false s e = cc
-
-  prefix_at : (l p : List ℕ) (o : Option EntryParts) → entry R kinds.Extlang l ≡ o → prefix_of (prefixes R kinds.Extlang l) ≡ Some p → IsFittingPrefix l p
-  prefix_at l p None h e = let none : prefix_of (prefixes R kinds.Extlang l) ≡ None = ap (λ o. prefix_of (option_map_or (λ (e : EntryParts). e.prefixes) o [])) h in cc
-  prefix_at l p (Some at) h e =
-      let x : ExtlangEntry R l = extlang_entry R (core_conditions R C.passes) l (ap is_some h) in
-      let found : prefixes R kinds.Extlang l ≡ (x.fits.prefix ∷ []) ∷ [] = prefixes_at R kinds.Extlang l x.at x.found ∙ x.fits.one_prefix in
-      prefix_short l p x (is_short x.fits.prefix) refl (sym (ap prefix_of found) ∙ e)
-
-  pub fitting_prefix : (l p : List ℕ) → prefix_of (prefixes R kinds.Extlang l) ≡ Some p → IsFittingPrefix l p
-  fitting_prefix l p e = prefix_at l p (entry R kinds.Extlang l) refl e
-
 -- a tag without a core is its own extlang form
 pub coreless_extlang : (R : List EntryParts) (c : TagForm) → core_of c ≡ None → c ≡ extlang_form R c
 coreless_extlang R (LangTag d es ps) h = cc
 coreless_extlang R (PrivateUse ps) h = refl
 coreless_extlang R (Grandfathered n) h = refl
 
--- so is one whose language has no Prefix
-pub bare_extlang : (R : List EntryParts) (c : TagForm) (d : CoreParts) (es : List ExtensionParts) (ps : List (List ℕ)) → c ≡ LangTag d es ps → prefix_of (prefixes R kinds.Extlang d.language) ≡ None → c ≡ extlang_form R c
-bare_extlang R c d es ps e h = e ∙ sym (ap (λ o. LangTag (behind o d) es ps) h) ∙ sym (ap (extlang_form R) e)
-
-pub fronted_extlang : (R : List EntryParts) (c : TagForm) (d : CoreParts) (p : List ℕ) (es : List ExtensionParts) (ps : List (List ℕ)) → c ≡ LangTag d es ps → prefix_of (prefixes R kinds.Extlang d.language) ≡ Some p → LangTag (record d { language = p; extlangs = d.language ∷ [] }) es ps ≡ extlang_form R c
-fronted_extlang R c d p es ps e h = sym (ap (λ o. LangTag (behind o d) es ps) h) ∙ sym (ap (extlang_form R) e)
+-- that of a langtag, by the Prefix of its language
+pub extlang_form_is : (R : List EntryParts) (c : TagForm) (d : CoreParts) (o : Option (List ℕ)) → core_of c ≡ Some d → prefix_of (prefixes R kinds.Extlang d.language) ≡ o → extlang_form R c ≡ LangTag (behind o d) (extensions_of c) (private_of c)
+extlang_form_is R c d o h k = ap (extlang_form R) (langtag_of c d h) ∙ ap (λ x. LangTag (behind x d) (extensions_of c) (private_of c)) k
 
 module _ (R : List EntryParts) (C : IsChecked R) where
   pub no_extlang_there : (c : TagForm) (d : CoreParts) → IsCanonical R c → core_of c ≡ Some d → d.extlangs ≡ []
@@ -149,10 +112,7 @@ module _ (R : List EntryParts) (C : IsChecked R) where
       no_extlang R C d (extensions_of c) (private_of c) (subst (IsProper R) e K.valid.proper) (subst (Rests (TagStep R)) e K.at_rest) d.extlangs refl
 
   -- the Prefix in front spells no grandfathered tag
-  pub front_spells_none : (c : TagForm) (d y : CoreParts) (p : List ℕ) → IsCanonical R c → core_of c ≡ Some d → prefix_of (prefixes R kinds.Extlang d.language) ≡ Some p → y ≡ record d { language = p; extlangs = d.language ∷ [] } → IsNotGrandfathered (spell_core y)
-  front_spells_none c d y p K h k e =
-      let es = extensions_of c in
-      let ps = private_of c in
-      let x : CoreParts = record d { language = p; extlangs = d.language ∷ [] } in
-      let P : IsProper R (LangTag x es ps) = subst (IsProper R) (sym (fronted_extlang R c d p es ps (langtag_of c d h) k)) (forms_lead_back R C c K).valid.proper in
-      subst (λ z. IsNotGrandfathered (spell_core z)) (sym e) (core_spells_none R C x (proper_parts R x es ps P).core)
+  pub front_spells_none : (c : TagForm) (d : CoreParts) (p : List ℕ) → IsCanonical R c → core_of c ≡ Some d → prefix_of (prefixes R kinds.Extlang d.language) ≡ Some p → IsNotGrandfathered (spell_core (behind (Some p) d))
+  front_spells_none c d p K h k =
+      let P = subst (IsProper R) (extlang_form_is R c d (Some p) h k) (forms_lead_back R C c K).valid.proper in
+      core_spells_none R C (behind (Some p) d) (proper_parts R (behind (Some p) d) (extensions_of c) (private_of c) P).core

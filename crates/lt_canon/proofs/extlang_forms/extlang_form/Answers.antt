@@ -1,12 +1,12 @@
-use Rattle.std.proofs.Common.{◌≡◌, inl, [], ◌∷◌, Some, sym}
+use Rattle.std.proofs.Common.{◌≡◌, None, ◌∙◌, inl, [], ◌∷◌, Some, sym}
 use Rattle.std.proofs.lemmas.Result.{err_from_is_err_and}
 use Rattle.lt_tag.specs.Parts.{CoreParts}
-use Rattle.lt_tag.specs.Values.{extensions_of, private_of}
 use Rattle.lt_registry.specs.Entries.{prefixes}
 use Rattle.lt_registry.specs.declared.entries.Kind.TheVariants as kinds
 use Rattle.lt_canon.specs.ExtlangForm.{prefix_of}
 use Rattle.lt_canon.proofs.CanonicalForms.{langtag_of}
-use Rattle.lt_canon.proofs.AnswerLaws.{IsFittingPrefix, extlang_answer, fitting_prefix, coreless_extlang, bare_extlang, fronted_extlang, no_extlang_there, front_spells_none}
+use Rattle.lt_canon.proofs.AnswerLaws.{extlang_answer, coreless_extlang, extlang_form_is, no_extlang_there, front_spells_none}
+use Rattle.lt_canon.proofs.ExtlangForms.{IsFittingPrefix, fitting_prefix}
 use Rattle.lt_canon.proofs.Refused.{refused}
 use Rattle.lt_canon.proofs.extlang_forms.extlang_form.Goals as goal
 use Rattle.lt_canon.proofs.extlang_forms.extlang_form.Goals.{In-Some-extlang_prefix, After-set_extlang}
@@ -14,7 +14,7 @@ use Rattle.lt_canon.proofs.extlang_forms.extlang_form.Goals.{In-Some-extlang_pre
 found : (g : _) (c : In-Some-extlang_prefix g) → prefix_of (prefixes (g.L.Lookup.listed c.args.checked.now) kinds.Extlang c.in-Some.canonical_core.now.language) ≡ Some c.in-Some-extlang_prefix.prefix.now
 found g c = rw (← c.table-table.ensures.value, ← c.language.ensures.value) (sym c.in-Some-extlang_prefix.ensures)
 
-fitting : (g : _) (c : In-Some-extlang_prefix g) → IsFittingPrefix c.in-Some.canonical_core.now.language c.in-Some-extlang_prefix.prefix.now
+fitting : (g : _) (c : In-Some-extlang_prefix g) → IsFittingPrefix (g.L.Lookup.listed c.args.checked.now) c.in-Some.canonical_core.now.language c.in-Some-extlang_prefix.prefix.now
 fitting g c = fitting_prefix (g.L.Lookup.listed c.args.checked.now) c.table-table.ensures.checked c.in-Some.canonical_core.now.language c.in-Some-extlang_prefix.prefix.now (found g c)
 
 -- the core with the Prefix in front
@@ -40,8 +40,8 @@ returns-in_default-extlang_prefix-clause-form g c =
     let form = c.in_ok-form.form in
     let d : CoreParts = c.in-Some.canonical_core.now in
     extlang_answer R c.table-table.ensures.checked c.args.tag.now form form (c.in_ok-form.ensures {u = tt}).ok
-    (bare_extlang R form d (extensions_of form) (private_of form) (langtag_of form d (sym c.in-Some.ensures.value))
-    (rw (← c.table-table.ensures.value, ← c.language.ensures.value) (sym c.in_default-extlang_prefix.ensures)))
+    (langtag_of form d (sym c.in-Some.ensures.value)
+    ∙ sym (extlang_form_is R form d None (sym c.in-Some.ensures.value) (rw (← c.table-table.ensures.value, ← c.language.ensures.value) (sym c.in_default-extlang_prefix.ensures))))
 
 pub set_language-requires : goal.set_language-requires
 set_language-requires g c =
@@ -61,13 +61,12 @@ pub from_parts-requires-clause-not_grandfathered :
     goal.from_parts-requires-clause-not_grandfathered
 from_parts-requires-clause-not_grandfathered g c =
     let at = goal.at.from_parts-requires-clause-not_grandfathered g c in
-    inl (front_spells_none (g.L.Lookup.listed c.args.checked.now) c.table-table.ensures.checked c.in_ok-form.form c.in-Some.canonical_core.now c.set_extlang.new.self c.in-Some-extlang_prefix.prefix.now (c.in_ok-form.ensures {u = tt}).ok.canonical (sym c.in-Some.ensures.value) (found g at.In-Some-extlang_prefix) (fronted g at.After-set_extlang))
+    inl (rw (fronted g at.After-set_extlang) (front_spells_none (g.L.Lookup.listed c.args.checked.now) c.table-table.ensures.checked c.in_ok-form.form c.in-Some.canonical_core.now c.in-Some-extlang_prefix.prefix.now (c.in_ok-form.ensures {u = tt}).ok.canonical (sym c.in-Some.ensures.value) (found g at.In-Some-extlang_prefix)))
 
 pub returns-clause-form : goal.returns-clause-form
 returns-clause-form g c =
     let at = goal.at.returns-clause-form g c in
     let form = c.in_ok-form.form in
-    let d : CoreParts = c.in-Some.canonical_core.now in
     extlang_answer (g.L.Lookup.listed c.args.checked.now) c.table-table.ensures.checked c.args.tag.now form c.from_parts.result (c.in_ok-form.ensures {u = tt}).ok
     (rw (c.from_parts.ensures, fronted g at.After-set_extlang, c.in_ok-extensions.ensures {u = tt}, c.extensions.ensures.value, c.in_ok-private.ensures {u = tt}, c.private.ensures.value)
-    (fronted_extlang (g.L.Lookup.listed c.args.checked.now) form d c.in-Some-extlang_prefix.prefix.now (extensions_of form) (private_of form) (langtag_of form d (sym c.in-Some.ensures.value)) (found g at.In-Some-extlang_prefix)))
+    (sym (extlang_form_is (g.L.Lookup.listed c.args.checked.now) form c.in-Some.canonical_core.now (Some c.in-Some-extlang_prefix.prefix.now) (sym c.in-Some.ensures.value) (found g at.In-Some-extlang_prefix))))
