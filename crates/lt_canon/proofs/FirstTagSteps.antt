@@ -1,7 +1,7 @@
 -- The first step on a core, on a whole tag and on extensions is the first on the tag, where none comes before it.
 use Rattle.std.proofs.Common.{◌≡◌, ℕ, ◌+◌, ◌<◌, ◌≤◌, inl, inr, ◌&&◌, Bool, true, false, Ordering, List, [], ◌∷◌, refl, sym, ap, ◌∙◌, subst, length, arith}
 use Rattle.std.specs.Prelude.{nat_le, if◌then◌else◌}
-use Rattle.std.proofs.lemmas.Bool.{lt-leb, le-leb, leb-true}
+use Rattle.std.proofs.lemmas.Bool.Decides.{nat_tests}
 use Rattle.lt_tag.specs.Parts.{CoreParts, ExtensionParts, UForm, TForm, TagForm, LangTag, PrivateUse, Grandfathered}
 use Rattle.lt_tag.specs.Spelling.{spell_core, spell_extension, spell_extensions}
 use Rattle.lt_tag.specs.Extensions.{spell_keyword, spell_field}
@@ -33,12 +33,8 @@ record IsBehind (start : ℕ) (step : Step) : Type 0 where
   pub late : 8 ≤ extension_rank step
   pub behind : kind_rank step ≤ 6 → start < step.place
 
-late_rank : (b : Bool) (n : ℕ) → 8 ≤ n → 8 ≤ (if b then n + 13 else n)
-late_rank true n h = omega arith
-late_rank false n h = h
-
 by_kind : (start : ℕ) (step : Step) → 8 ≤ kind_rank step → IsBehind start step
-by_kind start step h = record { late = late_rank (nat_le (kind_rank step) 6) (kind_rank step) h; behind = λ k. absurd (omega (arith, h, k)) }
+by_kind start step h = record { late = grind (arith, nat_tests); behind = λ k. absurd (omega (arith, h, k)) }
 
 source_behind : (R : List EntryParts) (start place : ℕ) (c d : CoreParts) (s : CoreStep (values_of R) c d) → start ≤ place → IsBehind start (core_label R place s)
 source_behind R start place c d s h =
@@ -68,27 +64,11 @@ extensions_behind R start es fs (among s) = list_behind steps.SwapExtensions ste
 
 -- the ranks in a tag
 
-chosen_rank : (b a : Bool) (n : ℕ) → (b ≡ true → a ≡ true) → (if b && a then (if b then n + 13 else n) else n) ≡ (if b then n + 13 else n)
-chosen_rank true a n h = ap (λ x. if x then n + 13 else n) (h refl)
-chosen_rank false a n h = refl
-
-own_rank : (b a : Bool) (n m : ℕ) → a ≡ false → (if b && a then m else n) ≡ n
-own_rank true a n m h = ap (λ x. if x then m else n) h
-own_rank false a n m h = refl
-
 behind_rank : (c : CoreParts) (es : List ExtensionParts) (ps : List (List ℕ)) (step : Step) → IsBehind (length (spell_core c)) step → rank_in (LangTag c es ps) step ≡ extension_rank step
-behind_rank c es ps step h =
-    chosen_rank (nat_le (kind_rank step) 6) (nat_le (length (spell_core c) + 1) step.place) (kind_rank step)
-    (λ k. let low = h.behind (leb-true (kind_rank step) 6 k) in le-leb (length (spell_core c) + 1) step.place (omega (arith, low)))
+behind_rank c es ps step h = grind (arith, nat_tests, h.behind)
 
 before_rank : (c : CoreParts) (es : List ExtensionParts) (ps : List (List ℕ)) (step : Step) → step.place ≤ length (spell_core c) → rank_in (LangTag c es ps) step ≡ kind_rank step
-before_rank c es ps step h =
-    own_rank (nat_le (kind_rank step) 6) (nat_le (length (spell_core c) + 1) step.place) (kind_rank step) (extension_rank step) (lt-leb (length (spell_core c) + 1) step.place (omega (arith, h)))
-
-whole_rank : (t : TagForm) (number : ℕ) → rank_in t (step_at steps.Whole 1 number) ≡ 7
-whole_rank (LangTag c es ps) number = refl
-whole_rank (PrivateUse ps) number = refl
-whole_rank (Grandfathered n) number = refl
+before_rank c es ps step h = grind (arith, nat_tests)
 
 -- a step that comes no later by one rank, by another that is the same on both
 no_later_by : (rank order : Step → ℕ) (a b : Step) → order a ≡ rank a → order b ≡ rank b → IsNoLater rank a b → IsNoLater order a b
@@ -118,14 +98,11 @@ module _ (R : List EntryParts) (c : CoreParts) (es : List ExtensionParts) (ps : 
     whole_leads : CanBeReplacedWhole here → step ≡ step_at steps.Whole 1 (number_of (whole R here)) → Leads step
 
   leads_by : (step : Step) (u : TagForm) (s : TagChange R here u) → tag_label R s ≡ step → Leads step
-  leads_by step u (on_core b d fs qs from _ s) h =
-      let same : b ≡ c = let a = ap core_of from in cc in
-      core_leads d (subst (λ x. CoreLeads R 0 x step d) same (s, h))
+  leads_by step u (on_core b d fs qs from _ s) h = let same : b ≡ c = cc in core_leads d (subst (λ x. CoreLeads R 0 x step d) same (s, h))
   leads_by step u (on_extensions b gs fs qs from _ s) h =
-      let same : LangTag b gs qs ≡ here = sym from in
       let one : b ≡ c = cc in
       let all : gs ≡ es = cc in
-      extensions_lead fs (subst (λ x. ExtensionsLeads R (length (spell_core x)) es step fs) one (subst (λ x. ExtensionsLeads R (length (spell_core b)) x step fs) all (s, h)))
+      extensions_lead fs (rw (← one, ← all) (s, h))
   leads_by step u (on_whole is_plain _) h = whole_leads is_plain (sym h)
 
   module _ (C : IsChecked R) where
@@ -138,7 +115,7 @@ module _ (R : List EntryParts) (c : CoreParts) (es : List ExtensionParts) (ps : 
         inl (omega (arith, a.0, a.1, b.0, b.1))
     core_before step d other h (whole_leads p e) =
         let a = core_leads_rank step d h.leads in
-        let b = ap (rank_in here) e ∙ whole_rank here (number_of (whole R here)) in
+        let b : rank_in here other ≡ 7 = ap (rank_in here) e in
         inl (omega (arith, a.0, a.1, b))
 
     -- the first on the core is the first of all
