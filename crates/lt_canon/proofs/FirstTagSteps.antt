@@ -70,11 +70,6 @@ behind_rank c es ps step h = grind (arith, nat_tests, h.behind)
 before_rank : (c : CoreParts) (es : List ExtensionParts) (ps : List (List ℕ)) (step : Step) → step.place ≤ length (spell_core c) → rank_in (LangTag c es ps) step ≡ kind_rank step
 before_rank c es ps step h = grind (arith, nat_tests)
 
--- a step that comes no later by one rank, by another that is the same on both
-no_later_by : (rank order : Step → ℕ) (a b : Step) → order a ≡ rank a → order b ≡ rank b → IsNoLater rank a b → IsNoLater order a b
-no_later_by rank order a b e f (inl h) = inl (omega (arith, e, f, h))
-no_later_by rank order a b e f (inr h) = inr (e ∙ h.0 ∙ sym f, h.1)
-
 module _ (R : List EntryParts) (c : CoreParts) (es : List ExtensionParts) (ps : List (List ℕ)) where
   abbrev here : TagForm
   here = LangTag c es ps
@@ -108,7 +103,7 @@ module _ (R : List EntryParts) (c : CoreParts) (es : List ExtensionParts) (ps : 
   module _ (C : IsChecked R) where
     core_before : (step : Step) (d : CoreParts) (other : Step) → IsFirst (CoreLeads R 0 c) kind_rank step d → Leads other → IsNoLater (rank_in here) step other
     core_before step d other h (core_leads e l) =
-        no_later_by kind_rank (rank_in here) step other (core_leads_rank step d h.leads).0 (core_leads_rank other e l).0 (h.first other e l)
+        rw ((core_leads_rank step d h.leads).0, (core_leads_rank other e l).0) (h.first other e l)
     core_before step d other h (extensions_lead fs l) =
         let a = core_leads_rank step d h.leads in
         let b = extensions_lead_rank other fs l in
@@ -131,7 +126,7 @@ module _ (R : List EntryParts) (c : CoreParts) (es : List ExtensionParts) (ps : 
     extensions_before : (step : Step) (fs : List ExtensionParts) (other : Step) → NoneLeads (CoreLeads R 0 c) → IsFirst (ExtensionsLeads R (length (spell_core c)) es) extension_rank step fs → Leads other → IsNoLater (rank_in here) step other
     extensions_before step fs other none h (core_leads d l) = absurd (none other d l)
     extensions_before step fs other none h (extensions_lead gs l) =
-        no_later_by extension_rank (rank_in here) step other (extensions_lead_rank step fs h.leads).0 (extensions_lead_rank other gs l).0 (h.first other gs l)
+        rw ((extensions_lead_rank step fs h.leads).0, (extensions_lead_rank other gs l).0) (h.first other gs l)
     extensions_before step fs other none h (whole_leads p e) = absurd (extensions_step_from R es fs h.leads.0 p.0)
 
     -- where no step on the core is left, the first on the extensions is

@@ -1,5 +1,6 @@
 -- The end form of a tag: each step keeps it, each proper tag reaches it, and no step leads from it.
 use Rattle.std.proofs.Common.{◌≡◌, ◌≢◌, ℕ, ◌⊎◌, inl, inr, Bool, true, false, List, [], ◌∷◌, ◌++◌, Option, Some, None, refl, sym, ap, ◌∙◌, subst, All}
+use Rattle.std.proofs.lemmas.Bool.{cases_Bool}
 use Rattle.lt_tag.specs.Parts.{CoreParts, ExtensionParts, TagForm, LangTag, PrivateUse, Grandfathered}
 use Rattle.lt_registry.specs.Parts.{EntryParts}
 use Rattle.lt_registry.specs.Entries.{tag_of, whole_value}
@@ -38,14 +39,6 @@ extensions_step_from R es fs (among (by_drop before a between b after o s)) h = 
 pub extensions_step_to : (R : List EntryParts) (es fs : List ExtensionParts) → ExtensionsStep R es fs → fs ≢ []
 extensions_step_to R es fs (inside before e f after w s) h = empty_middle before f after (sym w.result ∙ h)
 extensions_step_to R es fs (among s) h = step_some es fs s h
-
--- cores that are equal, or not
-same_or_not : (c d : CoreParts) → (c ≡ d) ⊎ (c ≢ d)
-same_or_not c d = by (same_core c d) refl
-  where
-    by : (b : Bool) → same_core c d ≡ b → (c ≡ d) ⊎ (c ≢ d)
-    by true e = inl ((same_core-Decides c d).0 e)
-    by false e = inr (λ h. let t : same_core c d ≡ true = (same_core-Decides c d).1 h in cc)
 
 module _ (R : List EntryParts) (C : IsChecked R) where
   abbrev pub core_end : CoreParts → CoreParts
@@ -112,20 +105,15 @@ module _ (R : List EntryParts) (C : IsChecked R) where
 
   -- a core that is a whole record with a value: its own end is that of its value
   plain_kept : (c q : CoreParts) → whole_value R (core_alone c) ≡ Some (core_alone q) → whole_end (core_alone (core_end c)) ≡ core_alone (core_end q)
-  plain_kept c q e = by (same_or_not (core_end c) c)
-    where
-      agree : core_end c ≢ c → (core_end c ≡ core_end q) ⊎ ((r : CoreParts) × (whole_value R (core_alone (core_end c)) ≡ Some (core_alone r)) × IsCoreNormalForm (values_of R) r (core_end q))
-      agree n =
-          let w = valued_whole R (core_alone c) (core_alone q) e in
-          whole_has R (core_alone c) (core_alone q) (HasAgreeingWhole R) (C.passes.agreeing_whole) w (core_alone c) (core_alone q) w.named w.gives c (core_end c) q (core_end q) refl refl (core_normal c) n (core_normal q)
-
-      then_by : (core_end c ≡ core_end q) ⊎ ((r : CoreParts) × (whole_value R (core_alone (core_end c)) ≡ Some (core_alone r)) × IsCoreNormalForm (values_of R) r (core_end q)) → whole_end (core_alone (core_end c)) ≡ core_alone (core_end q)
-      then_by (inl s) = ap (λ d. whole_end (core_alone d)) s ∙ whole_end_none (core_alone (core_end q)) (value_rests (core_alone c) q e)
-      then_by (inr k) = whole_end_some (core_alone (core_end c)) (core_alone k.0) k.1 ∙ ap core_alone (normal_is_form cores_formed k.0 (core_end q) k.2)
-
-      by : (core_end c ≡ c) ⊎ (core_end c ≢ c) → whole_end (core_alone (core_end c)) ≡ core_alone (core_end q)
-      by (inl s) = whole_end_some (core_alone (core_end c)) (core_alone q) (ap (λ d. whole_value R (core_alone d)) s ∙ e)
-      by (inr n) = then_by (agree n)
+  plain_kept c q e = elim (cases_Bool (same_core (core_end c) c)) [
+    | inl t ↦ whole_end_some (core_alone (core_end c)) (core_alone q) (ap (λ d. whole_value R (core_alone d)) ((same_core-Decides (core_end c) c).0 t) ∙ e)
+    | inr f ↦ let w = valued_whole R (core_alone c) (core_alone q) e in
+        elim (whole_has R (core_alone c) (core_alone q) (HasAgreeingWhole R) C.passes.agreeing_whole w (core_alone c) (core_alone q) w.named w.gives c (core_end c) q (core_end q) refl refl (core_normal c)
+            (λ h. let t : same_core (core_end c) c ≡ true = (same_core-Decides (core_end c) c).1 h in cc) (core_normal q)) [
+          | inl s ↦ ap (λ d. whole_end (core_alone d)) s ∙ whole_end_none (core_alone (core_end q)) (value_rests (core_alone c) q e)
+          | inr k ↦ whole_end_some (core_alone (core_end c)) (core_alone k.0) k.1 ∙ ap core_alone (normal_is_form cores_formed k.0 (core_end q) k.2)
+        ]
+  ]
 
   pub whole_kept_at : (t : TagForm) (q : CoreParts) → CanBeReplacedWhole t → whole_value R t ≡ Some (core_alone q) → tag_end t ≡ tag_end (core_alone q)
   whole_kept_at (Grandfathered n) q h e = whole_end_some (Grandfathered n) (core_alone q) e ∙ sym (value_end_is (Grandfathered n) q e)

@@ -19,42 +19,24 @@ pub record IsLangAtEnd (R : List EntryParts) (d : CoreParts) (es : List Extensio
   pub extensions : Rests (ExtensionsStep R) es
   pub whole : es ≡ [] → ps ≡ [] → whole_value R (core_alone d) ≡ None
 
-lang_core : TagForm → CoreParts → CoreParts
-lang_core (LangTag c es ps) d = c
-lang_core (PrivateUse ps) d = d
-lang_core (Grandfathered n) d = d
-
-lang_extensions : TagForm → List ExtensionParts
-lang_extensions (LangTag c es ps) = es
-lang_extensions (PrivateUse ps) = []
-lang_extensions (Grandfathered n) = []
-
 pub lang_at_end : (R : List EntryParts) (d : CoreParts) (es : List ExtensionParts) (ps : List (List ℕ)) → IsLangAtEnd R d es ps → (u : TagForm) → TagChange R (LangTag d es ps) u → ⊥
-unfolding lang_core lang_extensions
-lang_at_end R d es ps E u (on_core c c' fs qs from _ s) =
-    let same : c ≡ d = sym (ap (λ t. lang_core t d) from) in
-    E.core c' (subst (λ x. CoreStep (values_of R) x c') same s)
-lang_at_end R d es ps E u (on_extensions c es' fs qs from _ s) =
-    let same : es' ≡ es = sym (ap lang_extensions from) in
-    E.extensions fs (subst (λ x. ExtensionsStep R x fs) same s)
+lang_at_end R d es ps E u (on_core c c' fs qs from _ s) = let same : c ≡ d = cc in E.core c' (subst (λ x. CoreStep (values_of R) x c') same s)
+lang_at_end R d es ps E u (on_extensions c es' fs qs from _ s) = let same : es' ≡ es = cc in E.extensions fs (subst (λ x. ExtensionsStep R x fs) same s)
 lang_at_end R d es ps E u (on_whole is_plain has) =
-    let n : whole_value R (core_alone d) ≡ None = E.whole is_plain.0 is_plain.1 in
-    let same : LangTag d es ps ≡ core_alone d = λ i. LangTag d (is_plain.0 i) (is_plain.1 i) in
-    let m : whole_value R (LangTag d es ps) ≡ None = ap (whole_value R) same ∙ n in
-    let k = has in
+    let none : whole_value R (LangTag d es ps) ≡ None = ap (whole_value R) (λ i. LangTag d (is_plain.0 i) (is_plain.1 i)) ∙ E.whole is_plain.0 is_plain.1 in
     cc
 
 abbrev pub NoChange : List EntryParts → TagForm → Type 0
 NoChange R t = (u : TagForm) → TagChange R t u → ⊥
 
 pub grandfathered_rests : (R : List EntryParts) (n : ℕ) → whole_value R (Grandfathered n) ≡ None → NoChange R (Grandfathered n)
-grandfathered_rests R n h u (on_core c c' es ps from _ _) = let a = from in cc
-grandfathered_rests R n h u (on_extensions c es fs ps from _ _) = let a = from in cc
-grandfathered_rests R n h u (on_whole _ has) = let a = has in cc
+grandfathered_rests R n h u (on_core c c' es ps from _ _) = cc
+grandfathered_rests R n h u (on_extensions c es fs ps from _ _) = cc
+grandfathered_rests R n h u (on_whole _ has) = cc
 
 pub private_rests : (R : List EntryParts) (ps : List (List ℕ)) → NoChange R (PrivateUse ps)
-private_rests R ps u (on_core c c' es qs from _ _) = let a = from in cc
-private_rests R ps u (on_extensions c es fs qs from _ _) = let a = from in cc
+private_rests R ps u (on_core c c' es qs from _ _) = cc
+private_rests R ps u (on_extensions c es fs qs from _ _) = cc
 private_rests R ps u (on_whole is_plain _) = is_plain
 
 pub none_rests : (R : List EntryParts) → Rests (ExtensionsStep R) []
@@ -64,15 +46,11 @@ module _ (R : List EntryParts) (C : IsChecked R) where
   plain_end : (c : CoreParts) → whole_value R (core_alone (core_end R C c)) ≡ None → NoChange R (core_alone (core_end R C c))
   plain_end c n = lang_at_end R (core_end R C c) [] [] (record { core = (cores_formed R C).rests c; extensions = none_rests R; whole = λ _ _. n })
 
-  value_rests_at : (t u : TagForm) → whole_value R t ≡ Some u → NoChange R (value_end R C u)
-  value_rests_at t u e =
-      let v = value_plain R C t u e in
-      let e' : whole_value R t ≡ Some (core_alone v.core) = e ∙ ap Some v.is in
-      subst (λ x. NoChange R (value_end R C x)) (sym v.is) (plain_end v.core (value_rests R C t v.core e'))
-
   whole_rests_at : (t : TagForm) → (whole_value R t ≡ None → NoChange R t) → (o : Option TagForm) → whole_value R t ≡ o → NoChange R (or_value t (value_end R C) o)
   whole_rests_at t h None e = h e
-  whole_rests_at t h (Some u) e = value_rests_at t u e
+  whole_rests_at t h (Some u) e =
+      let v = value_plain R C t u e in
+      rw v.is (plain_end v.core (value_rests R C t v.core (e ∙ ap Some v.is)))
 
   pub some_end : (es : List ExtensionParts) → es ≢ [] → extensions_end R C es ≢ []
   some_end es n = star_keeps (λ l. l ≢ []) (λ a b s _. extensions_step_to R a b s) ((extensions_end_formed R C).reached es) n
