@@ -34,11 +34,6 @@ use Rattle.lt_canon.proofs.TagRepeats.{form_is_end}
 use Rattle.lt_canon.proofs.CanonicalForms.{langtag_of, transforms_have_parts, form_some}
 use Rattle.lt_canon.proofs.FirstTagSteps.{core_is_first, extensions_is_first}
 
--- what holds of an answer, from a fact of it
-pub if_ok : {A E : Type 0} (P Q : A → Type 0) (r : Result A E) → ((a : A) → P a → Q a) → IfOk r P → IfOk r Q
-if_ok P Q (Ok a) f h = f a h
-if_ok P Q (Err e) f h = h
-
 -- what a reader shows where it has an answer, and where it has none
 pub some_by : {A : Type 0} (o : Option A) (N : Type 0) (S : A → Type 0) → MatchOption o N S → true ≡ is_some o → (a : A) × S a
 some_by None N S h e = cc
@@ -121,9 +116,6 @@ module _ (R : List EntryParts) where
     pub rests : (t : TagForm) (old : List Step) → Rests (TagStep R) t → LeadsToRest R t old old
     rests t old h = record { end = t; adds = adds_none (LeadsBy R) rank_in t old; at_rest = h }
 
-    pub private_use_rests : (ps : List (List ℕ)) (old : List Step) → LeadsToRest R (PrivateUse ps) old old
-    private_use_rests ps old = rests (PrivateUse ps) old (λ u s. private_rests R ps u s.change)
-
     -- the value of a whole tag, and the steps on its core
     pub value_rests_by : (t : TagForm) (core form : CoreParts) (step : Step) (old mid new : List Step) → IsProper R t → CanBeReplacedWhole t → RestsOnCore R t → whole_value R t ≡ Some (core_alone core) → step ≡ step_at steps.Whole 1 (number_of (whole R t)) → mid ≡ old ++ step ∷ [] → AddsOnCore R 0 core form mid new → NoneLeads (CoreLeads R 0 form) → LeadsToRest R t old new
     value_rests_by t core form step old mid new P h k v e m a none =
@@ -131,7 +123,7 @@ module _ (R : List EntryParts) where
         let normal : IsCoreNormalForm (values_of R) core form = record { reached = core_reached core form mid new a; at_rest = core_rests form none } in
         let same : core_end R C core ≡ form = normal_is_form (cores_formed R C) core form normal in
         let valueless : whole_value R (core_alone form) ≡ None = ap (λ c. whole_value R (core_alone c)) (sym same) ∙ value_rests R C t core v in
-        let on : RestsOnCore R (core_alone form) = λ c i. let j : form ≡ c = cc in subst (λ x. NoneLeads (CoreLeads R 0 x)) j none in
+        let on : RestsOnCore R (core_alone form) = λ c i. let j : form ≡ c = cc in rw j at none in
         let rest : LeadsToRest R (core_alone form) new new = rests (core_alone form) new (whole_at_rest (core_alone form) (refl, refl) on valueless) in
         let one : Adds (LeadsBy R) rank_in t (core_alone core) old mid = adds_more (LeadsBy R) rank_in t t (core_alone core) old old mid step (adds_none (LeadsBy R) rank_in t old) (whole_is_first t (core_alone core) step P h k v e) m in
         first_adds t (core_alone core) old mid new one (first_adds (core_alone core) (core_alone form) mid new new (adds_on_core core form [] [] mid new Q a).1 rest)
@@ -153,39 +145,32 @@ module _ (R : List EntryParts) where
         let both : Some core ≡ Some k = h ∙ ap core_of e in
         let is : core ≡ k = cc in
         let same : t ≡ core_alone core = e ∙ ap core_alone (sym is) in
-        let on = adds_on_core core d [] [] old mid (subst (IsProper R) same P) a in
-        (on.0, subst (λ x. Adds (LeadsBy R) rank_in x (core_alone d) old mid) (sym same) on.1)
+        let on = adds_on_core core d [] [] old mid (rw same at P) a in
+        (on.0, rw same on.1)
 
     -- a langtag with extensions or private use
     pub langtag_explained : (t : TagForm) (core d : CoreParts) (es fs : List ExtensionParts) (start : ℕ) (old mid new : List Step) → IsProper R t → Some core ≡ core_of t → es ≡ extensions_of t → ((k : CoreParts) → t ≡ core_alone k → ⊥) → AddsOnCore R 0 core d old mid → NoneLeads (CoreLeads R 0 d) → start ≡ length (spell_core d) → AddsOnExtensions R start es fs mid new → NoneLeads (ExtensionsLeads R start fs) → LeadsToRest R t old new
-    langtag_explained t core d es fs start old mid new P h e more a none at b nowhere =
+    langtag_explained t core d es fs start old mid new P h e more a none place b nowhere =
         let ps : List (List ℕ) = private_of t in
         let same : t ≡ LangTag core es ps = langtag_of t core (sym h) ∙ (λ i. LangTag core (sym e i) ps) in
-        let on = adds_on_core core d es ps old mid (subst (IsProper R) same P) a in
-        let some = more_than_core core es ps (subst (λ x. (k : CoreParts) → x ≡ core_alone k → ⊥) same more) in
-        let rest = extensions_rest_by d es fs ps mid new on.0 some none (subst (λ n. AddsOnExtensions R n es fs mid new) at b) (subst (λ n. NoneLeads (ExtensionsLeads R n fs)) at nowhere) in
-        subst (λ x. LeadsToRest R x old new) (sym same) (first_adds (LangTag core es ps) (LangTag d es ps) old mid new on.1 rest)
+        let on = adds_on_core core d es ps old mid (rw same at P) a in
+        let rest = extensions_rest_by d es fs ps mid new on.0 (more_than_core core es ps (rw same at more)) none (rw place at b) (rw place at nowhere) in
+        rw same (first_adds (LangTag core es ps) (LangTag d es ps) old mid new on.1 rest)
 
     -- a tag that is neither a langtag nor grandfathered
     pub coreless_explained : (t : TagForm) (old : List Step) → core_of t ≡ None → tag_number t ≡ None → LeadsToRest R t old old
-    coreless_explained (LangTag c es ps) old h k = cc
-    coreless_explained (PrivateUse ps) old h k = private_use_rests ps old
-    coreless_explained (Grandfathered n) old h k = cc
+    coreless_explained (PrivateUse ps) old h k = rests (PrivateUse ps) old (λ u s. private_rests R ps u s.change)
+    coreless_explained _ old h k = cc
 
     pub transforms_of : (t : TagForm) → IsProper R t → AllByRecursion (λ (e : ExtensionParts). e.singleton ≡ transform → (p : TForm) × IsTransform e.subtags p) (extensions_of t)
     transforms_of (LangTag c es ps) P = transforms_have_parts R es P.parts.extensions
-    transforms_of (PrivateUse ps) P = tt
-    transforms_of (Grandfathered n) P = tt
+    transforms_of _ P = tt
 
     -- they lead to the canonical form
     pub explained : (t end : TagForm) (run : List Step) → IsCanonicalFormOf R t end → LeadsToRest R t [] run → IsExplanation R t run end
     explained t end run F h =
-        let trace : IsTrace R t h.adds.run h.end = run_trace h.adds.run t h.end h.adds.is_run in
-        let reached = (traces_reach_their_end R t h.end h.adds.run trace).0 in
+        let reached = run_star (LeadsBy R) rank_in (TagStep R) (λ a step b l. l.0) h.adds.run t h.end h.adds.is_run in
         let same : h.end ≡ end = sym (reached_is_end (end_form R C) t h.end F.valid.proper reached h.at_rest) ∙ form_is_end R C t end F in
         let all : run ≡ h.adds.run = h.adds.added in
-        record {
-          form = F;
-          trace = subst (λ xs. IsTrace R t xs end) (sym all) (subst (IsTrace R t h.adds.run) same trace);
-          is_run = subst (λ xs. IsRun (LeadsBy R) rank_in t xs end) (sym all) (subst (IsRun (LeadsBy R) rank_in t h.adds.run) same h.adds.is_run);
-        }
+        let is_run : IsRun (LeadsBy R) rank_in t run end = rw (all, ← same) h.adds.is_run in
+        record { form = F; trace = run_trace run t end is_run; is_run = is_run }
