@@ -25,10 +25,9 @@ use Rattle.lt_canon.specs.Laws.{EquivalenceIsEqualText, CanonicalTwiceIsOnce, Ca
 use Rattle.lt_canon.proofs.TagRepeats.{end_canonical, form_is_end}
 use Rattle.lt_canon.proofs.ExtlangForms.{no_extlang, forms_lead_back}
 use Rattle.lt_rewrite.proofs.ProperTags.{proper_parts}
-use Rattle.lt_canon.proofs.TagProper.{core_spells_none}
+use Rattle.lt_canon.proofs.TagForm.{core_spells_none, end_form}
 use Rattle.lt_canon.proofs.CanonicalForms.{langtag_of}
 use Rattle.lt_canon.proofs.EndForms.{rest_is_end, reached_is_end}
-use Rattle.lt_canon.proofs.TagForm.{end_form}
 use Rattle.lt_tag.specs.Lists.{longest_text}
 
 -- the text of a tag

@@ -1,5 +1,5 @@
 -- From cores, extensions and values in their normal forms to the answer that is owed.
-use Rattle.std.proofs.Common.{◌≡◌, ℕ, ◌+◌, ◌<◌, ◌≤◌, inl, inr, false, is_some, List, [], ◌∷◌, Option, Some, None, Err, refl, sym, ap, ◌∙◌, subst, length, arith}
+use Rattle.std.proofs.Common.{◌≡◌, ℕ, ◌+◌, ◌<◌, ◌≤◌, inl, inr, false, is_some, List, [], ◌∷◌, Option, Some, None, Err, refl, sym, ap, ◌∙◌, subst, length, arith, IfErr}
 use Rattle.std.specs.List.{AllByRecursion}
 use Rattle.lt_tag.specs.Parts.{CoreParts, ExtensionParts, TForm, TagForm, LangTag, PrivateUse, Grandfathered}
 use Rattle.lt_tag.specs.Spelling.{spell_core}
@@ -7,28 +7,26 @@ use Rattle.lt_tag.specs.Extensions.{transform, IsTransform}
 use Rattle.lt_tag.specs.Values.{core_of, extensions_of, private_of, core_alone}
 use Rattle.lt_tag.specs.WellFormed.{IsNotGrandfathered}
 use Rattle.lt_tag.proofs.TagLemmas.{AllByRecursion-weaker}
+use Rattle.std.specs.Prelude.{Result}
+use Rattle.lt_registry.proofs.ValidityLaws.{valid_law}
 use Rattle.lt_registry.specs.Parts.{EntryParts}
 use Rattle.lt_registry.specs.Entries.{whole_value}
 use Rattle.lt_registry.specs.Validity.{IsProperExtension, HasDistinctSource, RepeatsNoVariant, IsProper, IsValid}
-use Rattle.lt_registry.specs.Faults.{IsRefusal}
-use Rattle.lt_registry.specs.declared.faults.ValidRefusal.{ValidRefusal}
-use Rattle.lt_registry.specs.declared.faults.ValidRefusal.TheVariants as checks
 use Rattle.lt_rewrite.specs.Rewriting.{IsNormalForm}
 use Rattle.lt_rewrite.specs.CoreSteps.{values_of, IsCoreNormalForm}
 use Rattle.lt_rewrite.specs.Extensions.{ExtensionsStep}
 use Rattle.lt_rewrite.specs.TagSteps.{CanBeReplacedWhole}
 use Rattle.lt_rewrite.proofs.NormalForms.{star_keeps, normal_is_form, rest_is_form}
 use Rattle.lt_check.specs.Conditions.{IsValidCoreAlone, IsChecked}
-use Rattle.lt_canon.specs.Answers.{IsCanonicalFormOf, IsRepeatOf}
+use Rattle.lt_canon.specs.Answers.{IsCanonicalFormOf, IsRepeatOf, RefusesOnlyRepeats}
 use Rattle.lt_canon.specs.Settled.{IsCanonicalAnswer, IsDistinctForm, IsCoreRefusal, IsSecondInSources, IsSettledTag, IsSettledLangTag, IsSettledValue, IsReplacedWhole}
-use Rattle.lt_canon.specs.Refusals.{of_valid}
+use Rattle.lt_canon.specs.Refusals.{NamesFault, NamesRepeat, IsRefusedWith}
 use Rattle.lt_canon.specs.declared.refusals.Refusal.{Refusal}
 use Rattle.lt_canon.specs.declared.refusals.Refusal.TheVariants as refusals
 use Rattle.lt_canon.proofs.Distinctness.{second_repeats}
 use Rattle.lt_canon.proofs.EndForms.{star_proper}
 use Rattle.lt_rewrite.proofs.ProperTags.{proper_parts}
-use Rattle.lt_canon.proofs.TagProper.{core_spells_none}
-use Rattle.lt_canon.proofs.TagForm.{core_end, cores_formed, cores_reached, cores_proper, extensions_end, extensions_end_formed, parts_reached, resting, value_end, value_end_is, whole_end, whole_end_some, whole_end_none, whole_kept_at, tag_end, end_form, extensions_step_to}
+use Rattle.lt_canon.proofs.TagForm.{core_spells_none, core_end, cores_formed, cores_reached, cores_proper, extensions_end, extensions_end_formed, parts_reached, resting, value_end, value_end_is, whole_end, whole_end_some, whole_end_none, whole_kept_at, tag_end, end_form, extensions_step_to}
 use Rattle.lt_canon.proofs.SourceRepeats.{source_repeats, named_source}
 use Rattle.lt_canon.proofs.TagRest.{none_rests, some_end}
 use Rattle.lt_canon.proofs.TagRepeats.{end_canonical}
@@ -60,10 +58,16 @@ plain_of_core R t c v h =
 pub plain_has_core : (R : List EntryParts) (t : TagForm) → IsValidCoreAlone R t → core_of t ≡ None → ⊥
 plain_has_core R t v h = let both : Some v.core ≡ None = sym (ap core_of v.is) ∙ h in cc
 
--- a tag that is not found valid
-pub invalid_refused : (R : List EntryParts) (t : TagForm) (refused : ValidRefusal) → IsRefusal R t refused → IsCanonicalAnswer R t (Err (of_valid refused))
-invalid_refused R t (checks.Fault fault) h = h
-invalid_refused R t checks.OutOfMemory h = tt
+-- the refusal that is owed, by its three parts
+pub refused : (R : List EntryParts) (t : TagForm) (refusal : Refusal) → NamesFault R t refusal → RefusesOnlyRepeats R t refusal → NamesRepeat R t refusal → IsRefusedWith R t refusal
+refused R t (refusals.Invalid fault) h k n = h
+refused R t (refusals.ReplacementRepeats v) h k n = record { valid = k.0; repeats = k.1; named = n }
+refused R t refusals.OutOfMemory h k n = tt
+
+pub repeats_answered : (R : List EntryParts) (t : TagForm) (r : Result TagForm Refusal) → IsCanonicalAnswer R t r → IfErr r (RefusesOnlyRepeats R t)
+repeats_answered R t (Err (refusals.Invalid fault)) h = λ V. (valid_law R t V.proper.tag).0 V fault.kind fault.place h.there
+repeats_answered R t (Err (refusals.ReplacementRepeats v)) h = (h.valid, h.repeats)
+repeats_answered R t _ h = tt
 
 -- what settling the extensions of a proper tag needs
 pub transforms_have_parts : (R : List EntryParts) (es : List ExtensionParts) → AllByRecursion (IsProperExtension R) es → AllByRecursion (λ (e : ExtensionParts). e.singleton ≡ transform → (p : TForm) × IsTransform e.subtags p) es

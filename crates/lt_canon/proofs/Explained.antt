@@ -1,12 +1,11 @@
 -- Runs on the parts of a tag, one after another, to where no step leads on: these explain its canonical form.
 use Rattle.std.proofs.Common.{◌≡◌, ℕ, ◌+◌, ◌<◌, true, false, is_some, inr, List, [], ◌∷◌, ◌++◌, Option, Some, None, refl, sym, ap, ◌∙◌, subst, length, arith}
-use Rattle.std.specs.Prelude.{Result, Ok, Err, IfOk, MatchOption}
+use Rattle.std.specs.Prelude.{MatchOption}
 use Rattle.std.specs.List.{AllByRecursion}
 use Rattle.lt_tag.specs.Parts.{CoreParts, ExtensionParts, TForm, TagForm, LangTag, PrivateUse, Grandfathered}
 use Rattle.lt_tag.specs.Spelling.{spell_core}
 use Rattle.lt_tag.specs.Extensions.{transform, IsTransform}
-use Rattle.lt_tag.specs.Values.{core_of, extensions_of, private_of, core_alone}
-use Rattle.lt_tag.specs.Values.{number_of as tag_number}
+use Rattle.lt_tag.specs.Values.{core_of, extensions_of, private_of, core_alone, number_of as tag_number}
 use Rattle.lt_registry.specs.Parts.{EntryParts}
 use Rattle.lt_registry.specs.Entries.{whole, whole_value, number_of}
 use Rattle.lt_registry.specs.Validity.{IsProper}
@@ -28,7 +27,6 @@ use Rattle.lt_canon.specs.Explaining.{rank_in, IsExplanation, RestsOnCore, Leads
 use Rattle.lt_check.proofs.CheckedRegistry.{value_plain}
 use Rattle.lt_canon.proofs.TagForm.{core_end, cores_formed, value_rests, extensions_step_from, end_form}
 use Rattle.lt_canon.proofs.TagRest.{lang_at_end, grandfathered_rests, private_rests, none_rests}
-use Rattle.lt_canon.proofs.TagLaws.{traces_reach_their_end}
 use Rattle.lt_canon.proofs.EndForms.{reached_is_end}
 use Rattle.lt_canon.proofs.TagRepeats.{form_is_end}
 use Rattle.lt_canon.proofs.CanonicalForms.{langtag_of, transforms_have_parts, form_some}

@@ -1,5 +1,5 @@
 -- The lines of a trace, one step after another.
-use Rattle.std.proofs.Common.{◌≡◌, ℕ, ◌+◌, ◌<◌, ◌≤◌, List, [], ◌∷◌, ◌++◌, refl, sym, ap, ◌∙◌, subst, length, drop, get_or, append_assoc}
+use Rattle.std.proofs.Common.{◌≡◌, ℕ, ◌+◌, ◌<◌, ◌≤◌, List, [], ◌∷◌, ◌++◌, refl, length, drop, get_or, append_assoc}
 use Rattle.std.proofs.lemmas.List.{drop_more, drop_all, append-nil}
 use Rattle.lt_tag.specs.Parts.{TagForm}
 use Rattle.lt_registry.specs.Parts.{EntryParts}
@@ -20,40 +20,21 @@ pub record LinesSoFar (R : List EntryParts) (t : TagForm) (steps : List Step) (e
   pub grown : new ≡ old ++ lines
   pub completes : (rest : List ℕ) → AreStepLines R (drop i steps) end here rest → AreStepLines R steps end t (lines ++ rest)
 
-pub explaining_begun : (R : List EntryParts) (t : TagForm) (steps : List Step) (end : TagForm) (old : List ℕ) (here : TagForm) → here ≡ t → IsProper R t → IsTrace R t steps end
-    → LinesSoFar R t steps end old old 0 here
-explaining_begun R t steps end old here same proper trace =
-    subst (LinesSoFar R t steps end old old 0) (sym same) (record {
-      proper = proper;
-      ahead = trace;
-      lines = [];
-      grown = sym (append-nil old);
-      completes = λ rest h. h;
-    })
-
--- the step at an index, as the first of those that are left
-ahead_here : (R : List EntryParts) (steps : List Step) (end : TagForm) (i : ℕ) (default : Step) (here : TagForm) → i < length steps → IsTrace R here (drop i steps) end
-    → IsTrace R here (get_or steps i default ∷ drop (i + 1) steps) end
-ahead_here R steps end i default here h trace = subst (λ xs. IsTrace R here xs end) (drop_more steps i default h) trace
-
 -- a step led on, and its line was appended
 pub explaining_more : (R : List EntryParts) (t : TagForm) (steps : List Step) (end : TagForm) (old new more : List ℕ) (i : ℕ) (default : Step) (here next : TagForm) → i < length steps
     → LinesSoFar R t steps end old new i here → LeadsBy R here (get_or steps i default) next → IsProper R next → more ≡ new ++ step_line (get_or steps i default) next
     → LinesSoFar R t steps end old more (i + 1) next
 explaining_more R t steps end old new more i default here next h now on proper grown =
     let step = get_or steps i default in
-    let ahead = ahead_here R steps end i default here h now.ahead in
+    let ahead : IsTrace R here (step ∷ drop (i + 1) steps) end = rw (drop_more steps i default h) at now.ahead in
     let same : ahead.0 ≡ next = (steps_determined R here ahead.0 next step step ahead.1 on refl refl).result in
     record {
       proper = proper;
-      ahead = subst (λ u. IsTrace R u (drop (i + 1) steps) end) same ahead.2;
+      ahead = rw same at ahead.2;
       lines = now.lines ++ step_line step next;
-      grown = grown ∙ ap (λ (l : List ℕ). l ++ step_line step next) now.grown ∙ append_assoc old now.lines (step_line step next);
-      completes = λ rest printed.
-          let here_lines : AreStepLines R (step ∷ drop (i + 1) steps) end here (step_line step next ++ rest) =
-          record { after = next; leads = on; rest = rest; printed = printed; line_is = refl } in
-          subst (AreStepLines R steps end t) (sym (append_assoc now.lines (step_line step next) rest))
-          (now.completes (step_line step next ++ rest) (subst (λ xs. AreStepLines R xs end here (step_line step next ++ rest)) (sym (drop_more steps i default h)) here_lines));
+      grown = rw (grown, now.grown) (append_assoc old now.lines (step_line step next));
+      completes = λ rest printed. rw (append_assoc now.lines (step_line step next) rest)
+          (now.completes (step_line step next ++ rest) (rw (drop_more steps i default h) (record { after = next; leads = on; rest = rest; printed = printed; line_is = refl })));
     }
 
 -- all steps led on
@@ -61,17 +42,13 @@ pub explaining_done : (R : List EntryParts) (t : TagForm) (steps : List Step) (e
     → LinesSoFar R t steps end old new i here → AppendsSteps R t steps end old new
 explaining_done R t steps end old new i here h now =
     let none : drop i steps ≡ [] = drop_all i steps h in
-    let there : IsTrace R here [] end = subst (λ xs. IsTrace R here xs end) none now.ahead in
-    record {
-      lines = now.lines ++ [];
-      grown = now.grown ∙ ap (λ (l : List ℕ). old ++ l) (sym (append-nil now.lines));
-      are_steps = now.completes [] (subst (λ xs. AreStepLines R xs end here []) (sym none) (there, refl));
-    }
+    let there : IsTrace R here [] end = rw none at now.ahead in
+    record { lines = now.lines; grown = now.grown; are_steps = rw (append-nil now.lines) at (now.completes [] (rw none (there, refl))) }
 
 -- the step at an index leads on
 pub step_leads : (R : List EntryParts) (steps : List Step) (end : TagForm) (i : ℕ) (default : Step) (here : TagForm) (fault : ApplyFault) → i < length steps → IsTrace R here (drop i steps) end
     → IsApplyFault R here (get_or steps i default) fault → fault ≡ faults.NoSuchStep → ⊥
 step_leads R steps end i default here fault h trace stuck e =
-    let ahead = ahead_here R steps end i default here h trace in
-    let none : IsApplyFault R here (get_or steps i default) faults.NoSuchStep = subst (IsApplyFault R here (get_or steps i default)) e stuck in
+    let ahead : IsTrace R here (get_or steps i default ∷ drop (i + 1) steps) end = rw (drop_more steps i default h) at trace in
+    let none : IsApplyFault R here (get_or steps i default) faults.NoSuchStep = rw e at stuck in
     none ahead.0 ahead.1

@@ -26,8 +26,7 @@ use Rattle.lt_canon.specs.ExtlangForm.{prefix_of, behind}
 use Rattle.lt_canon.specs.ExtlangLaws.{ExtlangFormsLeadBack}
 use Rattle.lt_check.proofs.Checks.{core_conditions}
 use Rattle.lt_canon.proofs.EndForms.{rest_is_end}
-use Rattle.lt_canon.proofs.TagProper.{core_spells_none, step_of_change}
-use Rattle.lt_canon.proofs.TagForm.{core_end, cores_formed, lang_end, tag_reached, end_form}
+use Rattle.lt_canon.proofs.TagForm.{core_spells_none, step_of_change, core_end, cores_formed, lang_end, tag_reached, end_form}
 
 abbrev core : List ℕ → List (List ℕ) → Option (List ℕ) → Option (List ℕ) → List (List ℕ) → CoreParts
 core l xs sc re vs = record { language = l; extlangs = xs; script = sc; region = re; variants = vs }

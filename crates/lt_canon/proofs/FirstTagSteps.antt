@@ -1,11 +1,9 @@
 -- The first step on a core, on a whole tag and on extensions is the first on the tag, where none comes before it.
-use Rattle.std.proofs.Common.{◌≡◌, ℕ, ◌+◌, ◌<◌, ◌≤◌, inl, inr, ◌&&◌, Bool, true, false, Ordering, List, [], ◌∷◌, refl, sym, ap, ◌∙◌, subst, length, arith}
-use Rattle.std.specs.Prelude.{nat_le, if◌then◌else◌}
+use Rattle.std.proofs.Common.{◌≡◌, ℕ, ◌+◌, ◌<◌, ◌≤◌, inl, Bool, Ordering, List, [], ◌∷◌, refl, sym, ap, subst, length, arith}
 use Rattle.std.proofs.lemmas.Bool.Decides.{nat_tests}
-use Rattle.lt_tag.specs.Parts.{CoreParts, ExtensionParts, UForm, TForm, TagForm, LangTag, PrivateUse, Grandfathered}
+use Rattle.lt_tag.specs.Parts.{CoreParts, ExtensionParts, UForm, TForm, TagForm, LangTag}
 use Rattle.lt_tag.specs.Spelling.{spell_core, spell_extension, spell_extensions}
 use Rattle.lt_tag.specs.Extensions.{spell_keyword, spell_field}
-use Rattle.lt_tag.specs.Values.{core_of}
 use Rattle.lt_registry.specs.Parts.{EntryParts}
 use Rattle.lt_registry.specs.Entries.{whole, number_of}
 use Rattle.lt_registry.specs.Validity.{IsProper}
@@ -22,8 +20,7 @@ use Rattle.lt_rewrite.specs.declared.steps.StepKind.TheVariants as steps
 use Rattle.lt_rewrite.proofs.StepLaws.{core_rank, core_low, core_high}
 use Rattle.lt_check.specs.Conditions.{IsChecked}
 use Rattle.lt_canon.specs.Explaining.{rank_in}
-use Rattle.lt_canon.proofs.TagProper.{core_step_tag, extensions_step_tag}
-use Rattle.lt_canon.proofs.TagForm.{extensions_step_from}
+use Rattle.lt_canon.proofs.TagForm.{core_step_tag, extensions_step_tag, extensions_step_from}
 use Rattle.lt_tag.specs.Splitting.{spell_source}
 
 -- the ranks of steps

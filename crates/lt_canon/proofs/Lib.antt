@@ -6,10 +6,7 @@ pub mod TagRepeats
 pub mod CanonicalForms
 pub mod StayingTags
 -- What this crate alone uses.
-mod AppendedTexts
-mod TagProper
 mod TagRest
-mod TagLaws
 mod NamedRepeats
 mod ExtlangForms
 mod SourceRepeats
@@ -20,4 +17,3 @@ mod FirstTagSteps
 mod Explained
 mod ExplanationLines
 mod UsualTags
-mod Refused

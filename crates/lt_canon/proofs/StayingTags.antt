@@ -7,6 +7,8 @@ use Rattle.std.proofs.lemmas.List.Folds.{list_any_at}
 use Rattle.std.proofs.lemmas.Slice.Eq.{bytes_eq-Decides}
 use Rattle.lt_tag.specs.Parts.{CoreParts, TagForm}
 use Rattle.lt_tag.specs.Conventional.{conventional}
+use Rattle.lt_tag.specs.Faults.{HasTag}
+use Rattle.lt_tag.specs.WellFormed.{spell}
 use Rattle.lt_tag.specs.Lists.{list_of}
 use Rattle.lt_tag.specs.Values.{IsTagValue, core_alone}
 use Rattle.lt_registry.specs.Parts.{EntryParts}
@@ -87,16 +89,16 @@ module _ (R : List EntryParts) (text : List ℕ) (c : CoreParts) (stay : StaysAs
   pub stays_canonical : IsChecked R → IsCanonicalFormOf R (core_alone c) (core_alone c)
   stays_canonical C = settled_canonical R C (core_alone c) (core_alone c) (core_alone c) valid (usual_settled R (core_alone c) c usual refl value valued) (inr (record { none = λ _. no_value (whole R (core_alone c)) refl; same = refl }))
 
+-- a canonical text that was appended is that of the form that was given
+pub appended : (R : List EntryParts) (text : List ℕ) (tag form : TagForm) (old new : List ℕ) → HasTag text tag → IsCanonicalFormOf R tag form
+    → new ≡ old ++ conventional (spell form) → AppendsCanonicalText R text old new
+appended R text tag form old new read is grown = record {
+  canonical = conventional (spell form);
+  grown = grown;
+  is_canonical = record { tag = tag; read = read; form = form; is_form = is; written = refl };
+}
+
 -- its conventional text is its canonical text
 pub stays_appended : (R : List EntryParts) → IsChecked R → (text old new : List ℕ) → IsStaying R text → new ≡ old ++ conventional (list_of text) → AppendsCanonicalText R text old new
-stays_appended R C text old new stay grown = record {
-  canonical = conventional (list_of text);
-  grown = grown;
-  is_canonical = record {
-    tag = core_alone stay.0;
-    read = stay.1.read;
-    form = core_alone stay.0;
-    is_form = stays_canonical R text stay.0 stay.1 C;
-    written = ap conventional (sym stay.1.read.spelled);
-  };
-}
+stays_appended R C text old new stay grown =
+    appended R text (core_alone stay.0) (core_alone stay.0) old new stay.1.read (stays_canonical R text stay.0 stay.1 C) (grown ∙ ap (λ l. old ++ conventional l) (sym stay.1.read.spelled))

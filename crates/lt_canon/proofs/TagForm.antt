@@ -1,5 +1,6 @@
--- The end form of a tag: each step keeps it, each proper tag reaches it, and no step leads from it.
-use Rattle.std.proofs.Common.{◌≡◌, ◌≢◌, ℕ, ◌⊎◌, inl, inr, Bool, true, false, List, [], ◌∷◌, ◌++◌, Option, Some, None, refl, sym, ap, ◌∙◌, subst, All}
+-- Each change of a proper tag leads to a proper one. The end form of a tag: each step keeps it, and each proper tag
+-- reaches it.
+use Rattle.std.proofs.Common.{◌≡◌, ◌≢◌, ℕ, inl, inr, true, List, [], ◌∷◌, ◌++◌, Option, Some, None, refl, sym, ap, ◌∙◌, subst, All}
 use Rattle.std.proofs.lemmas.Bool.{cases_Bool}
 use Rattle.lt_tag.specs.Parts.{CoreParts, ExtensionParts, TagForm, LangTag, PrivateUse, Grandfathered}
 use Rattle.lt_registry.specs.Parts.{EntryParts}
@@ -21,8 +22,11 @@ use Rattle.lt_rewrite.proofs.ExtensionLaws.{normal_extension, normal_extensions,
 use Rattle.lt_check.specs.Conditions.{HasRestingWhole, HasAgreeingWhole, IsChecked}
 use Rattle.lt_canon.proofs.EndForms.{IsEndForm}
 use Rattle.lt_check.proofs.Checks.{core_conditions}
-use Rattle.lt_check.proofs.CheckedRegistry.{valued_whole, whole_has, no_value, value_plain}
-use Rattle.lt_canon.proofs.TagProper.{core_step_tag, extensions_step_tag, step_of_change}
+use Rattle.lt_check.proofs.CheckedRegistry.{grandfathered_fit, valued_whole, whole_has, no_value, value_plain}
+use Rattle.lt_tag.specs.Spelling.{spell_core}
+use Rattle.lt_tag.specs.WellFormed.{IsNotGrandfathered}
+use Rattle.lt_rewrite.specs.Laws.{IsProperValue, StepsKeepTagsProper}
+use Rattle.lt_rewrite.proofs.ProperTags.{proper_spells_none, steps_keep_tags_proper}
 use Rattle.lt_tag.specs.Values.{core_alone}
 
 -- the end of a tag that is no langtag with extensions or private use
@@ -41,6 +45,30 @@ extensions_step_to R es fs (inside before e f after w s) h = empty_middle before
 extensions_step_to R es fs (among s) h = step_some es fs s h
 
 module _ (R : List EntryParts) (C : IsChecked R) where
+  pub core_spells_none : (c : CoreParts) → IsProperValue R c → IsNotGrandfathered (spell_core c)
+  core_spells_none c P = proper_spells_none R (grandfathered_fit R C) c P
+
+  steps_keep : StepsKeepTagsProper R
+  steps_keep = steps_keep_tags_proper R C.registry (core_conditions R C.passes) (grandfathered_fit R C)
+
+  -- a core step on the core
+  pub core_step_tag : (c d : CoreParts) (es : List ExtensionParts) (ps : List (List ℕ)) → CoreStep (values_of R) c d → IsProper R (LangTag c es ps) → IsProper R (LangTag d es ps)
+  core_step_tag c d es ps s P = steps_keep.core c d es ps s P
+
+  -- a step on the extensions
+  pub extensions_step_tag : (c : CoreParts) (es fs : List ExtensionParts) (ps : List (List ℕ)) → ExtensionsStep R es fs → IsProper R (LangTag c es ps) → IsProper R (LangTag c fs ps)
+  extensions_step_tag c es fs ps s P = steps_keep.extensions c es fs ps s P
+
+  -- each change
+  pub change_proper : (t u : TagForm) → TagChange R t u → IsProper R t → IsProper R u
+  change_proper t u (on_core c d es ps from to s) P = subst (IsProper R) (sym to) (core_step_tag c d es ps s (subst (IsProper R) from P))
+  change_proper t u (on_extensions c es fs ps from to s) P = subst (IsProper R) (sym to) (extensions_step_tag c es fs ps s (subst (IsProper R) from P))
+  change_proper t u (on_whole _ has) P = (value_plain R C t u has).valid.proper
+
+  -- so it is a step
+  pub step_of_change : (t u : TagForm) → TagChange R t u → IsProper R t → TagStep R t u
+  step_of_change t u s P = record { from = P; to = change_proper t u s P; change = s }
+
   abbrev pub core_end : CoreParts → CoreParts
   core_end = normal_core R (core_conditions R C.passes)
 
@@ -143,16 +171,16 @@ module _ (R : List EntryParts) (C : IsChecked R) where
 
   pub cores_reached : {c d : CoreParts} → Star (CoreStep (values_of R)) c d → (es : List ExtensionParts) (ps : List (List ℕ)) → IsProper R (LangTag c es ps) → IsReached R (LangTag c es ps) (LangTag d es ps)
   cores_reached r es ps P =
-      star_map_while (λ x. IsProper R (LangTag x es ps)) (λ x. LangTag x es ps) (λ x y s p. core_step_tag R C x y es ps s p)
-      (λ x y s p q. step_of_change R C (LangTag x es ps) (LangTag y es ps) (on_core x y es ps refl refl s) p) r P
+      star_map_while (λ x. IsProper R (LangTag x es ps)) (λ x. LangTag x es ps) (λ x y s p. core_step_tag x y es ps s p)
+      (λ x y s p q. step_of_change (LangTag x es ps) (LangTag y es ps) (on_core x y es ps refl refl s) p) r P
 
   pub cores_proper : {c d : CoreParts} → Star (CoreStep (values_of R)) c d → (es : List ExtensionParts) (ps : List (List ℕ)) → IsProper R (LangTag c es ps) → IsProper R (LangTag d es ps)
-  cores_proper r es ps P = star_keeps (λ x. IsProper R (LangTag x es ps)) (λ x y s p. core_step_tag R C x y es ps s p) r P
+  cores_proper r es ps P = star_keeps (λ x. IsProper R (LangTag x es ps)) (λ x y s p. core_step_tag x y es ps s p) r P
 
   pub extensions_reached : (d : CoreParts) {es fs : List ExtensionParts} → Star (ExtensionsStep R) es fs → (ps : List (List ℕ)) → IsProper R (LangTag d es ps) → IsReached R (LangTag d es ps) (LangTag d fs ps)
   extensions_reached d r ps P =
-      star_map_while (λ x. IsProper R (LangTag d x ps)) (λ x. LangTag d x ps) (λ x y s p. extensions_step_tag R C d x y ps s p)
-      (λ x y s p q. step_of_change R C (LangTag d x ps) (LangTag d y ps) (on_extensions d x y ps refl refl s) p) r P
+      star_map_while (λ x. IsProper R (LangTag d x ps)) (λ x. LangTag d x ps) (λ x y s p. extensions_step_tag d x y ps s p)
+      (λ x y s p q. step_of_change (LangTag d x ps) (LangTag d y ps) (on_extensions d x y ps refl refl s) p) r P
 
   pub parts_reached : {c d : CoreParts} {es fs : List ExtensionParts} → Star (CoreStep (values_of R)) c d → Star (ExtensionsStep R) es fs → (ps : List (List ℕ)) → IsProper R (LangTag c es ps) → IsReached R (LangTag c es ps) (LangTag d fs ps)
   parts_reached {c} {d} {es} {fs} r s ps P = star_trans (cores_reached r es ps P) (extensions_reached d s ps (cores_proper r es ps P))
@@ -163,7 +191,7 @@ module _ (R : List EntryParts) (C : IsChecked R) where
       let v = value_plain R C t u e in
       let Q : IsProper R (core_alone v.core) = subst (IsProper R) v.is v.valid.proper in
       let e' : whole_value R t ≡ Some (core_alone v.core) = e ∙ ap Some v.is in
-      let one : TagStep R t (core_alone v.core) = step_of_change R C t (core_alone v.core) (on_whole h e') P in
+      let one : TagStep R t (core_alone v.core) = step_of_change t (core_alone v.core) (on_whole h e') P in
       let rest : IsReached R t (core_alone (core_end v.core)) = then one (cores_reached (cores_formed.reached v.core) [] [] Q) in
       subst (λ x. IsReached R t (value_end x)) (sym v.is) rest
 

@@ -1,5 +1,5 @@
--- No step leads from the end form.
-use Rattle.std.proofs.Common.{◌≡◌, ◌≢◌, ℕ, List, [], ◌∷◌, Option, Some, None, refl, sym, ap, ◌∙◌, subst}
+-- No step leads from the end form; the laws of steps and of the end form.
+use Rattle.std.proofs.Common.{◌≡◌, ◌≢◌, ℕ, List, [], ◌∷◌, Option, Some, None, refl, ap, ◌∙◌, subst}
 use Rattle.lt_tag.specs.Parts.{CoreParts, ExtensionParts, TagForm, LangTag, PrivateUse, Grandfathered}
 use Rattle.lt_registry.specs.Parts.{EntryParts}
 use Rattle.lt_registry.specs.Entries.{whole_value}
@@ -8,9 +8,12 @@ use Rattle.lt_rewrite.specs.CoreSteps.{values_of, CoreStep}
 use Rattle.lt_rewrite.specs.Extensions.{ExtensionsStep}
 use Rattle.lt_rewrite.specs.TagSteps.{TagChange, on_core, on_extensions, on_whole, TagStep}
 use Rattle.lt_rewrite.proofs.NormalForms.{star_keeps}
+use Rattle.lt_canon.specs.Laws.{HasEndForms, StepsAreConfluent}
+use Rattle.lt_canon.specs.Corollaries.{OneCanonicalTag}
+use Rattle.lt_canon.proofs.EndForms.{confluent, rest_unique}
 use Rattle.lt_check.specs.Conditions.{IsChecked}
 use Rattle.lt_check.proofs.CheckedRegistry.{value_plain}
-use Rattle.lt_canon.proofs.TagForm.{or_value, core_end, cores_formed, extensions_end, extensions_end_formed, value_end, lang_end, tag_end, value_rests, extensions_step_from, extensions_step_to}
+use Rattle.lt_canon.proofs.TagForm.{end_form, change_kept, tag_reached, or_value, core_end, cores_formed, extensions_end, extensions_end_formed, value_end, lang_end, tag_end, value_rests, extensions_step_from, extensions_step_to}
 use Rattle.lt_tag.specs.Values.{core_alone}
 
 -- a langtag at its end
@@ -70,3 +73,12 @@ module _ (R : List EntryParts) (C : IsChecked R) where
   tag_end_rests (LangTag c es ps) u s = lang_rests c es ps u s.change
   tag_end_rests (PrivateUse ps) u s = private_rests R ps u s.change
   tag_end_rests (Grandfathered n) u s = whole_rests_at (Grandfathered n) (grandfathered_rests R n) (whole_value R (Grandfathered n)) refl u s.change
+
+pub has_end_forms : (R : List EntryParts) → IsChecked R → HasEndForms R
+has_end_forms R C = record { end = tag_end R C; kept = λ t u s. change_kept R C t u s.change; reached = tag_reached R C; at_rest = tag_end_rests R C }
+
+pub steps_confluent : (R : List EntryParts) → IsChecked R → StepsAreConfluent R
+steps_confluent R C = confluent (end_form R C)
+
+pub one_canonical_tag : (R : List EntryParts) → IsChecked R → OneCanonicalTag R
+one_canonical_tag R C a b p q e = rest_unique (end_form R C) a b p.valid.proper q.valid.proper e p.at_rest q.at_rest

@@ -8,13 +8,17 @@ use Rattle.lt_registry.specs.Faults.{IsRefusal}
 use Rattle.lt_registry.proofs.ValidityLaws.{valid_law}
 use Rattle.lt_registry.specs.declared.faults.ValidRefusal.{ValidRefusal}
 use Rattle.lt_registry.specs.declared.faults.ValidRefusal.TheVariants as checks
+use Rattle.lt_rewrite.specs.Rewriting.{then}
+use Rattle.lt_rewrite.specs.TagSteps.{IsReached}
+use Rattle.lt_rewrite.proofs.Stars.{star_path}
+use Rattle.lt_canon.proofs.EndForms.{star_equivalent}
 use Rattle.lt_rewrite.specs.Labels.{LeadsBy, IsTrace}
 use Rattle.lt_rewrite.specs.ApplyFaults.{IsApplyFault}
 use Rattle.lt_rewrite.specs.declared.steps.Step.{Step}
 use Rattle.lt_rewrite.specs.declared.apply_faults.ApplyFault.{ApplyFault}
 use Rattle.lt_rewrite.specs.declared.apply_faults.ApplyFault.TheVariants as apply_faults
 use Rattle.lt_rewrite.proofs.StepLaws.{steps_determined}
-use Rattle.lt_canon.specs.TraceLaws.{TracesHaveOneEnd}
+use Rattle.lt_canon.specs.TraceLaws.{TracesReachTheirEnd, TracesHaveOneEnd}
 use Rattle.lt_canon.specs.Traces.{IsValidTrace, IsMisstep, IsTraceFault, IsFollowFault, of_invalid, no_trace_memory}
 use Rattle.lt_canon.specs.declared.traces.TraceFault.{TraceFault}
 use Rattle.lt_canon.specs.declared.traces.TraceFault.TheVariants as faults
@@ -22,28 +26,30 @@ use Rattle.lt_canon.specs.declared.traces.TraceFault.TheVariants as faults
 pub trace_determined : (R : List EntryParts) → TracesHaveOneEnd R
 trace_determined R t a b [] h k = sym h ∙ k
 trace_determined R t a b (step ∷ steps) h k =
-    let same : k.0 ≡ h.0 = (steps_determined R t k.0 h.0 step step k.1 h.1 refl refl).result in
-    trace_determined R h.0 a b steps h.2 (subst (λ u. IsTrace R u steps b) same k.2)
+    trace_determined R h.0 a b steps h.2 (rw (steps_determined R t k.0 h.0 step step k.1 h.1 refl refl).result at k.2)
+
+trace_reached : (R : List EntryParts) (steps : List Step) (t end : TagForm) → IsTrace R t steps end → IsReached R t end
+trace_reached R [] t end h = star_path t end h
+trace_reached R (step ∷ steps) t end h = then h.1.0 (trace_reached R steps h.0 end h.2)
+
+pub traces_reach_their_end : (R : List EntryParts) → TracesReachTheirEnd R
+traces_reach_their_end R t end steps h = let r = trace_reached R steps t end h in (r, star_equivalent r)
 
 -- a trace, and one after it
-pub trace_append : (R : List EntryParts) (xs ys : List Step) (t u v : TagForm) → IsTrace R t xs u → IsTrace R u ys v → IsTrace R t (xs ++ ys) v
-trace_append R [] ys t u v h k = subst (λ s. IsTrace R s ys v) (sym h) k
+trace_append : (R : List EntryParts) (xs ys : List Step) (t u v : TagForm) → IsTrace R t xs u → IsTrace R u ys v → IsTrace R t (xs ++ ys) v
+trace_append R [] ys t u v h k = rw h k
 trace_append R (x ∷ xs) ys t u v h k = (h.0, h.1, trace_append R xs ys h.0 u v h.2 k)
 
 -- a trace cut in two
-pub trace_cut : (R : List EntryParts) (xs ys : List Step) (t v : TagForm) → IsTrace R t (xs ++ ys) v → (u : TagForm) × IsTrace R t xs u × IsTrace R u ys v
+trace_cut : (R : List EntryParts) (xs ys : List Step) (t v : TagForm) → IsTrace R t (xs ++ ys) v → (u : TagForm) × IsTrace R t xs u × IsTrace R u ys v
 trace_cut R [] ys t v h = (t, refl, h)
 trace_cut R (x ∷ xs) ys t v h = let rest = trace_cut R xs ys h.0 v h.2 in (rest.0, (h.0, h.1, rest.1), rest.2)
 
-pub trace_more : (R : List EntryParts) (xs : List Step) (x : Step) (t u v : TagForm) → IsTrace R t xs u → LeadsBy R u x v → IsTrace R t (xs ++ x ∷ []) v
-trace_more R xs x t u v h k = trace_append R xs (x ∷ []) t u v h (v, k, refl)
-
 -- a step that does not lead on leaves no trace
-pub misstep_ends : (R : List EntryParts) (t end : TagForm) (steps : List Step) (n : ℕ) → IsMisstep R t steps n → IsTrace R t steps end → ⊥
+misstep_ends : (R : List EntryParts) (t end : TagForm) (steps : List Step) (n : ℕ) → IsMisstep R t steps n → IsTrace R t steps end → ⊥
 misstep_ends R t end steps n m h =
-    let cut = trace_cut R m.before (m.step ∷ m.after) t end (subst (λ s. IsTrace R t s end) m.there h) in
-    let same : cut.0 ≡ m.tag = trace_determined R t cut.0 m.tag m.before cut.1 m.led in
-    m.stuck cut.2.0 (subst (λ u. LeadsBy R u m.step cut.2.0) same cut.2.1)
+    let cut = trace_cut R m.before (m.step ∷ m.after) t end (rw m.there at h) in
+    m.stuck cut.2.0 (rw (trace_determined R t cut.0 m.tag m.before cut.1 m.led) at cut.2.1)
 
 -- a tag that is not found valid
 pub invalid_trace : (R : List EntryParts) (t end : TagForm) (steps : List Step) (refused : ValidRefusal) → IsRefusal R t refused → IsTraceFault R t steps end (of_invalid refused)
@@ -66,7 +72,7 @@ misstep_here R t steps i default here fault h led stuck e = record {
 -- the step at an index leads on
 pub trace_here : (R : List EntryParts) (t : TagForm) (steps : List Step) (i : ℕ) (default : Step) (here next : TagForm) → i < length steps → IsTrace R t (take i steps) here → LeadsBy R here (get_or steps i default) next → IsTrace R t (take (i + 1) steps) next
 trace_here R t steps i default here next h led on =
-    subst (λ xs. IsTrace R t xs next) (sym (take_more steps i default h)) (trace_more R (take i steps) (get_or steps i default) t here next led on)
+    rw (take_more steps i default h) (trace_append R (take i steps) (get_or steps i default ∷ []) t here next led (next, on, refl))
 
 -- steps from a valid tag that lead to no end
 pub follow_fault : (R : List EntryParts) (t end : TagForm) (steps : List Step) (fault : TraceFault) → IsValid R t → IsFollowFault R t steps fault → IsTraceFault R t steps end fault

@@ -1,4 +1,4 @@
-use Rattle.lt_canon.proofs.AppendedTexts.{appended}
+use Rattle.lt_canon.proofs.StayingTags.{appended}
 use Rattle.lt_canon.proofs.canonical_texts.append_other_text.Goals as goal
 
 pub returns-clause-appended : goal.returns-clause-appended

@@ -3,7 +3,7 @@ use Rattle.std.proofs.lemmas.Result.{err_from_is_err_and}
 use Rattle.lt_rewrite.specs.declared.steps.Step.{Step}
 use Rattle.lt_canon.specs.Explaining.{LeadsToRest}
 use Rattle.lt_canon.proofs.Explained.{explained}
-use Rattle.lt_canon.proofs.Refused.{refused}
+use Rattle.lt_canon.proofs.CanonicalForms.{refused}
 use Rattle.lt_canon.proofs.explaining.explain.Goals as goal
 
 pub returns-in_err-last-clause-err : goal.returns-in_err-last-clause-err

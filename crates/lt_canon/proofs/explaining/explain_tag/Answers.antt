@@ -8,7 +8,7 @@ use Rattle.lt_rewrite.specs.Runs.{Adds}
 use Rattle.lt_rewrite.proofs.StepLaws.{fits, few_subtags}
 use Rattle.lt_canon.specs.Explaining.{rank_in}
 use Rattle.lt_rewrite.proofs.ProperTags.{proper_parts}
-use Rattle.lt_canon.proofs.TagProper.{core_spells_none}
+use Rattle.lt_canon.proofs.TagForm.{core_spells_none}
 use Rattle.lt_canon.proofs.CanonicalForms.{none_of_test}
 use Rattle.lt_canon.proofs.Explained.{some_by, none_by, first_adds, plain_explained, langtag_explained, coreless_explained, transforms_of}
 use Rattle.lt_canon.proofs.explaining.explain_tag.Goals as goal
