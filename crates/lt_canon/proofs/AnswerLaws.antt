@@ -34,11 +34,8 @@ use Rattle.lt_tag.specs.Lists.{longest_text}
 abbrev text_of : TagForm → List ℕ
 text_of t = conventional (spell t)
 
-is_tag : (R : List EntryParts) (t c : TagForm) → IsCanonicalFormOf R t c → IsTag c
-is_tag R t c h = h.canonical.valid.proper.tag.tag
-
 same_form_text : (R : List EntryParts) (t u c d : TagForm) → IsCanonicalFormOf R t c → IsCanonicalFormOf R u d → (text_of c ≡ text_of d) ↔ (c ≡ d)
-same_form_text R t u c d h k = same_text c d (is_tag R t c h) (is_tag R u d k)
+same_form_text R t u c d h k = same_text c d h.canonical.valid.proper.tag.tag k.canonical.valid.proper.tag.tag
 
 -- equal texts of canonical forms tell equivalent tags
 pub text_equality : (R : List EntryParts) → EquivalenceIsEquality R → EquivalenceIsEqualText R
@@ -75,43 +72,10 @@ module _ (R : List EntryParts) (C : IsChecked R) where
 
   pub text_twice_is_once : CanonicalTextTwiceIsOnce R
   text_twice_is_once text canonical x short =
-      let form : TagForm = x.form in
-      let T : IsTag form = is_tag R x.tag form x.is_form in
-      let n : length (text_of form) ≤ longest_text = subst (λ b. length b ≤ longest_text) x.written short in
-      let read : HasTag canonical form = subst (λ b. HasTag b form) (sym x.written) (read_again form T n) in
-      let own : IsCanonicalFormOf R form form = own_form form x.is_form.canonical in (
-        record { tag = form; read = read; form = form; is_form = own; written = x.written },
+      let read : HasTag canonical x.form = rw x.written (read_again x.form x.is_form.canonical.valid.proper.tag.tag (rw x.written at short)) in
+      let own = own_form x.form x.is_form.canonical in (
+        record { tag = x.form; read = read; form = x.form; is_form = own; written = x.written },
         (λ other y.
-            let same : y.tag ≡ form = one_tag_of_text canonical y.tag form y.read read in
-            let k : IsCanonicalFormOf R form y.form = subst (λ t. IsCanonicalFormOf R t y.form) same y.is_form in
-            y.written ∙ ap text_of (one_form form y.form form k own) ∙ sym x.written),
+            let k = rw (one_tag_of_text canonical y.tag x.form y.read read) at y.is_form in
+            y.written ∙ ap text_of (one_form x.form y.form x.form k own) ∙ sym x.written),
       )
-
-  -- the extlang form of a canonical form
-  pub extlang_answer : (t c form : TagForm) → IsCanonicalFormOf R t c → form ≡ extlang_form R c → IsExtlangFormOf R t form
-  extlang_answer t c form h e =
-      let L = forms_lead_back R C c h.canonical in
-      let back : IsCanonicalFormOf R (extlang_form R c) c = end_canonical R C (extlang_form R c) c L.valid (reached_is_end (end_form R C) (extlang_form R c) c L.valid.proper L.reached h.canonical.at_rest) h.canonical.valid.distinct in
-      subst (IsExtlangFormOf R t) (sym e) (record { canonical = c; canonical_form = h; is = refl; valid = L.valid; back = back })
-
--- a tag without a core is its own extlang form
-pub coreless_extlang : (R : List EntryParts) (c : TagForm) → core_of c ≡ None → c ≡ extlang_form R c
-coreless_extlang R (LangTag d es ps) h = cc
-coreless_extlang R (PrivateUse ps) h = refl
-coreless_extlang R (Grandfathered n) h = refl
-
--- that of a langtag, by the Prefix of its language
-pub extlang_form_is : (R : List EntryParts) (c : TagForm) (d : CoreParts) (o : Option (List ℕ)) → core_of c ≡ Some d → prefix_of (prefixes R kinds.Extlang d.language) ≡ o → extlang_form R c ≡ LangTag (behind o d) (extensions_of c) (private_of c)
-extlang_form_is R c d o h k = ap (extlang_form R) (langtag_of c d h) ∙ ap (λ x. LangTag (behind x d) (extensions_of c) (private_of c)) k
-
-module _ (R : List EntryParts) (C : IsChecked R) where
-  pub no_extlang_there : (c : TagForm) (d : CoreParts) → IsCanonical R c → core_of c ≡ Some d → d.extlangs ≡ []
-  no_extlang_there c d K h =
-      let e = langtag_of c d h in
-      no_extlang R C d (extensions_of c) (private_of c) (subst (IsProper R) e K.valid.proper) (subst (Rests (TagStep R)) e K.at_rest) d.extlangs refl
-
-  -- the Prefix in front spells no grandfathered tag
-  pub front_spells_none : (c : TagForm) (d : CoreParts) (p : List ℕ) → IsCanonical R c → core_of c ≡ Some d → prefix_of (prefixes R kinds.Extlang d.language) ≡ Some p → IsNotGrandfathered (spell_core (behind (Some p) d))
-  front_spells_none c d p K h k =
-      let P = subst (IsProper R) (extlang_form_is R c d (Some p) h k) (forms_lead_back R C c K).valid.proper in
-      core_spells_none R C (behind (Some p) d) (proper_parts R (behind (Some p) d) (extensions_of c) (private_of c) P).core

@@ -26,9 +26,8 @@ use Rattle.lt_canon.specs.declared.refusals.Refusal.TheVariants as refusals
 use Rattle.lt_canon.proofs.Distinctness.{second_repeats}
 use Rattle.lt_canon.proofs.EndForms.{star_proper}
 use Rattle.lt_rewrite.proofs.ProperTags.{proper_parts}
-use Rattle.lt_canon.proofs.TagForm.{core_spells_none, core_end, cores_formed, cores_reached, cores_proper, extensions_end, extensions_end_formed, parts_reached, resting, value_end, value_end_is, whole_end, whole_end_some, whole_end_none, whole_kept_at, tag_end, end_form, extensions_step_to}
+use Rattle.lt_canon.proofs.TagForm.{core_spells_none, core_end, cores_formed, cores_reached, cores_proper, extensions_end, extensions_end_formed, parts_reached, resting, value_end, value_end_is, whole_end, whole_end_some, whole_end_none, whole_kept_at, tag_end, end_form, extensions_step_to, none_rests, some_end}
 use Rattle.lt_canon.proofs.SourceRepeats.{source_repeats, named_source}
-use Rattle.lt_canon.proofs.TagRest.{none_rests, some_end}
 use Rattle.lt_canon.proofs.TagRepeats.{end_canonical}
 use Rattle.lt_canon.proofs.NamedRepeats.{lang_distinct, whole_distinct}
 use Rattle.lt_tag.specs.Lists.{longest_text}

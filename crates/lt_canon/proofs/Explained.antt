@@ -25,8 +25,7 @@ use Rattle.lt_check.specs.Conditions.{IsChecked}
 use Rattle.lt_canon.specs.Answers.{IsCanonicalFormOf}
 use Rattle.lt_canon.specs.Explaining.{rank_in, IsExplanation, RestsOnCore, LeadsToRest}
 use Rattle.lt_check.proofs.CheckedRegistry.{value_plain}
-use Rattle.lt_canon.proofs.TagForm.{core_end, cores_formed, value_rests, extensions_step_from, end_form}
-use Rattle.lt_canon.proofs.TagRest.{lang_at_end, grandfathered_rests, private_rests, none_rests}
+use Rattle.lt_canon.proofs.TagForm.{core_end, cores_formed, value_rests, extensions_step_from, end_form, lang_at_end, grandfathered_rests, private_rests, none_rests}
 use Rattle.lt_canon.proofs.EndForms.{reached_is_end}
 use Rattle.lt_canon.proofs.TagRepeats.{form_is_end}
 use Rattle.lt_canon.proofs.CanonicalForms.{langtag_of, transforms_have_parts, form_some}

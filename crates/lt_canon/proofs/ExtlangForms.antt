@@ -1,13 +1,13 @@
--- The extlang form of a canonical tag is valid, and leads back to it.
-use Rattle.std.proofs.Common.{◌≡◌, ℕ, ◌≤◌, Bool, true, false, ◌&&◌, ◌||◌, List, [], ◌∷◌, Option, Some, None, refl, sym, ap, ◌∙◌, subst, length, arith}
+-- The extlang form of a canonical tag is valid, and leads back to it; and what code shows of it.
+use Rattle.std.proofs.Common.{◌≡◌, ℕ, ◌≤◌, Bool, true, false, ◌&&◌, ◌||◌, List, [], ◌∷◌, Option, Some, None, refl, sym, ap, ◌∙◌, subst, length, arith, ◌↔◌, IsTrue}
 use Rattle.std.specs.Prelude.{is_some, unwrap_or}
 use Rattle.std.proofs.lemmas.Slice.Eq.{bytes_eq-Decides}
 use Rattle.std.proofs.lemmas.Bool.{and_from, leb-true}
 use Rattle.std.proofs.lemmas.Option.{cond_some}
 use Rattle.std.specs.Option.{option_map_or}
 use Rattle.lt_subtag.specs.Shapes.{is_language, is_extlang}
-use Rattle.lt_tag.specs.Parts.{CoreParts, ExtensionParts, LangTag}
-use Rattle.lt_tag.specs.Spelling.{IsCore}
+use Rattle.lt_tag.specs.Parts.{CoreParts, ExtensionParts, LangTag, TagForm, PrivateUse, Grandfathered}
+use Rattle.lt_tag.specs.Spelling.{IsCore, spell_core}
 use Rattle.lt_registry.specs.Parts.{EntryParts}
 use Rattle.lt_registry.specs.Entries.{one_of, preferred_value, entry, prefixes, has_prefix, replacement, is_short, is_registered}
 use Rattle.lt_registry.specs.Validity.{ExtlangsFit, IsProperCore, IsProper, IsValid}
@@ -18,15 +18,30 @@ use Rattle.lt_rewrite.specs.Laws.{IsProperValue}
 use Rattle.lt_rewrite.specs.TagSteps.{TagStep, IsReached, IsCanonical, on_core}
 use Rattle.lt_rewrite.proofs.Entries.{prefixes_at}
 use Rattle.lt_rewrite.proofs.Forms.{ExtlangEntry, extlang_entry, replacement_at}
-use Rattle.lt_rewrite.proofs.NameForms.{language_form, extlang_form}
+use Rattle.lt_rewrite.proofs.NameForms.{language_form, extlang_form as extlang_name_form}
 use Rattle.lt_rewrite.proofs.CoreLaws.{one_end_one_form, by_extlang, by_language}
 use Rattle.lt_rewrite.proofs.ProperTags.{proper_parts, proper_langtag}
 use Rattle.lt_check.specs.Conditions.{IsChecked}
-use Rattle.lt_canon.specs.ExtlangForm.{prefix_of, behind}
+use Rattle.lt_canon.specs.ExtlangForm.{prefix_of, behind, extlang_form, IsExtlangFormOf}
 use Rattle.lt_canon.specs.ExtlangLaws.{ExtlangFormsLeadBack}
 use Rattle.lt_check.proofs.Checks.{core_conditions}
-use Rattle.lt_canon.proofs.EndForms.{rest_is_end}
+use Rattle.lt_canon.proofs.EndForms.{rest_is_end, reached_is_end}
 use Rattle.lt_canon.proofs.TagForm.{core_spells_none, step_of_change, core_end, cores_formed, lang_end, tag_reached, end_form}
+use Rattle.std.specs.Ordering.{eq_by_cmp}
+use Rattle.lt_tag.specs.Values.{core_of, extensions_of, private_of}
+use Rattle.lt_tag.specs.WellFormed.{spell, IsTag, IsNotGrandfathered}
+use Rattle.lt_tag.specs.Conventional.{conventional}
+use Rattle.lt_tag.specs.Order.{tag_cmp}
+use Rattle.lt_tag.specs.OrderLaws.{same_exactly, tag_total, tags_apart}
+use Rattle.lt_tag.specs.Faults.{HasTag}
+use Rattle.lt_tag.proofs.OneTagLemmas.{one_tag_of_text, read_again, same_text}
+use Rattle.lt_canon.specs.Answers.{IsCanonicalFormOf}
+use Rattle.lt_canon.specs.Equivalence.{IsEquivalenceAnswer}
+use Rattle.lt_canon.specs.Corollaries.{EquivalenceIsEquality}
+use Rattle.lt_canon.specs.Laws.{EquivalenceIsEqualText, CanonicalTwiceIsOnce, CanonicalTextTwiceIsOnce}
+use Rattle.lt_canon.proofs.TagRepeats.{end_canonical, form_is_end}
+use Rattle.lt_canon.proofs.CanonicalForms.{langtag_of}
+use Rattle.lt_tag.specs.Lists.{longest_text}
 
 abbrev core : List ℕ → List (List ℕ) → Option (List ℕ) → Option (List ℕ) → List (List ℕ) → CoreParts
 core l xs sc re vs = record { language = l; extlangs = xs; script = sc; region = re; variants = vs }
@@ -56,7 +71,7 @@ module _ (R : List EntryParts) (C : IsChecked R) where
             registered = rw is.1 at x.fits.final_prefix.registered;
             prefix = rw is.1 at (language_form R C.registry x.fits.prefix x.fits.final_prefix.registered);
             short = rw is.1 at (leb-true (length x.fits.prefix) 3 is.0);
-            extlang = extlang_form R C.registry l x;
+            extlang = extlang_name_form R C.registry l x;
           }
 
   -- a canonical langtag has no extlang
@@ -122,3 +137,32 @@ module _ (R : List EntryParts) (C : IsChecked R) where
   pub forms_lead_back : ExtlangFormsLeadBack R
   forms_lead_back (LangTag d es ps) K = let r = lead_back_at d es ps K (prefix_of (prefixes R kinds.Extlang d.language)) refl in record { valid = r.0; reached = r.1 }
   forms_lead_back _ K = record { valid = K.valid; reached = done }
+
+-- a tag without a core is its own extlang form
+pub coreless_extlang : (R : List EntryParts) (c : TagForm) → core_of c ≡ None → c ≡ extlang_form R c
+coreless_extlang R (LangTag d es ps) h = cc
+coreless_extlang R (PrivateUse ps) h = refl
+coreless_extlang R (Grandfathered n) h = refl
+
+-- that of a langtag, by the Prefix of its language
+pub extlang_form_is : (R : List EntryParts) (c : TagForm) (d : CoreParts) (o : Option (List ℕ)) → core_of c ≡ Some d → prefix_of (prefixes R kinds.Extlang d.language) ≡ o → extlang_form R c ≡ LangTag (behind o d) (extensions_of c) (private_of c)
+extlang_form_is R c d o h k = ap (extlang_form R) (langtag_of c d h) ∙ ap (λ x. LangTag (behind x d) (extensions_of c) (private_of c)) k
+
+module _ (R : List EntryParts) (C : IsChecked R) where
+  -- the extlang form of a canonical form
+  pub extlang_answer : (t c form : TagForm) → IsCanonicalFormOf R t c → form ≡ extlang_form R c → IsExtlangFormOf R t form
+  extlang_answer t c form h e =
+      let L = forms_lead_back R C c h.canonical in
+      let back : IsCanonicalFormOf R (extlang_form R c) c = end_canonical R C (extlang_form R c) c L.valid (reached_is_end (end_form R C) (extlang_form R c) c L.valid.proper L.reached h.canonical.at_rest) h.canonical.valid.distinct in
+      subst (IsExtlangFormOf R t) (sym e) (record { canonical = c; canonical_form = h; is = refl; valid = L.valid; back = back })
+
+  pub no_extlang_there : (c : TagForm) (d : CoreParts) → IsCanonical R c → core_of c ≡ Some d → d.extlangs ≡ []
+  no_extlang_there c d K h =
+      let e = langtag_of c d h in
+      no_extlang R C d (extensions_of c) (private_of c) (subst (IsProper R) e K.valid.proper) (subst (Rests (TagStep R)) e K.at_rest) d.extlangs refl
+
+  -- the Prefix in front spells no grandfathered tag
+  pub front_spells_none : (c : TagForm) (d : CoreParts) (p : List ℕ) → IsCanonical R c → core_of c ≡ Some d → prefix_of (prefixes R kinds.Extlang d.language) ≡ Some p → IsNotGrandfathered (spell_core (behind (Some p) d))
+  front_spells_none c d p K h k =
+      let P = subst (IsProper R) (extlang_form_is R c d (Some p) h k) (forms_lead_back R C c K).valid.proper in
+      core_spells_none R C (behind (Some p) d) (proper_parts R (behind (Some p) d) (extensions_of c) (private_of c) P).core

@@ -1,5 +1,6 @@
--- The first step on a core, on a whole tag and on extensions is the first on the tag, where none comes before it.
-use Rattle.std.proofs.Common.{◌≡◌, ℕ, ◌+◌, ◌<◌, ◌≤◌, inl, Bool, Ordering, List, [], ◌∷◌, refl, sym, ap, subst, length, arith}
+-- The first step on a core, on a whole tag and on extensions is the first on the tag, where none comes before it. A
+-- tag has one explanation: the first of the steps that lead on is one alone.
+use Rattle.std.proofs.Common.{◌≡◌, ℕ, ◌+◌, ◌<◌, ◌≤◌, inl, Bool, Ordering, List, [], ◌∷◌, refl, sym, ap, subst, length, arith, inr, true, false, get_or, ◌∙◌}
 use Rattle.std.proofs.lemmas.Bool.Decides.{nat_tests}
 use Rattle.lt_tag.specs.Parts.{CoreParts, ExtensionParts, UForm, TForm, TagForm, LangTag}
 use Rattle.lt_tag.specs.Spelling.{spell_core, spell_extension, spell_extensions}
@@ -10,18 +11,21 @@ use Rattle.lt_registry.specs.Validity.{IsProper}
 use Rattle.lt_rewrite.specs.CoreSteps.{values_of, CoreStep}
 use Rattle.lt_rewrite.specs.Orderings.{ListStep, by_swap, by_drop}
 use Rattle.lt_rewrite.specs.Extensions.{UnicodeStep, on_attributes, on_keywords, on_types, TransformStep, on_source, on_fields, ExtensionStep, in_unicode, in_transform, ExtensionsStep, inside, among}
-use Rattle.lt_rewrite.specs.TagSteps.{CanBeReplacedWhole, TagChange, on_core, on_extensions, on_whole}
+use Rattle.lt_rewrite.specs.TagSteps.{CanBeReplacedWhole, TagChange, on_core, on_extensions, on_whole, TagStep}
 use Rattle.lt_rewrite.specs.Labels.{step_at, core_label, list_label, unicode_label, transform_label, extension_label, extensions_label, tag_label, LeadsBy}
 use Rattle.lt_rewrite.specs.Applying.{CoreLeads, ExtensionsLeads}
-use Rattle.lt_rewrite.specs.Runs.{rank_of, kind_rank, extension_rank, IsNoLater, IsFirst, NoneLeads}
+use Rattle.lt_rewrite.specs.Runs.{rank_of, kind_rank, extension_rank, IsNoLater, IsFirst, NoneLeads, IsRun}
 use Rattle.lt_rewrite.specs.declared.steps.Step.{Step}
 use Rattle.lt_rewrite.specs.declared.steps.StepKind.{StepKind}
 use Rattle.lt_rewrite.specs.declared.steps.StepKind.TheVariants as steps
-use Rattle.lt_rewrite.proofs.StepLaws.{core_rank, core_low, core_high}
+use Rattle.lt_rewrite.proofs.StepLaws.{core_rank, core_low, core_high, steps_determined}
 use Rattle.lt_check.specs.Conditions.{IsChecked}
-use Rattle.lt_canon.specs.Explaining.{rank_in}
+use Rattle.lt_canon.specs.Explaining.{rank_in, is_of_source, HasOneExplanation}
 use Rattle.lt_canon.proofs.TagForm.{core_step_tag, extensions_step_tag, extensions_step_from}
 use Rattle.lt_tag.specs.Splitting.{spell_source}
+use Rattle.std.specs.Prelude.{nat_le, if◌then◌else◌}
+use Rattle.lt_rewrite.specs.Rewriting.{Rests}
+use Rattle.lt_rewrite.specs.Laws.{AreOneStep}
 
 -- the ranks of steps
 
@@ -135,3 +139,50 @@ module _ (R : List EntryParts) (c : CoreParts) (es : List ExtensionParts) (ps : 
         first = λ other u l. extensions_before step fs other none h (leads_by other u l.0.change l.1);
       },
     )
+
+-- the kinds by their ranks, those of steps on a source after the others and before SwapFields
+kind_at : ℕ → StepKind
+kind_at n = get_or (
+    steps.Whole ∷ steps.Extlang ∷ steps.Language ∷ steps.Script ∷ steps.Region ∷ steps.Variant ∷ steps.VariantLanguage ∷ steps.Whole ∷
+    steps.SwapExtensions ∷ steps.DropAttribute ∷ steps.SwapAttributes ∷ steps.DropKeyword ∷ steps.SwapKeywords ∷ steps.DropTrue ∷
+    steps.Extlang ∷ steps.Language ∷ steps.Script ∷ steps.Region ∷ steps.Variant ∷ steps.VariantLanguage ∷ []) n steps.SwapFields
+
+-- the rank of a kind, on a source or elsewhere
+rank_on : Bool → StepKind → ℕ
+rank_on source kind = if source then (if nat_le (rank_of kind) 6 then rank_of kind + 13 else rank_of kind) else rank_of kind
+
+kind_back : (source : Bool) (kind : StepKind) → kind_at (rank_on source kind) ≡ kind
+unfolding kind_at rank_on
+kind_back true steps.Extlang = refl
+kind_back true _ = refl
+kind_back false steps.Extlang = refl
+kind_back false _ = refl
+
+-- so the rank of a step among the steps on a tag tells its kind
+rank_tells : (t : TagForm) (step : Step) → kind_at (rank_in t step) ≡ step.kind
+unfolding rank_on
+rank_tells t step = kind_back (is_of_source t step) step.kind
+
+-- of two steps that each come no later than the other
+both_first : (rank : Step → ℕ) (a b : Step) → IsNoLater rank a b → IsNoLater rank b a → (rank a ≡ rank b) × (a.place ≡ b.place)
+both_first rank a b (inl x) (inl y) = absurd (omega (arith, x, y))
+both_first rank a b (inl x) (inr y) = absurd (omega (arith, x, y.0))
+both_first rank a b (inr x) (inl y) = absurd (omega (arith, x.0, y))
+both_first rank a b (inr x) (inr y) = (x.0, omega (arith, x.1, y.1))
+
+one_first : (R : List EntryParts) (t u v : TagForm) (a b : Step) → IsFirst (LeadsBy R t) (rank_in t) a u → IsFirst (LeadsBy R t) (rank_in t) b v → AreOneStep a b u v
+one_first R t u v a b h k =
+    let e = both_first (rank_in t) a b (h.first b v k.leads) (k.first a u h.leads) in
+    steps_determined R t u v a b h.leads k.leads (sym (rank_tells t a) ∙ ap kind_at e.0 ∙ rank_tells t b) e.1
+
+one_run : (R : List EntryParts) (t a b : TagForm) (xs ys : List Step) → IsRun (LeadsBy R) rank_in t xs a → IsRun (LeadsBy R) rank_in t ys b → Rests (TagStep R) a → Rests (TagStep R) b → (xs ≡ ys) × (a ≡ b)
+one_run R t a b [] [] h k m n = (refl, sym h ∙ k)
+one_run R t a b [] (y ∷ ys) h k m n = absurd (m k.0 (subst (λ x. TagStep R x k.0) h k.1.leads.0))
+one_run R t a b (x ∷ xs) [] h k m n = absurd (n h.0 (subst (λ x. TagStep R x h.0) k h.1.leads.0))
+one_run R t a b (x ∷ xs) (y ∷ ys) h k m n =
+    let one : AreOneStep x y h.0 k.0 = one_first R t h.0 k.0 x y h.1 k.1 in
+    let rest = one_run R h.0 a b xs ys h.2 (subst (λ c. IsRun (LeadsBy R) rank_in c ys b) (sym one.result) k.2) m n in
+    (λ i. one.same i ∷ rest.0 i, rest.1)
+
+pub one_explanation : (R : List EntryParts) → HasOneExplanation R
+one_explanation R t a b xs ys h k = one_run R t a b xs ys h.is_run k.is_run h.form.canonical.at_rest k.form.canonical.at_rest

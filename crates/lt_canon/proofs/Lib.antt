@@ -6,14 +6,10 @@ pub mod TagRepeats
 pub mod CanonicalForms
 pub mod StayingTags
 -- What this crate alone uses.
-mod TagRest
 mod NamedRepeats
 mod ExtlangForms
 mod SourceRepeats
 mod AnswerLaws
-mod OneExplanation
 mod Tracing
 mod FirstTagSteps
 mod Explained
-mod ExplanationLines
-mod UsualTags

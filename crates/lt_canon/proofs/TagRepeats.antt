@@ -25,8 +25,7 @@ use Rattle.lt_canon.proofs.EndForms.{star_proper, star_end, star_equivalent, equ
 use Rattle.lt_canon.proofs.Distinctness.{distinct_or_second, second_repeats}
 use Rattle.lt_canon.proofs.SourceRepeats.{OfSource, source_told, told_source, source_repeats, sources_or_second, source_end}
 use Rattle.lt_canon.specs.Settled.{IsSecondInSources}
-use Rattle.lt_canon.proofs.TagForm.{or_value, core_end, extension_end, value_end, tag_end, tag_reached, end_form}
-use Rattle.lt_canon.proofs.TagRest.{tag_end_rests}
+use Rattle.lt_canon.proofs.TagForm.{or_value, core_end, extension_end, value_end, tag_end, tag_reached, end_form, tag_end_rests}
 use Rattle.lt_tag.specs.Values.{core_alone}
 
 -- what each part has in another order, each part has

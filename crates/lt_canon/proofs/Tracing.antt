@@ -1,9 +1,9 @@
--- Traces one step after another.
-use Rattle.std.proofs.Common.{◌≡◌, ◌≢◌, ℕ, ◌+◌, ◌<◌, List, [], ◌∷◌, ◌++◌, refl, sym, ap, ◌∙◌, subst, length, take, drop, get_or, arith}
-use Rattle.std.proofs.lemmas.List.{take_more, drop_more, take-append-drop, length-take-le}
+-- Traces one step after another, and their lines.
+use Rattle.std.proofs.Common.{◌≡◌, ◌≢◌, ℕ, ◌+◌, ◌<◌, List, [], ◌∷◌, ◌++◌, refl, sym, ap, ◌∙◌, subst, length, take, drop, get_or, arith, ◌≤◌, append_assoc}
+use Rattle.std.proofs.lemmas.List.{take_more, drop_more, take-append-drop, length-take-le, drop_all, append-nil}
 use Rattle.lt_tag.specs.Parts.{TagForm}
 use Rattle.lt_registry.specs.Parts.{EntryParts}
-use Rattle.lt_registry.specs.Validity.{IsValid}
+use Rattle.lt_registry.specs.Validity.{IsValid, IsProper}
 use Rattle.lt_registry.specs.Faults.{IsRefusal}
 use Rattle.lt_registry.proofs.ValidityLaws.{valid_law}
 use Rattle.lt_registry.specs.declared.faults.ValidRefusal.{ValidRefusal}
@@ -22,6 +22,7 @@ use Rattle.lt_canon.specs.TraceLaws.{TracesReachTheirEnd, TracesHaveOneEnd}
 use Rattle.lt_canon.specs.Traces.{IsValidTrace, IsMisstep, IsTraceFault, IsFollowFault, of_invalid, no_trace_memory}
 use Rattle.lt_canon.specs.declared.traces.TraceFault.{TraceFault}
 use Rattle.lt_canon.specs.declared.traces.TraceFault.TheVariants as faults
+use Rattle.lt_canon.specs.ExplanationTexts.{AppendsSteps, AreStepLines, step_line}
 
 pub trace_determined : (R : List EntryParts) → TracesHaveOneEnd R
 trace_determined R t a b [] h k = sym h ∙ k
@@ -87,3 +88,44 @@ fault_excludes R t end steps (faults.Invalid fault) h n v = (valid_law R t v.val
 fault_excludes R t end steps (faults.NoSuchStep k) h n v = misstep_ends R t end steps k h.1 v.trace
 fault_excludes R t end steps faults.WrongEnd h n v = h.1.other (trace_determined R t h.1.tag end steps h.1.led v.trace)
 fault_excludes R t end steps faults.OutOfMemory h n v = n refl
+
+-- the rest of the trace leads on from here, and its lines complete those that were appended
+pub record LinesSoFar (R : List EntryParts) (t : TagForm) (steps : List Step) (end : TagForm) (old new : List ℕ) (i : ℕ) (here : TagForm) : Type 0 where
+  pub proper : IsProper R here
+  pub ahead : IsTrace R here (drop i steps) end
+  pub lines : List ℕ
+  pub grown : new ≡ old ++ lines
+  pub completes : (rest : List ℕ) → AreStepLines R (drop i steps) end here rest → AreStepLines R steps end t (lines ++ rest)
+
+-- a step led on, and its line was appended
+pub explaining_more : (R : List EntryParts) (t : TagForm) (steps : List Step) (end : TagForm) (old new more : List ℕ) (i : ℕ) (default : Step) (here next : TagForm) → i < length steps
+    → LinesSoFar R t steps end old new i here → LeadsBy R here (get_or steps i default) next → IsProper R next → more ≡ new ++ step_line (get_or steps i default) next
+    → LinesSoFar R t steps end old more (i + 1) next
+explaining_more R t steps end old new more i default here next h now on proper grown =
+    let step = get_or steps i default in
+    let ahead : IsTrace R here (step ∷ drop (i + 1) steps) end = rw (drop_more steps i default h) at now.ahead in
+    let same : ahead.0 ≡ next = (steps_determined R here ahead.0 next step step ahead.1 on refl refl).result in
+    record {
+      proper = proper;
+      ahead = rw same at ahead.2;
+      lines = now.lines ++ step_line step next;
+      grown = rw (grown, now.grown) (append_assoc old now.lines (step_line step next));
+      completes = λ rest printed. rw (append_assoc now.lines (step_line step next) rest)
+          (now.completes (step_line step next ++ rest) (rw (drop_more steps i default h) (record { after = next; leads = on; rest = rest; printed = printed; line_is = refl })));
+    }
+
+-- all steps led on
+pub explaining_done : (R : List EntryParts) (t : TagForm) (steps : List Step) (end : TagForm) (old new : List ℕ) (i : ℕ) (here : TagForm) → length steps ≤ i
+    → LinesSoFar R t steps end old new i here → AppendsSteps R t steps end old new
+explaining_done R t steps end old new i here h now =
+    let none : drop i steps ≡ [] = drop_all i steps h in
+    let there : IsTrace R here [] end = rw none at now.ahead in
+    record { lines = now.lines; grown = now.grown; are_steps = rw (append-nil now.lines) at (now.completes [] (rw none (there, refl))) }
+
+-- the step at an index leads on
+pub step_leads : (R : List EntryParts) (steps : List Step) (end : TagForm) (i : ℕ) (default : Step) (here : TagForm) (fault : ApplyFault) → i < length steps → IsTrace R here (drop i steps) end
+    → IsApplyFault R here (get_or steps i default) fault → fault ≡ apply_faults.NoSuchStep → ⊥
+step_leads R steps end i default here fault h trace stuck e =
+    let ahead : IsTrace R here (get_or steps i default ∷ drop (i + 1) steps) end = rw (drop_more steps i default h) at trace in
+    let none : IsApplyFault R here (get_or steps i default) apply_faults.NoSuchStep = rw e at stuck in
+    none ahead.0 ahead.1

@@ -1,7 +1,7 @@
 use Rattle.std.proofs.Common.{sym, ◌∙◌}
 use Rattle.std.proofs.lemmas.Result.{err_from_is_err_and}
 use Rattle.lt_registry.proofs.ValidityLaws.{valid_law}
-use Rattle.lt_canon.proofs.UsualTags.{usual_refused, usual_valid, usual_settled}
+use Rattle.lt_canon.proofs.StayingTags.{usual_refused, usual_valid, usual_settled}
 use Rattle.lt_canon.proofs.canonical_tags.needs_settling.Goals as goal
 
 pub returns-in_err-is_core_valued-in-Some-clause-refusal :

@@ -1,7 +1,7 @@
 use Rattle.lt_rewrite.specs.Labels.{step_at}
 use Rattle.lt_rewrite.specs.declared.steps.Step.{Step}
 use Rattle.lt_rewrite.specs.declared.steps.StepKind.TheVariants as kinds
-use Rattle.lt_canon.proofs.ExplanationLines.{explaining_more, explaining_done, step_leads}
+use Rattle.lt_canon.proofs.Tracing.{explaining_more, explaining_done, step_leads}
 use Rattle.lt_canon.proofs.explanation_texts.append_steps.Goals as goal
 
 abbrev none : Step

@@ -4,10 +4,8 @@ use Rattle.lt_tag.specs.Parts.{CoreParts}
 use Rattle.lt_registry.specs.Entries.{prefixes}
 use Rattle.lt_registry.specs.declared.entries.Kind.TheVariants as kinds
 use Rattle.lt_canon.specs.ExtlangForm.{prefix_of}
-use Rattle.lt_canon.proofs.CanonicalForms.{langtag_of}
-use Rattle.lt_canon.proofs.AnswerLaws.{extlang_answer, coreless_extlang, extlang_form_is, no_extlang_there, front_spells_none}
-use Rattle.lt_canon.proofs.ExtlangForms.{IsFittingPrefix, fitting_prefix}
-use Rattle.lt_canon.proofs.CanonicalForms.{refused}
+use Rattle.lt_canon.proofs.CanonicalForms.{langtag_of, refused}
+use Rattle.lt_canon.proofs.ExtlangForms.{extlang_answer, coreless_extlang, extlang_form_is, no_extlang_there, front_spells_none, IsFittingPrefix, fitting_prefix}
 use Rattle.lt_canon.proofs.extlang_forms.extlang_form.Goals as goal
 use Rattle.lt_canon.proofs.extlang_forms.extlang_form.Goals.{In-Some-extlang_prefix, After-set_extlang}
 
