@@ -1,34 +1,23 @@
 -- Canonical forms are their own, equal texts tell equivalent tags, and the extlang form goes back to the canonical one.
-use Rattle.std.proofs.Common.{◌≡◌, ℕ, ◌≤◌, Bool, ◌↔◌, IsTrue, List, [], Option, Some, None, refl, sym, ap, ◌∙◌, subst, length}
+use Rattle.std.proofs.Common.{◌≡◌, ℕ, Bool, ◌↔◌, IsTrue, List, sym, ap, ◌∙◌, subst}
 use Rattle.std.specs.Ordering.{eq_by_cmp}
-use Rattle.lt_tag.specs.Parts.{CoreParts, TagForm, LangTag, PrivateUse, Grandfathered}
-use Rattle.lt_tag.specs.Spelling.{spell_core}
-use Rattle.lt_tag.specs.Values.{core_of, extensions_of, private_of}
-use Rattle.lt_tag.specs.WellFormed.{spell, IsTag, IsNotGrandfathered}
+use Rattle.lt_tag.specs.Parts.{TagForm}
+use Rattle.lt_tag.specs.WellFormed.{spell}
 use Rattle.lt_tag.specs.Conventional.{conventional}
 use Rattle.lt_tag.specs.Order.{tag_cmp}
 use Rattle.lt_tag.specs.OrderLaws.{same_exactly, tag_total, tags_apart}
 use Rattle.lt_tag.specs.Faults.{HasTag}
 use Rattle.lt_tag.proofs.OneTagLemmas.{one_tag_of_text, read_again, same_text}
 use Rattle.lt_registry.specs.Parts.{EntryParts}
-use Rattle.lt_registry.specs.Entries.{prefixes}
-use Rattle.lt_registry.specs.Validity.{IsProper}
-use Rattle.lt_registry.specs.declared.entries.Kind.TheVariants as kinds
-use Rattle.lt_rewrite.specs.Rewriting.{Rests}
-use Rattle.lt_rewrite.specs.TagSteps.{TagStep, IsCanonical}
+use Rattle.lt_rewrite.specs.TagSteps.{IsCanonical}
 use Rattle.lt_check.specs.Conditions.{IsChecked}
 use Rattle.lt_canon.specs.Answers.{IsCanonicalFormOf}
 use Rattle.lt_canon.specs.Equivalence.{IsEquivalenceAnswer}
-use Rattle.lt_canon.specs.ExtlangForm.{prefix_of, behind, extlang_form, IsExtlangFormOf}
 use Rattle.lt_canon.specs.Corollaries.{EquivalenceIsEquality}
 use Rattle.lt_canon.specs.Laws.{EquivalenceIsEqualText, CanonicalTwiceIsOnce, CanonicalTextTwiceIsOnce}
 use Rattle.lt_canon.proofs.TagRepeats.{end_canonical, form_is_end}
-use Rattle.lt_canon.proofs.ExtlangForms.{no_extlang, forms_lead_back}
-use Rattle.lt_rewrite.proofs.ProperTags.{proper_parts}
-use Rattle.lt_canon.proofs.TagForm.{core_spells_none, end_form}
-use Rattle.lt_canon.proofs.CanonicalForms.{langtag_of}
-use Rattle.lt_canon.proofs.EndForms.{rest_is_end, reached_is_end}
-use Rattle.lt_tag.specs.Lists.{longest_text}
+use Rattle.lt_canon.proofs.TagForm.{end_form}
+use Rattle.lt_canon.proofs.EndForms.{rest_is_end}
 
 -- the text of a tag
 abbrev text_of : TagForm → List ℕ

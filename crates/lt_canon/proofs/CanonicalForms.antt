@@ -28,8 +28,7 @@ use Rattle.lt_canon.proofs.EndForms.{star_proper}
 use Rattle.lt_rewrite.proofs.ProperTags.{proper_parts}
 use Rattle.lt_canon.proofs.TagForm.{core_spells_none, core_end, cores_formed, cores_reached, cores_proper, extensions_end, extensions_end_formed, parts_reached, resting, value_end, value_end_is, whole_end, whole_end_some, whole_end_none, whole_kept_at, tag_end, end_form, extensions_step_to, none_rests, some_end}
 use Rattle.lt_canon.proofs.SourceRepeats.{source_repeats, named_source}
-use Rattle.lt_canon.proofs.TagRepeats.{end_canonical}
-use Rattle.lt_canon.proofs.NamedRepeats.{lang_distinct, whole_distinct}
+use Rattle.lt_canon.proofs.TagRepeats.{end_canonical, lang_distinct, value_distinct}
 use Rattle.lt_tag.specs.Lists.{longest_text}
 
 -- a tag by what its readers show
@@ -143,7 +142,7 @@ module _ (R : List EntryParts) (C : IsChecked R) where
   settled_distinct (LangTag c es ps) s k =
       lang_distinct R C (core_end R C c) es ps (rw (normal_is_form (cores_formed R C) c k.core k.form.normal) k.form.distinct) (rw (normal_is_form (extensions_end_formed R C) es k.extensions k.normal) k.distinct)
   settled_distinct (PrivateUse ps) s k = tt
-  settled_distinct (Grandfathered n) s k = whole_distinct R C (Grandfathered n) tt (whole_value R (Grandfathered n)) refl
+  settled_distinct (Grandfathered n) s k = value_distinct R C (Grandfathered n) tt (whole_value R (Grandfathered n)) refl
 
   -- a tag whose parts are in their normal forms, and then its value
   pub settled_canonical : (t s r : TagForm) → IsValid R t → IsSettledTag R t s → IsReplacedWhole R s r → IsCanonicalFormOf R t r

@@ -1,5 +1,5 @@
 -- The extlang form of a canonical tag is valid, and leads back to it; and what code shows of it.
-use Rattle.std.proofs.Common.{◌≡◌, ℕ, ◌≤◌, Bool, true, false, ◌&&◌, ◌||◌, List, [], ◌∷◌, Option, Some, None, refl, sym, ap, ◌∙◌, subst, length, arith, ◌↔◌, IsTrue}
+use Rattle.std.proofs.Common.{◌≡◌, ℕ, ◌≤◌, Bool, true, false, ◌&&◌, ◌||◌, List, [], ◌∷◌, Option, Some, None, refl, sym, ap, ◌∙◌, subst, length, arith}
 use Rattle.std.specs.Prelude.{is_some, unwrap_or}
 use Rattle.std.proofs.lemmas.Slice.Eq.{bytes_eq-Decides}
 use Rattle.std.proofs.lemmas.Bool.{and_from, leb-true}
@@ -27,21 +27,11 @@ use Rattle.lt_canon.specs.ExtlangLaws.{ExtlangFormsLeadBack}
 use Rattle.lt_check.proofs.Checks.{core_conditions}
 use Rattle.lt_canon.proofs.EndForms.{rest_is_end, reached_is_end}
 use Rattle.lt_canon.proofs.TagForm.{core_spells_none, step_of_change, core_end, cores_formed, lang_end, tag_reached, end_form}
-use Rattle.std.specs.Ordering.{eq_by_cmp}
 use Rattle.lt_tag.specs.Values.{core_of, extensions_of, private_of}
-use Rattle.lt_tag.specs.WellFormed.{spell, IsTag, IsNotGrandfathered}
-use Rattle.lt_tag.specs.Conventional.{conventional}
-use Rattle.lt_tag.specs.Order.{tag_cmp}
-use Rattle.lt_tag.specs.OrderLaws.{same_exactly, tag_total, tags_apart}
-use Rattle.lt_tag.specs.Faults.{HasTag}
-use Rattle.lt_tag.proofs.OneTagLemmas.{one_tag_of_text, read_again, same_text}
+use Rattle.lt_tag.specs.WellFormed.{IsNotGrandfathered}
 use Rattle.lt_canon.specs.Answers.{IsCanonicalFormOf}
-use Rattle.lt_canon.specs.Equivalence.{IsEquivalenceAnswer}
-use Rattle.lt_canon.specs.Corollaries.{EquivalenceIsEquality}
-use Rattle.lt_canon.specs.Laws.{EquivalenceIsEqualText, CanonicalTwiceIsOnce, CanonicalTextTwiceIsOnce}
-use Rattle.lt_canon.proofs.TagRepeats.{end_canonical, form_is_end}
+use Rattle.lt_canon.proofs.TagRepeats.{end_canonical}
 use Rattle.lt_canon.proofs.CanonicalForms.{langtag_of}
-use Rattle.lt_tag.specs.Lists.{longest_text}
 
 abbrev core : List ℕ → List (List ℕ) → Option (List ℕ) → Option (List ℕ) → List (List ℕ) → CoreParts
 core l xs sc re vs = record { language = l; extlangs = xs; script = sc; region = re; variants = vs }

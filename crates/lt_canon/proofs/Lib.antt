@@ -6,7 +6,6 @@ pub mod TagRepeats
 pub mod CanonicalForms
 pub mod StayingTags
 -- What this crate alone uses.
-mod NamedRepeats
 mod ExtlangForms
 mod SourceRepeats
 mod AnswerLaws
