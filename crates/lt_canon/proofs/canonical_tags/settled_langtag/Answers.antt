@@ -1,9 +1,5 @@
-use Rattle.std.proofs.Common.{List, ℕ, Option, inl, subst}
-use Rattle.std.specs.Prelude.{MatchOption}
-use Rattle.std.specs.List.{AllByRecursion}
+use Rattle.std.proofs.Common.{inl}
 use Rattle.std.proofs.lemmas.Result.{err_from_is_err_and}
-use Rattle.lt_registry.specs.Validity.{HasDistinctSource}
-use Rattle.lt_canon.specs.Settled.{IsSecondInSources}
 use Rattle.lt_canon.proofs.CanonicalForms.{transforms_have_parts, core_refused, form_count, form_spells_none, source_refused}
 use Rattle.lt_canon.proofs.canonical_tags.settled_langtag.Goals as goal
 
@@ -19,10 +15,8 @@ settle_extensions-requires-clause-transforms g c =
 
 pub returns-in-Some-clause-refusal : goal.returns-in-Some-clause-refusal
 returns-in-Some-clause-refusal g c =
-    let R = g.L.Lookup.listed c.args.table.now in
-    let P : Option (List ℕ) → Type 0 = λ o. MatchOption o (AllByRecursion HasDistinctSource c.deref.result.now) (IsSecondInSources c.deref.result.now) in
-    source_refused R c.requires.checked c.args.core c.settle_core.new.core c.args.extensions.items c.settle_extensions.new.extensions.items c.args.private.items c.in-Some.variant c.requires.valid c.in_ok-settle_core.ensures.form c.in_ok-settle_extensions.ensures.ok
-    (subst (λ es. IsSecondInSources es c.in-Some.variant) c.deref.ensures.value (subst P c.in-Some.is c.in_ok-variant.ensures))
+    source_refused (g.L.Lookup.listed c.args.table.now) c.requires.checked c.args.core c.settle_core.new.core c.args.extensions.items c.settle_extensions.new.extensions.items c.args.private.items c.in-Some.variant c.requires.valid c.in_ok-settle_core.ensures.form c.in_ok-settle_extensions.ensures.ok
+    (rw (c.in-Some.is, c.deref.ensures.value) at c.in_ok-variant.ensures)
 
 pub from_parts-requires-clause-few_extensions : goal.from_parts-requires-clause-few_extensions
 from_parts-requires-clause-few_extensions g c =
