@@ -26,7 +26,7 @@ use Rattle.lt_canon.specs.declared.refusals.Refusal.TheVariants as refusals
 use Rattle.lt_canon.proofs.Distinctness.{second_repeats}
 use Rattle.lt_canon.proofs.EndForms.{star_proper}
 use Rattle.lt_rewrite.proofs.ProperTags.{proper_parts}
-use Rattle.lt_canon.proofs.TagForm.{core_spells_none, core_end, cores_formed, cores_reached, cores_proper, extensions_end, extensions_end_formed, parts_reached, resting, value_end, value_end_is, whole_end, whole_end_some, whole_end_none, whole_kept_at, tag_end, end_form, extensions_step_to, none_rests, some_end}
+use Rattle.lt_canon.proofs.TagForm.{core_spells_none, core_end, cores_formed, cores_reached, cores_proper, extensions_end, extensions_end_formed, parts_reached, resting, value_end, value_end_is, whole_end, whole_end_at, whole_kept_at, tag_end, end_form, extensions_step_to, none_rests, some_end}
 use Rattle.lt_canon.proofs.SourceRepeats.{source_repeats, named_source}
 use Rattle.lt_canon.proofs.TagRepeats.{end_canonical, lang_distinct, value_distinct}
 use Rattle.lt_tag.specs.Lists.{longest_text}
@@ -114,8 +114,8 @@ module _ (R : List EntryParts) (C : IsChecked R) where
   -- a tag that is replaced whole, or not, comes to its end
   replaced_end : (s r : TagForm) → IsReplacedWhole R s r → CanBeReplacedWhole s → whole_end R C s ≡ r
   replaced_end s r (inl v) h =
-      whole_end_some R C s v.value v.has ∙ ap (value_end R C) v.settled.from ∙ ap core_alone (normal_is_form (cores_formed R C) v.settled.core v.settled.form v.settled.normal) ∙ sym v.settled.to
-  replaced_end s r (inr y) h = whole_end_none R C s (y.none h) ∙ sym y.same
+      whole_end_at R C s (Some v.value) v.has ∙ ap (value_end R C) v.settled.from ∙ ap core_alone (normal_is_form (cores_formed R C) v.settled.core v.settled.form v.settled.normal) ∙ sym v.settled.to
+  replaced_end s r (inr y) h = whole_end_at R C s None (y.none h) ∙ sym y.same
 
   stays : (s r : TagForm) → IsReplacedWhole R s r → (CanBeReplacedWhole s → ⊥) → s ≡ r
   stays s r (inl v) n = absurd (n v.plain)

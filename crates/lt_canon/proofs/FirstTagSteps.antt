@@ -21,7 +21,7 @@ use Rattle.lt_rewrite.specs.declared.steps.StepKind.TheVariants as steps
 use Rattle.lt_rewrite.proofs.StepLaws.{core_rank, core_low, core_high, steps_determined}
 use Rattle.lt_check.specs.Conditions.{IsChecked}
 use Rattle.lt_canon.specs.Explaining.{rank_in, is_of_source, HasOneExplanation}
-use Rattle.lt_canon.proofs.TagForm.{core_step_tag, extensions_step_tag, extensions_step_from}
+use Rattle.lt_canon.proofs.TagForm.{steps_keep, extensions_step_from}
 use Rattle.lt_tag.specs.Splitting.{spell_source}
 use Rattle.std.specs.Prelude.{nat_le, if◌then◌else◌}
 use Rattle.lt_rewrite.specs.Rewriting.{Rests}
@@ -117,9 +117,9 @@ module _ (R : List EntryParts) (c : CoreParts) (es : List ExtensionParts) (ps : 
     -- the first on the core is the first of all
     pub core_is_first : (step : Step) (d : CoreParts) → IsProper R here → IsFirst (CoreLeads R 0 c) kind_rank step d → IsProper R (LangTag d es ps) × IsFirst (LeadsBy R here) (rank_in here) step (LangTag d es ps)
     core_is_first step d P h = (
-      core_step_tag R C c d es ps h.leads.0 P,
+      (steps_keep R C).core c d es ps h.leads.0 P,
       record {
-        leads = (record { from = P; to = core_step_tag R C c d es ps h.leads.0 P; change = on_core c d es ps refl refl h.leads.0 }, h.leads.1);
+        leads = (record { from = P; to = (steps_keep R C).core c d es ps h.leads.0 P; change = on_core c d es ps refl refl h.leads.0 }, h.leads.1);
         first = λ other u l. core_before step d other h (leads_by other u l.0.change l.1);
       },
     )
@@ -133,9 +133,9 @@ module _ (R : List EntryParts) (c : CoreParts) (es : List ExtensionParts) (ps : 
     -- where no step on the core is left, the first on the extensions is
     pub extensions_is_first : (step : Step) (fs : List ExtensionParts) → IsProper R here → NoneLeads (CoreLeads R 0 c) → IsFirst (ExtensionsLeads R (length (spell_core c)) es) extension_rank step fs → IsProper R (LangTag c fs ps) × IsFirst (LeadsBy R here) (rank_in here) step (LangTag c fs ps)
     extensions_is_first step fs P none h = (
-      extensions_step_tag R C c es fs ps h.leads.0 P,
+      (steps_keep R C).extensions c es fs ps h.leads.0 P,
       record {
-        leads = (record { from = P; to = extensions_step_tag R C c es fs ps h.leads.0 P; change = on_extensions c es fs ps refl refl h.leads.0 }, h.leads.1);
+        leads = (record { from = P; to = (steps_keep R C).extensions c es fs ps h.leads.0 P; change = on_extensions c es fs ps refl refl h.leads.0 }, h.leads.1);
         first = λ other u l. extensions_before step fs other none h (leads_by other u l.0.change l.1);
       },
     )

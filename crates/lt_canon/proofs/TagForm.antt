@@ -50,21 +50,13 @@ module _ (R : List EntryParts) (C : IsChecked R) where
   pub core_spells_none : (c : CoreParts) → IsProperValue R c → IsNotGrandfathered (spell_core c)
   core_spells_none c P = proper_spells_none R (grandfathered_fit R C) c P
 
-  steps_keep : StepsKeepTagsProper R
+  pub steps_keep : StepsKeepTagsProper R
   steps_keep = steps_keep_tags_proper R C.registry (core_conditions R C.passes) (grandfathered_fit R C)
-
-  -- a core step on the core
-  pub core_step_tag : (c d : CoreParts) (es : List ExtensionParts) (ps : List (List ℕ)) → CoreStep (values_of R) c d → IsProper R (LangTag c es ps) → IsProper R (LangTag d es ps)
-  core_step_tag c d es ps s P = steps_keep.core c d es ps s P
-
-  -- a step on the extensions
-  pub extensions_step_tag : (c : CoreParts) (es fs : List ExtensionParts) (ps : List (List ℕ)) → ExtensionsStep R es fs → IsProper R (LangTag c es ps) → IsProper R (LangTag c fs ps)
-  extensions_step_tag c es fs ps s P = steps_keep.extensions c es fs ps s P
 
   -- each change
   pub change_proper : (t u : TagForm) → TagChange R t u → IsProper R t → IsProper R u
-  change_proper t u (on_core c d es ps from to s) P = subst (IsProper R) (sym to) (core_step_tag c d es ps s (subst (IsProper R) from P))
-  change_proper t u (on_extensions c es fs ps from to s) P = subst (IsProper R) (sym to) (extensions_step_tag c es fs ps s (subst (IsProper R) from P))
+  change_proper t u (on_core c d es ps from to s) P = rw to (steps_keep.core c d es ps s (rw from at P))
+  change_proper t u (on_extensions c es fs ps from to s) P = rw to (steps_keep.extensions c es fs ps s (rw from at P))
   change_proper t u (on_whole _ has) P = (value_plain R C t u has).valid.proper
 
   -- so it is a step
@@ -88,8 +80,7 @@ module _ (R : List EntryParts) (C : IsChecked R) where
 
   abbrev pub value_end : TagForm → TagForm
   value_end (LangTag c es ps) = LangTag (core_end c) es ps
-  value_end (PrivateUse ps) = PrivateUse ps
-  value_end (Grandfathered n) = Grandfathered n
+  value_end t = t
 
   -- the end of the value of a whole record, or the tag
   abbrev pub whole_end : TagForm → TagForm
@@ -107,11 +98,8 @@ module _ (R : List EntryParts) (C : IsChecked R) where
   tag_end (PrivateUse ps) = PrivateUse ps
   tag_end (Grandfathered n) = whole_end (Grandfathered n)
 
-  pub whole_end_none : (t : TagForm) → whole_value R t ≡ None → whole_end t ≡ t
-  whole_end_none t e = ap (or_value t value_end) e
-
-  pub whole_end_some : (t u : TagForm) → whole_value R t ≡ Some u → whole_end t ≡ value_end u
-  whole_end_some t u e = ap (or_value t value_end) e
+  pub whole_end_at : (t : TagForm) (o : Option TagForm) → whole_value R t ≡ o → whole_end t ≡ or_value t value_end o
+  whole_end_at t o e = ap (or_value t value_end) e
 
   pub lang_end_some : (d : CoreParts) (es : List ExtensionParts) (ps : List (List ℕ)) → es ≢ [] → lang_end d es ps ≡ LangTag d (extensions_end es) ps
   lang_end_some d [] ps h = absurd (h refl)
@@ -131,57 +119,48 @@ module _ (R : List EntryParts) (C : IsChecked R) where
   value_rests t c e = no_value R (core_alone (core_end c)) (resting t c e).1
 
   pub value_end_is : (t : TagForm) (c : CoreParts) → whole_value R t ≡ Some (core_alone c) → tag_end (core_alone c) ≡ core_alone (core_end c)
-  value_end_is t c e = whole_end_none (core_alone (core_end c)) (value_rests t c e)
+  value_end_is t c e = whole_end_at (core_alone (core_end c)) None (value_rests t c e)
 
   -- a core that is a whole record with a value: its own end is that of its value
   plain_kept : (c q : CoreParts) → whole_value R (core_alone c) ≡ Some (core_alone q) → whole_end (core_alone (core_end c)) ≡ core_alone (core_end q)
   plain_kept c q e = elim (cases_Bool (same_core (core_end c) c)) [
-    | inl t ↦ whole_end_some (core_alone (core_end c)) (core_alone q) (ap (λ d. whole_value R (core_alone d)) ((same_core-Decides (core_end c) c).0 t) ∙ e)
+    | inl t ↦ whole_end_at (core_alone (core_end c)) (Some (core_alone q)) (ap (λ d. whole_value R (core_alone d)) ((same_core-Decides (core_end c) c).0 t) ∙ e)
     | inr f ↦ let w = valued_whole R (core_alone c) (core_alone q) e in
         elim (whole_has R (core_alone c) (core_alone q) (HasAgreeingWhole R) C.passes.agreeing_whole w (core_alone c) (core_alone q) w.named w.gives c (core_end c) q (core_end q) refl refl (core_normal c)
             (λ h. let t : same_core (core_end c) c ≡ true = (same_core-Decides (core_end c) c).1 h in cc) (core_normal q)) [
-          | inl s ↦ ap (λ d. whole_end (core_alone d)) s ∙ whole_end_none (core_alone (core_end q)) (value_rests (core_alone c) q e)
-          | inr k ↦ whole_end_some (core_alone (core_end c)) (core_alone k.0) k.1 ∙ ap core_alone (normal_is_form cores_formed k.0 (core_end q) k.2)
+          | inl s ↦ ap (λ d. whole_end (core_alone d)) s ∙ whole_end_at (core_alone (core_end q)) None (value_rests (core_alone c) q e)
+          | inr k ↦ whole_end_at (core_alone (core_end c)) (Some (core_alone k.0)) k.1 ∙ ap core_alone (normal_is_form cores_formed k.0 (core_end q) k.2)
         ]
   ]
 
   pub whole_kept_at : (t : TagForm) (q : CoreParts) → CanBeReplacedWhole t → whole_value R t ≡ Some (core_alone q) → tag_end t ≡ tag_end (core_alone q)
-  whole_kept_at (Grandfathered n) q h e = whole_end_some (Grandfathered n) (core_alone q) e ∙ sym (value_end_is (Grandfathered n) q e)
+  whole_kept_at (Grandfathered n) q h e = whole_end_at (Grandfathered n) (Some (core_alone q)) e ∙ sym (value_end_is (Grandfathered n) q e)
   whole_kept_at (LangTag c [] []) q h e = plain_kept c q e ∙ sym (value_end_is (core_alone c) q e)
   whole_kept_at (LangTag c (x ∷ es) ps) q h e = let a = h.0 in cc
   whole_kept_at (LangTag c [] (p ∷ ps)) q h e = let a = h.1 in cc
   whole_kept_at (PrivateUse ps) q h e = absurd h
 
-  whole_kept : (t u : TagForm) → CanBeReplacedWhole t → whole_value R t ≡ Some u → tag_end t ≡ tag_end u
-  whole_kept t u h e =
-      let v = value_plain R C t u e in
-      whole_kept_at t v.core h (e ∙ ap Some v.is) ∙ sym (ap tag_end v.is)
-
-  extensions_kept : (d : CoreParts) (es fs : List ExtensionParts) (ps : List (List ℕ)) → ExtensionsStep R es fs → lang_end d es ps ≡ lang_end d fs ps
-  extensions_kept d es fs ps s =
-      lang_end_some d es ps (extensions_step_from R es fs s)
-      ∙ ap (λ l. LangTag d l ps) (extensions_end_formed.kept es fs s)
-      ∙ sym (lang_end_some d fs ps (extensions_step_to R es fs s))
-
   -- each step keeps the end form
   pub change_kept : (t u : TagForm) → TagChange R t u → tag_end t ≡ tag_end u
   change_kept t u (on_core c d es ps from to s) = ap tag_end from ∙ ap (λ x. lang_end x es ps) (cores_formed.kept c d s) ∙ sym (ap tag_end to)
-  change_kept t u (on_extensions c es fs ps from to s) = ap tag_end from ∙ extensions_kept (core_end c) es fs ps s ∙ sym (ap tag_end to)
-  change_kept t u (on_whole is_plain has) = whole_kept t u is_plain has
+  change_kept t u (on_extensions c es fs ps from to s) =
+      ap tag_end from ∙ lang_end_some (core_end c) es ps (extensions_step_from R es fs s) ∙ ap (λ l. LangTag (core_end c) l ps) (extensions_end_formed.kept es fs s)
+      ∙ sym (lang_end_some (core_end c) fs ps (extensions_step_to R es fs s)) ∙ sym (ap tag_end to)
+  change_kept t u (on_whole is_plain has) = let v = value_plain R C t u has in whole_kept_at t v.core is_plain (has ∙ ap Some v.is) ∙ sym (ap tag_end v.is)
 
   -- each proper tag reaches its end form
 
   pub cores_reached : {c d : CoreParts} → Star (CoreStep (values_of R)) c d → (es : List ExtensionParts) (ps : List (List ℕ)) → IsProper R (LangTag c es ps) → IsReached R (LangTag c es ps) (LangTag d es ps)
   cores_reached r es ps P =
-      star_map_while (λ x. IsProper R (LangTag x es ps)) (λ x. LangTag x es ps) (λ x y s p. core_step_tag x y es ps s p)
+      star_map_while (λ x. IsProper R (LangTag x es ps)) (λ x. LangTag x es ps) (λ x y s p. steps_keep.core x y es ps s p)
       (λ x y s p q. step_of_change (LangTag x es ps) (LangTag y es ps) (on_core x y es ps refl refl s) p) r P
 
   pub cores_proper : {c d : CoreParts} → Star (CoreStep (values_of R)) c d → (es : List ExtensionParts) (ps : List (List ℕ)) → IsProper R (LangTag c es ps) → IsProper R (LangTag d es ps)
-  cores_proper r es ps P = star_keeps (λ x. IsProper R (LangTag x es ps)) (λ x y s p. core_step_tag x y es ps s p) r P
+  cores_proper r es ps P = star_keeps (λ x. IsProper R (LangTag x es ps)) (λ x y s p. steps_keep.core x y es ps s p) r P
 
   pub extensions_reached : (d : CoreParts) {es fs : List ExtensionParts} → Star (ExtensionsStep R) es fs → (ps : List (List ℕ)) → IsProper R (LangTag d es ps) → IsReached R (LangTag d es ps) (LangTag d fs ps)
   extensions_reached d r ps P =
-      star_map_while (λ x. IsProper R (LangTag d x ps)) (λ x. LangTag d x ps) (λ x y s p. extensions_step_tag d x y ps s p)
+      star_map_while (λ x. IsProper R (LangTag d x ps)) (λ x. LangTag d x ps) (λ x y s p. steps_keep.extensions d x y ps s p)
       (λ x y s p q. step_of_change (LangTag d x ps) (LangTag d y ps) (on_extensions d x y ps refl refl s) p) r P
 
   pub parts_reached : {c d : CoreParts} {es fs : List ExtensionParts} → Star (CoreStep (values_of R)) c d → Star (ExtensionsStep R) es fs → (ps : List (List ℕ)) → IsProper R (LangTag c es ps) → IsReached R (LangTag c es ps) (LangTag d fs ps)
@@ -191,24 +170,17 @@ module _ (R : List EntryParts) (C : IsChecked R) where
   whole_reached_at t h P None e = done
   whole_reached_at t h P (Some u) e =
       let v = value_plain R C t u e in
-      let Q : IsProper R (core_alone v.core) = subst (IsProper R) v.is v.valid.proper in
-      let e' : whole_value R t ≡ Some (core_alone v.core) = e ∙ ap Some v.is in
-      let one : TagStep R t (core_alone v.core) = step_of_change t (core_alone v.core) (on_whole h e') P in
-      let rest : IsReached R t (core_alone (core_end v.core)) = then one (cores_reached (cores_formed.reached v.core) [] [] Q) in
-      subst (λ x. IsReached R t (value_end x)) (sym v.is) rest
+      rw v.is (then (step_of_change t (core_alone v.core) (on_whole h (e ∙ ap Some v.is)) P) (cores_reached (cores_formed.reached v.core) [] [] (rw v.is at v.valid.proper)))
 
   whole_reached : (t : TagForm) → CanBeReplacedWhole t → IsProper R t → IsReached R t (whole_end t)
   whole_reached t h P = whole_reached_at t h P (whole_value R t) refl
 
-  lang_reached : (d : CoreParts) (es : List ExtensionParts) (ps : List (List ℕ)) → IsProper R (LangTag d es ps) → IsReached R (LangTag d es ps) (lang_end d es ps)
-  lang_reached d [] [] P = whole_reached (core_alone d) (refl, refl) P
-  lang_reached d [] (p ∷ ps) P = done
-  lang_reached d (e ∷ es) ps P = extensions_reached d (extensions_end_formed.reached (e ∷ es)) ps P
-
   pub tag_reached : (t : TagForm) → IsProper R t → IsReached R t (tag_end t)
-  tag_reached (LangTag c es ps) P =
+  tag_reached (LangTag c [] []) P =
       let r = cores_formed.reached c in
-      star_trans (cores_reached r es ps P) (lang_reached (core_end c) es ps (cores_proper r es ps P))
+      star_trans (cores_reached r [] [] P) (whole_reached (core_alone (core_end c)) (refl, refl) (cores_proper r [] [] P))
+  tag_reached (LangTag c [] (p ∷ ps)) P = cores_reached (cores_formed.reached c) [] (p ∷ ps) P
+  tag_reached (LangTag c (e ∷ es) ps) P = parts_reached (cores_formed.reached c) (extensions_end_formed.reached (e ∷ es)) ps P
   tag_reached (PrivateUse ps) P = done
   tag_reached (Grandfathered n) P = whole_reached (Grandfathered n) tt P
 
