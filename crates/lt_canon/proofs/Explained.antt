@@ -56,20 +56,8 @@ module _ (R : List EntryParts) where
   run_trace [] t end h = h
   run_trace (step ∷ run) t end h = (h.0, h.1.leads, run_trace run h.0 end h.2)
 
-  core_reached : (c d : CoreParts) (old new : List Step) → AddsOnCore R 0 c d old new → Star (CoreStep (values_of R)) c d
-  core_reached c d old new h = run_star (CoreLeads R 0) (λ _ step. kind_rank step) (CoreStep (values_of R)) (λ a step b l. l.0) h.run c d h.is_run
-
   core_rests : (d : CoreParts) → NoneLeads (CoreLeads R 0 d) → Rests (CoreStep (values_of R)) d
   core_rests d none e s = none (core_label R 0 s) e (s, refl)
-
-  extensions_rest : (start : ℕ) (fs : List ExtensionParts) → NoneLeads (ExtensionsLeads R start fs) → Rests (ExtensionsStep R) fs
-  extensions_rest start fs none gs s = none (extensions_label R start s) gs (s, refl)
-
-  extensions_normal : (start : ℕ) (es fs : List ExtensionParts) (old new : List Step) → AddsOnExtensions R start es fs old new → NoneLeads (ExtensionsLeads R start fs) → IsNormalForm (ExtensionsStep R) es fs
-  extensions_normal start es fs old new h none = record {
-    reached = run_star (ExtensionsLeads R start) (λ _ step. extension_rank step) (ExtensionsStep R) (λ a step b l. l.0) h.run es fs h.is_run;
-    at_rest = extensions_rest start fs none;
-  }
 
   -- no step leads from a tag whose core is at rest and that has no value
   pub whole_at_rest : (t : TagForm) → CanBeReplacedWhole t → RestsOnCore R t → whole_value R t ≡ None → Rests (TagStep R) t
@@ -93,11 +81,6 @@ module _ (R : List EntryParts) where
         let lifted = run_lift (CoreLeads R 0) (λ _ step. kind_rank step) (LeadsBy R) rank_in (λ x. IsProper R (LangTag x es ps)) (λ x. LangTag x es ps) (λ a b step p k. core_is_first R a es ps C step b p k) h.run c d P h.is_run in
         (lifted.0, record { run = h.run; added = h.added; is_run = lifted.1 })
 
-    adds_on_extensions : (c : CoreParts) (es fs : List ExtensionParts) (ps : List (List ℕ)) (old new : List Step) → IsProper R (LangTag c es ps) → NoneLeads (CoreLeads R 0 c) → AddsOnExtensions R (length (spell_core c)) es fs old new → Adds (LeadsBy R) rank_in (LangTag c es ps) (LangTag c fs ps) old new
-    adds_on_extensions c es fs ps old new P none h =
-        let lifted = run_lift (ExtensionsLeads R (length (spell_core c))) (λ _ step. extension_rank step) (LeadsBy R) rank_in (λ x. IsProper R (LangTag c x ps)) (λ x. LangTag c x ps) (λ a b step p k. extensions_is_first R c a ps C step b p none k) h.run es fs P h.is_run in
-        record { run = h.run; added = h.added; is_run = lifted.1 }
-
     -- the step to the value is the first, where the core is at rest
     whole_is_first : (t u : TagForm) (step : Step) → IsProper R t → CanBeReplacedWhole t → RestsOnCore R t → whole_value R t ≡ Some u → step ≡ step_at steps.Whole 1 (number_of (whole R t)) → IsFirst (LeadsBy R t) (rank_in t) step u
     whole_is_first t u step P h k v e = record {
@@ -117,24 +100,13 @@ module _ (R : List EntryParts) where
     pub value_rests_by : (t : TagForm) (core form : CoreParts) (step : Step) (old mid new : List Step) → IsProper R t → CanBeReplacedWhole t → RestsOnCore R t → whole_value R t ≡ Some (core_alone core) → step ≡ step_at steps.Whole 1 (number_of (whole R t)) → mid ≡ old ++ step ∷ [] → AddsOnCore R 0 core form mid new → NoneLeads (CoreLeads R 0 form) → LeadsToRest R t old new
     value_rests_by t core form step old mid new P h k v e m a none =
         let Q : IsProper R (core_alone core) = (value_plain R C t (core_alone core) v).valid.proper in
-        let normal : IsCoreNormalForm (values_of R) core form = record { reached = core_reached core form mid new a; at_rest = core_rests form none } in
+        let normal : IsCoreNormalForm (values_of R) core form = record { reached = run_star (CoreLeads R 0) (λ _ step. kind_rank step) (CoreStep (values_of R)) (λ a step b l. l.0) a.run core form a.is_run; at_rest = core_rests form none } in
         let same : core_end R C core ≡ form = normal_is_form (cores_formed R C) core form normal in
         let valueless : whole_value R (core_alone form) ≡ None = ap (λ c. whole_value R (core_alone c)) (sym same) ∙ value_rests R C t core v in
         let on : RestsOnCore R (core_alone form) = λ c i. let j : form ≡ c = cc in rw j at none in
         let rest : LeadsToRest R (core_alone form) new new = rests (core_alone form) new (whole_at_rest (core_alone form) (refl, refl) on valueless) in
         let one : Adds (LeadsBy R) rank_in t (core_alone core) old mid = adds_more (LeadsBy R) rank_in t t (core_alone core) old old mid step (adds_none (LeadsBy R) rank_in t old) (whole_is_first t (core_alone core) step P h k v e) m in
         first_adds t (core_alone core) old mid new one (first_adds (core_alone core) (core_alone form) mid new new (adds_on_core core form [] [] mid new Q a).1 rest)
-
-    -- the steps on the extensions of a langtag whose core is at rest
-    pub extensions_rest_by : (c : CoreParts) (es fs : List ExtensionParts) (ps : List (List ℕ)) (old new : List Step) → IsProper R (LangTag c es ps) → 0 < length es + length ps → NoneLeads (CoreLeads R 0 c) → AddsOnExtensions R (length (spell_core c)) es fs old new → NoneLeads (ExtensionsLeads R (length (spell_core c)) fs) → LeadsToRest R (LangTag c es ps) old new
-    extensions_rest_by c es fs ps old new P some none a nowhere =
-        let normal = extensions_normal (length (spell_core c)) es fs old new a nowhere in
-        let left = form_some R C es fs ps normal some in
-        record {
-          end = LangTag c fs ps;
-          adds = adds_on_extensions c es fs ps old new P none a;
-          at_rest = λ u s. lang_at_end R c fs ps (record { core = core_rests c none; extensions = normal.at_rest; whole = λ x y. absurd (omega (arith, left, ap length x, ap length y)) }) u s.change;
-        }
 
     -- a tag of a core alone, once its core is at rest
     pub plain_explained : (t : TagForm) (core d k : CoreParts) (old mid : List Step) → IsProper R t → Some core ≡ core_of t → t ≡ core_alone k → AddsOnCore R 0 core d old mid → IsProper R (core_alone d) × Adds (LeadsBy R) rank_in t (core_alone d) old mid
@@ -151,7 +123,19 @@ module _ (R : List EntryParts) where
         let ps : List (List ℕ) = private_of t in
         let same : t ≡ LangTag core es ps = langtag_of t core (sym h) ∙ (λ i. LangTag core (sym e i) ps) in
         let on = adds_on_core core d es ps old mid (rw same at P) a in
-        let rest = extensions_rest_by d es fs ps mid new on.0 (more_than_core core es ps (rw same at more)) none (rw place at b) (rw place at nowhere) in
+        let b : AddsOnExtensions R (length (spell_core d)) es fs mid new = rw place at b in
+        let nowhere : NoneLeads (ExtensionsLeads R (length (spell_core d)) fs) = rw place at nowhere in
+        let normal : IsNormalForm (ExtensionsStep R) es fs = record {
+          reached = run_star (ExtensionsLeads R (length (spell_core d))) (λ _ step. extension_rank step) (ExtensionsStep R) (λ a step b l. l.0) b.run es fs b.is_run;
+          at_rest = λ gs s. nowhere (extensions_label R (length (spell_core d)) s) gs (s, refl);
+        } in
+        let left = form_some R C es fs ps normal (more_than_core core es ps (rw same at more)) in
+        let lifted = run_lift (ExtensionsLeads R (length (spell_core d))) (λ _ step. extension_rank step) (LeadsBy R) rank_in (λ x. IsProper R (LangTag d x ps)) (λ x. LangTag d x ps) (λ a b step p k. extensions_is_first R d a ps C step b p none k) b.run es fs on.0 b.is_run in
+        let rest : LeadsToRest R (LangTag d es ps) mid new = record {
+          end = LangTag d fs ps;
+          adds = record { run = b.run; added = b.added; is_run = lifted.1 };
+          at_rest = λ u s. lang_at_end R d fs ps (record { core = core_rests d none; extensions = normal.at_rest; whole = λ x y. absurd (omega (arith, left, ap length x, ap length y)) }) u s.change;
+        } in
         rw same (first_adds (LangTag core es ps) (LangTag d es ps) old mid new on.1 rest)
 
     -- a tag that is neither a langtag nor grandfathered

@@ -87,58 +87,43 @@ module _ (R : List EntryParts) (c : CoreParts) (es : List ExtensionParts) (ps : 
       let b = subst (IsBehind (length (spell_core c))) l.1 (extensions_behind R (length (spell_core c)) es fs l.0) in
       (behind_rank c es ps step b, b.late)
 
-  -- what a step on the tag is
-  pub data Leads (step : Step) : Type 0 where
-    core_leads : (d : CoreParts) → CoreLeads R 0 c step d → Leads step
-    extensions_lead : (fs : List ExtensionParts) → ExtensionsLeads R (length (spell_core c)) es step fs → Leads step
-    whole_leads : CanBeReplacedWhole here → step ≡ step_at steps.Whole 1 (number_of (whole R here)) → Leads step
-
-  leads_by : (step : Step) (u : TagForm) (s : TagChange R here u) → tag_label R s ≡ step → Leads step
-  leads_by step u (on_core b d fs qs from _ s) h = let same : b ≡ c = cc in core_leads d (subst (λ x. CoreLeads R 0 x step d) same (s, h))
-  leads_by step u (on_extensions b gs fs qs from _ s) h =
-      let one : b ≡ c = cc in
-      let all : gs ≡ es = cc in
-      extensions_lead fs (rw (← one, ← all) (s, h))
-  leads_by step u (on_whole is_plain _) h = whole_leads is_plain (sym h)
+  -- what follows for a step on the tag from what it is
+  leads_by : (Q : Type 0) (step : Step) (u : TagForm) → LeadsBy R here step u → ((d : CoreParts) → CoreLeads R 0 c step d → Q) → ((fs : List ExtensionParts) → ExtensionsLeads R (length (spell_core c)) es step fs → Q) → (CanBeReplacedWhole here → rank_in here step ≡ 7 → Q) → Q
+  leads_by Q step u l f g h = by l.0.change l.1
+    where
+      by : (s : TagChange R here u) → tag_label R s ≡ step → Q
+      by (on_core b d fs qs from _ s) e = let same : b ≡ c = cc in f d (subst (λ x. CoreLeads R 0 x step d) same (s, e))
+      by (on_extensions b gs fs qs from _ s) e =
+          let one : b ≡ c = cc in
+          let all : gs ≡ es = cc in
+          g fs (rw (← one, ← all) (s, e))
+      by (on_whole is_plain _) e = h is_plain (ap (rank_in here) (sym e))
 
   module _ (C : IsChecked R) where
-    core_before : (step : Step) (d : CoreParts) (other : Step) → IsFirst (CoreLeads R 0 c) kind_rank step d → Leads other → IsNoLater (rank_in here) step other
-    core_before step d other h (core_leads e l) =
-        rw ((core_leads_rank step d h.leads).0, (core_leads_rank other e l).0) (h.first other e l)
-    core_before step d other h (extensions_lead fs l) =
-        let a = core_leads_rank step d h.leads in
-        let b = extensions_lead_rank other fs l in
-        inl (omega (arith, a.0, a.1, b.0, b.1))
-    core_before step d other h (whole_leads p e) =
-        let a = core_leads_rank step d h.leads in
-        let b : rank_in here other ≡ 7 = ap (rank_in here) e in
-        inl (omega (arith, a.0, a.1, b))
-
     -- the first on the core is the first of all
     pub core_is_first : (step : Step) (d : CoreParts) → IsProper R here → IsFirst (CoreLeads R 0 c) kind_rank step d → IsProper R (LangTag d es ps) × IsFirst (LeadsBy R here) (rank_in here) step (LangTag d es ps)
-    core_is_first step d P h = (
-      (steps_keep R C).core c d es ps h.leads.0 P,
-      record {
-        leads = (record { from = P; to = (steps_keep R C).core c d es ps h.leads.0 P; change = on_core c d es ps refl refl h.leads.0 }, h.leads.1);
-        first = λ other u l. core_before step d other h (leads_by other u l.0.change l.1);
-      },
-    )
-
-    extensions_before : (step : Step) (fs : List ExtensionParts) (other : Step) → NoneLeads (CoreLeads R 0 c) → IsFirst (ExtensionsLeads R (length (spell_core c)) es) extension_rank step fs → Leads other → IsNoLater (rank_in here) step other
-    extensions_before step fs other none h (core_leads d l) = absurd (none other d l)
-    extensions_before step fs other none h (extensions_lead gs l) =
-        rw ((extensions_lead_rank step fs h.leads).0, (extensions_lead_rank other gs l).0) (h.first other gs l)
-    extensions_before step fs other none h (whole_leads p e) = absurd (extensions_step_from R es fs h.leads.0 p.0)
+    core_is_first step d P h =
+        let to = (steps_keep R C).core c d es ps h.leads.0 P in
+        let a = core_leads_rank step d h.leads in
+        (to, record {
+          leads = (record { from = P; to = to; change = on_core c d es ps refl refl h.leads.0 }, h.leads.1);
+          first = λ other u l. leads_by (IsNoLater (rank_in here) step other) other u l
+              (λ e k. rw (a.0, (core_leads_rank other e k).0) (h.first other e k))
+              (λ fs k. let b = extensions_lead_rank other fs k in inl (omega (arith, a.0, a.1, b.0, b.1)))
+              (λ p b. inl (omega (arith, a.0, a.1, b)));
+        })
 
     -- where no step on the core is left, the first on the extensions is
     pub extensions_is_first : (step : Step) (fs : List ExtensionParts) → IsProper R here → NoneLeads (CoreLeads R 0 c) → IsFirst (ExtensionsLeads R (length (spell_core c)) es) extension_rank step fs → IsProper R (LangTag c fs ps) × IsFirst (LeadsBy R here) (rank_in here) step (LangTag c fs ps)
-    extensions_is_first step fs P none h = (
-      (steps_keep R C).extensions c es fs ps h.leads.0 P,
-      record {
-        leads = (record { from = P; to = (steps_keep R C).extensions c es fs ps h.leads.0 P; change = on_extensions c es fs ps refl refl h.leads.0 }, h.leads.1);
-        first = λ other u l. extensions_before step fs other none h (leads_by other u l.0.change l.1);
-      },
-    )
+    extensions_is_first step fs P none h =
+        let to = (steps_keep R C).extensions c es fs ps h.leads.0 P in
+        (to, record {
+          leads = (record { from = P; to = to; change = on_extensions c es fs ps refl refl h.leads.0 }, h.leads.1);
+          first = λ other u l. leads_by (IsNoLater (rank_in here) step other) other u l
+              (λ d k. absurd (none other d k))
+              (λ gs k. rw ((extensions_lead_rank step fs h.leads).0, (extensions_lead_rank other gs k).0) (h.first other gs k))
+              (λ p _. absurd (extensions_step_from R es fs h.leads.0 p.0));
+        })
 
 -- the kinds by their ranks, those of steps on a source after the others and before SwapFields
 kind_at : ℕ → StepKind
