@@ -16,6 +16,7 @@ use Rattle.lt_rewrite.specs.Rewriting.{IsNormalForm}
 use Rattle.lt_rewrite.specs.CoreSteps.{values_of, IsCoreNormalForm}
 use Rattle.lt_rewrite.specs.Extensions.{ExtensionsStep}
 use Rattle.lt_rewrite.specs.TagSteps.{CanBeReplacedWhole}
+use Rattle.lt_rewrite.proofs.PartLists.{some_long}
 use Rattle.lt_rewrite.proofs.NormalForms.{star_keeps, normal_is_form, rest_is_form}
 use Rattle.lt_check.specs.Conditions.{IsValidCoreAlone, IsChecked}
 use Rattle.lt_canon.specs.Answers.{IsCanonicalFormOf, IsRepeatOf, RefusesOnlyRepeats}
@@ -99,10 +100,7 @@ module _ (R : List EntryParts) (C : IsChecked R) where
   form_count c d es fs ps P n m = (star_proper (end_form R C) (parts_reached R C n.reached m.reached ps P) P).tag.counts.1
 
   pub form_some : (es fs : List ExtensionParts) (ps : List (List ℕ)) → IsNormalForm (ExtensionsStep R) es fs → 0 < length es + length ps → 0 < length fs + length ps
-  form_some es fs (p ∷ ps) m h = omega arith
-  form_some [] fs [] m h = absurd (omega arith)
-  form_some (e ∷ es) [] [] m h = absurd (star_keeps (λ l. l ≡ [] → ⊥) (λ a b s _. extensions_step_to R a b s) m.reached (λ k. cc) refl)
-  form_some (e ∷ es) (f ∷ fs) [] m h = omega arith
+  form_some es fs ps m h = star_keeps (λ l. 0 < length l + length ps) (λ a b s _. omega (arith, some_long b (extensions_step_to R a b s))) m.reached h
 
   -- the value of a whole tag
   pub value_canonical : (t u r : TagForm) → CanBeReplacedWhole t → IsValid R t → whole_value R t ≡ Some u → IsSettledValue R u r → IsCanonicalFormOf R t r

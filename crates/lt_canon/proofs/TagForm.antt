@@ -19,6 +19,7 @@ use Rattle.lt_rewrite.proofs.Same.{same_core-Decides}
 use Rattle.lt_rewrite.proofs.CoreLaws.{normal_core, cores_formed as normal_cores}
 use Rattle.lt_rewrite.proofs.PartLists.{empty_middle, step_some}
 use Rattle.lt_rewrite.proofs.ExtensionLaws.{normal_extension, normal_extensions, extensions_formed}
+use Rattle.lt_rewrite.specs.Conditions.{HasEndingChain}
 use Rattle.lt_check.specs.Conditions.{HasRestingWhole, HasAgreeingWhole, IsChecked}
 use Rattle.lt_canon.proofs.EndForms.{IsEndForm, confluent, rest_unique}
 use Rattle.lt_check.proofs.Checks.{core_conditions}
@@ -45,6 +46,9 @@ extensions_step_from R es fs (among (by_drop before a between b after o s)) h = 
 pub extensions_step_to : (R : List EntryParts) (es fs : List ExtensionParts) → ExtensionsStep R es fs → fs ≢ []
 extensions_step_to R es fs (inside before e f after w s) h = empty_middle before f after (sym w.result ∙ h)
 extensions_step_to R es fs (among s) h = step_some es fs s h
+
+pub ending_chains : (R : List EntryParts) → IsChecked R → All (HasEndingChain R) R
+ending_chains R C = C.passes.ending_chain
 
 module _ (R : List EntryParts) (C : IsChecked R) where
   pub core_spells_none : (c : CoreParts) → IsProperValue R c → IsNotGrandfathered (spell_core c)

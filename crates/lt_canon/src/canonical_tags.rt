@@ -140,6 +140,7 @@ fn replaced_whole<L: Lookup>(
 }
 
 /// The value of a whole record with its core in core normal form.
+#[tactic(auto, using(crate::proofs::TagForm::ending_chains))]
 fn settled_value<L: Lookup>(
     alloc: Global,
     table: &L,

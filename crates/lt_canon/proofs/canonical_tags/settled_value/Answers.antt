@@ -3,9 +3,6 @@ use Rattle.lt_registry.specs.Validity.{IsProper}
 use Rattle.lt_canon.proofs.CanonicalForms.{plain_of_core, form_spells_none}
 use Rattle.lt_canon.proofs.canonical_tags.settled_value.Goals as goal
 
-pub settle_core-requires-clause-chains : goal.settle_core-requires-clause-chains
-settle_core-requires-clause-chains g c = c.requires.checked.passes.ending_chain
-
 pub from_parts-requires-clause-not_grandfathered :
     goal.from_parts-requires-clause-not_grandfathered
 from_parts-requires-clause-not_grandfathered g c =

@@ -25,9 +25,6 @@ returns-then-is_none g c =
     coreless_explained (g.L.Lookup.listed c.args.table.now) c.requires.checked c.args.tag.now c.args.steps.items (sym (c.in_default.ensures {u = tt}).value)
     (none_of_test c.grandfathered.result (number_of c.args.tag.now) c.grandfathered.ensures.value (c.if-is_none.ensures {u = tt}))
 
-pub explain_core-requires-clause-chains : goal.explain_core-requires-clause-chains
-explain_core-requires-clause-chains g c = c.requires.checked.passes.ending_chain
-
 pub from_parts-settled-requires-clause-not_grandfathered :
     goal.from_parts-settled-requires-clause-not_grandfathered
 from_parts-settled-requires-clause-not_grandfathered g c =
@@ -47,9 +44,6 @@ returns-then-is_some g c =
     IfOk-weaker c.explain_whole-then-is_some.result _ _
     (λ taken rest. first_adds (g.L.Lookup.listed c.args.table.now) c.requires.checked c.args.tag.now (core_alone c.in_ok-settled.settled) c.args.steps.items c.in_ok-settled.steps.items taken.items (plain g (goal.at.returns-then-is_some g c).Then-is_some).1 (rw (c.from_parts-settled.ensures, c.new.ensures.items, c.new-then-is_some.ensures.items) at rest))
     c.explain_whole-then-is_some.ensures
-
-pub explain_extensions-requires-clause-chains : goal.explain_extensions-requires-clause-chains
-explain_extensions-requires-clause-chains g c = c.requires.checked.passes.ending_chain
 
 pub explain_extensions-requires-clause-transforms :
     goal.explain_extensions-requires-clause-transforms

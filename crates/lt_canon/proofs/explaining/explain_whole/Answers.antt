@@ -31,9 +31,6 @@ returns-in_default-core g c =
     let plain = value_plain R c.requires.checked c.args.tag.now c.in-Some-tag_value.value.now (has g (goal.at.returns-in_default-core g c).In-Some-tag_value) in
     absurd (plain_has_core R c.in-Some-tag_value.value.now plain (sym (c.in_default-core.ensures {u = tt}).value))
 
-pub explain_core-requires-clause-chains : goal.explain_core-requires-clause-chains
-explain_core-requires-clause-chains g c = c.requires.checked.passes.ending_chain
-
 pub returns : goal.returns
 returns g c =
     let R = g.L.Lookup.listed c.args.table.now in
