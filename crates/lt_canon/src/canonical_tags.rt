@@ -120,6 +120,7 @@ fn settle_core<L: Lookup>(table: &L, shortcuts: &Shortcuts, core: &mut Core) -> 
 }
 
 /// The value of a tag that can be replaced whole, with its core in core normal form; else the tag itself.
+#[tactic(auto, using(lt_check::proofs::CheckedRegistry::value_plain))]
 fn replaced_whole<L: Lookup>(
     alloc: Global,
     table: &L,
