@@ -41,8 +41,7 @@ langtag_of (Grandfathered n) c h = cc
 -- a tag without a core has no parts to settle
 pub coreless_settled : (R : List EntryParts) (t s : TagForm) → core_of t ≡ None → s ≡ t → IsSettledTag R t s
 coreless_settled R (LangTag c es ps) s h e = cc
-coreless_settled R (PrivateUse ps) s h e = e
-coreless_settled R (Grandfathered n) s h e = e
+coreless_settled R _ s h e = e
 
 pub none_of_test : {A : Type 0} (o r : Option A) → o ≡ r → is_some o ≡ false → r ≡ None
 none_of_test None r e h = sym e

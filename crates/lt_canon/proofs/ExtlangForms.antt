@@ -131,8 +131,7 @@ module _ (R : List EntryParts) (C : IsChecked R) where
 -- a tag without a core is its own extlang form
 pub coreless_extlang : (R : List EntryParts) (c : TagForm) → core_of c ≡ None → c ≡ extlang_form R c
 coreless_extlang R (LangTag d es ps) h = cc
-coreless_extlang R (PrivateUse ps) h = refl
-coreless_extlang R (Grandfathered n) h = refl
+coreless_extlang R _ h = refl
 
 -- that of a langtag, by the Prefix of its language
 pub extlang_form_is : (R : List EntryParts) (c : TagForm) (d : CoreParts) (o : Option (List ℕ)) → core_of c ≡ Some d → prefix_of (prefixes R kinds.Extlang d.language) ≡ o → extlang_form R c ≡ LangTag (behind o d) (extensions_of c) (private_of c)

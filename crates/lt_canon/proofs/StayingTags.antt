@@ -4,6 +4,7 @@ use Rattle.std.proofs.Common.{◌≡◌, ℕ, inr, ◌+◌, ◌&&◌, get_or, no
 use Rattle.std.specs.List.{list_any}
 use Rattle.std.specs.Option.{option_and_then, option_to_list}
 use Rattle.std.proofs.lemmas.Bool.{and_parts, not-true, false_from_ne_true, or_parts}
+use Rattle.std.proofs.Math.Bool.{and-true}
 use Rattle.std.proofs.lemmas.List.Folds.{list_any_at}
 use Rattle.std.proofs.lemmas.Slice.Eq.{bytes_eq-Decides}
 use Rattle.lt_tag.specs.Parts.{CoreParts, TagForm}
@@ -95,9 +96,9 @@ module _ (R : List EntryParts) (t : TagForm) (c : CoreParts) (u : IsUsual c) (k 
   pub usual_valid : (b : Bool) → IsTagValue t → core_valued R c ≡ Ok b → IsValid R t
   usual_valid b v h = (valid_law R t v).1 (rw k (no_fault (rw h at (usual_told R c u)).0))
 
-  -- none has a value
-  pub usual_form : IsValid R t → core_valued R c ≡ Ok false → IsDistinctForm R c c
-  usual_form V h =
+  -- none has a value, so its parts are in their normal forms
+  pub usual_settled : IsTagValue t → core_valued R c ≡ Ok false → IsSettledTag R t t
+  usual_settled v h =
       let none = (rw h at (usual_told R c u)).1 refl in
       let rest : AtRest (values_of R) c = record {
         extlang = λ x e. let bad : [] ≡ x ∷ [] = sym u.extlangs ∙ e in cc;
@@ -107,12 +108,7 @@ module _ (R : List EntryParts) (t : TagForm) (c : CoreParts) (u : IsUsual c) (k 
         variant = rw u.variants tt;
         variant_language = λ _. rw u.variants tt;
       } in
-      record { normal = record { reached = done; at_rest = λ d s. rests (values_of R) c d rest s }; distinct = (subst (IsValid R) k V).distinct.0 }
-
-  -- so its parts are in their normal forms
-  pub usual_settled : IsTagValue t → core_valued R c ≡ Ok false → IsSettledTag R t t
-  usual_settled v h =
-      let form = usual_form (usual_valid false v h) h in
+      let form : IsDistinctForm R c c = record { normal = record { reached = done; at_rest = λ d s. rests (values_of R) c d rest s }; distinct = (rw k at (usual_valid false v h)).distinct.0 } in
       let settled : IsSettledTag R (core_alone c) t = record { core = c; extensions = []; is = k; form = form; normal = record { reached = done; at_rest = none_rests R }; distinct = tt } in
       subst (λ a. IsSettledTag R a t) (sym k) settled
 
@@ -160,17 +156,13 @@ module _ (R : List EntryParts) (text : List ℕ) (c : CoreParts) (stay : StaysAs
       let both : true ≡ false = sym some ∙ none in
       cc)
 
-  none_of : (o : Option TagForm) → (is_some o && true) ≡ false → o ≡ None
-  none_of None h = refl
-  none_of (Some u) h = cc
-
   no_value : (o : Option EntryParts) → whole R (core_alone c) ≡ o → option_and_then (λ (e : EntryParts). tag_of e.value) o ≡ None
   no_value None h = refl
   no_value (Some e) h =
       let named = found_name R (core_alone c) e h in
       let other = (find_has (λ (e : EntryParts). replaces_plain_of c.language e ≡ false) (λ (e : EntryParts). is_whole (core_alone c) e.name) R e replaces_none h).0 in
       let plain : names_plain_of c.language e.name ≡ true = rw (named, stay.extlangs, stay.variants, (bytes_eq-Decides c.language c.language).1 refl) refl in
-      none_of (tag_of e.value) (ap (λ b. is_some (tag_of e.value) && b) (sym plain) ∙ other)
+      none_of_test (tag_of e.value) (tag_of e.value) refl (rw (plain, and-true) at other)
 
   pub stays_canonical : IsChecked R → IsCanonicalFormOf R (core_alone c) (core_alone c)
   stays_canonical C = settled_canonical R C (core_alone c) (core_alone c) (core_alone c) valid (usual_settled R (core_alone c) c usual refl value valued) (inr (record { none = λ _. no_value (whole R (core_alone c)) refl; same = refl }))

@@ -69,12 +69,8 @@ module _ (R : List EntryParts) (C : IsChecked R) where
   extensions_once es fs (among s) h = all_step Once es fs s h
 
   change_once : (t u : TagForm) → TagChange R t u → VariantLanguagesOnceTag R t → VariantLanguagesOnceTag R u
-  change_once t u (on_core c d es ps from to s) h =
-      let k : VariantLanguagesOnceTag R (LangTag c es ps) = rw from at h in
-      rw to (variant_languages_once_kept R (core_conditions R C.passes) c d s k.0, k.1)
-  change_once t u (on_extensions c es fs ps from to s) h =
-      let k : VariantLanguagesOnceTag R (LangTag c es ps) = rw from at h in
-      rw to (k.0, extensions_once es fs s k.1)
+  change_once t u (on_core c d es ps from to s) h = let k = rw from at h in rw to (variant_languages_once_kept R (core_conditions R C.passes) c d s k.0, k.1)
+  change_once t u (on_extensions c es fs ps from to s) h = let k = rw from at h in rw to (k.0, extensions_once es fs s k.1)
   change_once t u (on_whole _ has) h = distinct_once R (core_conditions R C.passes) u (value_plain R C t u has).valid.distinct
 
   -- a plain core whose end repeats no variant
@@ -115,13 +111,10 @@ module _ (R : List EntryParts) (C : IsChecked R) where
   pub end_canonical : (t r : TagForm) → IsValid R t → tag_end R C t ≡ r → RepeatsNoVariant r → IsCanonicalFormOf R t r
   end_canonical t r V e d = subst (IsCanonicalFormOf R t) e (record {
     valid = V;
-    canonical = record { valid = record { proper = end_proper t V.proper; distinct = rw e d }; at_rest = tag_end_rests R C t };
+    canonical = record { valid = record { proper = star_proper (end_form R C) (tag_reached R C t V.proper) V.proper; distinct = rw e d }; at_rest = tag_end_rests R C t };
     reached = tag_reached R C t V.proper;
     repeats_none = λ k. repeats_at_end t V k (rw e d);
   })
-    where
-      end_proper : (t : TagForm) → IsProper R t → IsProper R (tag_end R C t)
-      end_proper t P = star_proper (end_form R C) (tag_reached R C t P) P
 
   pub canonical_or_repeats : CanonicalOrRepeats R
   canonical_or_repeats t V = elim (decide_tag (tag_end R C t) (star_proper (end_form R C) (tag_reached R C t V.proper) V.proper)) [
