@@ -6,7 +6,7 @@ use Rattle.std.proofs.lemmas.Bool.{and_from, leb-true}
 use Rattle.std.proofs.lemmas.Option.{cond_some}
 use Rattle.std.specs.Option.{option_map_or}
 use Rattle.lt_subtag.specs.Shapes.{is_language, is_extlang}
-use Rattle.lt_tag.specs.Parts.{CoreParts, ExtensionParts, LangTag, TagForm, PrivateUse, Grandfathered}
+use Rattle.lt_tag.specs.Parts.{CoreParts, ExtensionParts, LangTag, TagForm}
 use Rattle.lt_tag.specs.Spelling.{IsCore, spell_core}
 use Rattle.lt_registry.specs.Parts.{EntryParts}
 use Rattle.lt_registry.specs.Entries.{one_of, preferred_value, entry, prefixes, has_prefix, replacement, is_short, is_registered}

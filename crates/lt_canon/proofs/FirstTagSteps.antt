@@ -6,13 +6,12 @@ use Rattle.lt_tag.specs.Parts.{CoreParts, ExtensionParts, UForm, TForm, TagForm,
 use Rattle.lt_tag.specs.Spelling.{spell_core, spell_extension, spell_extensions}
 use Rattle.lt_tag.specs.Extensions.{spell_keyword, spell_field}
 use Rattle.lt_registry.specs.Parts.{EntryParts}
-use Rattle.lt_registry.specs.Entries.{whole, number_of}
 use Rattle.lt_registry.specs.Validity.{IsProper}
 use Rattle.lt_rewrite.specs.CoreSteps.{values_of, CoreStep}
 use Rattle.lt_rewrite.specs.Orderings.{ListStep, by_swap, by_drop}
 use Rattle.lt_rewrite.specs.Extensions.{UnicodeStep, on_attributes, on_keywords, on_types, TransformStep, on_source, on_fields, ExtensionStep, in_unicode, in_transform, ExtensionsStep, inside, among}
 use Rattle.lt_rewrite.specs.TagSteps.{CanBeReplacedWhole, TagChange, on_core, on_extensions, on_whole, TagStep}
-use Rattle.lt_rewrite.specs.Labels.{step_at, core_label, list_label, unicode_label, transform_label, extension_label, extensions_label, tag_label, LeadsBy}
+use Rattle.lt_rewrite.specs.Labels.{core_label, list_label, unicode_label, transform_label, extension_label, extensions_label, tag_label, LeadsBy}
 use Rattle.lt_rewrite.specs.Applying.{CoreLeads, ExtensionsLeads}
 use Rattle.lt_rewrite.specs.Runs.{rank_of, kind_rank, extension_rank, IsNoLater, IsFirst, NoneLeads, IsRun}
 use Rattle.lt_rewrite.specs.declared.steps.Step.{Step}

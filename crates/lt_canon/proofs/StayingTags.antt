@@ -1,6 +1,6 @@
 -- Langtags of a language, and a script and a region where there is one: what is valid, and what rests; and those whose
 -- subtags stay as they are, which are their own canonical forms.
-use Rattle.std.proofs.Common.{◌≡◌, ℕ, inr, ◌+◌, ◌&&◌, get_or, not, true, false, List, ◌++◌, Option, Some, None, Ok, IfSome, is_none, is_some, length, refl, sym, ap, ◌∙◌, arith, All, Bool, ◌||◌, inl, [], ◌∷◌, Err, subst}
+use Rattle.std.proofs.Common.{◌≡◌, ℕ, inr, ◌+◌, get_or, not, true, false, List, ◌++◌, Option, Some, None, Ok, IfSome, is_none, is_some, length, refl, sym, ap, ◌∙◌, arith, All, Bool, ◌||◌, inl, [], ◌∷◌, Err, subst}
 use Rattle.std.specs.List.{list_any}
 use Rattle.std.specs.Option.{option_and_then, option_to_list}
 use Rattle.std.proofs.lemmas.Bool.{and_parts, not-true, false_from_ne_true, or_parts}

@@ -1,16 +1,11 @@
 use Rattle.lt_rewrite.specs.Labels.{step_at}
 use Rattle.lt_rewrite.specs.declared.steps.Step.{Step}
 use Rattle.lt_rewrite.specs.declared.steps.StepKind.TheVariants as kinds
-use Rattle.lt_canon.proofs.Tracing.{explaining_more, explaining_done, step_leads}
+use Rattle.lt_canon.proofs.Tracing.{explaining_more, explaining_done}
 use Rattle.lt_canon.proofs.explanation_texts.append_steps.Goals as goal
 
 abbrev none : Step
 none = step_at kinds.Extlang 0 0
-
-pub unreachable-requires : goal.unreachable-requires
-unreachable-requires g c =
-    step_leads (g.L.Lookup.listed c.args.table.now) c.deref-step-items.result.now c.args.trace.now.last c.loop-step.step-index none c.loop-step.here c.in-Err-NoSuchStep.field-0 c.loop-step-test.true
-    (rw c.deref-step-items.ensures.value c.loop-step.invariant.ahead) (c.in-Err-NoSuchStep.ensures {u = tt}).err c.in-Err-NoSuchStep.field-0-is
 
 pub loop-step-preserved : goal.loop-step-preserved
 loop-step-preserved g c =
