@@ -96,6 +96,9 @@ module _ (R : List EntryParts) where
     pub rests : (t : TagForm) (old : List Step) → Rests (TagStep R) t → LeadsToRest R t old old
     rests t old h = record { end = t; adds = adds_none (LeadsBy R) rank_in t old; at_rest = h }
 
+    pub valueless_explained : (t : TagForm) (old : List Step) → CanBeReplacedWhole t → RestsOnCore R t → whole_value R t ≡ None → LeadsToRest R t old old
+    valueless_explained t old h k e = rests t old (whole_at_rest t h k e)
+
     -- the value of a whole tag, and the steps on its core
     pub value_rests_by : (t : TagForm) (core form : CoreParts) (step : Step) (old mid new : List Step) → IsProper R t → CanBeReplacedWhole t → RestsOnCore R t → whole_value R t ≡ Some (core_alone core) → step ≡ step_at steps.Whole 1 (number_of (whole R t)) → mid ≡ old ++ step ∷ [] → AddsOnCore R 0 core form mid new → NoneLeads (CoreLeads R 0 form) → LeadsToRest R t old new
     value_rests_by t core form step old mid new P h k v e m a none =

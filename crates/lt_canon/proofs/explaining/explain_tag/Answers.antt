@@ -1,7 +1,7 @@
-use Rattle.std.proofs.Common.{◌≡◌, inl, [], refl, sym, ap, ◌∙◌, length, arith}
+use Rattle.std.proofs.Common.{◌≡◌, inl, [], refl, ap, ◌∙◌, length, arith}
 use Rattle.std.proofs.lemmas.Result.{IfOk-weaker}
 use Rattle.lt_tag.specs.Spelling.{spell_extensions}
-use Rattle.lt_tag.specs.Values.{extensions_of, number_of, core_alone}
+use Rattle.lt_tag.specs.Values.{extensions_of, core_alone}
 use Rattle.lt_registry.specs.Validity.{IsProper}
 use Rattle.lt_rewrite.specs.Labels.{LeadsBy}
 use Rattle.lt_rewrite.specs.Runs.{Adds}
@@ -9,8 +9,7 @@ use Rattle.lt_rewrite.proofs.StepLaws.{fits, few_subtags}
 use Rattle.lt_canon.specs.Explaining.{rank_in}
 use Rattle.lt_rewrite.proofs.ProperTags.{proper_parts}
 use Rattle.lt_canon.proofs.TagForm.{core_spells_none}
-use Rattle.lt_canon.proofs.CanonicalForms.{none_of_test}
-use Rattle.lt_canon.proofs.Explained.{some_by, none_by, first_adds, plain_explained, langtag_explained, coreless_explained, transforms_of}
+use Rattle.lt_canon.proofs.Explained.{some_by, none_by, first_adds, plain_explained, langtag_explained}
 use Rattle.lt_canon.proofs.explaining.explain_tag.Goals as goal
 use Rattle.lt_canon.proofs.explaining.explain_tag.Goals.{Then-is_some}
 
@@ -19,11 +18,6 @@ plain : (g : _) (c : Then-is_some g) → IsProper (g.L.Lookup.listed c.args.tabl
 plain g c =
     let alone = some_by c.core_alone.result _ _ c.core_alone.ensures.value (c.if-is_some.ensures {u = tt}) in
     plain_explained (g.L.Lookup.listed c.args.table.now) c.requires.checked c.args.tag.now c.in-Some.core.now c.in_ok-settled.settled alone.0.now c.args.steps.items c.in_ok-settled.steps.items c.requires.proper (c.in-Some.ensures {u = tt}).value alone.1 (rw (← c.in_ok-copy.ensures {u = tt}) (c.in_ok-settled.ensures {u = tt}).adds)
-
-pub returns-then-is_none : goal.returns-then-is_none
-returns-then-is_none g c =
-    coreless_explained (g.L.Lookup.listed c.args.table.now) c.requires.checked c.args.tag.now c.args.steps.items (sym (c.in_default.ensures {u = tt}).value)
-    (none_of_test c.grandfathered.result (number_of c.args.tag.now) c.grandfathered.ensures.value (c.if-is_none.ensures {u = tt}))
 
 pub from_parts-settled-requires-clause-not_grandfathered :
     goal.from_parts-settled-requires-clause-not_grandfathered
@@ -44,11 +38,6 @@ returns-then-is_some g c =
     IfOk-weaker c.explain_whole-then-is_some.result _ _
     (λ taken rest. first_adds (g.L.Lookup.listed c.args.table.now) c.requires.checked c.args.tag.now (core_alone c.in_ok-settled.settled) c.args.steps.items c.in_ok-settled.steps.items taken.items (plain g (goal.at.returns-then-is_some g c).Then-is_some).1 (rw (c.from_parts-settled.ensures, c.new.ensures.items, c.new-then-is_some.ensures.items) at rest))
     c.explain_whole-then-is_some.ensures
-
-pub explain_extensions-requires-clause-transforms :
-    goal.explain_extensions-requires-clause-transforms
-explain_extensions-requires-clause-transforms g c =
-    rw (c.in_ok-others.ensures {u = tt}, c.extensions.ensures.value) (transforms_of (g.L.Lookup.listed c.args.table.now) c.requires.checked c.args.tag.now c.requires.proper)
 
 pub explain_extensions-requires-clause-few : goal.explain_extensions-requires-clause-few
 explain_extensions-requires-clause-few g c =

@@ -6,24 +6,12 @@ use Rattle.lt_rewrite.specs.Labels.{step_at}
 use Rattle.lt_rewrite.specs.declared.steps.StepKind.TheVariants as steps
 use Rattle.lt_check.proofs.CheckedRegistry.{value_plain}
 use Rattle.lt_canon.proofs.CanonicalForms.{plain_of_core, plain_has_core}
-use Rattle.lt_canon.proofs.Explained.{rests, whole_at_rest, value_rests_by}
+use Rattle.lt_canon.proofs.Explained.{value_rests_by}
 use Rattle.lt_canon.proofs.explaining.explain_whole.Goals as goal
 use Rattle.lt_canon.proofs.explaining.explain_whole.Goals.{In-Some-tag_value}
 
 has : (g : _) (c : In-Some-tag_value g) → whole_value (g.L.Lookup.listed c.args.table.now) c.args.tag.now ≡ Some c.in-Some-tag_value.value.now
 has g c = ap (option_and_then (λ (e : EntryParts). tag_of e.value)) (sym (c.in-Some.ensures {u = tt})) ∙ sym (c.in-Some-tag_value.ensures {u = tt})
-
-pub returns-in_default : goal.returns-in_default
-returns-in_default g c =
-    let R = g.L.Lookup.listed c.args.table.now in
-    let none = ap (option_and_then (λ (e : EntryParts). tag_of e.value)) (sym (c.in_default.ensures {u = tt})) in
-    rests R c.requires.checked c.args.tag.now c.args.steps.items (whole_at_rest R c.args.tag.now c.requires.plain c.requires.at_rest none)
-
-pub returns-in_default-tag_value : goal.returns-in_default-tag_value
-returns-in_default-tag_value g c =
-    let R = g.L.Lookup.listed c.args.table.now in
-    let none = ap (option_and_then (λ (e : EntryParts). tag_of e.value)) (sym (c.in-Some.ensures {u = tt})) ∙ sym (c.in_default-tag_value.ensures {u = tt}) in
-    rests R c.requires.checked c.args.tag.now c.args.steps.items (whole_at_rest R c.args.tag.now c.requires.plain c.requires.at_rest none)
 
 pub returns-in_default-core : goal.returns-in_default-core
 returns-in_default-core g c =
