@@ -8,7 +8,6 @@ pub mod StayingTags
 -- What this crate alone uses.
 mod ExtlangForms
 mod SourceRepeats
-mod AnswerLaws
 mod Tracing
 mod FirstTagSteps
 mod Explained

@@ -1,6 +1,6 @@
 use Rattle.std.proofs.Common.{inl, inr}
 use Rattle.std.proofs.lemmas.Result.{err_from_is_err_and}
-use Rattle.lt_canon.proofs.AnswerLaws.{equivalence_answer}
+use Rattle.lt_canon.proofs.TagRepeats.{equivalence_answer}
 use Rattle.lt_canon.proofs.CanonicalForms.{refused}
 use Rattle.lt_canon.proofs.equivalence.equivalent.Goals as goal
 
