@@ -1,7 +1,7 @@
 -- Where a function names an end that each step keeps and that is reached, the steps are confluent.
 use Rattle.std.proofs.Common.{◌≡◌, refl, sym, ◌∙◌, subst}
 use Rattle.lt_rewrite.specs.Rewriting.{Star, done, then, Equivalent, same, forth, back, IsConfluent, Rests}
-use Rattle.lt_rewrite.proofs.NormalForms.{star_rests}
+use Rattle.lt_rewrite.proofs.NormalForms.{star_keeps, star_rests}
 
 -- an end that each step keeps, and that steps reach; steps lead from and to what P holds of
 pub record IsEndForm {A : Type 0} (P : A → Type 0) (Step : A → A → Type 0) (end_form : A → A) : Type 0 where
@@ -10,8 +10,7 @@ pub record IsEndForm {A : Type 0} (P : A → Type 0) (Step : A → A → Type 0)
   pub reached : (a : A) → P a → Star Step a (end_form a)
 
 pub star_proper : {A : Type 0} {P : A → Type 0} {Step : A → A → Type 0} {f : A → A} → IsEndForm P Step f → {a b : A} → Star Step a b → P a → P b
-star_proper F done p = p
-star_proper F (then {a = a} {b = b} s r) p = star_proper F r (F.to a b s)
+star_proper {P = P} F r p = star_keeps P (λ a b s _. F.to a b s) r p
 
 pub star_end : {A : Type 0} {P : A → Type 0} {Step : A → A → Type 0} {f : A → A} → IsEndForm P Step f → {a b : A} → Star Step a b → f a ≡ f b
 star_end F done = refl
@@ -30,6 +29,10 @@ confluent {A} {P} {Step} {f} F a b c p r t =
 -- from which no step leads is its own end
 pub rest_is_end : {A : Type 0} {P : A → Type 0} {Step : A → A → Type 0} {f : A → A} → IsEndForm P Step f → (a : A) → P a → Rests Step a → f a ≡ a
 rest_is_end F a p h = sym (star_rests (F.reached a p) h)
+
+-- to which steps lead and no further is the end
+pub reached_is_end : {A : Type 0} {P : A → Type 0} {Step : A → A → Type 0} {f : A → A} → IsEndForm P Step f → (a b : A) → P a → Star Step a b → Rests Step b → f a ≡ b
+reached_is_end F a b p r h = star_end F r ∙ rest_is_end F b (star_proper F r p) h
 
 pub equivalent_trans : {A : Type 0} {Step : A → A → Type 0} {a b c : A} → Equivalent Step a b → Equivalent Step b c → Equivalent Step a c
 equivalent_trans same t = t

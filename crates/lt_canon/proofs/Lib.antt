@@ -6,20 +6,8 @@ pub mod TagRepeats
 pub mod CanonicalForms
 pub mod StayingTags
 -- What this crate alone uses.
-mod AppendedTexts
-mod TagProper
-mod TagRest
-mod TagLaws
-mod SecondVariants
-mod NamedRepeats
 mod ExtlangForms
-mod Answering
 mod SourceRepeats
-mod AnswerLaws
-mod OneExplanation
 mod Tracing
 mod FirstTagSteps
 mod Explained
-mod ExplanationLines
-mod UsualTags
-mod Refused

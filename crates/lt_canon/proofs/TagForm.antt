@@ -1,12 +1,14 @@
--- The end form of a tag: each step keeps it, each proper tag reaches it, and no step leads from it.
-use Rattle.std.proofs.Common.{◌≡◌, ◌≢◌, ℕ, ◌⊎◌, inl, inr, Bool, true, false, List, [], ◌∷◌, ◌++◌, Option, Some, None, refl, sym, ap, ◌∙◌, subst, All}
+-- Each change of a proper tag leads to a proper one. The end form of a tag: each step keeps it, each proper tag
+-- reaches it, and no step leads from it.
+use Rattle.std.proofs.Common.{◌≡◌, ◌≢◌, ℕ, inl, inr, true, List, [], ◌∷◌, ◌++◌, Option, Some, None, refl, sym, ap, ◌∙◌, subst, All}
+use Rattle.std.proofs.lemmas.Bool.{cases_Bool}
 use Rattle.lt_tag.specs.Parts.{CoreParts, ExtensionParts, TagForm, LangTag, PrivateUse, Grandfathered}
 use Rattle.lt_registry.specs.Parts.{EntryParts}
 use Rattle.lt_registry.specs.Entries.{tag_of, whole_value}
 use Rattle.lt_registry.specs.Same.{same_core}
 use Rattle.lt_registry.specs.Validity.{Distinct, IsProper}
 use Rattle.lt_registry.specs.declared.entries.EntryName.TheVariants as names
-use Rattle.lt_rewrite.specs.Rewriting.{Star, done, then}
+use Rattle.lt_rewrite.specs.Rewriting.{Star, done, then, Rests}
 use Rattle.lt_rewrite.specs.CoreSteps.{values_of, CoreStep, IsCoreNormalForm}
 use Rattle.lt_rewrite.specs.Orderings.{by_swap, by_drop}
 use Rattle.lt_rewrite.specs.Extensions.{ExtensionsStep, inside, among}
@@ -17,12 +19,18 @@ use Rattle.lt_rewrite.proofs.Same.{same_core-Decides}
 use Rattle.lt_rewrite.proofs.CoreLaws.{normal_core, cores_formed as normal_cores}
 use Rattle.lt_rewrite.proofs.PartLists.{empty_middle, step_some}
 use Rattle.lt_rewrite.proofs.ExtensionLaws.{normal_extension, normal_extensions, extensions_formed}
+use Rattle.lt_rewrite.specs.Conditions.{HasEndingChain}
 use Rattle.lt_check.specs.Conditions.{HasRestingWhole, HasAgreeingWhole, IsChecked}
-use Rattle.lt_canon.proofs.EndForms.{IsEndForm}
+use Rattle.lt_canon.proofs.EndForms.{IsEndForm, confluent, rest_unique}
 use Rattle.lt_check.proofs.Checks.{core_conditions}
-use Rattle.lt_check.proofs.CheckedRegistry.{valued_whole, whole_has, no_value, value_plain}
-use Rattle.lt_canon.proofs.TagProper.{core_step_tag, extensions_step_tag, step_of_change}
+use Rattle.lt_check.proofs.CheckedRegistry.{grandfathered_fit, valued_whole, whole_has, no_value, value_plain}
+use Rattle.lt_tag.specs.Spelling.{spell_core}
+use Rattle.lt_tag.specs.WellFormed.{IsNotGrandfathered}
+use Rattle.lt_rewrite.specs.Laws.{IsProperValue, StepsKeepTagsProper}
+use Rattle.lt_rewrite.proofs.ProperTags.{proper_spells_none, steps_keep_tags_proper}
 use Rattle.lt_tag.specs.Values.{core_alone}
+use Rattle.lt_canon.specs.Laws.{HasEndForms, StepsAreConfluent}
+use Rattle.lt_canon.specs.Corollaries.{OneCanonicalTag}
 
 -- the end of a tag that is no langtag with extensions or private use
 abbrev pub or_value : TagForm → (TagForm → TagForm) → Option TagForm → TagForm
@@ -39,15 +47,26 @@ pub extensions_step_to : (R : List EntryParts) (es fs : List ExtensionParts) →
 extensions_step_to R es fs (inside before e f after w s) h = empty_middle before f after (sym w.result ∙ h)
 extensions_step_to R es fs (among s) h = step_some es fs s h
 
--- cores that are equal, or not
-same_or_not : (c d : CoreParts) → (c ≡ d) ⊎ (c ≢ d)
-same_or_not c d = by (same_core c d) refl
-  where
-    by : (b : Bool) → same_core c d ≡ b → (c ≡ d) ⊎ (c ≢ d)
-    by true e = inl ((same_core-Decides c d).0 e)
-    by false e = inr (λ h. let t : same_core c d ≡ true = (same_core-Decides c d).1 h in cc)
+pub ending_chains : (R : List EntryParts) → IsChecked R → All (HasEndingChain R) R
+ending_chains R C = C.passes.ending_chain
 
 module _ (R : List EntryParts) (C : IsChecked R) where
+  pub core_spells_none : (c : CoreParts) → IsProperValue R c → IsNotGrandfathered (spell_core c)
+  core_spells_none c P = proper_spells_none R (grandfathered_fit R C) c P
+
+  pub steps_keep : StepsKeepTagsProper R
+  steps_keep = steps_keep_tags_proper R C.registry (core_conditions R C.passes) (grandfathered_fit R C)
+
+  -- each change
+  pub change_proper : (t u : TagForm) → TagChange R t u → IsProper R t → IsProper R u
+  change_proper t u (on_core c d es ps from to s) P = rw to (steps_keep.core c d es ps s (rw from at P))
+  change_proper t u (on_extensions c es fs ps from to s) P = rw to (steps_keep.extensions c es fs ps s (rw from at P))
+  change_proper t u (on_whole _ has) P = (value_plain R C t u has).valid.proper
+
+  -- so it is a step
+  pub step_of_change : (t u : TagForm) → TagChange R t u → IsProper R t → TagStep R t u
+  step_of_change t u s P = record { from = P; to = change_proper t u s P; change = s }
+
   abbrev pub core_end : CoreParts → CoreParts
   core_end = normal_core R (core_conditions R C.passes)
 
@@ -65,8 +84,7 @@ module _ (R : List EntryParts) (C : IsChecked R) where
 
   abbrev pub value_end : TagForm → TagForm
   value_end (LangTag c es ps) = LangTag (core_end c) es ps
-  value_end (PrivateUse ps) = PrivateUse ps
-  value_end (Grandfathered n) = Grandfathered n
+  value_end t = t
 
   -- the end of the value of a whole record, or the tag
   abbrev pub whole_end : TagForm → TagForm
@@ -84,11 +102,8 @@ module _ (R : List EntryParts) (C : IsChecked R) where
   tag_end (PrivateUse ps) = PrivateUse ps
   tag_end (Grandfathered n) = whole_end (Grandfathered n)
 
-  pub whole_end_none : (t : TagForm) → whole_value R t ≡ None → whole_end t ≡ t
-  whole_end_none t e = ap (or_value t value_end) e
-
-  pub whole_end_some : (t u : TagForm) → whole_value R t ≡ Some u → whole_end t ≡ value_end u
-  whole_end_some t u e = ap (or_value t value_end) e
+  pub whole_end_at : (t : TagForm) (o : Option TagForm) → whole_value R t ≡ o → whole_end t ≡ or_value t value_end o
+  whole_end_at t o e = ap (or_value t value_end) e
 
   pub lang_end_some : (d : CoreParts) (es : List ExtensionParts) (ps : List (List ℕ)) → es ≢ [] → lang_end d es ps ≡ LangTag d (extensions_end es) ps
   lang_end_some d [] ps h = absurd (h refl)
@@ -107,90 +122,139 @@ module _ (R : List EntryParts) (C : IsChecked R) where
   pub value_rests : (t : TagForm) (c : CoreParts) → whole_value R t ≡ Some (core_alone c) → whole_value R (core_alone (core_end c)) ≡ None
   value_rests t c e = no_value R (core_alone (core_end c)) (resting t c e).1
 
-  value_end_is : (t : TagForm) (c : CoreParts) → whole_value R t ≡ Some (core_alone c) → tag_end (core_alone c) ≡ core_alone (core_end c)
-  value_end_is t c e = whole_end_none (core_alone (core_end c)) (value_rests t c e)
+  pub value_end_is : (t : TagForm) (c : CoreParts) → whole_value R t ≡ Some (core_alone c) → tag_end (core_alone c) ≡ core_alone (core_end c)
+  value_end_is t c e = whole_end_at (core_alone (core_end c)) None (value_rests t c e)
 
   -- a core that is a whole record with a value: its own end is that of its value
   plain_kept : (c q : CoreParts) → whole_value R (core_alone c) ≡ Some (core_alone q) → whole_end (core_alone (core_end c)) ≡ core_alone (core_end q)
-  plain_kept c q e = by (same_or_not (core_end c) c)
-    where
-      agree : core_end c ≢ c → (core_end c ≡ core_end q) ⊎ ((r : CoreParts) × (whole_value R (core_alone (core_end c)) ≡ Some (core_alone r)) × IsCoreNormalForm (values_of R) r (core_end q))
-      agree n =
-          let w = valued_whole R (core_alone c) (core_alone q) e in
-          whole_has R (core_alone c) (core_alone q) (HasAgreeingWhole R) (C.passes.agreeing_whole) w (core_alone c) (core_alone q) w.named w.gives c (core_end c) q (core_end q) refl refl (core_normal c) n (core_normal q)
+  plain_kept c q e = elim (cases_Bool (same_core (core_end c) c)) [
+    | inl t ↦ whole_end_at (core_alone (core_end c)) (Some (core_alone q)) (ap (λ d. whole_value R (core_alone d)) ((same_core-Decides (core_end c) c).0 t) ∙ e)
+    | inr f ↦ let w = valued_whole R (core_alone c) (core_alone q) e in
+        elim (whole_has R (core_alone c) (core_alone q) (HasAgreeingWhole R) C.passes.agreeing_whole w (core_alone c) (core_alone q) w.named w.gives c (core_end c) q (core_end q) refl refl (core_normal c)
+            (λ h. let t : same_core (core_end c) c ≡ true = (same_core-Decides (core_end c) c).1 h in cc) (core_normal q)) [
+          | inl s ↦ ap (λ d. whole_end (core_alone d)) s ∙ whole_end_at (core_alone (core_end q)) None (value_rests (core_alone c) q e)
+          | inr k ↦ whole_end_at (core_alone (core_end c)) (Some (core_alone k.0)) k.1 ∙ ap core_alone (normal_is_form cores_formed k.0 (core_end q) k.2)
+        ]
+  ]
 
-      then_by : (core_end c ≡ core_end q) ⊎ ((r : CoreParts) × (whole_value R (core_alone (core_end c)) ≡ Some (core_alone r)) × IsCoreNormalForm (values_of R) r (core_end q)) → whole_end (core_alone (core_end c)) ≡ core_alone (core_end q)
-      then_by (inl s) = ap (λ d. whole_end (core_alone d)) s ∙ whole_end_none (core_alone (core_end q)) (value_rests (core_alone c) q e)
-      then_by (inr k) = whole_end_some (core_alone (core_end c)) (core_alone k.0) k.1 ∙ ap core_alone (normal_is_form cores_formed k.0 (core_end q) k.2)
-
-      by : (core_end c ≡ c) ⊎ (core_end c ≢ c) → whole_end (core_alone (core_end c)) ≡ core_alone (core_end q)
-      by (inl s) = whole_end_some (core_alone (core_end c)) (core_alone q) (ap (λ d. whole_value R (core_alone d)) s ∙ e)
-      by (inr n) = then_by (agree n)
-
-  whole_kept_at : (t : TagForm) (q : CoreParts) → CanBeReplacedWhole t → whole_value R t ≡ Some (core_alone q) → tag_end t ≡ tag_end (core_alone q)
-  whole_kept_at (Grandfathered n) q h e = whole_end_some (Grandfathered n) (core_alone q) e ∙ sym (value_end_is (Grandfathered n) q e)
+  pub whole_kept_at : (t : TagForm) (q : CoreParts) → CanBeReplacedWhole t → whole_value R t ≡ Some (core_alone q) → tag_end t ≡ tag_end (core_alone q)
+  whole_kept_at (Grandfathered n) q h e = whole_end_at (Grandfathered n) (Some (core_alone q)) e ∙ sym (value_end_is (Grandfathered n) q e)
   whole_kept_at (LangTag c [] []) q h e = plain_kept c q e ∙ sym (value_end_is (core_alone c) q e)
   whole_kept_at (LangTag c (x ∷ es) ps) q h e = let a = h.0 in cc
   whole_kept_at (LangTag c [] (p ∷ ps)) q h e = let a = h.1 in cc
   whole_kept_at (PrivateUse ps) q h e = absurd h
 
-  whole_kept : (t u : TagForm) → CanBeReplacedWhole t → whole_value R t ≡ Some u → tag_end t ≡ tag_end u
-  whole_kept t u h e =
-      let v = value_plain R C t u e in
-      whole_kept_at t v.core h (e ∙ ap Some v.is) ∙ sym (ap tag_end v.is)
-
-  extensions_kept : (d : CoreParts) (es fs : List ExtensionParts) (ps : List (List ℕ)) → ExtensionsStep R es fs → lang_end d es ps ≡ lang_end d fs ps
-  extensions_kept d es fs ps s =
-      lang_end_some d es ps (extensions_step_from R es fs s)
-      ∙ ap (λ l. LangTag d l ps) (extensions_end_formed.kept es fs s)
-      ∙ sym (lang_end_some d fs ps (extensions_step_to R es fs s))
-
   -- each step keeps the end form
   pub change_kept : (t u : TagForm) → TagChange R t u → tag_end t ≡ tag_end u
   change_kept t u (on_core c d es ps from to s) = ap tag_end from ∙ ap (λ x. lang_end x es ps) (cores_formed.kept c d s) ∙ sym (ap tag_end to)
-  change_kept t u (on_extensions c es fs ps from to s) = ap tag_end from ∙ extensions_kept (core_end c) es fs ps s ∙ sym (ap tag_end to)
-  change_kept t u (on_whole is_plain has) = whole_kept t u is_plain has
+  change_kept t u (on_extensions c es fs ps from to s) =
+      ap tag_end from ∙ lang_end_some (core_end c) es ps (extensions_step_from R es fs s) ∙ ap (λ l. LangTag (core_end c) l ps) (extensions_end_formed.kept es fs s)
+      ∙ sym (lang_end_some (core_end c) fs ps (extensions_step_to R es fs s)) ∙ sym (ap tag_end to)
+  change_kept t u (on_whole is_plain has) = let v = value_plain R C t u has in whole_kept_at t v.core is_plain (has ∙ ap Some v.is) ∙ sym (ap tag_end v.is)
 
   -- each proper tag reaches its end form
 
   pub cores_reached : {c d : CoreParts} → Star (CoreStep (values_of R)) c d → (es : List ExtensionParts) (ps : List (List ℕ)) → IsProper R (LangTag c es ps) → IsReached R (LangTag c es ps) (LangTag d es ps)
   cores_reached r es ps P =
-      star_map_while (λ x. IsProper R (LangTag x es ps)) (λ x. LangTag x es ps) (λ x y s p. core_step_tag R C x y es ps s p)
-      (λ x y s p q. step_of_change R C (LangTag x es ps) (LangTag y es ps) (on_core x y es ps refl refl s) p) r P
+      star_map_while (λ x. IsProper R (LangTag x es ps)) (λ x. LangTag x es ps) (λ x y s p. steps_keep.core x y es ps s p)
+      (λ x y s p q. step_of_change (LangTag x es ps) (LangTag y es ps) (on_core x y es ps refl refl s) p) r P
 
   pub cores_proper : {c d : CoreParts} → Star (CoreStep (values_of R)) c d → (es : List ExtensionParts) (ps : List (List ℕ)) → IsProper R (LangTag c es ps) → IsProper R (LangTag d es ps)
-  cores_proper r es ps P = star_keeps (λ x. IsProper R (LangTag x es ps)) (λ x y s p. core_step_tag R C x y es ps s p) r P
+  cores_proper r es ps P = star_keeps (λ x. IsProper R (LangTag x es ps)) (λ x y s p. steps_keep.core x y es ps s p) r P
 
   pub extensions_reached : (d : CoreParts) {es fs : List ExtensionParts} → Star (ExtensionsStep R) es fs → (ps : List (List ℕ)) → IsProper R (LangTag d es ps) → IsReached R (LangTag d es ps) (LangTag d fs ps)
   extensions_reached d r ps P =
-      star_map_while (λ x. IsProper R (LangTag d x ps)) (λ x. LangTag d x ps) (λ x y s p. extensions_step_tag R C d x y ps s p)
-      (λ x y s p q. step_of_change R C (LangTag d x ps) (LangTag d y ps) (on_extensions d x y ps refl refl s) p) r P
+      star_map_while (λ x. IsProper R (LangTag d x ps)) (λ x. LangTag d x ps) (λ x y s p. steps_keep.extensions d x y ps s p)
+      (λ x y s p q. step_of_change (LangTag d x ps) (LangTag d y ps) (on_extensions d x y ps refl refl s) p) r P
+
+  pub parts_reached : {c d : CoreParts} {es fs : List ExtensionParts} → Star (CoreStep (values_of R)) c d → Star (ExtensionsStep R) es fs → (ps : List (List ℕ)) → IsProper R (LangTag c es ps) → IsReached R (LangTag c es ps) (LangTag d fs ps)
+  parts_reached {c} {d} {es} {fs} r s ps P = star_trans (cores_reached r es ps P) (extensions_reached d s ps (cores_proper r es ps P))
 
   whole_reached_at : (t : TagForm) → CanBeReplacedWhole t → IsProper R t → (o : Option TagForm) → whole_value R t ≡ o → IsReached R t (or_value t value_end o)
   whole_reached_at t h P None e = done
   whole_reached_at t h P (Some u) e =
       let v = value_plain R C t u e in
-      let Q : IsProper R (core_alone v.core) = subst (IsProper R) v.is v.valid.proper in
-      let e' : whole_value R t ≡ Some (core_alone v.core) = e ∙ ap Some v.is in
-      let one : TagStep R t (core_alone v.core) = step_of_change R C t (core_alone v.core) (on_whole h e') P in
-      let rest : IsReached R t (core_alone (core_end v.core)) = then one (cores_reached (cores_formed.reached v.core) [] [] Q) in
-      subst (λ x. IsReached R t (value_end x)) (sym v.is) rest
+      rw v.is (then (step_of_change t (core_alone v.core) (on_whole h (e ∙ ap Some v.is)) P) (cores_reached (cores_formed.reached v.core) [] [] (rw v.is at v.valid.proper)))
 
   whole_reached : (t : TagForm) → CanBeReplacedWhole t → IsProper R t → IsReached R t (whole_end t)
   whole_reached t h P = whole_reached_at t h P (whole_value R t) refl
 
-  lang_reached : (d : CoreParts) (es : List ExtensionParts) (ps : List (List ℕ)) → IsProper R (LangTag d es ps) → IsReached R (LangTag d es ps) (lang_end d es ps)
-  lang_reached d [] [] P = whole_reached (core_alone d) (refl, refl) P
-  lang_reached d [] (p ∷ ps) P = done
-  lang_reached d (e ∷ es) ps P = extensions_reached d (extensions_end_formed.reached (e ∷ es)) ps P
-
   pub tag_reached : (t : TagForm) → IsProper R t → IsReached R t (tag_end t)
-  tag_reached (LangTag c es ps) P =
+  tag_reached (LangTag c [] []) P =
       let r = cores_formed.reached c in
-      star_trans (cores_reached r es ps P) (lang_reached (core_end c) es ps (cores_proper r es ps P))
+      star_trans (cores_reached r [] [] P) (whole_reached (core_alone (core_end c)) (refl, refl) (cores_proper r [] [] P))
+  tag_reached (LangTag c [] (p ∷ ps)) P = cores_reached (cores_formed.reached c) [] (p ∷ ps) P
+  tag_reached (LangTag c (e ∷ es) ps) P = parts_reached (cores_formed.reached c) (extensions_end_formed.reached (e ∷ es)) ps P
   tag_reached (PrivateUse ps) P = done
   tag_reached (Grandfathered n) P = whole_reached (Grandfathered n) tt P
 
   -- so the end form is one
   pub end_form : IsEndForm (IsProper R) (TagStep R) tag_end
   end_form = record { to = λ a b s. s.to; kept = λ a b s. change_kept a b s.change; reached = tag_reached }
+
+-- a langtag at its end
+pub record IsLangAtEnd (R : List EntryParts) (d : CoreParts) (es : List ExtensionParts) (ps : List (List ℕ)) : Type 0 where
+  pub core : Rests (CoreStep (values_of R)) d
+  pub extensions : Rests (ExtensionsStep R) es
+  pub whole : es ≡ [] → ps ≡ [] → whole_value R (core_alone d) ≡ None
+
+pub lang_at_end : (R : List EntryParts) (d : CoreParts) (es : List ExtensionParts) (ps : List (List ℕ)) → IsLangAtEnd R d es ps → (u : TagForm) → TagChange R (LangTag d es ps) u → ⊥
+lang_at_end R d es ps E u (on_core c c' fs qs from _ s) = let same : c ≡ d = cc in E.core c' (subst (λ x. CoreStep (values_of R) x c') same s)
+lang_at_end R d es ps E u (on_extensions c es' fs qs from _ s) = let same : es' ≡ es = cc in E.extensions fs (subst (λ x. ExtensionsStep R x fs) same s)
+lang_at_end R d es ps E u (on_whole is_plain has) =
+    let none : whole_value R (LangTag d es ps) ≡ None = ap (whole_value R) (λ i. LangTag d (is_plain.0 i) (is_plain.1 i)) ∙ E.whole is_plain.0 is_plain.1 in
+    cc
+
+abbrev pub NoChange : List EntryParts → TagForm → Type 0
+NoChange R t = (u : TagForm) → TagChange R t u → ⊥
+
+pub grandfathered_rests : (R : List EntryParts) (n : ℕ) → whole_value R (Grandfathered n) ≡ None → NoChange R (Grandfathered n)
+grandfathered_rests R n h u (on_core c c' es ps from _ _) = cc
+grandfathered_rests R n h u (on_extensions c es fs ps from _ _) = cc
+grandfathered_rests R n h u (on_whole _ has) = cc
+
+pub private_rests : (R : List EntryParts) (ps : List (List ℕ)) → NoChange R (PrivateUse ps)
+private_rests R ps u (on_core c c' es qs from _ _) = cc
+private_rests R ps u (on_extensions c es fs qs from _ _) = cc
+private_rests R ps u (on_whole is_plain _) = is_plain
+
+pub none_rests : (R : List EntryParts) → Rests (ExtensionsStep R) []
+none_rests R fs s = extensions_step_from R [] fs s refl
+
+module _ (R : List EntryParts) (C : IsChecked R) where
+  plain_end : (c : CoreParts) → whole_value R (core_alone (core_end R C c)) ≡ None → NoChange R (core_alone (core_end R C c))
+  plain_end c n = lang_at_end R (core_end R C c) [] [] (record { core = (cores_formed R C).rests c; extensions = none_rests R; whole = λ _ _. n })
+
+  whole_rests_at : (t : TagForm) → (whole_value R t ≡ None → NoChange R t) → (o : Option TagForm) → whole_value R t ≡ o → NoChange R (or_value t (value_end R C) o)
+  whole_rests_at t h None e = h e
+  whole_rests_at t h (Some u) e =
+      let v = value_plain R C t u e in
+      rw v.is (plain_end v.core (value_rests R C t v.core (e ∙ ap Some v.is)))
+
+  pub some_end : (es : List ExtensionParts) → es ≢ [] → extensions_end R C es ≢ []
+  some_end es n = star_keeps (λ l. l ≢ []) (λ a b s _. extensions_step_to R a b s) ((extensions_end_formed R C).reached es) n
+
+  lang_rests : (c : CoreParts) (es : List ExtensionParts) (ps : List (List ℕ)) → NoChange R (lang_end R C (core_end R C c) es ps)
+  lang_rests c [] [] = whole_rests_at (core_alone (core_end R C c)) (plain_end c) (whole_value R (core_alone (core_end R C c))) refl
+  lang_rests c [] (p ∷ ps) = lang_at_end R (core_end R C c) [] (p ∷ ps) (record { core = (cores_formed R C).rests c; extensions = none_rests R; whole = λ _ h. absurd (cc) })
+  lang_rests c (e ∷ es) ps =
+      lang_at_end R (core_end R C c) (extensions_end R C (e ∷ es)) ps (record {
+        core = (cores_formed R C).rests c;
+        extensions = (extensions_end_formed R C).rests (e ∷ es);
+        whole = λ h _. absurd (some_end (e ∷ es) (λ k. cc) h);
+      })
+
+  -- no change leads from the end form of a tag
+  pub tag_end_rests : (t : TagForm) → Rests (TagStep R) (tag_end R C t)
+  tag_end_rests (LangTag c es ps) u s = lang_rests c es ps u s.change
+  tag_end_rests (PrivateUse ps) u s = private_rests R ps u s.change
+  tag_end_rests (Grandfathered n) u s = whole_rests_at (Grandfathered n) (grandfathered_rests R n) (whole_value R (Grandfathered n)) refl u s.change
+
+pub has_end_forms : (R : List EntryParts) → IsChecked R → HasEndForms R
+has_end_forms R C = record { end = tag_end R C; kept = λ t u s. change_kept R C t u s.change; reached = tag_reached R C; at_rest = tag_end_rests R C }
+
+pub steps_confluent : (R : List EntryParts) → IsChecked R → StepsAreConfluent R
+steps_confluent R C = confluent (end_form R C)
+
+pub one_canonical_tag : (R : List EntryParts) → IsChecked R → OneCanonicalTag R
+one_canonical_tag R C a b p q e = rest_unique (end_form R C) a b p.valid.proper q.valid.proper e p.at_rest q.at_rest

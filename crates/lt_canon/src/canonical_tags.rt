@@ -67,6 +67,8 @@ pub(crate) fn canonical_of<L: Lookup>(
 
 /// Whether a part of a tag may not be in its normal form. Refused exactly where the tag is not valid, or memory
 /// runs out.
+#[tactic(auto, using(crate::proofs::StayingTags::usual_refused, crate::proofs::StayingTags::usual_valid,
+    crate::proofs::StayingTags::usual_settled))]
 fn needs_settling<L: Lookup>(alloc: Global, table: &L, tag: &Tag) -> Result<bool, Refusal>
     ensures valid { IfOk result (λ needs. IsValid (L.listed table.now) tag.now) }
     ensures settled { IfOk result (λ needs. needs ≡ false → IsSettledTag (L.listed table.now) tag.now tag.now) }
@@ -83,6 +85,9 @@ fn needs_settling<L: Lookup>(alloc: Global, table: &L, tag: &Tag) -> Result<bool
 
 /// The langtag of these parts of a valid one, with its core and its extensions in their normal forms, unless a
 /// variant occurs twice there.
+#[tactic(auto, using(crate::proofs::CanonicalForms::transforms_have_parts,
+    crate::proofs::CanonicalForms::core_refused, crate::proofs::CanonicalForms::form_count,
+    crate::proofs::CanonicalForms::form_spells_none))]
 fn settled_langtag<L: Lookup>(
     alloc: Global,
     table: &L,
@@ -120,6 +125,7 @@ fn settle_core<L: Lookup>(table: &L, shortcuts: &Shortcuts, core: &mut Core) -> 
 }
 
 /// The value of a tag that can be replaced whole, with its core in core normal form; else the tag itself.
+#[tactic(auto, using(lt_check::proofs::CheckedRegistry::value_plain))]
 fn replaced_whole<L: Lookup>(
     alloc: Global,
     table: &L,
@@ -140,6 +146,7 @@ fn replaced_whole<L: Lookup>(
 }
 
 /// The value of a whole record with its core in core normal form.
+#[tactic(auto, using(crate::proofs::TagForm::ending_chains))]
 fn settled_value<L: Lookup>(
     alloc: Global,
     table: &L,

@@ -32,6 +32,8 @@ pub fn explain<L: Lookup>(alloc: Global, checked: &Checked<L>, tag: &Tag) -> Res
 
 /// Takes the steps on a tag, each the first that leads on, until none does, and adds them to others,
 /// which it gives back.
+#[tactic(auto, using(crate::proofs::TagForm::ending_chains, crate::proofs::Explained::coreless_explained,
+    crate::proofs::Explained::transforms_of))]
 fn explain_tag<L: Lookup>(
     alloc: Global,
     table: &L,
@@ -60,6 +62,7 @@ fn explain_tag<L: Lookup>(
 
 /// Takes the Whole step of a tag whose core is at rest, if its record has a value, and the steps on the
 /// core of the value, and adds them to others, which it gives back.
+#[tactic(auto, using(crate::proofs::TagForm::ending_chains, crate::proofs::Explained::valueless_explained))]
 fn explain_whole<L: Lookup>(
     alloc: Global,
     table: &L,

@@ -10,6 +10,7 @@ use lt_tag::{Extension, OutOfMemory, TransformFault, split_t};
 use std::alloc::Global;
 
 /// The leftmost variant that occurs a second time.
+#[tactic(auto, using(crate::proofs::Distinctness::second_here, lt_registry::proofs::DistinctTests::distinct_further))]
 pub(crate) fn second_occurrence(variants: &[Subtag]) -> Option<Subtag>
     ensures { MatchOption result (Distinct variants.now) (λ variant. IsSecondOccurrence variants.now variant) }
 {
@@ -46,6 +47,7 @@ fn second_in_source(alloc: Global, extension: &Extension) -> Result<Option<Subta
 
 /// The leftmost variant that occurs a second time in the source of one of some extensions. Memory is taken only
 /// for the parts of a `t` extension in which a subtag occurs twice.
+#[tactic(auto, using(crate::proofs::SourceRepeats::sources_here, crate::proofs::SourceRepeats::sources_more))]
 pub(crate) fn second_in_sources(
     alloc: Global,
     extensions: &[Extension],

@@ -1,6 +1,6 @@
 use Rattle.std.proofs.Common.{subst}
 use Rattle.lt_canon.specs.Settled.{IsCanonicalAnswer}
-use Rattle.lt_canon.proofs.Refused.{repeats_answered}
+use Rattle.lt_canon.proofs.CanonicalForms.{repeats_answered}
 use Rattle.lt_canon.proofs.canonical_tags.canonical.Goals as goal
 
 pub returns-clause-repeats : goal.returns-clause-repeats

@@ -1,6 +1,4 @@
-use Rattle.std.proofs.Common.{sym, subst, ◌∙◌}
-use Rattle.lt_check.specs.Conditions.{IsChecked}
-use Rattle.lt_canon.specs.Answers.{IsCanonicalFormOf}
+use Rattle.std.proofs.Common.{◌∙◌}
 use Rattle.lt_canon.specs.Settled.{IsSettledTag}
 use Rattle.lt_canon.proofs.CanonicalForms.{settled_canonical, coreless_settled}
 use Rattle.lt_canon.proofs.canonical_tags.canonical_of.Goals as goal
@@ -8,19 +6,14 @@ use Rattle.lt_canon.proofs.canonical_tags.canonical_of.Goals.{in-Ok+in_ok-settle
 
 pub returns-then-not-branch : goal.returns-then-not-branch
 returns-then-not-branch g c =
-    let t = c.args.tag in
-    let checked = subst (λ x. IsChecked (g.L.Lookup.listed x)) (sym c.table-table.ensures.value) c.table-table.ensures.checked in
-    subst (λ x. IsCanonicalFormOf (g.L.Lookup.listed x) t c.in_ok-replaced_whole.field-0) c.table-table.ensures.value
-    (settled_canonical (g.L.Lookup.listed c.table-table.result.now) checked t t c.in_ok-replaced_whole.field-0 c.in_ok-needs_settling.ensures.valid (c.in_ok-needs_settling.ensures.settled c.if-not-branch.true) (c.in_ok-replaced_whole.ensures {u = tt}))
+    rw (← c.table-table.ensures.value) (settled_canonical (g.L.Lookup.listed c.table-table.result.now) (rw c.table-table.ensures.value c.table-table.ensures.checked) c.args.tag c.args.tag c.in_ok-replaced_whole.field-0 c.in_ok-needs_settling.ensures.valid (c.in_ok-needs_settling.ensures.settled c.if-not-branch.true) (c.in_ok-replaced_whole.ensures {u = tt}))
 
 pub returns : goal.returns
 returns g c =
     let t = c.args.tag in
     let R = g.L.Lookup.listed c.table-table.result.now in
-    let checked = subst (λ x. IsChecked (g.L.Lookup.listed x)) (sym c.table-table.ensures.value) c.table-table.ensures.checked in
     let settled : IsSettledTag R t c.match-into_parts.settled = elim c.match-into_parts.branch [
-      | in-Ok+in_ok-settled-in-Ok w ↦ subst (IsSettledTag R t) (sym w.settled-is) (subst (λ a. IsSettledTag R a w.in_ok-settled-in-Ok.settled) (sym (w.in-Ok.ensures {u = tt}).parts) (w.in_ok-settled-in-Ok.ensures {u = tt}).settled)
+      | in-Ok+in_ok-settled-in-Ok w ↦ rw (w.settled-is, (w.in-Ok.ensures {u = tt}).parts) (w.in_ok-settled-in-Ok.ensures {u = tt}).settled
       | in-Err w ↦ let other = (w.in-Err.ensures {u = tt}).other in coreless_settled R t c.match-into_parts.settled other.1 (w.settled-is ∙ other.0)
     ] in
-    subst (λ x. IsCanonicalFormOf (g.L.Lookup.listed x) t c.in_ok-replaced_whole-2.field-0) c.table-table.ensures.value
-    (settled_canonical R checked t c.match-into_parts.settled c.in_ok-replaced_whole-2.field-0 c.in_ok-needs_settling.ensures.valid settled (c.in_ok-replaced_whole-2.ensures {u = tt}))
+    rw (← c.table-table.ensures.value) (settled_canonical R (rw c.table-table.ensures.value c.table-table.ensures.checked) t c.match-into_parts.settled c.in_ok-replaced_whole-2.field-0 c.in_ok-needs_settling.ensures.valid settled (c.in_ok-replaced_whole-2.ensures {u = tt}))

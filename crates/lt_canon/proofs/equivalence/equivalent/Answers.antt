@@ -1,7 +1,7 @@
 use Rattle.std.proofs.Common.{inl, inr}
 use Rattle.std.proofs.lemmas.Result.{err_from_is_err_and}
-use Rattle.lt_canon.proofs.AnswerLaws.{equivalence_answer}
-use Rattle.lt_canon.proofs.Refused.{refused}
+use Rattle.lt_canon.proofs.TagRepeats.{equivalence_answer}
+use Rattle.lt_canon.proofs.CanonicalForms.{refused}
 use Rattle.lt_canon.proofs.equivalence.equivalent.Goals as goal
 
 pub returns-in_err-first_form-clause-refusal : goal.returns-in_err-first_form-clause-refusal

@@ -1,7 +1,5 @@
-use Rattle.lt_canon.proofs.TagLaws.{has_end_forms, steps_confluent, one_canonical_tag}
-use Rattle.lt_canon.proofs.TagRepeats.{canonical_or_repeats, repeat_together, equivalence_is_equality}
-use Rattle.lt_canon.proofs.NamedRepeats.{repeats_are_named}
-use Rattle.lt_canon.proofs.AnswerLaws.{text_equality, twice_is_once, text_twice_is_once}
+use Rattle.lt_canon.proofs.TagForm.{has_end_forms, steps_confluent, one_canonical_tag}
+use Rattle.lt_canon.proofs.TagRepeats.{canonical_or_repeats, repeat_together, equivalence_is_equality, repeats_are_named, text_equality, twice_is_once, text_twice_is_once}
 use Rattle.lt_canon.proofs.laws.confluence.Goals as goal
 
 pub returns : goal.returns

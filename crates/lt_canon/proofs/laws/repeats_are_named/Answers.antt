@@ -1,4 +1,4 @@
-use Rattle.lt_canon.proofs.NamedRepeats.{repeats_are_named}
+use Rattle.lt_canon.proofs.TagRepeats.{repeats_are_named}
 use Rattle.lt_canon.proofs.laws.repeats_are_named.Goals as goal
 
 pub returns : goal.returns

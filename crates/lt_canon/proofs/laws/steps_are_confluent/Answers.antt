@@ -1,4 +1,4 @@
-use Rattle.lt_canon.proofs.TagLaws.{has_end_forms, steps_confluent, one_canonical_tag}
+use Rattle.lt_canon.proofs.TagForm.{has_end_forms, steps_confluent, one_canonical_tag}
 use Rattle.lt_canon.proofs.laws.steps_are_confluent.Goals as goal
 
 pub returns : goal.returns

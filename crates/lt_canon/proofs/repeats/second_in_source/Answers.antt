@@ -1,8 +1,5 @@
-use Rattle.std.proofs.Common.{ℕ, List, Option, refl, sym, ap, ◌∙◌, subst, arith}
-use Rattle.std.specs.Prelude.{MatchOption}
+use Rattle.std.proofs.Common.{refl, sym, ap, ◌∙◌, arith}
 use Rattle.lt_tag.specs.Parts.{TForm}
-use Rattle.lt_registry.specs.Validity.{Distinct}
-use Rattle.lt_canon.specs.Answers.{IsSecondOccurrence}
 use Rattle.lt_canon.proofs.CanonicalForms.{none_of_test}
 use Rattle.lt_canon.proofs.SourceRepeats.{no_source, of_source, distinct_subtags}
 use Rattle.lt_canon.proofs.repeats.second_in_source.Goals as goal
@@ -18,6 +15,5 @@ returns-in-Ok c =
 
 pub returns-then-is_none : goal.returns-then-is_none
 returns-then-is_none c =
-    let P : Option (List ℕ) → Type 0 = λ o. MatchOption o (Distinct c.subtags.result.now) (IsSecondOccurrence c.subtags.result.now) in
     let none = none_of_test c.second_occurrence.result c.second_occurrence.result refl (c.if-is_none.ensures {u = tt}) in
-    distinct_subtags c.args.extension.now (subst Distinct c.subtags.ensures.value (subst P none c.second_occurrence.ensures))
+    distinct_subtags c.args.extension.now (rw (none, c.subtags.ensures.value) at c.second_occurrence.ensures)

@@ -1,17 +1,9 @@
 use Rattle.lt_rewrite.specs.Labels.{step_at}
 use Rattle.lt_rewrite.specs.declared.steps.StepKind.TheVariants as kinds
-use Rattle.lt_canon.proofs.Tracing.{misstep_here, trace_here}
+use Rattle.lt_canon.proofs.Tracing.{trace_here}
 use Rattle.lt_canon.proofs.traces.follow.Goals as goal
-
-pub returns-in-Err-NoSuchStep-clause-err : goal.returns-in-Err-NoSuchStep-clause-err
-returns-in-Err-NoSuchStep-clause-err g c =
-    misstep_here (g.L.Lookup.listed c.args.table.now) c.args.tag.now c.args.steps.now c.loop-index.index (step_at kinds.Extlang 0 0) c.loop-index.here c.in-Err-NoSuchStep.field-0
-    c.loop-index-test.true c.loop-index.invariant.led (c.in-Err-NoSuchStep.ensures {u = tt}).err c.in-Err-NoSuchStep.field-0-is
 
 pub loop-index-preserved : goal.loop-index-preserved
 loop-index-preserved g c =
     let on = (c.in-Ok.ensures {u = tt}).ok in
-    record {
-      led = trace_here (g.L.Lookup.listed c.args.table.now) c.args.tag.now c.args.steps.now c.loop-index.index (step_at kinds.Extlang 0 0) c.loop-index.here c.in-Ok.next c.loop-index-test.true c.loop-index.invariant.led on;
-      proper = on.0.to;
-    }
+    record { led = trace_here (g.L.Lookup.listed c.args.table.now) c.args.tag.now c.args.steps.now c.loop-index.index (step_at kinds.Extlang 0 0) c.loop-index.here c.in-Ok.next c.loop-index-test.true c.loop-index.invariant.led on; proper = on.0.to }
