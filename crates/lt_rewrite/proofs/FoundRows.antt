@@ -1,9 +1,9 @@
 -- The rows of variants are found by a language and a place.
-use Rattle.std.proofs.Common.{◌≡◌, ℕ, zero, suc, ◌+◌, ◌-◌, ◌<◌, ◌≤◌, Bool, true, false, cond, ◌&&◌, ◌||◌, eqb, leb, ltb, ltb-true, leb-false, List, [], ◌∷◌, Option, Some, None, length, length-take, length-drop, get_or, slice_get, true≢false, take, drop, refl, sym, ap, ◌∙◌, subst, arith}
-use Rattle.std.specs.Prelude.{bytes_eq, ◌==◌}
+use Rattle.std.proofs.Common.{◌≡◌, ℕ, zero, suc, ◌+◌, ◌-◌, ◌%◌, ◌<◌, ◌≤◌, Bool, true, false, cond, ◌&&◌, ◌||◌, leb, ltb, ltb-true, leb-false, List, [], ◌∷◌, Option, Some, None, length, length-take, length-drop, get_or, slice_get, true≢false, take, drop, refl, sym, ap, ◌∙◌, subst, arith}
+use Rattle.std.specs.Prelude.{bytes_eq}
 use Rattle.std.specs.List.{All, list_any, filter_map, AllWithin}
 use Rattle.std.specs.Option.{option_map_or, option_and_then}
-use Rattle.std.proofs.lemmas.Bool.{or_left, or_right, and_right, and_parts, eq-eqb, eqb-true}
+use Rattle.std.proofs.lemmas.Bool.{or_left, or_right, and_right, eq-eqb, eqb-true}
 use Rattle.std.proofs.lemmas.List.{get_or-take, get_or-drop, get_or_default}
 use Rattle.std.proofs.lemmas.List.Folds.{Any-from_list_any, list_any-from_Any, list_any-append, list_any_at}
 use Rattle.std.proofs.lemmas.List.Sorted.{list_any-IsPermutation}
@@ -17,17 +17,16 @@ use Rattle.lt_rewrite.specs.CoreSteps.{values_of}
 use Rattle.lt_rewrite.specs.VariantLanguages.{ArePlaces}
 use Rattle.lt_rewrite.proofs.Entries.{entry_of}
 use Rattle.lt_rewrite.proofs.PlacedVariants.{placed_at}
-use Rattle.lt_rewrite.specs.VariantRows.{number, prefix_row, becomes_language, rows_of, rows_from, is_row, is_at, AreVariantRows}
-use Rattle.lt_rewrite.specs.declared.variant_rows.VariantRow.{VariantRow}
+use Rattle.lt_rewrite.specs.VariantRows.{number, row, number_in, prefix_row, becomes_language, rows_of, rows_from, is_row, is_at, AreVariantRows}
 
-is_itself : (n place : ℕ) → is_row n place (record { number = n; place = place }) ≡ true
-is_itself n place = (λ i. eq-eqb n n refl i && eqb place place) ∙ eq-eqb place place refl
+is_itself : (n place : ℕ) → is_row n place (row n place) ≡ true
+is_itself n place = eq-eqb (row n place) (row n place) refl
 
 -- a language that is a Prefix has a row
-row_at : (place : ℕ) (l s : List ℕ) (ps : List (List (List ℕ))) (rest : Bool) → (has_prefix ps l ≡ true → rest ≡ true) → (b : Bool) → bytes_eq s l ≡ b → ((b && true) || has_prefix ps l) ≡ true → (is_row (number l) place (record { number = number s; place = place }) || rest) ≡ true
+row_at : (place : ℕ) (l s : List ℕ) (ps : List (List (List ℕ))) (rest : Bool) → (has_prefix ps l ≡ true → rest ≡ true) → (b : Bool) → bytes_eq s l ≡ b → ((b && true) || has_prefix ps l) ≡ true → (is_row (number l) place (row (number s) place) || rest) ≡ true
 row_at place l s ps rest later true e h =
     let same : s ≡ l = (bytes_eq-Decides s l).0 e in
-    or_left _ rest (ap (λ x. is_row (number l) place (record { number = number x; place = place })) same ∙ is_itself (number l) place)
+    or_left _ rest (ap (λ x. is_row (number l) place (row (number x) place)) same ∙ is_itself (number l) place)
 row_at place l s ps rest later false e h = or_right _ rest (later h)
 
 row_there : (place : ℕ) (l : List ℕ) (ps : List (List (List ℕ))) → has_prefix ps l ≡ true → list_any (is_row (number l) place) (filter_map (prefix_row place) ps) ≡ true
@@ -53,42 +52,42 @@ rows_there first (suc i) (x ∷ xs) e l there b h =
     ∙ or_right _ _ (ap (λ n. list_any (is_row (number l) n) (rows_from (first + 1) xs)) here ∙ rows_there (first + 1) i xs e l there b h)
 
 -- each record that becomes a language beside this one has its row
-row_of_each : (R : List EntryParts) (rows : List VariantRow) (l : List ℕ) (place : ℕ) (e : EntryParts) → AreVariantRows R rows → slice_get R place ≡ Some e → becomes_language e ≡ true → has_prefix e.prefixes l ≡ true → list_any (is_row (number l) place) rows ≡ true
+row_of_each : (R : List EntryParts) (rows : List ℕ) (l : List ℕ) (place : ℕ) (e : EntryParts) → AreVariantRows R rows → slice_get R place ≡ Some e → becomes_language e ≡ true → has_prefix e.prefixes l ≡ true → list_any (is_row (number l) place) rows ≡ true
 row_of_each R rows l place e are there b h =
     let here : place ≡ 0 + place = omega arith in
     sym (list_any-IsPermutation (is_row (number l) place) (rows_from 0 R) rows are.same)
     ∙ ap (λ p. list_any (is_row (number l) p) (rows_from 0 R)) here ∙ rows_there 0 place R e l there b h
 
 -- the rows of a number are after those that are lower, and before those that are higher
-pub between : (rows : List VariantRow) (n place lower count : ℕ) → AllWithin (λ (row : VariantRow). ltb row.number n ≡ true) rows 0 lower → AllWithin (λ (row : VariantRow). leb row.number n ≡ false) (drop lower rows) count (length (drop lower rows)) → list_any (is_row n place) rows ≡ true → list_any (is_row n place) (take count (drop lower rows)) ≡ true
+pub between : (rows : List ℕ) (n place lower count : ℕ) → AllWithin (λ r. ltb (number_in r) n ≡ true) rows 0 lower → AllWithin (λ r. leb (number_in r) n ≡ false) (drop lower rows) count (length (drop lower rows)) → list_any (is_row n place) rows ≡ true → list_any (is_row n place) (take count (drop lower rows)) ≡ true
 between rows n place lower count low high h =
     let found = Any-from_list_any (is_row n place) rows h in
     let k : ℕ = found.0 in
-    let x : VariantRow = found.1 in
+    let x : ℕ = found.1 in
     let at : get_or rows k x ≡ x = found.3 in
-    let numbered : (get_or rows k x).number ≡ n = ap (λ (row : VariantRow). row.number) at ∙ eqb-true x.number n (and_parts (x.number == n) (x.place == place) found.4).0 in
+    let numbered : number_in (get_or rows k x) ≡ n = omega (arith, ap number_in at, eqb-true x (row n place) found.4) in
     let not_lower : k < lower → ⊥ = λ less. (let a = ltb-true _ _ (low k x (omega arith) less) in omega (arith, a, numbered)) in
     let i : ℕ = k - lower in
     let back : lower + i ≡ k = omega (arith, not_lower) in
     let within : i < length (drop lower rows) = omega (arith, back, found.2, length-drop lower rows) in
     let there : get_or (drop lower rows) i x ≡ get_or rows k x = get_or-drop lower rows i x ∙ ap (λ j. get_or rows j x) back in
-    let not_higher : count ≤ i → ⊥ = λ more. (let a = leb-false _ _ (high i x more within) in omega (arith, a, numbered, ap (λ (row : VariantRow). row.number) there)) in
+    let not_higher : count ≤ i → ⊥ = λ more. (let a = leb-false _ _ (high i x more within) in omega (arith, a, numbered, ap number_in there)) in
     let inside : i < count = omega (arith, not_higher) in
     list_any_at (is_row n place) (take count (drop lower rows)) i x (omega (arith, inside, within, length-take count (drop lower rows)))
     (ap (is_row n place) (get_or-take count (drop lower rows) i x inside ∙ there ∙ at) ∙ found.4)
 
 -- a row of a number and a place is one of the place
-at_any : (n place : ℕ) (rows : List VariantRow) (b : Bool) → list_any (is_row n place) rows ≡ b → list_any (is_at place) rows ≡ false → b ≡ false
+at_any : (n place : ℕ) (rows : List ℕ) (b : Bool) → list_any (is_row n place) rows ≡ b → list_any (is_at place) rows ≡ false → b ≡ false
 at_any n place rows false e none = refl
 at_any n place rows true e none =
     let found = Any-from_list_any (is_row n place) rows e in
-    absurd (true≢false (sym (list_any-from_Any (is_at place) rows (found.0, found.1, found.2, found.3, (and_parts (found.1.number == n) (found.1.place == place) found.4).1)) ∙ none))
+    absurd (true≢false (sym (list_any-from_Any (is_at place) rows (found.0, found.1, found.2, found.3, eq-eqb (found.1 % 65536) (place % 65536) (omega (arith, eqb-true found.1 (row n place) found.4)))) ∙ none))
 
-pub none_at : (n place : ℕ) (rows : List VariantRow) → list_any (is_at place) rows ≡ false → list_any (is_row n place) rows ≡ false
+pub none_at : (n place : ℕ) (rows : List ℕ) → list_any (is_at place) rows ≡ false → list_any (is_row n place) rows ≡ false
 none_at n place rows none = at_any n place rows (list_any (is_row n place) rows) refl none
 
 -- a variant of whose place there is no row becomes no language beside it
-module _ (R : List EntryParts) (l v : List ℕ) (rows : List VariantRow) (place : ℕ) (are : AreVariantRows R rows) (none : list_any (is_row (number l) place) rows ≡ true → ⊥) where
+module _ (R : List EntryParts) (l v : List ℕ) (rows : List ℕ) (place : ℕ) (are : AreVariantRows R rows) (none : list_any (is_row (number l) place) rows ≡ true → ⊥) where
   abbrev language_of : Option EntryParts → Option (List ℕ)
   language_of o =
       cond (has_prefix (option_map_or (λ (e : EntryParts). e.prefixes) o []) l)
@@ -118,7 +117,7 @@ module _ (R : List EntryParts) (l v : List ℕ) (rows : List VariantRow) (place 
   none_beside at = by_entry (entry R kinds.Variant v) at refl
 
 -- so none of the variants before an index does, where none of their places has one
-pub none_before : (R : List EntryParts) (l : List ℕ) (rows : List VariantRow) (vs : List (List ℕ)) (ps : List ℕ) (first : ℕ) → AreVariantRows R rows → ArePlaces R vs ps → ((k : ℕ) → k < first → list_any (is_row (number l) (get_or ps k 0)) rows ≡ true → ⊥) → All (λ (v : List ℕ). (values_of R).variant_language l v ≡ None) (take first vs)
+pub none_before : (R : List EntryParts) (l : List ℕ) (rows : List ℕ) (vs : List (List ℕ)) (ps : List ℕ) (first : ℕ) → AreVariantRows R rows → ArePlaces R vs ps → ((k : ℕ) → k < first → list_any (is_row (number l) (get_or ps k 0)) rows ≡ true → ⊥) → All (λ (v : List ℕ). (values_of R).variant_language l v ≡ None) (take first vs)
 none_before R l rows vs ps first are placed none k d h =
     let below : k < first = omega (arith, h, length-take first vs) in
     let within : k < length vs = omega (arith, h, length-take first vs) in

@@ -6,7 +6,6 @@ use Rattle.std.proofs.lemmas.List.Edits.{length-remove, get_or-remove_below, get
 use Rattle.std.proofs.lemmas.List.Folds.{list_any_none}
 use Rattle.lt_rewrite.specs.PlaceIndices.{index_at, AreBounds}
 use Rattle.lt_rewrite.specs.VariantRows.{is_at}
-use Rattle.lt_rewrite.specs.declared.variant_rows.VariantRow.{VariantRow}
 
 -- one place taken out, where none is higher than it was and those after it are one less
 pub bounds_without : (places was indices : List ℕ) (index : ℕ) → index < length places → AreBounds places was
@@ -21,11 +20,11 @@ bounds_without places was indices index within bounds lower moved i d l =
     ]
 
 -- before a bound no place has a row that is not lower
-pub none_lower : (places indices : List ℕ) (rows : List VariantRow) (first k d : ℕ) → AreBounds places indices → first ≤ length places → AllWithin (λ (row : VariantRow). first ≤ index_at indices row.place) rows 0 (length rows) → k < first → list_any (is_at (get_or places k d)) rows ≡ false
+pub none_lower : (places indices : List ℕ) (rows : List ℕ) (first k d : ℕ) → AreBounds places indices → first ≤ length places → AllWithin (λ r. first ≤ index_at indices r) rows 0 (length rows) → k < first → list_any (is_at (get_or places k d)) rows ≡ false
 none_lower places indices rows first k d bounds within all below =
     list_any_none (is_at (get_or places k d)) rows (λ r e l. apart (get_or rows r e) (is_at (get_or places k d) (get_or rows r e)) refl (all r e (omega arith) l))
   where
-    apart : (row : VariantRow) (b : Bool) → is_at (get_or places k d) row ≡ b → first ≤ index_at indices row.place → b ≡ false
+    apart : (row : ℕ) (b : Bool) → is_at (get_or places k d) row ≡ b → first ≤ index_at indices row → b ≡ false
     apart row false e low = refl
     apart row true e low =
-        absurd (omega (arith, low, below, bounds k d (omega (arith, below, within)), ap (index_at indices) (eqb-true row.place (get_or places k d) e)))
+        absurd (omega (arith, low, below, bounds k d (omega (arith, below, within)), ap (λ slot. get_or indices slot 0) (eqb-true (row % 65536) (get_or places k d % 65536) e)))

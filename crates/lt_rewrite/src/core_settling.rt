@@ -11,7 +11,7 @@ ghost use Rattle.lt_rewrite.specs.Shortcuts.{AreShortcuts};
 ghost use Rattle.lt_rewrite.specs.CoreSettling.{IsFirstVariantLanguage, HasNoVariantLanguage, HasFinalLanguage, HasFinalScript, HasFinalRegion, HasFinalVariants};
 
 use crate::chain_ends::{end_of_chain, replacement};
-use crate::place_indices::{indices_of, take_out};
+use crate::place_indices::{INDICES, lower_to, take_out};
 use crate::shortcuts::Shortcuts;
 use crate::values::{is_short, one_value};
 use crate::variant_languages::{first_variant_language_at, places_of};
@@ -181,7 +181,8 @@ fn settle_few_variant_languages<L: Lookup>(table: &L, shortcuts: &Shortcuts, cor
 {
     settle_language(table, Some(shortcuts), core);
     let mut places = places_of(table, core.variants());
-    let mut indices = indices_of(&places);
+    let mut indices = [255; INDICES];
+    lower_to(&mut indices, &places);
     while let Some((index, language)) = first_variant_language_at(
         table,
         shortcuts.rows(),

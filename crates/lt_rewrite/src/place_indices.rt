@@ -12,19 +12,17 @@ pub(crate) const INDICES: usize = 65536;
 /// For each place of a record an index, before which no variant of the core has its record there.
 pub(crate) type Indices = [u8; INDICES];
 
-/// The indices of at most 256 places.
-pub(crate) fn indices_of(places: &[usize]) -> Indices
+/// Lowers indices to those of at most 256 places.
+pub(crate) fn lower_to(indices: &mut Indices, places: &[usize])
     requires { length places.now ≤ 256 }
-    ensures { AreBounds places.now result }
+    ensures { AreBounds places.now indices.new }
 {
-    let mut indices = [255; INDICES];
     for (index, place) in places.iter().enumerate() {
         let slot = place % INDICES;
         if index < usize::from(indices[slot]) {
             indices[slot] = index as u8;
         }
     }
-    indices
 }
 
 /// Makes the indices those of the places that are left when one is taken out: from its index on, each is one
@@ -48,7 +46,7 @@ pub(crate) fn first_with_row(indices: &Indices, rows: &[VariantRow], places: &[u
 {
     let mut first = places.len();
     for row in rows {
-        first = first.min(usize::from(indices[row.place % INDICES]));
+        first = first.min(usize::from(indices[(row % 65536) as usize]));
     }
     first
 }

@@ -13,7 +13,7 @@ use Rattle.lt_rewrite.proofs.variant_languages.first_variant_language_at.Goals a
 pub loop-index-init : goal.loop-index-init
 loop-index-init g c =
     let R = g.L.Lookup.listed c.args.table.now in
-    let same : c.number_of-number.result ≡ number c.args.core.now.language = c.number_of-number.ensures ∙ ap number c.language.ensures.value in
+    let same : c.number_of-number.result ≡ number c.args.core.now.language = c.number_of-number.ensures.value ∙ ap number c.language.ensures.value in
     none_before R c.args.core.now.language c.args.rows.now c.variants-variants.result.now c.args.places.now c.first_with_row-first.result c.requires.rows
     (subst (λ vs. ArePlaces R vs c.args.places.now) (sym c.variants-variants.ensures.value) c.requires.places)
     (λ k below h. true≢false (sym (c.rows_beside.ensures (get_or c.args.places.now k 0) (subst (λ n. list_any (is_row n (get_or c.args.places.now k 0)) c.args.rows.now ≡ true) (sym same) h)) ∙ none_at c.number_of-number.result (get_or c.args.places.now k 0) c.rows_beside.result.now (c.first_with_row-first.ensures k 0 (omega arith) below)))

@@ -1,7 +1,10 @@
-use Rattle.std.proofs.Common.{◌≡◌, drop}
+use Rattle.std.proofs.Common.{◌≡◌, ◌<◌, ◌^◌, drop}
 use Rattle.lt_rewrite.specs.VariantRows.{number, number_after}
 use Rattle.lt_rewrite.proofs.variant_rows.number_of.Given as goal
 
 -- with the bytes that are left it is the number of all
 abbrev pub invariant-loop-byte : goal.invariant-loop-byte
-invariant-loop-byte l = number_after l.number (drop l.byte-index l.byte-items) ≡ number l.language
+invariant-loop-byte l = record {
+  small : l.number < 2 ^ 48;
+  value : number_after l.number (drop l.byte-index l.byte-items) ≡ number l.language;
+}

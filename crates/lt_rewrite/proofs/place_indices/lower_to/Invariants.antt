@@ -1,6 +1,6 @@
 use Rattle.std.proofs.Common.{◌≤◌, ◌<◌, ℕ, get_or}
 use Rattle.lt_rewrite.specs.PlaceIndices.{index_at}
-use Rattle.lt_rewrite.proofs.place_indices.indices_of.Given as goal
+use Rattle.lt_rewrite.proofs.place_indices.lower_to.Given as goal
 
 -- those so far are bounds
 abbrev pub invariant-loop-index : goal.invariant-loop-index
