@@ -42,7 +42,7 @@ statement:
 bench:
 	bench/run.sh
 
-# Measures the program on registries and lines that are made against it; it takes some minutes.
+# Measures the program on registries and lines that are made against it; it takes a quarter of an hour.
 hostile:
 	bench/hostile.py build/langtag
 
