@@ -103,26 +103,30 @@ module _ (R : List EntryParts) (c : CoreParts) (es : List ExtensionParts) (ps : 
     pub core_is_first : (step : Step) (d : CoreParts) → IsProper R here → IsFirst (CoreLeads R 0 c) kind_rank step d → IsProper R (LangTag d es ps) × IsFirst (LeadsBy R here) (rank_in here) step (LangTag d es ps)
     core_is_first step d P h =
         let to = (steps_keep R C).core c d es ps h.leads.0 P in
-        let a = core_leads_rank step d h.leads in
-        (to, record {
-          leads = (record { from = P; to = to; change = on_core c d es ps refl refl h.leads.0 }, h.leads.1);
-          first = λ other u l. leads_by (IsNoLater (rank_in here) step other) other u l
-              (λ e k. rw (a.0, (core_leads_rank other e k).0) (h.first other e k))
-              (λ fs k. let b = extensions_lead_rank other fs k in inl (omega (arith, a.0, a.1, b.0, b.1)))
-              (λ p b. inl (omega (arith, a.0, a.1, b)));
-        })
+        let a = core_leads_rank step d h.leads in (
+          to,
+          record {
+            leads = (record { from = P; to = to; change = on_core c d es ps refl refl h.leads.0 }, h.leads.1);
+            first = λ other u l. leads_by (IsNoLater (rank_in here) step other) other u l
+                (λ e k. rw (a.0, (core_leads_rank other e k).0) (h.first other e k))
+                (λ fs k. let b = extensions_lead_rank other fs k in inl (omega (arith, a.0, a.1, b.0, b.1)))
+                (λ p b. inl (omega (arith, a.0, a.1, b)));
+          },
+        )
 
     -- where no step on the core is left, the first on the extensions is
     pub extensions_is_first : (step : Step) (fs : List ExtensionParts) → IsProper R here → NoneLeads (CoreLeads R 0 c) → IsFirst (ExtensionsLeads R (length (spell_core c)) es) extension_rank step fs → IsProper R (LangTag c fs ps) × IsFirst (LeadsBy R here) (rank_in here) step (LangTag c fs ps)
     extensions_is_first step fs P none h =
-        let to = (steps_keep R C).extensions c es fs ps h.leads.0 P in
-        (to, record {
-          leads = (record { from = P; to = to; change = on_extensions c es fs ps refl refl h.leads.0 }, h.leads.1);
-          first = λ other u l. leads_by (IsNoLater (rank_in here) step other) other u l
-              (λ d k. absurd (none other d k))
-              (λ gs k. rw ((extensions_lead_rank step fs h.leads).0, (extensions_lead_rank other gs k).0) (h.first other gs k))
-              (λ p _. absurd (extensions_step_from R es fs h.leads.0 p.0));
-        })
+        let to = (steps_keep R C).extensions c es fs ps h.leads.0 P in (
+          to,
+          record {
+            leads = (record { from = P; to = to; change = on_extensions c es fs ps refl refl h.leads.0 }, h.leads.1);
+            first = λ other u l. leads_by (IsNoLater (rank_in here) step other) other u l
+                (λ d k. absurd (none other d k))
+                (λ gs k. rw ((extensions_lead_rank step fs h.leads).0, (extensions_lead_rank other gs k).0) (h.first other gs k))
+                (λ p _. absurd (extensions_step_from R es fs h.leads.0 p.0));
+          },
+        )
 
 -- the kinds by their ranks, those of steps on a source after the others and before SwapFields
 kind_at : ℕ → StepKind

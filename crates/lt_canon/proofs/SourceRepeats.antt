@@ -89,7 +89,7 @@ source_repeats es v h d =
 module _ (R : List EntryParts) where
   -- a source repeats no variant, or one is the first to occur again
   source_or_second : (e : ExtensionParts) → IsProperExtension R e → HasDistinctSource e ⊎ ((v : List ℕ) × IsSecondInSource e v)
-  source_or_second e P = elim (cases_eq e.singleton transform) [ | inl s ↦ let m = P s in by m.0 s m.1 m.0.source refl | inr n ↦ inl (λ s. absurd (n s)) ]
+  source_or_second e P = elim (cases_eq e.singleton transform) [ inl s ↦ let m = P s in by m.0 s m.1 m.0.source refl | inr n ↦ inl (λ s. absurd (n s)) ]
     where
       by : (p : TForm) → e.singleton ≡ transform → IsTransform e.subtags p → (o : Option CoreParts) → p.source ≡ o → HasDistinctSource e ⊎ ((v : List ℕ) × IsSecondInSource e v)
       by p s k None h = inl (no_source e p k h)

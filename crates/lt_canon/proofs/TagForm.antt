@@ -131,7 +131,7 @@ module _ (R : List EntryParts) (C : IsChecked R) where
     | inl t ↦ whole_end_at (core_alone (core_end c)) (Some (core_alone q)) (ap (λ d. whole_value R (core_alone d)) ((same_core-Decides (core_end c) c).0 t) ∙ e)
     | inr f ↦ let w = valued_whole R (core_alone c) (core_alone q) e in
         elim (whole_has R (core_alone c) (core_alone q) (HasAgreeingWhole R) C.passes.agreeing_whole w (core_alone c) (core_alone q) w.named w.gives c (core_end c) q (core_end q) refl refl (core_normal c)
-            (λ h. let t : same_core (core_end c) c ≡ true = (same_core-Decides (core_end c) c).1 h in cc) (core_normal q)) [
+        (λ h. let t : same_core (core_end c) c ≡ true = (same_core-Decides (core_end c) c).1 h in cc) (core_normal q)) [
           | inl s ↦ ap (λ d. whole_end (core_alone d)) s ∙ whole_end_at (core_alone (core_end q)) None (value_rests (core_alone c) q e)
           | inr k ↦ whole_end_at (core_alone (core_end c)) (Some (core_alone k.0)) k.1 ∙ ap core_alone (normal_is_form cores_formed k.0 (core_end q) k.2)
         ]

@@ -84,7 +84,7 @@ module _ (R : List EntryParts) (C : IsChecked R) where
   -- a plain core whose end repeats no variant
   whole_distinct : (d : CoreParts) → (o : Option TagForm) → whole_value R (core_alone d) ≡ o → RepeatsNoVariant (or_value (core_alone d) (value_end R C) o) → Distinct d.variants
   whole_distinct d None e h = h.0
-  whole_distinct d (Some u) e h = elim (tag_plain R C (core_alone d) u e) [ | inl g ↦ let x = g.is in cc | inr g ↦ g.valid.distinct.0 ]
+  whole_distinct d (Some u) e h = elim (tag_plain R C (core_alone d) u e) [ inl g ↦ let x = g.is in cc | inr g ↦ g.valid.distinct.0 ]
 
   extension_distinct : (e : ExtensionParts) → Once e → HasDistinctSource (extension_end R C e) → HasDistinctSource e
   extension_distinct e h d = told_source e (λ c s. form_distinct R (core_conditions R C.passes) c (h c s) (source_told (extension_end R C e) d (core_end R C c) (source_end R C e c s)))
@@ -128,9 +128,9 @@ module _ (R : List EntryParts) (C : IsChecked R) where
   canonical_or_repeats t V = elim (decide_tag (tag_end R C t) (star_proper (end_form R C) (tag_reached R C t V.proper) V.proper)) [
     | inl d ↦ inl (tag_end R C t, end_canonical t (tag_end R C t) V refl d)
     | inr n ↦ inr (record {
-        repeats = record { tag = tag_end R C t; reached = tag_reached R C t V.proper; repeats = n };
-        formless = λ c k e. n (subst RepeatsNoVariant (sym (equivalent_end (end_form R C) e ∙ rest_is_end (end_form R C) c k.valid.proper k.at_rest)) k.valid.distinct);
-      })
+      repeats = record { tag = tag_end R C t; reached = tag_reached R C t V.proper; repeats = n };
+      formless = λ c k e. n (subst RepeatsNoVariant (sym (equivalent_end (end_form R C) e ∙ rest_is_end (end_form R C) c k.valid.proper k.at_rest)) k.valid.distinct);
+    })
   ]
 
   pub repeat_together : RepeatTogether R

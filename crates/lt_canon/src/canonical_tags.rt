@@ -67,8 +67,7 @@ pub(crate) fn canonical_of<L: Lookup>(
 
 /// Whether a part of a tag may not be in its normal form. Refused exactly where the tag is not valid, or memory
 /// runs out.
-#[tactic(auto, using(crate::proofs::StayingTags::usual_refused, crate::proofs::StayingTags::usual_valid,
-    crate::proofs::StayingTags::usual_settled))]
+#[tactic(auto, using(crate::proofs::StayingTags::usual_refused, crate::proofs::StayingTags::usual_valid, crate::proofs::StayingTags::usual_settled))]
 fn needs_settling<L: Lookup>(alloc: Global, table: &L, tag: &Tag) -> Result<bool, Refusal>
     ensures valid { IfOk result (λ needs. IsValid (L.listed table.now) tag.now) }
     ensures settled { IfOk result (λ needs. needs ≡ false → IsSettledTag (L.listed table.now) tag.now tag.now) }
@@ -85,9 +84,7 @@ fn needs_settling<L: Lookup>(alloc: Global, table: &L, tag: &Tag) -> Result<bool
 
 /// The langtag of these parts of a valid one, with its core and its extensions in their normal forms, unless a
 /// variant occurs twice there.
-#[tactic(auto, using(crate::proofs::CanonicalForms::transforms_have_parts,
-    crate::proofs::CanonicalForms::core_refused, crate::proofs::CanonicalForms::form_count,
-    crate::proofs::CanonicalForms::form_spells_none))]
+#[tactic(auto, using(crate::proofs::CanonicalForms::transforms_have_parts, crate::proofs::CanonicalForms::core_refused, crate::proofs::CanonicalForms::form_count, crate::proofs::CanonicalForms::form_spells_none))]
 fn settled_langtag<L: Lookup>(
     alloc: Global,
     table: &L,

@@ -32,8 +32,7 @@ pub fn explain<L: Lookup>(alloc: Global, checked: &Checked<L>, tag: &Tag) -> Res
 
 /// Takes the steps on a tag, each the first that leads on, until none does, and adds them to others,
 /// which it gives back.
-#[tactic(auto, using(crate::proofs::TagForm::ending_chains, crate::proofs::Explained::coreless_explained,
-    crate::proofs::Explained::transforms_of))]
+#[tactic(auto, using(crate::proofs::TagForm::ending_chains, crate::proofs::Explained::coreless_explained, crate::proofs::Explained::transforms_of))]
 fn explain_tag<L: Lookup>(
     alloc: Global,
     table: &L,

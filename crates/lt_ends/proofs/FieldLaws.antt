@@ -155,15 +155,18 @@ module _ (R : List EntryParts) (C : IsChecked R) where
       → (gs : List FieldParts) × AreFields gs × ((other : List ℕ) (H : IsCanonicalCore R other) → extensions_end R C (t_of H.core fs ∷ []) ≡ t_of H.core gs ∷ [])
   fields_end G fs A =
       let form = extension_formed R C.registry (core_conditions R C.passes) in
-      let n = fields_reached G (form.reached (t_of G.core fs)) fs refl A in
-      (n.0, n.1, λ other H.
-      sym (star_rests (extensions_ordered R C.registry (core_conditions R C.passes) (t_of H.core fs ∷ [])) (no_step (extension_end R C (t_of H.core fs))))
-      ∙ ap (λ (e : ExtensionParts). e ∷ []) (normal_is_form form (t_of H.core fs) (t_of H.core n.0) (record {
-        reached = n.3 other H;
-        at_rest = λ f s.
-            let one = step_fields H n.0 f n.1 s in
-            form.rests (t_of G.core fs) (t_of G.core one.0) (subst (λ (e : ExtensionParts). ExtensionStep R e (t_of G.core one.0)) (sym n.2) (field_step G n.0 one.0 n.1 one.1));
-      })))
+      let n = fields_reached G (form.reached (t_of G.core fs)) fs refl A in (
+        n.0,
+        n.1,
+        λ other H.
+            sym (star_rests (extensions_ordered R C.registry (core_conditions R C.passes) (t_of H.core fs ∷ [])) (no_step (extension_end R C (t_of H.core fs))))
+            ∙ ap (λ (e : ExtensionParts). e ∷ []) (normal_is_form form (t_of H.core fs) (t_of H.core n.0) (record {
+              reached = n.3 other H;
+              at_rest = λ f s.
+                  let one = step_fields H n.0 f n.1 s in
+                  form.rests (t_of G.core fs) (t_of G.core one.0) (subst (λ (e : ExtensionParts). ExtensionStep R e (t_of G.core one.0)) (sym n.2) (field_step G n.0 one.0 n.1 one.1));
+            })),
+      )
 
   -- they can follow each canonical core
   distinct_source : {source : List ℕ} (G : IsCanonicalCore R source) (fs : List FieldParts) → AreFields fs → HasDistinctSource (t_of G.core fs)

@@ -46,9 +46,12 @@ returns-then-eq g c =
 pub returns : goal.returns
 returns g c =
     let at = goal.at.returns g c in
-    let err : IsTraceFault (g.L.Lookup.listed c.args.checked.now) c.args.tag.now c.args.trace.now.steps.items c.args.trace.now.last faults.WrongEnd = (rw (← c.table-table.ensures.value) (valid g at.After-extensions), record {
-      tag = c.in_ok-end.end;
-      led = led g at.In_ok-end;
-      other = λ same. true≢false (sym ((same_exactly tag_total tags_apart c.in_ok-end.end c.args.trace.now.last c.eq.result c.eq.ensures).1 same) ∙ c.if-eq.false);
-    }) in
+    let err : IsTraceFault (g.L.Lookup.listed c.args.checked.now) c.args.tag.now c.args.trace.now.steps.items c.args.trace.now.last faults.WrongEnd = (
+      rw (← c.table-table.ensures.value) (valid g at.After-extensions),
+      record {
+        tag = c.in_ok-end.end;
+        led = led g at.In_ok-end;
+        other = λ same. true≢false (sym ((same_exactly tag_total tags_apart c.in_ok-end.end c.args.trace.now.last c.eq.result c.eq.ensures).1 same) ∙ c.if-eq.false);
+      },
+    ) in
     record { ok = tt; equivalent = tt; err = err; exact = fault_excludes (g.L.Lookup.listed c.args.checked.now) c.args.tag.now c.args.trace.now.last c.args.trace.now.steps.items faults.WrongEnd err }

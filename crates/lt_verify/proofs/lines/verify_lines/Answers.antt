@@ -53,8 +53,7 @@ reads : (g : _) (c : goal.After-deref g) → (length c.read.new.buf ≡ 65536) �
 reads g c =
     let held = c.loop-read.buffer in
     let ensures = c.in-Ok.ensures in
-    let full : length c.read.new.buf ≡ length held.items = omega (arith, c.read.auto.buf, ap length c.deref_mut.ensures.value) in
-    (
+    let full : length c.read.new.buf ≡ length held.items = omega (arith, c.read.auto.buf, ap length c.deref_mut.ensures.value) in (
       full ∙ c.loop-read.invariant.buffer,
       record { consumes = ensures.bytes.0; calls = ensures.reads; failures = ensures.works },
       c.deref.ensures.value ∙ refilled held.len held.items c.read.new.buf held.ok.0 full,
