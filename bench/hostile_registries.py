@@ -241,19 +241,22 @@ def prefixes_and_tags(count):
     ]
 
 
-def in_turn(others, past=False, idle=0):
+def in_turn(others, past=False, idle=0, apart=0, spread=0):
     """Languages, and as many variants as a tag may have: each has the language before it as Prefix, the next as value,
     and so many Prefixes besides; or all the languages after it too, so that a language is a Prefix of each variant that
-    turned before. And so many variants that no tag has, with all the languages as Prefixes."""
+    turned before. And so many variants that no tag has, with all the languages as Prefixes. After each of the former
+    come so many variants that are not replaced, and after each of the latter so many."""
     beside = [name(n, 5) for n in range(others)]
     languages = [name(n, 3) for n in range(MOST_VARIANTS + 1)]
     heads = [record("language", one) for one in languages] + BY_RANGE
     heads += [record("language", "aaaa..zzzz"), record("region", "AA")]
-    heads += [
-        record("variant", short_variant(n), languages[n + 1], languages[n:-1 if past else n + 1] + beside)
-        for n in range(MOST_VARIANTS)
-    ]
-    return heads + [record("variant", name(n, 8), "aaa", languages[:-1]) for n in range(idle)]
+    for n in range(MOST_VARIANTS):
+        heads.append(record("variant", short_variant(n), languages[n + 1], languages[n:-1 if past else n + 1] + beside))
+        heads += [record("variant", name(n * apart + m, 7)) for m in range(apart)]
+    for n in range(idle):
+        heads.append(record("variant", name(n, 8), "aaa", languages[:-1]))
+        heads += [record("variant", name(n * spread + m, 6)) for m in range(spread)]
+    return heads
 
 
 def turning(first=0):
@@ -413,6 +416,8 @@ REGISTRIES = {
     "turns-beside-3": lambda count: turns_in_values(count, in_turn(0, idle=3)),
     "turns-beside-100": lambda count: turns_in_values(count, in_turn(0, idle=count // 1000)),
     "turns-beside-1000": lambda count: turns_in_values(count, in_turn(0, idle=count // 100)),
+    "turns-apart": lambda count: turns_in_values(count, in_turn(0, idle=count // 100, apart=64)),
+    "turns-beside-spread": lambda count: turns_in_values(count, in_turn(0, idle=count // 200, spread=63)),
     "turns-in-both": turns_in_both,
 }
 

@@ -1,17 +1,164 @@
 -- A walk along a chain of values, value by value.
-use Rattle.std.proofs.Common.{◌≡◌, ℕ, zero, suc, ◌+◌, true, List, Option, Some, None, refl, sym, ap, ◌∙◌, subst, add-one, length}
-use Rattle.std.proofs.Common.{Result, IfOk, OnErr}
+use Rattle.std.proofs.Common.{◌≡◌, ◌≢◌, ℕ, zero, suc, ◌≤◌, ◌<◌, ◌⊎◌, inl, inr, Bool, true, false, cond, ◌&&◌, eqb, List, [], ◌∷◌, Option, Some, None, refl, sym, ap, ◌∙◌, subst, length, find, slice_get, arith, ◌+◌, add-one, Result, IfOk, OnErr, not, get_or, take, All, MatchBool, Bor, is_some, ◌-◌, set, Contains, ltb, ltb-true, ltb-false}
+use Rattle.std.specs.List.{AllByRecursion, list_any, IsDistinct, AllWithin}
+use Rattle.std.proofs.lemmas.Map.Steps.{length-le_from_distinct_below}
+use Rattle.std.proofs.lemmas.Bool.{or_cases, eqb-true, ne_eqb}
+use Rattle.std.specs.Option.{option_or, option_and_then, option_copied}
 use Rattle.lt_registry.specs.Parts.{EntryParts}
-use Rattle.lt_rewrite.specs.ChainEnds.{ChainEnds, ChainEndsIn}
-use Rattle.lt_rewrite.specs.declared.chain_ends.Cycle.{Cycle}
+use Rattle.lt_registry.specs.Same.{same_kind}
+use Rattle.lt_registry.specs.Entries.{is_named, holds, one_of, entry, has_form, IsRegistry, NumbersRise, is_short}
 use Rattle.lt_registry.specs.declared.entries.Kind.{Kind}
 use Rattle.lt_rewrite.specs.CoreSteps.{chase, Ends, EndsIn}
-use Rattle.lt_registry.specs.declared.entries.Kind.TheVariants as kinds
-use Rattle.lt_registry.specs.Entries.{has_form, IsRegistry}
-use Rattle.lt_rewrite.specs.Conditions.{next_value}
-use Rattle.lt_rewrite.proofs.Forms.{value_form, variant_value_form}
+use Rattle.lt_rewrite.specs.Conditions.{next_value, HasEndingChain}
 use Rattle.lt_rewrite.proofs.Chains.{chase_rests, chase_next, chase_keeps}
-use Rattle.lt_rewrite.proofs.ChainLength.{chain_ends_within}
+use Rattle.lt_rewrite.proofs.Entries.{ValuedEntry, valued, next_is_value, entry_has, entry_of}
+use Rattle.lt_rewrite.specs.ChainEnds.{ChainEnds, ChainEndsIn, following}
+use Rattle.lt_rewrite.specs.declared.chain_ends.Cycle.{Cycle}
+use Rattle.lt_rewrite.proofs.Forms.{value_form, variant_value_form}
+use Rattle.std.proofs.lemmas.List.Elements.{recursion_from_All, All-from_recursion, All-contains_itself}
+use Rattle.lt_rewrite.specs.Cycles.{place, EarlierEnd, EndsAfterEarlier, IsFirstCycle}
+use Rattle.lt_rewrite.specs.declared.cycles.Order.{Order}
+use Rattle.lt_rewrite.proofs.PartLists.{all_both}
+use Rattle.std.proofs.lemmas.List.{length-set}
+use Rattle.std.proofs.lemmas.Option.{slice_get_within, slice_get_read, slice_get-get_or, get_or_from_slice_get}
+use Rattle.lt_rewrite.specs.Shortcuts.{IsOnward, LeadsTo, IsShortcut, LeadOn}
+use Rattle.std.specs.List.Sorted.{IsNonDecreasingBy}
+use Rattle.lt_registry.specs.declared.entries.Kind.TheVariants as kinds
+use Rattle.lt_rewrite.specs.declared.cycles.Order.TheVariants as orders
+
+-- A chain that ends takes at most as many values as there are records.
+
+-- each value is one of N rules'
+pub record Rules (f : List ℕ → Option (List ℕ)) (N : ℕ) : Type 0 where
+  pub key : List ℕ → ℕ
+  pub below : (s t : List ℕ) → f s ≡ Some t → key s < N
+  pub decides : (s t u v : List ℕ) → f s ≡ Some u → f t ≡ Some v → key s ≡ key t → u ≡ v
+
+-- the chain from s takes n values
+abbrev Takes : (List ℕ → Option (List ℕ)) → ℕ → List ℕ → Type 0
+Takes f zero s = f s ≡ None
+Takes f (suc n) s = (t : List ℕ) × (f s ≡ Some t) × Takes f n t
+
+takes_unique : (f : List ℕ → Option (List ℕ)) (n m : ℕ) (s : List ℕ) → Takes f n s → Takes f m s → n ≡ m
+takes_unique f zero zero s a b = refl
+takes_unique f zero (suc m) s a b = let c = b.1 in cc
+takes_unique f (suc n) zero s a b = let c = a.1 in cc
+takes_unique f (suc n) (suc m) s a b =
+    let same : a.0 ≡ b.0 = let x = a.1 in let y = b.1 in cc in
+    ap suc (takes_unique f n m b.0 (subst (Takes f n) same a.2) b.2)
+
+takes_at : (f : List ℕ → Option (List ℕ)) (n : ℕ) (s : List ℕ) → ((t : List ℕ) → f (chase f n t) ≡ None → (m : ℕ) × Takes f m t) → (o : Option (List ℕ)) → f s ≡ o → f (chase f (suc n) s) ≡ None → (m : ℕ) × Takes f m s
+takes_at f n s ih None e h = (0, e)
+takes_at f n s ih (Some t) e h = let r = ih t (ap f (sym (chase_next f n s t e)) ∙ h) in (suc r.0, (t, e, r.1))
+
+takes : (f : List ℕ → Option (List ℕ)) (n : ℕ) (s : List ℕ) → f (chase f n s) ≡ None → (m : ℕ) × Takes f m s
+takes f zero s h = (0, h)
+takes f (suc n) s h = takes_at f n s (takes f n) (f s) refl h
+
+takes_ends : (f : List ℕ → Option (List ℕ)) (n k : ℕ) (s : List ℕ) → Takes f n s → n ≤ k → f (chase f k s) ≡ None
+takes_ends f zero k s a h = ap f (chase_rests f k s a) ∙ a
+takes_ends f (suc n) zero s a h = absurd (omega arith)
+takes_ends f (suc n) (suc k) s a h = ap f (chase_next f k s a.0 a.1) ∙ takes_ends f n k a.0 a.2 (omega arith)
+
+module _ (f : List ℕ → Option (List ℕ)) (N : ℕ) (K : Rules f N) where
+  keys : (n : ℕ) (s : List ℕ) → Takes f n s → List ℕ
+  keys zero s a = []
+  keys (suc n) s a = K.key s ∷ keys n a.0 a.2
+
+  keys_length : (n : ℕ) (s : List ℕ) (a : Takes f n s) → length (keys n s a) ≡ n
+  unfolding keys
+  keys_length zero s a = refl
+  keys_length (suc n) s a = ap suc (keys_length n a.0 a.2)
+
+  keys_below : (n : ℕ) (s : List ℕ) (a : Takes f n s) (q : ℕ) → list_any (eqb q) (keys n s a) ≡ true → q < N
+  unfolding keys
+  keys_below zero s a q h = cc
+  keys_below (suc n) s a q h = by (keys_below n a.0 a.2 q) (or_cases (eqb q (K.key s)) (list_any (eqb q) (keys n a.0 a.2)) h)
+    where
+      by : (list_any (eqb q) (keys n a.0 a.2) ≡ true → q < N) → (eqb q (K.key s) ≡ true) ⊎ (list_any (eqb q) (keys n a.0 a.2) ≡ true) → q < N
+      by rest (inl e) = let b = K.below s a.0 a.1 in let c = eqb-true q (K.key s) e in omega arith
+      by rest (inr e) = rest e
+
+  keys_differ : (n : ℕ) (s : List ℕ) → Takes f (suc n) s → (m : ℕ) (t : List ℕ) (b : Takes f m t) → m ≤ n → AllByRecursion (λ y. eqb (K.key s) y ≡ false) (keys m t b)
+  unfolding keys
+  keys_differ n s a zero t b h = tt
+  keys_differ n s a (suc m) t b h =
+      let ne : K.key s ≢ K.key t = λ e.
+      let k : n ≡ m = takes_unique f n m b.0 (subst (Takes f n) (K.decides s t a.0 b.0 a.1 b.1 e) a.2) b.2 in
+      omega arith in
+      (ne_eqb (K.key s) (K.key t) ne, keys_differ n s a m b.0 b.2 (omega arith))
+
+  keys_distinct : (n : ℕ) (s : List ℕ) (a : Takes f n s) → IsDistinct eqb (keys n s a)
+  unfolding keys IsDistinct
+  keys_distinct zero s a = tt
+  keys_distinct (suc n) s a = (keys_differ n s a n a.0 a.2 (omega arith), keys_distinct n a.0 a.2)
+
+  -- a chain that ends has ended after N values
+  pub ends_within : (s : List ℕ) → Ends f s → f (chase f N s) ≡ None
+  ends_within s h =
+      let r = takes f h.0 s h.1 in
+      takes_ends f r.0 N s r.1 (omega (arith, keys_length r.0 s r.1, length-le_from_distinct_below (keys r.0 s r.1) N (keys_distinct r.0 s r.1) (keys_below r.0 s r.1)))
+
+-- the place of the entry of a subtag
+
+find_place : {A : Type 0} → (A → Bool) → List A → ℕ
+find_place test [] = 0
+find_place test (x ∷ xs) = cond (test x) 0 (suc (find_place test xs))
+
+found_at : {A : Type 0} (test : A → Bool) (x : A) (xs : List A) (a : A) → (find test xs ≡ Some a → slice_get xs (find_place test xs) ≡ Some a) → (b : Bool) → cond b (Some x) (find test xs) ≡ Some a → slice_get (x ∷ xs) (cond b 0 (suc (find_place test xs))) ≡ Some a
+found_at test x xs a ih true e = e
+found_at test x xs a ih false e = ih e
+
+found : {A : Type 0} (test : A → Bool) (xs : List A) (a : A) → find test xs ≡ Some a → slice_get xs (find_place test xs) ≡ Some a
+unfolding find_place
+found test [] a e = cc
+found test (x ∷ xs) a e = found_at test x xs a (found test xs a) (test x) e
+
+unnamed_place : Option EntryParts → List EntryParts → Kind → List ℕ → ℕ
+unnamed_place (Some e) R k s = find_place (λ (e : EntryParts). same_kind e.kind k && is_named s e.name) R
+unnamed_place None R k s = find_place (λ (e : EntryParts). same_kind e.kind k && holds s e.name) R
+
+entry_place : List EntryParts → Kind → List ℕ → ℕ
+entry_place R k s = unnamed_place (find (λ (e : EntryParts). same_kind e.kind k && is_named s e.name) R) R k s
+
+entry_found_at : (R : List EntryParts) (k : Kind) (s : List ℕ) (e : EntryParts) (o : Option EntryParts) → find (λ (e : EntryParts). same_kind e.kind k && is_named s e.name) R ≡ o
+    → option_or o (find (λ (e : EntryParts). same_kind e.kind k && holds s e.name) R) ≡ Some e
+    → slice_get R (unnamed_place o R k s) ≡ Some e
+unfolding unnamed_place
+entry_found_at R k s e (Some g) p q = found (λ (e : EntryParts). same_kind e.kind k && is_named s e.name) R g p ∙ q
+entry_found_at R k s e None p q = found (λ (e : EntryParts). same_kind e.kind k && holds s e.name) R e q
+
+entry_found : (R : List EntryParts) (k : Kind) (s : List ℕ) (e : EntryParts) → entry R k s ≡ Some e → slice_get R (entry_place R k s) ≡ Some e
+unfolding entry_place
+entry_found R k s e h = entry_found_at R k s e (find (λ (e : EntryParts). same_kind e.kind k && is_named s e.name) R) refl h
+
+get_below : {A : Type 0} (xs : List A) (i : ℕ) (a : A) → slice_get xs i ≡ Some a → i < length xs
+get_below [] i a h = cc
+get_below (x ∷ xs) zero a h = omega arith
+get_below (x ∷ xs) (suc i) a h = let r = get_below xs i a h in omega arith
+
+value_rules : (R : List EntryParts) (k : Kind) → Rules (next_value R k) (length R)
+value_rules R k = record {
+  key = entry_place R k;
+  below = λ s t e.
+      let en : ValuedEntry R k s t = valued R k s t (next_is_value R k s t e) in
+      get_below R (entry_place R k s) en.at (entry_found R k s en.at en.found);
+  decides = λ s t u v e f same.
+      let en : ValuedEntry R k s u = valued R k s u (next_is_value R k s u e) in
+      let fn : ValuedEntry R k t v = valued R k t v (next_is_value R k t v f) in
+      let a : slice_get R (entry_place R k s) ≡ Some en.at = entry_found R k s en.at en.found in
+      let b : slice_get R (entry_place R k t) ≡ Some fn.at = entry_found R k t fn.at fn.found in
+      let c : slice_get R (entry_place R k s) ≡ slice_get R (entry_place R k t) = ap (slice_get R) same in
+      let d : en.at ≡ fn.at = cc in
+      let g : one_of en.at.value ≡ one_of fn.at.value = ap (λ (x : EntryParts). one_of x.value) d in
+      let x = en.gives in
+      let y = fn.gives in
+      cc;
+}
+
+-- a chain of values that ends has ended after as many values as there are records
+pub chain_ends_within : (R : List EntryParts) (k : Kind) (s : List ℕ) → Ends (next_value R k) s → next_value R k (chase (next_value R k) (length R) s) ≡ None
+chain_ends_within R k s h = ends_within (next_value R k) (length R) (value_rules R k) s h
 
 chase_last_at : (f : List ℕ → Option (List ℕ)) (n : ℕ) (s t : List ℕ) → ((u : List ℕ) → f (chase f n u) ≡ Some t → chase f (suc n) u ≡ t) → (o : Option (List ℕ)) → f s ≡ o → f (chase f (suc n) s) ≡ Some t → chase f (suc (suc n)) s ≡ t
 chase_last_at f n s t ih None e h =
@@ -39,12 +186,10 @@ walk_cycles R k s d t e h ends =
 
 pub next_form : (R : List EntryParts) → IsRegistry R → (k : Kind) (s t : List ℕ) → next_value R k s ≡ Some t → has_form k t ≡ true
 next_form R G kinds.Language s t e = value_form R G kinds.Language s t e
-next_form R G kinds.Extlang s t e = cc
 next_form R G kinds.Script s t e = value_form R G kinds.Script s t e
 next_form R G kinds.Region s t e = value_form R G kinds.Region s t e
 next_form R G kinds.Variant s t e = variant_value_form R G s t e
-next_form R G kinds.Grandfathered s t e = cc
-next_form R G kinds.Redundant s t e = cc
+next_form u v w s t e = cc
 
 -- the values of a chain have the form of their kind
 pub end_form : (R : List EntryParts) → IsRegistry R → (k : Kind) (s d : List ℕ) → EndsIn (next_value R k) s d → has_form k s ≡ true → has_form k d ≡ true
@@ -53,19 +198,368 @@ end_form R G k s d e h =
 
 -- but for extlangs a chain is one of values of its kind
 pub own_end : (R : List EntryParts) (k : Kind) (s : List ℕ) → (k ≡ kinds.Extlang → ⊥) → (r : Result (List ℕ) Cycle) → IfOk r (EndsIn (next_value R k) s) → IfOk r (ChainEndsIn R k s)
-own_end R kinds.Language s n r h = h
 own_end R kinds.Extlang s n r h = absurd (n refl)
-own_end R kinds.Script s n r h = h
-own_end R kinds.Region s n r h = h
-own_end R kinds.Variant s n r h = h
-own_end R kinds.Grandfathered s n r h = h
-own_end R kinds.Redundant s n r h = h
+own_end t u s n r h = h
 
 pub own_cycle : (R : List EntryParts) (k : Kind) (s : List ℕ) → (k ≡ kinds.Extlang → ⊥) → (r : Result (List ℕ) Cycle) → OnErr r (Ends (next_value R k) s → ⊥) → OnErr r (ChainEnds R k s → ⊥)
-own_cycle R kinds.Language s n r h = h
 own_cycle R kinds.Extlang s n r h = absurd (n refl)
-own_cycle R kinds.Script s n r h = h
-own_cycle R kinds.Region s n r h = h
-own_cycle R kinds.Variant s n r h = h
-own_cycle R kinds.Grandfathered s n r h = h
-own_cycle R kinds.Redundant s n r h = h
+own_cycle t u s n r h = h
+
+-- A walk from a record's value to the end of the chain or to a record before it in an order.
+
+-- what follows a subtag in a chain is what follows by its entry
+
+abbrev nothing : EntryParts → Option (List ℕ)
+nothing e = None
+
+nothing_follows : (o : Option EntryParts) → None ≡ option_and_then nothing o
+nothing_follows None = refl
+nothing_follows (Some e) = refl
+
+variant_follows : (o : Option EntryParts) → option_and_then (λ w. cond (is_short w) None (Some w)) (option_and_then (λ (e : EntryParts). one_of e.value) o) ≡ option_and_then (following kinds.Variant) o
+variant_follows None = refl
+variant_follows (Some e) = refl
+
+pub next_follows : (R : List EntryParts) (k : Kind) (s : List ℕ) → next_value R k s ≡ option_and_then (following k) (entry R k s)
+next_follows R kinds.Extlang s = nothing_follows (entry R kinds.Extlang s)
+next_follows R kinds.Variant s = variant_follows (entry R kinds.Variant s)
+next_follows R kinds.Grandfathered s = nothing_follows (entry R kinds.Grandfathered s)
+next_follows R kinds.Redundant s = nothing_follows (entry R kinds.Redundant s)
+next_follows t u s = refl
+
+pub next_by : (R : List EntryParts) (k : Kind) (s : List ℕ) (o : Option EntryParts) → o ≡ entry R k s → next_value R k s ≡ option_and_then (following k) o
+next_by R k s o e = next_follows R k s ∙ ap (option_and_then (following k)) (sym e)
+
+-- the end of a chain, from further on
+
+back_at : (f : List ℕ → Option (List ℕ)) (n : ℕ) (v : List ℕ) → ((t : List ℕ) → Ends f (chase f n t) → Ends f t) → (o : Option (List ℕ)) → f v ≡ o → Ends f (chase f (suc n) v) → Ends f v
+back_at f n v ih None e h = (0, e)
+back_at f n v ih (Some t) e h =
+    let later : Ends f t = ih t (subst (Ends f) (chase_next f n v t e) h) in
+    (suc later.0, ap f (chase_next f later.0 v t e) ∙ later.1)
+
+pub ends_back : (f : List ℕ → Option (List ℕ)) (n : ℕ) (v : List ℕ) → Ends f (chase f n v) → Ends f v
+ends_back f zero v h = h
+ends_back f (suc n) v h = back_at f n v (ends_back f n) (f v) refl h
+
+ends_from_at : (f : List ℕ → Option (List ℕ)) (s : List ℕ) → ((w : List ℕ) → f s ≡ Some w → Ends f w) → (o : Option (List ℕ)) → f s ≡ o → Ends f s
+ends_from_at f s h None e = (0, e)
+ends_from_at f s h (Some w) e = let later = h w e in (suc later.0, ap f (chase_next f later.0 s w e) ∙ later.1)
+
+-- a walk of n values along the chain from a record's value
+pub record IsWalk (R : List EntryParts) (e : EntryParts) (k : Kind) (v s : List ℕ) (n : ℕ) : Type 0 where
+  pub of_kind : k ≡ e.kind
+  pub from : one_of e.value ≡ Some v
+  pub walked : s ≡ chase (next_value R k) n v
+
+chain_from : (R : List EntryParts) (e : EntryParts) (k : Kind) (v s : List ℕ) (n : ℕ) → IsWalk R e k v s n → Ends (next_value R k) s → HasEndingChain R e
+chain_from R e k v s n W ends w h =
+    let from : one_of e.value ≡ Some v = W.from in
+    let same : v ≡ w = cc in
+    let f : List ℕ → Option (List ℕ) = next_value R k in
+    subst (λ (d : Kind). Ends (next_value R d) w) W.of_kind (subst (Ends f) same (ends_back f n v (subst (Ends f) W.walked ends)))
+
+-- a walk that has come to the end
+pub ends_there : (R : List EntryParts) (e : EntryParts) (k : Kind) (v s : List ℕ) (n : ℕ) → IsWalk R e k v s n → next_value R k s ≡ None → HasEndingChain R e
+ends_there R e k v s n W end = chain_from R e k v s n W (0, end)
+
+-- a walk that has come to a record whose chain ends
+pub ends_from : (R : List EntryParts) (e met : EntryParts) (k : Kind) (v s : List ℕ) (n : ℕ) → IsWalk R e k v s n → entry R k s ≡ Some met → HasEndingChain R met → HasEndingChain R e
+ends_from R e met k v s n W found h =
+    chain_from R e k v s n W
+    (ends_from_at (next_value R k) s
+    (λ t g.
+    let gives : one_of met.value ≡ Some t = sym (ap (option_and_then (λ (x : EntryParts). one_of x.value)) found) ∙ next_is_value R k s t g in
+    subst (λ (d : Kind). Ends (next_value R d) t) (entry_of R k s met found).of_kind (h t gives))
+    (next_value R k s) refl)
+
+-- and to one before it in an order
+pub ends_after : (R : List EntryParts) (order : Order) (e met : EntryParts) (k : Kind) (v s : List ℕ) (n : ℕ) → IsWalk R e k v s n → entry R k s ≡ Some met → place order met.number < place order e.number → EndsAfterEarlier R order e
+ends_after R order e met k v s n W found below earlier =
+    let each = entry_has R k s (λ (f : EntryParts). place order f.number < place order e.number → HasEndingChain R f) earlier met found in
+    ends_from R e met k v s n W found (each.0 below)
+
+-- a walk of as many values as there are records
+pub at_limit : (R : List EntryParts) (order : Order) (e : EntryParts) (k : Kind) (v s : List ℕ) (n : ℕ) → IsWalk R e k v s n → n ≡ length R → (next : Option (Bor (List ℕ))) → option_copied next ≡ next_value R k s → (none : Bool) → is_some next ≡ not none → MatchBool none (EndsAfterEarlier R order e) (HasEndingChain R e → ⊥)
+at_limit R order e k v s n W all None h true i = λ earlier. ends_there R e k v s n W (sym h)
+at_limit R order e k v s n W all (Some t) h false i =
+    λ ends. walk_cycles R k v s t.now (W.walked ∙ ap (λ m. chase (next_value R k) m v) all) (sym h) (subst (λ (d : Kind). Ends (next_value R d) v) (sym W.of_kind) (ends v W.from))
+at_limit t order e k v s n u all w h x i = cc
+
+-- all records
+
+earlier_end : (R : List EntryParts) (order : Order) → All (EndsAfterEarlier R order) R → (n : ℕ) → EarlierEnd R order n
+earlier_end R order h zero = λ k d i below. absurd (omega (arith, below))
+earlier_end R order h (suc n) = λ k d i below. h k d i (λ j c l less. earlier_end R order h n j c l (omega (arith, below, less)))
+
+-- where each chain ends if those before it in an order do, all do
+pub all_end_in_order : (R : List EntryParts) (order : Order) → All (EndsAfterEarlier R order) R → All (HasEndingChain R) R
+all_end_in_order R order h = λ k d i. h k d i (earlier_end R order h (place order (get_or R k d).number))
+
+rest_above : (P : EntryParts → Type 0) (R : List EntryParts) (i : ℕ) (e : EntryParts) → NumbersRise R → i < length R → e ≡ get_or R i e → AllByRecursion P (take i R) → AllByRecursion (λ (f : EntryParts). f.number < e.number → P f) R
+rest_above P [] i e rise h is all = tt
+rest_above P (x ∷ xs) zero e rise h is all =
+    let same : e.number ≡ x.number = ap (λ (y : EntryParts). y.number) is in (
+      λ below. absurd (omega (arith, below, same)),
+      all_both (λ (f : EntryParts). x.number < f.number) (λ (f : EntryParts). x.number < f.number) (λ (f : EntryParts). f.number < e.number → P f) (λ f a b below. absurd (omega (arith, a, below, same))) xs rise.0 rise.0,
+    )
+rest_above P (x ∷ xs) (suc i) e rise h is all = (λ below. all.0, rest_above P xs i e rise.1 (omega arith) is all.1)
+
+-- the records before one in the file are those of lower numbers
+pub lower_are_before : (P : EntryParts → Type 0) (R : List EntryParts) (i : ℕ) (e : EntryParts) → NumbersRise R → i < length R → e ≡ get_or R i e → All P (take i R) → All (λ (f : EntryParts). f.number < e.number → P f) R
+lower_are_before P R i e rise h is all =
+    All-from_recursion (λ (f : EntryParts). f.number < e.number → P f) R (rest_above P R i e rise h is (recursion_from_All P (take i R) all))
+
+pub file_order : (R : List EntryParts) (e : EntryParts) → All (λ (f : EntryParts). f.number < e.number → HasEndingChain R f) R → EarlierEnd R orders.File (place orders.File e.number)
+unfolding place
+file_order R e h = h
+
+pub first_there : (R : List EntryParts) (i : ℕ) (e : EntryParts) → NumbersRise R → i < length R → e ≡ get_or R i e → All (HasEndingChain R) (take i R) → (HasEndingChain R e → ⊥) → IsFirstCycle R e.number
+first_there R i e rise h is all endless = record {
+  entry = e;
+  there = (i, h, sym is);
+  numbered = refl;
+  endless = endless;
+  lower = lower_are_before (HasEndingChain R) R i e rise h is all;
+}
+
+-- Walks along a chain of values that pass over a part of it.
+
+-- one part of a chain after another
+
+chase_plus_at : (f : List ℕ → Option (List ℕ)) (n m : ℕ) (s : List ℕ) → ((t : List ℕ) → chase f (n + m) t ≡ chase f m (chase f n t)) → (o : Option (List ℕ)) → f s ≡ o → chase f (suc (n + m)) s ≡ chase f m (chase f (suc n) s)
+chase_plus_at f n m s ih None e = chase_rests f (suc (n + m)) s e ∙ sym (ap (chase f m) (chase_rests f (suc n) s e) ∙ chase_rests f m s e)
+chase_plus_at f n m s ih (Some t) e = chase_next f (n + m) s t e ∙ ih t ∙ ap (chase f m) (sym (chase_next f n s t e))
+
+chase_plus : (f : List ℕ → Option (List ℕ)) (n m : ℕ) (s : List ℕ) → chase f (n + m) s ≡ chase f m (chase f n s)
+chase_plus f zero m s = let none : 0 + m ≡ m = omega arith in ap (λ k. chase f k s) none
+chase_plus f (suc n) m s =
+    let one : suc n + m ≡ suc (n + m) = omega arith in
+    ap (λ k. chase f k s) one ∙ chase_plus_at f n m s (chase_plus f n m) (f s) refl
+
+onward_trans : (f : List ℕ → Option (List ℕ)) (n m : ℕ) (s t u : List ℕ) → IsOnward f n s t → IsOnward f m t u → IsOnward f (n + m) s u
+onward_trans f n m s t u a b = (a.0 + b.0, omega (arith, a.1, b.1), chase_plus f a.0 b.0 s ∙ ap (chase f b.0) a.2 ∙ b.2)
+
+onward_less : (f : List ℕ → Option (List ℕ)) (n m : ℕ) (s t : List ℕ) → m ≤ n → IsOnward f n s t → IsOnward f m s t
+onward_less f n m s t le a = (a.0, omega (arith, le, a.1), a.2)
+
+onward_next : (f : List ℕ → Option (List ℕ)) (s t : List ℕ) → f s ≡ Some t → IsOnward f 1 s t
+onward_next f s t e = (1, omega arith, chase_next f 0 s t e)
+
+-- where no value follows, a subtag is the end of its chain
+pub onward_rest : (f : List ℕ → Option (List ℕ)) (n : ℕ) (s : List ℕ) → f s ≡ None → IsOnward f n s s
+onward_rest f n s e = (n, omega arith, chase_rests f n s e)
+
+-- the chain has an end only if no value follows after as many as there are records
+pub onward_end : (R : List EntryParts) (k : Kind) (s t : List ℕ) → IsOnward (next_value R k) (length R) s t → Ends (next_value R k) s → next_value R k t ≡ None
+onward_end R k s t a ends =
+    let f : List ℕ → Option (List ℕ) = next_value R k in
+    let rest : ℕ = a.0 - length R in
+    let all : a.0 ≡ length R + rest = omega (arith, a.1) in
+    let done : f (chase f (length R) s) ≡ None = chain_ends_within R k s ends in
+    ap f (sym a.2 ∙ ap (λ n. chase f n s) all ∙ chase_plus f (length R) rest s ∙ chase_rests f rest (chase f (length R) s) done) ∙ done
+
+pub onward_endless : (R : List EntryParts) (k : Kind) (s t u : List ℕ) → IsOnward (next_value R k) (length R) s t → next_value R k t ≡ Some u → Ends (next_value R k) s → ⊥
+onward_endless R k s t u a e ends = let none : next_value R k t ≡ None = onward_end R k s t a ends in cc
+
+-- it has the form of the first
+pub onward_form : (R : List EntryParts) → IsRegistry R → (k : Kind) (n : ℕ) (s t : List ℕ) → IsOnward (next_value R k) n s t → has_form k s ≡ true → has_form k t ≡ true
+onward_form R G k n s t a h =
+    subst (λ x. has_form k x ≡ true) a.2 (chase_keeps (next_value R k) (λ x. has_form k x ≡ true) (λ b c f p. next_form R G k b c f) a.0 s h)
+
+-- the entry of a subtag is one of the entries
+pub entry_there : (R : List EntryParts) (k : Kind) (s : List ℕ) (e : EntryParts) → entry R k s ≡ Some e → Contains R e
+entry_there R k s e h = (entry_has R k s (Contains R) (All-contains_itself R) e h).0
+
+-- each place and its shortcut
+
+pub each_set : (P : ℕ → ℕ → Type 0) (xs : List ℕ) (n j : ℕ) → ((i k : ℕ) → (i ≡ n → ⊥) → slice_get xs i ≡ Some k → P i k) → P n j → (i k : ℕ) → slice_get (set xs n j) i ≡ Some k → P i k
+each_set P [] n j h p i k e = cc
+each_set P (x ∷ xs) zero j h p zero k e = let same : j ≡ k = cc in subst (P 0) same p
+each_set P (x ∷ xs) zero j h p (suc i) k e = h (suc i) k (λ z. omega (arith, z)) e
+each_set P (x ∷ xs) (suc n) j h p zero k e = h zero k (λ z. omega (arith, z)) e
+each_set P (x ∷ xs) (suc n) j h p (suc i) k e = each_set (λ m. P (suc m)) xs n j (λ m l other. h (suc m) l (λ z. other (omega (arith, z)))) p i k e
+
+shortcut_less : (R : List EntryParts) (n m i j : ℕ) → m ≤ n → IsShortcut R n i j → IsShortcut R m i j
+shortcut_less R n m i j le a e v there follows =
+    let l : LeadsTo R e.kind n v j = a e v there follows in
+    record {
+      entry = l.entry;
+      there = l.there;
+      of_kind = l.of_kind;
+      value = l.value;
+      follows = l.follows;
+      onward = onward_less (next_value R e.kind) n m v l.value le l.onward;
+    }
+
+-- one shortcut after another
+shortcut_trans : (R : List EntryParts) (n m i j k : ℕ) → IsShortcut R n i j → IsShortcut R m j k → IsShortcut R (n + m) i k
+shortcut_trans R n m i j k a b e v there follows =
+    let w : LeadsTo R e.kind n v j = a e v there follows in
+    let l : LeadsTo R w.entry.kind m w.value k = b w.entry w.value w.there w.follows in
+    let on : IsOnward (next_value R e.kind) m w.value l.value = subst (λ (d : Kind). IsOnward (next_value R d) m w.value l.value) w.of_kind l.onward in
+    record {
+      entry = l.entry;
+      there = l.there;
+      of_kind = l.of_kind ∙ w.of_kind;
+      value = l.value;
+      follows = l.follows;
+      onward = onward_trans (next_value R e.kind) n m v w.value l.value w.onward on;
+    }
+
+-- shortcuts that lead further lead on as far as is asked
+pub lead_less : (R : List EntryParts) (n m : ℕ) (places : List ℕ) → m ≤ n → LeadOn R n places → LeadOn R m places
+lead_less R n m places le h = record {
+  one_each = h.one_each;
+  within = h.within;
+  shortcut = λ i j at. shortcut_less R n m i j le (h.shortcut i j at);
+}
+
+-- shortcuts of which those below an index are twice as long
+pub record PartDoubled (R : List EntryParts) (n index : ℕ) (places : List ℕ) : Type 0 where
+  pub all : LeadOn R n places
+  pub doubled : (i j : ℕ) → i < index → slice_get places i ≡ Some j → IsShortcut R (n + n) i j
+
+pub all_doubled : (R : List EntryParts) (n index : ℕ) (places : List ℕ) → index ≡ length places → PartDoubled R n index places → LeadOn R (n + n) places
+all_doubled R n index places is h = record {
+  one_each = h.all.one_each;
+  within = h.all.within;
+  shortcut = λ i j at. h.doubled i j (omega (arith, is, slice_get_within places i j at)) at;
+}
+
+-- one more leads on from where it led
+pub one_doubled : (R : List EntryParts) (n index j k : ℕ) (places : List ℕ) → slice_get places index ≡ Some j → slice_get places j ≡ Some k → PartDoubled R n index places → PartDoubled R n (index + 1) (set places index k)
+one_doubled R n index j k places at next h =
+    let twice : IsShortcut R (n + n) index k = shortcut_trans R n n index j k (h.all.shortcut index j at) (h.all.shortcut j k next) in
+    record {
+      all = record {
+        one_each = length-set places index k ∙ h.all.one_each;
+        within = each_set (λ i l. l < length R) places index k (λ i l other. h.all.within i l) (h.all.within j k next);
+        shortcut = each_set (IsShortcut R n) places index k (λ i l other. h.all.shortcut i l) (shortcut_less R (n + n) n index k (omega arith) twice);
+      };
+      doubled = λ i l below there.
+          each_set (λ i l. i < index + 1 → IsShortcut R (n + n) i l) places index k (λ i l other there less. h.doubled i l (omega (arith, less, other)) there) (λ less. twice) i l there below;
+    }
+
+-- the value that follows the entry of a subtag is the next on the chain
+pub entry_next : (R : List EntryParts) (k : Kind) (s : List ℕ) (e : EntryParts) → entry R k s ≡ Some e → next_value R k s ≡ following k e
+entry_next R k s e found = next_by R k s (Some e) (sym found)
+
+-- the shortcut of the entry at a place
+shortcut_of : (R : List EntryParts) (i j : ℕ) (e : EntryParts) (w : List ℕ) → slice_get R i ≡ Some e → following e.kind e ≡ Some w → LeadsTo R e.kind 1 w j → IsShortcut R 1 i j
+shortcut_of R i j e w at next leads f v there follows =
+    let same : e ≡ f = cc in
+    let own : following f.kind f ≡ Some w = subst (λ (x : EntryParts). following x.kind x ≡ Some w) same next in
+    let value : w ≡ v = cc in
+    subst (λ x. LeadsTo R f.kind 1 x j) value (subst (λ (x : EntryParts). LeadsTo R x.kind 1 w j) same leads)
+
+-- it leads to the entry of the value that follows
+pub to_next : (R : List EntryParts) (i j : ℕ) (e next : EntryParts) (w u : List ℕ) → slice_get R i ≡ Some e → following e.kind e ≡ Some w → entry R e.kind w ≡ Some next → following next.kind next ≡ Some u → slice_get R j ≡ Some next → IsShortcut R 1 i j
+to_next R i j e next w u at follows found then there =
+    let kind : next.kind ≡ e.kind = (entry_of R e.kind w next found).of_kind in
+    shortcut_of R i j e w at follows
+    (record {
+      entry = next;
+      there = there;
+      of_kind = kind;
+      value = u;
+      follows = then;
+      onward = onward_next (next_value R e.kind) w u (entry_next R e.kind w next found ∙ ap (λ (d : Kind). following d next) (sym kind) ∙ then);
+    })
+
+-- or to the entry itself, where that value is the last
+pub to_itself : (R : List EntryParts) (i : ℕ) (e : EntryParts) (w : List ℕ) → slice_get R i ≡ Some e → following e.kind e ≡ Some w → next_value R e.kind w ≡ None → IsShortcut R 1 i i
+to_itself R i e w at follows last =
+    shortcut_of R i i e w at follows
+    (record { entry = e; there = at; of_kind = refl; value = w; follows = follows; onward = onward_rest (next_value R e.kind) 1 w last })
+
+-- no value follows that of an entry
+pub none_after : (R : List EntryParts) (k : Kind) (w : List ℕ) (next : EntryParts) → entry R k w ≡ Some next → following next.kind next ≡ None → next_value R k w ≡ None
+none_after R k w next found follows = entry_next R k w next found ∙ ap (λ (d : Kind). following d next) (sym (entry_of R k w next found).of_kind) ∙ follows
+
+-- by the shortcut of its entry a subtag comes as far on its chain
+pub passed : (R : List EntryParts) (k : Kind) (n : ℕ) (s v : List ℕ) (e last : EntryParts) (i j : ℕ) → entry R k s ≡ Some e → following k e ≡ Some v → slice_get R i ≡ Some e → IsShortcut R n i j → slice_get R j ≡ Some last → (w : List ℕ) × (following k last ≡ Some w) × IsOnward (next_value R k) n s w
+passed R k n s v e last i j found follows at short there =
+    let kind : e.kind ≡ k = (entry_of R k s e found).of_kind in
+    let l : LeadsTo R e.kind n v j = short e v at (ap (λ (d : Kind). following d e) kind ∙ follows) in
+    let same : l.entry ≡ last = let a = l.there in cc in
+    let own : following last.kind last ≡ Some l.value = subst (λ (x : EntryParts). following x.kind x ≡ Some l.value) same l.follows in
+    let its : last.kind ≡ k = ap (λ (x : EntryParts). x.kind) (sym same) ∙ l.of_kind ∙ kind in
+    let on : IsOnward (next_value R k) n v l.value = subst (λ (d : Kind). IsOnward (next_value R d) n v l.value) kind l.onward in
+    let next : IsOnward (next_value R k) 1 s v = onward_next (next_value R k) s v (entry_next R k s e found ∙ follows) in (
+      l.value,
+      ap (λ (d : Kind). following d last) (sym its) ∙ own,
+      onward_less (next_value R k) (1 + n) n s l.value (omega arith) (onward_trans (next_value R k) 1 n s v l.value next on),
+    )
+
+-- a value that follows
+pub some_follows : (o : Option (Bor (List ℕ))) (r : Option (List ℕ)) → option_copied o ≡ r → is_some o ≡ true → (w : List ℕ) × (r ≡ Some w)
+some_follows None r e h = cc
+some_follows (Some v) r e h = (v.now, sym e)
+
+pub none_follows : (o : Option (Bor (List ℕ))) (r : Option (List ℕ)) → option_copied o ≡ r → is_some o ≡ false → r ≡ None
+none_follows None r e h = sym e
+none_follows (Some v) r e h = cc
+
+-- the place to which the shortcut at an entry's place leads
+pub led_to : (R es : List EntryParts) (items places : List ℕ) (i j : ℕ) (e : EntryParts) → LeadOn R (length R) places → es ≡ R → items ≡ places → slice_get es i ≡ Some e → j ≡ get_or items i j → (slice_get R i ≡ Some e) × (slice_get places i ≡ Some j) × (j < length es)
+led_to R es items places i j e h same own at read =
+    let here : i < length places = omega (arith, slice_get_within es i e at, ap (λ (xs : List EntryParts). length xs) same, h.one_each) in
+    let led : slice_get places i ≡ Some j = slice_get_read places (length places) i j refl here (read ∙ ap (λ (ps : List ℕ). get_or ps i j) own) in (
+      ap (λ xs. slice_get xs i) (sym same) ∙ at,
+      led,
+      omega (arith, h.within i j led, ap (λ (xs : List EntryParts). length xs) same),
+    )
+
+pub led_far : (R es : List EntryParts) (k : Kind) (s v : List ℕ) (items places : List ℕ) (i j : ℕ) (e last : EntryParts) → LeadOn R (length R) places → es ≡ R → items ≡ places → entry R k s ≡ Some e → following k e ≡ Some v → slice_get es i ≡ Some e → j ≡ get_or items i j → last ≡ get_or es j last → (w : List ℕ) × (following k last ≡ Some w) × IsOnward (next_value R k) (length R) s w
+led_far R es k s v items places i j e last h same own found follows at read there =
+    let led = led_to R es items places i j e h same own at read in
+    passed R k (length R) s v e last i j found follows led.0 (h.shortcut i j led.1)
+    (ap (λ xs. slice_get xs j) (sym same) ∙ slice_get_read es (length es) j last refl led.2 there)
+
+-- The places of records whose numbers rise.
+
+abbrev some : EntryParts → Option EntryParts
+some e = Some e
+
+-- a later record has a higher number
+rising_at : (R : List EntryParts) → NumbersRise R → (i k : ℕ) (c d : EntryParts) → i < k → k < length R → (get_or R i c).number < (get_or R k d).number
+rising_at [] rise i k c d h b = absurd (omega (arith, b))
+rising_at (x ∷ xs) rise i zero c d h b = absurd (omega (arith, h))
+rising_at (x ∷ xs) rise zero (suc k) c d h b = All-from_recursion (λ (f : EntryParts). x.number < f.number) xs rise.0 k d (omega (arith, b))
+rising_at (x ∷ xs) rise (suc i) (suc k) c d h b = rising_at xs rise.1 i k c d (omega (arith, h)) (omega (arith, b))
+
+pub not_falling : (R : List EntryParts) → NumbersRise R → IsNonDecreasingBy (λ (e : EntryParts). e.number) R
+not_falling [] rise i k d h b = absurd (omega (arith, b))
+not_falling (x ∷ xs) rise zero zero d h b = omega arith
+not_falling (x ∷ xs) rise zero (suc k) d h b = let above = rising_at (x ∷ xs) rise zero (suc k) d d (omega arith) b in omega (arith, above)
+not_falling (x ∷ xs) rise (suc i) zero d h b = absurd (omega (arith, h))
+not_falling (x ∷ xs) rise (suc i) (suc k) d h b = not_falling xs rise.1 i k d (omega (arith, h)) (omega (arith, b))
+
+-- a number is that of one record
+pub one_at : (R : List EntryParts) → NumbersRise R → (j k : ℕ) (c d : EntryParts) → j < length R → k < length R → (get_or R j c).number ≡ (get_or R k d).number → get_or R j c ≡ get_or R k d
+one_at [] rise j k c d a b e = absurd (omega (arith, a))
+one_at (x ∷ xs) rise zero zero c d a b e = refl
+one_at (x ∷ xs) rise zero (suc k) c d a b e =
+    let above = All-from_recursion (λ (f : EntryParts). x.number < f.number) xs rise.0 k d (omega (arith, b)) in absurd (omega (arith, e, above))
+one_at (x ∷ xs) rise (suc j) zero c d a b e =
+    let above = All-from_recursion (λ (f : EntryParts). x.number < f.number) xs rise.0 j c (omega (arith, a)) in absurd (omega (arith, e, above))
+one_at (x ∷ xs) rise (suc j) (suc k) c d a b e = one_at xs rise.1 j k c d (omega (arith, a)) (omega (arith, b)) e
+
+-- a record is where one of its number does
+pub numbered_there : (R : List EntryParts) → NumbersRise R → (i : ℕ) (e f : EntryParts) → slice_get R i ≡ Some e → Contains R f → e.number ≡ f.number → slice_get R i ≡ Some f
+numbered_there R rise i e f there c same =
+    let at : get_or R i e ≡ e = get_or_from_slice_get R i e e there in
+    let numbers : (get_or R i e).number ≡ (get_or R c.0 f).number = ap (λ (x : EntryParts). x.number) at ∙ same ∙ ap (λ (x : EntryParts). x.number) (sym c.2) in
+    there ∙ ap some (sym at ∙ (one_at R rise i c.0 e f (slice_get_within R i e there) c.1 numbers) ∙ c.2)
+
+-- and after all of lower numbers
+pub first_not_lower : (R : List EntryParts) → NumbersRise R → (i : ℕ) (e : EntryParts) → Contains R e → i ≤ length R → AllWithin (λ (x : EntryParts). ltb x.number e.number ≡ true) R 0 i → AllWithin (λ (x : EntryParts). ltb x.number e.number ≡ false) R i (length R) → slice_get R i ≡ Some e
+first_not_lower R rise i e c within before after =
+    let k : ℕ = c.0 in
+    let its : (get_or R k e).number ≡ e.number = ap (λ (x : EntryParts). x.number) c.2 in
+    let not_before : k < i → ⊥ = λ h. (let lower = ltb-true _ _ (before k e (omega arith) h) in omega (arith, lower, its)) in
+    let not_after : i < k → ⊥ = λ h. (
+    let higher = ltb-false _ _ (after i e (omega arith) (omega (arith, h, c.1))) in
+    omega (arith, higher, rising_at R rise i k e e h c.1, its)) in
+    ap (slice_get R) (sym (omega (arith, not_before, not_after))) ∙ slice_get-get_or R k e c.1 ∙ ap some c.2

@@ -27,12 +27,7 @@ same_kind_is _ _ h = cc
 
 pub same_kind_itself : (a : Kind) → same_kind a a ≡ true
 same_kind_itself kinds.Language = refl
-same_kind_itself kinds.Extlang = refl
-same_kind_itself kinds.Script = refl
-same_kind_itself kinds.Region = refl
-same_kind_itself kinds.Variant = refl
-same_kind_itself kinds.Grandfathered = refl
-same_kind_itself kinds.Redundant = refl
+same_kind_itself s = refl
 
 find_at : {A : Type 0} (P : A → Type 0) (test : A → Bool) (x : A) (xs : List A) (a : A) → P x → (find test xs ≡ Some a → P a × (test a ≡ true)) → (b : Bool) → test x ≡ b → cond b (Some x) (find test xs) ≡ Some a → P a × (test a ≡ true)
 find_at P test x xs a h ih true t e = let same : x ≡ a = cc in (subst P same h, ap test (sym same) ∙ t)
@@ -117,13 +112,11 @@ language_value_is R v w e = language_value_at (preferred_value R kinds.Variant v
 
 -- what follows in a chain is the value
 pub next_is_value : (R : List EntryParts) (k : Kind) (s v : List ℕ) → next_value R k s ≡ Some v → preferred_value R k s ≡ Some v
-next_is_value R kinds.Language s v e = e
 next_is_value R kinds.Extlang s v e = cc
-next_is_value R kinds.Script s v e = e
-next_is_value R kinds.Region s v e = e
 next_is_value R kinds.Variant s v e = (variant_value_is R s v e).0
 next_is_value R kinds.Grandfathered s v e = cc
 next_is_value R kinds.Redundant s v e = cc
+next_is_value t u s v e = e
 
 -- a chain ends from each subtag, where it ends from each value
 ends_at : (f : List ℕ → Option (List ℕ)) (s : List ℕ) (o : Option (List ℕ)) → f s ≡ o → ((v : List ℕ) → f s ≡ Some v → Ends f v) → Ends f s
@@ -165,8 +158,7 @@ variant_languages_final R C l v m e =
     let t = variant_language_is R l v m e in
     let w = language_value_is R v m t.1 in
     let en : ValuedEntry R kinds.Variant v m = valued R kinds.Variant v m w.0 in
-    let fits : HasFinalPrefixes R en.at = valued_has R kinds.Variant v m (HasFinalPrefixes R) C.variant_languages en in
-    let all = (fits en.of_kind m en.gives w.1).1 in
+    let all = ((valued_has R kinds.Variant v m (HasFinalPrefixes R) C.variant_languages en) en.of_kind m en.gives w.1).1 in
     listed_at l en.at.prefixes (IsFinalLanguage R) all (ap (λ ps. has_prefix ps l) (sym (prefixes_at R kinds.Variant v en.at en.found)) ∙ t.0)
 
 -- a variant value is registered, and has no language value

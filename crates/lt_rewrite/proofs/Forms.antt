@@ -1,5 +1,5 @@
 -- What the forms of entries say of names and values.
-use Rattle.std.proofs.Common.{◌≡◌, ℕ, ◌⊎◌, inl, inr, true, false, ◌&&◌, List, Option, Some, None, refl, sym, ap, ◌∙◌, subst, length, bytes_eq, arith, IfSome}
+use Rattle.std.proofs.Common.{◌≡◌, ℕ, ◌⊎◌, inl, inr, true, false, ◌&&◌, List, Option, Some, None, refl, sym, ap, ◌∙◌, subst, length, arith, IfSome, Bor}
 use Rattle.std.specs.Prelude.{nat_le, is_some, unwrap_or}
 use Rattle.std.proofs.lemmas.Slice.Eq.{bytes_eq-Decides}
 use Rattle.std.proofs.lemmas.Bool.{and_parts, and_from, or_cases, lt-leb}
@@ -8,13 +8,13 @@ use Rattle.lt_tag.proofs.Apart.{extlang_is, variant_is}
 use Rattle.lt_registry.specs.Parts.{EntryParts}
 use Rattle.lt_registry.specs.Entries.{has_value_form, FitsValue, IsEntry, is_named, holds, one_of, entry, preferred_value, variant_value, language_value, is_registered, is_short, replacement, IsRegistry}
 use Rattle.lt_registry.specs.declared.entries.Kind.{Kind}
-use Rattle.lt_registry.specs.declared.entries.Kind.TheVariants as kinds
 use Rattle.lt_registry.specs.declared.entries.EntryName.{EntryName}
-use Rattle.lt_registry.specs.declared.entries.EntryName.TheVariants as names
 use Rattle.lt_registry.specs.declared.entries.EntryValue.{EntryValue}
-use Rattle.lt_registry.specs.declared.entries.EntryValue.TheVariants as values
 use Rattle.lt_rewrite.specs.Conditions.{IsFittingExtlang, HasFittingExtlang, HasRegisteredValue, has_value_of_own_kind, MeetsCoreConditions}
-use Rattle.lt_rewrite.proofs.Entries.{IsEntryOf, entry_has, ValuedEntry, valued, valued_has, variant_value_is, language_value_is}
+use Rattle.lt_rewrite.proofs.Entries.{IsEntryOf, entry_has, ValuedEntry, valued, valued_has, variant_value_is, language_value_is, entry_of}
+use Rattle.lt_registry.specs.declared.entries.Kind.TheVariants as kinds
+use Rattle.lt_registry.specs.declared.entries.EntryName.TheVariants as names
+use Rattle.lt_registry.specs.declared.entries.EntryValue.TheVariants as values
 
 pub some_at : {A : Type 0} (o : Option A) → is_some o ≡ true → (a : A) × (o ≡ Some a)
 some_at None e = cc
@@ -25,29 +25,24 @@ pub registered_entry : (R : List EntryParts) (k : Kind) (s : List ℕ) → is_re
 registered_entry R k s h = some_at (entry R k s) h
 
 pub value_form_at : (k : Kind) (o : Option EntryValue) (v : List ℕ) → IfSome o (FitsValue k) → one_of o ≡ Some v → has_value_form k v ≡ true
-value_form_at k None v h e = cc
 value_form_at k (Some (values.One s)) v h e = let same : s ≡ v = cc in subst (λ x. has_value_form k x ≡ true) same h
-value_form_at k (Some (values.Whole t)) v h e = cc
+value_form_at k s v h e = cc
 
 -- a value has the form of its kind
 pub value_form : (R : List EntryParts) → IsRegistry R → (k : Kind) (s v : List ℕ) → preferred_value R k s ≡ Some v → has_value_form k v ≡ true
 value_form R G k s v e =
     let en : ValuedEntry R k s v = valued R k s v e in
-    let has : IsEntry en.at = valued_has R k s v IsEntry G.forms en in
-    subst (λ k. has_value_form k v ≡ true) en.of_kind (value_form_at en.at.kind en.at.value v has.value en.gives)
+    subst (λ k. has_value_form k v ≡ true) en.of_kind (value_form_at en.at.kind en.at.value v (valued_has R k s v IsEntry G.forms en).value en.gives)
 
 -- what a language, script or region has as its value is registered
 pub value_registered : (R : List EntryParts) → MeetsCoreConditions R → (k : Kind) (s v : List ℕ) → has_value_of_own_kind k ≡ true → preferred_value R k s ≡ Some v → is_registered R k v ≡ true
 value_registered R C k s v keeps e =
     let en : ValuedEntry R k s v = valued R k s v e in
-    let has : HasRegisteredValue R en.at = valued_has R k s v (HasRegisteredValue R) C.values en in
-    let own : has_value_of_own_kind en.at.kind ≡ true = ap has_value_of_own_kind en.of_kind ∙ keeps in
-    subst (λ k. is_registered R k v ≡ true) en.of_kind (has own v en.gives)
+    subst (λ k. is_registered R k v ≡ true) en.of_kind ((valued_has R k s v (HasRegisteredValue R) C.values en) (ap has_value_of_own_kind en.of_kind ∙ keeps) v en.gives)
 
 pub single_name : (s t : List ℕ) (n : EntryName) → n ≡ names.Single t → (is_named s n ≡ true) ⊎ (holds s n ≡ true) → t ≡ s
 single_name s t n e (inl h) =
-    let k : bytes_eq t s ≡ true = ap (is_named s) (sym e) ∙ h in
-    (bytes_eq-Decides t s).0 k
+    (bytes_eq-Decides t s).0 (ap (is_named s) (sym e) ∙ h)
 single_name s t n e (inr h) =
     let k : false ≡ true = ap (holds s) (sym e) ∙ h in cc
 
@@ -114,3 +109,21 @@ variant_value_form R G v w e =
     by : is_short w ≡ false → (is_variant w ≡ true) ⊎ ((is_language w && is_short w) ≡ true) → is_variant w ≡ true
     by s (inl a) = a
     by s (inr a) = let f = (and_parts (is_language w) (is_short w) a).1 in cc
+
+-- What the forms of an entry say of its value.
+
+-- and the kind is the one that it was looked up under
+pub form_under : (R : List EntryParts) (k : Kind) (s : List ℕ) (e : EntryParts) (v : List ℕ) → entry R k s ≡ Some e → has_value_form e.kind v ≡ true → has_value_form k v ≡ true
+form_under R k s e v h f = subst (λ x. has_value_form x v ≡ true) (entry_of R k s e h).of_kind f
+
+pub each_form_under : (R : List EntryParts) (k : Kind) (s : List ℕ) (e : EntryParts) (o : Option (Bor (List ℕ))) → entry R k s ≡ Some e → IfSome o (λ v. has_value_form e.kind v.now ≡ true) → IfSome o (λ v. has_value_form k v.now ≡ true)
+each_form_under R k s e None h f = f
+each_form_under R k s e (Some v) h f = form_under R k s e v.now h f
+
+-- a short value of a variant has the form of a language
+pub short_value_form : (v : List ℕ) → has_value_form kinds.Variant v ≡ true → is_short v ≡ true → is_language v ≡ true
+short_value_form v h s = by s (or_cases (is_variant v) (is_language v && is_short v) h)
+  where
+    by : is_short v ≡ true → (is_variant v ≡ true) ⊎ ((is_language v && is_short v) ≡ true) → is_language v ≡ true
+    by s (inl a) = let f = variant_not_short v a in cc
+    by s (inr a) = (and_parts (is_language v) (is_short v) a).0

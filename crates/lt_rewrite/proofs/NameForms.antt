@@ -17,10 +17,8 @@ language_range : (s a b : List ℕ) → is_language a ≡ true → holds s (name
 unfolding is_language
 language_range s a b h k =
     let p = and_parts (length s == length a) (is_alphabetic s && (letters_le a s && letters_le s b)) k in
-    let q = and_parts (is_alphabetic s) (letters_le a s && letters_le s b) p.1 in
-    let n : length s ≡ length a = eqb-true (length s) (length a) p.0 in
     let m = (and_parts (is_alphabetic a) (nat_le 2 (length a) && nat_le (length a) 8) h).1 in
-    and_from (is_alphabetic s) (nat_le 2 (length s) && nat_le (length s) 8) q.0 (ap (λ z. nat_le 2 z && nat_le z 8) n ∙ m)
+    and_from (is_alphabetic s) (nat_le 2 (length s) && nat_le (length s) 8) (and_parts (is_alphabetic s) (letters_le a s && letters_le s b) p.1).0 (ap (λ z. nat_le 2 z && nat_le z 8) (eqb-true (length s) (length a) p.0) ∙ m)
 
 language_at : (s : List ℕ) (n : EntryName) → FitsName kinds.Language n → (is_named s n ≡ true) ⊎ (holds s n ≡ true) → is_language s ≡ true
 language_at s (names.Single t) h (inl e) = let same : t ≡ s = (bytes_eq-Decides t s).0 e in subst (λ x. is_language x ≡ true) same h
@@ -41,7 +39,6 @@ language_form R G s h =
 pub extlang_form : (R : List EntryParts) → IsRegistry R → (s : List ℕ) → ExtlangEntry R s → is_extlang s ≡ true
 extlang_form R G s x =
     let has = entry_has R kinds.Extlang s IsEntry G.forms x.at x.found in
-    let of : IsEntryOf kinds.Extlang s x.at = has.1 in
-    let fits = subst (λ k. FitsName k x.at.name) of.of_kind has.0.name in
+    let fits = subst (λ k. FitsName k x.at.name) has.1.of_kind has.0.name in
     let single : is_extlang x.fits.subtag ≡ true = subst (FitsName kinds.Extlang) x.fits.single fits in
     subst (λ z. is_extlang z ≡ true) x.same single

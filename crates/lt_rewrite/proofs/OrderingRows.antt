@@ -4,7 +4,7 @@ use Rattle.std.specs.Prelude.{codes}
 use Rattle.lt_tag.specs.Parts.{ExtensionParts, KeywordParts, UForm, FieldParts}
 use Rattle.lt_rewrite.specs.Extensions.{separator_cmp, singleton_cmp}
 use Rattle.lt_rewrite.proofs.Sorting.{sorted}
-use Rattle.lt_rewrite.proofs.UnicodeForms.{u_form}
+use Rattle.lt_rewrite.proofs.ExtensionLaws.{u_form}
 
 abbrev keyword : List ℕ → List (List ℕ) → KeywordParts
 keyword key types = record { key = key; types = types }

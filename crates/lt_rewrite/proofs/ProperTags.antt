@@ -16,12 +16,11 @@ use Rattle.lt_rewrite.specs.Extensions.{singleton_cmp, TransformStep, on_source,
 use Rattle.lt_registry.specs.Entries.{IsRegistry}
 use Rattle.lt_rewrite.specs.Conditions.{HasFittingGrandfathered, MeetsCoreConditions}
 use Rattle.lt_rewrite.specs.Laws.{IsProperValue, StepsKeepTagsProper}
-use Rattle.lt_rewrite.proofs.Proper.{steps_keep_proper}
+use Rattle.lt_rewrite.proofs.CoreLaws.{steps_keep_proper}
 use Rattle.lt_rewrite.proofs.PartLists.{all_both, all_step, all_middle, all_replaced, if_some_is, is_if_some}
-use Rattle.lt_rewrite.proofs.FoundParts.{one_transform}
-use Rattle.lt_rewrite.proofs.ExtensionShapes.{extension_step_singleton, extensions_step_values, extensions_step_count}
+use Rattle.lt_rewrite.proofs.ExtensionLaws.{one_transform, extension_step_singleton, extensions_step_values, extensions_step_count}
 use Rattle.lt_tag.specs.Lists.{longest_text}
-pub use Rattle.lt_rewrite.proofs.Proper.{step_proper, proper_not_grandfathered, proper_spells_none}
+pub use Rattle.lt_rewrite.proofs.CoreLaws.{step_proper, proper_not_grandfathered, proper_spells_none}
 
 -- the parts of a proper langtag
 pub record ProperParts (R : List EntryParts) (c : CoreParts) (es : List ExtensionParts) (ps : List (List ℕ)) : Type 0 where
@@ -90,8 +89,7 @@ same_singletons before e f after h =
 
 distinct_step : (R : List EntryParts) (es fs : List ExtensionParts) → ExtensionsStep R es fs → Distinct (singletons_of es) → Distinct (singletons_of fs)
 distinct_step R es fs (inside before e f after w s) h =
-    let same = ap singletons_of w.there ∙ same_singletons before e f after (extension_step_singleton R e f s) ∙ sym (ap singletons_of w.result) in
-    subst Distinct same h
+    subst Distinct (ap singletons_of w.there ∙ same_singletons before e f after (extension_step_singleton R e f s) ∙ sym (ap singletons_of w.result)) h
 distinct_step R es fs (among s) h = distinct_order es fs s h
 
 proper_source : (R : List EntryParts) (e : ExtensionParts) (p : TForm) → IsProperExtension R e → e.singleton ≡ transform → IsTransform e.subtags p → IfSome p.source (IsProperCore R)
@@ -116,8 +114,7 @@ module _ (R : List EntryParts) (G : IsRegistry R) (C : MeetsCoreConditions R) (H
   extensions_step_proper : (es fs : List ExtensionParts) → ExtensionsStep R es fs → AllByRecursion (IsProperExtension R) es → AllByRecursion (IsProperExtension R) fs
   extensions_step_proper es fs (inside before e f after w s) P =
       let all = subst (AllByRecursion (IsProperExtension R)) w.there P in
-      let new = extension_step_proper e f s (all_middle (IsProperExtension R) before e after all) in
-      subst (AllByRecursion (IsProperExtension R)) (sym w.result) (all_replaced (IsProperExtension R) before e f after all new)
+      subst (AllByRecursion (IsProperExtension R)) (sym w.result) (all_replaced (IsProperExtension R) before e f after all (extension_step_proper e f s (all_middle (IsProperExtension R) before e after all)))
   extensions_step_proper es fs (among s) P = all_step (IsProperExtension R) es fs s P
 
   core_step_tag : (c d : CoreParts) (es : List ExtensionParts) (ps : List (List ℕ)) → CoreStep (values_of R) c d → IsProper R (LangTag c es ps) → IsProper R (LangTag d es ps)

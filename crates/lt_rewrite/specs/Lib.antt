@@ -12,7 +12,7 @@ pub mod ChainEnds
 pub mod CoreSettling
 pub mod VariantLanguages
 pub mod VariantRows
-pub mod PlaceIndices
+pub mod CorePlaces
 pub mod ExtensionSettling
 pub mod ExtensionsSettling
 pub mod Applying

@@ -7,6 +7,7 @@ use Rattle.lt_rewrite.specs.CoreSteps.{chase}
 use Rattle.lt_rewrite.specs.Conditions.{next_value}
 use Rattle.lt_rewrite.specs.ChainEnds.{following}
 use Rattle.lt_rewrite.specs.VariantRows.{AreVariantRows}
+use Rattle.lt_rewrite.specs.declared.variant_rows.VariantRow.{VariantRow}
 
 -- t is n values on from s, or more; where the chain ends sooner, t is its end
 abbrev pub IsOnward : (List ℕ → Option (List ℕ)) → ℕ → List ℕ → List ℕ → Type 0
@@ -35,7 +36,7 @@ pub record LeadOn (R : List EntryParts) (n : ℕ) (places : List ℕ) : Type 0 w
 -- what is kept of a table beside its records
 pub record ShortcutParts : Type 0 where
   pub places : List ℕ
-  pub rows : List ℕ
+  pub rows : List VariantRow
 
 -- places as many values on as there are records: at the end of each chain that has one; and the rows of variants
 pub record AreShortcuts (R : List EntryParts) (s : ShortcutParts) : Type 0 where

@@ -11,7 +11,7 @@ ghost use Rattle.lt_rewrite.specs.Shortcuts.{AreShortcuts};
 ghost use Rattle.lt_rewrite.specs.CoreSettling.{IsFirstVariantLanguage, HasNoVariantLanguage, HasFinalLanguage, HasFinalScript, HasFinalRegion, HasFinalVariants};
 
 use crate::chain_ends::{end_of_chain, replacement};
-use crate::place_indices::{INDICES, lower_to, take_out};
+use crate::core_places::{lower_to, set_places, take_out};
 use crate::shortcuts::Shortcuts;
 use crate::values::{is_short, one_value};
 use crate::variant_languages::{first_variant_language_at, places_of};
@@ -181,11 +181,14 @@ fn settle_few_variant_languages<L: Lookup>(table: &L, shortcuts: &Shortcuts, cor
 {
     settle_language(table, Some(shortcuts), core);
     let mut places = places_of(table, core.variants());
-    let mut indices = [255; INDICES];
+    let mut marks = [0; 2048];
+    let mut indices = [255; 65536];
+    set_places(&mut marks, &places);
     lower_to(&mut indices, &places);
     while let Some((index, language)) = first_variant_language_at(
         table,
         shortcuts.rows(),
+        &marks,
         &indices,
         &places,
         core,
@@ -198,7 +201,8 @@ fn settle_few_variant_languages<L: Lookup>(table: &L, shortcuts: &Shortcuts, cor
     }
 }
 
-/// The same of any variants. Without shortcuts, and of a few, each is looked up again for each language.
+/// The same of any variants. Without shortcuts, and of few or very many, each is looked up again for each
+/// language.
 fn settle_all_variant_languages<L: Lookup>(
     table: &L,
     shortcuts: Option<&Shortcuts>,

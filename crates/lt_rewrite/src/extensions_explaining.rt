@@ -37,6 +37,7 @@ fn subtags_before(extensions: &[Extension], index: usize) -> usize
 }
 
 /// What the `u` extension comes to by its steps, and its index. The extensions begin after this many subtags.
+#[tactic(auto, using(crate::proofs::ExtensionRuns::few_before))]
 fn explained_unicode(
     alloc: Global,
     extensions: &[Extension],
@@ -56,6 +57,7 @@ fn explained_unicode(
 }
 
 /// What the `t` extension comes to by its steps, and its index. The extensions begin after this many subtags.
+#[tactic(auto, using(crate::proofs::ExtensionRuns::few_before))]
 fn explained_transform<L: Lookup>(
     alloc: Global,
     table: &L,

@@ -1,4 +1,6 @@
 //! What follows from the definitions of the steps on extensions alone.
+#![tactic(auto, using(crate::proofs::ExtensionLaws::unicode_has_one_form, crate::proofs::ExtensionLaws::transform_has_one_form, crate::proofs::ExtensionLaws::extensions_have_one_form))]
+
 ghost use Rattle.std.specs.Prelude.{List};
 ghost use Rattle.lt_registry.specs.Parts.{EntryParts};
 ghost use Rattle.lt_registry.specs.Entries.{IsRegistry};

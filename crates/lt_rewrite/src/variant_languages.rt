@@ -9,9 +9,9 @@ ghost use Rattle.lt_rewrite.specs.CoreSteps.{values_of};
 ghost use Rattle.lt_rewrite.specs.CoreSettling.{IsFirstVariantLanguage, HasNoVariantLanguage};
 ghost use Rattle.lt_rewrite.specs.VariantLanguages.{ArePlaces};
 ghost use Rattle.lt_rewrite.specs.VariantRows.{AreVariantRows};
-ghost use Rattle.lt_rewrite.specs.PlaceIndices.{AreBounds};
+ghost use Rattle.lt_rewrite.specs.CorePlaces.{AreSet, AreBounds};
 
-use crate::place_indices::{Indices, first_with_row};
+use crate::core_places::{Indices, Marks, first_in_rows};
 use crate::shortcuts::place_of;
 use crate::values::{is_short, one_value};
 use crate::variant_rows::{VariantRow, number_of, rows_beside};
@@ -78,20 +78,22 @@ fn variant_language_at<'a, L: Lookup>(
 pub(crate) fn first_variant_language_at<L: Lookup>(
     table: &L,
     rows: &[VariantRow],
+    marks: &Marks,
     indices: &Indices,
     places: &[usize],
     core: &Core,
 ) -> Option<(usize, Subtag)>
     requires rows { AreVariantRows (L.listed table.now) rows.now }
     requires places { ArePlaces (L.listed table.now) core.now.variants places.now }
-    requires indices { AreBounds places.now indices.now }
+    requires set { AreSet places.now marks.now }
+    requires bounds { AreBounds places.now indices.now }
     ensures variant_language { MatchOption result
         (HasNoVariantLanguage (values_of (L.listed table.now)) core.now)
         (λ first. IsFirstVariantLanguage (values_of (L.listed table.now)) core.now first.0 first.1) }
     ensures form { IfSome result (λ first. is_language first.1 ≡ true) }
 {
     let number = number_of(core.language());
-    let first = first_with_row(indices, rows_beside(rows, number), places);
+    let first = first_in_rows(marks, indices, rows_beside(rows, number), places);
     let variants = core.variants();
     for index in first..variants.len() {
         if let Some(language) = variant_language_at(

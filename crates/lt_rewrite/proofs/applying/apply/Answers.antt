@@ -13,16 +13,14 @@ pub returns-then-branch-clause-ok : goal.returns-then-branch-clause-ok
 returns-then-branch-clause-ok g c =
     let R = g.L.Lookup.listed c.args.table.now in
     let leads = rw c.in-Some.is at c.in_ok-changed.ensures in
-    let law = proper_law R c.in-Some.changed c.extensions.ensures.tag in
-    is_led R c.args.tag.now c.args.step.now c.requires c.in-Some.changed leads (law.1 (c.in_ok-proper.ensures.answer.0 c.if-branch.true))
+    is_led R c.args.tag.now c.args.step.now c.requires c.in-Some.changed leads ((proper_law R c.in-Some.changed c.extensions.ensures.tag).1 (c.in_ok-proper.ensures.answer.0 c.if-branch.true))
 
 pub returns-else-branch-clause-err : goal.returns-else-branch-clause-err
 returns-else-branch-clause-err g c =
     let R = g.L.Lookup.listed c.args.table.now in
     let leads = rw c.in-Some.is at c.in_ok-changed.ensures in
-    let law = proper_law R c.in-Some.changed c.extensions.ensures.tag in
     not_proper R c.args.tag.now c.args.step.now c.requires c.in-Some.changed leads
     (λ (h : IsProper R c.in-Some.changed).
-    let yes : c.in_ok-proper.field-0 ≡ true = c.in_ok-proper.ensures.answer.1 (law.0 h) in
+    let yes : c.in_ok-proper.field-0 ≡ true = c.in_ok-proper.ensures.answer.1 ((proper_law R c.in-Some.changed c.extensions.ensures.tag).0 h) in
     let no : c.in_ok-proper.field-0 ≡ false = c.if-branch.false in
     cc)

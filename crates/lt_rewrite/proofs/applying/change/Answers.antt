@@ -1,6 +1,6 @@
-use Rattle.std.proofs.Common.{◌≡◌, ℕ, List, sym, ◌∙◌, subst}
+use Rattle.std.proofs.Common.{ℕ, List, sym, ◌∙◌, subst}
 use Rattle.lt_tag.specs.Parts.{LangTag}
-use Rattle.lt_tag.specs.Values.{IsTagValue, private_of}
+use Rattle.lt_tag.specs.Values.{IsTagValue}
 use Rattle.lt_rewrite.specs.Applying.{TagLeads}
 use Rattle.lt_rewrite.proofs.TagLeading.{made, values_alone}
 use Rattle.lt_rewrite.proofs.applying.change.Goals as goal
@@ -13,8 +13,7 @@ returns-in_ok-private-in-Some-2 g c =
     let R = g.L.Lookup.listed c.args.table.now in
     let t = c.args.tag.now in
     let found = rw c.in-Some-2.is at c.in_ok-core.ensures in
-    let same : c.in_ok-private-in-Some-2.private.items ≡ private_of t = c.in_ok-private-in-Some-2.ensures ∙ c.private.ensures.value in
-    let leads = subst (λ (ps : List (List ℕ)). TagLeads R t c.args.step (LangTag c.in-Some-2.core c.in-Some-2.extensions.items ps)) (sym same) found.0 in
+    let leads = subst (λ (ps : List (List ℕ)). TagLeads R t c.args.step (LangTag c.in-Some-2.core c.in-Some-2.extensions.items ps)) (sym (c.in_ok-private-in-Some-2.ensures ∙ c.private.ensures.value)) found.0 in
     made R t c.args.step c.requires (LangTag c.in-Some-2.core c.in-Some-2.extensions.items c.in_ok-private-in-Some-2.private.items) c.langtag.result leads c.langtag.ensures
 
 pub returns-in-None : goal.returns-in-None

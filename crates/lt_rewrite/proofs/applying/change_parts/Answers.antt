@@ -22,8 +22,7 @@ pub change_extensions-requires : goal.change_extensions-requires
 change_extensions-requires g c =
     let t = c.args.tag.now in
     let f = fits t c.extensions-2.ensures.tag.counts in
-    let n = few_subtags (extensions_of t) f.1 in
-    omega (arith, n, f.0, ap (λ es. length (spell_extensions es)) c.extensions-2.ensures.value, c.core_length.ensures.few)
+    omega (arith, few_subtags (extensions_of t) f.1, f.0, ap (λ es. length (spell_extensions es)) c.extensions-2.ensures.value, c.core_length.ensures.few)
 
 pub returns-in_ok-copy-in-Some-2 : goal.returns-in_ok-copy-in-Some-2
 returns-in_ok-copy-in-Some-2 g c =
@@ -42,10 +41,9 @@ returns-in_ok-copy-in-Some-2 g c =
 pub returns-in-None : goal.returns-in-None
 returns-in-None g c =
     let R = g.L.Lookup.listed c.args.table.now in
-    let t = c.args.tag.now in
     let core : CoreParts = c.args.core.now in
     let none = subst (λ o. Changes (CoreLeads R 0 core c.args.step) o) c.in_default.is c.in_ok-changed.ensures in
     let nowhere = rw c.in-None.is at c.in_ok-changed-2.ensures in
-    kept R t c.args.step core c.requires.core c.requires.kind none
+    kept R c.args.tag.now c.args.step core c.requires.core c.requires.kind none
     (subst (λ (es : List ExtensionParts). (other : List ExtensionParts) → ExtensionsLeads R (length (spell_core core)) es c.args.step other → ⊥) c.extensions-2.ensures.value
     (subst (λ (n : ℕ). (other : List ExtensionParts) → ExtensionsLeads R n c.extensions-2.result.now c.args.step other → ⊥) c.core_length.ensures.value nowhere))

@@ -1,6 +1,6 @@
 use Rattle.std.proofs.Common.{sym, ap, ◌∙◌}
 use Rattle.std.specs.Option.{option_copied}
-use Rattle.lt_rewrite.proofs.ValueForms.{each_form_under}
+use Rattle.lt_rewrite.proofs.Forms.{each_form_under}
 use Rattle.lt_rewrite.proofs.core_applying.value_by.Goals as goal
 
 pub returns-in-Some-clause-form : goal.returns-in-Some-clause-form

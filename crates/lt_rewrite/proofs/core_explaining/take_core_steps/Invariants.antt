@@ -1,5 +1,5 @@
 use Rattle.lt_rewrite.specs.Runs.{AddsOnCore}
-use Rattle.lt_rewrite.proofs.CoreWeights.{weight}
+use Rattle.lt_rewrite.proofs.CoreLaws.{weight}
 use Rattle.lt_rewrite.proofs.core_explaining.take_core_steps.Given as goal
 
 -- the steps so far lead here

@@ -4,7 +4,7 @@ use Rattle.std.proofs.lemmas.List.{take_all}
 use Rattle.std.proofs.lemmas.List.Elements.{All-more}
 use Rattle.std.proofs.lemmas.Option.{slice_get_read}
 use Rattle.lt_registry.specs.Entries.{variant_value}
-use Rattle.lt_rewrite.proofs.CoreFirst.{first_variant, none_varies}
+use Rattle.lt_rewrite.proofs.TagLeading.{first_variant, none_varies}
 use Rattle.lt_rewrite.proofs.core_explaining.variant_step.Goals as goal
 
 pub returns-in-Some : goal.returns-in-Some
@@ -21,10 +21,9 @@ returns-in-Some g c =
 pub loop-index-preserved : goal.loop-index-preserved
 loop-index-preserved g c =
     let P : List ℕ → Type 0 = λ v. variant_value (g.L.Lookup.listed c.args.table.now) v ≡ None in
-    let v : List ℕ = c.variant-item.result in
     let i = c.loop-index.index in
     let vs = c.variants-variant-items.result.now in
-    let more : All P (take (i + 1) vs) = All-more P vs i v c.loop-index-test.true (subst (λ us. All P (take i us)) (sym c.variants-variant-items.ensures.value) c.loop-index.invariant)
+    let more : All P (take (i + 1) vs) = All-more P vs i c.variant-item.result c.loop-index-test.true (subst (λ us. All P (take i us)) (sym c.variants-variant-items.ensures.value) c.loop-index.invariant)
     (subst P c.variant-item.is (sym c.next_value.ensures ∙ ap option_copied c.in_default.is)) in
     subst (λ us. All P (take (i + 1) us)) c.variants-variant-items.ensures.value more
 

@@ -1,8 +1,8 @@
-use Rattle.std.proofs.Common.{◌≡◌, ℕ, List, Option, Some, None, All, take, sym, ap, ◌∙◌, subst}
+use Rattle.std.proofs.Common.{◌≡◌, ℕ, List, Option, Some, None, All, sym, ap, ◌∙◌, subst}
 use Rattle.std.specs.Option.{option_copied}
 use Rattle.std.proofs.lemmas.List.{take_all}
 use Rattle.lt_rewrite.specs.CoreSteps.{values_of}
-use Rattle.lt_rewrite.proofs.CoreSettled.{first_variant_language_at, none_more}
+use Rattle.lt_rewrite.proofs.CoreLaws.{first_variant_language_at, none_more}
 use Rattle.lt_rewrite.proofs.core_settling.first_variant_language.Goals as goal
 
 pub returns-in-Some-clause-variant_language : goal.returns-in-Some-clause-variant_language
@@ -24,7 +24,5 @@ loop-index-preserved g c =
 
 pub returns-clause-variant_language : goal.returns-clause-variant_language
 returns-clause-variant_language g c =
-    let V = values_of (g.L.Lookup.listed c.args.table.now) in
-    let P : List ℕ → Type 0 = λ v. V.variant_language c.args.core.now.language v ≡ None in
-    let all : take c.loop-index.index c.variants-variant-items.result.now ≡ c.variants-variant-items.result.now = take_all c.loop-index.index c.variants-variant-items.result.now c.loop-index-test.false in
-    subst (All P) (all ∙ c.variants-variant-items.ensures.value) c.loop-index.invariant
+    let P : List ℕ → Type 0 = λ v. (values_of (g.L.Lookup.listed c.args.table.now)).variant_language c.args.core.now.language v ≡ None in
+    subst (All P) ((take_all c.loop-index.index c.variants-variant-items.result.now c.loop-index-test.false) ∙ c.variants-variant-items.ensures.value) c.loop-index.invariant

@@ -2,7 +2,7 @@ use Rattle.std.proofs.Common.{◌≡◌, [], ◌∷◌, sym, ap, ◌∙◌, subs
 use Rattle.lt_tag.specs.Parts.{CoreParts}
 use Rattle.lt_rewrite.specs.Rewriting.{Star, done, then}
 use Rattle.lt_rewrite.specs.CoreSteps.{values_of, CoreStep}
-use Rattle.lt_rewrite.proofs.CoreSettled.{extlang_step, sole}
+use Rattle.lt_rewrite.proofs.CoreLaws.{extlang_step, sole}
 use Rattle.lt_rewrite.proofs.core_settling.settle_extlang.Goals as goal
 
 pub returns-then-extlangs-lt1-clause-reached : goal.returns-then-extlangs-lt1-clause-reached

@@ -1,13 +1,13 @@
-use Rattle.std.proofs.Common.{◌≡◌, ℕ, List, [], None, All, sym, ap, ◌∙◌, subst}
+use Rattle.std.proofs.Common.{◌≡◌, ℕ, true, List, [], None, All, sym, ap, ◌∙◌, subst}
 use Rattle.std.specs.List.{remove}
 use Rattle.lt_tag.specs.Parts.{CoreParts}
 use Rattle.lt_rewrite.specs.Rewriting.{Star, then}
 use Rattle.lt_rewrite.specs.CoreSteps.{values_of, CoreStep}
 use Rattle.lt_rewrite.specs.VariantLanguages.{ArePlaces}
-use Rattle.lt_rewrite.specs.PlaceIndices.{AreBounds}
-use Rattle.lt_rewrite.proofs.PlacedVariants.{placed_without}
+use Rattle.lt_rewrite.specs.CorePlaces.{is_set, AreSet, AreBounds}
+use Rattle.lt_rewrite.proofs.FoundRows.{placed_without}
 use Rattle.lt_rewrite.proofs.Stars.{star_trans}
-use Rattle.lt_rewrite.proofs.CoreSettled.{variant_language_step, final_without}
+use Rattle.lt_rewrite.proofs.CoreLaws.{variant_language_step, final_without}
 use Rattle.lt_rewrite.proofs.core_settling.settle_few_variant_languages.Goals as goal
 
 pub loop-index-preserved : goal.loop-index-preserved
@@ -30,8 +30,9 @@ loop-index-preserved g c =
       variants = subst (All P) (sym (ap (λ (d : CoreParts). d.variants) others)) (final_without P core.variants c.in-Some.index c.loop-index.invariant.variants);
       places = subst (λ vs. ArePlaces R vs c.remove.new.self.items) (sym (ap (λ (d : CoreParts). d.variants) others))
           (subst (ArePlaces R (remove core.variants c.in-Some.index)) (sym c.remove.ensures.items) (placed_without R core.variants c.loop-index.places.items c.in-Some.index c.loop-index.invariant.places));
-      indices = subst (λ ps. AreBounds ps c.take_out.new.indices) (sym c.remove.ensures.items)
-          (subst (λ ps. AreBounds ps c.loop-index.indices → AreBounds (remove ps c.in-Some.index) c.take_out.new.indices) c.deref-in-Some.ensures.0 c.take_out.ensures c.loop-index.invariant.indices);
+      set = subst (λ ps. AreSet ps c.set_places.new.marks) (sym c.remove.ensures.items) (final_without (λ place. is_set c.set_places.new.marks place ≡ true) c.loop-index.places.items c.in-Some.index c.loop-index.invariant.set);
+      bounds = subst (λ ps. AreBounds ps c.take_out.new.indices) (sym c.remove.ensures.items)
+          (subst (λ ps. AreBounds ps c.loop-index.indices → AreBounds (remove ps c.in-Some.index) c.take_out.new.indices) c.deref-in-Some.ensures.0 c.take_out.ensures c.loop-index.invariant.bounds);
       others =
           others
           ∙ ap (λ (d : CoreParts). record d { language = c.settle_language-in-Some.new.core.language; variants = remove core.variants c.in-Some.index }) c.loop-index.invariant.others

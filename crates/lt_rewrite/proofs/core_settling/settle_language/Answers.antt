@@ -4,7 +4,7 @@ use Rattle.lt_registry.specs.declared.entries.Kind.TheVariants as kinds
 use Rattle.lt_rewrite.specs.Rewriting.{Star}
 use Rattle.lt_rewrite.specs.CoreSteps.{values_of, CoreStep, EndsIn}
 use Rattle.lt_rewrite.specs.Conditions.{next_value}
-use Rattle.lt_rewrite.proofs.CoreSettled.{language_reached}
+use Rattle.lt_rewrite.proofs.CoreLaws.{language_reached}
 use Rattle.lt_rewrite.proofs.core_settling.settle_language.Goals as goal
 
 pub returns-clause-reached : goal.returns-clause-reached

@@ -3,7 +3,7 @@ use Rattle.std.specs.Option.{option_copied}
 use Rattle.lt_tag.specs.Parts.{CoreParts}
 use Rattle.lt_rewrite.specs.Rewriting.{Star, done}
 use Rattle.lt_rewrite.specs.CoreSteps.{values_of, CoreStep}
-use Rattle.lt_rewrite.proofs.CoreSettled.{region_reached}
+use Rattle.lt_rewrite.proofs.CoreLaws.{region_reached}
 use Rattle.lt_rewrite.proofs.core_settling.settle_region.Goals as goal
 
 pub returns-in_default-clause-reached : goal.returns-in_default-clause-reached

@@ -3,7 +3,7 @@ use Rattle.std.specs.Option.{option_copied}
 use Rattle.lt_tag.specs.Parts.{CoreParts}
 use Rattle.lt_rewrite.specs.Rewriting.{Star, done}
 use Rattle.lt_rewrite.specs.CoreSteps.{values_of, CoreStep}
-use Rattle.lt_rewrite.proofs.CoreSettled.{script_reached}
+use Rattle.lt_rewrite.proofs.CoreLaws.{script_reached}
 use Rattle.lt_rewrite.proofs.core_settling.settle_script.Goals as goal
 
 pub returns-in_default-clause-reached : goal.returns-in_default-clause-reached

@@ -4,7 +4,7 @@ use Rattle.lt_tag.specs.Parts.{CoreParts}
 use Rattle.lt_rewrite.specs.Rewriting.{Star, then}
 use Rattle.lt_rewrite.specs.CoreSteps.{values_of, CoreStep}
 use Rattle.lt_rewrite.proofs.Stars.{star_trans}
-use Rattle.lt_rewrite.proofs.CoreSettled.{variant_language_step, final_without}
+use Rattle.lt_rewrite.proofs.CoreLaws.{variant_language_step, final_without}
 use Rattle.lt_rewrite.proofs.core_settling.settle_variant_languages.Goals as goal
 
 pub loop-index-preserved : goal.loop-index-preserved

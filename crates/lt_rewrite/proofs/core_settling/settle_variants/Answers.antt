@@ -4,7 +4,7 @@ use Rattle.lt_tag.specs.Parts.{CoreParts}
 use Rattle.lt_rewrite.specs.Rewriting.{Star, done}
 use Rattle.lt_rewrite.specs.CoreSteps.{values_of, CoreStep}
 use Rattle.lt_rewrite.proofs.Stars.{star_trans}
-use Rattle.lt_rewrite.proofs.CoreSettled.{variant_reached, final_more}
+use Rattle.lt_rewrite.proofs.CoreLaws.{variant_reached, final_more}
 use Rattle.lt_rewrite.proofs.core_settling.settle_variants.Goals as goal
 
 pub loop-index-init : goal.loop-index-init
@@ -26,10 +26,9 @@ loop-index-preserved g c =
     let P : List ℕ → Type 0 = λ v. V.variant v ≡ None in
     let within : i < length core.variants = omega (arith, c.loop-index-test.true, c.loop-index.invariant.count) in
     let is : s ≡ get_or core.variants i s = subst (λ vs. s ≡ get_or vs i s) c.variants.ensures.value c.index-variants-index.is in
-    let step = variant_reached R core i s e within is c.certain_end-end.ensures.end in
     let vs = ap (λ (d : CoreParts). d.variants) c.set_variant.ensures in
     record {
-      reached = star_trans c.loop-index.invariant.reached (subst (λ (d : CoreParts). Star (CoreStep V) core d) (sym c.set_variant.ensures) step);
+      reached = star_trans c.loop-index.invariant.reached (subst (λ (d : CoreParts). Star (CoreStep V) core d) (sym c.set_variant.ensures) (variant_reached R core i s e within is c.certain_end-end.ensures.end));
       others =
           c.set_variant.ensures
           ∙ ap (λ (d : CoreParts). record d { variants = set core.variants i e }) c.loop-index.invariant.others
@@ -40,7 +39,6 @@ loop-index-preserved g c =
 
 pub returns-clause-at_rest : goal.returns-clause-at_rest
 returns-clause-at_rest g c =
-    let V = values_of (g.L.Lookup.listed c.args.table.now) in
-    let P : List ℕ → Type 0 = λ v. V.variant v ≡ None in
+    let P : List ℕ → Type 0 = λ v. (values_of (g.L.Lookup.listed c.args.table.now)).variant v ≡ None in
     let all : take c.loop-index.index c.loop-index.core.variants ≡ c.loop-index.core.variants = take_all c.loop-index.index c.loop-index.core.variants (omega (arith, c.loop-index-test.false, c.loop-index.invariant.count)) in
     subst (All P) all c.loop-index.invariant.final

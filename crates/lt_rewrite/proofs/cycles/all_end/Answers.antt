@@ -1,11 +1,11 @@
-use Rattle.std.proofs.Common.{◌≡◌, ◌<◌, List, All, length, get_or, take, sym, ap, ◌∙◌, subst, arith}
+use Rattle.std.proofs.Common.{◌≡◌, List, All, length, get_or, take, sym, ap, ◌∙◌, subst, arith}
 use Rattle.std.proofs.lemmas.List.{take_all}
 use Rattle.std.proofs.lemmas.List.Elements.{All-more}
 use Rattle.lt_registry.specs.Parts.{EntryParts}
 use Rattle.lt_rewrite.specs.Conditions.{HasEndingChain}
 use Rattle.lt_rewrite.specs.Cycles.{EndsAfterEarlier}
 use Rattle.lt_rewrite.specs.declared.cycles.Order.TheVariants as orders
-use Rattle.lt_rewrite.proofs.CycleWalks.{all_end_in_order}
+use Rattle.lt_rewrite.proofs.ChainWalks.{all_end_in_order}
 use Rattle.lt_rewrite.proofs.cycles.all_end.Goals as goal
 
 pub returns-then-not-ends_or_falls : goal.returns-then-not-ends_or_falls
@@ -14,8 +14,7 @@ returns-then-not-ends_or_falls g c = λ all.
     let e : EntryParts = c.entry-item.result in
     let i = c.loop-entry.entry-index in
     let there : e ≡ get_or R i e = c.entry-item.is ∙ ap (λ xs. get_or xs i e) c.entries-entry-items.ensures.value in
-    let within : i < length R = omega (arith, c.loop-entry-test.true, ap length c.entries-entry-items.ensures.value) in
-    c.if-not-ends_or_falls.ensures (subst (HasEndingChain R) (sym there) (all i e within))
+    c.if-not-ends_or_falls.ensures (subst (HasEndingChain R) (sym there) (all i e (omega (arith, c.loop-entry-test.true, ap length c.entries-entry-items.ensures.value))))
 
 pub loop-entry-preserved : goal.loop-entry-preserved
 loop-entry-preserved g c =

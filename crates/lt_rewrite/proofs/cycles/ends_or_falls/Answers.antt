@@ -4,8 +4,7 @@ use Rattle.lt_registry.specs.Parts.{EntryParts}
 use Rattle.lt_registry.specs.Entries.{one_of, entry}
 use Rattle.lt_rewrite.specs.Conditions.{next_value}
 use Rattle.lt_rewrite.specs.Cycles.{place}
-use Rattle.lt_rewrite.proofs.ChainWalks.{chase_more}
-use Rattle.lt_rewrite.proofs.CycleWalks.{IsWalk, ends_there, ends_after, at_limit, next_by}
+use Rattle.lt_rewrite.proofs.ChainWalks.{chase_more, IsWalk, ends_there, ends_after, at_limit, next_by}
 use Rattle.lt_rewrite.proofs.cycles.ends_or_falls.Goals as goal
 
 pub returns-then-place : goal.returns-then-place
@@ -17,11 +16,9 @@ returns-then-place g c =
     let from : one_of e.value ≡ Some c.in-Some.value.now = sym c.one_value.ensures.value ∙ ap option_copied c.in-Some.is in
     let walk : IsWalk R e k c.in-Some.value.now s c.loop-step._step = record { of_kind = c.kind-kind.ensures.value; from = from; walked = c.loop-step.invariant c.in-Some.value.now from } in
     let met : EntryParts = c.in-Some-entry.met.now in
-    let found : entry R k s ≡ Some met = sym c.entry.ensures ∙ ap option_copied c.in-Some-entry.is in
-    let its = c.place.ensures ∙ ap (place c.args.order) c.number-in-loop-step.ensures.value in
     let own = c.place-place.ensures ∙ ap (place c.args.order) c.number.ensures.value in
-    let below : place c.args.order met.number < place c.args.order e.number = omega (arith, c.if-place.true, its, own) in
-    ends_after R c.args.order e met k c.in-Some.value.now s c.loop-step._step walk found below
+    let below : place c.args.order met.number < place c.args.order e.number = omega (arith, c.if-place.true, c.place.ensures ∙ ap (place c.args.order) c.number-in-loop-step.ensures.value, own) in
+    ends_after R c.args.order e met k c.in-Some.value.now s c.loop-step._step walk (sym c.entry.ensures ∙ ap option_copied c.in-Some-entry.is) below
 
 pub returns-in-None : goal.returns-in-None
 returns-in-None g c =
@@ -31,8 +28,7 @@ returns-in-None g c =
     let s = c.loop-step.subtag in
     let from : one_of e.value ≡ Some c.in-Some.value.now = sym c.one_value.ensures.value ∙ ap option_copied c.in-Some.is in
     let walk : IsWalk R e k c.in-Some.value.now s c.loop-step._step = record { of_kind = c.kind-kind.ensures.value; from = from; walked = c.loop-step.invariant c.in-Some.value.now from } in
-    let found : Some c.in-Some-entry.met.now ≡ entry R k s = sym (ap option_copied c.in-Some-entry.is) ∙ c.entry.ensures in
-    let none : next_value R k s ≡ None = next_by R k s (Some c.in-Some-entry.met.now) found ∙ sym c.following.ensures ∙ ap option_copied c.in-None.is in
+    let none : next_value R k s ≡ None = next_by R k s (Some c.in-Some-entry.met.now) (sym (ap option_copied c.in-Some-entry.is) ∙ c.entry.ensures) ∙ sym c.following.ensures ∙ ap option_copied c.in-None.is in
     λ earlier. ends_there R e k c.in-Some.value.now s c.loop-step._step walk none
 
 pub loop-step-preserved : goal.loop-step-preserved

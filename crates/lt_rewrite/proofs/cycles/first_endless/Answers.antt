@@ -5,7 +5,7 @@ use Rattle.lt_registry.specs.Parts.{EntryParts}
 use Rattle.lt_rewrite.specs.Conditions.{HasEndingChain}
 use Rattle.lt_rewrite.specs.Cycles.{IsFirstCycle, EarlierEnd, place}
 use Rattle.lt_rewrite.specs.declared.cycles.Order.TheVariants as orders
-use Rattle.lt_rewrite.proofs.CycleWalks.{lower_are_before, file_order, first_there}
+use Rattle.lt_rewrite.proofs.ChainWalks.{lower_are_before, file_order, first_there}
 use Rattle.lt_rewrite.proofs.cycles.first_endless.Goals as goal
 
 pub returns-then-not-ends_or_falls : goal.returns-then-not-ends_or_falls
@@ -21,14 +21,13 @@ returns-then-not-ends_or_falls g c =
 pub loop-entry-preserved : goal.loop-entry-preserved
 loop-entry-preserved g c =
     let R = g.L.Lookup.listed c.args.table.now in
-    let xs : List EntryParts = c.entries-entry-items.result.now in
     let e : EntryParts = c.entry-item.result in
     let i = c.loop-entry.entry-index in
     let there : e ≡ get_or R i e = c.entry-item.is ∙ ap (λ ys. get_or ys i e) c.entries-entry-items.ensures.value in
     let within : i < length R = omega (arith, c.loop-entry-test.true, ap length c.entries-entry-items.ensures.value) in
     let so_far : All (HasEndingChain R) (take i R) = subst (λ ys. All (HasEndingChain R) (take i ys)) c.entries-entry-items.ensures.value c.loop-entry.invariant in
     let earlier : EarlierEnd R orders.File (place orders.File e.number) = file_order R e (lower_are_before (HasEndingChain R) R i e c.entries-entry-items.ensures.rising within there so_far) in
-    All-more (HasEndingChain R) xs i e c.loop-entry-test.true c.loop-entry.invariant (subst (HasEndingChain R) c.entry-item.is (c.if-not-ends_or_falls.ensures earlier))
+    All-more (HasEndingChain R) c.entries-entry-items.result.now i e c.loop-entry-test.true c.loop-entry.invariant (subst (HasEndingChain R) c.entry-item.is (c.if-not-ends_or_falls.ensures earlier))
 
 pub returns : goal.returns
 returns g c =

@@ -2,9 +2,9 @@ use Rattle.std.proofs.Common.{sym, subst, arith}
 use Rattle.lt_tag.specs.Parts.{ExtensionParts}
 use Rattle.lt_rewrite.specs.Applying.{ExtensionLeads}
 use Rattle.lt_registry.specs.Entries.{IsRegistry}
-use Rattle.lt_rewrite.proofs.Proper.{step_shaped}
-use Rattle.lt_rewrite.proofs.TransformForms.{t_shaped, t_step_length}
-use Rattle.lt_rewrite.proofs.ExtensionLeading.{transform_changed, transform_kept}
+use Rattle.lt_rewrite.proofs.CoreLaws.{step_shaped}
+use Rattle.lt_rewrite.proofs.ExtensionLaws.{t_shaped, t_step_length}
+use Rattle.lt_rewrite.proofs.TagLeading.{transform_changed, transform_kept}
 use Rattle.lt_rewrite.proofs.extension_applying.apply_in_transform.Goals as goal
 
 pub returns-then-not-apply_to_transform : goal.returns-then-not-apply_to_transform
@@ -19,8 +19,7 @@ join_t-requires-clause-shaped g c =
 
 pub join_t-requires-clause-few : goal.join_t-requires-clause-few
 join_t-requires-clause-few g c =
-    let n = t_step_length (g.L.Lookup.listed c.args.table.now) c.in-Ok.parts c.apply_to_transform.new.parts c.if-not-apply_to_transform.ensures.0 in
-    omega (arith, n, c.in-Ok.ensures.few)
+    omega (arith, t_step_length (g.L.Lookup.listed c.args.table.now) c.in-Ok.parts c.apply_to_transform.new.parts c.if-not-apply_to_transform.ensures.0, c.in-Ok.ensures.few)
 
 pub returns : goal.returns
 returns g c =

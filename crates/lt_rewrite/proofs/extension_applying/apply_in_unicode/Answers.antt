@@ -1,8 +1,8 @@
 use Rattle.std.proofs.Common.{sym, subst}
 use Rattle.lt_tag.specs.Parts.{ExtensionParts}
 use Rattle.lt_rewrite.specs.Applying.{ExtensionLeads}
-use Rattle.lt_rewrite.proofs.UnicodeForms.{u_shaped}
-use Rattle.lt_rewrite.proofs.ExtensionLeading.{unicode_changed, unicode_kept}
+use Rattle.lt_rewrite.proofs.ExtensionLaws.{u_shaped}
+use Rattle.lt_rewrite.proofs.TagLeading.{unicode_changed, unicode_kept}
 use Rattle.lt_rewrite.proofs.extension_applying.apply_in_unicode.Goals as goal
 
 pub returns-then-not-apply_to_unicode : goal.returns-then-not-apply_to_unicode

@@ -1,7 +1,7 @@
 use Rattle.std.proofs.Common.{◌<◌, length, subst, ℕ, List}
 use Rattle.lt_tag.specs.Parts.{ExtensionParts}
 use Rattle.lt_rewrite.specs.Applying.{LeadsAt}
-use Rattle.lt_rewrite.proofs.ExtensionLeading.{leads_inside, none_inside}
+use Rattle.lt_rewrite.proofs.TagLeading.{leads_inside, none_inside}
 use Rattle.lt_rewrite.proofs.extension_applying.apply_to_extensions.Goals as goal
 
 pub returns-in-SwapExtensions : goal.returns-in-SwapExtensions

@@ -1,10 +1,10 @@
-use Rattle.std.proofs.Common.{◌≡◌, ◌+◌, length, take, sym, ap, subst, below_more, arith}
+use Rattle.std.proofs.Common.{◌+◌, length, take, sym, ap, subst, below_more, arith}
 use Rattle.std.proofs.lemmas.List.{get_or_read}
 use Rattle.std.proofs.lemmas.List.Folds.{length-flat_map-take}
 use Rattle.lt_tag.specs.Parts.{ExtensionParts}
 use Rattle.lt_tag.specs.Spelling.{spell_extension, spell_extensions}
 use Rattle.lt_rewrite.specs.Applying.{Changes, ExtensionLeads, LeadsAt}
-use Rattle.lt_rewrite.proofs.PartLeading.{flat_more}
+use Rattle.lt_rewrite.proofs.FirstSteps.{flat_more}
 use Rattle.lt_rewrite.proofs.extension_applying.find_change.Goals as goal
 
 pub apply_to_extension-requires : goal.apply_to_extension-requires
@@ -27,11 +27,9 @@ returns-in-Some g c =
 
 pub overflow_add-place-in-loop-index : goal.overflow_add-place-in-loop-index
 overflow_add-place-in-loop-index g c =
-    let e : ExtensionParts = c.index-extensions-index.result in
-    let few = length-flat_map-take spell_extension c.args.extensions.now c.loop-index.index e (omega (arith, c.loop-index-test.true)) in
+    let few = length-flat_map-take spell_extension c.args.extensions.now c.loop-index.index c.index-extensions-index.result (omega (arith, c.loop-index-test.true)) in
     let same = ap (λ (x : ExtensionParts). length (spell_extension x)) c.index-extensions-index.is in
-    let count : c.subtag_count-place.result ≡ length (spell_extension e) = c.subtag_count-place.ensures in
-    omega (arith, few, same, count, c.loop-index.invariant.here, c.requires)
+    omega (arith, few, same, c.subtag_count-place.ensures, c.loop-index.invariant.here, c.requires)
 
 pub loop-index-preserved : goal.loop-index-preserved
 loop-index-preserved g c =
@@ -39,13 +37,11 @@ loop-index-preserved g c =
     let es = c.args.extensions.now in
     let i = c.loop-index.index in
     let e : ExtensionParts = c.index-extensions-index.result in
-    let count : c.subtag_count-place.result ≡ length (spell_extension e) = c.subtag_count-place.ensures in
-    let more = flat_more spell_extension es i e c.loop-index-test.true c.index-extensions-index.is in
     let none = subst (λ o. Changes (ExtensionLeads R c.loop-index.place e c.args.step) o) c.in_default.is c.in_ok-changed.ensures in
     let here : (f : ExtensionParts) → LeadsAt R c.args.start es c.args.step i f → ⊥ = λ f l.
     none f (subst (λ n. ExtensionLeads R n e c.args.step f) (sym c.loop-index.invariant.here)
     (subst (λ (x : ExtensionParts). ExtensionLeads R (c.args.start + length (spell_extensions (take i es)) + 1) x c.args.step f) (sym c.index-extensions-index.is) (l e))) in
     record {
-      here = omega (arith, more, count, c.loop-index.invariant.here);
+      here = omega (arith, flat_more spell_extension es i e c.loop-index-test.true c.index-extensions-index.is, c.subtag_count-place.ensures, c.loop-index.invariant.here);
       elsewhere = λ k f h l. below_more (λ k. (f : ExtensionParts) → LeadsAt R c.args.start es c.args.step k f → ⊥) i (λ k h f l. c.loop-index.invariant.elsewhere k f h l) here k h f l;
     }

@@ -4,7 +4,7 @@ use Rattle.lt_tag.specs.contracts.parts.TParts.{the_view}
 use Rattle.lt_rewrite.specs.Rewriting.{IsNormalForm}
 use Rattle.lt_rewrite.specs.Orderings.{ListStep}
 use Rattle.lt_rewrite.specs.Extensions.{separator_cmp, TransformStep}
-use Rattle.lt_rewrite.proofs.ExtensionSettled.{SourceSettles, transform_settles, transform_kept, transform_no_more}
+use Rattle.lt_rewrite.proofs.ExtensionLaws.{SourceSettles, transform_settles, transform_kept, transform_no_more}
 use Rattle.lt_rewrite.proofs.extension_settling.settle_transform.Goals as goal
 use Rattle.lt_rewrite.proofs.extension_settling.settle_transform.Goals.{in-Some, in_default}
 

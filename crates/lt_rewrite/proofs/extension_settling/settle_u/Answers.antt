@@ -6,16 +6,15 @@ use Rattle.lt_rewrite.specs.Rewriting.{IsNormalForm}
 use Rattle.lt_rewrite.specs.Orderings.{ListStep}
 use Rattle.lt_rewrite.specs.Extensions.{text_cmp, key_cmp}
 use Rattle.lt_rewrite.specs.ExtensionSettling.{untrue}
-use Rattle.lt_rewrite.proofs.ExtensionSettled.{unicode_settles, unicode_kept, unicode_no_more}
+use Rattle.lt_rewrite.proofs.ExtensionLaws.{unicode_settles, unicode_kept, unicode_no_more}
 use Rattle.lt_rewrite.proofs.extension_settling.settle_u.Goals as goal
 
 pub loop-keyword-preserved : goal.loop-keyword-preserved
 loop-keyword-preserved c =
-    let xs : List KeywordParts = c.deref_mut-keyword-items.result.now in
     let ys : List KeywordParts = c.loop-keyword.keyword-items in
     let k : KeywordParts = c.keyword-item.result in
     ap (set ys c.loop-keyword.keyword-index) (c.drop_true.ensures ∙ ap untrue (sym c.keyword-item.is))
-    ∙ map_over_more untrue xs ys c.loop-keyword.keyword-index k (omega (arith, c.loop-keyword-test.true, c.loop-keyword.auto.keyword-items)) c.loop-keyword.invariant c.keyword-item.is
+    ∙ map_over_more untrue c.deref_mut-keyword-items.result.now ys c.loop-keyword.keyword-index k (omega (arith, c.loop-keyword-test.true, c.loop-keyword.auto.keyword-items)) c.loop-keyword.invariant c.keyword-item.is
 
 all_of : (xs ys : List KeywordParts) (i : ℕ) → length xs ≤ i → ys ≡ map untrue (take i xs) ++ drop i xs → ys ≡ map untrue xs
 all_of xs ys i h e = e ∙ ap (λ zs. map untrue (take i xs) ++ zs) (drop_all i xs h) ∙ append-nil (map untrue (take i xs)) ∙ ap (map untrue) (take_all i xs h)

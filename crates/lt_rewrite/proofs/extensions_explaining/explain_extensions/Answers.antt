@@ -1,4 +1,4 @@
-use Rattle.std.proofs.Common.{ℕ, ◌+◌, ◌≤◌, List, Option, length, sym, subst}
+use Rattle.std.proofs.Common.{ℕ, ◌+◌, ◌≤◌, List, Option, length, sym, subst, rules}
 use Rattle.std.specs.List.{AllByRecursion}
 use Rattle.lt_tag.specs.Parts.{ExtensionParts}
 use Rattle.lt_tag.specs.Spelling.{spell_extensions}
@@ -6,8 +6,8 @@ use Rattle.lt_tag.specs.Extensions.{unicode}
 use Rattle.lt_registry.specs.Parts.{EntryParts}
 use Rattle.lt_rewrite.specs.ExtensionsExplaining.{Explains}
 use Rattle.lt_rewrite.specs.declared.steps.Step.{Step}
-use Rattle.lt_rewrite.proofs.ExtensionsSettled.{settled_within}
-use Rattle.lt_rewrite.proofs.ExtensionsExplained.{HasForm, IsKept, Swapped, swapped, settles_of, UPlaced, after_u, TPlaced, after_t}
+use Rattle.lt_rewrite.proofs.ExtensionLaws.{settled_within}
+use Rattle.lt_rewrite.proofs.ExtensionRuns.{HasForm, IsKept, Swapped, swapped, settles_of, UPlaced, after_u, TPlaced, after_t}
 use Rattle.lt_rewrite.proofs.extensions_explaining.explain_extensions.Goals as goal
 
 pub explained_unicode-requires : goal.explained_unicode-requires
@@ -27,8 +27,8 @@ put_back-requires g c =
     let h = subst (λ l. Explains R unicode c.args.start l u c.explain_swaps.new.steps.items c.explained_unicode.new.steps.items) c.deref.ensures.value (c.in_ok-unicode.ensures R) in
     settled_within R unicode fs u (settles_of R unicode c.args.start fs u c.explain_swaps.new.steps.items c.explained_unicode.new.steps.items h)
 
-pub explained_transform-requires-clause-few : goal.explained_transform-requires-clause-few
-explained_transform-requires-clause-few g c =
+pub explained_transform-requires : goal.explained_transform-requires
+explained_transform-requires g c =
     let R : List EntryParts = g.L.Lookup.listed c.args.table.now in
     let start : ℕ = c.args.start in
     let es : List ExtensionParts = c.args.extensions.items in
@@ -37,28 +37,17 @@ explained_transform-requires-clause-few g c =
     let new : List Step = c.explain_swaps.new.steps.items in
     let newer : List Step = c.explained_unicode.new.steps.items in
     let u : Option (ℕ × ExtensionParts) = c.in_ok-unicode.unicode in
-    let k : IsKept start es = record { singletons = c.requires.singletons; transforms = c.requires.transforms; few = c.requires.few } in
+    let k : IsKept start es = search rules in
     let s : Swapped R start es fs old new = swapped R start es fs old new k c.in_ok-explain_swaps.ensures.adds c.in_ok-explain_swaps.ensures.at_rest in
     let p : UPlaced R start es c.put_back.new.extensions.items old newer = after_u R start es fs c.deref.result.now c.put_back.new.extensions.items u old new newer s c.deref.ensures.value (c.in_ok-unicode.ensures R) c.put_back.ensures in
-    subst (λ (l : List ExtensionParts). start + length (spell_extensions l) ≤ 1100000) (sym c.deref-2.ensures.value) p.kept.few
+    record {
+      chains = search rules;
+      transforms = subst (AllByRecursion HasForm) (sym c.deref-2.ensures.value) p.kept.transforms;
+      few = subst (λ (l : List ExtensionParts). start + length (spell_extensions l) ≤ 1100000) (sym c.deref-2.ensures.value) p.kept.few;
+    }
 
-pub explained_transform-requires-clause-transforms : goal.explained_transform-requires-clause-transforms
-explained_transform-requires-clause-transforms g c =
-    let R : List EntryParts = g.L.Lookup.listed c.args.table.now in
-    let start : ℕ = c.args.start in
-    let es : List ExtensionParts = c.args.extensions.items in
-    let fs : List ExtensionParts = c.explain_swaps.new.parts.items in
-    let old : List Step = c.args.steps.items in
-    let new : List Step = c.explain_swaps.new.steps.items in
-    let newer : List Step = c.explained_unicode.new.steps.items in
-    let u : Option (ℕ × ExtensionParts) = c.in_ok-unicode.unicode in
-    let k : IsKept start es = record { singletons = c.requires.singletons; transforms = c.requires.transforms; few = c.requires.few } in
-    let s : Swapped R start es fs old new = swapped R start es fs old new k c.in_ok-explain_swaps.ensures.adds c.in_ok-explain_swaps.ensures.at_rest in
-    let p : UPlaced R start es c.put_back.new.extensions.items old newer = after_u R start es fs c.deref.result.now c.put_back.new.extensions.items u old new newer s c.deref.ensures.value (c.in_ok-unicode.ensures R) c.put_back.ensures in
-    subst (AllByRecursion HasForm) (sym c.deref-2.ensures.value) p.kept.transforms
-
-pub returns-clause-adds : goal.returns-clause-adds
-returns-clause-adds g c =
+pub returns : goal.returns
+returns g c =
     let R : List EntryParts = g.L.Lookup.listed c.args.table.now in
     let start : ℕ = c.args.start in
     let es : List ExtensionParts = c.args.extensions.items in
@@ -73,22 +62,4 @@ returns-clause-adds g c =
     let s : Swapped R start es fs old new = swapped R start es fs old new k c.in_ok-explain_swaps.ensures.adds c.in_ok-explain_swaps.ensures.at_rest in
     let p : UPlaced R start es gs old newer = after_u R start es fs c.deref.result.now gs c.in_ok-unicode.unicode old new newer s c.deref.ensures.value (c.in_ok-unicode.ensures R) c.put_back.ensures in
     let t : TPlaced R start es hs old last = after_t R start es gs c.deref-2.result.now hs c.in_ok-transform.transform old newer last p c.deref-2.ensures.value c.in_ok-transform.ensures c.put_back-2.ensures in
-    t.adds
-
-pub returns-clause-at_rest : goal.returns-clause-at_rest
-returns-clause-at_rest g c =
-    let R : List EntryParts = g.L.Lookup.listed c.args.table.now in
-    let start : ℕ = c.args.start in
-    let es : List ExtensionParts = c.args.extensions.items in
-    let fs : List ExtensionParts = c.explain_swaps.new.parts.items in
-    let gs : List ExtensionParts = c.put_back.new.extensions.items in
-    let hs : List ExtensionParts = c.put_back-2.new.extensions.items in
-    let old : List Step = c.args.steps.items in
-    let new : List Step = c.explain_swaps.new.steps.items in
-    let newer : List Step = c.explained_unicode.new.steps.items in
-    let last : List Step = c.explained_transform.new.steps.items in
-    let k : IsKept start es = record { singletons = c.requires.singletons; transforms = c.requires.transforms; few = c.requires.few } in
-    let s : Swapped R start es fs old new = swapped R start es fs old new k c.in_ok-explain_swaps.ensures.adds c.in_ok-explain_swaps.ensures.at_rest in
-    let p : UPlaced R start es gs old newer = after_u R start es fs c.deref.result.now gs c.in_ok-unicode.unicode old new newer s c.deref.ensures.value (c.in_ok-unicode.ensures R) c.put_back.ensures in
-    let t : TPlaced R start es hs old last = after_t R start es gs c.deref-2.result.now hs c.in_ok-transform.transform old newer last p c.deref-2.ensures.value c.in_ok-transform.ensures c.put_back-2.ensures in
-    t.at_rest
+    record { adds = t.adds; at_rest = t.at_rest }

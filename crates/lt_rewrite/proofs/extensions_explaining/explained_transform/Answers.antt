@@ -1,22 +1,16 @@
-use Rattle.std.proofs.Common.{ℕ, ◌+◌, List, refl, sym, ◌∙◌, subst, arith}
+use Rattle.std.proofs.Common.{ℕ, ◌+◌, List, refl, sym, ◌∙◌, subst}
 use Rattle.lt_tag.specs.Parts.{ExtensionParts, TForm}
 use Rattle.lt_tag.specs.Extensions.{transform}
 use Rattle.lt_rewrite.specs.Applying.{TransformLeads}
 use Rattle.lt_rewrite.specs.Runs.{NoneLeads, AddsOnTransform}
 use Rattle.lt_rewrite.specs.ExtensionsExplaining.{ExplainsAt}
 use Rattle.lt_rewrite.specs.declared.steps.Step.{Step}
-use Rattle.lt_rewrite.proofs.ExtensionsSettled.{none_there, FoundAt, found_there, transform_form}
-use Rattle.lt_rewrite.proofs.ExtensionsExplained.{few_before, t_few, t_explained}
+use Rattle.lt_rewrite.proofs.ExtensionLaws.{none_there, FoundAt, found_there, form_of_transform as transform_form}
+use Rattle.lt_rewrite.proofs.ExtensionRuns.{t_few, t_explained}
 use Rattle.lt_rewrite.proofs.extensions_explaining.explained_transform.Goals as goal
 
 pub returns-in_default : goal.returns-in_default
 returns-in_default g c = (none_there c.args.extensions.now transform (sym c.place_of.ensures ∙ c.in_default.is), refl)
-
-pub overflow_add-place : goal.overflow_add-place
-overflow_add-place g c = omega (arith, few_before c.in-Some.index c.args.extensions.now, c.subtags_before.ensures, c.requires.few)
-
-pub overflow_add-place-2 : goal.overflow_add-place-2
-overflow_add-place-2 g c = omega (arith, few_before c.in-Some.index c.args.extensions.now, c.subtags_before.ensures, c.requires.few)
 
 pub split_t-requires : goal.split_t-requires
 split_t-requires g c = (found_there c.args.extensions.now transform c.in-Some.index c.index-extensions-index.result (sym c.place_of.ensures ∙ c.in-Some.is) c.index-extensions-index.is).of_singleton
@@ -28,9 +22,6 @@ unreachable-requires g c =
     let parts = transform_form c.args.extensions.now c.in-Some.index e found c.index-extensions-index.is c.requires.transforms in
     let fault = rw c.in-Err-BadTransform.field-0-is at c.in-Err-BadTransform.ensures.fault in
     fault parts.0 parts.1
-
-pub explain_t-requires-clause-few : goal.explain_t-requires-clause-few
-explain_t-requires-clause-few g c = omega (arith, few_before c.in-Some.index c.args.extensions.now, c.subtags_before.ensures, c.requires.few, c.in-Ok.ensures.few)
 
 pub join_t-requires-clause-few : goal.join_t-requires-clause-few
 join_t-requires-clause-few g c =

@@ -1,28 +1,19 @@
-use Rattle.std.proofs.Common.{ℕ, ◌+◌, List, refl, sym, ◌∙◌, subst, arith}
+use Rattle.std.proofs.Common.{ℕ, ◌+◌, List, refl, sym, ◌∙◌, subst}
 use Rattle.lt_tag.specs.Parts.{ExtensionParts, UForm}
 use Rattle.lt_tag.specs.Extensions.{unicode}
 use Rattle.lt_rewrite.specs.Applying.{UnicodeLeads}
 use Rattle.lt_rewrite.specs.Runs.{NoneLeads, AddsOnUnicode}
 use Rattle.lt_rewrite.specs.ExtensionsExplaining.{ExplainsAt}
 use Rattle.lt_rewrite.specs.declared.steps.Step.{Step}
-use Rattle.lt_rewrite.proofs.ExtensionsSettled.{none_there, FoundAt, found_there}
-use Rattle.lt_rewrite.proofs.ExtensionsExplained.{few_before, u_few, u_explained}
+use Rattle.lt_rewrite.proofs.ExtensionLaws.{none_there, found_there}
+use Rattle.lt_rewrite.proofs.ExtensionRuns.{u_few, u_explained}
 use Rattle.lt_rewrite.proofs.extensions_explaining.explained_unicode.Goals as goal
 
 pub returns-in_default : goal.returns-in_default
 returns-in_default c = λ R. (none_there c.args.extensions.now unicode (sym c.place_of.ensures ∙ c.in_default.is), refl)
 
-pub overflow_add-place : goal.overflow_add-place
-overflow_add-place c = omega (arith, few_before c.in-Some.index c.args.extensions.now, c.subtags_before.ensures, c.requires.few)
-
-pub overflow_add-place-2 : goal.overflow_add-place-2
-overflow_add-place-2 c = omega (arith, few_before c.in-Some.index c.args.extensions.now, c.subtags_before.ensures, c.requires.few)
-
 pub split_u-requires : goal.split_u-requires
 split_u-requires c = (found_there c.args.extensions.now unicode c.in-Some.index c.index-extensions-index.result (sym c.place_of.ensures ∙ c.in-Some.is) c.index-extensions-index.is).of_singleton
-
-pub explain_u-requires : goal.explain_u-requires
-explain_u-requires c = record { few = omega (arith, few_before c.in-Some.index c.args.extensions.now, c.subtags_before.ensures, c.requires.few, c.in_ok-parts.ensures.few) }
 
 pub join_u-requires-clause-few : goal.join_u-requires-clause-few
 join_u-requires-clause-few c =
@@ -37,8 +28,7 @@ returns c = λ R.
     let q : UForm = c.explain_u.new.parts in
     let old : List Step = c.args.steps.now.items in
     let new : List Step = c.explain_u.new.steps.items in
-    let found : FoundAt unicode es i e = found_there es unicode i e (sym c.place_of.ensures ∙ c.in-Some.is) c.index-extensions-index.is in
     let adds = subst (λ n. AddsOnUnicode (c.args.start + n + 1) p q old new) c.subtags_before.ensures c.in_ok-explain_u.ensures.adds in
     let none = subst (λ n. NoneLeads (UnicodeLeads (c.args.start + n + 1) q)) c.subtags_before.ensures c.in_ok-explain_u.ensures.at_rest in
     subst (λ f. ExplainsAt R unicode c.args.start es i f old new) (sym c.in_ok-join_u.ensures)
-    (u_explained R c.args.start es i e p q old new found c.index-extensions-index.is c.in_ok-parts.ensures.parts adds none)
+    (u_explained R c.args.start es i e p q old new (found_there es unicode i e (sym c.place_of.ensures ∙ c.in-Some.is) c.index-extensions-index.is) c.index-extensions-index.is c.in_ok-parts.ensures.parts adds none)

@@ -5,7 +5,7 @@ use Rattle.lt_rewrite.specs.Rewriting.{IsNormalForm}
 use Rattle.lt_rewrite.specs.Orderings.{ListStep}
 use Rattle.lt_rewrite.specs.Extensions.{singleton_cmp}
 use Rattle.lt_rewrite.specs.ExtensionsSettling.{Settles, placed}
-use Rattle.lt_rewrite.proofs.ExtensionsSettled.{extensions_settle, settled_within}
+use Rattle.lt_rewrite.proofs.ExtensionLaws.{extensions_settle, settled_within}
 use Rattle.lt_rewrite.proofs.extensions_settling.settle_all.Goals as goal
 
 pub put_back-requires : goal.put_back-requires

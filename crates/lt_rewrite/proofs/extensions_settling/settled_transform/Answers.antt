@@ -3,7 +3,7 @@ use Rattle.lt_tag.specs.Parts.{ExtensionParts}
 use Rattle.lt_tag.specs.Extensions.{transform}
 use Rattle.lt_rewrite.specs.Rewriting.{IsNormalForm}
 use Rattle.lt_rewrite.specs.Extensions.{ExtensionStep}
-use Rattle.lt_rewrite.proofs.ExtensionsSettled.{transform_settled, none_there, FoundAt, found_there, transform_form}
+use Rattle.lt_rewrite.proofs.ExtensionLaws.{transform_settled, none_there, FoundAt, found_there, form_of_transform as transform_form}
 use Rattle.lt_rewrite.proofs.extensions_settling.settled_transform.Goals as goal
 
 pub returns-in_default : goal.returns-in_default

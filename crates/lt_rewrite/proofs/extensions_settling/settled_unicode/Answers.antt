@@ -3,7 +3,7 @@ use Rattle.lt_tag.specs.Parts.{ExtensionParts}
 use Rattle.lt_tag.specs.Extensions.{unicode}
 use Rattle.lt_rewrite.specs.Rewriting.{IsNormalForm}
 use Rattle.lt_rewrite.specs.Extensions.{ExtensionStep}
-use Rattle.lt_rewrite.proofs.ExtensionsSettled.{unicode_settled, none_there, FoundAt, found_there}
+use Rattle.lt_rewrite.proofs.ExtensionLaws.{unicode_settled, none_there, FoundAt, found_there}
 use Rattle.lt_rewrite.proofs.extensions_settling.settled_unicode.Goals as goal
 
 pub returns-in_default : goal.returns-in_default

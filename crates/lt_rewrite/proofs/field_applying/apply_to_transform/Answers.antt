@@ -2,7 +2,7 @@ use Rattle.std.proofs.Common.{Bool, Some, sym, ap, subst}
 use Rattle.lt_tag.specs.Parts.{TForm}
 use Rattle.lt_tag.specs.contracts.parts.TParts.{the_view}
 use Rattle.lt_rewrite.specs.Applying.{Answers, TransformLeads}
-use Rattle.lt_rewrite.proofs.TransformLeading.{source_answers, no_source}
+use Rattle.lt_rewrite.proofs.TagLeading.{source_answers, no_source}
 use Rattle.lt_rewrite.proofs.field_applying.apply_to_transform.Goals as goal
 use Rattle.lt_rewrite.proofs.field_applying.apply_to_transform.Goals.{in-Some, in-None}
 

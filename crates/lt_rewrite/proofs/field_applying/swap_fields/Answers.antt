@@ -3,7 +3,7 @@ use Rattle.lt_tag.specs.Parts.{TForm}
 use Rattle.lt_tag.specs.Extensions.{spell_field}
 use Rattle.lt_rewrite.specs.Extensions.{separator_cmp}
 use Rattle.lt_rewrite.specs.Applying.{Answers, SwapLeads, TransformLeads}
-use Rattle.lt_rewrite.proofs.TransformLeading.{fields_numbered, fields_answers}
+use Rattle.lt_rewrite.proofs.TagLeading.{fields_numbered, fields_answers}
 use Rattle.lt_rewrite.proofs.field_applying.swap_fields.Goals as goal
 
 pub returns-then-step-ne0 : goal.returns-then-step-ne0

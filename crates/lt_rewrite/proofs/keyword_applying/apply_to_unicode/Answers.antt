@@ -4,15 +4,13 @@ use Rattle.lt_tag.specs.Parts.{UForm}
 use Rattle.lt_tag.specs.Extensions.{spell_keyword, spell_u}
 use Rattle.lt_rewrite.specs.Extensions.{key_cmp}
 use Rattle.lt_rewrite.specs.Applying.{Answers, SwapLeads, DropLeads, TrueLeads, UnicodeLeads}
-use Rattle.lt_rewrite.proofs.PartCounts.{attributes_count}
-use Rattle.lt_rewrite.proofs.UnicodeLeading.{swaps_attributes_answers, drops_attribute_answers, swaps_keywords_answers, drops_keyword_answers, drops_true_answers}
+use Rattle.lt_rewrite.proofs.ExtensionLaws.{attributes_count}
+use Rattle.lt_rewrite.proofs.TagLeading.{swaps_attributes_answers, drops_attribute_answers, swaps_keywords_answers, drops_keyword_answers, drops_true_answers}
 use Rattle.lt_rewrite.proofs.keyword_applying.apply_to_unicode.Goals as goal
 
 few : (start : ℕ) (p : UForm) (as' : List (List ℕ)) → as' ≡ p.attributes → start + 1 + length (spell_u p) < 2 ^ 32 → start + length (flat_map (λ a. a ∷ []) as') < 2 ^ 32
 few start p as' e h =
-    let n = attributes_count as' in
-    let m = length-append p.attributes (flat_map spell_keyword p.keywords) in
-    omega (arith, h, n, m, ap length e)
+    omega (arith, h, attributes_count as', length-append p.attributes (flat_map spell_keyword p.keywords), ap length e)
 
 pub swap_at-requires : goal.swap_at-requires
 swap_at-requires c = few c.args.start c.args.parts.now c.parts.inside.attributes.items (ap (λ (u : UForm). u.attributes) c.parts.view_is) c.requires

@@ -1,9 +1,9 @@
-use Rattle.std.proofs.Common.{◌≡◌, ◌<◌, ◌+◌, ℕ, [], length, set, sym, ap, ◌∙◌, subst}
+use Rattle.std.proofs.Common.{◌<◌, ◌+◌, ℕ, [], length, set, sym, ap, ◌∙◌, subst}
 use Rattle.std.proofs.lemmas.List.{get_or_read}
 use Rattle.lt_tag.specs.Parts.{KeywordParts}
 use Rattle.lt_tag.specs.Extensions.{spell_keyword}
 use Rattle.lt_rewrite.specs.Applying.{IsPlaceOf, TrueLeads}
-use Rattle.lt_rewrite.proofs.UnicodeLeading.{true_nowhere, true_other, true_led}
+use Rattle.lt_rewrite.proofs.TagLeading.{true_nowhere, true_other, true_led}
 use Rattle.lt_rewrite.proofs.keyword_applying.drop_true_at.Goals as goal
 
 pub returns-in_default : goal.returns-in_default
@@ -21,9 +21,7 @@ returns c =
     let ks = c.args.keywords.now.items in
     let i = c.in-Some.index in
     let k : KeywordParts = c.index.result.now in
-    let m : KeywordParts = c.index_mut.result.now in
     let at = subst (λ xs. (i < length xs) × IsPlaceOf spell_keyword (c.args.start + 1) xs i c.args.place) c.deref.ensures.value c.in-Some.ensures in
-    let same : m ≡ k = get_or_read ks i m at.0 c.index_mut.ensures.value k ∙ sym c.index.ensures in
     subst (λ (l : KeywordParts). TrueLeads c.args.start c.args.place ks (set ks i l))
-    (sym (c.drop_types.ensures ∙ ap (λ (l : KeywordParts). record l { types = [] }) same))
+    (sym (c.drop_types.ensures ∙ ap (λ (l : KeywordParts). record l { types = [] }) (get_or_read ks i c.index_mut.result.now at.0 c.index_mut.ensures.value k ∙ sym c.index.ensures)))
     (true_led c.args.start c.args.place ks i k at.0 at.1 c.index.ensures c.if-not-has_sole_true.ensures)

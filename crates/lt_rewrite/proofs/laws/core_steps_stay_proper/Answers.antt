@@ -1,4 +1,4 @@
-use Rattle.lt_rewrite.proofs.Proper.{steps_keep_proper, proper_spells_none}
+use Rattle.lt_rewrite.proofs.CoreLaws.{steps_keep_proper, proper_spells_none}
 use Rattle.lt_rewrite.proofs.ProperTags.{steps_keep_tags_proper}
 use Rattle.lt_rewrite.proofs.laws.core_steps_stay_proper.Goals as goal
 

@@ -1,4 +1,4 @@
-use Rattle.lt_rewrite.proofs.OneStep.{steps_determined}
+use Rattle.lt_rewrite.proofs.TagLeading.{steps_determined}
 use Rattle.lt_rewrite.proofs.laws.steps_are_determined.Goals as goal
 
 pub returns : goal.returns

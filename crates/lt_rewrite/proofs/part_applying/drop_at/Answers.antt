@@ -1,6 +1,6 @@
 use Rattle.std.proofs.Common.{◌<◌, ℕ, length, subst}
 use Rattle.lt_rewrite.specs.Applying.{IsPlaceOf, HasLike}
-use Rattle.lt_rewrite.proofs.PartLeading.{drop_nowhere, drop_alone, drop_led}
+use Rattle.lt_rewrite.proofs.FirstSteps.{drop_nowhere, drop_alone, drop_led}
 use Rattle.lt_rewrite.proofs.part_applying.drop_at.Goals as goal
 
 pub returns-in_default : goal.returns-in_default

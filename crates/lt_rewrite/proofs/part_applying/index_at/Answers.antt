@@ -4,8 +4,6 @@ use Rattle.lt_rewrite.proofs.part_applying.index_at.Goals as goal
 
 pub overflow_add-here-in-loop-index : goal.overflow_add-here-in-loop-index
 overflow_add-here-in-loop-index g c =
-    let xs = c.args.parts.now in
-    let part = c.index-parts-index.result in
-    let few = length-flat_map-take g.P.Spelled.spell xs c.loop-index.index part (omega (arith, c.loop-index-test.true)) in
+    let few = length-flat_map-take g.P.Spelled.spell c.args.parts.now c.loop-index.index c.index-parts-index.result (omega (arith, c.loop-index-test.true)) in
     let same = ap (λ x. length (g.P.Spelled.spell x)) c.index-parts-index.is in
     omega (arith, few, same, c.subtag_count-here.ensures, c.loop-index.invariant.here, c.requires)

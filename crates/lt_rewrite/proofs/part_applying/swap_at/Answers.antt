@@ -1,6 +1,6 @@
 use Rattle.std.proofs.Common.{◌<◌, ℕ, length, sym, ◌∙◌, subst, arith}
 use Rattle.lt_rewrite.specs.Applying.{IsPlaceOf}
-use Rattle.lt_rewrite.proofs.PartLeading.{swap_nowhere, swap_last, swap_rising, swap_led}
+use Rattle.lt_rewrite.proofs.FirstSteps.{swap_nowhere, swap_last, swap_rising, swap_led}
 use Rattle.lt_rewrite.proofs.part_applying.swap_at.Goals as goal
 
 pub returns-in_default : goal.returns-in_default

@@ -1,7 +1,7 @@
-use Rattle.std.proofs.Common.{◌≡◌, ◌+◌, ◌*◌, ◌≤◌, ◌++◌, ℕ, List, length, take, drop, ap, sym, ◌∙◌, subst, arith}
+use Rattle.std.proofs.Common.{◌≡◌, ◌+◌, ◌*◌, ◌++◌, ℕ, List, length, take, drop, ap, sym, ◌∙◌, subst, arith}
 use Rattle.std.proofs.Math.Seq.{take-append_seam}
 use Rattle.lt_rewrite.specs.Shortcuts.{LeadOn}
-use Rattle.lt_rewrite.proofs.ShortWalks.{lead_less}
+use Rattle.lt_rewrite.proofs.ChainWalks.{lead_less}
 use Rattle.lt_rewrite.proofs.shortcuts.last_places.Goals as goal
 
 pub loop-steps-preserved : goal.loop-steps-preserved
@@ -22,5 +22,4 @@ loop-steps-preserved g c =
 pub returns : goal.returns
 returns g c =
     let R = g.L.Lookup.listed c.args.table.now in
-    let enough : length R ≤ c.loop-steps.steps = omega (arith, c.loop-steps-test.false, c.len.ensures, c.loop-steps.invariant.lead.one_each) in
-    lead_less R c.loop-steps.steps (length R) c.loop-steps.places.items enough c.loop-steps.invariant.lead
+    lead_less R c.loop-steps.steps (length R) c.loop-steps.places.items (omega (arith, c.loop-steps-test.false, c.len.ensures, c.loop-steps.invariant.lead.one_each)) c.loop-steps.invariant.lead

@@ -1,7 +1,7 @@
 use Rattle.std.proofs.Common.{◌≡◌, ◌<◌, ℕ, List, Some, length, set, slice_get, get_or, sym, subst, arith}
 use Rattle.std.proofs.lemmas.List.{length-set}
 use Rattle.std.proofs.lemmas.Option.{slice_get-get_or}
-use Rattle.lt_rewrite.proofs.ShortWalks.{each_set, one_doubled, all_doubled}
+use Rattle.lt_rewrite.proofs.ChainWalks.{each_set, one_doubled, all_doubled}
 use Rattle.lt_rewrite.proofs.shortcuts.lengthen.Goals as goal
 
 pub loop-index-preserved : goal.loop-index-preserved
@@ -10,8 +10,7 @@ loop-index-preserved c =
     let i : ℕ = c.loop-index.index in
     let j : ℕ = get_or places i 0 in
     let k : ℕ = get_or places j 0 in
-    let here : i < length places = omega arith in
-    let at : slice_get places i ≡ Some j = slice_get-get_or places i 0 here in
+    let at : slice_get places i ≡ Some j = slice_get-get_or places i 0 (omega arith) in
     let next : slice_get places j ≡ Some k = slice_get-get_or places j 0 (c.loop-index.invariant.within i j at) in
     record {
       within = subst (λ (n : ℕ). (m l : ℕ) → slice_get (set places i k) m ≡ Some l → l < n) (sym (length-set places i k)) (each_set (λ m l. l < length places) places i k (λ m l other. c.loop-index.invariant.within m l) (c.loop-index.invariant.within j k next));

@@ -4,8 +4,7 @@ use Rattle.std.proofs.lemmas.Option.{slice_get_within}
 use Rattle.lt_registry.specs.Parts.{EntryParts}
 use Rattle.lt_registry.specs.Entries.{entry}
 use Rattle.lt_rewrite.specs.ChainEnds.{following}
-use Rattle.lt_rewrite.proofs.CycleWalks.{next_by}
-use Rattle.lt_rewrite.proofs.ShortWalks.{entry_there, to_next, to_itself, none_after}
+use Rattle.lt_rewrite.proofs.ChainWalks.{next_by, entry_there, to_next, to_itself, none_after}
 use Rattle.lt_rewrite.proofs.shortcuts.next_place.Goals as goal
 
 pub returns-in_default-entry-clause-shortcut : goal.returns-in_default-entry-clause-shortcut
@@ -19,16 +18,14 @@ returns-in_default-entry-clause-shortcut g c =
 
 pub place_of-requires-clause-there : goal.place_of-requires-clause-there
 place_of-requires-clause-there g c =
-    let R = g.L.Lookup.listed c.args.table.now in
     let next : EntryParts = c.in-Some-entry.next.now in
     subst (λ (es : List EntryParts). Contains es next) (sym c.entries.ensures.value)
-    (entry_there R c.kind-2.result c.in-Some.value.now next (sym c.in-Some-entry.ensures))
+    (entry_there (g.L.Lookup.listed c.args.table.now) c.kind-2.result c.in-Some.value.now next (sym c.in-Some-entry.ensures))
 
 pub returns-in-Some-following-clause-within : goal.returns-in-Some-following-clause-within
 returns-in-Some-following-clause-within g c =
-    let R = g.L.Lookup.listed c.args.table.now in
     let place = c.place_of.result in
-    slice_get_within R place c.in-Some-entry.next.now (ap (λ es. slice_get es place) (sym c.entries.ensures.value) ∙ c.place_of.ensures)
+    slice_get_within (g.L.Lookup.listed c.args.table.now) place c.in-Some-entry.next.now (ap (λ es. slice_get es place) (sym c.entries.ensures.value) ∙ c.place_of.ensures)
 
 pub returns-in-Some-following-clause-shortcut : goal.returns-in-Some-following-clause-shortcut
 returns-in-Some-following-clause-shortcut g c =

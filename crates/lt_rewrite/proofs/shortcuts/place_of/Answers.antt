@@ -2,7 +2,7 @@ use Rattle.std.proofs.Common.{rules, length, ltb, refl, arith}
 use Rattle.std.proofs.lemmas.List.Sorted.{IsPartitionPoint-from_clause, IsPartitionedBy-ltb}
 use Rattle.std.proofs.lemmas.Option.{slice_get_read}
 use Rattle.lt_registry.specs.Parts.{EntryParts}
-use Rattle.lt_rewrite.proofs.Numbers.{not_falling, numbered_there, first_not_lower}
+use Rattle.lt_rewrite.proofs.ChainWalks.{not_falling, numbered_there, first_not_lower}
 use Rattle.lt_rewrite.proofs.shortcuts.place_of.Goals as goal
 
 pub returns-in-Some : goal.returns-in-Some
@@ -17,7 +17,6 @@ pub returns-in_default : goal.returns-in_default
 returns-in_default c =
     let R = c.args.entries.now in
     let number = c.args.entry.now.number in
-    let i = c.partition_point.result in
     let parted = IsPartitionedBy-ltb (λ (e : EntryParts). e.number) R number (not_falling R c.requires.rising) in
     let point = IsPartitionPoint-from_clause (λ (e : EntryParts). ltb e.number number) _ _ c.partition_point.ensures.partitioned parted (λ a r f k. search rules) in
-    first_not_lower R c.requires.rising i c.args.entry.now c.requires.there c.partition_point.ensures.bound point.0 point.1
+    first_not_lower R c.requires.rising c.partition_point.result c.args.entry.now c.requires.there c.partition_point.ensures.bound point.0 point.1

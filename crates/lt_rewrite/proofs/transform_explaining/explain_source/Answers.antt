@@ -3,7 +3,7 @@ use Rattle.std.proofs.lemmas.Result.{IfOk-weaker}
 use Rattle.lt_tag.specs.Parts.{CoreParts, TForm}
 use Rattle.lt_rewrite.specs.Applying.{CoreLeads}
 use Rattle.lt_rewrite.specs.Runs.{NoneLeads, AddsOnTransform}
-use Rattle.lt_rewrite.proofs.TransformFirst.{t_parts, source_explained}
+use Rattle.lt_rewrite.proofs.ExtensionRuns.{t_parts, source_explained}
 use Rattle.lt_rewrite.proofs.transform_explaining.explain_source.Goals as goal
 
 pub returns-clause-adds : goal.returns-clause-adds
@@ -20,8 +20,6 @@ returns-clause-adds g c =
 
 pub returns-clause-at_rest : goal.returns-clause-at_rest
 returns-clause-at_rest g c =
-    let R = g.L.Lookup.listed c.args.table.now in
-    let to : CoreParts = c.take_core_steps.new.core in
     IfOk-weaker c.take_core_steps.result _ _
-    (λ _ h d e. let same : to ≡ d = cc in subst (λ (x : CoreParts). NoneLeads (CoreLeads R c.args.start x)) same h)
+    (λ _ h d e. let same : c.take_core_steps.new.core ≡ d = cc in subst (λ (x : CoreParts). NoneLeads (CoreLeads (g.L.Lookup.listed c.args.table.now) c.args.start x)) same h)
     c.take_core_steps.ensures.at_rest

@@ -4,7 +4,7 @@ use Rattle.lt_tag.specs.Extensions.{spell_field}
 use Rattle.lt_rewrite.specs.Extensions.{separator_cmp}
 use Rattle.lt_rewrite.specs.Runs.{NoneLeads, SwapsBy, Adds, AddsOnTransform}
 use Rattle.lt_rewrite.specs.declared.steps.StepKind.TheVariants as steps
-use Rattle.lt_rewrite.proofs.TransformFirst.{IsSourceAtRest, t_parts, fields_explained, transform_explained, transform_rests, transform_run_shaped}
+use Rattle.lt_rewrite.proofs.ExtensionRuns.{IsSourceAtRest, t_parts, fields_explained, transform_explained, transform_rests, transform_run_shaped}
 use Rattle.lt_rewrite.proofs.transform_explaining.explain_t.Goals as goal
 use Rattle.lt_tag.specs.Splitting.{spell_source}
 

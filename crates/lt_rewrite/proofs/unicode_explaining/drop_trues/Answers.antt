@@ -4,7 +4,7 @@ use Rattle.lt_tag.specs.Parts.{KeywordParts}
 use Rattle.lt_tag.specs.Extensions.{spell_keyword}
 use Rattle.lt_rewrite.specs.declared.steps.Step.{Step}
 use Rattle.lt_rewrite.specs.declared.steps.StepKind.TheVariants as steps
-use Rattle.lt_rewrite.proofs.TrueRuns.{bare, bare_kept, bare_more, bare_all, bare_few, bare_same}
+use Rattle.lt_rewrite.proofs.ExtensionRuns.{bare, bare_kept, bare_more, bare_all, bare_few, bare_same}
 use Rattle.lt_rewrite.proofs.unicode_explaining.drop_trues.Goals as goal
 use Rattle.lt_rewrite.proofs.unicode_explaining.drop_trues.Goals.{then-has_sole_true+in_ok-push, else-has_sole_true}
 
@@ -37,9 +37,7 @@ loop-index-preserved c =
     let within : i < length ks = omega (arith, c.loop-index.invariant.count, c.loop-index-test.true, c.len-index-end.ensures) in
     elim c.if-has_sole_true.branch [
       | then-has_sole_true+in_ok-push w ↦
-          let m : KeywordParts = w.index_mut.result.now in
-          let same : m ≡ k = get_or_read ks i m within w.index_mut.ensures.value k ∙ sym c.index.ensures in
-          let now : ls ≡ set ks i (bare k) = ap (λ v. v.items) w.keywords-is ∙ ap (set ks i) (w.drop_types.ensures ∙ ap bare same) in
+          let now : ls ≡ set ks i (bare k) = ap (λ v. v.items) w.keywords-is ∙ ap (set ks i) (w.drop_types.ensures ∙ ap bare (get_or_read ks i w.index_mut.result.now within w.index_mut.ensures.value k ∙ sym c.index.ensures)) in
           let step : Step = record { kind = steps.DropTrue; place = here + 1; number = 0 } in
           let added = ap (λ v. v.items) w.steps-is ∙ w.in_ok-push.ensures.items in
           let count = set_count ks ls i (bare k) l c.subtag_count-here.result within now c.index-in-loop-index.ensures c.subtag_count-here.ensures in

@@ -6,40 +6,33 @@ use Rattle.lt_rewrite.specs.Extensions.{text_cmp, key_cmp}
 use Rattle.lt_rewrite.specs.Runs.{SwapsBy, DropsBy, Adds}
 use Rattle.lt_rewrite.specs.declared.steps.Step.{Step}
 use Rattle.lt_rewrite.specs.declared.steps.StepKind.TheVariants as steps
-use Rattle.lt_rewrite.proofs.PartCounts.{attributes_count}
-use Rattle.lt_rewrite.proofs.ListRests.{drops_few, swaps_few}
-use Rattle.lt_rewrite.proofs.UnicodeFirst.{one_subtag, u_parts}
-use Rattle.lt_rewrite.proofs.UnicodeRuns.{IsExplainedUnicode, unicode_explained, unicode_run_shaped}
+use Rattle.lt_rewrite.proofs.ExtensionLaws.{attributes_count}
+use Rattle.lt_rewrite.proofs.FirstSteps.{drops_few, swaps_few}
+use Rattle.lt_rewrite.proofs.TagLeading.{one_subtag, u_parts}
+use Rattle.lt_rewrite.proofs.ExtensionRuns.{IsExplainedUnicode, unicode_explained, unicode_run_shaped}
 use Rattle.lt_rewrite.proofs.unicode_explaining.explain_u.Goals as goal
 
 -- the subtags of the attributes and of the keywords are no more than all
 all_few : (start : ℕ) (p : UForm) (xs : List (List ℕ)) (ks : List KeywordParts) → u_parts xs ks ≡ p → start + length (spell_u p) ≤ 1200000 → start + length (flat_map one_subtag xs) + length (flat_map spell_keyword ks) ≤ 1200000
 all_few start p xs ks e h =
-    let n = attributes_count xs in
-    let m = length-append xs (flat_map spell_keyword ks) in
     let f = ap (λ u. length (spell_u u)) e in
-    omega (arith, h, n, m, f)
+    omega (arith, h, attributes_count xs, length-append xs (flat_map spell_keyword ks), f)
 
 pub explain_drops-requires : goal.explain_drops-requires
 explain_drops-requires c =
-    let few = all_few c.args.start c.args.parts.now c.parts.inside.attributes.items c.parts.inside.keywords.items c.parts.view_is c.requires.few in
-    omega (arith, few)
+    omega (arith, all_few c.args.start c.args.parts.now c.parts.inside.attributes.items c.parts.inside.keywords.items c.parts.view_is c.requires.few)
 
 pub explain_swaps-requires : goal.explain_swaps-requires
 explain_swaps-requires c =
-    let few = all_few c.args.start c.args.parts.now c.parts.inside.attributes.items c.parts.inside.keywords.items c.parts.view_is c.requires.few in
     let dropped = drops_few text_cmp one_subtag steps.DropAttribute c.args.start c.parts.inside.attributes.items c.explain_drops.new.parts.items c.args.steps.now.items c.explain_drops.new.steps.items c.in_ok-explain_drops.ensures.adds in
-    omega (arith, few, dropped)
+    omega (arith, all_few c.args.start c.args.parts.now c.parts.inside.attributes.items c.parts.inside.keywords.items c.parts.view_is c.requires.few, dropped)
 
 -- so are those before a part of the keywords, and of these
 module _ (start : ℕ) (p : UForm) (xs0 xs1 xs2 : List (List ℕ)) (ks0 : List KeywordParts) (s0 s1 s2 : List Step) (h : u_parts xs0 ks0 ≡ p) (few : start + length (spell_u p) ≤ 1200000) (dropped : Adds (DropsBy text_cmp one_subtag steps.DropAttribute start) (λ _ _. 0) xs0 xs1 s0 s1) (swapped : Adds (SwapsBy text_cmp one_subtag steps.SwapAttributes start) (λ _ _. 0) xs1 xs2 s1 s2) (count : ℕ) (len : count ≡ length xs2) where
   key_few : start + count + length (flat_map spell_keyword ks0) ≤ 1200000
   key_few =
-      let all = all_few start p xs0 ks0 h few in
-      let d = drops_few text_cmp one_subtag steps.DropAttribute start xs0 xs1 s0 s1 dropped in
-      let s = swaps_few text_cmp one_subtag steps.SwapAttributes start xs1 xs2 s1 s2 swapped in
       let n = attributes_count xs2 in
-      omega (arith, all, d, s, n, len)
+      omega (arith, all_few start p xs0 ks0 h few, drops_few text_cmp one_subtag steps.DropAttribute start xs0 xs1 s0 s1 dropped, swaps_few text_cmp one_subtag steps.SwapAttributes start xs1 xs2 s1 s2 swapped, n, len)
 
   key_few_dropped : (ks1 : List KeywordParts) (s3 : List Step) → Adds (DropsBy key_cmp spell_keyword steps.DropKeyword (start + count)) (λ _ _. 0) ks0 ks1 s2 s3 → start + count + length (flat_map spell_keyword ks1) ≤ 1200000
   key_few_dropped ks1 s3 a = omega (arith, key_few, drops_few key_cmp spell_keyword steps.DropKeyword (start + count) ks0 ks1 s2 s3 a)

@@ -1,22 +1,20 @@
-use Rattle.std.proofs.Common.{◌≡◌, ℕ, true, List, Option, Some, None, All, take, get_or, sym, ap, ◌∙◌, subst, true≢false, arith}
+use Rattle.std.proofs.Common.{◌≡◌, ℕ, true, List, Option, Some, None, All, get_or, sym, ap, ◌∙◌, subst, true≢false, arith}
 use Rattle.std.specs.Option.{option_copied}
-use Rattle.std.specs.List.{list_any}
 use Rattle.std.proofs.lemmas.List.{take_all}
 use Rattle.lt_rewrite.specs.CoreSteps.{values_of}
 use Rattle.lt_rewrite.specs.VariantLanguages.{ArePlaces}
-use Rattle.lt_rewrite.specs.VariantRows.{number, is_row}
-use Rattle.lt_rewrite.proofs.CoreSettled.{first_variant_language_at, none_more}
-use Rattle.lt_rewrite.proofs.FoundRows.{none_at, none_before}
-use Rattle.lt_rewrite.proofs.PlacedVariants.{placed_at}
+use Rattle.lt_rewrite.specs.VariantRows.{number, pair, has_pair}
+use Rattle.lt_rewrite.proofs.CoreLaws.{first_variant_language_at, none_more}
+use Rattle.lt_rewrite.proofs.FoundRows.{none_before, placed_at}
 use Rattle.lt_rewrite.proofs.variant_languages.first_variant_language_at.Goals as goal
 
 pub loop-index-init : goal.loop-index-init
 loop-index-init g c =
     let R = g.L.Lookup.listed c.args.table.now in
     let same : c.number_of-number.result ≡ number c.args.core.now.language = c.number_of-number.ensures.value ∙ ap number c.language.ensures.value in
-    none_before R c.args.core.now.language c.args.rows.now c.variants-variants.result.now c.args.places.now c.first_with_row-first.result c.requires.rows
+    none_before R c.args.core.now.language c.args.rows.now c.variants-variants.result.now c.args.places.now c.first_in_rows-first.result c.requires.rows
     (subst (λ vs. ArePlaces R vs c.args.places.now) (sym c.variants-variants.ensures.value) c.requires.places)
-    (λ k below h. true≢false (sym (c.rows_beside.ensures (get_or c.args.places.now k 0) (subst (λ n. list_any (is_row n (get_or c.args.places.now k 0)) c.args.rows.now ≡ true) (sym same) h)) ∙ none_at c.number_of-number.result (get_or c.args.places.now k 0) c.rows_beside.result.now (c.first_with_row-first.ensures k 0 (omega arith) below)))
+    (λ k below h. true≢false (sym (c.rows_beside.ensures (get_or c.args.places.now k 0) (subst (λ n. has_pair (pair n (get_or c.args.places.now k 0)) c.args.rows.now ≡ true) (sym same) h)) ∙ c.first_in_rows-first.ensures c.number_of-number.result k 0 (omega arith) below))
 
 pub variant_language_at-requires : goal.variant_language_at-requires
 variant_language_at-requires g c =
@@ -44,7 +42,5 @@ loop-index-preserved g c =
 
 pub returns-clause-variant_language : goal.returns-clause-variant_language
 returns-clause-variant_language g c =
-    let V = values_of (g.L.Lookup.listed c.args.table.now) in
-    let P : List ℕ → Type 0 = λ v. V.variant_language c.args.core.now.language v ≡ None in
-    let all : take c.loop-index.index c.variants-variants.result.now ≡ c.variants-variants.result.now = take_all c.loop-index.index c.variants-variants.result.now c.loop-index-test.false in
-    subst (All P) (all ∙ c.variants-variants.ensures.value) c.loop-index.invariant
+    let P : List ℕ → Type 0 = λ v. (values_of (g.L.Lookup.listed c.args.table.now)).variant_language c.args.core.now.language v ≡ None in
+    subst (All P) ((take_all c.loop-index.index c.variants-variants.result.now c.loop-index-test.false) ∙ c.variants-variants.ensures.value) c.loop-index.invariant

@@ -2,7 +2,7 @@ use Rattle.std.proofs.Common.{◌≡◌, true, sym, ap, ◌∙◌}
 use Rattle.std.specs.Option.{option_copied}
 use Rattle.lt_registry.specs.Entries.{has_value_form}
 use Rattle.lt_registry.specs.declared.entries.Kind.TheVariants as kinds
-use Rattle.lt_rewrite.proofs.ValueForms.{form_under, short_value_form}
+use Rattle.lt_rewrite.proofs.Forms.{form_under, short_value_form}
 use Rattle.lt_rewrite.proofs.variant_languages.variant_language_at.Goals as goal
 
 pub returns-in-Some-one_value-clause-form : goal.returns-in-Some-one_value-clause-form

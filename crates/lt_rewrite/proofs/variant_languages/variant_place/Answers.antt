@@ -3,7 +3,7 @@ use Rattle.std.specs.Option.{option_copied}
 use Rattle.std.proofs.lemmas.Option.{slice_get_past}
 use Rattle.lt_registry.specs.Parts.{EntryParts}
 use Rattle.lt_registry.specs.declared.entries.Kind.TheVariants as kinds
-use Rattle.lt_rewrite.proofs.ShortWalks.{entry_there}
+use Rattle.lt_rewrite.proofs.ChainWalks.{entry_there}
 use Rattle.lt_rewrite.proofs.variant_languages.variant_place.Goals as goal
 
 pub place_of-requires-clause-there : goal.place_of-requires-clause-there
@@ -13,6 +13,5 @@ place_of-requires-clause-there g c =
 
 pub returns-in-None : goal.returns-in-None
 returns-in-None g c =
-    let R = g.L.Lookup.listed c.args.table.now in
-    slice_get_past R (length c.entries-entries.result.now) (omega (arith, ap (λ (es : List EntryParts). length es) c.entries-entries.ensures.value))
+    slice_get_past (g.L.Lookup.listed c.args.table.now) (length c.entries-entries.result.now) (omega (arith, ap (λ (es : List EntryParts). length es) c.entries-entries.ensures.value))
     ∙ sym (ap option_copied c.in-None.is) ∙ c.entry.ensures

@@ -1,12 +1,11 @@
-use Rattle.std.proofs.Common.{◌≡◌, ◌<◌, List, Some, None, Contains, length, sym, ap, ◌∙◌, subst, arith}
+use Rattle.std.proofs.Common.{◌≡◌, List, Some, None, Contains, length, sym, ap, ◌∙◌, subst, arith}
 use Rattle.std.specs.Option.{option_copied}
 use Rattle.std.proofs.lemmas.Option.{slice_get_within}
 use Rattle.lt_registry.specs.Parts.{EntryParts}
 use Rattle.lt_rewrite.specs.Conditions.{next_value}
 use Rattle.lt_rewrite.specs.ChainEnds.{following}
 use Rattle.lt_rewrite.specs.Shortcuts.{IsOnward, ShortcutParts}
-use Rattle.lt_rewrite.proofs.CycleWalks.{next_by}
-use Rattle.lt_rewrite.proofs.ShortWalks.{entry_there, entry_next, onward_rest, onward_form, led_to, led_far, some_follows, none_follows}
+use Rattle.lt_rewrite.proofs.ChainWalks.{next_by, entry_there, entry_next, onward_rest, onward_form, led_to, led_far, some_follows, none_follows}
 use Rattle.lt_rewrite.proofs.shortcuts.Shortcuts.further.Goals as goal
 
 pub returns-in_default-clause-onward : goal.returns-in_default-clause-onward
@@ -25,16 +24,13 @@ returns-then-is_none-clause-onward g c =
 
 pub place_of-requires-clause-there : goal.place_of-requires-clause-there
 place_of-requires-clause-there g c =
-    let R = g.L.Lookup.listed c.args.table.now in
     subst (λ (es : List EntryParts). Contains es c.in-Some.entry.now) (sym c.entries-entries.ensures.value)
-    (entry_there R c.args.kind c.args.subtag.now c.in-Some.entry.now (sym c.in-Some.ensures))
+    (entry_there (g.L.Lookup.listed c.args.table.now) c.args.kind c.args.subtag.now c.in-Some.entry.now (sym c.in-Some.ensures))
 
 pub index-requires : goal.index-requires
 index-requires g c =
-    let es = c.entries-entries.result.now in
-    let here : c.place_of.result < length es = slice_get_within es c.place_of.result c.in-Some.entry.now c.place_of.ensures in
     let own = ap (λ (s : ShortcutParts). length s.places) c.self.view_is in
-    omega (arith, here, ap (λ (xs : List EntryParts). length xs) c.entries-entries.ensures.value, own, c.requires.chains.one_each)
+    omega (arith, slice_get_within c.entries-entries.result.now c.place_of.result c.in-Some.entry.now c.place_of.ensures, ap (λ (xs : List EntryParts). length xs) c.entries-entries.ensures.value, own, c.requires.chains.one_each)
 
 pub bounds-entries-index : goal.bounds-entries-index
 bounds-entries-index g c =
