@@ -2,11 +2,11 @@
 use Rattle.std.proofs.Common.{◌≡◌, ◌≢◌, ◌<◌, ◌+◌, ◌-◌, ◌++◌, ◌∷◌, ◌∙◌, ℕ, List, [], take, drop, length, sym, ap, arith, add-one, if◌then◌else◌, get_or, length-drop, suc, subst, refl}
 use Rattle.std.proofs.Math.Seq.{drop-cons, take-length}
 use Rattle.std.proofs.lemmas.Bool.{ne_eqb}
-use Rattle.std.proofs.lemmas.List.{take-append-drop}
+use Rattle.std.proofs.lemmas.List.{take-append-drop, take_all}
 use Rattle.std.proofs.lemmas.List.Elements.{All-head, All-tail}
 use Rattle.lt_jar.specs.Lines.{IsOneLine, begin_first, lines_of}
 
-abbrev IsNoEnd : ℕ → Type 0
+abbrev pub IsNoEnd : ℕ → Type 0
 IsNoEnd byte = byte ≢ 10
 
 begins : (byte : ℕ) (text : List ℕ) → byte ≢ 10 → lines_of (byte ∷ text) ≡ begin_first byte (lines_of text)
@@ -45,7 +45,5 @@ whole_line text i all one = subst IsOneLine (ap (λ n. take n text) all ∙ take
 -- the parts before and after the line feed at i
 pub split_at : (text : List ℕ) (i : ℕ) → i < length text → get_or text i 0 ≡ 10 → text ≡ take i text ++ 10 ∷ take (length text - (i + 1)) (drop (i + 1) text)
 split_at text i below end =
-    let next : drop (suc i) text ≡ drop (i + 1) text = ap (λ n. drop n text) (sym (add-one i)) in
-    let back : drop i text ≡ 10 ∷ drop (i + 1) text = drop-cons text i 0 below ∙ ap (λ b. b ∷ drop (suc i) text) end ∙ ap (λ l. 10 ∷ l) next in
-    let range : take (length text - (i + 1)) (drop (i + 1) text) ≡ drop (i + 1) text = ap (λ n. take n (drop (i + 1) text)) (sym (length-drop (i + 1) text)) ∙ take-length (drop (i + 1) text) in
-    sym (take-append-drop i text) ∙ ap (λ l. take i text ++ l) (back ∙ ap (λ l. 10 ∷ l) (sym range))
+    let back = drop-cons text i 0 below ∙ ap (λ b. b ∷ drop (suc i) text) end in
+    rw (take_all (length text - (i + 1)) (drop (i + 1) text) (omega (arith, length-drop (i + 1) text)), add-one) (sym (take-append-drop i text) ∙ ap (λ l. take i text ++ l) back)

@@ -1,15 +1,54 @@
--- The groups that the lines so far are, and what they make of the records.
-use Rattle.std.proofs.Common.{◌≡◌, ◌∙◌, ◌++◌, ◌∷◌, ℕ, List, [], Bool, true, false, Result, Ok, Err, refl, sym, ap, subst, append_assoc, append-nil, map, nat_lt, if◌then◌else◌}
+-- The groups that lines are, in one way, how a field of one grows, what they make of the records, and how many begin with them.
+use Rattle.std.proofs.Common.{◌≡◌, ◌∙◌, ◌++◌, ◌∷◌, ℕ, List, [], true, refl, sym, ap, append_assoc, append-nil, map, Bool, false, Result, Ok, nat_lt, ◌+◌, ◌&&◌, arith, length, length-append, MatchResult}
 use Rattle.std.specs.List.{filter, flat_map}
-use Rattle.std.proofs.lemmas.List.{map-append}
-use Rattle.std.proofs.lemmas.Grind.{flat_map-append}
+use Rattle.std.proofs.lemmas.List.{length-map, map-append}
+use Rattle.std.proofs.lemmas.Bool.{and_parts, cond_both}
 use Rattle.std.proofs.lemmas.List.Elements.{filter-append}
-use Rattle.lt_jar.specs.LineKinds.{Line, Blank, Separator, Continuation, Start, Bad}
+use Rattle.lt_jar.specs.LineKinds.{Continuation, Start, Line, Blank, Separator, Bad}
+use Rattle.lt_jar.specs.Records.{Field, Written, field_of, is_something, joined, lines_of_field, lines_of_group, has_field, is_shown, lines_of_ended, record_of, HasRecords, shown}
+use Rattle.lt_jar.specs.Reading.{lengthened, with_text, Going, GoesOn, Taken, finished, take_kind, with_taken}
+use Rattle.std.proofs.lemmas.Grind.{flat_map-append}
 use Rattle.lt_jar.specs.Limits.{most_records}
-use Rattle.lt_jar.specs.Records.{Field, Written, field_of, has_field, is_shown, lines_of_ended, lines_of_field, lines_of_group, record_of}
-use Rattle.lt_jar.specs.Faults.{Fault, TooManyRecords}
-use Rattle.lt_jar.specs.Reading.{Ends, Going, GoesOn, Taken, finished, start, take_kind, with_taken, with_text}
-use Rattle.lt_jar.proofs.BodyLemmas.{fields-continued, group_continued, joined_single, lines-continued}
+use Rattle.lt_jar.specs.Faults.{Fault, begun, is_inside}
+use Rattle.lt_jar.specs.Lines.{lines_of}
+
+-- a last text that is something
+joined_last : (first : List ℕ) (rest : List (List ℕ)) (text : List ℕ) → joined (first ∷ (rest ++ text ∷ [])) ≡ joined (first ∷ rest) ++ 32 ∷ text
+joined_last first [] text = refl
+joined_last first (next ∷ rest) text = ap (λ l. first ++ 32 ∷ l) (joined_last next rest text) ∙ sym (append_assoc first (32 ∷ joined (next ∷ rest)) (32 ∷ text))
+
+joined_single : (body : List ℕ) → joined (filter is_something (body ∷ [])) ≡ body
+joined_single [] = refl
+joined_single (byte ∷ body) = refl
+
+lengthened_some : (first : ℕ) (front : List ℕ) (rest : List (List ℕ)) (byte : ℕ) (text : List ℕ) → lengthened (joined ((first ∷ front) ∷ rest)) (byte ∷ text) ≡ joined ((first ∷ front) ∷ rest) ++ 32 ∷ (byte ∷ text)
+lengthened_some first front [] byte text = refl
+lengthened_some first front (next ∷ rest) byte text = refl
+
+joined_more_some : (texts : List (List ℕ)) (byte : ℕ) (text : List ℕ) → joined (filter is_something texts ++ (byte ∷ text) ∷ []) ≡ lengthened (joined (filter is_something texts)) (byte ∷ text)
+joined_more_some [] byte text = refl
+joined_more_some ([] ∷ texts) byte text = joined_more_some texts byte text
+joined_more_some ((first ∷ front) ∷ texts) byte text = joined_last (first ∷ front) (filter is_something texts) (byte ∷ text) ∙ sym (lengthened_some first front (filter is_something texts) byte text)
+
+-- one text more
+joined_more : (texts : List (List ℕ)) (text : List ℕ) → joined (filter is_something (texts ++ text ∷ [])) ≡ lengthened (joined (filter is_something texts)) text
+joined_more texts [] = ap joined (filter-append is_something texts ([] ∷ []) ∙ append-nil (filter is_something texts)) ∙ sym (joined_single (joined (filter is_something texts)))
+joined_more texts (byte ∷ text) = ap joined (filter-append is_something texts ((byte ∷ text) ∷ [])) ∙ joined_more_some texts byte text
+
+-- the last field of a group goes on
+abbrev group_continued : List ℕ → List Written → List Written
+group_continued text [] = []
+group_continued text (field ∷ []) = record { name = field.name; first = field.first; more = field.more ++ text ∷ [] } ∷ []
+group_continued text (field ∷ next ∷ group) = field ∷ group_continued text (next ∷ group)
+
+fields-continued : (text : List ℕ) (field : Written) (group : List Written) → map field_of (group_continued text (field ∷ group)) ≡ with_text text (map field_of (field ∷ group))
+fields-continued text field [] = ap (λ (body : List ℕ). let f : Field = (field.name, body) in f ∷ []) (joined_more (field.first ∷ field.more) text)
+fields-continued text field (next ∷ group) = ap (λ l. field_of field ∷ l) (fields-continued text next group)
+
+lines-continued : (text : List ℕ) (field : Written) (group : List Written) → lines_of_group (group_continued text (field ∷ group)) ≡ lines_of_group (field ∷ group) ++ Continuation text ∷ []
+lines-continued text field [] =
+    ap (λ l. (Start field.name field.first ∷ l) ++ []) (map-append Continuation field.more (text ∷ [])) ∙ append-nil _ ∙ ap (λ l. l ++ Continuation text ∷ []) (sym (append-nil (lines_of_field field)))
+lines-continued text field (next ∷ group) = rw (lines-continued text next group) (sym (append_assoc (lines_of_field field) (lines_of_group (next ∷ group)) (Continuation text ∷ [])))
 
 abbrev pub lines_of_groups : List (List Written) → List Written → List Line
 lines_of_groups ended last = flat_map lines_of_ended ended ++ lines_of_group last
@@ -29,104 +68,163 @@ pub record Leaves (lines : List Line) (going : Going) : Type 0 where
   pub going_is : going ≡ going_of ended last
 
 pub records_of-append : (groups more : List (List Written)) → records_of (groups ++ more) ≡ records_of groups ++ records_of more
-records_of-append groups more = ap (map record_of) (filter-append has_field groups more) ∙ map-append record_of (filter has_field groups) (filter has_field more)
+records_of-append groups more = simp (filter-append, map-append)
 
 pub finished-going_of : (ended : List (List Written)) (last : List Written) → finished (going_of ended last) ≡ records_of (ended ++ last ∷ [])
 finished-going_of ended [] = sym (records_of-append ended ([] ∷ []))
 finished-going_of ended (field ∷ last) = sym (records_of-append ended ((field ∷ last) ∷ []))
 
-ok_is : (x y : Taken) → (let r : Result Taken Fault = Ok x in r) ≡ Ok y → x ≡ y
-ok_is x y e = cc
+-- what a line leaves, if nothing is wrong with it
+abbrev pub Makes : List Line → Going → Result Taken Fault → Type 0
+Makes lines going said = MatchResult said (λ taken. Leaves lines (with_taken going taken)) (λ fault. Unit {0})
 
-not_ok : (fault : Fault) (y : Taken) → (let r : Result Taken Fault = Err fault in r) ≡ Ok y → ⊥
-not_ok fault y e = cc
+starts : (ended : List (List Written)) (last : List Written) (name body : List ℕ) → Makes (lines_of_groups ended last ++ Start name body ∷ []) (going_of ended last) (Ok (GoesOn (map field_of last ++ (name, body) ∷ [])))
+starts ended last name body =
+    let written : Written = record { name = name; first = body; more = [] } in
+    record { ended = ended; last = last ++ written ∷ []; lines_are = simp (append_assoc, flat_map-append); going_is = cc (map-append field_of last (written ∷ []), joined_single body) }
 
-if_ok : (b : Bool) (x y : Taken) (fault : Fault) → (if b then (let r : Result Taken Fault = Ok x in r) else Err fault) ≡ Ok y → x ≡ y
-if_ok true x y fault e = cc
-if_ok false x y fault e = absurd (not_ok fault y e)
-
--- a separator ends the last group
 lines-separated : (ended : List (List Written)) (last : List Written) → lines_of_groups ended last ++ Separator ∷ [] ≡ lines_of_groups (ended ++ last ∷ []) []
-lines-separated ended last =
-    append_assoc (flat_map lines_of_ended ended) (lines_of_group last) (Separator ∷ []) ∙ ap (λ l. flat_map lines_of_ended ended ++ l) (sym (append-nil (lines_of_ended last)))
-    ∙ sym (flat_map-append lines_of_ended ended (last ∷ [])) ∙ sym (append-nil (flat_map lines_of_ended (ended ++ last ∷ [])))
-
-separates : (ended : List (List Written)) (last : List Written) (taken : Taken) (n : ℕ) → take_kind n (map field_of last) Separator ≡ Ok taken
-    → Leaves (lines_of_groups ended last ++ Separator ∷ []) (with_taken (going_of ended last) taken)
-separates ended [] taken n said =
-    subst (λ t. Leaves (lines_of_groups ended [] ++ Separator ∷ []) (with_taken (going_of ended []) t)) (ok_is (GoesOn []) taken said) (record {
-      ended = ended ++ [] ∷ [];
-      last = [];
-      lines_are = lines-separated ended [];
-      going_is = ap (λ (r : List (List Field)). let g : Going = record { records = r; fields = [] } in g) (sym (records_of-append ended ([] ∷ []) ∙ append-nil (records_of ended)));
-    })
-separates ended (field ∷ last) taken n said =
-    let group = field ∷ last in
-    subst (λ t. Leaves (lines_of_groups ended group ++ Separator ∷ []) (with_taken (going_of ended group) t)) (ok_is (Ends (map field_of group)) taken said) (record {
-      ended = ended ++ group ∷ [];
-      last = [];
-      lines_are = lines-separated ended group;
-      going_is = ap (λ (r : List (List Field)). let g : Going = record { records = r; fields = [] } in g) (sym (records_of-append ended (group ∷ [])));
-    })
-
-continues : (ended : List (List Written)) (last : List Written) (text : List ℕ) (taken : Taken) (n : ℕ) → take_kind n (map field_of last) (Continuation text) ≡ Ok taken
-    → Leaves (lines_of_groups ended last ++ Continuation text ∷ []) (with_taken (going_of ended last) taken)
-continues ended [] text taken n said = absurd (not_ok _ taken said)
-continues ended (field ∷ last) text taken n said =
-    let group = field ∷ last in
-    subst (λ t. Leaves (lines_of_groups ended group ++ Continuation text ∷ []) (with_taken (going_of ended group) t)) (ok_is (GoesOn (with_text text (map field_of group))) taken said) (record {
-      ended = ended;
-      last = group_continued text group;
-      lines_are = append_assoc (flat_map lines_of_ended ended) (lines_of_group group) (Continuation text ∷ [])
-          ∙ ap (λ l. flat_map lines_of_ended ended ++ l) (sym (lines-continued text field last));
-      going_is = ap (λ (l : List Field). let g : Going = record { records = records_of ended; fields = l } in g) (sym (fields-continued text field last));
-    })
-
-abbrev written : List ℕ → List ℕ → Written
-written name body = record { name = name; first = body; more = [] }
-
-lines-started : (ended : List (List Written)) (last : List Written) (name body : List ℕ) → lines_of_groups ended last ++ Start name body ∷ [] ≡ lines_of_groups ended (last ++ written name body ∷ [])
-lines-started ended last name body =
-    append_assoc (flat_map lines_of_ended ended) (lines_of_group last) (Start name body ∷ [])
-    ∙ ap (λ l. flat_map lines_of_ended ended ++ l) (sym (flat_map-append lines_of_field last (written name body ∷ [])))
-
-fields-started : (last : List Written) (name body : List ℕ) → map field_of (last ++ written name body ∷ []) ≡ map field_of last ++ (name, body) ∷ []
-fields-started last name body =
-    map-append field_of last (written name body ∷ []) ∙ ap (λ (b : List ℕ). let f : Field = (name, b) in map field_of last ++ f ∷ []) (joined_single body)
-
-starts : (ended : List (List Written)) (last : List Written) (name body : List ℕ) (taken : Taken) (n : ℕ) → take_kind n (map field_of last) (Start name body) ≡ Ok taken
-    → Leaves (lines_of_groups ended last ++ Start name body ∷ []) (with_taken (going_of ended last) taken)
-starts ended last name body taken n said =
-    subst (λ t. Leaves (lines_of_groups ended last ++ Start name body ∷ []) (with_taken (going_of ended last) t)) (started_is last said) (record {
-      ended = ended;
-      last = last ++ written name body ∷ [];
-      lines_are = lines-started ended last name body;
-      going_is = ap (λ (l : List Field). let g : Going = record { records = records_of ended; fields = l } in g) (sym (fields-started last name body));
-    })
-  where
-    started_is : (l : List Written) → take_kind n (map field_of l) (Start name body) ≡ Ok taken → GoesOn (map field_of l ++ (name, body) ∷ []) ≡ taken
-    started_is [] e = if_ok (nat_lt n most_records) (GoesOn ((name, body) ∷ [])) taken TooManyRecords e
-    started_is (field ∷ l) e = ok_is _ taken e
+lines-separated ended last = simp (append_assoc, append-nil, flat_map-append)
 
 -- what lines and going are, taken apart
-after_kind : (ended : List (List Written)) (last : List Written) (kind : Line) (taken : Taken) (n : ℕ) → take_kind n (map field_of last) kind ≡ Ok taken
-    → Leaves (lines_of_groups ended last ++ filter is_shown (kind ∷ [])) (with_taken (going_of ended last) taken)
-after_kind ended last Blank taken n said =
-    subst (λ t. Leaves (lines_of_groups ended last ++ []) (with_taken (going_of ended last) t)) (ok_is (GoesOn (map field_of last)) taken said)
-    (record { ended = ended; last = last; lines_are = append-nil (lines_of_groups ended last); going_is = refl })
-after_kind ended last Separator taken n said = separates ended last taken n said
-after_kind ended last (Continuation text) taken n said = continues ended last text taken n said
-after_kind ended last (Start name body) taken n said = starts ended last name body taken n said
-after_kind ended last Bad taken n said = absurd (not_ok _ taken said)
+after_kind : (n : ℕ) (ended : List (List Written)) (last : List Written) (kind : Line) → Makes (lines_of_groups ended last ++ filter is_shown (kind ∷ [])) (going_of ended last) (take_kind n (map field_of last) kind)
+after_kind n ended last Blank = record { ended = ended; last = last; lines_are = append-nil (lines_of_groups ended last); going_is = refl }
+after_kind n ended [] Separator =
+    record { ended = ended ++ [] ∷ []; last = []; lines_are = lines-separated ended []; going_is = cc (records_of-append ended ([] ∷ []), append-nil (records_of ended)) }
+after_kind n ended (field ∷ last) Separator =
+    record { ended = ended ++ (field ∷ last) ∷ []; last = []; lines_are = lines-separated ended (field ∷ last); going_is = cc (records_of-append ended ((field ∷ last) ∷ [])) }
+after_kind n ended [] (Continuation text) = tt
+after_kind n ended (field ∷ last) (Continuation text) =
+    let lines = append_assoc (flat_map lines_of_ended ended) (lines_of_group (field ∷ last)) (Continuation text ∷ []) in
+    record { ended = ended; last = group_continued text (field ∷ last); lines_are = rw (lines-continued text field last) lines; going_is = cc (fields-continued text field last) }
+after_kind n ended [] (Start name body) = cond_both (nat_lt n most_records) _ _ (Makes (lines_of_groups ended [] ++ Start name body ∷ []) (going_of ended [])) (λ below. starts ended [] name body) (λ full. tt)
+after_kind n ended (field ∷ last) (Start name body) = starts ended (field ∷ last) name body
+after_kind n ended last Bad = tt
 
 -- a line more
-pub leaves_more : (lines : List Line) (going : Going) (kind : Line) (taken : Taken) (n : ℕ) → Leaves lines going → take_kind n going.fields kind ≡ Ok taken
-    → Leaves (lines ++ filter is_shown (kind ∷ [])) (with_taken going taken)
-leaves_more lines going kind taken n before said =
-    let said_of = ap (λ g. take_kind n g.fields kind) (sym before.going_is) ∙ said in
-    let after = after_kind before.ended before.last kind taken n said_of in
-    let lines_back = subst (λ l. Leaves (l ++ filter is_shown (kind ∷ [])) (with_taken (going_of before.ended before.last) taken)) (sym before.lines_are) after in
-    subst (λ g. Leaves (lines ++ filter is_shown (kind ∷ [])) (with_taken g taken)) (sym before.going_is) lines_back
+pub leaves_more : (lines : List Line) (going : Going) (kind : Line) (n : ℕ) → Leaves lines going → Makes (lines ++ filter is_shown (kind ∷ [])) going (take_kind n going.fields kind)
+leaves_more lines going kind n before = rw (before.lines_are, before.going_is) (after_kind n before.ended before.last kind)
 
-pub leaves_start : Leaves [] start
-leaves_start = record { ended = []; last = []; lines_are = refl; going_is = refl }
+pub begun-append : (inside : Bool) (xs ys : List Line) → begun inside (xs ++ ys) ≡ begun inside xs + begun (is_inside inside xs) ys
+begun-append inside [] ys = omega arith
+begun-append true (Blank ∷ xs) ys = begun-append true xs ys
+begun-append false (Blank ∷ xs) ys = begun-append false xs ys
+begun-append true (Separator ∷ xs) ys = begun-append false xs ys
+begun-append false (Separator ∷ xs) ys = begun-append false xs ys
+begun-append true (Continuation text ∷ xs) ys = begun-append true xs ys
+begun-append false (Continuation text ∷ xs) ys = begun-append false xs ys
+begun-append true (Start name body ∷ xs) ys = begun-append true xs ys
+begun-append false (Start name body ∷ xs) ys = omega (arith, begun-append true xs ys)
+begun-append true (Bad ∷ xs) ys = begun-append true xs ys
+begun-append false (Bad ∷ xs) ys = begun-append false xs ys
+
+-- no continuation without a field before it, and no bad line
+abbrev pub fits : Bool → List Line → Bool
+fits inside [] = true
+fits inside (Blank ∷ lines) = fits inside lines
+fits inside (Separator ∷ lines) = fits false lines
+fits inside (Continuation text ∷ lines) = inside && fits inside lines
+fits inside (Start name body ∷ lines) = fits true lines
+fits inside (Bad ∷ lines) = false
+
+pub fits-behind : (inside : Bool) (xs ys : List Line) → fits inside (xs ++ ys) ≡ true → fits (is_inside inside xs) ys ≡ true
+fits-behind inside [] ys fit = fit
+fits-behind inside (Blank ∷ xs) ys fit = fits-behind inside xs ys fit
+fits-behind inside (Separator ∷ xs) ys fit = fits-behind false xs ys fit
+fits-behind inside (Continuation text ∷ xs) ys fit = fits-behind inside xs ys (and_parts inside _ fit).1
+fits-behind inside (Start name body ∷ xs) ys fit = fits-behind true xs ys fit
+fits-behind inside (Bad ∷ xs) ys fit = cc
+
+-- the lines of fields go by where neither a continuation nor the start of a field counts
+past_group : {A : Type 0} (f : List Line → A) → ((text : List ℕ) (lines : List Line) → f (Continuation text ∷ lines) ≡ f lines) → ((name body : List ℕ) (lines : List Line) → f (Start name body ∷ lines) ≡ f lines)
+    → (group : List Written) (lines : List Line) → f (lines_of_group group ++ lines) ≡ f lines
+past_group f goes begins [] lines = refl
+past_group f goes begins (field ∷ group) lines =
+    ap f (append_assoc (lines_of_field field) (lines_of_group group) lines) ∙ begins field.name field.first _ ∙ texts field.more (lines_of_group group ++ lines) ∙ past_group f goes begins group lines
+  where
+    texts : (more : List (List ℕ)) (rest : List Line) → f (map Continuation more ++ rest) ≡ f rest
+    texts [] rest = refl
+    texts (text ∷ more) rest = goes text _ ∙ texts more rest
+
+first_ended : (group : List Written) (ended : List (List Written)) (lines : List Line)
+    → flat_map lines_of_ended (group ∷ ended) ++ lines ≡ lines_of_group group ++ Separator ∷ (flat_map lines_of_ended ended ++ lines)
+first_ended group ended lines = append_assoc (lines_of_ended group) (flat_map lines_of_ended ended) lines ∙ append_assoc (lines_of_group group) (Separator ∷ []) (flat_map lines_of_ended ended ++ lines)
+
+-- nothing goes on after groups that have ended, each with a field began a record, and they fit
+pub past_ended : (ended : List (List Written)) (lines : List Line) → (is_inside false (flat_map lines_of_ended ended ++ lines) ≡ is_inside false lines)
+    × (begun false (flat_map lines_of_ended ended ++ lines) ≡ length (filter has_field ended) + begun false lines) × (fits false (flat_map lines_of_ended ended ++ lines) ≡ fits false lines)
+past_ended [] lines = (refl, omega arith, refl)
+past_ended ([] ∷ ended) lines = past_ended ended lines
+past_ended ((field ∷ group) ∷ ended) lines =
+    let order = first_ended (field ∷ group) ended lines in
+    let rest = past_ended ended lines in (
+      ap (is_inside false) order ∙ past_group (is_inside true) (λ _ _. refl) (λ _ _ _. refl) (field ∷ group) _ ∙ rest.0,
+      omega (arith, ap (begun false) order ∙ ap (λ n. 1 + n) (past_group (begun true) (λ _ _. refl) (λ _ _ _. refl) (field ∷ group) (Separator ∷ (flat_map lines_of_ended ended ++ lines))), rest.1),
+      ap (fits false) order ∙ past_group (fits true) (λ _ _. refl) (λ _ _ _. refl) (field ∷ group) _ ∙ rest.2,
+    )
+
+past_last : (last : List Written) → (is_inside false (lines_of_group last) ≡ has_field last) × (begun false (lines_of_group last) ≡ length (filter has_field (last ∷ []))) × (fits false (lines_of_group last) ≡ true)
+past_last [] = (refl, refl, refl)
+past_last (field ∷ last) =
+    let all = append-nil (lines_of_group (field ∷ last)) in (
+      ap (is_inside true) (sym all) ∙ past_group (is_inside true) (λ _ _. refl) (λ _ _ _. refl) (field ∷ last) [],
+      ap (λ l. 1 + begun true l) (sym all) ∙ ap (λ n. 1 + n) (past_group (begun true) (λ _ _. refl) (λ _ _ _. refl) (field ∷ last) []),
+      ap (fits true) (sym all) ∙ past_group (fits true) (λ _ _. refl) (λ _ _ _. refl) (field ∷ last) [],
+    )
+
+pub is_inside-groups : (ended : List (List Written)) (last : List Written) → is_inside false (lines_of_groups ended last) ≡ has_field last
+is_inside-groups ended last = (past_ended ended (lines_of_group last)).0 ∙ (past_last last).0
+
+pub begun-groups : (ended : List (List Written)) (last : List Written) → begun false (lines_of_groups ended last) ≡ length (records_of (ended ++ last ∷ []))
+begun-groups ended last = simp (length-map, filter-append, length-append) (omega (arith, (past_ended ended (lines_of_group last)).1, (past_last last).1))
+
+pub fits-groups : (ended : List (List Written)) (last : List Written) → fits false (lines_of_groups ended last) ≡ true
+fits-groups ended last = (past_ended ended (lines_of_group last)).2 ∙ (past_last last).2
+
+-- the continuations at the front, and the groups after them
+abbrev Parsed : Type 0
+Parsed = List (List ℕ) × List (List Written)
+
+-- the field is in front of the first group
+abbrev with_field : Written → List (List Written) → List (List Written)
+with_field field [] = []
+with_field field (group ∷ groups) = (field ∷ group) ∷ groups
+
+abbrev parsed : List Line → Parsed
+parsed [] = ([], [] ∷ [])
+parsed (Blank ∷ lines) = parsed lines
+parsed (Separator ∷ lines) = ([], [] ∷ (parsed lines).1)
+parsed (Continuation text ∷ lines) = (text ∷ (parsed lines).0, (parsed lines).1)
+parsed (Start name body ∷ lines) = ([], with_field (record { name = name; first = body; more = (parsed lines).0 }) (parsed lines).1)
+parsed (Bad ∷ lines) = parsed lines
+
+parsed-texts : (texts : List (List ℕ)) (lines : List Line) (groups : List (List Written)) → parsed lines ≡ (let p : Parsed = ([], groups) in p)
+    → parsed (map Continuation texts ++ lines) ≡ (let p : Parsed = (texts, groups) in p)
+parsed-texts [] lines groups e = e
+parsed-texts (text ∷ texts) lines groups e = ap (λ (p : Parsed). let q : Parsed = (text ∷ p.0, p.1) in q) (parsed-texts texts lines groups e)
+
+parsed-group : (group : List Written) (lines : List Line) (next : List Written) (groups : List (List Written)) → parsed lines ≡ (let p : Parsed = ([], next ∷ groups) in p)
+    → parsed (lines_of_group group ++ lines) ≡ (let p : Parsed = ([], (group ++ next) ∷ groups) in p)
+parsed-group [] lines next groups e = e
+parsed-group (field ∷ group) lines next groups e =
+    let rest = parsed-group group lines next groups e in
+    let texts = parsed-texts field.more (lines_of_group group ++ lines) ((group ++ next) ∷ groups) rest in
+    ap parsed (append_assoc (lines_of_field field) (lines_of_group group) lines)
+    ∙ ap (λ (p : Parsed). let q : Parsed = ([], with_field (record { name = field.name; first = field.first; more = p.0 }) p.1) in q) texts
+
+parsed-groups : (ended : List (List Written)) (last : List Written) → parsed (lines_of_groups ended last) ≡ (let p : Parsed = ([], ended ++ last ∷ []) in p)
+parsed-groups [] last =
+    ap parsed (sym (append-nil (lines_of_group last))) ∙ parsed-group last [] [] [] refl ∙ ap (λ (l : List Written). let p : Parsed = ([], l ∷ []) in p) (append-nil last)
+parsed-groups (group ∷ ended) last =
+    let rest = parsed-groups ended last in
+    let separated = ap (λ (p : Parsed). let q : Parsed = ([], [] ∷ p.1) in q) rest in
+    ap parsed (first_ended group ended (lines_of_group last)) ∙ parsed-group group (Separator ∷ lines_of_groups ended last) [] (ended ++ last ∷ []) separated
+    ∙ ap (λ (l : List Written). let p : Parsed = ([], l ∷ (ended ++ last ∷ [])) in p) (append-nil group)
+
+-- the records are those of the groups that were parsed
+records-parsed : (text : List ℕ) (records : List (List Field)) → HasRecords text records → records ≡ records_of (parsed (shown (lines_of text))).1
+records-parsed text records has =
+    has.all ∙ sym (ap (λ (l : List Line). records_of (parsed l).1) has.lines ∙ ap (λ (p : Parsed). records_of p.1) (parsed-groups has.ended has.last))
+
+pub one_list : (text : List ℕ) (a b : List (List Field)) → HasRecords text a → HasRecords text b → a ≡ b
+one_list text a b has other = records-parsed text a has ∙ sym (records-parsed text b other)

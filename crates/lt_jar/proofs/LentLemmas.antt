@@ -1,18 +1,209 @@
--- What was lent since the start is that of the bytes that were read since the start.
-use Rattle.std.proofs.Common.{◌≡◌, ◌∙◌, ◌++◌, ◌∷◌, inl, inr, ℕ, List, [], Option, sym, ap, subst, append_assoc, length, ◌+◌, arith, length-append}
-use Rattle.lt_jar.specs.Lines.{HoldsOfWhole, whole_lines}
-use Rattle.lt_jar.specs.Records.{Field, HasRecords, IsWithin}
-use Rattle.lt_jar.specs.Faults.{Fault, IsReached, IsTheFault}
-use Rattle.lt_jar.specs.Lending.{BreaksOff, CutsRecord, IsCutShort, IsSound}
+-- What is wrong with a text after whole lines, what was lent or read of it so far, and what follows at its end.
+use Rattle.std.proofs.Common.{◌≡◌, ◌≢◌, ◌∙◌, ◌++◌, ◌∷◌, ◌⊎◌, inl, inr, ℕ, List, [], Bool, true, false, refl, sym, ap, subst, append_assoc, append-nil, length, ◌+◌, ◌≤◌, arith, length-append, Option}
+use Rattle.std.specs.List.{AllByRecursion, filter, flat_map}
+use Rattle.std.proofs.lemmas.Grind.{flat_map-append}
+use Rattle.lt_jar.specs.Lines.{IsOneLine, lines_of, whole_lines, HoldsOfWhole}
+use Rattle.lt_jar.specs.LineKinds.{Line, Separator}
+use Rattle.lt_jar.specs.Limits.{most_records}
+use Rattle.lt_jar.specs.Records.{Field, HasRecords, IsWithin, Written, has_field, is_shown, lines_of_ended, lines_of_group, record_of, shown}
+use Rattle.lt_jar.specs.Faults.{Fault, IsReached, IsTheFault, IsWrong, IsWrongAt, begun, is_inside}
+use Rattle.lt_jar.specs.Lending.{AreEnded, CutsRecord, EndsRecord, IsSound, BreaksOff, IsCutShort}
+use Rattle.lt_jar.proofs.GroupLemmas.{past_ended, records_of, records_of-append}
+use Rattle.lt_jar.proofs.ReadLemmas.{count_of, each_fault, shown-append, within_of}
+use Rattle.lt_jar.proofs.ReadingLemmas.{Refused, Runs, each-append, fault_told, holds_here, lines_of-whole, lines_of-whole_lines, reached_told, rest_some, runs_end, runs_out, runs_taken, whole_joined, whole-append}
 use Rattle.lt_jar.specs.LentSoFar.{HasLent}
 use Rattle.lt_jar.specs.Sources.{IsFresh, LendsEnded, LendsLast, kept_in, lent_by, line_of_kept, record_in}
 use Rattle.lt_jar.specs.declared.devices.Device.{Device}
 use Rattle.lt_jar.specs.declared.sources.JarSource.{JarSource}
-use Rattle.lt_jar.proofs.BehindLemmas.{Behind, behind_more, behind_none, fault_on, reached_on, records_on, sound_on, within_of}
-use Rattle.lt_jar.proofs.PieceLemmas.{each-append, whole-append}
+use Rattle.lt_jar.specs.Reading.{going_on, rest_of}
+use Rattle.lt_jar.specs.Pieces.{Finishes, RefusesFirst, TakesAll, TakesRecord, fields_in}
+use Rattle.lt_jar.specs.Views.{IsFaultOf}
+use Rattle.lt_jar.specs.declared.engine.Engine.{Engine}
+use Rattle.lt_jar.specs.declared.faults.JarFaultKind.{JarFaultKind}
+use Rattle.std.proofs.lemmas.List.{length-map}
 
-front_of : {bytes : List ℕ} {records : List (List Field)} {s : JarSource} → (lent : HasLent bytes records s) → Behind lent.lines records
-front_of lent = record { each = lent.each; ended = lent.ended; sound = lent.sound }
+-- an element of two lists is one of the first, or one of the second
+where_in : {A : Type 0} (xs ys front : List A) (y : A) (after : List A) → xs ++ ys ≡ front ++ y ∷ after
+    → ((rest : List A) × (xs ≡ front ++ y ∷ rest)) ⊎ ((more : List A) × (front ≡ xs ++ more) × (ys ≡ more ++ y ∷ after))
+where_in [] ys front y after e = inr (front, refl, e)
+where_in (x ∷ xs) ys [] y after e = inl (xs, cc)
+where_in (x ∷ xs) ys (b ∷ front) y after e =
+    let rest : xs ++ ys ≡ front ++ y ∷ after = cc in
+    let first : x ≡ b = cc in
+    elim (where_in xs ys front y after rest) [
+      | inl within ↦ inl (within.0, cc (within.1, first))
+      | inr behind ↦ inr (behind.0, cc (behind.1, first), behind.2)
+    ]
+
+-- whole lines with which nothing is wrong, and these are their records: so many, and the next line has this number
+pub record Behind (lines : List (List ℕ)) (records : List (List Field)) (earlier line : ℕ) : Type 0 where
+  pub each : AllByRecursion IsOneLine lines
+  pub ended : AreEnded lines records
+  pub sound : IsSound 0 (whole_lines lines)
+  pub counted : earlier ≡ length records
+  pub line_is : line ≡ length lines + 1
+
+pub behind_none : Behind [] [] 0 1
+behind_none = record {
+  each = tt;
+  ended = record { groups = []; lines_are = refl; records_are = refl };
+  sound = λ fault number wrong. omega (arith, ap length wrong.all, length-append wrong.before (wrong.line ∷ wrong.after));
+  counted = refl;
+  line_is = refl;
+}
+
+lines_behind : {lines : List (List ℕ)} {records : List (List Field)} {earlier line : ℕ} {text : List ℕ} (rest : List ℕ) → Behind lines records earlier line → text ≡ whole_lines lines ++ rest → lines_of text ≡ lines ++ lines_of rest
+lines_behind {lines} rest front bytes = ap lines_of bytes ∙ lines_of-whole lines rest front.each
+
+-- a line is wrong after lines whose records ended if it is after this many records
+wrong_as : {lines : List (List ℕ)} {records : List (List Field)} {earlier at : ℕ} → Behind lines records earlier at → (before : List (List ℕ)) (line : List ℕ) (fault : Fault)
+    → (IsWrong earlier fault before line → IsWrong 0 fault (lines ++ before) line) × (IsWrong 0 fault (lines ++ before) line → IsWrong earlier fault before line)
+wrong_as {lines} {records} {earlier} front before line =
+    let ended = front.ended in
+    let inside = ap (is_inside false) (shown-append lines before ∙ ap (λ l. l ++ shown before) ended.lines_are) ∙ (past_ended ended.groups (shown before)).0 in
+    let more = before ++ line ∷ [] in
+    let begins = ap (λ l. begun false (shown l)) (append_assoc lines before (line ∷ [])) ∙ ap (begun false) (shown-append lines more ∙ ap (λ l. l ++ shown more) ended.lines_are) ∙ (past_ended ended.groups (shown more)).1 in
+    let long : length records ≡ length (filter has_field ended.groups) = ap length ended.records_are ∙ length-map (filter has_field ended.groups) record_of in
+    each_fault (λ fault. (IsWrong earlier fault before line → IsWrong 0 fault (lines ++ before) line) × (IsWrong 0 fault (lines ++ before) line → IsWrong earlier fault before line))
+    (λ w. w, λ w. w) (λ w. w, λ w. w) (λ w. (w.0, inside ∙ w.1), λ w. (w.0, sym inside ∙ w.1)) (λ w. w, λ w. w)
+    (λ w. omega (arith, w, begins, long, front.counted), λ w. omega (arith, w, begins, long, front.counted))
+
+wrong_is_behind : {lines : List (List ℕ)} {records : List (List Field)} {earlier line : ℕ} {text rest : List ℕ} {fault : Fault} {at : ℕ} → Behind lines records earlier line → text ≡ whole_lines lines ++ rest → IsWrongAt 0 text fault at
+    → (k : ℕ) × (at + 1 ≡ line + k) × IsWrongAt earlier rest fault k
+wrong_is_behind {lines} {rest = rest} {fault = fault} {at} front bytes wrong =
+    elim (where_in lines _ wrong.before wrong.line wrong.after (sym (lines_behind rest front bytes) ∙ wrong.all)) [
+      | inl within ↦ absurd (front.sound fault at
+          (record { before = wrong.before; line = wrong.line; after = within.0; all = lines_of-whole_lines lines front.each ∙ within.1; counted = wrong.counted; wrong = wrong.wrong }))
+      | inr behind ↦
+          let there = (wrong_as front behind.0 wrong.line fault).1 (subst (λ b. IsWrong 0 fault b wrong.line) behind.1 wrong.wrong) in (
+            length behind.0 + 1,
+            omega (arith, wrong.counted, front.line_is, ap length behind.1, length-append lines behind.0),
+            record { before = behind.0; line = wrong.line; after = wrong.after; all = behind.2; counted = refl; wrong = there },
+          )
+    ]
+
+pub sound_on : {lines : List (List ℕ)} {records : List (List Field)} {earlier line : ℕ} {text rest : List ℕ} → Behind lines records earlier line → text ≡ whole_lines lines ++ rest → IsSound earlier rest → IsSound 0 text
+sound_on front bytes sound = λ fault number wrong. let there = wrong_is_behind front bytes wrong in sound fault there.0 there.2
+
+pub fault_on : {lines : List (List ℕ)} {records : List (List Field)} {earlier line : ℕ} {text rest : List ℕ} {fault : Fault} {number at : ℕ} → Behind lines records earlier line → text ≡ whole_lines lines ++ rest
+    → IsTheFault earlier rest fault number → at + 1 ≡ line + number → IsTheFault 0 text fault at
+fault_on {lines} {earlier = earlier} {rest = rest} {fault = fault} {number} {at} front bytes is count =
+    let wrong = is.wrong in
+    record {
+      wrong = record {
+        before = lines ++ wrong.before;
+        line = wrong.line;
+        after = wrong.after;
+        all = lines_behind rest front bytes ∙ ap (λ l. lines ++ l) wrong.all ∙ sym (append_assoc lines wrong.before (wrong.line ∷ wrong.after));
+        counted = omega (arith, count, front.line_is, wrong.counted, length-append lines wrong.before);
+        wrong = (wrong_as front wrong.before wrong.line fault).0 wrong.wrong;
+      };
+      lowest = λ other here w. let there = wrong_is_behind front bytes w in omega (arith, there.1, count, is.lowest other there.0 there.2);
+      first = λ other w.
+          let there = wrong_is_behind front bytes w in
+          let same : there.0 ≡ number = omega (arith, there.1, count) in
+          is.first other (subst (IsWrongAt earlier rest other) same there.2);
+    }
+
+pub reached_on : {lines : List (List ℕ)} {records : List (List Field)} {earlier line : ℕ} {text rest : List ℕ} {number at : ℕ} → Behind lines records earlier line → text ≡ whole_lines lines ++ rest
+    → IsReached earlier rest number → at + 1 ≡ line + number → IsReached 0 text at
+reached_on {lines} {rest = rest} front bytes is count = record {
+  from = omega (arith, is.from, count, front.line_is);
+  to = omega (arith, is.to, count, front.line_is, ap length (lines_behind rest front bytes), length-append lines (lines_of rest));
+  clean = λ other here wrong. let there = wrong_is_behind front bytes wrong in omega (arith, there.1, count, is.clean other there.0 there.2);
+}
+
+ended-append : (xs ys : List (List ℕ)) (first second : List (List Field)) → AreEnded xs first → AreEnded ys second → AreEnded (xs ++ ys) (first ++ second)
+ended-append xs ys first second ended more = record {
+  groups = ended.groups ++ more.groups;
+  lines_are = shown-append xs ys ∙ ap (λ l. l ++ shown ys) ended.lines_are ∙ ap (λ l. flat_map lines_of_ended ended.groups ++ l) more.lines_are
+      ∙ sym (flat_map-append lines_of_ended ended.groups more.groups);
+  records_are = ap (λ l. l ++ second) ended.records_are ∙ ap (λ l. records_of ended.groups ++ l) more.records_are ∙ sym (records_of-append ended.groups more.groups);
+}
+
+-- a group without a field for each separator
+abbrev empty_groups : List Line → List (List Written)
+empty_groups [] = []
+empty_groups (line ∷ lines) = [] ∷ empty_groups lines
+
+lines_of-empty_groups : (skipped : List Line) → AllByRecursion (λ line. line ≡ Separator) skipped → skipped ≡ flat_map lines_of_ended (empty_groups skipped)
+lines_of-empty_groups [] each = refl
+lines_of-empty_groups (line ∷ skipped) each = ap (λ l. l ∷ skipped) each.0 ∙ ap (λ l. Separator ∷ l) (lines_of-empty_groups skipped each.1)
+
+records_of-empty_groups : (skipped : List Line) → records_of (empty_groups skipped) ≡ []
+records_of-empty_groups [] = refl
+records_of-empty_groups (line ∷ skipped) = records_of-empty_groups skipped
+
+one_record : (fields : List Field) (group : List Written) → fields ≡ record_of group → fields ≢ [] → fields ∷ [] ≡ records_of (group ∷ [])
+one_record fields [] is some = absurd (some is)
+one_record fields (field ∷ group) is some = ap (λ f. f ∷ []) is
+
+-- the lines of one record
+one_ended : (lines : List (List ℕ)) (fields : List Field) → EndsRecord lines fields → AreEnded lines (fields ∷ [])
+one_ended lines fields ends =
+    let gathers = ends.gathers in
+    let empty = empty_groups gathers.skipped in
+    let separator : shown (ends.last ∷ []) ≡ Separator ∷ [] = ap (λ k. filter is_shown (k ∷ [])) ends.separator in
+    record {
+      groups = empty ++ gathers.group ∷ [];
+      lines_are = ap shown ends.lines_are ∙ shown-append ends.before (ends.last ∷ []) ∙ ap (λ l. shown ends.before ++ l) separator ∙ ap (λ l. l ++ Separator ∷ []) gathers.lines_are
+          ∙ append_assoc gathers.skipped (lines_of_group gathers.group) (Separator ∷ [])
+          ∙ ap (λ l. l ++ lines_of_ended gathers.group) (lines_of-empty_groups gathers.skipped gathers.separators)
+          ∙ ap (λ l. flat_map lines_of_ended empty ++ l) (sym (append-nil (lines_of_ended gathers.group)))
+          ∙ sym (flat_map-append lines_of_ended empty (gathers.group ∷ []));
+      records_are = one_record fields gathers.group gathers.fields_are ends.some
+          ∙ ap (λ l. l ++ records_of (gathers.group ∷ [])) (sym (records_of-empty_groups gathers.skipped)) ∙ sym (records_of-append empty (gathers.group ∷ []));
+    }
+
+-- a record more
+pub behind_more : {lines more : List (List ℕ)} {records : List (List Field)} {fields : List Field} {earlier line earlier' line' : ℕ} {text rest : List ℕ} → Behind lines records earlier line → CutsRecord earlier text fields more rest
+    → earlier' ≡ earlier + 1 → line' ≡ line + length more → Behind (lines ++ more) (records ++ fields ∷ []) earlier' line'
+behind_more {lines} {more} {records} {fields} front cuts one longer = record {
+  each = each-append lines more front.each cuts.each;
+  ended = ended-append lines more records (fields ∷ []) front.ended (one_ended more fields cuts.ends);
+  sound = sound_on front (whole-append lines more) cuts.sound;
+  counted = omega (arith, one, front.counted, length-append records (fields ∷ []));
+  line_is = omega (arith, longer, front.line_is, length-append lines more);
+}
+
+-- the records of a text after whole lines
+pub records_on : {lines : List (List ℕ)} {records more : List (List Field)} {earlier line : ℕ} {text rest : List ℕ} → Behind lines records earlier line → text ≡ whole_lines lines ++ rest → HasRecords rest more
+    → HasRecords text (records ++ more)
+records_on {lines} {records} {more} {rest = rest} front bytes has =
+    let ended = front.ended in
+    let groups = flat_map lines_of_ended ended.groups in
+    record {
+      ended = ended.groups ++ has.ended;
+      last = has.last;
+      lines = ap shown (lines_behind rest front bytes) ∙ shown-append lines (lines_of rest) ∙ ap (λ l. l ++ shown (lines_of rest)) ended.lines_are ∙ ap (λ l. groups ++ l) has.lines
+          ∙ sym (append_assoc groups (flat_map lines_of_ended has.ended) (lines_of_group has.last)) ∙ ap (λ l. l ++ lines_of_group has.last) (sym (flat_map-append lines_of_ended ended.groups has.ended));
+      all = ap (λ l. l ++ more) ended.records_are ∙ ap (λ l. records_of ended.groups ++ l) has.all ∙ sym (records_of-append ended.groups (has.ended ++ has.last ∷ []))
+          ∙ ap records_of (sym (append_assoc ended.groups has.ended (has.last ∷ [])));
+    }
+
+some_lines : (lines : List (List ℕ)) → 1 ≤ begun false (shown lines) → 1 ≤ length lines
+some_lines [] some = omega (arith, some)
+some_lines (line ∷ lines) some = omega arith
+
+-- the last line of a text with which nothing is wrong is reached
+pub reached_at_end : (text : List ℕ) (records : List (List Field)) → HasRecords text records → IsSound 0 text → 1 ≤ length records → IsReached 0 text (length (lines_of text))
+reached_at_end text records has sound some = record {
+  from = some_lines (lines_of text) (omega (arith, some, count_of text records has));
+  to = omega arith;
+  clean = λ other at wrong. absurd (sound other at wrong);
+}
+
+-- and so is the last of whole lines
+reached_behind_lines : {lines : List (List ℕ)} {records : List (List Field)} {earlier line number : ℕ} {text : List ℕ} (rest : List ℕ) → Behind lines records earlier line → text ≡ whole_lines lines ++ rest
+    → 1 ≤ length lines → number + 1 ≡ line → IsReached 0 text number
+reached_behind_lines {lines} rest front bytes some count = record {
+  from = omega (arith, some, count, front.line_is);
+  to = omega (arith, count, front.line_is, ap length (lines_behind rest front bytes), length-append lines (lines_of rest));
+  clean = λ other at wrong. let there = wrong_is_behind front bytes wrong in omega (arith, there.1, count, there.2.counted);
+}
+
+front_of : {bytes : List ℕ} {records : List (List Field)} {s : JarSource} → (lent : HasLent bytes records s) → Behind lent.lines records (lent_by s) (line_of_kept s)
+front_of lent = record { each = lent.each; ended = lent.ended; sound = lent.sound; counted = lent.counted; line_is = lent.line }
 
 -- the bytes so far and those of a call
 text_is : {bytes : List ℕ} {records : List (List Field)} {s : JarSource} (read : List ℕ) → (lent : HasLent bytes records s) → bytes ++ read ≡ whole_lines lent.lines ++ (kept_in s ++ read)
@@ -20,98 +211,151 @@ text_is {s} read lent = ap (λ l. l ++ read) lent.bytes_are ∙ append_assoc (wh
 
 -- At the start nothing was lent.
 pub lent_start : {s : JarSource} → IsFresh s → HasLent [] [] s
-lent_start fresh = record {
-  lines = [];
-  each = tt;
-  bytes_are = sym fresh.kept;
-  ended = behind_none.ended;
-  sound = behind_none.sound;
-  counted = fresh.lent;
-  line = fresh.line;
-}
+lent_start fresh = record { lines = []; each = tt; bytes_are = sym fresh.kept; ended = behind_none.ended; sound = behind_none.sound; counted = fresh.lent; line = fresh.line }
 
 -- A record more was lent, which a separator ends.
 pub lent_more : {R : Type 0} {bytes read : List ℕ} {records : List (List Field)} {old new : JarSource} {before after : Device R} {reads : ℕ} → HasLent bytes records old → LendsEnded old new before after read reads → lent_by new ≡ lent_by old + 1
     → HasLent (bytes ++ read) (records ++ record_in new ∷ []) new
-lent_more {bytes} {read} {records} {old} {new} lent lends count =
-    let lines = lends.lines in
-    let cuts = subst (λ n. CutsRecord n (kept_in old ++ read) (record_in new) lines (kept_in new)) lent.counted lends.cuts in
-    let front = behind_more lent.lines lines records (record_in new) (kept_in old ++ read) (kept_in new) (front_of lent) cuts in
+lent_more {bytes} {read} {old = old} {new} lent lends count =
+    let front = behind_more (front_of lent) lends.cuts count lends.line in
     record {
-      lines = lent.lines ++ lines;
+      lines = lent.lines ++ lends.lines;
       each = front.each;
-      bytes_are = text_is read lent ∙ ap (λ l. whole_lines lent.lines ++ l) cuts.bytes ∙ sym (append_assoc (whole_lines lent.lines) (whole_lines lines) (kept_in new))
-          ∙ ap (λ l. l ++ kept_in new) (sym (whole-append lent.lines lines));
+      bytes_are = whole_joined (bytes ++ read) (kept_in old ++ read) (kept_in new) lent.lines lends.lines (text_is read lent) lends.cuts.bytes;
       ended = front.ended;
       sound = front.sound;
-      counted = omega (arith, count, lent.counted, length-append records (record_in new ∷ []));
-      line = omega (arith, lends.line, lent.line, length-append lent.lines lines);
+      counted = front.counted;
+      line = front.line_is;
     }
 
 -- The text ended: these are all its records, and nothing is wrong with it.
 pub lent_last : {R : Type 0} {remaining : R → Option (List ℕ)} {bytes read : List ℕ} {records more : List (List Field)} {old new : JarSource} {after : Device R} → HasLent bytes records old
     → LendsLast remaining old new after read more → HasRecords (bytes ++ read) (records ++ more) × IsSound 0 (bytes ++ read)
-lent_last {bytes} {read} {records} {more} {old} lent lends =
-    let rest = kept_in old ++ read in
-    let text = text_is read lent in
-    let sound = subst (λ n. IsSound n rest) lent.counted lends.sound in (
-      subst (λ t. HasRecords t (records ++ more)) (sym text) (records_on lent.lines records more rest (front_of lent) lends.has),
-      subst (IsSound 0) (sym text) (sound_on lent.lines records rest (front_of lent) sound),
-    )
-
-line_number : (kept now lines number : ℕ) → now + 1 ≡ kept + number → kept ≡ lines + 1 → lines + number ≡ now
-line_number kept now lines number line at = omega (arith, line, at)
-
--- The fault of what a call read is that of all that was read.
-fault_so_far : {bytes : List ℕ} {records : List (List Field)} {old : JarSource} {fault : Fault} {number : ℕ} (read : List ℕ) (new : JarSource) → HasLent bytes records old
-    → IsTheFault (lent_by old) (kept_in old ++ read) fault number → line_of_kept new + 1 ≡ line_of_kept old + number → IsTheFault 0 (bytes ++ read) fault (line_of_kept new)
-fault_so_far {bytes} {records} {old} {fault} {number} read new lent is line =
-    let rest = kept_in old ++ read in
-    let there = fault_on lent.lines records rest fault number (front_of lent) (subst (λ n. IsTheFault n rest fault number) lent.counted is) in
-    subst (IsTheFault 0 (bytes ++ read) fault) (line_number _ _ _ number line lent.line) (subst (λ t. IsTheFault 0 t fault (length lent.lines + number)) (sym (text_is read lent)) there)
+lent_last {read = read} lent lends = (records_on (front_of lent) (text_is read lent) lends.has, sound_on (front_of lent) (text_is read lent) lends.sound)
 
 -- The fault of a call is that of the whole text.
 pub lent_fault : {bytes : List ℕ} {records : List (List Field)} {old : JarSource} {fault : Fault} {number : ℕ} {ended : Type 0} (read : List ℕ) (new : JarSource) → HasLent bytes records old
     → HoldsOfWhole (λ text. IsTheFault (lent_by old) text fault number) ended (kept_in old ++ read) → line_of_kept new + 1 ≡ line_of_kept old + number
     → HoldsOfWhole (λ text. IsTheFault 0 text fault (line_of_kept new)) ended (bytes ++ read)
-lent_fault {bytes} {records} {old} {fault} {number} {ended} read new lent is line =
+lent_fault {bytes} {old = old} read new lent is line =
     elim is [
       | inl each ↦ inl (λ more.
-          let there = subst (λ t. IsTheFault (lent_by old) t fault number) (append_assoc (kept_in old) read more) (each more) in
-          subst (λ t. IsTheFault 0 t fault (line_of_kept new)) (sym (append_assoc bytes read more)) (fault_so_far (read ++ more) new lent there line))
-      | inr over ↦ inr (over.0, fault_so_far read new lent over.1 line)
+          let text = ap (λ l. l ++ more) (text_is read lent) ∙ append_assoc (whole_lines lent.lines) (kept_in old ++ read) more in
+          fault_on (front_of lent) text (each more) line)
+      | inr over ↦ inr (over.0, fault_on (front_of lent) (text_is read lent) over.1 line)
     ]
 
 -- A line that a call reached is one of the whole text.
 pub lent_reached : {bytes : List ℕ} {records : List (List Field)} {old : JarSource} {number : ℕ} (read : List ℕ) (new : JarSource) → HasLent bytes records old → IsReached (lent_by old) (kept_in old ++ read) number
     → line_of_kept new + 1 ≡ line_of_kept old + number → IsReached 0 (bytes ++ read) (line_of_kept new)
-lent_reached {bytes} {records} {old} {number} read new lent is line =
-    let rest = kept_in old ++ read in
-    let there = reached_on lent.lines records rest number (front_of lent) (subst (λ n. IsReached n rest number) lent.counted is) in
-    subst (IsReached 0 (bytes ++ read)) (line_number _ _ _ number line lent.line) (subst (λ t. IsReached 0 t (length lent.lines + number)) (sym (text_is read lent)) there)
+lent_reached read new lent is line = reached_on (front_of lent) (text_is read lent) is line
 
 -- Where a call broke off, the whole text does.
 pub lent_cut : {bytes : List ℕ} {records : List (List Field)} {old : JarSource} {number : ℕ} (read : List ℕ) (new : JarSource) → HasLent bytes records old → IsCutShort (lent_by old) (kept_in old ++ read) number
     → line_of_kept new + 1 ≡ line_of_kept old + number → BreaksOff 0 (bytes ++ read) (line_of_kept new)
-lent_cut {bytes} {records} {old} {number} read new lent cut line =
-    let all = whole-append lent.lines cut.lines in
-    let sound = subst (λ n. IsSound n (whole_lines cut.lines)) lent.counted cut.sound in
-    record {
-      ended = lent.lines;
-      records = records;
-      are_ended = lent.ended;
-      more = cut.lines;
-      fields = cut.fields;
-      gathers = cut.gathers;
-      each = each-append lent.lines cut.lines lent.each cut.each;
-      rest = cut.rest;
-      one = cut.one;
-      short = cut.short;
-      bytes = text_is read lent ∙ ap (λ l. whole_lines lent.lines ++ l) cut.bytes ∙ sym (append_assoc (whole_lines lent.lines) (whole_lines cut.lines) cut.rest) ∙ ap (λ l. l ++ cut.rest) (sym all);
-      sound = subst (IsSound 0) (sym all) (sound_on lent.lines records (whole_lines cut.lines) (front_of lent) sound);
-      counted = omega (arith, line, lent.line, cut.counted, length-append lent.lines cut.lines);
-    }
+lent_cut {bytes} {records} {old} read new lent cut line = record {
+  ended = lent.lines;
+  records = records;
+  are_ended = lent.ended;
+  more = cut.lines;
+  fields = cut.fields;
+  gathers = cut.gathers;
+  each = each-append lent.lines cut.lines lent.each cut.each;
+  rest = cut.rest;
+  one = cut.one;
+  short = cut.short;
+  bytes = whole_joined (bytes ++ read) (kept_in old ++ read) cut.rest lent.lines cut.lines (text_is read lent) cut.bytes;
+  sound = sound_on (front_of lent) (whole-append lent.lines cut.lines) cut.sound;
+  counted = omega (arith, line, lent.line, cut.counted, length-append lent.lines cut.lines);
+}
 
 -- A text that has records, and with which nothing is wrong, keeps the limits.
 pub lent_within : {text : List ℕ} {records : List (List Field)} → HasRecords text records → IsSound 0 text → IsWithin text records
 lent_within {text} {records} has sound = within_of text records has sound
+
+-- these records of the text are read, and this rest is left
+pub record TextTurn (text rest : List ℕ) (records : List (List Field)) (engine : Engine) : Type 0 where
+  pub lines : List (List ℕ)
+  pub front : Behind lines records engine.ended engine.line
+  pub bytes : text ≡ whole_lines lines ++ rest
+  pub few : engine.ended ≤ most_records
+  pub fields : fields_in engine ≡ []
+  pub empty : engine.partial.items ≡ []
+  pub room : engine.line + length rest ≤ 1 + length text
+
+pub text_begins : (text : List ℕ) (engine : Engine) → (engine.partial.items ≡ []) × (fields_in engine ≡ []) → (engine.ended ≡ 0) × (engine.line ≡ 1) → TextTurn text text [] engine
+text_begins text engine none start =
+    record { lines = []; front = rw (start.0, start.1) behind_none; bytes = refl; few = omega (arith, start.0); fields = none.1; empty = none.0; room = omega (arith, start.1) }
+
+-- no line of the rest is gone over
+pub text_runs : {text rest : List ℕ} {records : List (List Field)} {now : Engine} → TextTurn text rest records now → Runs now.ended rest rest now.line now
+text_runs {rest = rest} turn =
+    record { lines = []; ran = record { few = turn.few; each = tt; bytes = ap (λ l. l ++ rest) (sym turn.empty); ran = ap going_on (sym turn.fields) }; line = omega arith; ended = refl }
+
+pub text_more : {text rest after : List ℕ} {records : List (List Field)} {now mid : Engine} (new : Engine) → TextTurn text rest records now → TakesRecord now mid rest after
+    → (fields_in new ≡ []) × (new.ended ≡ mid.ended + 1) → (new.partial.items ≡ mid.partial.items) × (new.line ≡ mid.line) → TextTurn text after (records ++ fields_in mid ∷ []) new
+text_more {text} {rest} {after} new turn takes begun same =
+    let out = runs_out (text_runs turn) takes in
+    record {
+      lines = turn.lines ++ out.lines;
+      front = behind_more turn.front out.cuts (omega (arith, begun.1, takes.ended)) (omega (arith, same.1, out.line));
+      bytes = whole_joined text rest after turn.lines out.lines turn.bytes out.cuts.bytes;
+      few = omega (arith, begun.1, takes.ended, out.few);
+      fields = begun.0;
+      empty = same.0 ∙ takes.empty;
+      room = omega (arith, same.1, takes.room, turn.room);
+    }
+
+-- memory ran out at the line that ended the record
+pub text_refused : {text rest after : List ℕ} {records : List (List Field)} {now mid : Engine} (number : ℕ) → TextTurn text rest records now → TakesRecord now mid rest after → number + 1 ≡ mid.line
+    → IsReached 0 text number
+text_refused {text} {rest} {after} number turn takes counted =
+    let out = runs_out (text_runs turn) takes in
+    let bytes = whole_joined text rest after turn.lines out.lines turn.bytes out.cuts.bytes in
+    reached_behind_lines after (behind_more turn.front out.cuts refl out.line) bytes (omega (arith, length-append turn.lines out.lines, out.some)) counted
+
+-- the first line after lines of the rest is wrong, or memory ran out at it
+pub said_of : {text rest : List ℕ} {records : List (List Field)} {now new : Engine} {kind : JarFaultKind} → TextTurn text rest records now → Refused (Unit {0}) now.ended rest now.line new kind
+    → IsFaultOf text (record { kind = kind; line = new.line })
+said_of {now = now} {new} {kind} turn r =
+    let first = holds_here (λ t. RefusesFirst now.ended r.fields t kind) _ r.tail r.refused in
+    let count : new.line + 1 ≡ now.line + (length r.lines + 1) = omega (arith, r.line) in
+    elim first.said [
+      | inl memory ↦ inr (memory, reached_on turn.front turn.bytes (reached_told r.ran first) count)
+      | inr fault ↦ inl (fault.0, fault.1, fault_on turn.front turn.bytes (fault_told fault.0 r.ran first fault.1) count)
+    ]
+
+-- the text ended, and its last lines have these records, one or none
+pub record TextEnds (text : List ℕ) (records more : List (List Field)) (new : Engine) : Type 0 where
+  pub has : HasRecords text (records ++ more)
+  pub within : IsWithin text (records ++ more)
+  pub few : new.ended + length more ≤ most_records
+  pub reached : (number : ℕ) → number + 1 ≡ new.line → 1 ≤ length more → IsReached 0 text number
+
+text_ends : {text rest : List ℕ} {records : List (List Field)} {now mid : Engine} (new : Engine) {some : Bool} (more : List (List Field)) → TextTurn text rest records now → TakesAll now mid rest → Finishes mid new some
+    → rest_of (fields_in new) ≡ more → TextEnds text records more new
+text_ends {text} {rest} {records} new more turn takes fin is =
+    let end = runs_end (runs_taken (text_runs turn) takes) takes.over.begun fin.going fin.ran in
+    let has = records_on turn.front turn.bytes (subst (HasRecords rest) (fin.record_is ∙ is) end.has) in
+    let sound = sound_on turn.front turn.bytes end.sound in
+    record {
+      has = has;
+      within = within_of text (records ++ more) has sound;
+      few = omega (arith, end.few, ap length (fin.record_is ∙ is), fin.ended, takes.over.ended);
+      reached = λ number counted some.
+          let lines = ap length (lines_behind rest turn.front turn.bytes) in
+          let at : length (lines_of text) ≡ number = omega (arith, counted, fin.line, end.line, turn.front.line_is, lines, length-append turn.lines (lines_of rest)) in
+          subst (IsReached 0 text) at (reached_at_end text (records ++ more) has sound (omega (arith, some, length-append records more)));
+    }
+
+-- the text ended with a record that no separator ends
+pub text_ended : {text rest : List ℕ} {records : List (List Field)} {now mid : Engine} (new : Engine) → TextTurn text rest records now → TakesAll now mid rest → Finishes mid new true
+    → TextEnds text records (fields_in new ∷ []) new
+text_ended new turn takes fin = text_ends new (fields_in new ∷ []) turn takes fin (rest_some (fields_in new) (fin.with_fields refl))
+
+-- the text ended after its last record
+pub text_over : {text rest : List ℕ} {records : List (List Field)} {now mid : Engine} (new : Engine) → TextTurn text rest records now → TakesAll now mid rest → Finishes mid new false
+    → HasRecords text records × IsWithin text records
+text_over {records = records} new turn takes fin =
+    let ends = text_ends new [] turn takes fin (ap rest_of (fin.without refl)) in
+    rw (← append-nil records) (ends.has, ends.within)

@@ -1,26 +1,85 @@
--- What is known once the first lines of a text are read, and what follows of the next.
-use Rattle.std.proofs.Common.{◌≡◌, ◌∙◌, ◌++◌, ◌∷◌, ◌⊎◌, inl, inr, ℕ, List, [], Bool, true, false, Result, Ok, Err, refl, sym, ap, subst, append_assoc, append-nil, map, nat_lt, length, ◌+◌, ◌<◌, ◌≤◌, arith, if◌then◌else◌, length-append}
+-- What is computed of a line is right, what is known once the first lines of a text are read, and that a text has records or a fault, and not both.
+use Rattle.std.proofs.Common.{◌≡◌, ◌∙◌, ◌++◌, ◌∷◌, ◌⊎◌, inl, inr, ℕ, List, [], Bool, true, false, Result, Ok, Err, refl, sym, ap, subst, append_assoc, append-nil, map, nat_lt, length, take, drop, get_or, ◌+◌, ◌<◌, ◌≤◌, arith, MatchResult, length-append}
 use Rattle.std.specs.List.{All, filter}
 use Rattle.std.specs.Str.{IsUtf8, is_utf8}
-use Rattle.std.proofs.lemmas.Str.{IsUtf8-from_is_utf8}
-use Rattle.std.proofs.lemmas.Bool.{ltb-false, ltb-true}
-use Rattle.std.proofs.lemmas.List.Elements.{All-append, All-cons, All-nil}
+use Rattle.std.proofs.Math.Seq.{drop-append_seam, take-append_seam}
+use Rattle.std.proofs.lemmas.Str.{IsUtf8-from_is_utf8, is_utf8-from_IsUtf8}
+use Rattle.std.proofs.lemmas.Bool.{both_ways, cases_lt, cond_both, ltb-false, ltb-true, true_from_ne_false}
+use Rattle.std.proofs.lemmas.List.{length-map, map-append}
+use Rattle.std.proofs.lemmas.List.Elements.{All-cons, All-drop, All-head, All-nil, filter-append}
 use Rattle.lt_jar.specs.Lines.{lines_of}
-use Rattle.lt_jar.specs.LineKinds.{line_of}
+use Rattle.lt_jar.specs.LineKinds.{Line, Blank, Separator, Continuation, Start, Bad, line_of}
 use Rattle.lt_jar.specs.Limits.{longest_line, most_records}
-use Rattle.lt_jar.specs.Records.{Field, HasRecords, IsWithin, has_field, record_of, shown}
-use Rattle.lt_jar.specs.Faults.{Fault, IsReached, IsTheFault, IsWrong, IsWrongAt, LineTooLong, NotUtf8, begun}
-use Rattle.lt_jar.specs.Reading.{Going, Taken, finished, on_taken, start, step, take_kind, take_line, with_taken}
-use Rattle.lt_jar.proofs.CountLemmas.{begun-groups}
-use Rattle.lt_jar.proofs.FaultLemmas.{Judges, judges, shown-more}
-use Rattle.lt_jar.proofs.GroupLemmas.{Leaves, finished-going_of, leaves_more, leaves_start}
+use Rattle.lt_jar.specs.Records.{Field, HasRecords, IsWithin, Written, field_of, has_field, is_shown, shown}
+use Rattle.lt_jar.specs.Faults.{Fault, LineTooLong, NotUtf8, LeadingContinuation, BadLine, TooManyRecords, IsReached, IsTheFault, IsWrong, IsWrongAt, begun, is_continuation, is_inside, rank}
+use Rattle.lt_jar.specs.Reading.{Going, Taken, finished, on_taken, start, step, take_kind, take_line}
+use Rattle.lt_jar.specs.Lending.{IsSound}
+use Rattle.lt_jar.proofs.GroupLemmas.{Leaves, Makes, begun-append, begun-groups, finished-going_of, fits, fits-behind, fits-groups, is_inside-groups, leaves_more, one_list, records_of}
 
-abbrev IsShort : List ℕ → Type 0
-IsShort line = length line ≤ longest_line
+pub shown-append : (xs ys : List (List ℕ)) → shown (xs ++ ys) ≡ shown xs ++ shown ys
+shown-append xs ys = ap (filter is_shown) (map-append line_of xs ys) ∙ filter-append is_shown (map line_of xs) (map line_of ys)
 
--- nothing is wrong with the first lines
-abbrev pub IsClean : ℕ → List (List ℕ) → ℕ → Type 0
-IsClean earlier lines n = (front : List (List ℕ)) (line : List ℕ) (after : List (List ℕ)) (other : Fault) → lines ≡ front ++ line ∷ after → length front < n → IsWrong earlier other front line → ⊥
+pub each_fault : (P : Fault → Type 0) → P LineTooLong → P NotUtf8 → P LeadingContinuation → P BadLine → P TooManyRecords → (fault : Fault) → P fault
+each_fault P long text leading bad many LineTooLong = long
+each_fault P long text leading bad many NotUtf8 = text
+each_fault P long text leading bad many LeadingContinuation = leading
+each_fault P long text leading bad many BadLine = bad
+each_fault P long text leading bad many TooManyRecords = many
+
+-- what is said of a line: nothing is wrong with it, or this is, and nothing before it in the order
+abbrev Judges : ℕ → List (List ℕ) → List ℕ → Result Taken Fault → Type 0
+Judges earlier before line said = MatchResult said
+    (λ taken. ((other : Fault) → IsWrong earlier other before line → ⊥) × (earlier + begun false (shown (before ++ line ∷ [])) ≤ most_records))
+    (λ fault. IsWrong earlier fault before line × ((other : Fault) → IsWrong earlier other before line → rank fault ≤ rank other))
+
+none_begun : (inside : Bool) → (begun inside [] ≡ 0) × (begun inside (Separator ∷ []) ≡ 0)
+none_begun true = (refl, refl)
+none_begun false = (refl, refl)
+
+-- the same of a short line of text, by its kind, after groups of which the last is this
+kind_judges : (earlier : ℕ) (before : List (List ℕ)) (line : List ℕ) (count : ℕ) (last : List Written) (kind : Line) → length line ≤ longest_line → IsUtf8 line → earlier + begun false (shown before) ≤ most_records
+    → is_inside false (shown before) ≡ has_field last → begun false (shown before) ≡ count + length (filter has_field (last ∷ [])) → line_of line ≡ kind → Judges earlier before line (take_kind (earlier + count) (map field_of last) kind)
+kind_judges earlier before line count last kind short utf8 few inside counted is = by_kind last kind inside counted is
+  where
+    added : (b : Bool) (k : Line) → is_inside false (shown before) ≡ b → line_of line ≡ k → begun false (shown (before ++ line ∷ [])) ≡ begun false (shown before) + begun b (filter is_shown (k ∷ []))
+    added b k at so = rw (← at, ← so) (ap (begun false) (shown-append before (line ∷ [])) ∙ begun-append false (shown before) (shown (line ∷ [])))
+
+    calm : (k : Line) → line_of line ≡ k → (is_continuation k ≡ true → is_inside false (shown before) ≡ true) → (k ≡ Bad → ⊥) → earlier + begun false (shown (before ++ line ∷ [])) ≤ most_records
+        → ((other : Fault) → IsWrong earlier other before line → ⊥) × (earlier + begun false (shown (before ++ line ∷ [])) ≤ most_records)
+    calm k so goes good room = (each_fault (λ other. IsWrong earlier other before line → ⊥) (λ w. omega arith) (λ w. w utf8) (λ w. both_ways _ w.1 (goes (sym (ap is_continuation so) ∙ w.0))) (λ w. good (sym so ∙ w)) (λ w. omega arith), room)
+
+    least : (n : ℕ) → (IsWrong earlier LeadingContinuation before line → n ≤ 2) → (IsWrong earlier BadLine before line → n ≤ 3) → n ≤ 4 → (other : Fault) → IsWrong earlier other before line → n ≤ rank other
+    least n leading bad any = each_fault (λ other. IsWrong earlier other before line → n ≤ rank other) (λ w. absurd (omega arith)) (λ w. absurd (w utf8)) leading bad (λ w. any)
+
+    by_kind : (l : List Written) (k : Line) → is_inside false (shown before) ≡ has_field l → begun false (shown before) ≡ count + length (filter has_field (l ∷ [])) → line_of line ≡ k
+        → Judges earlier before line (take_kind (earlier + count) (map field_of l) k)
+    by_kind l Blank at sum so = calm Blank so (λ m. cc) (λ m. cc) (omega (arith, added (has_field l) Blank at so, (none_begun (has_field l)).0))
+    by_kind l Separator at sum so = calm Separator so (λ m. cc) (λ m. cc) (omega (arith, added (has_field l) Separator at so, (none_begun (has_field l)).1))
+    by_kind [] (Continuation text) at sum so = ((ap is_continuation so, at), least 2 (λ w. omega arith) (λ w. omega arith) (omega arith))
+    by_kind (field ∷ l) (Continuation text) at sum so = calm (Continuation text) so (λ m. at) (λ m. cc) (omega (arith, added true (Continuation text) at so))
+    by_kind [] (Start name body) at sum so =
+        let more = added false (Start name body) at so in
+        cond_both (nat_lt (earlier + count) most_records) _ _ (Judges earlier before line)
+        (λ below. calm (Start name body) so (λ m. cc) (λ m. cc) (omega (arith, more, sum, ltb-true _ _ below)))
+        (λ full. (omega (arith, more, sum, ltb-false _ _ full), least 4 (λ w. let no = sym (ap is_continuation so) ∙ w.0 in cc) (λ w. let no = sym so ∙ w in cc) (omega arith)))
+    by_kind (field ∷ l) (Start name body) at sum so = calm (Start name body) so (λ m. cc) (λ m. cc) (omega (arith, added true (Start name body) at so))
+    by_kind l Bad at sum so = (so, least 3 (λ w. let no = sym (ap is_continuation so) ∙ w.0 in cc) (λ w. omega arith) (omega arith))
+
+-- what is said of a line, by what it is
+pub by_test : (ended : ℕ) (fields : List Field) (line : List ℕ) (P : Result Taken Fault → Type 0) → (longest_line < length line → P (Err LineTooLong))
+    → (length line ≤ longest_line → IsUtf8 line → P (take_kind ended fields (line_of line))) → (length line ≤ longest_line → (IsUtf8 line → ⊥) → P (Err NotUtf8)) → P (take_line ended fields line)
+by_test ended fields line P long text other = cond_both (nat_lt longest_line (length line)) _ _ P (λ is. long (ltb-true _ _ is)) (λ low. cond_both (is_utf8 line) _ _ P
+    (λ is. text (ltb-false _ _ low) (IsUtf8-from_is_utf8 line is)) (λ no. other (ltb-false _ _ low) (λ utf8. both_ways _ no (is_utf8-from_IsUtf8 line utf8))))
+
+judges : (earlier : ℕ) (before : List (List ℕ)) (line : List ℕ) (going : Going) → Leaves (shown before) going → earlier + begun false (shown before) ≤ most_records
+    → Judges earlier before line (take_line (earlier + length going.records) going.fields line)
+judges earlier before line going leaves few =
+    let inside = ap (is_inside false) leaves.lines_are ∙ is_inside-groups leaves.ended leaves.last in
+    let count : begun false (shown before) ≡ length (records_of leaves.ended) + length (filter has_field (leaves.last ∷ [])) =
+    ap (begun false) leaves.lines_are ∙ begun-groups leaves.ended leaves.last ∙ simp (filter-append, length-map, length-append) in
+    rw leaves.going_is (by_test _ _ line (Judges earlier before line) (λ long. (long, λ other wrong. omega arith))
+    (λ short utf8. kind_judges earlier before line (length (records_of leaves.ended)) leaves.last (line_of line) short utf8 few inside count refl)
+    (λ short not. (not, each_fault (λ other. IsWrong earlier other before line → 1 ≤ rank other) (λ w. absurd (omega arith)) (λ w. omega arith) (λ w. omega arith) (λ w. omega arith) (λ w. omega arith))))
 
 -- this many lines of the text are read, and these are left
 pub record HasRead (earlier : ℕ) (text : List ℕ) (number : ℕ) (left : List (List ℕ)) (going : Going) : Type 0 where
@@ -29,169 +88,159 @@ pub record HasRead (earlier : ℕ) (text : List ℕ) (number : ℕ) (left : List
   pub counted : number ≡ length before
   pub leaves : Leaves (shown before) going
   pub few : earlier + begun false (shown before) ≤ most_records
-  pub clean : IsClean earlier (lines_of text) (length before)
-  pub short : All IsShort before
-  pub utf8 : All IsUtf8 before
+  pub clean : (other : Fault) (at : ℕ) → IsWrongAt earlier text other at → number < at
 
 pub read_none : (earlier : ℕ) (text : List ℕ) → earlier ≤ most_records → HasRead earlier text 0 (lines_of text) start
 read_none earlier text few = record {
   before = [];
   all = refl;
   counted = refl;
-  leaves = leaves_start;
+  leaves = record { ended = []; last = []; lines_are = refl; going_is = refl };
   few = omega arith;
-  clean = λ front line after other is below wrong. omega arith;
-  short = All-nil IsShort;
-  utf8 = All-nil IsUtf8;
+  clean = λ other at wrong. omega (arith, wrong.counted);
 }
 
-pub head_is : {A : Type 0} (x y : A) (xs ys : List A) → x ∷ xs ≡ y ∷ ys → x ≡ y
-head_is x y xs ys e = cc
+-- what is wrong at the number of a line is wrong with it
+wrong_there : (earlier : ℕ) (text : List ℕ) (before : List (List ℕ)) (line : List ℕ) (after : List (List ℕ)) (other : Fault) (at : ℕ) → lines_of text ≡ before ++ line ∷ after → IsWrongAt earlier text other at
+    → at ≡ length before + 1 → IsWrong earlier other before line
+wrong_there earlier text before line after other at all wrong here =
+    let long : length wrong.before ≡ length before = omega (arith, wrong.counted) in
+    let same : wrong.before ≡ before =
+    sym (take-append_seam wrong.before (wrong.line ∷ wrong.after)) ∙ ap (λ n. take n (wrong.before ++ wrong.line ∷ wrong.after)) long ∙ ap (take (length before)) (sym wrong.all ∙ all) ∙ take-append_seam before (line ∷ after) in
+    let rest : wrong.line ∷ wrong.after ≡ line ∷ after =
+    sym (drop-append_seam wrong.before (wrong.line ∷ wrong.after)) ∙ ap (λ n. drop n (wrong.before ++ wrong.line ∷ wrong.after)) long ∙ ap (drop (length before)) (sym wrong.all ∙ all) ∙ drop-append_seam before (line ∷ after) in
+    let first : wrong.line ≡ line = cc in
+    subst (λ l. IsWrong earlier other before l) first (subst (λ b. IsWrong earlier other b wrong.line) same wrong.wrong)
 
-pub tail_is : {A : Type 0} (x y : A) (xs ys : List A) → x ∷ xs ≡ y ∷ ys → xs ≡ ys
-tail_is x y xs ys e = cc
+pub by_result : {A E X : Type 0} {P : A → Type 0} {Q : E → Type 0} (r : Result A E) → MatchResult r P Q → ((x : A) → r ≡ Ok x → P x → X) → ((e : E) → r ≡ Err e → Q e → X) → X
+by_result (Ok x) found ok err = ok x refl found
+by_result (Err e) found ok err = err e refl found
 
--- two cuts of a list at one length
-same_cut : {A : Type 0} (xs : List A) (x : A) (ys front : List A) (y : A) (after : List A) → xs ++ x ∷ ys ≡ front ++ y ∷ after → length front ≡ length xs → (front ≡ xs) × (y ≡ x)
-same_cut [] x ys [] y after e h = (refl, sym (head_is x y ys after e))
-same_cut [] x ys (b ∷ front) y after e h = absurd (omega arith)
-same_cut (a ∷ xs) x ys [] y after e h = absurd (omega arith)
-same_cut (a ∷ xs) x ys (b ∷ front) y after e h =
-    let rest = same_cut xs x ys front y after (tail_is a b (xs ++ x ∷ ys) (front ++ y ∷ after) e) (omega arith) in
-    let first = head_is a b (xs ++ x ∷ ys) (front ++ y ∷ after) e in
-    (ap (λ l. b ∷ l) rest.0 ∙ ap (λ c. c ∷ xs) (sym first), rest.1)
-
-below_or_at : (m n : ℕ) → m < n + 1 → (m < n) ⊎ (m ≡ n)
-below_or_at m n h = by_test (nat_lt m n) refl
+-- one line more: it is read, or it is wrong
+pub read_step : (earlier : ℕ) (text : List ℕ) (number : ℕ) (going : Going) (line : List ℕ) (after : List (List ℕ)) → HasRead earlier text number (line ∷ after) going
+    → MatchResult (step earlier going line) (λ new. HasRead earlier text (number + 1) after new) (λ fault. IsTheFault earlier text fault (number + 1))
+read_step earlier text number going line after read =
+    let n = earlier + length going.records in
+    by_said (take_line n going.fields line) (judges earlier read.before line going read.leaves read.few)
+    (by_test n going.fields line (Makes (shown read.before ++ shown (line ∷ [])) going) (λ long. tt) (λ short utf8. leaves_more (shown read.before) going (line_of line) n read.leaves) (λ short not. tt))
   where
-    by_test : (t : Bool) → nat_lt m n ≡ t → (m < n) ⊎ (m ≡ n)
-    by_test true e = inl (ltb-true m n e)
-    by_test false e = let above : n ≤ m = ltb-false m n e in inr (omega arith)
+    there : (other : Fault) (at : ℕ) → IsWrongAt earlier text other at → at ≡ number + 1 → IsWrong earlier other read.before line
+    there other at wrong here = wrong_there earlier text read.before line after other at read.all wrong (omega (arith, here, read.counted))
 
-pub below_or_above : (m n : ℕ) → (m < n) ⊎ (n ≤ m)
-below_or_above m n = by_test (nat_lt m n) refl
-  where
-    by_test : (t : Bool) → nat_lt m n ≡ t → (m < n) ⊎ (n ≤ m)
-    by_test true e = inl (ltb-true m n e)
-    by_test false e = inr (ltb-false m n e)
-
-clean_more : (earlier : ℕ) (lines before : List (List ℕ)) (line : List ℕ) (rest : List (List ℕ)) → lines ≡ before ++ line ∷ rest → IsClean earlier lines (length before)
-    → ((other : Fault) → IsWrong earlier other before line → ⊥) → IsClean earlier lines (length (before ++ line ∷ []))
-clean_more earlier lines before line rest e clean here front l after other is below wrong =
-    let long = length-append before (line ∷ []) in
-    elim (below_or_at (length front) (length before) (omega (arith, long))) [
-      | inl earlier_line ↦ clean front l after other is earlier_line wrong
-      | inr at ↦
-          let same = same_cut before line rest front l after (sym e ∙ is) at in
-          here other (subst (λ x. IsWrong earlier other before x) same.1 (subst (λ x. IsWrong earlier other x l) same.0 wrong))
-    ]
-
--- no line before this number is wrong
-pub lowest_of : (earlier : ℕ) (text : List ℕ) (n : ℕ) → IsClean earlier (lines_of text) n → (other : Fault) (at : ℕ) → IsWrongAt earlier text other at → n + 1 ≤ at
-lowest_of earlier text n clean other at wrong =
-    elim (below_or_above (length wrong.before) n) [
-      | inl below ↦ absurd (clean wrong.before wrong.line wrong.after other wrong.all below wrong.wrong)
-      | inr above ↦ omega (arith, wrong.counted, above)
-    ]
-
-if_first : (b : Bool) (fault : Fault) (r : Result Taken Fault) (taken : Taken) → (if b then Err fault else r) ≡ Ok taken → (b ≡ false) × (r ≡ Ok taken)
-if_first true fault r taken e = cc
-if_first false fault r taken e = (refl, e)
-
-if_second : (b : Bool) (fault : Fault) (r : Result Taken Fault) (taken : Taken) → (if b then r else Err fault) ≡ Ok taken → (b ≡ true) × (r ≡ Ok taken)
-if_second true fault r taken e = (refl, e)
-if_second false fault r taken e = cc
-
--- a line that passes
-passes : (ended : ℕ) (fields : List Field) (line : List ℕ) (taken : Taken) → take_line ended fields line ≡ Ok taken → IsShort line × IsUtf8 line × (take_kind ended fields (line_of line) ≡ Ok taken)
-passes ended fields line taken e =
-    let long = if_first (nat_lt longest_line (length line)) LineTooLong _ taken e in
-    let text = if_second (is_utf8 line) NotUtf8 _ taken long.1 in
-    (ltb-false longest_line (length line) long.0, IsUtf8-from_is_utf8 line text.0, text.1)
-
-step_ok : (going : Going) (said : Result Taken Fault) (new : Going) → on_taken going said ≡ Ok new → (taken : Taken) × (said ≡ Ok taken) × (with_taken going taken ≡ new)
-step_ok going (Ok taken) new e = (taken, refl, cc)
-step_ok going (Err fault) new e = cc
-
-step_err : (going : Going) (said : Result Taken Fault) (fault : Fault) → on_taken going said ≡ Err fault → said ≡ Err fault
-step_err going (Ok taken) fault e = cc
-step_err going (Err other) fault e = let same : other ≡ fault = cc in ap (λ f. let r : Result Taken Fault = Err f in r) same
-
--- one line more
-pub read_more : (earlier : ℕ) (text : List ℕ) (number : ℕ) (left : List (List ℕ)) (going : Going) (line : List ℕ) (after : List (List ℕ)) (new : Going) → HasRead earlier text number left going
-    → left ≡ line ∷ after → step earlier going line ≡ Ok new → HasRead earlier text (number + 1) after new
-read_more earlier text number left going line after new read cut said =
-    let before = read.before in
-    let there = read.all ∙ ap (λ l. before ++ l) cut in
-    let taken = step_ok going (take_line (earlier + length going.records) going.fields line) new said in
-    let passed = passes (earlier + length going.records) going.fields line taken.0 taken.1 in
-    let judged = subst (Judges earlier before line) taken.1 (judges earlier before line going read.leaves read.few) in
-    let leaves = leaves_more (shown before) going (line_of line) taken.0 (earlier + length going.records) read.leaves passed.2 in
-    let long = length-append before (line ∷ []) in
-    record {
-      before = before ++ line ∷ [];
-      all = there ∙ sym (append_assoc before (line ∷ []) after);
-      counted = omega (arith, read.counted, long);
-      leaves = subst (λ g. Leaves (shown (before ++ line ∷ [])) g) taken.2 (subst (λ l. Leaves l (with_taken going taken.0)) (sym (shown-more before line)) leaves);
+    by_said : (said : Result Taken Fault) → Judges earlier read.before line said → Makes (shown read.before ++ shown (line ∷ [])) going said
+        → MatchResult (on_taken going said) (λ new. HasRead earlier text (number + 1) after new) (λ fault. IsTheFault earlier text fault (number + 1))
+    by_said (Ok taken) judged leaves = record {
+      before = read.before ++ line ∷ [];
+      all = read.all ∙ sym (append_assoc read.before (line ∷ []) after);
+      counted = omega (arith, read.counted, length-append read.before (line ∷ []));
+      leaves = rw shown-append leaves;
       few = judged.1;
-      clean = clean_more earlier (lines_of text) before line after there read.clean judged.0;
-      short = All-append IsShort before (line ∷ []) read.short (All-cons IsShort line [] passed.0 (All-nil IsShort));
-      utf8 = All-append IsUtf8 before (line ∷ []) read.utf8 (All-cons IsUtf8 line [] passed.1 (All-nil IsUtf8));
+      clean = λ other at wrong. elim (cases_lt (number + 1) at) [
+        | inl below ↦ below
+        | inr above ↦ absurd (judged.0 other (there other at wrong (omega (arith, above, read.clean other at wrong))))
+      ];
     }
-
--- a line that is wrong
-pub read_fault : (earlier : ℕ) (text : List ℕ) (number : ℕ) (left : List (List ℕ)) (going : Going) (line : List ℕ) (after : List (List ℕ)) (fault : Fault) → HasRead earlier text number left going
-    → left ≡ line ∷ after → step earlier going line ≡ Err fault → IsTheFault earlier text fault (number + 1)
-read_fault earlier text number left going line after fault read cut said =
-    let before = read.before in
-    let there = read.all ∙ ap (λ l. before ++ l) cut in
-    let is = step_err going (take_line (earlier + length going.records) going.fields line) fault said in
-    let judged = subst (Judges earlier before line) is (judges earlier before line going read.leaves read.few) in
-    record {
-      wrong = record { before = before; line = line; after = after; all = there; counted = ap (λ n. n + 1) read.counted; wrong = judged.0 };
-      lowest = λ other at wrong. let low = lowest_of earlier text (length before) read.clean other at wrong in omega (arith, low, read.counted);
-      first = λ other wrong.
-          let at : length wrong.before ≡ length before = omega (arith, wrong.counted, read.counted) in
-          let cut_there = same_cut before line after wrong.before wrong.line wrong.after (sym there ∙ wrong.all) at in
-          judged.1 other (subst (λ x. IsWrong earlier other before x) cut_there.1 (subst (λ x. IsWrong earlier other x wrong.line) cut_there.0 wrong.wrong));
+    by_said (Err fault) judged leaves = record {
+      wrong = record { before = read.before; line = line; after = after; all = read.all; counted = ap (λ k. k + 1) read.counted; wrong = judged.0 };
+      lowest = λ other at wrong. omega (arith, read.clean other at wrong);
+      first = λ other wrong. judged.1 other (there other (number + 1) wrong refl);
     }
 
 -- the next line is reached
-pub next_reached : (earlier : ℕ) (text : List ℕ) (number : ℕ) (left : List (List ℕ)) (going : Going) (line : List ℕ) (after : List (List ℕ)) → HasRead earlier text number left going
-    → left ≡ line ∷ after → IsReached earlier text (number + 1)
-next_reached earlier text number left going line after read cut =
-    let long = ap length (read.all ∙ ap (λ l. read.before ++ l) cut) ∙ length-append read.before (line ∷ after) in
-    record {
-      from = omega arith;
-      to = omega (arith, long, read.counted);
-      clean = λ other at wrong. let low = lowest_of earlier text (length read.before) read.clean other at wrong in omega (arith, low, read.counted);
-    }
+pub next_reached : (earlier : ℕ) (text : List ℕ) (number : ℕ) (going : Going) (line : List ℕ) (after : List (List ℕ)) → HasRead earlier text number (line ∷ after) going → IsReached earlier text (number + 1)
+next_reached earlier text number going line after read = record {
+  from = omega arith;
+  to = omega (arith, ap length read.all, length-append read.before (line ∷ after), read.counted);
+  clean = λ other at wrong. omega (arith, read.clean other at wrong);
+}
 
-pub length-map : {A B : Type 0} (f : A → B) (xs : List A) → length (map f xs) ≡ length xs
-length-map f [] = refl
-length-map f (x ∷ xs) = let rest = length-map f xs in omega (arith, rest)
-
--- the text is read, and these are its records
-pub records_at_end : (earlier : ℕ) (text : List ℕ) (number : ℕ) (left : List (List ℕ)) (going : Going) → HasRead earlier text number left going → left ≡ [] → HasRecords text (finished going)
-records_at_end earlier text number left going read none =
-    let all = read.all ∙ ap (λ l. read.before ++ l) none ∙ append-nil read.before in
-    let leaves = read.leaves in
-    record {
-      ended = leaves.ended;
-      last = leaves.last;
-      lines = ap shown all ∙ leaves.lines_are;
-      all = ap finished leaves.going_is ∙ finished-going_of leaves.ended leaves.last;
-    }
-
-pub within_at_end : (text : List ℕ) (number : ℕ) (left : List (List ℕ)) (going : Going) → HasRead 0 text number left going → left ≡ [] → IsWithin text (finished going)
-within_at_end text number left going read none =
-    let all = read.all ∙ ap (λ l. read.before ++ l) none ∙ append-nil read.before in
+-- the records are no more than may be
+pub few_at : (earlier : ℕ) (text : List ℕ) (number : ℕ) (left : List (List ℕ)) (going : Going) → HasRead earlier text number left going → earlier + length (finished going) ≤ most_records
+few_at earlier text number left going read =
     let leaves = read.leaves in
     let records = ap finished leaves.going_is ∙ finished-going_of leaves.ended leaves.last in
-    let long = ap length records ∙ length-map record_of (filter has_field (leaves.ended ++ leaves.last ∷ [])) in
-    let count = ap (begun false) leaves.lines_are ∙ begun-groups leaves.ended leaves.last in
-    record {
-      short = subst (All IsShort) (sym all) read.short;
-      utf8 = subst (All IsUtf8) (sym all) read.utf8;
-      few = omega (arith, long, count, read.few);
-    }
+    omega (arith, ap length records, ap (begun false) leaves.lines_are ∙ begun-groups leaves.ended leaves.last, read.few)
+
+-- the text is read, these are its records, and nothing is wrong with it
+pub records_at_end : (earlier : ℕ) (text : List ℕ) (number : ℕ) (going : Going) → HasRead earlier text number [] going → HasRecords text (finished going) × IsSound earlier text
+records_at_end earlier text number going read =
+    let all = read.all ∙ append-nil read.before in
+    let leaves = read.leaves in (
+      record { ended = leaves.ended; last = leaves.last; lines = ap shown all ∙ leaves.lines_are; all = ap finished leaves.going_is ∙ finished-going_of leaves.ended leaves.last },
+      λ fault at wrong. omega (arith, read.clean fault at wrong, ap length (sym all ∙ wrong.all), length-append wrong.before (wrong.line ∷ wrong.after), wrong.counted, read.counted),
+    )
+
+all_of : {A : Type 0} (P : A → Type 0) (xs : List A) → ((front : List A) (x : A) (after : List A) → xs ≡ front ++ x ∷ after → P x) → All P xs
+all_of P [] each = All-nil P
+all_of P (x ∷ xs) each = All-cons P x xs (each [] x xs refl) (all_of P xs (λ front y after is. each (x ∷ front) y after (ap (λ l. x ∷ l) is)))
+
+-- the text is read to its end, or it has a fault
+read_all : (text : List ℕ) (number : ℕ) (left : List (List ℕ)) (going : Going) → HasRead 0 text number left going
+    → ((n : ℕ) × ((end : Going) × HasRead 0 text n [] end)) ⊎ ((fault : Fault) × ((at : ℕ) × IsTheFault 0 text fault at))
+read_all text number [] going read = inl (number, (going, read))
+read_all text number (line ∷ left) going read =
+    by_result (step 0 going line) (read_step 0 text number going line left read) (λ new is next. read_all text (number + 1) left new next) (λ fault is found. inr (fault, (number + 1, found)))
+
+-- how many records lines have begun that have these
+pub count_of : (text : List ℕ) (records : List (List Field)) → HasRecords text records → begun false (shown (lines_of text)) ≡ length records
+count_of text records has = ap (begun false) has.lines ∙ begun-groups has.ended has.last ∙ sym (ap length has.all)
+
+-- A text that has records, and with which nothing is wrong, keeps the limits.
+pub within_of : (text : List ℕ) (records : List (List Field)) → HasRecords text records → IsSound 0 text → IsWithin text records
+within_of text records has sound = record {
+  short = all_of (λ line. length line ≤ longest_line) (lines_of text) (λ front line after is.
+      elim (cases_lt longest_line (length line)) [
+        | inl long ↦ absurd (sound LineTooLong _ (record { before = front; line = line; after = after; all = is; counted = refl; wrong = long }))
+        | inr short ↦ short
+      ]);
+  utf8 = all_of IsUtf8 (lines_of text) (λ front line after is. IsUtf8-from_is_utf8 line (true_from_ne_false (is_utf8 line) (λ no.
+      sound NotUtf8 _ (record { before = front; line = line; after = after; all = is; counted = refl; wrong = λ utf8. both_ways _ no (is_utf8-from_IsUtf8 line utf8) }))));
+  few = elim (read_all text 0 (lines_of text) _ (read_none 0 text (omega arith))) [
+    | inl read ↦ omega (arith, few_at 0 text _ [] read.1.0 read.1.1, ap length (one_list text records _ has (records_at_end 0 text _ read.1.0 read.1.1).0))
+    | inr fault ↦ absurd (sound fault.0 fault.1.0 fault.1.1.wrong)
+  ];
+}
+
+all_at : (P : List ℕ → Type 0) (before : List (List ℕ)) (line : List ℕ) (after : List (List ℕ)) → All P (before ++ line ∷ after) → P line
+all_at P before line after all = All-head P line after (subst (All P) (drop-append_seam before (line ∷ after)) (All-drop P (length before) (before ++ line ∷ after) all))
+
+misfit : (kind : Line) (kinds : List Line) → is_continuation kind ≡ true → fits false (filter is_shown (kind ∷ kinds)) ≡ true → ⊥
+misfit Blank kinds is fit = cc
+misfit Separator kinds is fit = cc
+misfit (Continuation text) kinds is fit = cc
+misfit (Start name body) kinds is fit = cc
+misfit Bad kinds is fit = cc
+
+-- where the records fit, no line is wrong
+pub nothing_wrong_at : (text : List ℕ) (records : List (List Field)) → HasRecords text records → IsWithin text records → (fault : Fault) (number : ℕ) → IsWrongAt 0 text fault number → ⊥
+nothing_wrong_at text records has within fault number wrong =
+    let front = wrong.before in
+    let line = wrong.line in
+    let behind = fits-behind false (shown front) (shown (line ∷ wrong.after))
+    (ap (fits false) (sym (shown-append front (line ∷ wrong.after)) ∙ ap shown (sym wrong.all) ∙ has.lines) ∙ fits-groups has.ended has.last) in
+    each_fault (λ f. IsWrong 0 f front line → ⊥)
+    (λ w. omega (arith, w, all_at (λ l. length l ≤ longest_line) front line wrong.after (subst (All (λ l. length l ≤ longest_line)) wrong.all within.short)))
+    (λ w. w (all_at IsUtf8 front line wrong.after (subst (All IsUtf8) wrong.all within.utf8)))
+    (λ w. misfit (line_of line) (map line_of wrong.after) w.0 (subst (λ b. fits b (shown (line ∷ wrong.after)) ≡ true) w.1 behind))
+    (λ w. let bad = subst (λ k. fits (is_inside false (shown front)) (filter is_shown (k ∷ map line_of wrong.after)) ≡ true) w behind in cc)
+    (λ w.
+    let split = ap shown (wrong.all ∙ sym (append_assoc front (line ∷ []) wrong.after)) ∙ shown-append (front ++ line ∷ []) wrong.after in
+    omega (arith, w, ap (begun false) split ∙ begun-append false (shown (front ++ line ∷ [])) (shown wrong.after), count_of text records has, within.few)) fault wrong.wrong
+
+-- the fault of a rank
+abbrev of_rank : ℕ → Fault
+of_rank n = get_or (LineTooLong ∷ NotUtf8 ∷ LeadingContinuation ∷ BadLine ∷ TooManyRecords ∷ []) n LineTooLong
+
+pub same_fault : (earlier : ℕ) (text : List ℕ) (a b : Fault) (m n : ℕ) → IsTheFault earlier text a m → IsTheFault earlier text b n → (a ≡ b) × (m ≡ n)
+same_fault earlier text a b m n first second =
+    let line : m ≡ n = omega (arith, first.lowest b n second.wrong, second.lowest a m first.wrong) in
+    let same : rank a ≡ rank b =
+    omega (arith, first.first b (subst (IsWrongAt earlier text b) (sym line) second.wrong), second.first a (subst (IsWrongAt earlier text a) line first.wrong)) in
+    let back = each_fault (λ f. of_rank (rank f) ≡ f) refl refl refl refl refl in
+    (sym (back a) ∙ ap of_rank same ∙ back b, line)
+
+pub decided : (text : List ℕ) → ((records : List (List Field)) × HasRecords text records × IsWithin text records) ⊎ ((fault : Fault) × ((number : ℕ) × IsTheFault 0 text fault number))
+decided text = elim (read_all text 0 (lines_of text) _ (read_none 0 text (omega arith))) [
+  | inl read ↦ let end = records_at_end 0 text _ read.1.0 read.1.1 in inl (finished read.1.0, end.0, within_of text (finished read.1.0) end.0 end.1)
+  | inr fault ↦ inr fault
+]

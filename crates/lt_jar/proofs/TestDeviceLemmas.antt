@@ -15,20 +15,6 @@ given_in-front rest old new (suc more) n count copied long =
     (sym (take-append-drop n rest) ∙ ap (λ l. l ++ drop n rest) (sym front), λ none room. drop_of_length-le rest (omega arith))
 
 -- whether the reader has an end or not
-pub remaining-consumes : (endless : Bool) (bytes old new : List ℕ) (at piece place n : ℕ)
-    → place ≡ (if endless && nat_le (length bytes) at then 0 else at)
-    → n ≡ min (min (length (drop place bytes)) piece) (length old)
-    → new ≡ take n (drop place bytes) ++ drop n old → length new ≡ length old
-    → Consumes (if endless then None else Some (given_in piece (drop at bytes))) (if endless then None else Some (given_in piece (drop (place + n) bytes))) (take n new)
-    × (n ≡ 0 → 0 < length new → IsAtEnd (if endless then None else Some (given_in piece (drop (place + n) bytes))))
-remaining-consumes true bytes old new at piece place n is count copied long = (tt, λ _ _. tt)
-remaining-consumes false bytes old new at piece place n is count copied long =
-    let given = given_in-front (drop place bytes) old new piece n count copied long in
-    let start : drop at bytes ≡ drop place bytes = ap (λ k. drop k bytes) (sym is) in
-    let rest : drop (place + n) bytes ≡ drop n (drop place bytes) = sym (drop-drop n place bytes) in
-    (ap (given_in piece) start ∙ given.0 ∙ ap (λ l. take n new ++ given_in piece l) (sym rest), λ none room. ap (given_in piece) rest ∙ given.1 none room)
-
--- the same of values that are known by equations
 pub remaining-moves : (endless endless' : Bool) (bytes bytes' left old new : List ℕ) (at at' piece piece' place n : ℕ)
     → endless' ≡ endless → bytes' ≡ bytes → piece' ≡ piece → at' ≡ place + n
     → place ≡ (if endless && nat_le (length bytes) at then 0 else at)
@@ -37,11 +23,16 @@ pub remaining-moves : (endless endless' : Bool) (bytes bytes' left old new : Lis
     → Consumes (if endless then None else Some (given_in piece (drop at bytes))) (if endless' then None else Some (given_in piece' (drop at' bytes'))) (take n new)
     × (n ≡ 0 → 0 < length new → IsAtEnd (if endless' then None else Some (given_in piece' (drop at' bytes'))))
 remaining-moves endless endless' bytes bytes' left old new at at' piece piece' place n same_end same_bytes same_piece moved is from count copied long =
-    let front : left ≡ drop place bytes = from ∙ ap (drop place) same_bytes in
-    let as_long : length left ≡ length (drop place bytes) = ap length front in
-    let count_is : n ≡ min (min (length (drop place bytes)) piece) (length old) = omega arith in
-    let copied_is : new ≡ take n (drop place bytes) ++ drop n old = copied ∙ ap (λ l. take n l ++ drop n old) front in
-    rw (same_end, same_bytes, same_piece, moved) (remaining-consumes endless bytes old new at piece place n is count_is copied_is long)
+    rw (same_end, same_bytes, same_piece, moved) (by_end endless is (given_in-front left old new piece n (omega (arith, count, same_piece)) copied long) (from ∙ ap (drop place) same_bytes))
+  where
+    by_end : (b : Bool) → place ≡ (if b && nat_le (length bytes) at then 0 else at)
+        → (given_in piece left ≡ take n new ++ given_in piece (drop n left)) × (n ≡ 0 → 0 < length new → given_in piece (drop n left) ≡ []) → left ≡ drop place bytes
+        → Consumes (if b then None else Some (given_in piece (drop at bytes))) (if b then None else Some (given_in piece (drop (place + n) bytes))) (take n new)
+        × (n ≡ 0 → 0 < length new → IsAtEnd (if b then None else Some (given_in piece (drop (place + n) bytes))))
+    by_end true there given front = (tt, λ _ _. tt)
+    by_end false there given front =
+        let rest : drop (place + n) bytes ≡ drop n left = sym (drop-drop n place bytes) ∙ ap (drop n) (sym front) in
+        (ap (λ k. given_in piece (drop k bytes)) (sym there) ∙ ap (given_in piece) (sym front) ∙ given.0 ∙ ap (λ l. take n new ++ given_in piece l) (sym rest), λ none room. ap (given_in piece) rest ∙ given.1 none room)
 
 -- what is from a place on, and nothing past the end
 pub part-from : (bytes : List ℕ) (at : ℕ) (got : Option (Bor (List ℕ))) (empty : Bor (List ℕ)) → empty.now ≡ []

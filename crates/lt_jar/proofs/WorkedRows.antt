@@ -2,7 +2,7 @@
 use Rattle.std.proofs.Common.{◌≡◌, ℕ, List, [], ◌∷◌, ◌++◌, refl, codes, false}
 use Rattle.lt_jar.specs.Lines.{lines_of}
 use Rattle.lt_jar.specs.LineKinds.{Bad, Continuation, Separator, Start, line_of}
-use Rattle.lt_jar.specs.Records.{HasRecords, Written, shown}
+use Rattle.lt_jar.specs.Records.{HasRecords, shown}
 use Rattle.lt_jar.specs.Faults.{IsWrongAt, LeadingContinuation, begun}
 
 -- a line feed ends a line, and what follows the last one is a line only if it has a byte
@@ -19,12 +19,9 @@ folded = codes "A:" ++ 10 ∷ (codes "  b " ++ 10 ∷ 9 ∷ codes "c")
 folded_lines : shown (lines_of folded) ≡ Start (codes "A") [] ∷ Continuation (codes "b") ∷ Continuation (codes "c") ∷ []
 folded_lines = refl
 
-abbrev folded_field : Written
-folded_field = record { name = codes "A"; first = []; more = codes "b" ∷ codes "c" ∷ [] }
-
 -- one record with the one field `A`, body `b c`
 folded_records : HasRecords folded (((codes "A", codes "b c") ∷ []) ∷ [])
-folded_records = record { ended = []; last = folded_field ∷ []; lines = refl; all = refl }
+folded_records = record { ended = []; last = record { name = codes "A"; first = []; more = codes "b" ∷ codes "c" ∷ [] } ∷ []; lines = refl; all = refl }
 
 empty_records : HasRecords [] []
 empty_records = record { ended = []; last = []; lines = refl; all = refl }
@@ -33,19 +30,13 @@ empty_records = record { ended = []; last = []; lines = refl; all = refl }
 no_records : HasRecords (codes "%%" ++ 10 ∷ 10 ∷ (codes "%%" ++ 10 ∷ [])) []
 no_records = record { ended = [] ∷ [] ∷ []; last = []; lines = refl; all = refl }
 
-abbrev gap_field : Written
-gap_field = record { name = codes "A"; first = codes "b:c"; more = [] }
-
 -- `A : b:c`, then `%%` with a tab after it
 with_gap : HasRecords (codes "A : b:c" ++ 10 ∷ (codes "%%" ++ 9 ∷ [])) (((codes "A", codes "b:c") ∷ []) ∷ [])
-with_gap = record { ended = (gap_field ∷ []) ∷ []; last = []; lines = refl; all = refl }
-
-abbrev blanks_field : Written
-blanks_field = record { name = codes "A"; first = codes "b"; more = codes "c" ∷ [] }
+with_gap = record { ended = (record { name = codes "A"; first = codes "b:c"; more = [] } ∷ []) ∷ []; last = []; lines = refl; all = refl }
 
 -- a line of one space, `A: b`, a line of one space, ` c`
 with_blanks : HasRecords (codes " " ++ 10 ∷ (codes "A: b" ++ 10 ∷ (codes " " ++ 10 ∷ codes " c"))) (((codes "A", codes "b c") ∷ []) ∷ [])
-with_blanks = record { ended = []; last = blanks_field ∷ []; lines = refl; all = refl }
+with_blanks = record { ended = []; last = record { name = codes "A"; first = codes "b"; more = codes "c" ∷ [] } ∷ []; lines = refl; all = refl }
 
 bad_word : line_of (codes "abc") ≡ Bad
 bad_word = refl

@@ -7,6 +7,7 @@ ghost use Rattle.lt_jar.specs.Views.{line_in};
 ghost use Rattle.lt_jar.specs.Pieces.{SplitsLine};
 
 /// What is before the first line feed and after it, if there is one.
+#[tactic(auto, using(crate::proofs::CutLemmas::split_at, crate::proofs::CutLemmas::whole_line))]
 pub(crate) fn split_line(text: &[u8]) -> Option<(&[u8], &[u8])>
     ensures { SplitsLine text.now result }
 {

@@ -1,4 +1,4 @@
-use Rattle.lt_jar.proofs.LawLemmas.{same_fault}
+use Rattle.lt_jar.proofs.ReadLemmas.{same_fault}
 use Rattle.lt_jar.proofs.laws.one_fault.Goals as goal
 
 pub returns : goal.returns

@@ -1,4 +1,4 @@
-use Rattle.lt_jar.proofs.ParseLemmas.{one_list}
+use Rattle.lt_jar.proofs.GroupLemmas.{one_list}
 use Rattle.lt_jar.proofs.laws.one_list_of_records.Goals as goal
 
 pub returns : goal.returns

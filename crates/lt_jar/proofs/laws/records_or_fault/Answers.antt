@@ -1,4 +1,4 @@
-use Rattle.lt_jar.proofs.LawLemmas.{decided}
+use Rattle.lt_jar.proofs.ReadLemmas.{decided}
 use Rattle.lt_jar.proofs.laws.records_or_fault.Goals as goal
 
 pub returns : goal.returns

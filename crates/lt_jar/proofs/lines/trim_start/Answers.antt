@@ -1,11 +1,11 @@
 use Rattle.std.proofs.Common.{rules, arith}
+use Rattle.std.proofs.lemmas.Bool.Decides.{nat_tests}
 use Rattle.std.proofs.lemmas.Grind.{common_steps}
-use Rattle.std.proofs.lemmas.Str.{IsCharBoundary-start}
-use Rattle.lt_jar.proofs.BoundaryLemmas.{after_blank}
+use Rattle.std.proofs.lemmas.Str.{IsCharBoundary-after_ascii, IsCharBoundary-start}
 use Rattle.lt_jar.proofs.lines.trim_start.Goals as goal
 
 pub loop-i-init : goal.loop-i-init
 loop-i-init c = record { trimmed = search rules; boundary = IsCharBoundary-start c.args.text.now c.utf8.text }
 
 pub loop-i-preserved : goal.loop-i-preserved
-loop-i-preserved c = record { trimmed = grind (arith, common_steps); boundary = after_blank c.args.text.now c.loop-i.i c.utf8.text (omega arith) (search rules) }
+loop-i-preserved c = record { trimmed = grind (arith, common_steps); boundary = IsCharBoundary-after_ascii c.args.text.now c.loop-i.i c.utf8.text (omega arith) (grind (arith, nat_tests)) }

@@ -2,7 +2,7 @@ use Rattle.std.proofs.Common.{rules, sym, ap, ◌∙◌, ◌-◌}
 use Rattle.std.specs.Vec.{vec_len}
 use Rattle.lt_jar.specs.Records.{Field}
 use Rattle.lt_jar.specs.Reading.{lengthened}
-use Rattle.lt_jar.proofs.TakeLemmas.{continued-set}
+use Rattle.lt_jar.proofs.ReadingLemmas.{continued-set}
 use Rattle.lt_jar.proofs.drafts.Draft.continue_field.Goals as goal
 
 pub returns-in_ok-lengthen-in-Some : goal.returns-in_ok-lengthen-in-Some
