@@ -1,23 +1,27 @@
--- A text that has a fault has no tag, and one fault alone.
-use Rattle.std.proofs.Common.{◌≡◌, ℕ, ◌≤◌, ◌<◌, ◌+◌, ◌-◌, List, [], length, refl, sym, ap, subst, ◌∙◌, arith, inl, inr}
-use Rattle.std.specs.Prelude.{Result, Ok, Err, IsOk, slice_index_or}
-use Rattle.std.proofs.lemmas.List.{take_all}
-use Rattle.std.proofs.lemmas.Bool.{cases_order}
+-- Each text has a tag or a fault, and one fault alone.
+use Rattle.std.proofs.Common.{◌≡◌, ℕ, ◌≤◌, ◌<◌, ◌+◌, ◌-◌, List, [], length, refl, sym, ap, subst, ◌∙◌, arith, inl, inr, ◌⊎◌, zero, suc, ◌∷◌, ◌++◌}
+use Rattle.std.specs.Prelude.{Result, Ok, Err, Option, Some, None}
+use Rattle.std.proofs.lemmas.List.{take_all, append_assoc, append-nil, length_push, length-map}
+use Rattle.std.proofs.lemmas.Bool.{cases_lt, cases_eq}
 use Rattle.std.specs.List.{list_all}
-use Rattle.lt_subtag.specs.Bytes.{is_subtag}
-use Rattle.lt_subtag.specs.Reading.{subtag_of}
+use Rattle.lt_subtag.specs.Bytes.{is_subtag, folded}
 use Rattle.lt_subtag.specs.declared.SubtagFault.{SubtagFault}
-use Rattle.lt_subtag.specs.declared.SubtagFault.TheVariants as subtag_faults
 use Rattle.lt_tag.specs.declared.faults.TagFaultKind.{TagFaultKind}
-use Rattle.lt_tag.specs.declared.faults.TagFaultKind.TheVariants as kinds
 use Rattle.lt_tag.specs.Parts.{TagForm, LangTag, PrivateUse, Grandfathered}
 use Rattle.lt_tag.specs.Lists.{pieces, list_of, longest_text}
-use Rattle.lt_tag.specs.Listing.{kind_of}
-use Rattle.lt_tag.specs.WellFormed.{spell, IsTag, IsWellFormed, Begins, IsFirstMisplaced}
+use Rattle.lt_tag.specs.Listing.{kind_of, listed}
+use Rattle.lt_tag.specs.WellFormed.{spell, IsTag, IsWellFormed, Begins, IsFirstMisplaced, IsShaped, IsNotGrandfathered}
 use Rattle.lt_tag.specs.Faults.{IsFault, IsFirstBadPiece, HasList, HasBadList, HasFault, HasTag}
-use Rattle.lt_tag.proofs.DraftResults.{Begins-take}
+use Rattle.lt_tag.proofs.DraftLemmas.{Begins-take, draft_of, draft_is, finished_is, unfinished, refused, bad_language, of_first, of_more, bad_list, misplaced_behind}
 use Rattle.lt_tag.proofs.LetterLemmas.{to_HasList}
 use Rattle.lt_tag.proofs.ShapeLemmas.{tag_subtags}
+use Rattle.lt_tag.specs.declared.faults.TagFault.{TagFault}
+use Rattle.lt_tag.specs.Grandfathered.{grandfathered_list, IsGrandfathered}
+use Rattle.lt_tag.specs.Draft.{Draft, begun, drafted, finished}
+use Rattle.lt_tag.proofs.ListedLemmas.{listed-Err}
+use Rattle.lt_tag.proofs.TextLemmas.{piece_fault, text_list, some_pieces}
+use Rattle.lt_subtag.specs.declared.SubtagFault.TheVariants as subtag_faults
+use Rattle.lt_tag.specs.declared.faults.TagFaultKind.TheVariants as kinds
 
 -- why a list is no tag's
 data ListCause (list : List (List ℕ)) : TagFaultKind → ℕ → Type 0 where
@@ -47,24 +51,16 @@ tag_formed (LangTag core es ps) list k e = inr (LangTag core es ps, k.0, e)
 tag_formed (PrivateUse ps) list k e = inr (PrivateUse ps, k, e)
 tag_formed (Grandfathered number) list k e = inl (number, record { first = k.0; last = k.1; same = sym e })
 
-bad_ok : (r : Result (List ℕ) SubtagFault) (fault : SubtagFault) → r ≡ Err fault → IsOk r → ⊥
-bad_ok (Ok s) fault e o = cc
-bad_ok (Err other) fault e o = cc
-
 -- each piece is a subtag, or one is not
 good_or_bad : (text : List ℕ) (fault : SubtagFault) (place : ℕ) → HasList text → IsFirstBadPiece text fault place → ⊥
 good_or_bad text fault place l b =
-    let at : place - 1 + 1 ≡ place = omega (arith, b.first) in
-    let here = b.here (place - 1) at in
+    let here = b.here (place - 1) (omega (arith, b.first)) in
     let ok = l (place - 1) (omega (arith, b.first, b.within)) in
-    bad_ok (subtag_of (slice_index_or (pieces text) (place - 1) [])) fault here ok
-
-tag_listed : (text : List ℕ) (tag : TagForm) → HasTag text tag → HasList text
-tag_listed text tag t = to_HasList text (ap (list_all is_subtag) (sym t.spelled) ∙ tag_subtags tag t.tag)
+    cc
 
 cause_excludes_tag : (text : List ℕ) (kind : TagFaultKind) (place : ℕ) (tag : TagForm) → Cause text kind place → HasTag text tag → ⊥
 cause_excludes_tag text kind place tag (long n) t = omega (arith, t.short)
-cause_excludes_tag text kind place tag (piece fault at n b) t = good_or_bad text fault at (tag_listed text tag t) b
+cause_excludes_tag text kind place tag (piece fault at n b) t = good_or_bad text fault at (to_HasList text (ap (list_all is_subtag) (sym t.spelled) ∙ tag_subtags tag t.tag)) b
 cause_excludes_tag text kind place tag (bad l _) t = l.bad (tag_formed tag (list_of text) t.tag t.spelled)
 
 pub fault_excludes_tag : (text : List ℕ) (kind : TagFaultKind) (place : ℕ) (tag : TagForm) → HasFault text kind place → HasTag text tag → ⊥
@@ -73,19 +69,15 @@ fault_excludes_tag text kind place tag f t = cause_excludes_tag text kind place 
 -- the least place is one
 one_place : (list : List (List ℕ)) (a b : ℕ) → IsFirstMisplaced list a → IsFirstMisplaced list b → a ≡ b
 one_place list a b m n =
-    elim (cases_order a b) [
-      | inl same ↦ same
-      | inr order ↦ elim order [ inl less ↦ absurd (m.stops (n.goes a less)) | inr less ↦ absurd (n.stops (m.goes b less)) ]
-    ]
+    let not_less : a < b → ⊥ = λ less. m.stops (n.goes a less) in
+    let not_more : b < a → ⊥ = λ less. n.stops (m.goes b less) in
+    omega arith
 
 -- a list that begins a tag has no misplaced subtag
 none_misplaced : (list : List (List ℕ)) (place : ℕ) → IsFirstMisplaced list place → Begins list → ⊥
-none_misplaced list place m b = m.stops (Begins-take list place (length list) m.within (subst (λ (l : List (List ℕ)). Begins l) (sym (take_all (length list) list (omega arith))) b))
+none_misplaced list place m b = m.stops (Begins-take list place (length list) m.within (rw (take_all (length list) list (omega arith)) b))
 
-abbrev Same : TagFaultKind → TagFaultKind → ℕ → ℕ → Type 0
-Same kind other place elsewhere = (kind ≡ other) × (place ≡ elsewhere)
-
-one_list_cause : (list : List (List ℕ)) (kind other : TagFaultKind) (place elsewhere : ℕ) → ListCause list kind place → ListCause list other elsewhere → Same kind other place elsewhere
+one_list_cause : (list : List (List ℕ)) (kind other : TagFaultKind) (place elsewhere : ℕ) → ListCause list kind place → ListCause list other elsewhere → (kind ≡ other) × (place ≡ elsewhere)
 one_list_cause list kind other place elsewhere (first m) (first n) = (refl, refl)
 one_list_cause list kind other place elsewhere (first m) (later at n l) = let same = one_place list 1 at m n in absurd (omega arith)
 one_list_cause list kind other place elsewhere (first m) (end b) = absurd (none_misplaced list 1 m b)
@@ -99,15 +91,15 @@ one_list_cause list kind other place elsewhere (end b) (end d) = (refl, refl)
 -- a piece before the first bad one is a subtag
 piece_before : (text : List ℕ) (fault other : SubtagFault) (a b : ℕ) → IsFirstBadPiece text fault a → IsFirstBadPiece text other b → a < b → ⊥
 piece_before text fault other a b p q less =
-    let at : a - 1 + 1 ≡ a = omega (arith, p.first) in
-    bad_ok (subtag_of (slice_index_or (pieces text) (a - 1) [])) fault (p.here (a - 1) at) (q.before (a - 1) (omega arith))
+    let here = p.here (a - 1) (omega (arith, p.first)) in
+    let ok = q.before (a - 1) (omega (arith, p.first)) in
+    cc
 
 one_piece : (text : List ℕ) (fault other : SubtagFault) (a b : ℕ) → IsFirstBadPiece text fault a → IsFirstBadPiece text other b → a ≡ b
 one_piece text fault other a b p q =
-    elim (cases_order a b) [
-      | inl same ↦ same
-      | inr order ↦ elim order [ inl less ↦ absurd (piece_before text fault other a b p q less) | inr less ↦ absurd (piece_before text other fault b a q p less) ]
-    ]
+    let not_less = piece_before text fault other a b p q in
+    let not_more = piece_before text other fault b a q p in
+    omega arith
 
 one_piece_fault : (text : List ℕ) (fault other : SubtagFault) (a b : ℕ) → IsFirstBadPiece text fault a → IsFirstBadPiece text other b → fault ≡ other
 one_piece_fault text fault other a b p q =
@@ -116,7 +108,7 @@ one_piece_fault text fault other a b p q =
     let there = q.here (a - 1) (omega (arith, p.first)) in
     cc
 
-one_cause : (text : List ℕ) (kind other : TagFaultKind) (place elsewhere : ℕ) → Cause text kind place → Cause text other elsewhere → Same kind other place elsewhere
+one_cause : (text : List ℕ) (kind other : TagFaultKind) (place elsewhere : ℕ) → Cause text kind place → Cause text other elsewhere → (kind ≡ other) × (place ≡ elsewhere)
 one_cause text kind other place elsewhere (long n) (long m) = (refl, refl)
 one_cause text kind other place elsewhere (long n) (piece fault at m b) = absurd (omega arith)
 one_cause text kind other place elsewhere (long n) (bad l c) = absurd (omega (arith, l.short))
@@ -130,3 +122,119 @@ one_cause text kind other place elsewhere (bad l c) (bad m d) = one_list_cause (
 pub one_fault : (text : List ℕ) (kind other : TagFaultKind) (place elsewhere : ℕ) → HasFault text kind place → HasFault text other elsewhere → (kind ≡ other) × (place ≡ elsewhere)
 one_fault text kind other place elsewhere f g =
     one_cause text kind other place elsewhere (cause text kind place f.fault f.memory_aside) (cause text other elsewhere g.fault g.memory_aside)
+
+-- ---- each text has a tag or a fault
+
+-- the text has a tag or a fault
+abbrev pub HasTagOrFault : List ℕ → Type 0
+HasTagOrFault text = ((form : TagForm) × HasTag text form) ⊎ ((kind : TagFaultKind) × (place : ℕ) × HasFault text kind place)
+
+-- lists whose elements are equal or not are equal or not
+same_or_not : {X : Type 0} → ((x y : X) → (x ≡ y) ⊎ (x ≡ y → ⊥)) → (xs ys : List X) → (xs ≡ ys) ⊎ (xs ≡ ys → ⊥)
+same_or_not each [] [] = inl refl
+same_or_not each [] (y ∷ ys) = inr (λ e. cc)
+same_or_not each (x ∷ xs) [] = inr (λ e. cc)
+same_or_not each (x ∷ xs) (y ∷ ys) = grind (arith, each x y, same_or_not each xs ys)
+
+abbrev same_list : (a b : List (List ℕ)) → (a ≡ b) ⊎ (a ≡ b → ⊥)
+same_list = same_or_not (same_or_not cases_eq)
+
+-- a list has one of the first this many numbers, or none
+first_numbers : (list : List (List ℕ)) (n : ℕ) → n ≤ 26 → ((k : ℕ) × IsGrandfathered list k) ⊎ ((k : ℕ) → k ≤ n → IsGrandfathered list k → ⊥)
+first_numbers list zero l = inr (λ k m g. absurd (omega (arith, g.first)))
+first_numbers list (suc n) l =
+    elim (first_numbers list n (omega arith)) [
+      | inl found ↦ inl found
+      | inr none ↦ elim (same_list list (grandfathered_list (suc n))) [
+        | inl same ↦ inl (suc n, record { first = omega arith; last = l; same = same })
+        | inr differ ↦ inr (λ k m g. elim (cases_lt n k) [ inl more ↦ let last : k ≡ suc n = omega arith in differ (g.same ∙ ap grandfathered_list last) | inr less ↦ none k less g ])
+      ]
+    ]
+
+-- a list that the machine refuses has a first misplaced subtag, after those of a draft
+first_misplaced : (done rest : List (List ℕ)) (draft : Draft) → 0 < length done → draft_of done ≡ Some draft → draft_of (done ++ rest) ≡ None → (place : ℕ) × IsFirstMisplaced (done ++ rest) place × (1 < place)
+first_misplaced done [] draft some has none = let same : draft_of (done ++ []) ≡ Some draft = ap draft_of (append-nil done) ∙ has in cc
+first_misplaced done (t ∷ ts) draft some has none = go (λ more next. first_misplaced (done ++ t ∷ []) ts more (omega (arith, length_push done t)) next (ap draft_of (append_assoc done (t ∷ []) ts) ∙ none)) (drafted draft t) refl
+  where
+    go : ((more : Draft) → draft_of (done ++ t ∷ []) ≡ Some more → (place : ℕ) × IsFirstMisplaced ((done ++ t ∷ []) ++ ts) place × (1 < place)) → (o : Option Draft) → o ≡ drafted draft t
+        → (place : ℕ) × IsFirstMisplaced (done ++ t ∷ ts) place × (1 < place)
+    go again None e =
+        let stop : draft_of (done ++ t ∷ []) ≡ None = of_more done t draft some has ∙ sym e in
+        let first = subst (λ (l : List (List ℕ)). IsFirstMisplaced l (length done + 1)) (append_assoc done (t ∷ []) ts) (misplaced_behind done t ts draft has stop) in
+        (length done + 1, first, omega arith)
+    go again (Some more) e =
+        let later = again more (of_more done t draft some has ∙ sym e) in
+        (later.0, subst (λ (l : List (List ℕ)). IsFirstMisplaced l later.0) (append_assoc done (t ∷ []) ts) later.1, later.2)
+
+-- a shaped value whose list is not grandfathered is a tag
+shaped_tag : (form : TagForm) → IsShaped form → IsNotGrandfathered (spell form) → IsTag form
+shaped_tag (LangTag core es ps) k other = (k, other)
+shaped_tag (PrivateUse ps) k other = k
+shaped_tag (Grandfathered number) k other = absurd k
+
+module _ (text : List ℕ) (list : List (List ℕ)) (short : length text ≤ longest_text) (all : listed 1 (pieces text) ≡ Ok list) (other : IsNotGrandfathered list) where
+  unlisted : IsNotGrandfathered (list_of text)
+  unlisted = rw (← (text_list text list all).1) other
+
+  -- a list that the machine takes
+  drafted_list : (draft : Draft) → draft_of list ≡ Some draft → HasTagOrFault text
+  drafted_list draft h = go (finished draft) refl
+    where
+      go : (o : Option TagForm) → o ≡ finished draft → HasTagOrFault text
+      go (Some form) e =
+          let d = draft_is list draft h in
+          let f = finished_is draft form d.0 (sym e) in
+          let same : spell form ≡ list = f.1 ∙ d.1 in
+          inl (form, record { short = short; tag = shaped_tag form f.0 (rw same other); spelled = same ∙ (text_list text list all).1 })
+      go None e =
+          let u = unfinished list draft h (sym e) in
+          inr (kinds.Unfinished, length (list_of text) + 1, record { fault = (bad_list text list short all unlisted u.1, rw (← (text_list text list all).1) u.0, refl); memory_aside = λ e. cc })
+
+  -- a list that the machine refuses
+  misplaced_list : (place : ℕ) → draft_of list ≡ None → 0 < length list → IsFirstMisplaced list place → (1 < place) ⊎ (place ≡ 1) → HasTagOrFault text
+  misplaced_list place none some m at =
+      let bad = bad_list text list short all unlisted (λ form k e. refused list [] none some form k (append-nil list ∙ sym e)) in
+      let first : IsFirstMisplaced (list_of text) place = rw (← (text_list text list all).1) m in
+      elim at [
+        | inl after ↦ inr (kinds.Misplaced, place, record { fault = (bad, first, after); memory_aside = λ e. cc })
+        | inr one ↦ inr (kinds.BadLanguage, place, record { fault = (bad, rw one at first, one); memory_aside = λ e. cc })
+      ]
+
+-- the list of a text that is not grandfathered
+by_machine : (text : List ℕ) (list : List (List ℕ)) → length text ≤ longest_text → listed 1 (pieces text) ≡ Ok list → IsNotGrandfathered list → 0 < length list → HasTagOrFault text
+by_machine text [] short all other some = absurd (omega arith)
+by_machine text (s ∷ ss) short all other some = go (draft_of (s ∷ ss)) (begun s) refl refl
+  where
+    go : (o one : Option Draft) → o ≡ draft_of (s ∷ ss) → one ≡ begun s → HasTagOrFault text
+    go (Some draft) one e f = drafted_list text (s ∷ ss) short all other draft (sym e)
+    go None None e f = misplaced_list text (s ∷ ss) short all other 1 (sym e) some (bad_language s ss (of_first s ∙ sym f)) (inr refl)
+    go None (Some draft) e f =
+        let m = first_misplaced (s ∷ []) ss draft (omega arith) (of_first s ∙ sym f) (sym e) in
+        misplaced_list text (s ∷ ss) short all other m.0 (sym e) some m.1 (inl m.2)
+
+by_list : (text : List ℕ) (list : List (List ℕ)) → length text ≤ longest_text → listed 1 (pieces text) ≡ Ok list → HasTagOrFault text
+by_list text list short all =
+    let l = text_list text list all in
+    elim (first_numbers list 26 (omega arith)) [
+      | inl found ↦ inl (Grandfathered found.0, record { short = short; tag = (found.1.first, found.1.last); spelled = sym found.1.same ∙ l.1 })
+      | inr none ↦ by_machine text list short all (λ k g. none k g.last g) (omega (arith, ap length l.1, length-map (pieces text) folded, some_pieces text))
+    ]
+
+no_memory_fault : (fault : SubtagFault) → kind_of fault ≡ kinds.OutOfMemory → ⊥
+no_memory_fault subtag_faults.Empty e = cc
+no_memory_fault subtag_faults.BadByte e = cc
+no_memory_fault subtag_faults.TooLong e = cc
+
+by_pieces : (text : List ℕ) → length text ≤ longest_text → (r : Result (List (List ℕ)) TagFault) → r ≡ listed 1 (pieces text) → HasTagOrFault text
+by_pieces text short (Ok list) e = by_list text list short (sym e)
+by_pieces text short (Err found) e =
+    let stop = listed-Err 1 (pieces text) found (sym e) in
+    inr (found.kind, found.place, record { fault = piece_fault text found short (sym e); memory_aside = λ k. no_memory_fault stop.fault (sym stop.kind ∙ k) })
+
+-- each text has a tag or a fault
+pub tag_or_fault : (text : List ℕ) → HasTagOrFault text
+tag_or_fault text =
+    elim (cases_lt longest_text (length text)) [
+      | inl over ↦ inr (kinds.TooLong, 0, record { fault = (over, refl); memory_aside = λ e. cc })
+      | inr short ↦ by_pieces text short (listed 1 (pieces text)) refl
+    ]

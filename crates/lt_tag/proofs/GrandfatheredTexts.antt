@@ -1,21 +1,89 @@
--- A text has the list of a grandfathered tag exactly if it is that tag's text in some letter case.
-use Rattle.std.proofs.Common.{◌≡◌, true, false, ℕ, ◌≤◌, ◌<◌, ◌-◌, List, [], length, map, refl, sym, ap, ◌∙◌, arith, ◌+◌, ◌==◌, ◌∷◌, inl, inr}
-use Rattle.std.specs.Prelude.{Some, None, slice_get, slice_index_or, sum_by}
-use Rattle.std.specs.Char.{to_ascii_lowercase}
+-- Grandfathered lists: the pieces of a text compared with one, the first four subtags of a list, and the texts that have one.
+use Rattle.std.proofs.Common.{◌≡◌, ℕ, ◌≤◌, ◌<◌, ◌+◌, Bool, true, false, not, List, [], ◌∷◌, ◌++◌, length, take, drop, get_or, refl, sym, ap, ◌∙◌, arith, Bor, ◌-◌, zero, suc, map}
+use Rattle.std.specs.Prelude.{Option, Some, None, MatchOption, IsTrue, is_some, nat_le, IfSome, IfNone, slice_get, slice_index_or, sum_by}
+use Rattle.std.proofs.lemmas.List.{append_assoc, append-nil, append_cancel_left, take-append-drop, take_all, drop_more, length-take, get_or-map, length-map, length-append}
+use Rattle.std.proofs.lemmas.Grind.{take_at_read}
+use Rattle.lt_tag.specs.Lists.{pieces, list_of}
+use Rattle.lt_tag.specs.Rest.{pieces_left}
+use Rattle.lt_tag.proofs.TextLemmas.{some_pieces}
+use Rattle.lt_tag.proofs.ListLemmas.{head_is}
+use Rattle.lt_tag.specs.WellFormed.{IsNotGrandfathered}
 use Rattle.std.specs.List.{list_all, join_with_byte, onto_first}
-use Rattle.std.proofs.lemmas.List.{get_or-map, length-map}
+use Rattle.std.proofs.lemmas.Bool.{leb-true}
+use Rattle.lt_tag.specs.Grandfathered.{grandfathered_texts, grandfathered_list, IsGrandfathered}
+use Rattle.lt_tag.proofs.TagLemmas.{list_all-at, table_length}
+use Rattle.std.specs.Char.{to_ascii_lowercase}
 use Rattle.lt_subtag.specs.Bytes.{is_subtag, folded}
 use Rattle.lt_tag.specs.Parts.{Grandfathered}
-use Rattle.lt_tag.specs.Lists.{pieces, list_of}
 use Rattle.lt_tag.specs.GrandfatheredFronts.{begins_listed}
-use Rattle.lt_tag.specs.Grandfathered.{grandfathered_texts, grandfathered_list, IsGrandfathered}
 use Rattle.lt_tag.specs.Faults.{HasList}
-use Rattle.lt_tag.proofs.TagLemmas.{table_length, list_all-at}
-use Rattle.lt_tag.proofs.TextLemmas.{some_pieces}
 use Rattle.lt_tag.proofs.ShapeLemmas.{tag_subtags}
 use Rattle.lt_tag.proofs.LetterLemmas.{join_pieces, list_of_is, to_HasList}
 use Rattle.std.proofs.lemmas.List.Sums.{sum_by-cons}
-use Rattle.std.proofs.lemmas.Bool.{cases_Bool}
+use Rattle.std.proofs.lemmas.Bool.Decides.{nat_tests}
+
+pub cut_left : (ps : List (List ℕ)) (p : List ℕ) (after : Option (Bor (List ℕ))) → MatchOption after (ps ≡ p ∷ []) (λ rest. ps ≡ p ∷ pieces rest.now) → ps ≡ p ∷ pieces_left after
+cut_left ps p None h = h
+cut_left ps p (Some rest) h = h
+
+-- what is at a place, where the list is known from there on
+pub next_is : (list : List (List ℕ)) (i : ℕ) (s x : List ℕ) (more : List (List ℕ)) → i < length list → s ≡ get_or list i s → list ≡ take i list ++ x ∷ more → s ≡ x
+next_is list i s x more within read e =
+    let rest : drop i list ≡ x ∷ more = append_cancel_left (take i list) (drop i list) (x ∷ more) (take-append-drop i list ∙ e) in
+    let here : drop i list ≡ get_or list i s ∷ drop (i + 1) list = drop_more list i s within in
+    read ∙ head_is (get_or list i s) x (drop (i + 1) list) more (sym here ∙ rest)
+
+pub one_more : (ps list : List (List ℕ)) (i : ℕ) (s p : List ℕ) (more : List (List ℕ)) → i < length list → s ≡ get_or list i s → s ≡ p → ps ≡ take i list ++ p ∷ more → ps ≡ take (i + 1) list ++ more
+one_more ps list i s p more within read same e = rw ((take_at_read list i s within).1, append_assoc (take i list), ← read, same) e
+
+-- no subtag is left: the pieces are the same if none of them is left
+pub at_end : (list ps : List (List ℕ)) (i : ℕ) (rest : Option (Bor (List ℕ))) (r : Bool) → length list ≤ i → ps ≡ take i list ++ pieces_left rest → is_some rest ≡ not r
+    → (IsTrue r → list ≡ ps) × (list ≡ ps → IsTrue r)
+at_end list ps i None true n e h = (λ _. rw (e, append-nil (take i list)) (sym (take_all i list n)), λ _. refl)
+at_end list ps i (Some rest) true n e h = (λ _. cc, λ _. refl)
+at_end list ps i None false n e h = (λ t. cc, λ s. cc)
+at_end list ps i (Some rest) false n e h =
+    (λ t. cc, λ s. absurd (omega (arith, some_pieces rest.now, ap length s, ap length e, length-append (take i list) (pieces rest.now), ap length (take_all i list n))))
+
+-- ---- the first four subtags
+
+short_in_table : list_all (λ (t : List ℕ). nat_le (length (pieces t)) 3) grandfathered_texts ≡ true
+unfolding grandfathered_texts
+short_in_table = refl
+
+pub short : (number : ℕ) → 1 ≤ number → number ≤ 26 → length (grandfathered_list number) ≤ 3
+unfolding grandfathered_list
+short number first last =
+    leb-true _ 3 (list_all-at (λ (t : List ℕ). nat_le (length (pieces t)) 3) grandfathered_texts (number - 1) short_in_table (omega (arith, table_length)))
+
+-- what the first four subtags are
+pub from_front : (list : List (List ℕ)) (number : ℕ) → IsGrandfathered (take 4 list) number → IsGrandfathered list number
+from_front list number g =
+    let few = short number g.first g.last in
+    let same : length (take 4 list) ≡ length (grandfathered_list number) = ap length g.same in
+    record { first = g.first; last = g.last; same = sym (take_all 4 list (omega (arith, length-take 4 list))) ∙ g.same }
+
+pub to_front : (list : List (List ℕ)) (number : ℕ) → IsGrandfathered list number → IsGrandfathered (take 4 list) number
+to_front list number g =
+    let few = short number g.first g.last in
+    let same : length list ≡ length (grandfathered_list number) = ap length g.same in
+    record { first = g.first; last = g.last; same = take_all 4 list (omega arith) ∙ g.same }
+
+-- cutting before more is added changes nothing
+pub take-take_append : {X : Type 0} (n : ℕ) (xs ys : List X) → take n (take n xs ++ ys) ≡ take n (xs ++ ys)
+take-take_append zero xs ys = refl
+take-take_append (suc n) [] ys = refl
+take-take_append (suc n) (x ∷ xs) ys = ap (◌∷◌ x) (take-take_append n xs ys)
+
+pub literal_found : (o : Option ℕ) (front list : List (List ℕ)) → front ≡ take 4 list → IfSome o (λ n. IsGrandfathered front n) → IfSome o (λ n. IsGrandfathered list n)
+literal_found None front list e h = h
+literal_found (Some n) front list e h = from_front list n (rw (← e) h)
+
+pub literal_none : (o : Option ℕ) (front list : List (List ℕ)) → front ≡ take 4 list → IfNone o (IsNotGrandfathered front) → IfNone o (IsNotGrandfathered list)
+literal_none None front list e h = λ n g. h n (rw e (to_front list n g))
+literal_none (Some n) front list e h = h
+
+-- ---- a text has the list of a grandfathered tag exactly if it is that text in some letter case
 
 -- the text of a number
 abbrev known : ℕ → List ℕ
@@ -53,10 +121,7 @@ sum-onto_first b (p ∷ ps) n = omega (arith, sum_by-cons (λ (x : List ℕ). le
 pub sum-pieces : (text : List ℕ) → sum_by length (pieces text) + length (pieces text) ≡ length text + 1
 sum-pieces [] = refl
 sum-pieces (b ∷ bs) =
-    elim (cases_Bool (b == 45)) [
-      | inl e ↦ rw e (omega (arith, sum-pieces bs, sum_by-cons (λ (x : List ℕ). length x) [] (pieces bs)))
-      | inr e ↦ rw e (omega (arith, sum-pieces bs, sum-onto_first b (pieces bs) (some_pieces bs)))
-    ]
+    grind (arith, nat_tests, sum-pieces bs, sum_by-cons (λ (x : List ℕ). length x) [] (pieces bs), sum-onto_first b (pieces bs), some_pieces bs)
 
 -- how long the text of a list is
 pub list_length : (list : List (List ℕ)) (number : ℕ) → IsGrandfathered list number → sum_by length list + length list ≡ length (known number) + 1
@@ -72,22 +137,17 @@ begin_listed = refl
 text_begins : (text : List ℕ) (number : ℕ) → IsGrandfathered (list_of text) number → begins_listed (length text) (to_ascii_lowercase (slice_index_or text 0 0)) ≡ true
 text_begins text number g =
     let same : folded text ≡ known number = match_needed text number g ∙ folded-known number g.first g.last in
-    let long : length text ≡ length (known number) = sym (length-map text to_ascii_lowercase) ∙ ap length same in
-    let first : to_ascii_lowercase (slice_index_or text 0 0) ≡ slice_index_or (known number) 0 0 = first_folded text ∙ ap (λ (t : List ℕ). slice_index_or t 0 0) same in
-    ap (λ (n : ℕ). begins_listed n (to_ascii_lowercase (slice_index_or text 0 0))) long ∙ ap (begins_listed (length (known number))) first
-    ∙ list_all-at (λ (t : List ℕ). begins_listed (length t) (slice_index_or t 0 0)) grandfathered_texts (number - 1) begin_listed (omega (arith, table_length, g.first, g.last))
+    let all = list_all-at (λ (t : List ℕ). begins_listed (length t) (slice_index_or t 0 0)) grandfathered_texts (number - 1) begin_listed (omega (arith, table_length, g.first, g.last)) in
+    rw (← length-map text to_ascii_lowercase, first_folded text, same) all
   where
     first_folded : (text : List ℕ) → to_ascii_lowercase (slice_index_or text 0 0) ≡ slice_index_or (folded text) 0 0
     first_folded [] = refl
     first_folded (b ∷ bs) = refl
 
 pub first_begins : (text : List ℕ) (number first : ℕ) → Some first ≡ slice_get text 0 → IsGrandfathered (list_of text) number → begins_listed (length text) (to_ascii_lowercase first) ≡ true
-first_begins [] number first h g = let impossible : Some first ≡ None = h in cc
-first_begins (b ∷ bs) number first h g =
-    let here : Some first ≡ Some b = h in
-    let same : first ≡ b = cc in
-    ap (λ (n : ℕ). begins_listed (length (b ∷ bs)) (to_ascii_lowercase n)) same ∙ text_begins (b ∷ bs) number g
+first_begins [] number first h g = cc
+first_begins (b ∷ bs) number first h g = let same : first ≡ b = cc in rw same (text_begins (b ∷ bs) number g)
 
 pub none_begins : (text : List ℕ) (number : ℕ) → None ≡ slice_get text 0 → IsGrandfathered (list_of text) number → ⊥
 none_begins [] number h g = let impossible : false ≡ true = text_begins [] number g in cc
-none_begins (b ∷ bs) number h g = let impossible : None ≡ Some b = h in cc
+none_begins (b ∷ bs) number h g = cc

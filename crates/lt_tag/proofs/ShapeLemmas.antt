@@ -1,32 +1,24 @@
 -- What the shapes of its parts say of each subtag of a tag.
-use Rattle.std.proofs.Common.{◌≡◌, ℕ, ◌≤◌, ◌-◌, Bool, true, false, ◌||◌, List, [], ◌∷◌, length, refl, arith, inl, inr}
+use Rattle.std.proofs.Common.{◌≡◌, ℕ, ◌≤◌, ◌-◌, Bool, true, false, List, [], ◌∷◌, length, refl, arith, inl, inr, not, ap}
 use Rattle.std.specs.Prelude.{Option, Some, None, option_to_list}
 use Rattle.std.specs.List.{list_all, AllByRecursion}
-use Rattle.std.specs.Char.{is_ascii_lowercase, is_ascii_digit}
-use Rattle.std.proofs.lemmas.Bool.{and_parts, and_from, lt-ltb, le-leb, leb-true}
+use Rattle.std.proofs.lemmas.Bool.{and_from}
 use Rattle.std.specs.Option.{option_map_or}
 use Rattle.lt_subtag.specs.Bytes.{is_subtag, is_subtag_byte}
-use Rattle.lt_subtag.specs.Shapes.{is_alphabetic, is_language, is_extlang, is_script, is_region, is_variant, is_singleton}
+use Rattle.lt_subtag.specs.Shapes.{is_alphabetic, is_language, is_extlang, is_script, is_region, is_variant, is_singleton, is_numeric, is_separator}
 use Rattle.lt_tag.specs.Parts.{CoreParts, ExtensionParts, TagForm, LangTag, PrivateUse, Grandfathered}
 use Rattle.lt_tag.specs.Lists.{pieces}
 use Rattle.lt_tag.specs.Grandfathered.{grandfathered_texts, grandfathered_list}
 use Rattle.lt_tag.specs.Spelling.{spell_core, spell_extension, spell_extensions, spell_private, x_subtag, is_extension_subtag, IsCore, IsExtension, IsPrivate}
 use Rattle.lt_tag.specs.WellFormed.{spell, IsTag}
 use Rattle.lt_tag.proofs.ListLemmas.{list_all-append}
-use Rattle.lt_tag.proofs.Apart.{extlang_is, script_is, region_is, variant_is}
+use Rattle.lt_tag.proofs.Apart.{extlang_is, script_is, region_is}
 use Rattle.lt_tag.proofs.TagLemmas.{list_all-at, table_length}
+use Rattle.std.proofs.lemmas.Bool.Decides.{nat_tests}
 
 pub all_weaker : {X : Type 0} (p q : X → Bool) → ((x : X) → p x ≡ true → q x ≡ true) → (xs : List X) → list_all p xs ≡ true → list_all q xs ≡ true
 all_weaker p q w [] h = refl
-all_weaker p q w (x ∷ xs) h =
-    let k = and_parts (p x) (list_all p xs) h in
-    and_from (q x) (list_all q xs) (w x k.0) (all_weaker p q w xs k.1)
-
-letter_is : (b : ℕ) → is_ascii_lowercase b ≡ true → is_subtag_byte b ≡ true
-letter_is b h = rw h refl
-
-digit_is : (b : ℕ) → is_ascii_digit b ≡ true → is_subtag_byte b ≡ true
-digit_is b h = elim (is_ascii_lowercase b) as (λ x. (x || is_ascii_digit b) ≡ true) [ true ↦ refl | false ↦ h ]
+all_weaker p q w (x ∷ xs) h = grind (arith, nat_tests, w x, all_weaker p q w xs)
 
 -- 2 to 8 letters or digits
 pub record IsLong (s : List ℕ) : Type 0 where
@@ -35,74 +27,93 @@ pub record IsLong (s : List ℕ) : Type 0 where
 
 subtag_from : (s : List ℕ) → list_all is_subtag_byte s ≡ true → 2 ≤ length s → length s ≤ 8 → IsLong s
 unfolding is_subtag
-subtag_from s h low high =
-    record { subtag = and_from _ _ h (and_from _ _ (lt-ltb 0 (length s) (omega arith)) (le-leb (length s) 8 high)); long = low }
+subtag_from s h low high = record { subtag = grind (arith, nat_tests); long = low }
 
-letters_from : (s : List ℕ) → is_alphabetic s ≡ true → 2 ≤ length s → length s ≤ 8 → IsLong s
-letters_from s h low high = subtag_from s (all_weaker is_ascii_lowercase is_subtag_byte letter_is s h) low high
+letters_bytes : (s : List ℕ) → is_alphabetic s ≡ true → list_all is_subtag_byte s ≡ true
+letters_bytes [] h = refl
+letters_bytes (b ∷ s) h = grind (arith, nat_tests, letters_bytes s)
+
+digits_bytes : (s : List ℕ) → is_numeric s ≡ true → list_all is_subtag_byte s ≡ true
+digits_bytes [] h = refl
+digits_bytes (b ∷ s) h = grind (arith, nat_tests, digits_bytes s)
+
+-- a separator has two characters, and one of them is no letter
+pub length_no_separator : (s : List ℕ) → (length s ≡ 2 → ⊥) → is_separator s ≡ false
+unfolding is_separator
+length_no_separator [] h = refl
+length_no_separator (a ∷ []) h = refl
+length_no_separator (a ∷ b ∷ []) h = absurd (h (omega arith))
+length_no_separator (a ∷ b ∷ c ∷ s) h = refl
+
+letters_no_separator : (s : List ℕ) → is_alphabetic s ≡ true → is_separator s ≡ false
+unfolding is_separator
+letters_no_separator [] h = refl
+letters_no_separator (a ∷ []) h = refl
+letters_no_separator (a ∷ b ∷ []) h = grind (arith, nat_tests)
+letters_no_separator (a ∷ b ∷ c ∷ s) h = refl
+
+-- so is each part of a core, which is no separator either
+pub record IsPart (s : List ℕ) : Type 0 where
+  pub long : IsLong s
+  pub no_separator : not (is_separator s) ≡ true
+
+letters_part : (s : List ℕ) → is_alphabetic s ≡ true → 2 ≤ length s → length s ≤ 8 → IsPart s
+letters_part s h low high = record { long = subtag_from s (letters_bytes s h) low high; no_separator = ap not (letters_no_separator s h) }
+
+language_part : (s : List ℕ) → is_language s ≡ true → IsPart s
+unfolding is_language
+language_part s h = letters_part s (grind (arith, nat_tests)) (grind (arith, nat_tests)) (grind (arith, nat_tests))
 
 pub language_long : (s : List ℕ) → is_language s ≡ true → IsLong s
-unfolding is_language
-language_long s h =
-    let p = and_parts _ _ h in
-    let q = and_parts _ _ p.1 in
-    letters_from s p.0 (leb-true 2 (length s) q.0) (leb-true (length s) 8 q.1)
+language_long s h = (language_part s h).long
 
-extlang_long : (s : List ℕ) → is_extlang s ≡ true → IsLong s
-extlang_long s h = let x = extlang_is s h in letters_from s x.0 (omega (arith, x.1)) (omega (arith, x.1))
+extlang_part : (s : List ℕ) → is_extlang s ≡ true → IsPart s
+extlang_part s h = let x = extlang_is s h in letters_part s x.0 (omega (arith, x.1)) (omega (arith, x.1))
 
-script_long : (s : List ℕ) → is_script s ≡ true → IsLong s
-script_long s h = let x = script_is s h in letters_from s x.0 (omega (arith, x.1)) (omega (arith, x.1))
+script_part : (s : List ℕ) → is_script s ≡ true → IsPart s
+script_part s h = let x = script_is s h in letters_part s x.0 (omega (arith, x.1)) (omega (arith, x.1))
 
-region_long : (s : List ℕ) → is_region s ≡ true → IsLong s
-region_long s h =
+region_part : (s : List ℕ) → is_region s ≡ true → IsPart s
+region_part s h =
     elim (region_is s h) [
-      | inl x ↦ letters_from s x.0 (omega (arith, x.1)) (omega (arith, x.1))
-      | inr x ↦ subtag_from s (all_weaker is_ascii_digit is_subtag_byte digit_is s x.0) (omega (arith, x.1)) (omega (arith, x.1))
+      | inl x ↦ letters_part s x.0 (omega (arith, x.1)) (omega (arith, x.1))
+      | inr x ↦ record { long = subtag_from s (digits_bytes s x.0) (omega (arith, x.1)) (omega (arith, x.1)); no_separator = ap not (length_no_separator s (λ e. omega (arith, x.1, e))) }
     ]
 
-variant_long : (s : List ℕ) → is_variant s ≡ true → IsLong s
+variant_part : (s : List ℕ) → is_variant s ≡ true → IsPart s
 unfolding is_variant
-variant_long s h =
-    record {
-      subtag = (and_parts (is_subtag s) _ h).0;
-      long = elim (variant_is s h) [ inl x ↦ omega (arith, x) | inr x ↦ omega (arith, x.0) ];
-    }
+variant_part s h =
+    let long : 4 ≤ length s = grind (arith, nat_tests) in
+    record { long = record { subtag = grind (arith, nat_tests); long = omega arith }; no_separator = ap not (length_no_separator s (λ e. omega (arith, long, e))) }
 
-pub extension_long : (s : List ℕ) → is_extension_subtag s ≡ true → IsLong s
-unfolding is_extension_subtag
-extension_long s h = let p = and_parts (is_subtag s) _ h in record { subtag = p.0; long = leb-true 2 (length s) p.1 }
+-- what holds of each part holds of each subtag of a core
+module _ (test : List ℕ → Bool) (holds : (s : List ℕ) → IsPart s → test s ≡ true) where
+  all_of : (shape : List ℕ → Bool) → ((s : List ℕ) → shape s ≡ true → IsPart s) → (ss : List (List ℕ)) → list_all shape ss ≡ true → list_all test ss ≡ true
+  all_of shape part ss h = all_weaker shape test (λ s k. holds s (part s k)) ss h
 
-pub singleton_is : (s : List ℕ) → is_singleton s ≡ true → is_subtag s ≡ true
-unfolding is_singleton
-singleton_is s h = (and_parts (is_subtag s) _ (and_parts _ _ h).0).0
+  one_of : (shape : List ℕ → Bool) → ((s : List ℕ) → shape s ≡ true → IsPart s) → (o : Option (List ℕ)) → option_map_or shape o true ≡ true → list_all test (option_to_list o) ≡ true
+  one_of shape part None h = refl
+  one_of shape part (Some s) h = rw (holds s (part s h)) refl
 
--- what holds of each subtag of 2 to 8 holds of each subtag of a core
-module _ (test : List ℕ → Bool) (holds : (s : List ℕ) → IsLong s → test s ≡ true) where
-  all_of : (shape : List ℕ → Bool) → ((s : List ℕ) → shape s ≡ true → IsLong s) → (ss : List (List ℕ)) → list_all shape ss ≡ true → list_all test ss ≡ true
-  all_of shape long ss h = all_weaker shape test (λ s k. holds s (long s k)) ss h
+  pub core_parts : (core : CoreParts) → IsCore core → list_all test (spell_core core) ≡ true
+  core_parts core k =
+      and_from (test core.language) _ (holds core.language (language_part core.language k.language))
+      (list_all-append test core.extlangs _ (all_of is_extlang extlang_part core.extlangs k.extlangs)
+      (list_all-append test (option_to_list core.script) _ (one_of is_script script_part core.script k.script)
+      (list_all-append test (option_to_list core.region) _ (one_of is_region region_part core.region k.region)
+      (all_of is_variant variant_part core.variants k.variants))))
 
-  one_of : (shape : List ℕ → Bool) → ((s : List ℕ) → shape s ≡ true → IsLong s) → (o : Option (List ℕ)) → option_map_or shape o true ≡ true → list_all test (option_to_list o) ≡ true
-  one_of shape long None h = refl
-  one_of shape long (Some s) h = and_from (test s) true (holds s (long s h)) refl
-
-  pub core_all : (core : CoreParts) → IsCore core → list_all test (spell_core core) ≡ true
-  core_all core k =
-      and_from (test core.language) _ (holds core.language (language_long core.language k.language))
-      (list_all-append test core.extlangs _ (all_of is_extlang extlang_long core.extlangs k.extlangs)
-      (list_all-append test (option_to_list core.script) _ (one_of is_script script_long core.script k.script)
-      (list_all-append test (option_to_list core.region) _ (one_of is_region region_long core.region k.region)
-      (all_of is_variant variant_long core.variants k.variants))))
-
-  pub extension_all : (extension : ExtensionParts) → IsExtension extension → list_all test extension.subtags ≡ true
-  extension_all extension k = all_of is_extension_subtag extension_long extension.subtags k.subtags
+pub core_all : (test : List ℕ → Bool) → ((s : List ℕ) → IsLong s → test s ≡ true) → (core : CoreParts) → IsCore core → list_all test (spell_core core) ≡ true
+core_all test holds = core_parts test (λ s p. holds s p.long)
 
 -- each subtag of the list of a tag is one
 extensions_subtags : (extensions : List ExtensionParts) → AllByRecursion IsExtension extensions → list_all is_subtag (spell_extensions extensions) ≡ true
+unfolding is_extension_subtag is_singleton
 extensions_subtags [] k = refl
 extensions_subtags (e ∷ es) k =
-    list_all-append is_subtag (spell_extension e) (spell_extensions es)
-    (and_from (is_subtag (e.singleton ∷ [])) _ (singleton_is (e.singleton ∷ []) k.0.singleton) (extension_all is_subtag (λ s l. l.subtag) e k.0)) (extensions_subtags es k.1)
+    let first : is_subtag (e.singleton ∷ []) ≡ true = grind (arith, nat_tests, k.0.singleton) in
+    let others = all_weaker is_extension_subtag is_subtag (λ s h. grind (arith, nat_tests, h)) e.subtags k.0.subtags in
+    list_all-append is_subtag (spell_extension e) (spell_extensions es) (and_from _ _ first others) (extensions_subtags es k.1)
 
 x_is : is_subtag x_subtag ≡ true
 unfolding is_subtag

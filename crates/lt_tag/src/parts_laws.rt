@@ -1,4 +1,6 @@
 //! What follows from the forms of `u` and `t` extensions alone. Nothing is computed here: each contract is a law.
+#![tactic(auto, using(crate::proofs::PartsLaws::has_parts, crate::proofs::PartsLaws::u_unique, crate::proofs::PartsLaws::t_unique))]
+
 ghost use Rattle.std.specs.Prelude.{ℕ, ◌≡◌, ◌↔◌, List, Some};
 ghost use Rattle.lt_tag.specs.Parts.{CoreParts, ExtensionParts, UForm, TForm};
 ghost use Rattle.lt_tag.specs.Spelling.{spell_core, IsCore, IsExtension};
@@ -36,11 +38,13 @@ pub fn transform_is_decided()
 {}
 
 /// What the parts of a `u` extension spell is an extension.
+#[tactic(auto, using(crate::proofs::PartsLemmas::u_extension), unfolding(lt_subtag::specs::Shapes::is_singleton, lt_subtag::specs::Bytes::is_subtag))]
 pub fn unicode_is_extension()
     ensures { (parts : UForm) → IsU parts → IsExtension (record { singleton = unicode; subtags = spell_u parts }) }
 {}
 
 /// What the parts of a `t` extension spell is an extension.
+#[tactic(auto, using(crate::proofs::PartsLemmas::t_extension), unfolding(lt_subtag::specs::Shapes::is_singleton, lt_subtag::specs::Bytes::is_subtag))]
 pub fn transform_is_extension()
     ensures { (parts : TForm) → IsT parts → IsExtension (record { singleton = transform; subtags = spell_t parts }) }
 {}

@@ -18,6 +18,7 @@ pub fn fault_excludes_tag()
 {}
 
 /// A text has one fault at most.
+#[tactic(auto, using(crate::proofs::FaultLemmas::one_fault))]
 pub fn one_fault()
     ensures { (text : List ℕ) (kind other : TagFaultKind) (place elsewhere : ℕ)
         → HasFault text kind place → HasFault text other elsewhere → (kind ≡ other) × (place ≡ elsewhere) }

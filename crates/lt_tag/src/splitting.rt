@@ -32,6 +32,7 @@ fn first_separator(subtags: &[Subtag]) -> Option<usize>
 }
 
 /// The subtags before the first key, and the others.
+#[tactic(auto, using(crate::proofs::SplitLemmas::place_of, crate::proofs::SplitLemmas::before_is, crate::proofs::SplitLemmas::onward_is))]
 fn before_key(subtags: &[Subtag]) -> (&[Subtag], &[Subtag])
     ensures front { result.0.now ≡ before is_key subtags.now }
     ensures rest { result.1.now ≡ onward is_key subtags.now }
@@ -40,6 +41,7 @@ fn before_key(subtags: &[Subtag]) -> (&[Subtag], &[Subtag])
 }
 
 /// The subtags before the first separator, and the others.
+#[tactic(auto, using(crate::proofs::SplitLemmas::place_of, crate::proofs::SplitLemmas::before_is, crate::proofs::SplitLemmas::onward_is))]
 fn before_separator(subtags: &[Subtag]) -> (&[Subtag], &[Subtag])
     ensures front { result.0.now ≡ before is_separator subtags.now }
     ensures rest { result.1.now ≡ onward is_separator subtags.now }
@@ -63,6 +65,7 @@ fn are_long(subtags: &[Subtag]) -> bool
 }
 
 /// Whether there is at least one, and each is of 3 to 8 letters or digits.
+#[tactic(auto, using(crate::proofs::SplitLemmas::some_there))]
 fn are_values(subtags: &[Subtag]) -> bool
     ensures { result ≡ splitting.are_values subtags.now }
 {
@@ -80,6 +83,7 @@ pub(crate) fn append(list: &mut Vec<Subtag>, subtags: &[Subtag]) -> Result<(), O
 }
 
 /// The keywords from a first key on.
+#[tactic(auto, using(crate::proofs::SplitLemmas::length_onward))]
 fn read_keywords(alloc: Global, subtags: &[Subtag]) -> Result<Vec<Keyword>, OutOfMemory>
     ensures { IfOk result (λ keywords. keywords.items ≡ keywords_of subtags.now) }
 {
@@ -97,6 +101,7 @@ fn read_keywords(alloc: Global, subtags: &[Subtag]) -> Result<Vec<Keyword>, OutO
 }
 
 /// The fields from a first separator on, if each has a value.
+#[tactic(auto, using(crate::proofs::SplitLemmas::length_onward))]
 fn read_fields(alloc: Global, subtags: &[Subtag]) -> Result<Vec<Field>, TransformFault>
     ensures fields { IfOk result (λ fields. fields.items ≡ fields_of subtags.now) }
     ensures values { IfOk result (λ fields. list_all has_values fields.items ≡ true) }
@@ -160,6 +165,7 @@ pub fn split_u(alloc: Global, extension: &Extension) -> Result<UParts, OutOfMemo
 /// `t-he-m0-true` has the source `he` and the field `m0-true`. There is at most one such value. `BadTransform`
 /// comes exactly where there is none; the tag is well-formed all the same. A separator may occur twice. The
 /// other refusal is running out of memory.
+#[tactic(auto, using(crate::proofs::PartsLemmas::length_before))]
 pub fn split_t(alloc: Global, extension: &Extension) -> Result<TParts, TransformFault>
     requires { extension.now.singleton ≡ transform }
     ensures parts { IfOk result (λ parts. IsTransform extension.now.subtags parts) }

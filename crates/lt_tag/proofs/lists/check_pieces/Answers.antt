@@ -3,8 +3,8 @@ use Rattle.std.specs.Prelude.{is_ok}
 use Rattle.std.proofs.lemmas.Result.{err_from_is_err_and}
 use Rattle.lt_tag.specs.Rest.{pieces_left}
 use Rattle.lt_tag.specs.Listing.{listed, with_front}
-use Rattle.lt_tag.proofs.MatchLemmas.{cut_left}
-use Rattle.lt_tag.proofs.ListingLemmas.{front_next, front_end, front_stop}
+use Rattle.lt_tag.proofs.GrandfatheredTexts.{cut_left}
+use Rattle.lt_tag.proofs.ListedLemmas.{front_next, front_end, front_stop}
 use Rattle.lt_tag.proofs.lists.check_pieces.Goals as goal
 
 pub returns-in_err-subtag_at : goal.returns-in_err-subtag_at

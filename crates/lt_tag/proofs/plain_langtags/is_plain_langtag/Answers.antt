@@ -1,5 +1,6 @@
-use Rattle.std.proofs.Common.{length, sym, ap, arith, ◌≤◌, ◌<◌}
-use Rattle.lt_tag.proofs.PlainLangTagLemmas.{room_begin, room_more, stops, ends_plain, short_left, long_left}
+use Rattle.std.proofs.Common.{length, sym, ap, arith}
+use Rattle.std.proofs.lemmas.Bool.Decides.{nat_tests}
+use Rattle.lt_tag.proofs.PlainLangTagLemmas.{room_begin, room_more, stops, ends_plain}
 use Rattle.lt_tag.proofs.plain_langtags.is_plain_langtag.Goals as goal
 use Rattle.lt_tag.proofs.plain_langtags.is_plain_langtag.Goals.{then-bytes-le3, else-bytes-le3}
 
@@ -9,8 +10,8 @@ loop-subtag-init c =
     let bytes = ap length c.bytes.ensures.same in
     room_begin c.args.subtags.now c.in-Some.others.now language c.in-Some.ensures.cases.0 (sym c.if-not-is_language.ensures) c.if-bytes-le3.extlangs
     (elim c.if-bytes-le3.branch [
-      | then-bytes-le3 w ↦ let n : length language ≤ 3 = omega (arith, bytes, w.if-bytes-le3) in short_left language c.if-bytes-le3.extlangs n w.extlangs-is
-      | else-bytes-le3 w ↦ let n : 3 < length language = omega (arith, bytes, w.if-bytes-le3) in long_left language c.if-bytes-le3.extlangs n w.extlangs-is
+      | then-bytes-le3 w ↦ grind (arith, nat_tests, bytes, w.if-bytes-le3, w.extlangs-is)
+      | else-bytes-le3 w ↦ grind (arith, nat_tests, bytes, w.if-bytes-le3, w.extlangs-is)
     ])
 
 pub returns-in-None : goal.returns-in-None

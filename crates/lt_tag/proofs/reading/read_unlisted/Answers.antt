@@ -3,12 +3,12 @@ use Rattle.std.specs.Prelude.{Some, None}
 use Rattle.std.proofs.lemmas.Result.{err_from_is_err_and}
 use Rattle.lt_tag.specs.Rest.{pieces_left}
 use Rattle.lt_tag.specs.WellFormed.{IsNotGrandfathered}
-use Rattle.lt_tag.specs.Draft.{begun, drafted}
+use Rattle.lt_tag.specs.Draft.{drafted}
 use Rattle.lt_tag.specs.DraftViews.{draft_view}
-use Rattle.lt_tag.proofs.MatchLemmas.{cut_left}
+use Rattle.lt_tag.proofs.GrandfatheredTexts.{cut_left}
 use Rattle.lt_tag.proofs.ListedLemmas.{length-pieces}
 use Rattle.lt_tag.proofs.TextLemmas.{piece_fault}
-use Rattle.lt_tag.proofs.ReadingLemmas.{HasRead, read_first, fault_behind_first, misplaced_first, fault_here, read_next, fault_behind, misplaced_here, read_room, whole_listed, whole_draft, whole_length, whole_value, whole_unfinished}
+use Rattle.lt_tag.proofs.DraftLemmas.{HasRead, read_first, fault_behind_first, misplaced_first, fault_here, read_next, fault_behind, misplaced_here, read_room, whole_listed, whole_draft, whole_length, whole_value, whole_unfinished}
 use Rattle.lt_tag.proofs.reading.read_unlisted.Goals as goal
 
 pub check_pieces-requires : goal.check_pieces-requires
@@ -26,16 +26,13 @@ returns-in_err-check_pieces-clause-fault c =
 pub returns-in_default-clause-fault : goal.returns-in_default-clause-fault
 returns-in_default-clause-fault c =
     let split = cut_left _ _ _ c.cut.ensures.pieces in
-    let read = sym c.subtag_at.ensures ∙ c.in_ok-subtag_at.was in
-    let none : None ≡ begun c.in_ok-subtag_at.field-0 = c.in_default.ensures in
-    misplaced_first c.args.text.now _ _ _ split read (sym none) c.in_ok-check_pieces.ensures c.requires.short c.requires.other
+    misplaced_first c.args.text.now _ _ _ split (sym c.subtag_at.ensures ∙ c.in_ok-subtag_at.was) (sym c.in_default.ensures) c.in_ok-check_pieces.ensures c.requires.short c.requires.other
 
 pub loop-rest-init : goal.loop-rest-init
 loop-rest-init c =
     let split = cut_left _ _ _ c.cut.ensures.pieces in
-    let read = sym c.subtag_at.ensures ∙ c.in_ok-subtag_at.was in
-    let some : Some (draft_view c.in-Some.draft) ≡ begun c.in_ok-subtag_at.field-0 = c.in-Some.ensures in
-    (omega (arith, ap length split, length-pieces c.args.text.now, c.requires.short), read_first c.args.text.now _ _ _ split read (draft_view c.in-Some.draft) (sym some))
+    let first = read_first c.args.text.now _ _ _ split (sym c.subtag_at.ensures ∙ c.in_ok-subtag_at.was) (draft_view c.in-Some.draft) (sym c.in-Some.ensures) in
+    (omega (arith, ap length split, length-pieces c.args.text.now, c.requires.short), first)
 
 pub returns-in_err-subtag_at-2-clause-fault : goal.returns-in_err-subtag_at-2-clause-fault
 returns-in_err-subtag_at-2-clause-fault c =

@@ -1,4 +1,4 @@
-use Rattle.lt_tag.proofs.TagOrFault.{tag_or_fault}
+use Rattle.lt_tag.proofs.FaultLemmas.{tag_or_fault}
 use Rattle.lt_tag.proofs.reading_laws.tag_or_fault.Goals as goal
 
 pub returns : goal.returns

@@ -1,17 +1,10 @@
-use Rattle.std.proofs.Common.{◌∙◌, arith, length, ap, sym}
-use Rattle.lt_subtag.specs.Shapes.{is_separator}
+use Rattle.std.proofs.Common.{◌∙◌, ap, sym}
 use Rattle.lt_tag.specs.Splitting.{are_values}
-use Rattle.lt_tag.proofs.SplitLemmas.{fields_begin, fields_next, fields_fail, fields_end, length-onward}
+use Rattle.lt_tag.proofs.SplitLemmas.{fields_begin, fields_next, fields_fail, fields_end}
 use Rattle.lt_tag.proofs.splitting.read_fields.Goals as goal
 
 pub loop-separator-init : goal.loop-separator-init
 loop-separator-init c = fields_begin c.args.subtags.now _ _ c.new-fields.ensures.items c.before_separator.ensures.rest
-
-pub loop-separator-smaller : goal.loop-separator-smaller
-loop-separator-smaller c =
-    let split = c.in-Some.ensures.cases in
-    let after = length-onward is_separator c.in-Some.others.now in
-    omega (arith, split.1, after, ap length c.before_separator-in-Some.ensures.rest)
 
 pub returns-then-not-are_values-clause-fault : goal.returns-then-not-are_values-clause-fault
 returns-then-not-are_values-clause-fault c =

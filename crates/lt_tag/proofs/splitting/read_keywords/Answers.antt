@@ -1,16 +1,9 @@
-use Rattle.std.proofs.Common.{◌∙◌, arith, length, ap}
-use Rattle.lt_subtag.specs.Shapes.{is_key}
-use Rattle.lt_tag.proofs.SplitLemmas.{keywords_begin, keywords_next, keywords_end, length-onward}
+use Rattle.std.proofs.Common.{◌∙◌}
+use Rattle.lt_tag.proofs.SplitLemmas.{keywords_begin, keywords_next, keywords_end}
 use Rattle.lt_tag.proofs.splitting.read_keywords.Goals as goal
 
 pub loop-key-init : goal.loop-key-init
 loop-key-init c = keywords_begin c.args.subtags.now _ _ c.new-keywords.ensures.items c.before_key.ensures.rest
-
-pub loop-key-smaller : goal.loop-key-smaller
-loop-key-smaller c =
-    let split = c.in-Some.ensures.cases in
-    let after = length-onward is_key c.in-Some.others.now in
-    omega (arith, split.1, after, ap length c.before_key-in-Some.ensures.rest)
 
 pub loop-key-preserved : goal.loop-key-preserved
 loop-key-preserved c =

@@ -1,7 +1,7 @@
 use Rattle.std.proofs.Common.{◌≡◌, ◌∙◌, sym, ap}
 use Rattle.std.specs.Prelude.{Some, None}
 use Rattle.lt_tag.specs.Growth.{of_language, grown}
-use Rattle.lt_tag.proofs.SourceLemmas.{source_first, source_begin, source_more, source_stop, source_end}
+use Rattle.lt_tag.proofs.CompleteLemmas.{source_first, source_begin, source_more, source_stop, source_end}
 use Rattle.lt_tag.proofs.splitting.read_source.Goals as goal
 
 pub returns-then-not-is_language-clause-fault : goal.returns-then-not-is_language-clause-fault

@@ -1,4 +1,4 @@
-use Rattle.lt_tag.proofs.SourceLemmas.{IsSourceSoFar}
+use Rattle.lt_tag.proofs.CompleteLemmas.{IsSourceSoFar}
 use Rattle.lt_tag.proofs.splitting.read_source.Given as goal
 
 -- the core has grown by the subtags so far

@@ -1,13 +1,6 @@
-use Rattle.std.proofs.Common.{arith, length, ap}
 use Rattle.std.proofs.lemmas.Result.{err_from_is_err_and}
-use Rattle.lt_subtag.specs.Shapes.{is_separator}
-use Rattle.lt_tag.proofs.PartsLemmas.{t_split, source_fault, field_fault, length-before}
+use Rattle.lt_tag.proofs.PartsLemmas.{t_split, source_fault, field_fault}
 use Rattle.lt_tag.proofs.splitting.split_t.Goals as goal
-
-pub read_source-requires : goal.read_source-requires
-read_source-requires c =
-    let few = length-before is_separator c.subtags-subtags.result.now in
-    omega (arith, few, ap length c.before_separator.ensures.front, ap length c.subtags-subtags.ensures.value, c.subtags-subtags.ensures.extension.subtags)
 
 pub returns-in_err-read_source-clause-fault : goal.returns-in_err-read_source-clause-fault
 returns-in_err-read_source-clause-fault c =

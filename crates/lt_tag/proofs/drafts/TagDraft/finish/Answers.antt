@@ -1,7 +1,7 @@
 use Rattle.std.proofs.Common.{◌∷◌, [], ap, arith, length}
 use Rattle.std.proofs.lemmas.List.{length-append}
 use Rattle.lt_tag.specs.Spelling.{x_subtag}
-use Rattle.lt_tag.proofs.DraftResults.{few_extensions, few_closed}
+use Rattle.lt_tag.proofs.DraftLemmas.{few_closed}
 use Rattle.lt_tag.proofs.drafts.TagDraft.finish.Goals as goal
 
 pub from_parts-requires-in-InExtension-clause-few_extensions : goal.from_parts-requires-in-InExtension-clause-few_extensions
@@ -12,4 +12,4 @@ from_parts-requires-in-InExtension-clause-few_extensions c =
 pub from_parts-requires-in-InPrivate-clause-few_extensions : goal.from_parts-requires-in-InPrivate-clause-few_extensions
 from_parts-requires-in-InPrivate-clause-few_extensions c =
     let few = rw c.in-InPrivate.is at c.requires.few in
-    few_extensions c.in-InPrivate.core c.in-InPrivate.extensions.items (x_subtag ∷ c.in-InPrivate.private.items) few
+    omega (arith, few_closed c.in-InPrivate.core c.in-InPrivate.extensions.items (x_subtag ∷ c.in-InPrivate.private.items) few (omega arith))

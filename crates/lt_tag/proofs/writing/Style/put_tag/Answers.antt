@@ -1,5 +1,6 @@
 use Rattle.std.proofs.Common.{◌≡◌, ◌-◌, ◌++◌, ℕ, [], ◌∷◌, refl, sym, ap, ◌∙◌, arith}
 use Rattle.std.specs.Prelude.{Some, slice_index_or}
+use Rattle.std.proofs.lemmas.Bool.Decides.{nat_tests}
 use Rattle.std.proofs.lemmas.Result.{IfOk-weaker}
 use Rattle.lt_tag.specs.Parts.{TagForm, LangTag, PrivateUse, Grandfathered}
 use Rattle.lt_tag.specs.Lists.{pieces}
@@ -14,11 +15,7 @@ use Rattle.lt_tag.specs.Splitting.{spell_source}
 -- a grandfathered tag spells the pieces of its text
 spelled : (form : TagForm) (number : ℕ) → Some number ≡ number_of form → pieces (slice_index_or grandfathered_texts (number - 1) []) ≡ spell form
 unfolding grandfathered_list
-spelled (LangTag core extensions private) number e = cc
-spelled (PrivateUse subtags) number e = cc
-spelled (Grandfathered own) number e =
-    let same : number ≡ own = cc in
-    ap (λ (n : ℕ). pieces (slice_index_or grandfathered_texts (n - 1) [])) same
+spelled form number e = grind (arith, nat_tests)
 
 pub returns-in-Some-clause-put : goal.returns-in-Some-clause-put
 returns-in-Some-clause-put g c =
