@@ -1,18 +1,25 @@
--- The check of a core tells the first of its faults.
+-- The faults of a core and of an extension, part by part.
 use Rattle.std.proofs.Common.{◌≡◌, ◌≢◌, ℕ, ◌+◌, ◌<◌, ◌≤◌, Bool, true, false, ◌⊎◌, inl, inr, List, [], ◌∷◌, ◌++◌, length, Option, Some, None, is_some, refl, sym, ap, ◌∙◌, subst, arith, length-append, append_assoc}
-use Rattle.std.specs.Prelude.{Ok}
+use Rattle.std.specs.Prelude.{Ok, flat_map}
 use Rattle.std.specs.Option.{option_to_list, option_map_or}
-use Rattle.lt_tag.specs.Parts.{CoreParts}
+use Rattle.std.proofs.lemmas.Bool.{false_from_ne_true}
+use Rattle.std.proofs.lemmas.Option.{same_Some}
+use Rattle.lt_tag.specs.Parts.{CoreParts, ExtensionParts, TForm}
+use Rattle.lt_tag.specs.Spelling.{spell_core}
+use Rattle.lt_tag.specs.Extensions.{spell_t, spell_field, transform, IsTransform}
+use Rattle.lt_tag.proofs.PartsLaws.{t_unique}
+use Rattle.lt_tag.specs.Splitting.{spell_source}
 use Rattle.lt_registry.specs.Parts.{EntryParts}
 use Rattle.lt_registry.specs.Entries.{entry, is_registered, has_prefix}
-use Rattle.lt_registry.specs.Faults.{HasCoreFault, before_script, before_region, before_variants}
-use Rattle.lt_registry.specs.Checking.{Check, and_then, unless, Tells, Counted, language_check, prefix_check, second_check, extlangs_check, part_check, variants_check, core_check}
+use Rattle.lt_registry.specs.Faults.{HasCoreFault, before_script, before_region, before_variants, HasExtensionFault}
+use Rattle.lt_registry.specs.Checking.{unless, Tells, Counted, prefix_check, second_check, extlangs_check, part_check, core_check, source_check}
 use Rattle.lt_registry.specs.declared.entries.Kind.{Kind}
-use Rattle.lt_registry.specs.declared.entries.Kind.TheVariants as kinds
 use Rattle.lt_registry.specs.declared.faults.ValidFaultKind.{ValidFaultKind}
+use Rattle.lt_registry.specs.declared.entries.Kind.TheVariants as kinds
 use Rattle.lt_registry.specs.declared.faults.ValidFaultKind.TheVariants as faults
-use Rattle.lt_registry.proofs.FirstLemmas.{Or, SameFaults, Precede, precede_by, Upto, Past, Single, tells_and, tells_same, tells_unless, first_left, single_first, single_precede, single_same, single_upto, single_past, past_or, past_less}
-use Rattle.lt_registry.proofs.VariantFaultLemmas.{VariantFault, variants_from, variants_to, variants_tell, variants_shown, IsUnknownAt, IsRepeatedAt, unknown_hidden, repeated_hidden, stands_at, stands_there}
+use Rattle.lt_registry.proofs.VariantFaultLemmas.{Or, SameFaults, Precede, Upto, Past, Part, part_then, part_none, Single, tells_and, tells_same, tells_unless, first_left, single_first, single_precede, single_same, VariantFault, variants_part, variants_shown, IsUnknownAt, IsRepeatedAt, unknown_hidden, repeated_hidden, stands_at, stands_there}
+
+-- The check of a core tells the first of its faults.
 
 abbrev pub LanguagePart : List EntryParts → ℕ → List ℕ → ValidFaultKind → ℕ → Type 0
 LanguagePart R start l = Single faults.UnknownLanguage (start + 1) (is_registered R kinds.Language l ≡ false)
@@ -49,31 +56,13 @@ abbrev pub ExtlangsPart : List EntryParts → ℕ → List ℕ → List (List �
 ExtlangsPart R start l [] k p = ⊥
 ExtlangsPart R start l (x ∷ rest) k p = FirstPart start l (entry R kinds.Extlang x) k p ⊎ SecondPart start rest k p
 
-first_upto : (start : ℕ) (l : List ℕ) (o : Option EntryParts) → Upto (start + 2) (FirstPart start l o)
-first_upto start l o k p (inl f) = omega (arith, f.placed)
-first_upto start l o k p (inr f) = omega (arith, f.placed)
-
-first_past : (start : ℕ) (l : List ℕ) (o : Option EntryParts) → Past (start + 1) (FirstPart start l o)
-first_past start l o k p (inl f) = omega (arith, f.placed)
-first_past start l o k p (inr f) = omega (arith, f.placed)
-
-extlangs_tell : (R : List EntryParts) (start : ℕ) (l : List ℕ) (xs : List (List ℕ)) → Tells (ExtlangsPart R start l xs) (extlangs_check R start l xs)
-extlangs_tell R start l [] = λ k p f. absurd f
-extlangs_tell R start l (x ∷ rest) =
-    tells_and (FirstPart start l (entry R kinds.Extlang x)) (SecondPart start rest) (prefix_check start l (entry R kinds.Extlang x)) (second_check start rest)
-    (precede_by (FirstPart start l (entry R kinds.Extlang x)) (SecondPart start rest) (start + 2) (first_upto start l (entry R kinds.Extlang x)) (single_past faults.TooManyExtlangs (start + 3) (start + 2) (HasMore rest) (omega arith)))
-    (first_tells start l (entry R kinds.Extlang x)) (second_tells start rest)
-
-extlangs_past : (R : List EntryParts) (start : ℕ) (l : List ℕ) (xs : List (List ℕ)) → Past (start + 1) (ExtlangsPart R start l xs)
-extlangs_past R start l [] k p f = absurd f
-extlangs_past R start l (x ∷ rest) k p (inl f) = first_past start l (entry R kinds.Extlang x) k p f
-extlangs_past R start l (x ∷ rest) k p (inr f) = omega (arith, f.placed)
-
-extlangs_upto : (R : List EntryParts) (start : ℕ) (l : List ℕ) (xs : List (List ℕ)) → Upto (start + 1 + length xs) (ExtlangsPart R start l xs)
-extlangs_upto R start l [] k p f = absurd f
-extlangs_upto R start l (x ∷ rest) k p (inl f) = let a = first_upto start l (entry R kinds.Extlang x) k p f in omega (arith, a)
-extlangs_upto R start l (x ∷ []) k p (inr f) = let bad : [] ≡ f.cause.0 ∷ f.cause.1 = f.cause.2 in cc
-extlangs_upto R start l (x ∷ y ∷ rest) k p (inr f) = omega (arith, f.placed)
+extlangs_part : (R : List EntryParts) (start : ℕ) (l : List ℕ) (xs : List (List ℕ)) → Part (start + 1) (start + 1 + length xs) (ExtlangsPart R start l xs) (extlangs_check R start l xs)
+extlangs_part R start l [] = part_none (start + 1) (start + 1 + 0) (ExtlangsPart R start l []) (λ k p f. f)
+extlangs_part R start l (x ∷ rest) =
+    part_then {m = start + 2} {i = start + 2}
+    (record { past = λ k p f. elim f [ inl g ↦ omega (arith, g.placed) | inr g ↦ omega (arith, g.placed) ]; upto = λ k p f. elim f [ inl g ↦ omega (arith, g.placed) | inr g ↦ omega (arith, g.placed) ]; tells = first_tells start l (entry R kinds.Extlang x) })
+    (record { past = λ k p f. omega (arith, f.placed); upto = λ k p f. omega (arith, f.placed, ap length f.cause.2); tells = second_tells start rest })
+    (omega arith) (omega arith) (omega arith)
 
 -- a script or a region
 abbrev pub IsUnknownPart : List EntryParts → Kind → Option (List ℕ) → Type 0
@@ -86,12 +75,8 @@ part_tells R kind fault at (Some s) =
     (single_same fault at (is_registered R kind s ≡ false) (IsUnknownPart R kind (Some s)) (λ h. (s, refl, h)) (λ h. let e : s ≡ h.0 = cc in ap (is_registered R kind) e ∙ h.2))
     (tells_unless (is_registered R kind s) fault at)
 
-one_long : (o : Option (List ℕ)) (s : List ℕ) → o ≡ Some s → length (option_to_list o) ≡ 1
-one_long None s e = cc
-one_long (Some t) s e = refl
-
-part_upto : (R : List EntryParts) (kind : Kind) (fault : ValidFaultKind) (m : ℕ) (o : Option (List ℕ)) → Upto (m + length (option_to_list o)) (Single fault (m + 1) (IsUnknownPart R kind o))
-part_upto R kind fault m o k p f = let one = one_long o f.cause.0 f.cause.1 in omega (arith, one, f.placed)
+registered_part : (R : List EntryParts) (kind : Kind) (fault : ValidFaultKind) (m : ℕ) (o : Option (List ℕ)) → Part m (m + length (option_to_list o)) (Single fault (m + 1) (IsUnknownPart R kind o)) (part_check R kind fault (m + 1) o)
+registered_part R kind fault m o = record { past = λ k p f. omega (arith, f.placed); upto = λ k p f. omega (arith, ap (λ z. length (option_to_list z)) f.cause.1, f.placed); tells = part_tells R kind fault (m + 1) o }
 
 -- all the faults of a core, part by part
 module _ (R : List EntryParts) (r : Bool) (start : ℕ) (c : CoreParts) where
@@ -107,66 +92,15 @@ module _ (R : List EntryParts) (r : Bool) (start : ℕ) (c : CoreParts) where
   abbrev pub CorePart : ValidFaultKind → ℕ → Type 0
   CorePart = Or (LanguagePart R start c.language) (Or (ExtlangsPart R start c.language c.extlangs) (Or ScriptPart (Or RegionPart VariantsPart)))
 
-  variants_past : Past (start + before_variants c) VariantsPart
-  variants_past k p f = let l = variants_from R r (start + before_variants c + 1) [] c.variants k p f in omega (arith, l)
-
-  region_past : Past (start + before_region c) (Or RegionPart VariantsPart)
-  region_past =
-      past_or (start + before_region c) RegionPart VariantsPart
-      (single_past faults.UnknownRegion (start + before_region c + 1) (start + before_region c) (IsUnknownPart R kinds.Region c.region) (omega arith))
-      (past_less (start + before_variants c) (start + before_region c) VariantsPart (omega arith) variants_past)
-
-  script_past : Past (start + before_script c) (Or ScriptPart (Or RegionPart VariantsPart))
-  script_past =
-      past_or (start + before_script c) ScriptPart (Or RegionPart VariantsPart)
-      (single_past faults.UnknownScript (start + before_script c + 1) (start + before_script c) (IsUnknownPart R kinds.Script c.script) (omega arith))
-      (past_less (start + before_region c) (start + before_script c) (Or RegionPart VariantsPart) (omega arith) region_past)
-
-  rest_past : Past (start + 1) (Or (ExtlangsPart R start c.language c.extlangs) (Or ScriptPart (Or RegionPart VariantsPart)))
-  rest_past =
-      past_or (start + 1) (ExtlangsPart R start c.language c.extlangs) (Or ScriptPart (Or RegionPart VariantsPart))
-      (extlangs_past R start c.language c.extlangs)
-      (past_less (start + before_script c) (start + 1) (Or ScriptPart (Or RegionPart VariantsPart)) (omega arith) script_past)
-
-  script_upto : Upto (start + before_region c) ScriptPart
-  script_upto k p f = let a = part_upto R kinds.Script faults.UnknownScript (start + before_script c) c.script k p f in omega (arith, a)
-
-  region_upto : Upto (start + before_variants c) RegionPart
-  region_upto k p f = let a = part_upto R kinds.Region faults.UnknownRegion (start + before_region c) c.region k p f in omega (arith, a)
-
-  extlang_upto : Upto (start + before_script c) (ExtlangsPart R start c.language c.extlangs)
-  extlang_upto k p f = let a = extlangs_upto R start c.language c.extlangs k p f in omega (arith, a)
-
-  language_upto : Upto (start + 1) (LanguagePart R start c.language)
-  language_upto = single_upto faults.UnknownLanguage (start + 1) (start + 1) (is_registered R kinds.Language c.language ≡ false) (λ h. omega arith)
-
-  regions_tell : Tells (Or RegionPart VariantsPart) (and_then (part_check R kinds.Region faults.UnknownRegion (start + before_region c + 1) c.region) (variants_check R r (start + before_variants c + 1) [] c.variants))
-  regions_tell =
-      tells_and RegionPart VariantsPart (part_check R kinds.Region faults.UnknownRegion (start + before_region c + 1) c.region) (variants_check R r (start + before_variants c + 1) [] c.variants)
-      (precede_by RegionPart VariantsPart (start + before_variants c) region_upto variants_past)
-      (part_tells R kinds.Region faults.UnknownRegion (start + before_region c + 1) c.region) (variants_tell R r (start + before_variants c + 1) [] c.variants)
-
-  abbrev rest3 : Check
-  rest3 = and_then (part_check R kinds.Region faults.UnknownRegion (start + before_region c + 1) c.region) (variants_check R r (start + before_variants c + 1) [] c.variants)
-
-  abbrev rest2 : Check
-  rest2 = and_then (part_check R kinds.Script faults.UnknownScript (start + before_script c + 1) c.script) rest3
-
-  scripts_tell : Tells (Or ScriptPart (Or RegionPart VariantsPart)) rest2
-  scripts_tell =
-      tells_and ScriptPart (Or RegionPart VariantsPart) (part_check R kinds.Script faults.UnknownScript (start + before_script c + 1) c.script) rest3
-      (precede_by ScriptPart (Or RegionPart VariantsPart) (start + before_region c) script_upto region_past)
-      (part_tells R kinds.Script faults.UnknownScript (start + before_script c + 1) c.script) regions_tell
-
-  parts_tell : Tells CorePart (core_check R r start c)
+  parts : Part start (start + before_variants c + length c.variants) CorePart (core_check R r start c)
   unfolding core_check
-  parts_tell =
-      tells_and (LanguagePart R start c.language) (Or (ExtlangsPart R start c.language c.extlangs) (Or ScriptPart (Or RegionPart VariantsPart))) (language_check R start c.language) (and_then (extlangs_check R start c.language c.extlangs) rest2)
-      (precede_by (LanguagePart R start c.language) (Or (ExtlangsPart R start c.language c.extlangs) (Or ScriptPart (Or RegionPart VariantsPart))) (start + 1) language_upto rest_past)
-      (tells_unless (is_registered R kinds.Language c.language) faults.UnknownLanguage (start + 1))
-      (tells_and (ExtlangsPart R start c.language c.extlangs) (Or ScriptPart (Or RegionPart VariantsPart)) (extlangs_check R start c.language c.extlangs) rest2
-      (precede_by (ExtlangsPart R start c.language c.extlangs) (Or ScriptPart (Or RegionPart VariantsPart)) (start + before_script c) extlang_upto script_past)
-      (extlangs_tell R start c.language c.extlangs) scripts_tell)
+  parts =
+      part_then {m = start + 1}
+      (record { past = λ k p f. omega (arith, f.placed); upto = λ k p f. omega (arith, f.placed); tells = tells_unless (is_registered R kinds.Language c.language) faults.UnknownLanguage (start + 1) })
+      (part_then (extlangs_part R start c.language c.extlangs)
+      (part_then (registered_part R kinds.Script faults.UnknownScript (start + before_script c) c.script)
+      (part_then (registered_part R kinds.Region faults.UnknownRegion (start + before_region c) c.region) (variants_part R r (start + before_variants c) [] c.variants)
+      (omega arith) (omega arith) (omega arith)) (omega arith) (omega arith) (omega arith)) (omega arith) (omega arith) (omega arith)) (omega arith) (omega arith) (omega arith)
 
   abbrev pub CoreFault : ValidFaultKind → ℕ → Type 0
   CoreFault = Counted r (HasCoreFault R start c)
@@ -203,10 +137,6 @@ module _ (R : List EntryParts) (r : Bool) (start : ℕ) (c : CoreParts) where
   in_variants : (vs : List (List ℕ)) (k : ValidFaultKind) (p : ℕ) → c.variants ≡ vs → VariantFault R r (start + before_variants c + 1) [] vs k p → CorePart k p
   in_variants vs k p e f = inr (inr (inr (inr (subst (λ z. VariantFault R r (start + before_variants c + 1) [] z k p) (sym e) f))))
 
-  not_repeating : (b : Bool) → (b ≡ true → ⊥) → b ≡ false
-  not_repeating true h = absurd (h refl)
-  not_repeating false h = refl
-
   part_hidden : (k : ValidFaultKind) (p : ℕ) → CoreFault k p → CorePart k p
   part_hidden faults.UnknownLanguage p (h, n) = inl (record { kinded = refl; placed = h.0; cause = h.1 })
   part_hidden faults.UnknownExtlang p (h, n) = in_extlangs (h.0 ∷ h.1) faults.UnknownExtlang p h.2 (inl (inl (record { kinded = refl; placed = h.3; cause = h.4 })))
@@ -219,31 +149,71 @@ module _ (R : List EntryParts) (r : Bool) (start : ℕ) (c : CoreParts) where
   part_hidden faults.DuplicateVariant p (h, n) =
       let split : c.variants ≡ (h.0 ++ h.1 ∷ h.2) ++ h.1 ∷ h.3 = h.4 ∙ sym (append_assoc h.0 (h.1 ∷ h.2) (h.1 ∷ h.3)) in
       let long : length (h.0 ++ h.1 ∷ h.2) ≡ length h.0 + length (h.1 ∷ h.2) = length-append h.0 (h.1 ∷ h.2) in
-      in_variants ((h.0 ++ h.1 ∷ h.2) ++ h.1 ∷ h.3) faults.DuplicateVariant p split (repeated_hidden R r (start + before_variants c + 1) [] (h.0 ++ h.1 ∷ h.2) h.1 h.3 p (omega (arith, h.5, long)) (not_repeating r (λ t. n t refl)) (stands_there h.0 h.2 h.1))
-  part_hidden faults.DuplicateSingleton p (h, n) = absurd h
-  part_hidden faults.BadTransform p (h, n) = absurd h
-
-  same_faults : SameFaults CorePart CoreFault
-  same_faults = record { there = part_shown; back = part_hidden }
+      in_variants ((h.0 ++ h.1 ∷ h.2) ++ h.1 ∷ h.3) faults.DuplicateVariant p split (repeated_hidden R r (start + before_variants c + 1) [] (h.0 ++ h.1 ∷ h.2) h.1 h.3 p (omega (arith, h.5, long)) (false_from_ne_true r (λ t. n t refl)) (stands_there h.0 h.2 h.1))
+  part_hidden _ p (h, n) = absurd h
 
   -- the check tells the first fault
   pub core_tells : Tells CoreFault (core_check R r start c)
-  core_tells = tells_same CorePart CoreFault (core_check R r start c) same_faults parts_tell
+  core_tells = tells_same CorePart CoreFault (core_check R r start c) (record { there = part_shown; back = part_hidden }) parts.tells
 
   -- the places of a core's faults are those of its subtags
   pub core_past : Past start CoreFault
-  core_past k p f = by (part_hidden k p f)
-    where
-      by : CorePart k p → start < p
-      by (inl g) = omega (arith, g.placed)
-      by (inr g) = let l = rest_past k p g in omega (arith, l)
-
-  part_short : (k : ValidFaultKind) (p : ℕ) → CorePart k p → p ≤ start + before_variants c + length c.variants
-  part_short k p (inl f) = omega (arith, f.placed)
-  part_short k p (inr (inl f)) = let l = extlang_upto k p f in omega (arith, l)
-  part_short k p (inr (inr (inl f))) = let l = script_upto k p f in omega (arith, l)
-  part_short k p (inr (inr (inr (inl f)))) = let l = region_upto k p f in omega (arith, l)
-  part_short k p (inr (inr (inr (inr f)))) = let l = variants_to R r (start + before_variants c + 1) [] c.variants k p f in omega (arith, l)
+  core_past k p f = parts.past k p (part_hidden k p f)
 
   pub core_upto : Upto (start + before_variants c + length c.variants) CoreFault
-  core_upto k p f = part_short k p (part_hidden k p f)
+  core_upto k p f = parts.upto k p (part_hidden k p f)
+
+-- The faults of one extension.
+
+pub length_core : (c : CoreParts) → length (spell_core c) ≡ before_variants c + length c.variants
+length_core c =
+    let a = length-append c.extlangs (option_to_list c.script ++ (option_to_list c.region ++ c.variants)) in
+    let b = length-append (option_to_list c.script) (option_to_list c.region ++ c.variants) in
+    let d = length-append (option_to_list c.region) c.variants in
+    omega (arith, a, b, d)
+
+module _ (R : List EntryParts) (r : Bool) (here : ℕ) (e : ExtensionParts) where
+  abbrev pub ExtensionFault : ValidFaultKind → ℕ → Type 0
+  ExtensionFault = Counted r (HasExtensionFault R here e)
+
+  same_source : (parts : TForm) (source : CoreParts) → e.singleton ≡ transform → IsTransform e.subtags parts → parts.source ≡ Some source → SameFaults (CoreFault R r here source) ExtensionFault
+  same_source parts source t formed there = record {
+    there = λ k p f. (inr (source, record { transforms = t; parts = parts; formed = formed; there = there }, f.0), f.1);
+    back = λ k p f. (by k p f.0, f.1);
+  }
+    where
+      by : (k : ValidFaultKind) (p : ℕ) → HasExtensionFault R here e k p → HasCoreFault R here source k p
+      by k p (inl bad) = absurd (bad.2.formless parts formed)
+      by k p (inr other) =
+          let same : parts ≡ other.1.parts = t_unique e.subtags parts other.1.parts formed other.1.formed in
+          let one : Some source ≡ Some other.0 = sym there ∙ ap (λ (z : TForm). z.source) same ∙ other.1.there in
+          subst (λ (z : CoreParts). HasCoreFault R here z k p) (sym (same_Some source other.0 one)) other.2
+
+  no_source : (parts : TForm) → IsTransform e.subtags parts → parts.source ≡ None → (k : ValidFaultKind) (p : ℕ) → ExtensionFault k p → ⊥
+  no_source parts formed there k p (inl bad, n) = bad.2.formless parts formed
+  no_source parts formed there k p (inr other, n) =
+      let same : parts ≡ other.1.parts = t_unique e.subtags parts other.1.parts formed other.1.formed in
+      let bad : None ≡ Some other.0 = sym there ∙ ap (λ (z : TForm). z.source) same ∙ other.1.there in cc
+
+  pub source_tells : (parts : TForm) (o : Option CoreParts) → e.singleton ≡ transform → IsTransform e.subtags parts → parts.source ≡ o → Tells ExtensionFault (source_check R r here o)
+  source_tells parts None t formed there = no_source parts formed there
+  source_tells parts (Some source) t formed there =
+      tells_same (CoreFault R r here source) ExtensionFault (core_check R r here source) (same_source parts source t formed there) (core_tells R r here source)
+
+source_short : (parts : TForm) (source : CoreParts) → parts.source ≡ Some source → length (spell_core source) ≤ length (spell_t parts)
+source_short parts source there =
+    let a = length-append (spell_source parts.source) (flat_map spell_field parts.fields) in
+    let b : length (spell_source parts.source) ≡ length (spell_core source) = ap (λ o. length (spell_source o)) there in
+    omega (arith, a, b)
+
+-- a fault at the singleton is that of the form; the places of the others are those of the extension's subtags
+pub fault_at : (R : List EntryParts) (here : ℕ) (e : ExtensionParts) (k : ValidFaultKind) (p : ℕ) → HasExtensionFault R here e k p → ((k ≡ faults.BadTransform) × (p ≡ here)) ⊎ ((here < p) × (p ≤ here + length e.subtags))
+fault_at R here e k p (inl bad) = inl (bad.0, bad.1)
+fault_at R here e k p (inr other) =
+    let h : CoreFault R false here other.0 k p = (other.2, λ t z. cc) in
+    let past = core_past R false here other.0 k p h in
+    let upto = core_upto R false here other.0 k p h in
+    let long = length_core other.0 in
+    let short = source_short other.1.parts other.0 other.1.there in
+    let spelled : length (spell_t other.1.parts) ≡ length e.subtags = ap length other.1.formed.spelled in
+    inr (past, omega (arith, upto, long, short, spelled))

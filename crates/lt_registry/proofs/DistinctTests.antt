@@ -5,12 +5,8 @@ use Rattle.std.proofs.lemmas.Slice.Eq.{bytes_eq-Decides}
 use Rattle.lt_registry.specs.Checking.{stands_in}
 use Rattle.lt_registry.specs.Validity.{Distinct}
 use Rattle.lt_registry.proofs.ListLemmas.{whole_turn, take_turn}
-use Rattle.lt_registry.proofs.SplitListLemmas.{distinct_at}
+use Rattle.lt_registry.proofs.SplitListLemmas.{distinct_at, all_more}
 use Rattle.lt_registry.proofs.VariantFaultLemmas.{stands_at}
-
-all_more : (P : List ℕ → Type 0) (xs : List (List ℕ)) (v : List ℕ) → AllByRecursion P xs → P v → AllByRecursion P (xs ++ v ∷ [])
-all_more P [] v h p = (p, tt)
-all_more P (x ∷ xs) v h p = (h.0, all_more P xs v h.1 p)
 
 pub distinct_more : (xs : List (List ℕ)) (v : List ℕ) → Distinct xs → AllByRecursion (λ y. y ≢ v) xs → Distinct (xs ++ v ∷ [])
 distinct_more [] v h k = (tt, tt)

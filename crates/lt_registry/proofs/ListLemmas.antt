@@ -1,16 +1,11 @@
 -- Lists that are read from the left.
-use Rattle.std.proofs.Common.{◌≡◌, ℕ, ◌+◌, ◌<◌, Bool, ◌&&◌, List, [], ◌∷◌, ◌++◌, length, take, drop, get_or, refl, ap, ◌∙◌, add-one, sym}
+use Rattle.std.proofs.Common.{◌≡◌, ℕ, ◌+◌, ◌<◌, List, [], ◌∷◌, ◌++◌, length, take, drop, get_or, refl, ap, ◌∙◌, add-one, sym}
 use Rattle.std.proofs.Math.Seq.{drop-cons}
 use Rattle.std.proofs.lemmas.List.{take_more, take-append-drop}
-use Rattle.std.specs.Cmp.Lexicographic.{pointwise}
 
 -- the element at an index is first in what is left there
 pub drop_turn : {A : Type 0} (xs : List A) (i : ℕ) (x : A) → i < length xs → x ≡ get_or xs i x → drop i xs ≡ x ∷ drop (i + 1) xs
 drop_turn xs i x l e = drop-cons xs i x l ∙ rw (add-one i, ← e) refl
-
-pub pointwise_turn : {A : Type 0} (E : A → A → Bool) (xs ys : List A) (i : ℕ) (x y : A) → i < length xs → i < length ys → x ≡ get_or xs i x → y ≡ get_or ys i y → pointwise E (drop i xs) (drop i ys) ≡ (E x y && pointwise E (drop (i + 1) xs) (drop (i + 1) ys))
-pointwise_turn E xs ys i x y l m e f =
-    ap (λ zs. pointwise E zs (drop i ys)) (drop_turn xs i x l e) ∙ ap (λ zs. pointwise E (x ∷ drop (i + 1) xs) zs) (drop_turn ys i y m f)
 
 -- a list around the element at an index
 pub whole_turn : {A : Type 0} (xs : List A) (i : ℕ) (x : A) → i < length xs → x ≡ get_or xs i x → xs ≡ take i xs ++ x ∷ drop (i + 1) xs

@@ -1,26 +1,276 @@
--- A record gives one entry or has one first fault, and not both.
-use Rattle.std.proofs.Common.{◌≡◌, ◌≢◌, ℕ, ◌≤◌, Bool, true, false, if◌then◌else◌, ◌⊎◌, inl, inr, List, [], Option, Some, None, refl, sym, ap, ◌∙◌, subst, arith}
-use Rattle.std.specs.Prelude.{Result, Ok, Err, IfOk, IfErr}
-use Rattle.std.specs.List.{AllByRecursion}
+-- What is read of records: the texts of one, their entries, and a registry that is read record by record.
+use Rattle.std.proofs.Common.{◌≡◌, ℕ, ◌+◌, ◌<◌, ◌≤◌, Bool, true, false, ◌&&◌, eqb, List, [], ◌∷◌, ◌++◌, length, take, drop, get_or, Option, Some, None, refl, sym, ap, ◌∙◌, arith, add-one, append_assoc, zero, suc, leb, ◌⊎◌, inl, inr, subst, ◌≢◌, if◌then◌else◌, length-append, Result, Ok, Err, append-nil}
+use Rattle.std.specs.Prelude.{Ok, Err, option_map, Result, IfOk, IfErr, All}
+use Rattle.std.proofs.Math.Seq.{drop-cons, get_or-append_seam, take-append_seam}
+use Rattle.std.proofs.lemmas.List.{take_more, drop_all, drop-drop, append-nil, take_all, length-take-le, length_push}
+use Rattle.std.specs.List.{list_all, AllByRecursion, onto_first}
+use Rattle.std.specs.Char.{is_ascii_alphanumeric}
+use Rattle.std.proofs.lemmas.Bool.{and_parts, and_from, eqb-true, leb-true, cases_Bool, cases_eq, eq-eqb, cases_lt}
+use Rattle.std.proofs.lemmas.List.Elements.{All-push, All-nil}
+use Rattle.std.specs.Io.KnownBytes.{IsAtEnd}
+use Rattle.std.proofs.KnownBytes.{Consumes-nil}
 use Rattle.lt_subtag.specs.Reading.{subtag_of}
+use Rattle.lt_subtag.specs.declared.SubtagFault.{SubtagFault}
+use Rattle.lt_subtag.specs.Bytes.{is_subtag, folded}
+use Rattle.lt_subtag.specs.Shapes.{is_alphabetic}
+use Rattle.lt_subtag.proofs.BytesLemmas.{piece_folds}
+use Rattle.lt_subtag.specs.declared.SubtagFault.TheVariants as subtag_faults
+use Rattle.lt_tag.specs.Lists.{pieces}
 use Rattle.lt_tag.specs.Parts.{TagForm}
 use Rattle.lt_tag.specs.Faults.{HasTag}
+use Rattle.lt_tag.proofs.TagLemmas.{AllByRecursion-weaker}
 use Rattle.lt_tag.proofs.OneTagLemmas.{one_tag}
-use Rattle.lt_jar.specs.Records.{Field}
-use Rattle.lt_registry.specs.Parts.{EntryParts}
-use Rattle.lt_registry.specs.Entries.{is_whole_kind, has_value_form, IsPrefix}
-use Rattle.lt_registry.specs.Records.{body, bodies, type_name, subtag_name, tag_name, value_name, repeats_field, kind_of, HasKind, name_field, formed, subtags_named, IsName, IsValue, IsValueOf, prefix_name, has_prefixes, prefixes_of, prefixes_in, IsEntryOf, HasRecordFault, record_rank}
-use Rattle.lt_registry.specs.RecordSteps.{kind_or, kind_by, IsNameIn, IsNameFault, IsTextFault, IsValueFault, IsPrefixFault}
-use Rattle.lt_registry.specs.RecordRefusals.{IsRefused}
+use Rattle.lt_jar.specs.Records.{Field, HasRecords}
+use Rattle.lt_jar.specs.Devices.{failures_of, greatest_count, inner_of}
+use Rattle.lt_jar.specs.Lines.{HoldsOfWhole}
+use Rattle.lt_jar.specs.Faults.{IsReached, IsTheFault}
+use Rattle.lt_jar.specs.Lending.{BreaksOff, IsSound}
+use Rattle.lt_jar.specs.LentSoFar.{HasLent}
+use Rattle.lt_jar.specs.Sources.{Advances, IsFresh, IsRead, LastGave, LendsEnded, LendsLast, ReadsRecord, lent_by, line_of_kept, record_in}
+use Rattle.lt_jar.specs.declared.devices.Device.{Device}
+use Rattle.lt_jar.specs.declared.faults.JarFault.{JarFault}
+use Rattle.lt_jar.specs.declared.faults.JarFaultKind.{JarFaultKind}
+use Rattle.lt_jar.specs.declared.sources.JarSource.{JarSource}
+use Rattle.lt_jar.proofs.LentLemmas.{lent_cut, lent_fault, lent_last, lent_more, lent_reached, lent_start, lent_within}
+use Rattle.lt_jar.proofs.SourceLemmas.{more_read}
+use Rattle.lt_jar.specs.declared.faults.JarFaultKind.TheVariants as jars
+use Rattle.lt_jar.specs.declared.sources.Status.TheVariants as state
+use Rattle.lt_registry.specs.Records.{begins_dots, with_first, ends_of, with_subtag, subtags_of, with_prefix, prefix_of, prefixes_of, bodies, is_called, formed, is_range, range_of, single_of, name_by, subtags_named, body, type_name, subtag_name}
+use Rattle.lt_registry.specs.Records.{tag_name, value_name, repeats_field, kind_of, HasKind, name_field, IsName, IsValue, IsValueOf, prefix_name, has_prefixes, prefixes_in, IsEntryOf, HasRecordFault, record_rank, is_header_at, EntriesFrom, HasEntries, HasFaultAt, IsFirstRecordFault}
+use Rattle.lt_registry.specs.Entries.{has_form, letters_le, IsRange, IsPrefix, is_whole_kind, has_value_form, IsEntry, NumbersRise, IsRegistry}
 use Rattle.lt_registry.specs.declared.entries.Kind.{Kind}
-use Rattle.lt_registry.specs.declared.entries.Kind.TheVariants as kinds
 use Rattle.lt_registry.specs.declared.entries.EntryName.{EntryName}
-use Rattle.lt_registry.specs.declared.entries.EntryName.TheVariants as names
-use Rattle.lt_registry.specs.declared.entries.EntryValue.{EntryValue}
-use Rattle.lt_registry.specs.declared.entries.EntryValue.TheVariants as values
 use Rattle.lt_registry.specs.declared.faults.RecordFaultKind.{RecordFaultKind}
+use Rattle.lt_registry.specs.Parts.{EntryParts}
+use Rattle.lt_registry.specs.RecordSteps.{kind_or, kind_by, IsNameIn, IsNameFault, IsTextFault, IsValueFault, IsPrefixFault}
+use Rattle.lt_registry.specs.RecordRefusals.{IsRefused, IsRecordRefusal}
+use Rattle.lt_registry.specs.declared.entries.EntryValue.{EntryValue}
+use Rattle.lt_registry.specs.AddedRecords.{IsAdded, IsRefusedAt, Takes, TakesFrom, finished}
+use Rattle.lt_registry.specs.declared.drafts.Draft.{Draft}
+use Rattle.lt_registry.specs.declared.faults.RecordFault.{RecordFault}
+use Rattle.lt_registry.specs.ReadRegistry.{AnswersAs, IsJarRefusal, IsReadWhole, ReadsRegistry}
+use Rattle.lt_registry.specs.declared.faults.RegistryFault.{RegistryFault}
+use Rattle.lt_registry.specs.declared.entries.EntryName.TheVariants as names
 use Rattle.lt_registry.specs.declared.faults.RecordFaultKind.TheVariants as faults
-use Rattle.lt_registry.proofs.NameReadLemmas.{IsSubtagsResult, subtags_fit, prefixes_are}
+use Rattle.lt_registry.specs.declared.entries.Kind.TheVariants as kinds
+use Rattle.lt_registry.specs.declared.entries.EntryValue.TheVariants as values
+use Rattle.lt_registry.specs.declared.faults.RegistryFault.TheVariants as registry_faults
+use Rattle.lt_registry.proofs.SplitListLemmas.{all_more}
+use Rattle.lt_registry.proofs.ListLemmas.{drop_turn, take_turn, whole_turn}
+
+-- What is read of the texts of a record.
+
+-- Texts that are read from the left.
+
+-- two full stops
+
+abbrev pub behind : List ℕ → Option (List ℕ × List ℕ) → Option (List ℕ × List ℕ)
+behind front None = None
+behind front (Some p) = Some (front ++ p.0, p.1)
+
+dots_found : (s : List ℕ) → begins_dots s ≡ true → ends_of s ≡ Some ([], drop 2 s)
+unfolding ends_of
+dots_found [] h = cc
+dots_found (b ∷ s) h = rw h refl
+
+no_dots : (b : ℕ) (s : List ℕ) → begins_dots (b ∷ s) ≡ false → ends_of (b ∷ s) ≡ with_first b (ends_of s)
+unfolding ends_of
+no_dots b s h = rw h refl
+
+behind_more : (front : List ℕ) (b : ℕ) (o : Option (List ℕ × List ℕ)) → behind front (with_first b o) ≡ behind (front ++ b ∷ []) o
+behind_more front b None = refl
+behind_more front b (Some p) = ap (λ z. Some (z, p.1)) (sym (append_assoc front (b ∷ []) p.0))
+
+pub ends_stay : (text : List ℕ) (i : ℕ) → i < length text → begins_dots (drop i text) ≡ false → behind (take i text) (ends_of (drop i text)) ≡ behind (take (i + 1) text) (ends_of (drop (i + 1) text))
+ends_stay text i l h =
+    let b = get_or text i 0 in
+    let d : drop i text ≡ b ∷ drop (i + 1) text = drop-cons text i 0 l ∙ rw (add-one i) refl in
+    let none : begins_dots (b ∷ drop (i + 1) text) ≡ false = ap begins_dots (sym d) ∙ h in
+    ap (λ z. behind (take i text) (ends_of z)) d ∙ ap (behind (take i text)) (no_dots b (drop (i + 1) text) none)
+    ∙ behind_more (take i text) b (ends_of (drop (i + 1) text)) ∙ ap (λ z. behind z (ends_of (drop (i + 1) text))) (sym (take_more text i 0 l))
+
+pub ends_found : (text : List ℕ) (i : ℕ) → begins_dots (drop i text) ≡ true → behind (take i text) (ends_of (drop i text)) ≡ Some (take i text, drop (i + 2) text)
+ends_found text i h =
+    ap (behind (take i text)) (dots_found (drop i text) h)
+    ∙ ap (λ z. Some (z, drop 2 (drop i text))) (append-nil (take i text)) ∙ ap (λ z. Some (take i text, z)) (drop-drop 2 i text)
+
+pub ends_none : (text : List ℕ) (i : ℕ) → length text ≤ i → behind (take i text) (ends_of (drop i text)) ≡ None
+unfolding ends_of
+ends_none text i l = ap (λ z. behind (take i text) (ends_of z)) (drop_all i text l)
+
+-- the subtags of pieces
+
+abbrev pub after : {A : Type 0} → List A → Option (List A) → Option (List A)
+after front None = None
+after front (Some rest) = Some (front ++ rest)
+
+after_one : {A : Type 0} (front : List A) (x : A) (o : Option (List A)) → after front (option_map (λ (rest : List A). x ∷ rest) o) ≡ after (front ++ x ∷ []) o
+after_one front x None = refl
+after_one front x (Some rest) = ap Some (sym (append_assoc front (x ∷ []) rest))
+
+subtags_step : (front : List (List ℕ)) (piece s : List ℕ) (rest : List (List ℕ)) → subtag_of piece ≡ Ok s → after front (subtags_of (piece ∷ rest)) ≡ after (front ++ s ∷ []) (subtags_of rest)
+unfolding subtags_of
+subtags_step front piece s rest h =
+    ap (λ z. after front (with_subtag z (subtags_of rest))) h ∙ after_one front s (subtags_of rest)
+
+pub piece_stays : (all front : List (List ℕ)) (text piece s : List ℕ) (rest : List (List ℕ)) → subtags_of all ≡ after front (subtags_of (pieces text)) → pieces text ≡ piece ∷ rest → subtag_of piece ≡ Ok s → subtags_of all ≡ after (front ++ s ∷ []) (subtags_of rest)
+piece_stays all front text piece s rest so_far cut h =
+    so_far ∙ ap (λ z. after front (subtags_of z)) cut ∙ subtags_step front piece s rest h
+
+pub piece_fails : (all front : List (List ℕ)) (text piece : List ℕ) (rest : List (List ℕ)) (fault : SubtagFault) → subtags_of all ≡ after front (subtags_of (pieces text)) → pieces text ≡ piece ∷ rest → subtag_of piece ≡ Err fault → subtags_of all ≡ None
+unfolding subtags_of
+piece_fails all front text piece rest fault so_far cut h =
+    so_far ∙ ap (λ z. after front (subtags_of z)) cut ∙ ap (λ z. after front (with_subtag z (subtags_of rest))) h
+
+pub piece_last : (all front : List (List ℕ)) (text piece s : List ℕ) → subtags_of all ≡ after front (subtags_of (pieces text)) → pieces text ≡ piece ∷ [] → subtag_of piece ≡ Ok s → subtags_of all ≡ Some (front ++ s ∷ [])
+unfolding subtags_of
+piece_last all front text piece s so_far cut h = piece_stays all front text piece s [] so_far cut h ∙ ap Some (append-nil (front ++ s ∷ []))
+
+-- the Prefixes of fields
+
+called : (name : List ℕ) (f : Field) (r : List Field) → is_called name f ≡ true → bodies name (f ∷ r) ≡ f.1 ∷ bodies name r
+called name f r h = rw h refl
+
+not_called : (name : List ℕ) (f : Field) (r : List Field) → is_called name f ≡ false → bodies name (f ∷ r) ≡ bodies name r
+not_called name f r h = rw h refl
+
+prefixes_step : (s : List ℕ) (ss : List (List ℕ)) → prefixes_of (s ∷ ss) ≡ with_prefix (prefix_of s) (prefixes_of ss)
+unfolding prefixes_of
+prefixes_step s ss = refl
+
+module _ (name : List ℕ) (all r : List Field) (i : ℕ) (front : List (List (List ℕ))) (f : Field) (l : i < length r) (is : f ≡ get_or r i f)
+    (so_far : prefixes_of (bodies name all) ≡ after front (prefixes_of (bodies name (drop i r)))) where
+  field_here : bodies name (drop i r) ≡ bodies name (f ∷ drop (i + 1) r)
+  field_here = ap (bodies name) (drop_turn r i f l is)
+
+  pub field_skipped : is_called name f ≡ false → prefixes_of (bodies name all) ≡ after front (prefixes_of (bodies name (drop (i + 1) r)))
+  field_skipped h = so_far ∙ ap (λ z. after front (prefixes_of z)) (field_here ∙ not_called name f (drop (i + 1) r) h)
+
+  called_step : is_called name f ≡ true → prefixes_of (bodies name all) ≡ after front (with_prefix (prefix_of f.1) (prefixes_of (bodies name (drop (i + 1) r))))
+  called_step h = so_far ∙ ap (λ z. after front (prefixes_of z)) (field_here ∙ called name f (drop (i + 1) r) h) ∙ ap (after front) (prefixes_step f.1 (bodies name (drop (i + 1) r)))
+
+  pub field_taken : (p : List (List ℕ)) → is_called name f ≡ true → prefix_of f.1 ≡ Some p → prefixes_of (bodies name all) ≡ after (front ++ p ∷ []) (prefixes_of (bodies name (drop (i + 1) r)))
+  field_taken p h g =
+      called_step h ∙ ap (λ z. after front (with_prefix z (prefixes_of (bodies name (drop (i + 1) r))))) g ∙ after_one front p (prefixes_of (bodies name (drop (i + 1) r)))
+
+  pub field_fails : is_called name f ≡ true → prefix_of f.1 ≡ None → prefixes_of (bodies name all) ≡ None
+  field_fails h g = called_step h ∙ ap (λ z. after front (with_prefix z (prefixes_of (bodies name (drop (i + 1) r))))) g
+
+pub no_field : (name : List ℕ) (r : List Field) (i : ℕ) (front : List (List (List ℕ))) → length r ≤ i → after front (prefixes_of (bodies name (drop i r))) ≡ Some front
+unfolding prefixes_of
+no_field name r i front l = ap (λ z. after front (prefixes_of (bodies name z))) (drop_all i r l) ∙ ap Some (append-nil front)
+
+-- What the texts of a record's fields give has the forms of its kind.
+
+formed_if : (form : List ℕ → Bool) (s n : List ℕ) (b : Bool) → form s ≡ b → formed form (Ok s) ≡ Some n → form n ≡ true
+formed_if form s n true e h =
+    let told : Some s ≡ Some n = rw e at h in
+    let same : s ≡ n = cc in ap form (sym same) ∙ e
+formed_if form s n false e h = let bad : None ≡ Some n = rw e at h in cc
+
+pub formed_has : (form : List ℕ → Bool) (r : Result (List ℕ) SubtagFault) (n : List ℕ) → formed form r ≡ Some n → form n ≡ true
+formed_has form (Ok s) n h = formed_if form s n (form s) refl h
+formed_has form (Err fault) n h = cc
+
+pub range_has : (k : Kind) (a b : List ℕ) → is_range k a b ≡ true → IsRange k a b
+range_has k a b h =
+    let p0 = and_parts (has_form k a) (has_form k b && (is_alphabetic a && (is_alphabetic b && (eqb (length a) (length b) && letters_le a b)))) h in
+    let p1 = and_parts (has_form k b) (is_alphabetic a && (is_alphabetic b && (eqb (length a) (length b) && letters_le a b))) p0.1 in
+    let p2 = and_parts (is_alphabetic a) (is_alphabetic b && (eqb (length a) (length b) && letters_le a b)) p1.1 in
+    let p3 = and_parts (is_alphabetic b) (eqb (length a) (length b) && letters_le a b) p2.1 in
+    let p4 = and_parts (eqb (length a) (length b)) (letters_le a b) p3.1 in
+    record { first_form = p0.0; last_form = p1.0; first_letters = p2.0; last_letters = p3.0; one_length = eqb-true (length a) (length b) p4.0; in_order = p4.1 }
+
+-- a name of subtags and its form, or one of two faults
+abbrev pub IsSubtagsResult : Kind → Result EntryName RecordFaultKind → Type 0
+IsSubtagsResult k (Ok (names.Single n)) = has_form k n ≡ true
+IsSubtagsResult k (Ok (names.Range a b)) = IsRange k a b
+IsSubtagsResult k (Ok (names.Whole t)) = ⊥
+IsSubtagsResult k (Err fault) = (fault ≡ faults.BadRange) ⊎ (fault ≡ faults.BadSubtag)
+
+single_fits : (k : Kind) (o : Option (List ℕ)) → ((n : List ℕ) → o ≡ Some n → has_form k n ≡ true) → IsSubtagsResult k (single_of o)
+single_fits k None f = inr refl
+single_fits k (Some n) f = f n refl
+
+range_if : (k : Kind) (a b : List ℕ) (t : Bool) → is_range k a b ≡ t → IsSubtagsResult k (range_of k (Ok a) (Ok b))
+range_if k a b true e = rw e (range_has k a b e)
+range_if k a b false e = rw e (inl refl)
+
+range_fits : (k : Kind) (a b : Result (List ℕ) SubtagFault) → IsSubtagsResult k (range_of k a b)
+range_fits k (Ok a) (Ok b) = range_if k a b (is_range k a b) refl
+range_fits k _ _ = inl refl
+
+name_fits : (k : Kind) (s : List ℕ) (o : Option (List ℕ × List ℕ)) → IsSubtagsResult k (name_by k s o)
+name_fits k s None = single_fits k (formed (has_form k) (subtag_of s)) (λ n h. formed_has (has_form k) (subtag_of s) n h)
+name_fits k s (Some ends) = range_fits k (subtag_of ends.0) (subtag_of ends.1)
+
+pub subtags_fit : (k : Kind) (s : List ℕ) → IsSubtagsResult k (subtags_named k s)
+subtags_fit k s = name_fits k s (ends_of s)
+
+-- what reading a piece gives is a subtag
+pub subtag_is : (piece n : List ℕ) → subtag_of piece ≡ Ok n → is_subtag n ≡ true
+subtag_is piece n h =
+    elim (cases_Bool (eqb (length piece) 0)) [
+      | inl empty ↦ let bad : Err subtag_faults.Empty ≡ Ok n = rw empty at h in cc
+      | inr some ↦ elim (cases_Bool (list_all is_ascii_alphanumeric piece)) [
+        | inr bytes ↦ let bad : Err subtag_faults.BadByte ≡ Ok n = rw (some, bytes) at h in cc
+        | inl bytes ↦ elim (cases_Bool (leb (length piece) 8)) [
+          | inr long ↦ let bad : Err subtag_faults.TooLong ≡ Ok n = rw (some, bytes, long) at h in cc
+          | inl few ↦
+              let told : Ok (folded piece) ≡ Ok n = rw (some, bytes, few) at h in
+              let same : folded piece ≡ n = cc in
+              let positive : 0 < length piece = not_zero (length piece) some in
+              ap is_subtag (sym same) ∙ piece_folds piece bytes positive (leb-true (length piece) 8 few)
+        ]
+      ]
+    ]
+  where
+    not_zero : (m : ℕ) → eqb m 0 ≡ false → 0 < m
+    not_zero zero e = cc
+    not_zero (suc m) e = omega arith
+
+-- a text has a piece
+some_more : (b : ℕ) (ps : List (List ℕ)) → 0 < length (onto_first b ps)
+some_more b [] = omega arith
+some_more b (p ∷ ps) = omega arith
+
+pub some_piece : (text : List ℕ) → 0 < length (pieces text)
+some_piece [] = omega arith
+some_piece (b ∷ bs) =
+    elim (cases_Bool (eqb b 45)) [
+      | inl e ↦ rw e (omega arith)
+      | inr e ↦ rw e (some_more b (pieces bs))
+    ]
+
+-- the subtags of pieces
+
+subtags_at : (piece : List ℕ) (r : Result (List ℕ) SubtagFault) (o : Option (List (List ℕ))) (m : ℕ) (ss : List (List ℕ)) → ((n : List ℕ) → r ≡ Ok n → is_subtag n ≡ true) → ((ts : List (List ℕ)) → o ≡ Some ts → (list_all is_subtag ts ≡ true) × (length ts ≡ m)) → with_subtag r o ≡ Some ss → (list_all is_subtag ss ≡ true) × (length ss ≡ suc m)
+subtags_at piece (Ok n) (Some ts) m ss f g h =
+    let same : n ∷ ts ≡ ss = cc in
+    let rest = g ts refl in
+    (ap (list_all is_subtag) (sym same) ∙ and_from (is_subtag n) (list_all is_subtag ts) (f n refl) rest.0, ap length (sym same) ∙ ap suc rest.1)
+subtags_at piece _ _ m ss f g h = cc
+
+pub subtags_are : (ps ss : List (List ℕ)) → subtags_of ps ≡ Some ss → (list_all is_subtag ss ≡ true) × (length ss ≡ length ps)
+unfolding subtags_of
+subtags_are [] ss h = let same : [] ≡ ss = cc in (ap (list_all is_subtag) (sym same), ap length (sym same))
+subtags_are (p ∷ ps) ss h = subtags_at p (subtag_of p) (subtags_of ps) (length ps) ss (subtag_is p) (subtags_are ps) h
+
+pub prefix_is : (s : List ℕ) (p : List (List ℕ)) → prefix_of s ≡ Some p → IsPrefix p
+prefix_is s p h =
+    let r = subtags_are (pieces s) p h in
+    record { subtags = r.0; some = subst (λ n. 0 < n) (sym r.1) (some_piece s) }
+
+prefixes_at : (o : Option (List (List ℕ))) (rest : Option (List (List (List ℕ)))) (ps : List (List (List ℕ))) → ((p : List (List ℕ)) → o ≡ Some p → IsPrefix p) → ((qs : List (List (List ℕ))) → rest ≡ Some qs → AllByRecursion IsPrefix qs) → with_prefix o rest ≡ Some ps → AllByRecursion IsPrefix ps
+prefixes_at (Some p) (Some qs) ps f g h = let same : p ∷ qs ≡ ps = cc in subst (AllByRecursion IsPrefix) same (f p refl, g qs refl)
+prefixes_at _ _ ps f g h = cc
+
+pub prefixes_are : (ss : List (List ℕ)) (ps : List (List (List ℕ))) → prefixes_of ss ≡ Some ps → AllByRecursion IsPrefix ps
+unfolding prefixes_of
+prefixes_are [] ps h = let same : [] ≡ ps = cc in subst (AllByRecursion IsPrefix) same tt
+prefixes_are (s ∷ ss) ps h = prefixes_at (prefix_of s) (prefixes_of ss) ps (prefix_is s) (prefixes_are ss) h
+
+-- A record gives one entry or has one first fault, and not both.
 
 pub same_some : {A : Type 0} (o : Option A) (a b : A) → o ≡ Some a → o ≡ Some b → a ≡ b
 same_some None a b h k = cc
@@ -39,12 +289,6 @@ pub one_kind : (r : List Field) (k l : Kind) → HasKind r k → HasKind r l →
 one_kind r k l h g =
     let same : h.0 ≡ g.0 = same_some (body type_name r) h.0 g.0 h.1 g.1 in
     same_some (kind_of g.0) k l (ap kind_of (sym same) ∙ h.2) g.2
-
-no_repeat : (r : List Field) → repeats_field r ≡ false → HasRecordFault r faults.RepeatedField → ⊥
-no_repeat r once f = both (repeats_field r) f once
-
-no_missing_type : (r : List Field) (k : Kind) → HasKind r k → HasRecordFault r faults.MissingType → ⊥
-no_missing_type r k h f = not_none (body type_name r) h.0 h.1 f
 
 no_unknown_type : (r : List Field) (k : Kind) → HasKind r k → HasRecordFault r faults.UnknownType → ⊥
 no_unknown_type r k h f =
@@ -78,21 +322,17 @@ not_subtags r k fault h whole f =
     both (is_whole_kind k) whole (ap is_whole_kind (one_kind r k f.0 h f.2) ∙ f.3)
 
 no_named_fault : (r : List Field) (k : Kind) (name : EntryName) (fault : RecordFaultKind) → HasKind r k → IsNameIn k r name → IsSubtagFault r fault → ⊥
-no_named_fault r k (names.Single n) fault h (s, there, is) f =
-    let e : body subtag_name r ≡ Some s = ap (λ z. body z r) (sym (field_of_subtag k is.0)) ∙ there in
-    no_subtag_fault r k s fault (Ok (names.Single n)) h e is.1 (λ w. cc) f.0 f.1 f.2 f.4 f.5
-no_named_fault r k (names.Range a b) fault h (s, there, is) f =
-    let e : body subtag_name r ≡ Some s = ap (λ z. body z r) (sym (field_of_subtag k is.0)) ∙ there in
-    no_subtag_fault r k s fault (Ok (names.Range a b)) h e is.1 (λ w. cc) f.0 f.1 f.2 f.4 f.5
 no_named_fault r k (names.Whole t) fault h (s, there, is) f = not_subtags r k fault h is.0 f
+no_named_fault r k name fault h (s, there, is) f =
+    let e : body subtag_name r ≡ Some s = ap (λ z. body z r) (sym (field_of_subtag k is.0)) ∙ there in
+    no_subtag_fault r k s fault (Ok name) h e is.1 (λ w. cc) f.0 f.1 f.2 f.4 f.5
 
 no_bad_tag : (r : List Field) (k : Kind) (name : EntryName) → HasKind r k → IsNameIn k r name → HasRecordFault r faults.BadTag → ⊥
-no_bad_tag r k (names.Single n) h (s, there, is) f = both (is_whole_kind k) (ap is_whole_kind (one_kind r k f.0 h f.2) ∙ f.3) is.0
-no_bad_tag r k (names.Range a b) h (s, there, is) f = both (is_whole_kind k) (ap is_whole_kind (one_kind r k f.0 h f.2) ∙ f.3) is.0
 no_bad_tag r k (names.Whole t) h (s, there, is) f =
     let e : body tag_name r ≡ Some s = ap (λ z. body z r) (sym (field_of_tag k is.0)) ∙ there in
     let same : s ≡ f.1 = same_some (body tag_name r) s f.1 e f.4 in
     f.5 t (subst (λ z. HasTag z t) same is.1)
+no_bad_tag r k _ h (s, there, is) f = both (is_whole_kind k) (ap is_whole_kind (one_kind r k f.0 h f.2) ∙ f.3) is.0
 
 value_there : (k : Kind) (o : Option (List ℕ)) (v : Option EntryValue) (s : List ℕ) → IsValueOf k o v → o ≡ Some s → (w : EntryValue) × IsValue k s w
 value_there k None None s is e = cc
@@ -105,193 +345,80 @@ no_bad_value r k v h is f =
     let got = value_there k (body value_name r) v f.1 is f.3 in
     f.4 got.0 (subst (λ (z : Kind). IsValue z f.1 got.0) (one_kind r k f.0 h f.2) got.1)
 
-no_bad_prefix : (r : List Field) (k : Kind) (ps : List (List (List ℕ))) → HasKind r k → prefixes_in k r ≡ Some ps → HasRecordFault r faults.BadPrefix → ⊥
-no_bad_prefix r k ps h is f =
-    not_none (prefixes_in k r) ps is (ap (λ (z : Kind). prefixes_in z r) (one_kind r k f.0 h f.1) ∙ f.2)
-
 -- a record that gives an entry has no fault
 pub entry_faultless : (r : List Field) (n : ℕ) (e : EntryParts) → IsEntryOf r n e → (fault : RecordFaultKind) → HasRecordFault r fault → ⊥
-entry_faultless r n e h faults.RepeatedField f = no_repeat r h.once f
-entry_faultless r n e h faults.MissingType f = no_missing_type r e.kind h.kind f
+entry_faultless r n e h faults.RepeatedField f = both (repeats_field r) f h.once
+entry_faultless r n e h faults.MissingType f = not_none (body type_name r) h.kind.0 h.kind.1 f
 entry_faultless r n e h faults.UnknownType f = no_unknown_type r e.kind h.kind f
 entry_faultless r n e h faults.MissingName f = no_missing_name r e.kind h.named.0 h.kind h.named.1 f
 entry_faultless r n e h faults.BadRange f = no_named_fault r e.kind e.name faults.BadRange h.kind h.named f
 entry_faultless r n e h faults.BadSubtag f = no_named_fault r e.kind e.name faults.BadSubtag h.kind h.named f
 entry_faultless r n e h faults.BadTag f = no_bad_tag r e.kind e.name h.kind h.named f
 entry_faultless r n e h faults.BadPreferred f = no_bad_value r e.kind e.value h.kind h.valued f
-entry_faultless r n e h faults.BadPrefix f = no_bad_prefix r e.kind e.prefixes h.kind h.prefixed f
+entry_faultless r n e h faults.BadPrefix f = not_none (prefixes_in e.kind r) e.prefixes h.prefixed (ap (λ (z : Kind). prefixes_in z r) (one_kind r e.kind f.0 h.kind f.1) ∙ f.2)
 entry_faultless r n e h faults.OutOfMemory f = f
 
 -- the first fault, by the faults before it that are not there
 
-abbrev Clear : List Field → RecordFaultKind → Type 0
-Clear r fault = HasRecordFault r fault → ⊥
+abbrev pub ranked : ℕ → RecordFaultKind
+ranked n =
+    if eqb n 0 then faults.RepeatedField else (if eqb n 1 then faults.MissingType else (if eqb n 2 then faults.UnknownType else (if eqb n 3 then faults.MissingName else (if eqb n 4 then faults.BadRange else (if eqb n 5 then faults.BadSubtag else (if eqb n 6 then faults.BadTag else (if eqb n 7 then faults.BadPreferred else (if eqb n 8 then faults.BadPrefix else faults.OutOfMemory))))))))
+
+pub ranked_again : (k : RecordFaultKind) → ranked (record_rank k) ≡ k
+ranked_again faults.RepeatedField = refl
+ranked_again _ = refl
 
 module _ (r : List Field) where
-  pub past_repeat : Clear r faults.RepeatedField → (other : RecordFaultKind) → HasRecordFault r other → 1 ≤ record_rank other
-  past_repeat c faults.RepeatedField f = absurd (c f)
-  past_repeat c faults.MissingType f = omega arith
-  past_repeat c faults.UnknownType f = omega arith
-  past_repeat c faults.MissingName f = omega arith
-  past_repeat c faults.BadRange f = omega arith
-  past_repeat c faults.BadSubtag f = omega arith
-  past_repeat c faults.BadTag f = omega arith
-  past_repeat c faults.BadPreferred f = omega arith
-  past_repeat c faults.BadPrefix f = omega arith
-  past_repeat c faults.OutOfMemory f = omega arith
+  -- no fault of a lesser rank
+  abbrev ClearTo : ℕ → Type 0
+  ClearTo zero = Unit {0}
+  ClearTo (suc n) = ClearTo n × (HasRecordFault r (ranked n) → ⊥)
 
-  past_missing : Clear r faults.RepeatedField → Clear r faults.MissingType → (other : RecordFaultKind) → HasRecordFault r other → 2 ≤ record_rank other
-  past_missing c d faults.RepeatedField f = absurd (c f)
-  past_missing c d faults.MissingType f = absurd (d f)
-  past_missing c d faults.UnknownType f = omega arith
-  past_missing c d faults.MissingName f = omega arith
-  past_missing c d faults.BadRange f = omega arith
-  past_missing c d faults.BadSubtag f = omega arith
-  past_missing c d faults.BadTag f = omega arith
-  past_missing c d faults.BadPreferred f = omega arith
-  past_missing c d faults.BadPrefix f = omega arith
-  past_missing c d faults.OutOfMemory f = omega arith
+  past : (n : ℕ) → ClearTo n → (other : RecordFaultKind) → HasRecordFault r other → n ≤ record_rank other
+  past zero c other f = omega arith
+  past (suc n) c other f =
+      elim (cases_eq n (record_rank other)) [
+        | inl e ↦ absurd (c.1 (subst (HasRecordFault r) (sym (ranked_again other) ∙ ap ranked (sym e)) f))
+        | inr ne ↦ let le = past n c.0 other f in omega (arith, le, ne)
+      ]
 
   -- the kind is known
   module _ (k : Kind) (once : repeats_field r ≡ false) (kind : HasKind r k) where
-    past_kind : (other : RecordFaultKind) → HasRecordFault r other → 3 ≤ record_rank other
-    past_kind faults.RepeatedField f = absurd (no_repeat r once f)
-    past_kind faults.MissingType f = absurd (no_missing_type r k kind f)
-    past_kind faults.UnknownType f = absurd (no_unknown_type r k kind f)
-    past_kind faults.MissingName f = omega arith
-    past_kind faults.BadRange f = omega arith
-    past_kind faults.BadSubtag f = omega arith
-    past_kind faults.BadTag f = omega arith
-    past_kind faults.BadPreferred f = omega arith
-    past_kind faults.BadPrefix f = omega arith
-    past_kind faults.OutOfMemory f = omega arith
+    kind_clear : ClearTo 3
+    kind_clear = (((tt, λ f. both (repeats_field r) f once), λ f. not_none (body type_name r) kind.0 kind.1 f), no_unknown_type r k kind)
 
-    past_name_there : Clear r faults.MissingName → (other : RecordFaultKind) → HasRecordFault r other → 4 ≤ record_rank other
-    past_name_there c faults.RepeatedField f = absurd (no_repeat r once f)
-    past_name_there c faults.MissingType f = absurd (no_missing_type r k kind f)
-    past_name_there c faults.UnknownType f = absurd (no_unknown_type r k kind f)
-    past_name_there c faults.MissingName f = absurd (c f)
-    past_name_there c faults.BadRange f = omega arith
-    past_name_there c faults.BadSubtag f = omega arith
-    past_name_there c faults.BadTag f = omega arith
-    past_name_there c faults.BadPreferred f = omega arith
-    past_name_there c faults.BadPrefix f = omega arith
-    past_name_there c faults.OutOfMemory f = omega arith
-
-    past_range : Clear r faults.MissingName → Clear r faults.BadRange → (other : RecordFaultKind) → HasRecordFault r other → 5 ≤ record_rank other
-    past_range c d faults.RepeatedField f = absurd (no_repeat r once f)
-    past_range c d faults.MissingType f = absurd (no_missing_type r k kind f)
-    past_range c d faults.UnknownType f = absurd (no_unknown_type r k kind f)
-    past_range c d faults.MissingName f = absurd (c f)
-    past_range c d faults.BadRange f = absurd (d f)
-    past_range c d faults.BadSubtag f = omega arith
-    past_range c d faults.BadTag f = omega arith
-    past_range c d faults.BadPreferred f = omega arith
-    past_range c d faults.BadPrefix f = omega arith
-    past_range c d faults.OutOfMemory f = omega arith
-
-    past_subtag : Clear r faults.MissingName → Clear r faults.BadRange → Clear r faults.BadSubtag → (other : RecordFaultKind) → HasRecordFault r other → 6 ≤ record_rank other
-    past_subtag c d e faults.RepeatedField f = absurd (no_repeat r once f)
-    past_subtag c d e faults.MissingType f = absurd (no_missing_type r k kind f)
-    past_subtag c d e faults.UnknownType f = absurd (no_unknown_type r k kind f)
-    past_subtag c d e faults.MissingName f = absurd (c f)
-    past_subtag c d e faults.BadRange f = absurd (d f)
-    past_subtag c d e faults.BadSubtag f = absurd (e f)
-    past_subtag c d e faults.BadTag f = omega arith
-    past_subtag c d e faults.BadPreferred f = omega arith
-    past_subtag c d e faults.BadPrefix f = omega arith
-    past_subtag c d e faults.OutOfMemory f = omega arith
-
-    subtag_named_there : (s : List ℕ) → is_whole_kind k ≡ false → body subtag_name r ≡ Some s → Clear r faults.MissingName
-    subtag_named_there s whole there = no_missing_name r k s kind (ap (λ z. body z r) (field_of_subtag k whole) ∙ there)
+    subtag_named_there : (s : List ℕ) → is_whole_kind k ≡ false → body subtag_name r ≡ Some s → ClearTo 4
+    subtag_named_there s whole there = (kind_clear, no_missing_name r k s kind (ap (λ z. body z r) (field_of_subtag k whole) ∙ there))
 
     pub name_refused : (fault : RecordFaultKind) → IsNameFault k r fault → IsRefused r fault
-    name_refused faults.RepeatedField f = absurd f
-    name_refused faults.MissingType f = absurd f
-    name_refused faults.UnknownType f = absurd f
-    name_refused faults.MissingName f = inr (record { there = (k, kind, f); earliest = past_kind })
-    name_refused faults.BadRange f = inr (record { there = (k, f.0, kind, f.1, f.2, f.3); earliest = past_name_there (subtag_named_there f.0 f.1 f.2) })
+    name_refused faults.MissingName f = inr (record { there = (k, kind, f); earliest = past 3 kind_clear })
+    name_refused faults.BadRange f = inr (record { there = (k, f.0, kind, f.1, f.2, f.3); earliest = past 4 (subtag_named_there f.0 f.1 f.2) })
     name_refused faults.BadSubtag f = inr (record {
       there = (k, f.0, kind, f.1, f.2, f.3);
-      earliest = past_range (subtag_named_there f.0 f.1 f.2)
-          (λ g. no_subtag_fault r k f.0 faults.BadRange (Err faults.BadSubtag) kind f.2 f.3 (λ w. cc) g.0 g.1 g.2 g.4 g.5);
+      earliest = past 5 (subtag_named_there f.0 f.1 f.2, λ g. no_subtag_fault r k f.0 faults.BadRange (Err faults.BadSubtag) kind f.2 f.3 (λ w. cc) g.0 g.1 g.2 g.4 g.5);
     })
     name_refused faults.BadTag f = inr (record {
       there = (k, f.0, kind, f.1, f.2, f.3);
-      earliest = past_subtag (no_missing_name r k f.0 kind (ap (λ z. body z r) (field_of_tag k f.1) ∙ f.2))
-          (not_subtags r k faults.BadRange kind f.1) (not_subtags r k faults.BadSubtag kind f.1);
+      earliest = past 6 (((kind_clear, no_missing_name r k f.0 kind (ap (λ z. body z r) (field_of_tag k f.1) ∙ f.2)), not_subtags r k faults.BadRange kind f.1), not_subtags r k faults.BadSubtag kind f.1);
     })
-    name_refused faults.BadPreferred f = absurd f
-    name_refused faults.BadPrefix f = absurd f
     name_refused faults.OutOfMemory f = inl refl
+    name_refused _ f = absurd f
 
     -- the name is known
     module _ (name : EntryName) (named : IsNameIn k r name) where
-      past_name : (other : RecordFaultKind) → HasRecordFault r other → 7 ≤ record_rank other
-      past_name faults.RepeatedField f = absurd (no_repeat r once f)
-      past_name faults.MissingType f = absurd (no_missing_type r k kind f)
-      past_name faults.UnknownType f = absurd (no_unknown_type r k kind f)
-      past_name faults.MissingName f = absurd (no_missing_name r k named.0 kind named.1 f)
-      past_name faults.BadRange f = absurd (no_named_fault r k name faults.BadRange kind named f)
-      past_name faults.BadSubtag f = absurd (no_named_fault r k name faults.BadSubtag kind named f)
-      past_name faults.BadTag f = absurd (no_bad_tag r k name kind named f)
-      past_name faults.BadPreferred f = omega arith
-      past_name faults.BadPrefix f = omega arith
-      past_name faults.OutOfMemory f = omega arith
+      name_clear : ClearTo 7
+      name_clear =
+          ((((kind_clear, no_missing_name r k named.0 kind named.1), no_named_fault r k name faults.BadRange kind named), no_named_fault r k name faults.BadSubtag kind named), no_bad_tag r k name kind named)
 
       pub value_refused : (fault : RecordFaultKind) → IsValueFault k r fault → IsRefused r fault
-      value_refused faults.RepeatedField f = absurd f
-      value_refused faults.MissingType f = absurd f
-      value_refused faults.UnknownType f = absurd f
-      value_refused faults.MissingName f = absurd f
-      value_refused faults.BadRange f = absurd f
-      value_refused faults.BadSubtag f = absurd f
-      value_refused faults.BadTag f = absurd f
-      value_refused faults.BadPreferred f = inr (record { there = (k, f.0, kind, f.1, f.2); earliest = past_name })
-      value_refused faults.BadPrefix f = absurd f
+      value_refused faults.BadPreferred f = inr (record { there = (k, f.0, kind, f.1, f.2); earliest = past 7 name_clear })
       value_refused faults.OutOfMemory f = inl refl
-
-      past_value : Clear r faults.BadPreferred → (other : RecordFaultKind) → HasRecordFault r other → 8 ≤ record_rank other
-      past_value c faults.RepeatedField f = absurd (no_repeat r once f)
-      past_value c faults.MissingType f = absurd (no_missing_type r k kind f)
-      past_value c faults.UnknownType f = absurd (no_unknown_type r k kind f)
-      past_value c faults.MissingName f = absurd (no_missing_name r k named.0 kind named.1 f)
-      past_value c faults.BadRange f = absurd (no_named_fault r k name faults.BadRange kind named f)
-      past_value c faults.BadSubtag f = absurd (no_named_fault r k name faults.BadSubtag kind named f)
-      past_value c faults.BadTag f = absurd (no_bad_tag r k name kind named f)
-      past_value c faults.BadPreferred f = absurd (c f)
-      past_value c faults.BadPrefix f = omega arith
-      past_value c faults.OutOfMemory f = omega arith
+      value_refused _ f = absurd f
 
       pub prefix_refused : (v : Option EntryValue) → IsValueOf k (body value_name r) v → (fault : RecordFaultKind) → IsPrefixFault k r fault → IsRefused r fault
-      prefix_refused v is faults.RepeatedField f = absurd f
-      prefix_refused v is faults.MissingType f = absurd f
-      prefix_refused v is faults.UnknownType f = absurd f
-      prefix_refused v is faults.MissingName f = absurd f
-      prefix_refused v is faults.BadRange f = absurd f
-      prefix_refused v is faults.BadSubtag f = absurd f
-      prefix_refused v is faults.BadTag f = absurd f
-      prefix_refused v is faults.BadPreferred f = absurd f
-      prefix_refused v is faults.BadPrefix f = inr (record { there = (k, kind, f); earliest = past_value (no_bad_value r k v kind is) })
+      prefix_refused v is faults.BadPrefix f = inr (record { there = (k, kind, f); earliest = past 8 (name_clear, no_bad_value r k v kind is) })
       prefix_refused v is faults.OutOfMemory f = inl refl
-
-  pub repeat_refused : repeats_field r ≡ true → IsRefused r faults.RepeatedField
-  repeat_refused h = inr (record { there = h; earliest = λ other f. omega arith })
-
-  kind_refused_at : (o : Option (List ℕ)) → body type_name r ≡ o → repeats_field r ≡ false → (fault : RecordFaultKind) → kind_by o ≡ Err fault → IsRefused r fault
-  kind_refused_at None e once fault h =
-      let same : faults.MissingType ≡ fault = cc in
-      subst (IsRefused r) same (inr (record { there = e; earliest = past_repeat (no_repeat r once) }))
-  kind_refused_at (Some s) e once fault h = by (kind_of s) refl h
-    where
-      by : (o : Option Kind) → kind_of s ≡ o → kind_or o ≡ Err fault → IsRefused r fault
-      by None f g =
-          let same : faults.UnknownType ≡ fault = cc in
-          subst (IsRefused r) same (inr (record { there = (s, e, f); earliest = past_missing (no_repeat r once) (λ n. not_none (body type_name r) s e n) }))
-      by (Some k) f g = cc
-
-  pub kind_refused : repeats_field r ≡ false → (fault : RecordFaultKind) → kind_by (body type_name r) ≡ Err fault → IsRefused r fault
-  kind_refused once fault h = kind_refused_at (body type_name r) refl once fault h
+      prefix_refused v is _ f = absurd f
 
   kind_there_at : (o : Option (List ℕ)) (k : Kind) → body type_name r ≡ o → kind_by o ≡ Ok k → HasKind r k
   kind_there_at None k e h = cc
@@ -310,15 +437,10 @@ one_text_tag : (s : List ℕ) (t u : TagForm) → HasTag s t → HasTag s u → 
 one_text_tag s t u h g = one_tag t u h.tag g.tag (h.spelled ∙ sym g.spelled)
 
 one_name : (k : Kind) (s : List ℕ) (a b : EntryName) → IsName k s a → IsName k s b → a ≡ b
-one_name k s (names.Single m) (names.Single n) h g = let e : Ok (names.Single m) ≡ Ok (names.Single n) = sym h.1 ∙ g.1 in cc
-one_name k s (names.Single m) (names.Range a b) h g = let e : Ok (names.Single m) ≡ Ok (names.Range a b) = sym h.1 ∙ g.1 in cc
-one_name k s (names.Single m) (names.Whole t) h g = absurd (both (is_whole_kind k) g.0 h.0)
-one_name k s (names.Range a b) (names.Single n) h g = let e : Ok (names.Range a b) ≡ Ok (names.Single n) = sym h.1 ∙ g.1 in cc
-one_name k s (names.Range a b) (names.Range c d) h g = let e : Ok (names.Range a b) ≡ Ok (names.Range c d) = sym h.1 ∙ g.1 in cc
-one_name k s (names.Range a b) (names.Whole t) h g = absurd (both (is_whole_kind k) g.0 h.0)
-one_name k s (names.Whole t) (names.Single n) h g = absurd (both (is_whole_kind k) h.0 g.0)
-one_name k s (names.Whole t) (names.Range a b) h g = absurd (both (is_whole_kind k) h.0 g.0)
 one_name k s (names.Whole t) (names.Whole u) h g = ap names.Whole (one_text_tag s t u h.1 g.1)
+one_name k s (names.Whole t) _ h g = absurd (both (is_whole_kind k) h.0 g.0)
+one_name k s _ (names.Whole t) h g = absurd (both (is_whole_kind k) g.0 h.0)
+one_name k s a b h g = let e : Ok a ≡ Ok b = sym h.1 ∙ g.1 in cc
 
 one_value : (k : Kind) (s : List ℕ) (a b : EntryValue) → IsValue k s a → IsValue k s b → a ≡ b
 one_value k s (values.One m) (values.One n) h g = ap values.One (same_some (formed (has_value_form k) (subtag_of s)) m n h.1 g.1)
@@ -348,9 +470,8 @@ one_entry r n e f h g =
 -- what the steps tell
 
 subtags_told : (r : List Field) (k : Kind) (s : List ℕ) (a : Result EntryName RecordFaultKind) → is_whole_kind k ≡ false → body (name_field k) r ≡ Some s → subtags_named k s ≡ a → IsSubtagsResult k a → IfOk a (IsNameIn k r) × IfErr a (IsNameFault k r)
-subtags_told r k s (Ok (names.Single n)) whole there e fits = ((s, there, (whole, e)), tt)
-subtags_told r k s (Ok (names.Range a b)) whole there e fits = ((s, there, (whole, e)), tt)
 subtags_told r k s (Ok (names.Whole t)) whole there e fits = absurd fits
+subtags_told r k s (Ok _) whole there e fits = ((s, there, (whole, e)), tt)
 subtags_told r k s (Err fault) whole there e (inl bad) =
     let here : body subtag_name r ≡ Some s = ap (λ z. body z r) (sym (field_of_subtag k whole)) ∙ there in
     (tt, subst (IsNameFault k r) (sym bad) (s, whole, here, e ∙ ap Err bad))
@@ -362,16 +483,9 @@ pub name_told : (r : List Field) (k : Kind) (s : List ℕ) (a : Result EntryName
 name_told r k s a whole there e = subtags_told r k s a whole there (sym e) (subst (IsSubtagsResult k) (sym e) (subtags_fit k s))
 
 pub text_told : (r : List Field) (k : Kind) (s : List ℕ) → body value_name r ≡ Some s → (fault : RecordFaultKind) → IsTextFault k s fault → IsValueFault k r fault
-text_told r k s there faults.RepeatedField f = absurd f
-text_told r k s there faults.MissingType f = absurd f
-text_told r k s there faults.UnknownType f = absurd f
-text_told r k s there faults.MissingName f = absurd f
-text_told r k s there faults.BadRange f = absurd f
-text_told r k s there faults.BadSubtag f = absurd f
-text_told r k s there faults.BadTag f = absurd f
 text_told r k s there faults.BadPreferred f = (s, there, f)
-text_told r k s there faults.BadPrefix f = absurd f
 text_told r k s there faults.OutOfMemory f = tt
+text_told r k s there _ f = absurd f
 
 -- the entry has its forms
 
@@ -386,10 +500,483 @@ none_listed : (ps : List (List (List ℕ))) → Some [] ≡ Some ps → ps ≡ [
 none_listed ps h = cc
 
 pub prefixes_where : (k : Kind) (r : List Field) (ps : List (List (List ℕ))) → prefixes_in k r ≡ Some ps → (ps ≡ []) ⊎ ((k ≡ kinds.Extlang) ⊎ (k ≡ kinds.Variant))
-prefixes_where kinds.Language r ps h = inl (none_listed ps h)
 prefixes_where kinds.Extlang r ps h = inr (inl refl)
-prefixes_where kinds.Script r ps h = inl (none_listed ps h)
-prefixes_where kinds.Region r ps h = inl (none_listed ps h)
 prefixes_where kinds.Variant r ps h = inr (inr refl)
-prefixes_where kinds.Grandfathered r ps h = inl (none_listed ps h)
-prefixes_where kinds.Redundant r ps h = inl (none_listed ps h)
+prefixes_where _ r ps h = inl (none_listed ps h)
+
+-- The entries of records, and a registry that is read record by record.
+
+-- The entries of records, one record after another.
+
+-- one record more at the end
+
+entries_more : (n : ℕ) (rs : List (List Field)) (r : List Field) (es : List EntryParts) (e : EntryParts) (m : ℕ) → m ≡ n + length rs → EntriesFrom n rs es → is_header_at m r ≡ false → IsEntryOf r m e → EntriesFrom n (rs ++ r ∷ []) (es ++ e ∷ [])
+unfolding EntriesFrom
+entries_more n [] r es e m same h head is =
+    let here : m ≡ n = omega (arith, same) in
+    inr (subst (λ z. is_header_at z r ≡ false) here head, (e, [], ap (λ zs. zs ++ e ∷ []) h, subst (λ z. IsEntryOf r z e) here is, refl))
+entries_more n (q ∷ qs) r es e m same (inl h) head is = inl (h.0, entries_more (n + 1) qs r es e m (omega (arith, same)) h.1 head is)
+entries_more n (q ∷ qs) r es e m same (inr h) head is =
+    let x = h.1 in
+    inr (h.0, (x.0, x.1 ++ e ∷ [], ap (λ zs. zs ++ e ∷ []) x.2, x.3, entries_more (n + 1) qs r x.1 e m (omega (arith, same)) x.4 head is))
+
+entries_skip : (n : ℕ) (rs : List (List Field)) (r : List Field) (es : List EntryParts) (m : ℕ) → m ≡ n + length rs → EntriesFrom n rs es → is_header_at m r ≡ true → EntriesFrom n (rs ++ r ∷ []) es
+unfolding EntriesFrom
+entries_skip n [] r es m same h head =
+    let here : m ≡ n = omega (arith, same) in
+    inl (subst (λ z. is_header_at z r ≡ true) here head, h)
+entries_skip n (q ∷ qs) r es m same (inl h) head = inl (h.0, entries_skip (n + 1) qs r es m (omega (arith, same)) h.1 head)
+entries_skip n (q ∷ qs) r es m same (inr h) head =
+    let x = h.1 in
+    inr (h.0, (x.0, x.1, x.2, x.3, entries_skip (n + 1) qs r x.1 m (omega (arith, same)) x.4 head))
+
+-- the record at a place
+
+same_record : (records : List (List Field)) (i : ℕ) (r : List Field) (k : RecordFaultKind) (m : ℕ) (h : HasFaultAt records k m) → m ≡ i + 1 → r ≡ get_or records i r → h.here ≡ r
+same_record records i r k m h same is =
+    let place : length h.before ≡ i = omega (arith, h.numbered, same) in
+    sym (is ∙ ap (λ zs. get_or zs i r) h.there ∙ ap (λ z. get_or (h.before ++ h.here ∷ h.after) z r) (sym place) ∙ get_or-append_seam h.before h.here h.after r)
+
+-- what is made of the first this many records
+pub record Made (records : List (List Field)) (i : ℕ) (es : List EntryParts) : Type 0 where
+  pub entries : EntriesFrom 1 (take i records) es
+  pub below : AllByRecursion (λ (e : EntryParts). e.number ≤ i) es
+  pub rising : NumbersRise es
+  pub forms : All IsEntry es
+  pub clean : (k : RecordFaultKind) (m : ℕ) → HasFaultAt records k m → i < m
+
+pub made_none : (records : List (List Field)) (es : List EntryParts) → es ≡ [] → Made records 0 es
+unfolding EntriesFrom
+made_none records es none = subst (Made records 0) (sym none) (record { entries = refl; below = tt; rising = tt; forms = All-nil IsEntry; clean = λ k m h. omega (arith, h.numbered) })
+
+below_more : (i j : ℕ) → i ≤ j → (es : List EntryParts) → AllByRecursion (λ (e : EntryParts). e.number ≤ i) es → AllByRecursion (λ (e : EntryParts). e.number ≤ j) es
+below_more i j l es h = AllByRecursion-weaker (λ (e : EntryParts). e.number ≤ i) (λ (e : EntryParts). e.number ≤ j) (λ e k. omega (arith, k, l)) es h
+
+rising_with : (i : ℕ) (es : List EntryParts) (e : EntryParts) → NumbersRise es → AllByRecursion (λ (x : EntryParts). x.number ≤ i) es → i < e.number → NumbersRise (es ++ e ∷ [])
+rising_with i [] e h b l = (tt, tt)
+rising_with i (x ∷ es) e h b l = (all_more (λ (f : EntryParts). x.number < f.number) es e h.0 (omega (arith, b.0, l)), rising_with i es e h.1 b.1 l)
+
+next_clean : (records : List (List Field)) (i : ℕ) (r : List Field) → r ≡ get_or records i r → ((k : RecordFaultKind) (m : ℕ) → HasFaultAt records k m → i < m)
+    → (is_header_at (i + 1) r ≡ false → (k : RecordFaultKind) → HasRecordFault r k → ⊥) → (k : RecordFaultKind) (m : ℕ) → HasFaultAt records k m → i + 1 < m
+next_clean records i r is clean none k m h = by (eqb m (i + 1)) refl
+  where
+    by : (b : Bool) → eqb m (i + 1) ≡ b → i + 1 < m
+    by true e =
+        let same : m ≡ i + 1 = eqb-true m (i + 1) e in
+        let here : h.here ≡ r = same_record records i r k m h same is in
+        let judged : is_header_at (i + 1) r ≡ false = ap (λ z. is_header_at (i + 1) z) (sym here) ∙ ap (λ z. is_header_at z h.here) (sym same) ∙ h.judged in
+        absurd (none judged k (subst (λ z. HasRecordFault z k) here h.fault))
+    by false e =
+        let other : m ≢ i + 1 = λ same. let t = eq-eqb m (i + 1) same in both (eqb m (i + 1)) t e in
+        let past = clean k m h in
+        omega (arith, past, other)
+
+pub made_skip : (records : List (List Field)) (i : ℕ) (r : List Field) (es : List EntryParts) → i < length records → r ≡ get_or records i r → is_header_at (i + 1) r ≡ true → Made records i es → Made records (i + 1) es
+made_skip records i r es l is head made =
+    let long = length-take-le i records (omega (arith, l)) in
+    record {
+      entries = subst (λ zs. EntriesFrom 1 zs es) (sym (take_turn records i r l is)) (entries_skip 1 (take i records) r es (i + 1) (omega (arith, long)) made.entries head);
+      below = below_more i (i + 1) (omega arith) es made.below;
+      rising = made.rising;
+      forms = made.forms;
+      clean = next_clean records i r is made.clean (λ judged k f. both (is_header_at (i + 1) r) head judged);
+    }
+
+pub made_more : (records : List (List Field)) (i : ℕ) (r : List Field) (es : List EntryParts) (e : EntryParts) → i < length records → r ≡ get_or records i r → is_header_at (i + 1) r ≡ false → IsEntryOf r (i + 1) e → IsEntry e → Made records i es → Made records (i + 1) (es ++ e ∷ [])
+made_more records i r es e l is head of fits made =
+    let long = length-take-le i records (omega (arith, l)) in
+    let number = of.numbered in
+    record {
+      entries = subst (λ zs. EntriesFrom 1 zs (es ++ e ∷ [])) (sym (take_turn records i r l is)) (entries_more 1 (take i records) r es e (i + 1) (omega (arith, long)) made.entries head of);
+      below = all_more (λ (x : EntryParts). x.number ≤ i + 1) es e (below_more i (i + 1) (omega arith) es made.below) (omega (arith, number));
+      rising = rising_with i es e made.rising made.below (omega (arith, number));
+      forms = All-push IsEntry es e made.forms fits;
+      clean = next_clean records i r is made.clean (λ judged k f. entry_faultless r (i + 1) e of k f);
+    }
+
+pub made_all : (records : List (List Field)) (i : ℕ) (es : List EntryParts) → length records ≤ i → Made records i es → HasEntries records es × IsRegistry es
+made_all records i es l made = (subst (λ zs. EntriesFrom 1 zs es) (take_all i records l) made.entries, record { rising = made.rising; forms = made.forms })
+
+pub made_refused : (records : List (List Field)) (i : ℕ) (r : List Field) (es : List EntryParts) (kind : RecordFaultKind) → i < length records → r ≡ get_or records i r → is_header_at (i + 1) r ≡ false → IsRefused r kind → Made records i es → IsRecordRefusal records (record { kind = kind; number = i + 1 })
+made_refused records i r es kind l is head (inl memory) made =
+    let long = length-take-le i records (omega (arith, l)) in
+    inl (
+      memory,
+      record {
+        before = take i records;
+        here = r;
+        after = drop (i + 1) records;
+        there = whole_turn records i r l is;
+        numbered = omega (arith, long);
+        judged = head;
+        clean = λ k m h. let past = made.clean k m h in omega (arith, past);
+      },
+    )
+made_refused records i r es kind l is head (inr first) made =
+    let long = length-take-le i records (omega (arith, l)) in
+    inr (record {
+      fault = record { before = take i records; here = r; after = drop (i + 1) records; there = whole_turn records i r l is; numbered = omega (arith, long); judged = head; fault = first.there };
+      lowest = λ k m h. let past = made.clean k m h in omega (arith, past);
+      earliest = λ k h. first.earliest k (subst (λ z. HasRecordFault z k) (same_record records i r k (i + 1) h refl is) h.fault);
+    })
+
+-- laws: records give one list of entries, or have one first fault, and not both
+
+entries_same : (n : ℕ) (rs : List (List Field)) (es fs : List EntryParts) → EntriesFrom n rs es → EntriesFrom n rs fs → es ≡ fs
+unfolding EntriesFrom
+entries_same n [] es fs h g = h ∙ sym g
+entries_same n (r ∷ rs) es fs (inl h) (inl g) = entries_same (n + 1) rs es fs h.1 g.1
+entries_same n (r ∷ rs) es fs (inl h) (inr g) = absurd (both (is_header_at n r) h.0 g.0)
+entries_same n (r ∷ rs) es fs (inr h) (inl g) = absurd (both (is_header_at n r) g.0 h.0)
+entries_same n (r ∷ rs) es fs (inr h) (inr g) =
+    let x = h.1 in
+    let y = g.1 in
+    let first = one_entry r n x.0 y.0 x.3 y.3 in
+    let rest = entries_same (n + 1) rs x.1 y.1 x.4 y.4 in
+    x.2 ∙ ap (λ z. z ∷ x.1) first ∙ ap (λ zs. y.0 ∷ zs) rest ∙ sym y.2
+
+pub one_list : (records : List (List Field)) (es fs : List EntryParts) → HasEntries records es → HasEntries records fs → es ≡ fs
+one_list records es fs h g = entries_same 1 records es fs h g
+
+faultless : (n : ℕ) (rs : List (List Field)) (es : List EntryParts) (before : List (List Field)) (here : List Field) (after : List (List Field)) (m : ℕ) (k : RecordFaultKind) → EntriesFrom n rs es → rs ≡ before ++ here ∷ after → m ≡ n + length before → is_header_at m here ≡ false → HasRecordFault here k → ⊥
+unfolding EntriesFrom
+faultless n [] es [] here after m k h e same judged f = cc
+faultless n [] es (b ∷ before) here after m k h e same judged f = cc
+faultless n (r ∷ rs) es [] here after m k (inl h) e same judged f =
+    let at : r ≡ here = cc in
+    let number : m ≡ n = omega (arith, same) in
+    both (is_header_at n r) h.0 (ap (is_header_at n) at ∙ ap (λ z. is_header_at z here) (sym number) ∙ judged)
+faultless n (r ∷ rs) es [] here after m k (inr h) e same judged f =
+    let at : r ≡ here = cc in
+    entry_faultless r n h.1.0 h.1.3 k (subst (λ z. HasRecordFault z k) (sym at) f)
+faultless n (r ∷ rs) es (b ∷ before) here after m k (inl h) e same judged f =
+    let rest : rs ≡ before ++ here ∷ after = cc in
+    faultless (n + 1) rs es before here after m k h.1 rest (omega (arith, same)) judged f
+faultless n (r ∷ rs) es (b ∷ before) here after m k (inr h) e same judged f =
+    let rest : rs ≡ before ++ here ∷ after = cc in
+    faultless (n + 1) rs h.1.1 before here after m k h.1.4 rest (omega (arith, same)) judged f
+
+pub entries_or_fault : (records : List (List Field)) (es : List EntryParts) (k : RecordFaultKind) (m : ℕ) → HasEntries records es → HasFaultAt records k m → ⊥
+entries_or_fault records es k m h f = faultless 1 records es f.before f.here f.after m k h f.there (omega (arith, f.numbered)) f.judged f.fault
+
+pub one_record_fault : (records : List (List Field)) (k l : RecordFaultKind) (m n : ℕ) → IsFirstRecordFault records k m → IsFirstRecordFault records l n → (k ≡ l) × (m ≡ n)
+one_record_fault records k l m n a b =
+    let le = a.lowest l n b.fault in
+    let ge = b.lowest k m a.fault in
+    let same : m ≡ n = omega arith in
+    let up : record_rank k ≤ record_rank l = a.earliest l (subst (HasFaultAt records l) (sym same) b.fault) in
+    let down : record_rank l ≤ record_rank k = b.earliest k (subst (HasFaultAt records k) same a.fault) in
+    let rank : record_rank k ≡ record_rank l = omega arith in
+    (sym (ranked_again k) ∙ ap ranked rank ∙ ranked_again l, same)
+
+-- The draft of a registry, one record after another.
+
+-- the record at a place adds its entry, if it is no header
+pub made_next : (records : List (List Field)) (i : ℕ) (r : List Field) (old new : List EntryParts) → i < length records → r ≡ get_or records i r → IsAdded r (i + 1) old new → Made records i old → Made records (i + 1) new
+made_next records i r old new l is (inl skipped) made = subst (Made records (i + 1)) (sym skipped.1) (made_skip records i r old l is skipped.0 made)
+made_next records i r old new l is (inr added) made =
+    let put = added.1 in
+    subst (Made records (i + 1)) (sym put.3) (made_more records i r old put.0 l is added.0 put.1 put.2 made)
+
+-- the record at a place gives no entry
+pub made_stops : (records : List (List Field)) (i : ℕ) (r : List Field) (es : List EntryParts) (fault : RecordFault) → i < length records → r ≡ get_or records i r → IsRefusedAt r (i + 1) fault → Made records i es → IsRecordRefusal records fault
+made_stops records i r es fault l is refused made =
+    subst (λ n. IsRecordRefusal records (record { kind = fault.kind; number = n })) (sym refused.numbered) (made_refused records i r es fault.kind l is refused.judged refused.refused made)
+
+-- a record after others
+
+record_back : (before : List (List Field)) (here : List Field) (after rs : List (List Field)) (r : List Field) → rs ++ r ∷ [] ≡ before ++ here ∷ after → length before < length rs → (rest : List (List Field)) × (rs ≡ before ++ here ∷ rest)
+record_back before here after [] r e l = absurd (omega (arith, l))
+record_back [] here after (x ∷ rs) r e l = let same : x ≡ here = cc in (rs, ap (λ z. z ∷ rs) same)
+record_back (b ∷ before) here after (x ∷ rs) r e l =
+    let same : x ≡ b = cc in
+    let tail : rs ++ r ∷ [] ≡ before ++ here ∷ after = cc in
+    let found = record_back before here after rs r tail (omega (arith, l)) in
+    (found.0, ap (λ z. z ∷ rs) same ∙ ap (λ zs. b ∷ zs) found.1)
+
+fault_on : (rs : List (List Field)) (r : List Field) (k : RecordFaultKind) (m : ℕ) → HasFaultAt rs k m → HasFaultAt (rs ++ r ∷ []) k m
+fault_on rs r k m h = record {
+  before = h.before;
+  here = h.here;
+  after = h.after ++ r ∷ [];
+  there = ap (λ zs. zs ++ r ∷ []) h.there ∙ append_assoc h.before (h.here ∷ h.after) (r ∷ []);
+  numbered = h.numbered;
+  judged = h.judged;
+  fault = h.fault;
+}
+
+fault_back : (rs : List (List Field)) (r : List Field) (k : RecordFaultKind) (m : ℕ) → HasFaultAt (rs ++ r ∷ []) k m → m ≤ length rs → HasFaultAt rs k m
+fault_back rs r k m h l =
+    let found = record_back h.before h.here h.after rs r h.there (omega (arith, h.numbered, l)) in
+    record { before = h.before; here = h.here; after = found.0; there = found.1; numbered = h.numbered; judged = h.judged; fault = h.fault }
+
+fault_within : (rs : List (List Field)) (k : RecordFaultKind) (m : ℕ) → HasFaultAt rs k m → m ≤ length rs
+fault_within rs k m h = omega (arith, h.numbered, ap length h.there, length-append h.before (h.here ∷ h.after))
+
+-- where the records so far have no fault below a number, none is below it after them
+clean_on : (rs : List (List Field)) (r : List Field) (n : ℕ) → n ≤ length rs + 1 → ((k : RecordFaultKind) (m : ℕ) → HasFaultAt rs k m → n ≤ m) → (k : RecordFaultKind) (m : ℕ) → HasFaultAt (rs ++ r ∷ []) k m → n ≤ m
+clean_on rs r n l clean k m h = by_order (cases_lt m n)
+  where
+    by_order : (m < n) ⊎ (n ≤ m) → n ≤ m
+    by_order (inl low) = clean k m (fault_back rs r k m h (omega (arith, low, l)))
+    by_order (inr high) = high
+
+refusal_on : (rs : List (List Field)) (r : List Field) (fault : RecordFault) → IsRecordRefusal rs fault → IsRecordRefusal (rs ++ r ∷ []) fault
+refusal_on rs r fault (inl memory) =
+    let at = memory.1 in
+    let within : fault.number ≤ length rs + 1 = omega (arith, at.numbered, ap length at.there, length-append at.before (at.here ∷ at.after)) in
+    inl (
+      memory.0,
+      record {
+        before = at.before;
+        here = at.here;
+        after = at.after ++ r ∷ [];
+        there = ap (λ zs. zs ++ r ∷ []) at.there ∙ append_assoc at.before (at.here ∷ at.after) (r ∷ []);
+        numbered = at.numbered;
+        judged = at.judged;
+        clean = clean_on rs r fault.number within at.clean;
+      },
+    )
+refusal_on rs r fault (inr first) =
+    let low = fault_within rs fault.kind fault.number first.fault in
+    inr (record {
+      fault = fault_on rs r fault.kind fault.number first.fault;
+      lowest = clean_on rs r fault.number (omega (arith, low)) first.lowest;
+      earliest = λ k h. first.earliest k (fault_back rs r k fault.number h low);
+    })
+
+made_on : (rs : List (List Field)) (r : List Field) (es : List EntryParts) → Made rs (length rs) es → Made (rs ++ r ∷ []) (length rs) es
+made_on rs r es made = record {
+  entries = subst (λ zs. EntriesFrom 1 zs es) (take_all (length rs) rs (omega arith) ∙ sym (take-append_seam rs (r ∷ []))) made.entries;
+  below = made.below;
+  rising = made.rising;
+  forms = made.forms;
+  clean = λ k m h. let above = clean_on rs r (length rs + 1) (omega arith) (λ j n f. let past = made.clean j n f in omega (arith, past)) k m h in omega (arith, above);
+}
+
+-- what the draft has of the records so far
+abbrev pub HasDrafted : List (List Field) → List EntryParts → Option RecordFault → Type 0
+HasDrafted records es None = Made records (length records) es
+HasDrafted records es (Some fault) = IsRecordRefusal records fault
+
+pub record IsDraftOf (records : List (List Field)) (d : Draft) : Type 0 where
+  pub numbered : d.number ≡ length records
+  pub drafted : HasDrafted records d.entries.items d.fault
+
+pub draft_none : (d : Draft) → d.entries.items ≡ [] → d.number ≡ 0 → d.fault ≡ None → IsDraftOf [] d
+draft_none d entries number fault = record {
+  numbered = number;
+  drafted = subst (HasDrafted [] d.entries.items) (sym fault) (made_none [] d.entries.items entries);
+}
+
+drafted_more : (rs : List (List Field)) (r : List Field) (number : ℕ) (old new : List EntryParts) (had has : Option RecordFault) → number ≡ length rs + 1 → TakesFrom r number old new had has → HasDrafted rs old had → HasDrafted (rs ++ r ∷ []) new has
+drafted_more rs r number old new None None at takes made =
+    subst (λ n. Made (rs ++ r ∷ []) n new) (sym (length_push rs r))
+    (made_next (rs ++ r ∷ []) (length rs) r old new (omega (arith, length_push rs r)) (sym (get_or-append_seam rs r [] r)) (subst (λ n. IsAdded r n old new) at takes) (made_on rs r old made))
+drafted_more rs r number old new None (Some fault) at takes made =
+    made_stops (rs ++ r ∷ []) (length rs) r old fault (omega (arith, length_push rs r)) (sym (get_or-append_seam rs r [] r)) (subst (λ n. IsRefusedAt r n fault) at takes) (made_on rs r old made)
+drafted_more rs r number old new (Some first) has at takes made = subst (HasDrafted (rs ++ r ∷ []) new) (sym takes) (refusal_on rs r first made)
+
+pub draft_more : (records : List (List Field)) (r : List Field) (old new : Draft) → Takes r old new → IsDraftOf records old → IsDraftOf (records ++ r ∷ []) new
+draft_more records r old new takes is = record {
+  numbered = omega (arith, takes.numbered, is.numbered, length_push records r);
+  drafted = drafted_more records r new.number old.entries.items new.entries.items old.fault new.fault (omega (arith, takes.numbered, is.numbered)) takes.takes is.drafted;
+}
+
+-- A registry that is read record by record.
+
+-- the text goes on, or has ended
+abbrev pub Stands : {R : Type 0} → (R → Option (List ℕ)) → Device R → JarSource → List ℕ → ℕ → List (List Field) → Type 0
+Stands remaining now s bytes reads records =
+    ((s.status ≡ state.Open) × HasLent bytes records s × (reads ≤ length bytes) × LastGave s now)
+    ⊎ ((s.status ≡ state.Ended) × HasRecords bytes records × IsSound 0 bytes × IsAtEnd (remaining (inner_of now)))
+
+-- since its start the reader has lent these records, of which the draft is made
+pub record HasReadSoFar {R : Type 0} (remaining : R → Option (List ℕ)) (first now : JarSource) (before after : Device R) (d : Draft) : Type 0 where
+  pub bytes : List ℕ
+  pub reads : ℕ
+  pub records : List (List Field)
+  pub none : first.turns ≡ 0
+  pub is_read : IsRead remaining first now before after bytes reads
+  pub failures : failures_of after ≡ failures_of before
+  pub lent : lent_by now ≡ length records
+  pub draft : IsDraftOf records d
+  pub stands : Stands remaining after now bytes reads records
+
+pub read_none : {R : Type 0} (remaining : R → Option (List ℕ)) (s : JarSource) (device : Device R) (d : Draft) → IsFresh s → d.entries.items ≡ [] → d.number ≡ 0 → d.fault ≡ None → HasReadSoFar remaining s s device device d
+read_none remaining s device d fresh entries number fault = record {
+  bytes = [];
+  reads = 0;
+  records = [];
+  none = fresh.turns;
+  is_read = record { consumes = Consumes-nil _; calls = refl; each = omega arith; turns = omega arith; bounded = omega (arith, fresh.turns) };
+  failures = refl;
+  lent = fresh.lent;
+  draft = draft_none d entries number fault;
+  stands = inl (fresh.status, lent_start fresh, omega arith, λ some. absurd (omega (arith, some, fresh.turns)));
+}
+
+-- a record more was lent, and the draft took it
+pub read_more : {R : Type 0} (remaining : R → Option (List ℕ)) (first old new : JarSource) (before now after : Device R) (d e : Draft) → HasReadSoFar remaining first old before now d
+    → Advances remaining old new now after (Ok true) → Takes (record_in new) d e → HasReadSoFar remaining first new before after e
+read_more {R} remaining first old new before now after d e so advances takes = by_stand so.stands
+  where
+    works : (let r : Result Bool JarFaultKind = Ok true in r) ≢ Err jars.Read
+    works is = cc
+
+    by_end : (lent : HasLent so.bytes so.records old) → so.reads ≤ length so.bytes → LastGave old now → (r : ReadsRecord remaining old new now after (Ok true)) → LendsEnded old new now after r.read r.reads ⊎ LendsLast remaining old new after r.read (record_in new ∷ [])
+        → lent_by new ≡ lent_by old + 1 → Stands remaining after new (so.bytes ++ r.read) (so.reads + r.reads) (so.records ++ record_in new ∷ [])
+    by_end lent gave last r (inl ended) count = inl (ended.status, lent_more lent ended count, omega (arith, gave, ended.gave_bytes, length-append so.bytes r.read), ended.last_gave last)
+    by_end lent gave _ r (inr last) count = let all = lent_last lent last in inr (last.status, all.0, all.1, last.end)
+
+    by_stand : Stands remaining now old so.bytes so.reads so.records → HasReadSoFar remaining first new before after e
+    by_stand (inl goes) =
+        let r = advances.reads goes.0 in
+        let count = r.ends.0 in
+        record {
+          bytes = so.bytes ++ r.read;
+          reads = so.reads + r.reads;
+          records = so.records ++ record_in new ∷ [];
+          none = so.none;
+          is_read = more_read remaining first old new before now after so.bytes r.read so.reads r.reads so.is_read r.is_read;
+          failures = r.works works ∙ so.failures;
+          lent = omega (arith, count, so.lent, length-append so.records (record_in new ∷ []));
+          draft = draft_more so.records (record_in new) d e takes so.draft;
+          stands = by_end goes.1 goes.2 goes.3 r r.ends.1 count;
+        }
+    by_stand (inr ended) = absurd (let over = (advances.over ended.0).0 in cc)
+
+-- what the whole text gives
+abbrev pub Whole : {R : Type 0} → (R → Option (List ℕ)) → JarSource → JarSource → (before after : Device R) → Draft → Type 0
+Whole remaining first new before after d =
+    (bytes : List ℕ) × (reads : ℕ) × (records : List (List Field)) × IsRead remaining first new before after bytes reads × IsReadWhole remaining before after bytes records × IsDraftOf records d
+
+-- the text has ended
+pub read_whole : {R : Type 0} (remaining : R → Option (List ℕ)) (first old new : JarSource) (before now after : Device R) (d : Draft) → HasReadSoFar remaining first old before now d
+    → Advances remaining old new now after (Ok false) → (last : JarSource) × Whole remaining first last before after d
+read_whole {R} remaining first old new before now after d so advances = by_stand so.stands
+  where
+    works : (let r : Result Bool JarFaultKind = Ok false in r) ≢ Err jars.Read
+    works is = cc
+
+    by_stand : Stands remaining now old so.bytes so.reads so.records → (last : JarSource) × Whole remaining first last before after d
+    by_stand (inl goes) =
+        let r = advances.reads goes.0 in
+        let last = r.ends.1 in
+        let all = lent_last goes.1 last in
+        let records : so.records ++ [] ≡ so.records = append-nil so.records in
+        let has = subst (HasRecords (so.bytes ++ r.read)) records all.0 in (
+          new,
+          (
+            so.bytes ++ r.read,
+            so.reads + r.reads,
+            so.records,
+            more_read remaining first old new before now after so.bytes r.read so.reads r.reads so.is_read r.is_read,
+            record { has = has; within = lent_within has all.1; end = last.end; works = r.works works ∙ so.failures },
+            so.draft,
+          ),
+        )
+    by_stand (inr ended) =
+        let same = (advances.over ended.0).2 in
+        subst (λ (z : Device R). (last : JarSource) × Whole remaining first last before z d) (sym same) (
+          old,
+          (
+            so.bytes,
+            so.reads,
+            so.records,
+            so.is_read,
+            record { has = ended.1; within = lent_within ended.1 ended.2; end = ended.3; works = so.failures },
+            so.draft,
+          ),
+        )
+
+whole_reads : {R : Type 0} (remaining : R → Option (List ℕ)) (first new : JarSource) (before after : Device R) (d : Draft) (result : Result (List EntryParts) RegistryFault) → first.turns ≡ 0 → (whole : Whole remaining first new before after d)
+    → AnswersAs remaining before after whole.0 whole.1 result → ReadsRegistry remaining before after result
+whole_reads remaining first new before after d result none whole answers = record {
+  bytes = whole.0;
+  reads = whole.1;
+  consumes = whole.3.consumes;
+  calls = whole.3.calls;
+  bounded = omega (arith, whole.3.turns, whole.3.bounded, none);
+  each = whole.3.each;
+  answers = answers;
+  rises = λ more. absurd (omega (arith, more, whole.4.works));
+}
+
+finished_ok : {A : Type 0} (entries given : A) (fault : Option RecordFault) → finished entries fault ≡ Ok given → (fault ≡ None) × (entries ≡ given)
+finished_ok entries given None e = (refl, cc)
+finished_ok entries given (Some fault) e = absurd cc
+
+finished_err : {A : Type 0} (entries : A) (fault : Option RecordFault) (given : RecordFault) → finished entries fault ≡ Err given → fault ≡ Some given
+finished_err entries None given e = absurd cc
+finished_err entries (Some fault) given e = cc
+
+-- the text has ended, and the draft has no fault, or has one
+pub read_entries : {R : Type 0} (remaining : R → Option (List ℕ)) (first old new : JarSource) (before now after : Device R) (d : Draft) (given : _) → HasReadSoFar remaining first old before now d
+    → Advances remaining old new now after (Ok false) → finished d.entries d.fault ≡ Ok given → ReadsRegistry remaining before after (Ok given.items) × IsRegistry given.items
+read_entries remaining first old new before now after d given so advances is =
+    let at = read_whole remaining first old new before now after d so advances in
+    let whole = at.1 in
+    let fin = finished_ok d.entries given d.fault is in
+    let made = subst (HasDrafted whole.2 d.entries.items) fin.0 whole.5.drafted in
+    let all = made_all whole.2 (length whole.2) d.entries.items (omega arith) made in
+    let same = ap (λ v. v.items) fin.1 in (
+      whole_reads remaining first at.0 before after d (Ok given.items) so.none whole (whole.2, whole.4, subst (HasEntries whole.2) same all.0),
+      subst IsRegistry same all.1,
+    )
+
+pub read_fault : {R : Type 0} (remaining : R → Option (List ℕ)) (first old new : JarSource) (before now after : Device R) (d : Draft) (fault : RecordFault) → HasReadSoFar remaining first old before now d
+    → Advances remaining old new now after (Ok false) → finished d.entries d.fault ≡ Err fault → ReadsRegistry remaining before after (Err (registry_faults.Record fault))
+read_fault remaining first old new before now after d fault so advances is =
+    let at = read_whole remaining first old new before now after d so advances in
+    let whole = at.1 in
+    whole_reads remaining first at.0 before after d (Err (registry_faults.Record fault)) so.none whole (whole.2, whole.4, subst (HasDrafted whole.2 d.entries.items) (finished_err d.entries d.fault fault is) whole.5.drafted)
+
+-- the reader answered a fault
+pub read_stops : {R : Type 0} (remaining : R → Option (List ℕ)) (first old new : JarSource) (before now after : Device R) (d : Draft) (fault : JarFault) → HasReadSoFar remaining first old before now d
+    → Advances remaining old new now after (Err fault) → ReadsRegistry remaining before after (Err (registry_faults.Jar fault))
+read_stops {R} remaining first old new before now after d fault so advances = by_stand so.stands
+  where
+    line : fault.line ≡ line_of_kept new
+    line = (advances.fails fault refl).1
+
+    kind_of : (k l : JarFaultKind) → (let r : Result Bool JarFaultKind = Err k in r) ≡ Err l → k ≡ l
+    kind_of k l e = cc
+
+    refusal : (lent : HasLent so.bytes so.records old) → so.reads ≤ length so.bytes → LastGave old now → (r : ReadsRecord remaining old new now after (Err fault.kind)) → IsJarRefusal remaining before after (so.bytes ++ r.read) (so.reads + r.reads) fault
+    refusal lent gave last r =
+        let stops = r.ends in
+        let text = so.bytes ++ r.read in
+        record {
+          format = λ kind is.
+              let there = stops.format kind is in
+              subst (λ n. HoldsOfWhole (λ t. IsTheFault 0 t kind n) (IsAtEnd (remaining (inner_of after))) text) (sym line) (lent_fault r.read new lent there.1 there.2);
+          memory = λ is. let there = stops.memory is in subst (IsReached 0 text) (sym line) (lent_reached r.read new lent there.1 there.2);
+          device = λ is.
+              let there = stops.device is in
+              (subst (λ (n : ℕ). (n < failures_of after) ⊎ (failures_of after ≡ greatest_count)) so.failures there.0, subst (BreaksOff 0 text) (sym line) (lent_cut r.read new lent there.1.1 there.1.2));
+          all_made = λ is.
+              let there = stops.all_made is in (
+                omega (arith, there.0, r.is_read.turns, so.is_read.turns, so.none),
+                omega (arith, there.1, gave, length-append so.bytes r.read),
+                there.2 last (omega (arith, there.0)),
+                subst (BreaksOff 0 text) (sym line) (lent_cut r.read new lent there.3.1 there.3.2),
+              );
+          first = stops.first;
+        }
+
+    by_stand : Stands remaining now old so.bytes so.reads so.records → ReadsRegistry remaining before after (Err (registry_faults.Jar fault))
+    by_stand (inl goes) =
+        let r = advances.reads goes.0 in
+        let all = more_read remaining first old new before now after so.bytes r.read so.reads r.reads so.is_read r.is_read in
+        record {
+          bytes = so.bytes ++ r.read;
+          reads = so.reads + r.reads;
+          consumes = all.consumes;
+          calls = all.calls;
+          bounded = omega (arith, all.turns, all.bounded, so.none);
+          each = all.each;
+          answers = refusal goes.1 goes.2 goes.3 r;
+          rises = λ more. kind_of fault.kind jars.Read (r.rises (omega (arith, more, so.failures)));
+        }
+    by_stand (inr ended) = absurd (let over = (advances.over ended.0).0 in cc)

@@ -15,6 +15,10 @@ all_there P (x ∷ b) y a h = all_there P b y a h.1
 pub all_at : {A : Type 0} (P : A → Type 0) (xs b : List A) (y : A) (a : List A) → xs ≡ b ++ y ∷ a → AllByRecursion P xs → P y
 all_at P xs b y a e h = all_there P b y a (subst (AllByRecursion P) e h)
 
+pub all_more : {A : Type 0} (P : A → Type 0) (xs : List A) (v : A) → AllByRecursion P xs → P v → AllByRecursion P (xs ++ v ∷ [])
+all_more P [] v h p = (p, tt)
+all_more P (x ∷ xs) v h p = (h.0, all_more P xs v h.1 p)
+
 pub distinct_from : {A : Type 0} (xs : List A) → ((b : List A) (v : A) (c d : List A) → xs ≡ b ++ v ∷ (c ++ v ∷ d) → ⊥) → Distinct xs
 distinct_from [] f = tt
 distinct_from (x ∷ xs) f = (

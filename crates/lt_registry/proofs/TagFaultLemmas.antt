@@ -1,21 +1,123 @@
--- The faults of a tag are those of its core and of its extensions from left to right.
-use Rattle.std.proofs.Common.{◌≡◌, ℕ, ◌+◌, Bool, true, false, ◌||◌, eqb, ◌⊎◌, inl, inr, List, [], ◌∷◌, ◌++◌, length, refl, sym, ap, ◌∙◌, subst, arith, length-append, append_assoc}
+-- The faults of a tag and of its extensions.
+use Rattle.std.proofs.Common.{◌≡◌, ℕ, ◌+◌, ◌<◌, ◌≤◌, Bool, true, false, inl, inr, List, [], ◌∷◌, ◌++◌, length, take, drop, get_or, refl, sym, subst, arith, ◌||◌, eqb, ◌⊎◌, ap, ◌∙◌, length-append, append_assoc}
 use Rattle.std.specs.Prelude.{Result, Ok, Err, Some}
+use Rattle.std.proofs.Math.Bool.{or-true}
+use Rattle.std.proofs.lemmas.List.{append-nil, drop_all}
 use Rattle.std.proofs.lemmas.Bool.{or_cases, eqb-true, eq-eqb}
-use Rattle.lt_tag.specs.Parts.{CoreParts, ExtensionParts, TagForm, LangTag, PrivateUse, Grandfathered}
+use Rattle.lt_tag.specs.Parts.{ExtensionParts, CoreParts, TagForm, LangTag}
+use Rattle.lt_tag.specs.Extensions.{transform}
 use Rattle.lt_tag.specs.Spelling.{spell_core, spell_extensions}
 use Rattle.lt_tag.specs.Values.{core_of, extensions_of}
 use Rattle.lt_registry.specs.Parts.{EntryParts}
-use Rattle.lt_registry.specs.Faults.{IsFirstOf, HasCoreFault, HasExtensionFault, HasFault, IsFaultOfExtension, IsSecondSingleton}
-use Rattle.lt_registry.specs.Checking.{Counted, Tells, TellsOrLacks, ListFault, has_singleton, core_check}
-use Rattle.lt_registry.specs.declared.faults.ValidFault.{ValidFault}
+use Rattle.lt_registry.specs.Faults.{rank_of, IsFirstOf, HasTransform, HasCoreFault, HasExtensionFault, HasFault, IsFaultOfExtension, IsSecondSingleton}
+use Rattle.lt_registry.specs.Checking.{Counted, TellsOrLacks, HeadFault, ListFault, has_singleton, Tells, core_check}
 use Rattle.lt_registry.specs.declared.faults.ValidFaultKind.{ValidFaultKind}
-use Rattle.lt_registry.specs.declared.faults.ValidFaultKind.TheVariants as faults
 use Rattle.lt_registry.specs.declared.faults.ValidRefusal.{ValidRefusal}
-use Rattle.lt_registry.proofs.FirstLemmas.{Or, SameFaults, precede_by, first_same, first_left, tells_or_lacks_same, same_trans, same_back, same_counted, counted_or, same_second}
-use Rattle.lt_registry.proofs.CoreFaultLemmas.{CoreFault, core_tells, core_upto}
-use Rattle.lt_registry.proofs.ExtensionFaultLemmas.{length_core}
-use Rattle.lt_registry.proofs.ListFaultLemmas.{list_from}
+use Rattle.lt_registry.specs.declared.faults.ValidFault.{ValidFault}
+use Rattle.lt_registry.specs.declared.faults.ValidFaultKind.TheVariants as faults
+use Rattle.lt_registry.specs.declared.faults.ValidRefusal.TheVariants as refusals
+use Rattle.lt_registry.proofs.ListLemmas.{drop_turn, take_turn, whole_turn}
+use Rattle.lt_registry.proofs.VariantFaultLemmas.{Faults, Or, SameFaults, precede_by, Past, first_same, first_left, same_trans, same_back, same_counted, counted_or, same_second, tells_or_lacks_same}
+use Rattle.lt_registry.proofs.CoreFaultLemmas.{ExtensionFault, fault_at, CoreFault, core_tells, core_upto, length_core}
+
+-- The faults of extensions, one after another.
+
+head_from : (R : List EntryParts) (here : ℕ) (before : List ExtensionParts) (e : ExtensionParts) (k : ValidFaultKind) (p : ℕ) → HeadFault R here before e k p → (here ≤ p) × (p ≤ here + length e.subtags)
+head_from R here before e k p (inl d) = (omega (arith, d.1), omega (arith, d.1))
+head_from R here before e k p (inr f) =
+    elim (fault_at R here e k p f) [
+      | inl a ↦ (omega (arith, a.1), omega (arith, a.1))
+      | inr a ↦ (omega (arith, a.0), a.1)
+    ]
+
+pub list_from : (R : List EntryParts) (here : ℕ) (before es : List ExtensionParts) (k : ValidFaultKind) (p : ℕ) → ListFault R here before es k p → here ≤ p
+unfolding ListFault
+list_from R here before [] k p f = absurd f
+list_from R here before (e ∷ after) k p (inl f) = (head_from R here before e k p f).0
+list_from R here before (e ∷ after) k p (inr f) = let l = list_from R (here + (1 + length e.subtags)) (before ++ e ∷ []) after k p f in omega (arith, l)
+
+-- the faults from an index on
+pub turn : (R : List EntryParts) (here : ℕ) (es : List ExtensionParts) (i : ℕ) (e : ExtensionParts) → i < length es → e ≡ get_or es i e → SameFaults (ListFault R here (take i es) (drop i es)) (Or (HeadFault R here (take i es) e) (ListFault R (here + (1 + length e.subtags)) (take (i + 1) es) (drop (i + 1) es)))
+unfolding ListFault
+turn R here es i e l is = rw (drop_turn es i e l is, take_turn es i e l is) (record { there = λ k p f. f; back = λ k p f. f })
+
+pub ended : (R : List EntryParts) (here : ℕ) (before es : List ExtensionParts) (i : ℕ) → length es ≤ i → (k : ValidFaultKind) (p : ℕ) → ListFault R here before (drop i es) k p → ⊥
+unfolding ListFault
+ended R here before es i l k p f = subst (λ zs. ListFault R here before zs k p) (drop_all i es l) f
+
+-- a singleton that occurs again is reported first
+dup_first : (R : List EntryParts) (r : Bool) (here : ℕ) (before : List ExtensionParts) (e : ExtensionParts) (G : Faults) → Past here G → has_singleton before e.singleton ≡ true → IsFirstOf (Counted r (Or (HeadFault R here before e) G)) faults.DuplicateSingleton here
+dup_first R r here before e G past again = record {
+  there = (inl (inl (refl, refl, again)), λ t z. cc);
+  leftmost = λ l q f. elim f.0 [ inl h ↦ (head_from R here before e l q h).0 | inr g ↦ let a = past l q g in omega (arith, a) ];
+  earliest = λ l f. elim f.0 [ inl h ↦ ranked l h | inr g ↦ let a = past l here g in absurd (omega (arith, a)) ];
+}
+  where
+    ranked : (l : ValidFaultKind) → HeadFault R here before e l here → 8 ≤ rank_of l
+    ranked l (inl d) = subst (λ z. 8 ≤ rank_of z) (sym d.0) (omega arith)
+    ranked l (inr f) =
+        elim (fault_at R here e l here f) [
+          | inl a ↦ subst (λ z. 8 ≤ rank_of z) (sym a.0) (omega arith)
+          | inr a ↦ absurd (omega (arith, a.0))
+        ]
+
+rest_past : (R : List EntryParts) (here : ℕ) (before after : List ExtensionParts) (e : ExtensionParts) → Past (here + length e.subtags) (ListFault R (here + (1 + length e.subtags)) before after)
+rest_past R here before after e k p f = let l = list_from R (here + (1 + length e.subtags)) before after k p f in omega (arith, l)
+
+same_head : (R : List EntryParts) (r : Bool) (here : ℕ) (before : List ExtensionParts) (e : ExtensionParts) → has_singleton before e.singleton ≡ false → SameFaults (ExtensionFault R r here e) (Counted r (HeadFault R here before e))
+same_head R r here before e new = record {
+  there = λ k p f. (inr f.0, f.1);
+  back = λ k p f. elim f.0 [ inl d ↦ (let bad : true ≡ false = sym d.2 ∙ new in cc) | inr h ↦ (h, f.1) ];
+}
+
+ext_first : (R : List EntryParts) (r : Bool) (here : ℕ) (before : List ExtensionParts) (e : ExtensionParts) (G : Faults) (k : ValidFaultKind) (p : ℕ) → Past (here + length e.subtags) G → has_singleton before e.singleton ≡ false → IsFirstOf (ExtensionFault R r here e) k p → IsFirstOf (Counted r (Or (HeadFault R here before e) G)) k p
+ext_first R r here before e G k p past new first =
+    first_same (Or (Counted r (HeadFault R here before e)) (Counted r G)) (Counted r (Or (HeadFault R here before e) G)) k p (counted_or r (HeadFault R here before e) G)
+    (first_left (Counted r (HeadFault R here before e)) (Counted r G) k p
+    (precede_by (Counted r (HeadFault R here before e)) (Counted r G) (here + length e.subtags) (λ l q f. (head_from R here before e l q f.0).1) (λ l q f. past l q f.0))
+    (first_same (ExtensionFault R r here e) (Counted r (HeadFault R here before e)) k p (same_head R r here before e new) first))
+
+-- the loop over the extensions
+module _ (R : List EntryParts) (r : Bool) (first : ℕ) (es : List ExtensionParts) where
+  abbrev pub Whole : ValidFaultKind → ℕ → Type 0
+  Whole = Counted r (ListFault R first [] es)
+
+  abbrev pub From : ℕ → ℕ → ValidFaultKind → ℕ → Type 0
+  From here i = Counted r (ListFault R here (take i es) (drop i es))
+
+  turned : (here i : ℕ) (e : ExtensionParts) → i < length es → e ≡ get_or es i e → SameFaults Whole (From here i) → SameFaults Whole (Counted r (Or (HeadFault R here (take i es) e) (ListFault R (here + (1 + length e.subtags)) (take (i + 1) es) (drop (i + 1) es))))
+  turned here i e l is so_far =
+      same_trans Whole (From here i) (Counted r (Or (HeadFault R here (take i es) e) (ListFault R (here + (1 + length e.subtags)) (take (i + 1) es) (drop (i + 1) es)))) so_far
+      (same_counted r (ListFault R here (take i es) (drop i es)) (Or (HeadFault R here (take i es) e) (ListFault R (here + (1 + length e.subtags)) (take (i + 1) es) (drop (i + 1) es))) (turn R here es i e l is))
+
+  pub told_duplicate : (here i : ℕ) (e : ExtensionParts) → i < length es → e ≡ get_or es i e → SameFaults Whole (From here i) → has_singleton (take i es) e.singleton ≡ true → IsFirstOf Whole faults.DuplicateSingleton here
+  told_duplicate here i e l is so_far again =
+      let G : Faults = ListFault R (here + (1 + length e.subtags)) (take (i + 1) es) (drop (i + 1) es) in
+      let past : Past here G = λ k p f. let a = rest_past R here (take (i + 1) es) (drop (i + 1) es) e k p f in omega (arith, a) in
+      first_same (Counted r (Or (HeadFault R here (take i es) e) G)) Whole faults.DuplicateSingleton here (same_back Whole (Counted r (Or (HeadFault R here (take i es) e) G)) (turned here i e l is so_far)) (dup_first R r here (take i es) e G past again)
+
+  pub told_extension : (here i : ℕ) (e : ExtensionParts) (a : Result (Unit {0}) ValidRefusal) (refusal : ValidRefusal) → i < length es → e ≡ get_or es i e → SameFaults Whole (From here i) → has_singleton (take i es) e.singleton ≡ false → a ≡ Err refusal → TellsOrLacks (ExtensionFault R r here e) (e.singleton ≡ transform) a → TellsOrLacks Whole (HasTransform es) (Err refusal)
+  told_extension here i e a refusal l is so_far new was told = by refusal (subst (TellsOrLacks (ExtensionFault R r here e) (e.singleton ≡ transform)) was told)
+    where
+      by : (x : ValidRefusal) → TellsOrLacks (ExtensionFault R r here e) (e.singleton ≡ transform) (Err x) → TellsOrLacks Whole (HasTransform es) (Err x)
+      by (refusals.Fault fault) told' =
+          let G : Faults = ListFault R (here + (1 + length e.subtags)) (take (i + 1) es) (drop (i + 1) es) in
+          first_same (Counted r (Or (HeadFault R here (take i es) e) G)) Whole fault.kind fault.place (same_back Whole (Counted r (Or (HeadFault R here (take i es) e) G)) (turned here i e l is so_far))
+          (ext_first R r here (take i es) e G fault.kind fault.place (rest_past R here (take (i + 1) es) (drop (i + 1) es) e) new told')
+      by refusals.OutOfMemory told' = (take i es, e, drop (i + 1) es, whole_turn es i e l is, told')
+
+  pub stepped : (here i : ℕ) (e : ExtensionParts) (a : Result (Unit {0}) ValidRefusal) → i < length es → e ≡ get_or es i e → SameFaults Whole (From here i) → has_singleton (take i es) e.singleton ≡ false → a ≡ Ok tt → TellsOrLacks (ExtensionFault R r here e) (e.singleton ≡ transform) a → SameFaults Whole (From (here + (1 + length e.subtags)) (i + 1))
+  stepped here i e a l is so_far new was told =
+      let G : Faults = ListFault R (here + (1 + length e.subtags)) (take (i + 1) es) (drop (i + 1) es) in
+      let H : Faults = HeadFault R here (take i es) e in
+      let none : (k : ValidFaultKind) (p : ℕ) → Counted r H k p → ⊥ = λ k p f. (subst (TellsOrLacks (ExtensionFault R r here e) (e.singleton ≡ transform)) was told) k p ((same_head R r here (take i es) e new).back k p f) in
+      same_trans Whole (Counted r (Or H G)) (Counted r G) (turned here i e l is so_far)
+      (same_trans (Counted r (Or H G)) (Or (Counted r H) (Counted r G)) (Counted r G) (same_back (Or (Counted r H) (Counted r G)) (Counted r (Or H G)) (counted_or r H G)) (same_second (Counted r H) (Counted r G) none))
+
+  pub all_told : (here i : ℕ) → length es ≤ i → SameFaults Whole (From here i) → (k : ValidFaultKind) (p : ℕ) → Whole k p → ⊥
+  all_told here i l so_far k p f = ended R here (take i es) es i l k p (so_far.there k p f).0
+
+-- The faults of a tag are those of its core and of its extensions from left to right.
 
 -- a singleton that is among others
 one_singleton : (front : List ExtensionParts) (s : ℕ) → has_singleton front s ≡ true → (b : List ExtensionParts) × (f : ExtensionParts) × (c : List ExtensionParts) × (front ≡ b ++ f ∷ c) × (f.singleton ≡ s)
@@ -26,17 +128,9 @@ one_singleton (f ∷ fs) s h =
       | inr e ↦ let r = one_singleton fs s e in (f ∷ r.0, r.1, r.2, ap (λ ws. f ∷ ws) r.3, r.4)
     ]
 
-or_true : (b : Bool) → (b || true) ≡ true
-or_true true = refl
-or_true false = refl
-
 singleton_there : (b c : List ExtensionParts) (f : ExtensionParts) (s : ℕ) → f.singleton ≡ s → has_singleton (b ++ f ∷ c) s ≡ true
 singleton_there [] c f s e = ap (λ x. x || has_singleton c s) (eq-eqb f.singleton s e)
-singleton_there (u ∷ b) c f s e = ap (λ x. eqb u.singleton s || x) (singleton_there b c f s e) ∙ or_true (eqb u.singleton s)
-
-append_none : (xs : List ExtensionParts) → xs ++ [] ≡ xs
-append_none [] = refl
-append_none (x ∷ xs) = ap (λ ys. x ∷ ys) (append_none xs)
+singleton_there (u ∷ b) c f s e = ap (λ x. eqb u.singleton s || x) (singleton_there b c f s e) ∙ or-true (eqb u.singleton s)
 
 length_more : (u : ExtensionParts) (front : List ExtensionParts) → length (spell_extensions (u ∷ front)) ≡ 1 + length u.subtags + length (spell_extensions front)
 length_more u front = let a = length-append u.subtags (spell_extensions front) in omega (arith, a)
@@ -65,7 +159,7 @@ shown : (R : List EntryParts) (here : ℕ) (before es : List ExtensionParts) (k 
 unfolding ListFault
 shown R here before [] k p f = absurd f
 shown R here before (e ∷ after) k p (inl (inl d)) =
-    inr (d.0, record { front = []; extension = e; after = after; there = refl; placed = omega (arith, d.1); again = ap (λ bs. has_singleton bs e.singleton) (append_none before) ∙ d.2 })
+    inr (d.0, record { front = []; extension = e; after = after; there = refl; placed = omega (arith, d.1); again = ap (λ bs. has_singleton bs e.singleton) (append-nil before) ∙ d.2 })
 shown R here before (e ∷ after) k p (inl (inr f)) =
     inl (record { front = []; extension = e; after = after; there = refl; fault = moved R here (here + 0) e k p (omega arith) f })
 shown R here before (e ∷ after) k p (inr f) =
@@ -89,7 +183,7 @@ extension_hidden R here before (u ∷ front) e after k p f =
 
 second_hidden : (R : List EntryParts) (here : ℕ) (before front : List ExtensionParts) (e : ExtensionParts) (after : List ExtensionParts) (p : ℕ) → p ≡ here + length (spell_extensions front) → has_singleton (before ++ front) e.singleton ≡ true → ListFault R here before (front ++ e ∷ after) faults.DuplicateSingleton p
 unfolding ListFault
-second_hidden R here before [] e after p placed again = inl (inl (refl, omega (arith, placed), ap (λ bs. has_singleton bs e.singleton) (sym (append_none before)) ∙ again))
+second_hidden R here before [] e after p placed again = inl (inl (refl, omega (arith, placed), ap (λ bs. has_singleton bs e.singleton) (sym (append-nil before)) ∙ again))
 second_hidden R here before (u ∷ front) e after p placed again =
     let long = length_more u front in
     inr (second_hidden R (here + (1 + length u.subtags)) (before ++ u ∷ []) front e after p (omega (arith, placed, long)) (ap (λ bs. has_singleton bs e.singleton) (append_assoc before (u ∷ []) front) ∙ again))
@@ -121,9 +215,6 @@ module _ (R : List EntryParts) (c : CoreParts) (es : List ExtensionParts) where
       subst (λ z. ListFault R first [] z k p) (sym split)
       (subst (λ z. ListFault R first [] ((a.1.before ++ a.1.first ∷ a.1.between) ++ a.1.second ∷ a.1.after) z p) (sym a.0)
       (second_hidden R first [] (a.1.before ++ a.1.first ∷ a.1.between) a.1.second a.1.after p (omega (arith, a.1.here)) (singleton_there a.1.before a.1.between a.1.first a.1.second.singleton a.1.alike)))
-
-  same_list_faults : SameFaults (ListFault R first [] es) Extensions
-  same_list_faults = record { there = list_shown; back = list_hidden }
 
   parted : SameFaults (Or (HasCoreFault R 0 c) (ListFault R first [] es)) (Or (HasCoreFault R 0 c) Extensions)
   parted = record {
@@ -164,12 +255,10 @@ pub tag_core_first : (R : List EntryParts) (r : Bool) (t : TagForm) (c : CorePar
 tag_core_first R r (LangTag d es ps) c fault is told =
     let same : c ≡ d = cc in
     core_first R d es r fault (ap (core_check R r 0) (sym same) ∙ told)
-tag_core_first R r (PrivateUse ps) c fault is told = cc
-tag_core_first R r (Grandfathered n) c fault is told = cc
+tag_core_first R r _ c fault is told = cc
 
 pub tag_extensions_told : (R : List EntryParts) (r : Bool) (t : TagForm) (c : CoreParts) (M : Type 0) (a : Result (Unit {0}) ValidRefusal) → Some c ≡ core_of t → core_check R r 0 c ≡ Ok tt → TellsOrLacks (Counted r (ListFault R (length (spell_core c) + 1) [] (extensions_of t))) M a → TellsOrLacks (Counted r (HasFault R t)) M a
 tag_extensions_told R r (LangTag d es ps) c M a is told t =
     let same : c ≡ d = cc in
     extensions_told R d es r M a (ap (core_check R r 0) (sym same) ∙ told) (subst (λ z. TellsOrLacks (Counted r (ListFault R (length (spell_core z) + 1) [] es)) M a) same t)
-tag_extensions_told R r (PrivateUse ps) c M a is told t = cc
-tag_extensions_told R r (Grandfathered n) c M a is told t = cc
+tag_extensions_told R r _ c M a is told t = cc

@@ -1,7 +1,8 @@
 -- A tag is valid exactly if it has no fault.
 use Rattle.std.proofs.Common.{◌≡◌, ℕ, ◌+◌, ◌≤◌, Bool, true, false, if◌then◌else◌, eqb, inl, inr, List, [], ◌∷◌, ◌++◌, length, Option, Some, None, refl, sym, ap, ◌∙◌, subst, arith}
 use Rattle.std.specs.Prelude.{◌↔◌, IfSome}
-use Rattle.lt_tag.specs.Parts.{CoreParts, ExtensionParts, TForm, TagForm, LangTag, PrivateUse, Grandfathered}
+use Rattle.std.proofs.lemmas.Bool.{true_from_ne_false}
+use Rattle.lt_tag.specs.Parts.{CoreParts, ExtensionParts, TForm, TagForm, LangTag}
 use Rattle.lt_tag.specs.Spelling.{spell_core, spell_extensions}
 use Rattle.lt_tag.specs.Extensions.{transform, IsTransform}
 use Rattle.lt_tag.specs.Splitting.{transform_of}
@@ -20,9 +21,9 @@ both : (b : Bool) → b ≡ true → b ≡ false → ⊥
 both true h k = cc
 both false h k = cc
 
-holds_unless : (b : Bool) → (b ≡ false → ⊥) → b ≡ true
-holds_unless true f = refl
-holds_unless false f = absurd (f refl)
+at_some : {A : Type 0} (P : A → Type 0) (o : Option A) (s : A) → o ≡ Some s → IfSome o P → P s
+at_some P None s e h = cc
+at_some P (Some t) s e h = let same : t ≡ s = cc in subst P same h
 
 -- cores
 
@@ -33,27 +34,27 @@ module _ (R : List EntryParts) (start : ℕ) (c : CoreParts) where
   extlangs_from : Repeats → (xs : List (List ℕ)) → c.extlangs ≡ xs → ExtlangsFit R c.language xs
   extlangs_from f [] e = tt
   extlangs_from f (x ∷ []) e = (
-    holds_unless (is_registered R kinds.Extlang x) (λ h. let bad = f faults.UnknownExtlang (start + 2) (x, [], e, refl, h) in cc),
-    holds_unless (has_prefix (prefixes R kinds.Extlang x) c.language) (λ h. let bad = f faults.ExtlangPrefix (start + 2) (x, [], e, refl, h) in cc),
+    true_from_ne_false (is_registered R kinds.Extlang x) (λ h. let bad = f faults.UnknownExtlang (start + 2) (x, [], e, refl, h) in cc),
+    true_from_ne_false (has_prefix (prefixes R kinds.Extlang x) c.language) (λ h. let bad = f faults.ExtlangPrefix (start + 2) (x, [], e, refl, h) in cc),
   )
   extlangs_from f (x ∷ y ∷ rest) e = let bad = f faults.TooManyExtlangs (start + 3) (x, y, rest, e, refl) in cc
 
   script_from : Repeats → (o : Option (List ℕ)) → c.script ≡ o → IfSome o (λ s. is_registered R kinds.Script s ≡ true)
   script_from f None e = tt
-  script_from f (Some s) e = holds_unless (is_registered R kinds.Script s) (λ h. let bad = f faults.UnknownScript (start + before_script c + 1) (s, e, refl, h) in cc)
+  script_from f (Some s) e = true_from_ne_false (is_registered R kinds.Script s) (λ h. let bad = f faults.UnknownScript (start + before_script c + 1) (s, e, refl, h) in cc)
 
   region_from : Repeats → (o : Option (List ℕ)) → c.region ≡ o → IfSome o (λ s. is_registered R kinds.Region s ≡ true)
   region_from f None e = tt
-  region_from f (Some s) e = holds_unless (is_registered R kinds.Region s) (λ h. let bad = f faults.UnknownRegion (start + before_region c + 1) (s, e, refl, h) in cc)
+  region_from f (Some s) e = true_from_ne_false (is_registered R kinds.Region s) (λ h. let bad = f faults.UnknownRegion (start + before_region c + 1) (s, e, refl, h) in cc)
 
   proper_core_from : Repeats → IsProperCore R c
   proper_core_from f = record {
-    language = holds_unless (is_registered R kinds.Language c.language) (λ h. let bad = f faults.UnknownLanguage (start + 1) (refl, h) in cc);
+    language = true_from_ne_false (is_registered R kinds.Language c.language) (λ h. let bad = f faults.UnknownLanguage (start + 1) (refl, h) in cc);
     extlangs = extlangs_from f c.extlangs refl;
     script = script_from f c.script refl;
     region = region_from f c.region refl;
     variants = all_from (λ v. is_registered R kinds.Variant v ≡ true) c.variants
-        (λ b v a e. holds_unless (is_registered R kinds.Variant v) (λ h. let bad = f faults.UnknownVariant (start + before_variants c + length b + 1) (b, v, a, e, refl, h) in cc));
+        (λ b v a e. true_from_ne_false (is_registered R kinds.Variant v) (λ h. let bad = f faults.UnknownVariant (start + before_variants c + length b + 1) (b, v, a, e, refl, h) in cc));
   }
 
   one_extlang : (xs : List (List ℕ)) (x : List ℕ) (rest : List (List ℕ)) → xs ≡ x ∷ rest → ExtlangsFit R c.language xs → (rest ≡ []) × (is_registered R kinds.Extlang x ≡ true) × (has_prefix (prefixes R kinds.Extlang x) c.language ≡ true)
@@ -63,10 +64,6 @@ module _ (R : List EntryParts) (start : ℕ) (c : CoreParts) where
       let none : [] ≡ rest = cc in
       (sym none, ap (is_registered R kinds.Extlang) (sym same) ∙ h.0, ap (λ z. has_prefix (prefixes R kinds.Extlang z) c.language) (sym same) ∙ h.1)
   one_extlang (y ∷ z ∷ ys) x rest e h = absurd h
-
-  at_some : (P : List ℕ → Type 0) (o : Option (List ℕ)) (s : List ℕ) → o ≡ Some s → IfSome o P → P s
-  at_some P None s e h = cc
-  at_some P (Some t) s e h = let same : t ≡ s = cc in subst P same h
 
   proper_core_has : IsProperCore R c → Repeats
   proper_core_has h faults.UnknownLanguage p f = absurd (both (is_registered R kinds.Language c.language) h.language f.1)
@@ -85,10 +82,6 @@ module _ (R : List EntryParts) (start : ℕ) (c : CoreParts) where
 
   distinct_core_has : Distinct c.variants → (p : ℕ) → HasCoreFault R start c faults.DuplicateVariant p → ⊥
   distinct_core_has h p f = distinct_at c.variants f.0 f.1 f.2 f.3 f.4 h
-
-at_source : (P : CoreParts → Type 0) (o : Option CoreParts) (s : CoreParts) → o ≡ Some s → IfSome o P → P s
-at_source P None s e h = cc
-at_source P (Some t) s e h = let same : t ≡ s = cc in subst P same h
 
 -- extensions
 
@@ -118,7 +111,7 @@ module _ (R : List EntryParts) (here : ℕ) (e : ExtensionParts) where
       let parts = h f.1.transforms in
       let same : parts.0 ≡ f.1.parts = t_unique e.subtags parts.0 f.1.parts parts.1 f.1.formed in
       let there : parts.0.source ≡ Some f.0 = ap (λ (z : TForm). z.source) same ∙ f.1.there in
-      proper_core_has R here f.0 (at_source (IsProperCore R) parts.0.source f.0 there parts.2) k p f.2
+      proper_core_has R here f.0 (at_some (IsProperCore R) parts.0.source f.0 there parts.2) k p f.2
 
   distinct_source_at : ((k : ValidFaultKind) (p : ℕ) → HasExtensionFault R here e k p → ⊥) → e.singleton ≡ transform → (parts : TForm) → IsTransform e.subtags parts → (o : Option CoreParts) → parts.source ≡ o → IfSome o (λ (c : CoreParts). Distinct c.variants)
   distinct_source_at f t parts formed None there = tt
@@ -131,7 +124,7 @@ module _ (R : List EntryParts) (here : ℕ) (e : ExtensionParts) where
   distinct_source_has : HasDistinctSource e → (k : ValidFaultKind) (p : ℕ) → k ≡ faults.DuplicateVariant → HasExtensionFault R here e k p → ⊥
   distinct_source_has h k p dup (inl bad) = let no : faults.DuplicateVariant ≡ faults.BadTransform = sym dup ∙ bad.0 in cc
   distinct_source_has h k p dup (inr f) =
-      let d = at_source (λ (c : CoreParts). Distinct c.variants) f.1.parts.source f.0 f.1.there (h f.1.transforms f.1.parts f.1.formed) in
+      let d = at_some (λ (c : CoreParts). Distinct c.variants) f.1.parts.source f.0 f.1.there (h f.1.transforms f.1.parts f.1.formed) in
       distinct_core_has R here f.0 d p (subst (λ z. HasCoreFault R here f.0 z p) dup f.2)
 
 -- tags
@@ -147,8 +140,7 @@ proper_parts_from R (LangTag c es ps) f = record {
   singletons = distinct_map_from (λ (e : ExtensionParts). e.singleton) es
       (λ b x m y d there alike. let bad = f faults.DuplicateSingleton (length (spell_core c) + length (spell_extensions (b ++ x ∷ m)) + 1) (inr (inr (refl, record { before = b; first = x; between = m; second = y; after = d; there = there; alike = alike; here = refl }))) in cc);
 }
-proper_parts_from R (PrivateUse ps) f = tt
-proper_parts_from R (Grandfathered n) f = tt
+proper_parts_from R _ f = tt
 
 proper_parts_has : (R : List EntryParts) (t : TagForm) → HasProperParts R t → RepeatsAtMost R t
 proper_parts_has R (LangTag c es ps) h k p (inl f) = proper_core_has R 0 c h.core k p f
@@ -156,8 +148,7 @@ proper_parts_has R (LangTag c es ps) h k p (inr (inl f)) =
     proper_extension_has R (place_after c f.before) f.extension (all_at (IsProperExtension R) es f.before f.extension f.after f.there h.extensions) k p f.fault
 proper_parts_has R (LangTag c es ps) h k p (inr (inr f)) =
     absurd (distinct_map_at (λ (e : ExtensionParts). e.singleton) es f.1.before f.1.first f.1.between f.1.second f.1.after f.1.there h.singletons f.1.alike)
-proper_parts_has R (PrivateUse ps) h k p f = absurd f
-proper_parts_has R (Grandfathered n) h k p f = absurd f
+proper_parts_has R _ h k p f = absurd f
 
 -- proper exactly if no fault but a repeated variant
 pub proper_law : (R : List EntryParts) (t : TagForm) → IsTagValue t → IsProper R t ↔ RepeatsAtMost R t
@@ -168,16 +159,14 @@ no_repeat_from R (LangTag c es ps) f = (
   distinct_core_from R 0 c (λ p h. f faults.DuplicateVariant p (inl h)),
   all_from HasDistinctSource es (λ b e a there. distinct_source_from R (place_after c b) e (λ k p h. f k p (inr (inl (record { before = b; extension = e; after = a; there = there; fault = h }))))),
 )
-no_repeat_from R (PrivateUse ps) f = tt
-no_repeat_from R (Grandfathered n) f = tt
+no_repeat_from R _ f = tt
 
 no_repeat_has : (R : List EntryParts) (t : TagForm) → RepeatsNoVariant t → (k : ValidFaultKind) (p : ℕ) → k ≡ faults.DuplicateVariant → HasFault R t k p → ⊥
 no_repeat_has R (LangTag c es ps) h k p dup (inl f) = distinct_core_has R 0 c h.0 p (subst (λ z. HasCoreFault R 0 c z p) dup f)
 no_repeat_has R (LangTag c es ps) h k p dup (inr (inl f)) =
     distinct_source_has R (place_after c f.before) f.extension (all_at HasDistinctSource es f.before f.extension f.after f.there h.1) k p dup f.fault
 no_repeat_has R (LangTag c es ps) h k p dup (inr (inr f)) = let no : faults.DuplicateVariant ≡ faults.DuplicateSingleton = sym dup ∙ f.0 in cc
-no_repeat_has R (PrivateUse ps) h k p dup f = f
-no_repeat_has R (Grandfathered n) h k p dup f = f
+no_repeat_has R _ h k p dup f = f
 
 -- valid exactly if there is no fault
 pub valid_law : (R : List EntryParts) (t : TagForm) → IsTagValue t → IsValid R t ↔ HasNoFault R t
@@ -196,15 +185,7 @@ ranked n =
 
 ranked_again : (k : ValidFaultKind) → ranked (rank_of k) ≡ k
 ranked_again faults.UnknownLanguage = refl
-ranked_again faults.UnknownExtlang = refl
-ranked_again faults.ExtlangPrefix = refl
-ranked_again faults.TooManyExtlangs = refl
-ranked_again faults.UnknownScript = refl
-ranked_again faults.UnknownRegion = refl
-ranked_again faults.UnknownVariant = refl
-ranked_again faults.DuplicateVariant = refl
-ranked_again faults.DuplicateSingleton = refl
-ranked_again faults.BadTransform = refl
+ranked_again _ = refl
 
 -- one fault is reported
 pub one_fault_law : (R : List EntryParts) (t : TagForm) (k l : ValidFaultKind) (p q : ℕ) → IsFirstFault R t k p → IsFirstFault R t l q → (k ≡ l) × (p ≡ q)

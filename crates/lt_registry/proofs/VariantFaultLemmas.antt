@@ -1,14 +1,160 @@
--- The faults of variants, from a place on.
-use Rattle.std.proofs.Common.{◌≡◌, ℕ, ◌+◌, ◌<◌, ◌≤◌, Bool, true, false, ◌||◌, not, ◌⊎◌, inl, inr, List, [], ◌∷◌, ◌++◌, length, refl, sym, ap, ◌∙◌, arith, append_assoc, bytes_eq}
+-- The first of several faults, and the faults of variants.
+use Rattle.std.proofs.Common.{◌≡◌, ℕ, ◌≤◌, ◌<◌, Bool, true, false, ◌⊎◌, inl, inr, refl, sym, subst, ◌∙◌, arith, ◌+◌, ◌||◌, not, List, [], ◌∷◌, ◌++◌, length, ap, append_assoc, bytes_eq, ◌≢◌, take, drop, get_or}
+use Rattle.std.specs.Prelude.{Result, Ok, Err, bytes_eq}
 use Rattle.std.proofs.lemmas.Bool.{or_cases}
 use Rattle.std.proofs.lemmas.Slice.Eq.{bytes_eq-Decides}
+use Rattle.std.specs.List.{AllByRecursion}
+use Rattle.std.proofs.Math.Bool.{or-true}
+use Rattle.std.proofs.lemmas.List.{append-nil, drop_all}
+use Rattle.std.proofs.lemmas.List.Folds.{list_any-append}
+use Rattle.lt_registry.specs.Faults.{IsFirstOf, rank_of}
+use Rattle.lt_registry.specs.Checking.{Check, Counted, and_then, unless, Tells, TellsOrLacks, stands_in, variant_check, variants_check}
+use Rattle.lt_registry.specs.declared.faults.ValidFault.{ValidFault}
+use Rattle.lt_registry.specs.declared.faults.ValidFaultKind.{ValidFaultKind}
+use Rattle.lt_registry.specs.declared.faults.ValidRefusal.{ValidRefusal}
 use Rattle.lt_registry.specs.Parts.{EntryParts}
 use Rattle.lt_registry.specs.Entries.{is_registered}
-use Rattle.lt_registry.specs.Checking.{unless, Tells, stands_in, variant_check, variants_check}
+use Rattle.lt_registry.specs.Validity.{Distinct}
+use Rattle.lt_registry.specs.declared.faults.ValidRefusal.TheVariants as refusals
 use Rattle.lt_registry.specs.declared.entries.Kind.TheVariants as kinds
-use Rattle.lt_registry.specs.declared.faults.ValidFaultKind.{ValidFaultKind}
 use Rattle.lt_registry.specs.declared.faults.ValidFaultKind.TheVariants as faults
-use Rattle.lt_registry.proofs.FirstLemmas.{Or, precede_by, Upto, Single, tells_and, tells_unless, single_precede, single_upto, upto_or}
+use Rattle.lt_registry.proofs.ListLemmas.{drop_turn, take_turn}
+
+-- The first of several faults.
+
+abbrev pub Faults : Type 1
+Faults = ValidFaultKind → ℕ → Type 0
+
+-- one fault or the other
+abbrev pub Or : (F G : Faults) → ValidFaultKind → ℕ → Type 0
+Or F G kind place = F kind place ⊎ G kind place
+
+pub record SameFaults (F G : Faults) : Type 0 where
+  pub there : (kind : ValidFaultKind) (place : ℕ) → F kind place → G kind place
+  pub back : (kind : ValidFaultKind) (place : ℕ) → G kind place → F kind place
+
+-- no fault of the second is reported before one of the first
+pub record Precede (F G : Faults) : Type 0 where
+  pub left : (kind other : ValidFaultKind) (place elsewhere : ℕ) → F kind place → G other elsewhere → place ≤ elsewhere
+  pub rank : (kind other : ValidFaultKind) (place : ℕ) → F kind place → G other place → rank_of kind ≤ rank_of other
+
+-- places up to one, and past it
+abbrev pub Upto : ℕ → Faults → Type 0
+Upto m F = (kind : ValidFaultKind) (place : ℕ) → F kind place → place ≤ m
+
+abbrev pub Past : ℕ → Faults → Type 0
+Past m F = (kind : ValidFaultKind) (place : ℕ) → F kind place → m < place
+
+pub precede_by : (F G : Faults) (m : ℕ) → Upto m F → Past m G → Precede F G
+precede_by F G m up past = record {
+  left = λ k l p q f g. let a = up k p f in let b = past l q g in omega (arith, a, b);
+  rank = λ k l p f g. let a = up k p f in let b = past l p g in absurd (omega (arith, a, b));
+}
+
+pub first_same : (F G : Faults) (k : ValidFaultKind) (p : ℕ) → SameFaults F G → IsFirstOf F k p → IsFirstOf G k p
+first_same F G k p s first = record {
+  there = s.there k p first.there;
+  leftmost = λ l q g. first.leftmost l q (s.back l q g);
+  earliest = λ l g. first.earliest l (s.back l p g);
+}
+
+pub tells_same : (F G : Faults) (a : Check) → SameFaults F G → Tells F a → Tells G a
+tells_same F G (Ok done) s t = λ k p g. t k p (s.back k p g)
+tells_same F G (Err fault) s t = first_same F G fault.kind fault.place s t
+
+pub tells_or_lacks_same : (F G : Faults) (M : Type 0) (a : Result (Unit {0}) ValidRefusal) → SameFaults F G → TellsOrLacks F M a → TellsOrLacks G M a
+tells_or_lacks_same F G M (Ok done) s t = λ k p g. t k p (s.back k p g)
+tells_or_lacks_same F G M (Err (refusals.Fault fault)) s t = first_same F G fault.kind fault.place s t
+tells_or_lacks_same F G M (Err refusals.OutOfMemory) s t = t
+
+pub first_left : (F G : Faults) (k : ValidFaultKind) (p : ℕ) → Precede F G → IsFirstOf F k p → IsFirstOf (Or F G) k p
+first_left F G k p before first = record {
+  there = inl first.there;
+  leftmost = λ l q h. elim h [ inl f ↦ first.leftmost l q f | inr g ↦ before.left k l p q first.there g ];
+  earliest = λ l h. elim h [ inl f ↦ first.earliest l f | inr g ↦ before.rank k l p first.there g ];
+}
+
+pub first_right : (F G : Faults) (k : ValidFaultKind) (p : ℕ) → ((l : ValidFaultKind) (q : ℕ) → F l q → ⊥) → IsFirstOf G k p → IsFirstOf (Or F G) k p
+first_right F G k p none first = record {
+  there = inr first.there;
+  leftmost = λ l q h. elim h [ inl f ↦ absurd (none l q f) | inr g ↦ first.leftmost l q g ];
+  earliest = λ l h. elim h [ inl f ↦ absurd (none l p f) | inr g ↦ first.earliest l g ];
+}
+
+-- one check after another
+pub tells_and : (F G : Faults) (a b : Check) → Precede F G → Tells F a → Tells G b → Tells (Or F G) (and_then a b)
+tells_and F G (Ok done) (Ok other) before t u = λ k p h. elim h [ inl f ↦ t k p f | inr g ↦ u k p g ]
+tells_and F G (Ok done) (Err fault) before t u = first_right F G fault.kind fault.place t u
+tells_and F G (Err fault) b before t u = first_left F G fault.kind fault.place before t
+
+-- faults past one place and up to another, and a check that tells the first of them
+pub record Part (m n : ℕ) (F : Faults) (a : Check) : Type 0 where
+  pub past : Past m F
+  pub upto : Upto n F
+  pub tells : Tells F a
+
+pub part_then : {l m i n : ℕ} {F G : Faults} {a b : Check} → Part l m F a → Part i n G b → l ≤ i → m ≤ i → i ≤ n → Part l n (Or F G) (and_then a b)
+part_then {l} {m} {i} {n} {F} {G} {a} {b} f g li mi le = record {
+  past = λ k p h. elim h [ inl x ↦ f.past k p x | inr y ↦ let lt = g.past k p y in omega (arith, li, lt) ];
+  upto = λ k p h. elim h [ inl x ↦ let to = f.upto k p x in omega (arith, to, mi, le) | inr y ↦ g.upto k p y ];
+  tells = tells_and F G a b (precede_by F G i (λ k p x. let to = f.upto k p x in omega (arith, to, mi)) g.past) f.tells g.tells;
+}
+
+pub part_none : (m n : ℕ) (F : Faults) → ((k : ValidFaultKind) (p : ℕ) → F k p → ⊥) → Part m n F (Ok tt)
+part_none m n F none = record { past = λ k p f. absurd (none k p f); upto = λ k p f. absurd (none k p f); tells = none }
+
+-- one fault, at one place, under a condition
+pub record Single (kind : ValidFaultKind) (at : ℕ) (P : Type 0) (k : ValidFaultKind) (p : ℕ) : Type 0 where
+  pub kinded : k ≡ kind
+  pub placed : p ≡ at
+  pub cause : P
+
+pub single_first : (kind : ValidFaultKind) (at : ℕ) (P : Type 0) → P → IsFirstOf (Single kind at P) kind at
+single_first kind at P h = record {
+  there = record { kinded = refl; placed = refl; cause = h };
+  leftmost = λ l q f. let e = f.placed in omega arith;
+  earliest = λ l f. subst (λ x. rank_of kind ≤ rank_of x) (sym f.kinded) (omega arith);
+}
+
+-- a fault unless a test holds
+pub tells_unless : (b : Bool) (kind : ValidFaultKind) (at : ℕ) → Tells (Single kind at (b ≡ false)) (unless b kind at)
+tells_unless true kind at = λ k p f. let bad : true ≡ false = f.cause in cc
+tells_unless false kind at = single_first kind at (false ≡ false) refl
+
+pub single_precede : (k l : ValidFaultKind) (p q : ℕ) (P Q : Type 0) → p ≤ q → (p ≡ q → rank_of k ≤ rank_of l) → Precede (Single k p P) (Single l q Q)
+single_precede k l p q P Q le ranked = record {
+  left = λ a b x y f g. let e = f.placed in let h = g.placed in omega (arith, le);
+  rank = λ a b x f g.
+      let same : p ≡ q = sym f.placed ∙ g.placed in
+      subst (λ z. rank_of z ≤ rank_of b) (sym f.kinded) (subst (λ z. rank_of k ≤ rank_of z) (sym g.kinded) (ranked same));
+}
+
+pub single_same : (k : ValidFaultKind) (p : ℕ) (P Q : Type 0) → (P → Q) → (Q → P) → SameFaults (Single k p P) (Single k p Q)
+single_same k p P Q to from = record {
+  there = λ a x f. record { kinded = f.kinded; placed = f.placed; cause = to f.cause };
+  back = λ a x f. record { kinded = f.kinded; placed = f.placed; cause = from f.cause };
+}
+
+pub same_trans : (F G H : Faults) → SameFaults F G → SameFaults G H → SameFaults F H
+same_trans F G H s t = record { there = λ k p f. t.there k p (s.there k p f); back = λ k p h. s.back k p (t.back k p h) }
+
+pub same_back : (F G : Faults) → SameFaults F G → SameFaults G F
+same_back F G s = record { there = s.back; back = s.there }
+
+pub same_counted : (r : Bool) (F G : Faults) → SameFaults F G → SameFaults (Counted r F) (Counted r G)
+same_counted r F G s = record { there = λ k p f. (s.there k p f.0, f.1); back = λ k p g. (s.back k p g.0, g.1) }
+
+pub counted_or : (r : Bool) (F G : Faults) → SameFaults (Or (Counted r F) (Counted r G)) (Counted r (Or F G))
+counted_or r F G = record {
+  there = λ k p h. elim h [ inl f ↦ (inl f.0, f.1) | inr g ↦ (inr g.0, g.1) ];
+  back = λ k p h. elim h.0 [ inl f ↦ inl (f, h.1) | inr g ↦ inr (g, h.1) ];
+}
+
+-- no fault of the first: those of the second alone
+pub same_second : (F G : Faults) → ((k : ValidFaultKind) (p : ℕ) → F k p → ⊥) → SameFaults (Or F G) G
+same_second F G none = record { there = λ k p h. elim h [ inl f ↦ absurd (none k p f) | inr g ↦ g ]; back = λ k p g. inr g }
+
+-- The faults of variants, from a place on.
 
 -- a list holds what is in it
 pub stands_at : (front : List (List ℕ)) (v : List ℕ) → stands_in front v ≡ true → (b c : List (List ℕ)) × (front ≡ b ++ v ∷ c)
@@ -19,16 +165,9 @@ stands_at (u ∷ us) v h =
       | inr e ↦ let r = stands_at us v e in (u ∷ r.0, r.1, ap (λ ws. u ∷ ws) r.2)
     ]
 
-or_true : (b : Bool) → (b || true) ≡ true
-or_true true = refl
-or_true false = refl
-
-itself : (v : List ℕ) → bytes_eq v v ≡ true
-itself v = (bytes_eq-Decides v v).1 refl
-
 pub stands_there : (b c : List (List ℕ)) (v : List ℕ) → stands_in (b ++ v ∷ c) v ≡ true
-stands_there [] c v = ap (λ x. x || stands_in c v) (itself v)
-stands_there (u ∷ b) c v = ap (λ x. bytes_eq u v || x) (stands_there b c v) ∙ or_true (bytes_eq u v)
+stands_there [] c v = ap (λ x. x || stands_in c v) ((bytes_eq-Decides v v).1 refl)
+stands_there (u ∷ b) c v = ap (λ x. bytes_eq u v || x) (stands_there b c v) ∙ or-true (bytes_eq u v)
 
 -- the faults of one variant after others
 abbrev pub VariantHead : List EntryParts → Bool → ℕ → List (List ℕ) → List ℕ → ValidFaultKind → ℕ → Type 0
@@ -49,38 +188,19 @@ variant_tells R r here before v =
     (tells_unless (is_registered R kinds.Variant v) faults.UnknownVariant here)
     (tells_unless (r || not (stands_in before v)) faults.DuplicateVariant here)
 
-head_upto : (R : List EntryParts) (r : Bool) (here : ℕ) (before : List (List ℕ)) (v : List ℕ) → Upto here (VariantHead R r here before v)
-head_upto R r here before v =
-    upto_or here (Single faults.UnknownVariant here (is_registered R kinds.Variant v ≡ false)) (Single faults.DuplicateVariant here ((r || not (stands_in before v)) ≡ false))
-    (single_upto faults.UnknownVariant here here (is_registered R kinds.Variant v ≡ false) (λ h. omega arith))
-    (single_upto faults.DuplicateVariant here here ((r || not (stands_in before v)) ≡ false) (λ h. omega arith))
-
 head_here : (R : List EntryParts) (r : Bool) (here : ℕ) (before : List (List ℕ)) (v : List ℕ) (k : ValidFaultKind) (p : ℕ) → VariantHead R r here before v k p → p ≡ here
 head_here R r here before v k p (inl h) = h.placed
 head_here R r here before v k p (inr h) = h.placed
 
--- the places of the faults of variants
-pub variants_from : (R : List EntryParts) (r : Bool) (here : ℕ) (before vs : List (List ℕ)) (k : ValidFaultKind) (p : ℕ) → VariantFault R r here before vs k p → here ≤ p
-unfolding VariantFault
-variants_from R r here before [] k p h = absurd h
-variants_from R r here before (v ∷ after) k p (inl h) = let e = head_here R r here before v k p h in omega arith
-variants_from R r here before (v ∷ after) k p (inr h) = let l = variants_from R r (here + 1) (before ++ v ∷ []) after k p h in omega arith
-
-pub variants_to : (R : List EntryParts) (r : Bool) (here : ℕ) (before vs : List (List ℕ)) (k : ValidFaultKind) (p : ℕ) → VariantFault R r here before vs k p → p < here + length vs
-unfolding VariantFault
-variants_to R r here before [] k p h = absurd h
-variants_to R r here before (v ∷ after) k p (inl h) = let e = head_here R r here before v k p h in omega arith
-variants_to R r here before (v ∷ after) k p (inr h) = let l = variants_to R r (here + 1) (before ++ v ∷ []) after k p h in omega arith
-
--- the check of variants tells the first of their faults
-pub variants_tell : (R : List EntryParts) (r : Bool) (here : ℕ) (before vs : List (List ℕ)) → Tells (VariantFault R r here before vs) (variants_check R r here before vs)
+-- the check of variants tells the first of their faults, which are at their places
+pub variants_part : (R : List EntryParts) (r : Bool) (m : ℕ) (before vs : List (List ℕ)) → Part m (m + length vs) (VariantFault R r (m + 1) before vs) (variants_check R r (m + 1) before vs)
 unfolding VariantFault variants_check
-variants_tell R r here before [] = λ k p h. absurd h
-variants_tell R r here before (v ∷ after) =
-    tells_and (VariantHead R r here before v) (VariantFault R r (here + 1) (before ++ v ∷ []) after) (variant_check R r here before v) (variants_check R r (here + 1) (before ++ v ∷ []) after)
-    (precede_by (VariantHead R r here before v) (VariantFault R r (here + 1) (before ++ v ∷ []) after) here (head_upto R r here before v)
-    (λ k p h. let l = variants_from R r (here + 1) (before ++ v ∷ []) after k p h in omega arith))
-    (variant_tells R r here before v) (variants_tell R r (here + 1) (before ++ v ∷ []) after)
+variants_part R r m before [] = part_none m (m + 0) (VariantFault R r (m + 1) before []) (λ k p h. h)
+variants_part R r m before (v ∷ after) =
+    part_then {m = m + 1} {F = VariantHead R r (m + 1) before v}
+    (record { past = λ k p h. omega (arith, head_here R r (m + 1) before v k p h); upto = λ k p h. omega (arith, head_here R r (m + 1) before v k p h); tells = variant_tells R r (m + 1) before v })
+    (subst (λ n. Part (m + 1) n (VariantFault R r (m + 1 + 1) (before ++ v ∷ []) after) (variants_check R r (m + 1 + 1) (before ++ v ∷ []) after)) (omega arith) (variants_part R r (m + 1) (before ++ v ∷ []) after))
+    (omega arith) (omega arith) (omega arith)
 
 -- a variant that is not registered
 pub record IsUnknownAt (R : List EntryParts) (here : ℕ) (vs : List (List ℕ)) (p : ℕ) : Type 0 where
@@ -101,21 +221,12 @@ pub record IsRepeatedAt (here : ℕ) (before vs : List (List ℕ)) (p : ℕ) : T
   pub cause : stands_in (before ++ front) variant ≡ true
 
 repeats : (r b : Bool) → (r || not b) ≡ false → (r ≡ false) × (b ≡ true)
-repeats true b h = cc
 repeats false true h = (refl, refl)
-repeats false false h = cc
+repeats _ _ h = cc
 
 repeated : (r b : Bool) → r ≡ false → b ≡ true → (r || not b) ≡ false
-repeated true b h e = cc
 repeated false true h e = refl
-repeated false false h e = cc
-
-append_none : (xs : List (List ℕ)) → xs ++ [] ≡ xs
-append_none [] = refl
-append_none (x ∷ xs) = ap (λ ys. x ∷ ys) (append_none xs)
-
-shifted : (before front : List (List ℕ)) (v : List ℕ) → (before ++ v ∷ []) ++ front ≡ before ++ (v ∷ front)
-shifted before front v = append_assoc before (v ∷ []) front
+repeated _ _ h e = cc
 
 pub variants_shown : (R : List EntryParts) (r : Bool) (here : ℕ) (before vs : List (List ℕ)) (k : ValidFaultKind) (p : ℕ) → VariantFault R r here before vs k p → ((k ≡ faults.UnknownVariant) × IsUnknownAt R here vs p) ⊎ ((k ≡ faults.DuplicateVariant) × (r ≡ false) × IsRepeatedAt here before vs p)
 unfolding VariantFault
@@ -124,11 +235,11 @@ variants_shown R r here before (v ∷ after) k p (inl (inl h)) =
     inl (h.kinded, record { front = []; variant = v; after = after; there = refl; placed = omega (arith, h.placed); cause = h.cause })
 variants_shown R r here before (v ∷ after) k p (inl (inr h)) =
     let both = repeats r (stands_in before v) h.cause in
-    inr (h.kinded, both.0, record { front = []; variant = v; after = after; there = refl; placed = omega (arith, h.placed); cause = ap (λ bs. stands_in bs v) (append_none before) ∙ both.1 })
+    inr (h.kinded, both.0, record { front = []; variant = v; after = after; there = refl; placed = omega (arith, h.placed); cause = ap (λ bs. stands_in bs v) (append-nil before) ∙ both.1 })
 variants_shown R r here before (v ∷ after) k p (inr h) =
     elim (variants_shown R r (here + 1) (before ++ v ∷ []) after k p h) [
       | inl u ↦ inl (u.0, record { front = v ∷ u.1.front; variant = u.1.variant; after = u.1.after; there = ap (λ ws. v ∷ ws) u.1.there; placed = omega (arith, u.1.placed); cause = u.1.cause })
-      | inr u ↦ inr (u.0, u.1, record { front = v ∷ u.2.front; variant = u.2.variant; after = u.2.after; there = ap (λ ws. v ∷ ws) u.2.there; placed = omega (arith, u.2.placed); cause = ap (λ bs. stands_in bs u.2.variant) (sym (shifted before u.2.front v)) ∙ u.2.cause })
+      | inr u ↦ inr (u.0, u.1, record { front = v ∷ u.2.front; variant = u.2.variant; after = u.2.after; there = ap (λ ws. v ∷ ws) u.2.there; placed = omega (arith, u.2.placed); cause = ap (λ bs. stands_in bs u.2.variant) (sym (append_assoc before (v ∷ []) u.2.front)) ∙ u.2.cause })
     ]
 
 pub unknown_hidden : (R : List EntryParts) (r : Bool) (here : ℕ) (before front : List (List ℕ)) (v : List ℕ) (after : List (List ℕ)) (p : ℕ) → p ≡ here + length front → is_registered R kinds.Variant v ≡ false → VariantFault R r here before (front ++ v ∷ after) faults.UnknownVariant p
@@ -139,6 +250,55 @@ unknown_hidden R r here before (u ∷ front) v after p e h = inr (unknown_hidden
 pub repeated_hidden : (R : List EntryParts) (r : Bool) (here : ℕ) (before front : List (List ℕ)) (v : List ℕ) (after : List (List ℕ)) (p : ℕ) → p ≡ here + length front → r ≡ false → stands_in (before ++ front) v ≡ true → VariantFault R r here before (front ++ v ∷ after) faults.DuplicateVariant p
 unfolding VariantFault
 repeated_hidden R r here before [] v after p e f h =
-    inl (inr (record { kinded = refl; placed = omega (arith, e); cause = repeated r (stands_in before v) f (ap (λ bs. stands_in bs v) (sym (append_none before)) ∙ h) }))
+    inl (inr (record { kinded = refl; placed = omega (arith, e); cause = repeated r (stands_in before v) f (ap (λ bs. stands_in bs v) (sym (append-nil before)) ∙ h) }))
 repeated_hidden R r here before (u ∷ front) v after p e f h =
-    inr (repeated_hidden R r (here + 1) (before ++ u ∷ []) front v after p (omega (arith, e)) f (ap (λ bs. stands_in bs v) (shifted before front u) ∙ h))
+    inr (repeated_hidden R r (here + 1) (before ++ u ∷ []) front v after p (omega (arith, e)) f (ap (λ bs. stands_in bs v) (append_assoc before (u ∷ []) front) ∙ h))
+
+-- The check of a core step by step.
+
+-- the variants from an index on
+variants_turn : (R : List EntryParts) (r : Bool) (p : ℕ) (vs : List (List ℕ)) (i : ℕ) (v : List ℕ) (a : Check) → i < length vs → v ≡ get_or vs i v → variant_check R r p (take i vs) v ≡ a → variants_check R r p (take i vs) (drop i vs) ≡ and_then a (variants_check R r (p + 1) (take (i + 1) vs) (drop (i + 1) vs))
+unfolding variants_check
+variants_turn R r p vs i v a l e told =
+    ap (variants_check R r p (take i vs)) (drop_turn vs i v l e)
+    ∙ ap (λ xs. and_then (variant_check R r p (take i vs) v) (variants_check R r (p + 1) xs (drop (i + 1) vs))) (sym (take_turn vs i v l e))
+    ∙ ap (λ b. and_then b (variants_check R r (p + 1) (take (i + 1) vs) (drop (i + 1) vs))) told
+
+pub variants_on : (R : List EntryParts) (r : Bool) (p : ℕ) (vs : List (List ℕ)) (i : ℕ) (v : List ℕ) → i < length vs → v ≡ get_or vs i v → variant_check R r p (take i vs) v ≡ Ok tt → variants_check R r p (take i vs) (drop i vs) ≡ variants_check R r (p + 1) (take (i + 1) vs) (drop (i + 1) vs)
+variants_on R r p vs i v l e told = variants_turn R r p vs i v (Ok tt) l e told
+
+pub variants_stop : (R : List EntryParts) (r : Bool) (p : ℕ) (vs : List (List ℕ)) (i : ℕ) (v : List ℕ) (fault : ValidFault) → i < length vs → v ≡ get_or vs i v → variant_check R r p (take i vs) v ≡ Err fault → variants_check R r p (take i vs) (drop i vs) ≡ Err fault
+variants_stop R r p vs i v fault l e told = variants_turn R r p vs i v (Err fault) l e told
+
+-- none is left
+pub variants_end : (R : List EntryParts) (r : Bool) (p : ℕ) (before vs : List (List ℕ)) (i : ℕ) → length vs ≤ i → variants_check R r p before (drop i vs) ≡ Ok tt
+unfolding variants_check
+variants_end R r p before vs i l = ap (variants_check R r p before) (drop_all i vs l)
+
+-- where none stands before, it doesn't matter whether they may repeat
+
+unlike : (v w : List ℕ) (b : Bool) → bytes_eq v w ≡ b → w ≢ v → b ≡ false
+unlike v w true e d = absurd (d (sym ((bytes_eq-Decides v w).0 e)))
+unlike v w false e d = refl
+
+next_before : (before : List (List ℕ)) (v : List ℕ) (after : List (List ℕ)) → AllByRecursion (λ w. w ≢ v) after → AllByRecursion (λ w. stands_in before w ≡ false) after → AllByRecursion (λ w. stands_in (before ++ v ∷ []) w ≡ false) after
+next_before before v [] d n = tt
+next_before before v (w ∷ after) d n =
+    (list_any-append (λ u. bytes_eq u w) before (v ∷ []) ∙ ap (λ b. b || stands_in (v ∷ []) w) n.0 ∙ ap (λ b. b || false) (unlike v w (bytes_eq v w) refl d.0), next_before before v after d.1 n.1)
+
+differing_after : (R : List EntryParts) (p : ℕ) (before vs : List (List ℕ)) → Distinct vs → AllByRecursion (λ v. stands_in before v ≡ false) vs → variants_check R true p before vs ≡ variants_check R false p before vs
+unfolding variants_check
+differing_after R p before [] d n = refl
+differing_after R p before (v ∷ after) d n =
+    ap (and_then (variant_check R true p before v)) (differing_after R (p + 1) (before ++ v ∷ []) after d.1 (next_before before v after d.0 n.1))
+    ∙ ap (λ b. and_then (and_then (unless (is_registered R kinds.Variant v) faults.UnknownVariant p) (unless (not b) faults.DuplicateVariant p)) (variants_check R false (p + 1) (before ++ v ∷ []) after)) (sym n.0)
+
+none_at_first : (vs : List (List ℕ)) → AllByRecursion (λ v. stands_in [] v ≡ false) vs
+none_at_first [] = tt
+none_at_first (v ∷ vs) = (refl, none_at_first vs)
+
+-- variants that differ may be taken for such as may repeat
+pub differing_pass : (R : List EntryParts) (r : Bool) (p : ℕ) (vs : List (List ℕ)) (d : Bool) → (d ≡ true → Distinct vs) → variants_check R (r || d) p [] vs ≡ variants_check R r p [] vs
+differing_pass R true p vs d h = refl
+differing_pass R false p vs true h = differing_after R p [] vs (h refl) (none_at_first vs)
+differing_pass R false p vs false h = refl

@@ -89,6 +89,7 @@ pub(crate) fn kind_of(text: &str) -> Option<Kind>
 }
 
 /// The bytes before the first two full stops, and those after them.
+#[tactic(auto, using(crate::proofs::RecordLaws::ends_found, crate::proofs::RecordLaws::ends_stay, crate::proofs::RecordLaws::ends_none, std::proofs::lemmas::List::take_rest))]
 pub(crate) fn ends_of(text: &[u8]) -> Option<(&[u8], &[u8])>
     ensures { MatchOption result (record_words.ends_of text.now ≡ None) (λ ends. record_words.ends_of text.now ≡ Some (ends.0.now, ends.1.now)) }
 {
@@ -117,6 +118,7 @@ fn hyphen(text: &[u8]) -> Option<usize>
 }
 
 /// The bytes before the first hyphen, and those after it, if there is one.
+#[tactic(auto, using(lt_tag::proofs::PiecesLemmas::pieces_cut, lt_tag::proofs::PiecesLemmas::pieces_one))]
 fn cut(text: &[u8]) -> (&[u8], Option<&[u8]>)
     ensures pieces { pieces text.now ≡ result.0.now ∷ pieces_left result.1 }
     ensures shorter { IfSome result.1 (λ rest. length rest.now < length text.now) }
@@ -128,6 +130,7 @@ fn cut(text: &[u8]) -> (&[u8], Option<&[u8]>)
 }
 
 /// The subtags of a Prefix, if it is a list of subtags.
+#[tactic(auto, using(crate::proofs::RecordLaws::piece_stays, crate::proofs::RecordLaws::piece_fails, crate::proofs::RecordLaws::piece_last, crate::proofs::RecordLaws::prefix_is))]
 pub(crate) fn read_prefix(alloc: Global, text: &[u8]) -> Result<Option<Prefix>, OutOfMemory>
     ensures { IfOk result (λ prefix. prefix ≡ record_words.prefix_of text.now) }
 {

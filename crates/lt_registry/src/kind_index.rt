@@ -71,6 +71,7 @@ impl KindIndex {
     }
 
     /// The place of the record of a number, which is looked for among those that begin alike.
+    #[tactic(auto, using(crate::proofs::SortedLemmas::none_listed, crate::proofs::SortedLemmas::none_alike, crate::proofs::SortedLemmas::part_rises, crate::proofs::SortedLemmas::place_alike))]
     fn place(&self, number: u64) -> Option<usize>
         requires rising { sorted.RowsRise self.now.singles.items }
         requires starts { sorted.AreStarts self.now.singles.items self.now.starts.items }
@@ -84,6 +85,7 @@ impl KindIndex {
     }
 
     /// The first range of the kind that holds a subtag.
+    #[tactic(auto, using(crate::proofs::SortedLemmas::range_found, crate::proofs::SortedLemmas::none_holds, crate::proofs::SortedLemmas::subtag_few))]
     fn range<'a>(&self, entries: &'a [Entry], subtag: &Subtag) -> Option<&'a Entry>
         requires index { sorted.IsKindIndex entries.now self.now }
         requires forms { All IsEntry entries.now }

@@ -16,16 +16,19 @@ pub fn valid_is_faultless()
 {}
 
 /// A tag is proper exactly if it has no fault but that variants repeat.
+#[tactic(auto, using(crate::proofs::ValidityLaws::proper_law))]
 pub fn proper_repeats_at_most()
     ensures { (R : List EntryParts) (t : TagForm) → IsTagValue t → IsProper R t ↔ RepeatsAtMost R t }
 {}
 
 /// One fault of a tag is reported.
+#[tactic(auto, using(crate::proofs::ValidityLaws::one_fault_law))]
 pub fn one_first_fault()
     ensures { (R : List EntryParts) (t : TagForm) (k l : ValidFaultKind) (p q : ℕ) → IsFirstFault R t k p → IsFirstFault R t l q → (k ≡ l) × (p ≡ q) }
 {}
 
 /// Records give one list of entries.
+#[tactic(auto, using(crate::proofs::RecordLaws::one_list))]
 pub fn one_list_of_entries()
     ensures { (records : List (List Field)) (a b : List EntryParts) → HasEntries records a → HasEntries records b → a ≡ b }
 {}

@@ -80,7 +80,7 @@ fn is_named(name: &EntryName, subtag: &Subtag) -> bool
     }
 }
 
-#[tactic(auto, using(crate::proofs::TagOrderLemmas::tags_equal))]
+#[tactic(auto, using(crate::proofs::SortedLemmas::tags_equal))]
 fn is_whole(name: &EntryName, tag: &Tag) -> bool
     ensures { result ≡ forms.is_whole tag.now name.now }
 {

@@ -15,6 +15,7 @@ pub(crate) fn is_alphabetic(subtag: &Subtag) -> bool
 }
 
 /// Whether the first is the other or is before it in letter order.
+#[tactic(auto, using(crate::proofs::OrderLemmas::letters_le_is))]
 pub(crate) fn is_up_to(first: &Subtag, other: &Subtag) -> bool
     ensures { result ≡ forms.letters_le first.now other.now }
 {

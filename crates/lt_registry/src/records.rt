@@ -163,6 +163,7 @@ fn is_range(kind: Kind, first: &Subtag, last: &Subtag) -> bool
         && is_up_to(first, last)
 }
 
+#[tactic(auto, using(crate::proofs::RecordLaws::text_told))]
 fn read_value(
     alloc: Global,
     kind: Kind,

@@ -30,7 +30,7 @@ pub(crate) fn number_of(subtag: &Subtag) -> u64
 }
 
 /// The rank of a subtag: its length, and after it its number. So subtags of one length are together, in their order.
-#[tactic(auto, using(crate::proofs::SubtagNumbers::subtag_short))]
+#[tactic(auto, using(crate::proofs::SortedLemmas::subtag_short))]
 pub(crate) fn rank_of(subtag: &Subtag) -> u128
     ensures value { result ≡ sorted.rank subtag.now }
     ensures small { result < 2 ^ 68 }
@@ -48,7 +48,7 @@ fn byte_at(bytes: &[u8], index: usize) -> u8
 }
 
 /// The bytes, and zeros up to eight.
-#[tactic(auto, using(crate::proofs::SubtagNumbers::filled_by_index))]
+#[tactic(auto, using(crate::proofs::SortedLemmas::filled_by_index))]
 fn filled(bytes: &[u8]) -> [u8; 8]
     requires { length bytes.now ≤ 8 }
     ensures { result ≡ sorted.filled bytes.now }
@@ -86,6 +86,7 @@ fn differ(numbers: &mut [u64]) -> bool
 }
 
 /// Whether a sort of their numbers shows that subtags differ. Of a few it is not asked, nor of more than 256.
+#[tactic(auto, using(crate::proofs::SortedLemmas::subtags_differ))]
 pub(crate) fn many_differ(subtags: &[Subtag]) -> bool
     ensures { result ≡ true → Distinct subtags.now }
 {

@@ -38,6 +38,7 @@ pub fn proper<L: Lookup>(alloc: Global, table: &L, tag: &Tag) -> Result<bool, Ou
     }
 }
 
+#[tactic(auto, using(crate::proofs::TagFaultLemmas::tag_core_first, crate::proofs::TagFaultLemmas::tag_extensions_told))]
 fn check_tag<L: Lookup>(
     alloc: Global,
     table: &L,
@@ -185,6 +186,7 @@ fn check_variants<L: Lookup>(
 }
 
 /// Checks each variant. Where none may repeat it is looked for among those before it.
+#[tactic(auto, using(crate::proofs::VariantFaultLemmas::variants_on, crate::proofs::VariantFaultLemmas::variants_stop, crate::proofs::VariantFaultLemmas::variants_end))]
 fn check_each_variant<L: Lookup>(
     table: &L,
     start: u32,

@@ -1,4 +1,4 @@
-use Rattle.std.proofs.Common.{◌≡◌, Some, true, sym, ap, ◌∙◌, subst}
+use Rattle.std.proofs.Common.{◌≡◌, Some, true, sym, ap, ◌∙◌, subst, arith}
 use Rattle.lt_registry.specs.Entries.{is_whole_kind}
 use Rattle.lt_registry.specs.Records.{body, name_field, HasNoTag, subtags_named}
 use Rattle.lt_registry.specs.RecordSteps.{IsTagOf}
@@ -6,9 +6,7 @@ use Rattle.lt_registry.proofs.RecordLaws.{name_told, field_of_tag}
 use Rattle.lt_registry.proofs.records.read_name.Goals as goal
 
 pub returns-then-not-is_whole_kind-clause-ok : goal.returns-then-not-is_whole_kind-clause-ok
-returns-then-not-is_whole_kind-clause-ok c =
-    let there : body (name_field c.args.kind) c.args.fields.now ≡ Some c.in-Some.text.now = ap (λ z. body z c.args.fields.now) (sym c.name_field.ensures) ∙ sym c.in-Some.ensures in
-    (name_told c.args.fields.now c.args.kind c.in-Some.text.now c.read_subtags.result (sym c.if-not-is_whole_kind.ensures) there (c.read_subtags.ensures ∙ ap (subtags_named c.args.kind) c.as_bytes.ensures.value)).0
+returns-then-not-is_whole_kind-clause-ok c = grind (arith, name_told)
 
 pub returns-then-not-is_whole_kind-clause-err : goal.returns-then-not-is_whole_kind-clause-err
 returns-then-not-is_whole_kind-clause-err c =

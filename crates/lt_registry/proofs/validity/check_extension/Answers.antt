@@ -1,7 +1,7 @@
 use Rattle.std.proofs.Common.{sym, ap, ◌∙◌, subst}
 use Rattle.std.proofs.lemmas.Result.{err_from_is_err_and}
 use Rattle.lt_registry.specs.Checking.{Tells}
-use Rattle.lt_registry.proofs.ExtensionFaultLemmas.{ExtensionFault, source_tells}
+use Rattle.lt_registry.proofs.CoreFaultLemmas.{ExtensionFault, source_tells}
 use Rattle.lt_registry.proofs.validity.check_extension.Goals as goal
 
 pub returns-in_err-check_source-in-Ok : goal.returns-in_err-check_source-in-Ok

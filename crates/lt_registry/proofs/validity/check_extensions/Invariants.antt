@@ -1,6 +1,6 @@
 use Rattle.std.proofs.Common.{◌≤◌, ◌+◌, ◌*◌}
-use Rattle.lt_registry.proofs.FirstLemmas.{SameFaults}
-use Rattle.lt_registry.proofs.ListFaultLemmas.{Whole, From}
+use Rattle.lt_registry.proofs.VariantFaultLemmas.{SameFaults}
+use Rattle.lt_registry.proofs.TagFaultLemmas.{Whole, From}
 use Rattle.lt_registry.proofs.validity.check_extensions.Given as goal
 
 -- what faults there are, are in the extensions that are left

@@ -1,6 +1,6 @@
 use Rattle.std.proofs.Common.{◌||◌, [], ap, ◌∙◌, sym}
 use Rattle.lt_registry.specs.Checking.{variants_check}
-use Rattle.lt_registry.proofs.CheckLemmas.{differing_pass}
+use Rattle.lt_registry.proofs.VariantFaultLemmas.{differing_pass}
 use Rattle.lt_registry.proofs.validity.check_variants.Goals as goal
 use Rattle.lt_registry.proofs.validity.check_variants.Goals.{then-may_repeat, else-may_repeat}
 

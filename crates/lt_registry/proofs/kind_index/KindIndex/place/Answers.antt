@@ -1,10 +1,8 @@
-use Rattle.std.proofs.Common.{◌≡◌, ◌+◌, length, get_or, ap, ◌∙◌, arith}
+use Rattle.std.proofs.Common.{◌≡◌, ◌+◌, get_or, ap, ◌∙◌}
 use Rattle.lt_registry.specs.Sorted.{beginning, place_of}
-use Rattle.lt_registry.proofs.SpanLemmas.{none_listed, none_alike, part_rises, place_alike}
+use Rattle.lt_registry.proofs.SortedLemmas.{none_alike, place_alike}
 use Rattle.lt_registry.proofs.kind_index.KindIndex.place.Goals as goal
 use Rattle.lt_registry.proofs.kind_index.KindIndex.place.Goals.{In_ok-start, In_ok-end, In_ok-alike}
-
--- what is read of the starts
 
 start_is : (c : In_ok-start) → c.in_ok-start.field-0.now ≡ get_or c.args.self.now.starts.items (beginning c.args.number) 0
 start_is c = c.in_ok-start.ensures.lookup.3.1 0 ∙ ap (λ zs. get_or zs c.beginning-beginning.result 0) c.deref.ensures.value ∙ ap (λ k. get_or c.args.self.now.starts.items k 0) c.beginning-beginning.ensures
@@ -12,28 +10,11 @@ start_is c = c.in_ok-start.ensures.lookup.3.1 0 ∙ ap (λ zs. get_or zs c.begin
 end_is : (c : In_ok-end) → c.in_ok-end.field-0.now ≡ get_or c.args.self.now.starts.items (beginning c.args.number + 1) 0
 end_is c = c.in_ok-end.ensures.lookup.3.1 0 ∙ ap (λ zs. get_or zs (c.beginning-beginning.result + 1) 0) c.deref-2.ensures.value ∙ ap (λ k. get_or c.args.self.now.starts.items (k + 1) 0) c.beginning-beginning.ensures
 
-pub returns-in_err-start : goal.returns-in_err-start
-returns-in_err-start c =
-    let self = c.args.self.now in
-    c.from_residual.ensures
-    ∙ none_listed self.singles.items self.starts.items c.args.number c.requires.starts (omega (arith, c.in_err-start.ensures.lookup.3, c.beginning-beginning.ensures, ap length c.deref.ensures.value))
-
-pub returns-in_err-end : goal.returns-in_err-end
-returns-in_err-end c =
-    let self = c.args.self.now in
-    c.from_residual-in_err-end.ensures
-    ∙ none_listed self.singles.items self.starts.items c.args.number c.requires.starts (omega (arith, c.in_err-end.ensures.lookup.3, c.beginning-beginning.ensures, ap length c.deref-2.ensures.value))
-
 pub returns-in_err-alike : goal.returns-in_err-alike
 returns-in_err-alike c =
     let self = c.args.self.now in
     let no = rw (start_is (goal.at.returns-in_err-alike c).In_ok-start, end_is (goal.at.returns-in_err-alike c).In_ok-end, c.deref-3.ensures.value) at c.in_err-alike.ensures.lookup.0 in
     c.from_residual-in_err-alike.ensures ∙ none_alike self.singles.items self.starts.items c.args.number c.requires.starts no
-
-pub place_of-requires : goal.place_of-requires
-place_of-requires c =
-    let is = rw c.deref-3.ensures.value at c.in_ok-alike.ensures.lookup.0 in
-    part_rises c.args.self.now.singles.items c.in_ok-alike.alike.now c.in_ok-start.field-0.now c.in_ok-end.field-0.now c.requires.rising is.0 is.1 is.2
 
 pub returns : goal.returns
 returns c =

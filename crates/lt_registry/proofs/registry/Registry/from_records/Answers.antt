@@ -1,10 +1,9 @@
 use Rattle.std.proofs.lemmas.Result.{err_from_is_err_and}
-use Rattle.lt_registry.proofs.RegistryLemmas.{made_none}
-use Rattle.lt_registry.proofs.DraftLemmas.{made_next, made_stops}
+use Rattle.lt_registry.proofs.RecordLaws.{made_none, made_next, made_stops}
 use Rattle.lt_registry.proofs.registry.Registry.from_records.Goals as goal
 
 pub loop-index-init : goal.loop-index-init
-loop-index-init c = rw c.new-entries.ensures.items (made_none c.args.records.now)
+loop-index-init c = made_none c.args.records.now c.new-entries.result.items c.new-entries.ensures.items
 
 pub returns-in_err-add_record-clause-err : goal.returns-in_err-add_record-clause-err
 returns-in_err-add_record-clause-err c =
