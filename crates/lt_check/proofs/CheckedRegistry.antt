@@ -1,6 +1,6 @@
 -- What a registry that passes the check says of the whole record behind a value.
-use Rattle.std.proofs.Common.{◌≡◌, ℕ, ◌⊎◌, inl, inr, true, List, Option, Some, None, refl, sym, ap, ◌∙◌, subst, All}
-use Rattle.std.specs.Option.{option_and_then}
+use Rattle.std.proofs.Common.{◌≡◌, ℕ, ◌⊎◌, inl, inr, true, List, Some, None, refl, sym, ap, ◌∙◌, subst, All, arith}
+use Rattle.std.proofs.lemmas.Option.{option_and_then_some}
 use Rattle.lt_tag.specs.Parts.{TagForm, Grandfathered}
 use Rattle.lt_registry.specs.Parts.{EntryParts}
 use Rattle.lt_registry.specs.Entries.{FitsName, IsEntry, is_whole_kind, is_whole, tag_of, whole, whole_value}
@@ -28,38 +28,33 @@ whole_name t (names.Single s) h = cc
 whole_name t (names.Range a b) h = cc
 whole_name t (names.Whole u) h = ap names.Whole (same_tag_is u t h)
 
-all_trivial : {A : Type 0} (xs : List A) → All (λ (a : A). Unit {0}) xs
-all_trivial xs = λ k d h. tt
-
 pub found_name : (R : List EntryParts) (t : TagForm) (e : EntryParts) → whole R t ≡ Some e → e.name ≡ names.Whole t
-found_name R t e h = whole_name t e.name (find_has (λ (e : EntryParts). Unit {0}) (λ (e : EntryParts). is_whole t e.name) R e (all_trivial R) h).1
-
-valued_at : (R : List EntryParts) (t u : TagForm) (o : Option EntryParts) → whole R t ≡ o → option_and_then (λ (e : EntryParts). tag_of e.value) o ≡ Some u → ValuedWhole R t u
-valued_at R t u None e q = cc
-valued_at R t u (Some f) e q = record { at = f; found = e; named = found_name R t f e; gives = q }
+found_name R t e h = whole_name t e.name (find_has (λ (e : EntryParts). Unit {0}) (λ (e : EntryParts). is_whole t e.name) R e (λ k d n. tt) h).1
 
 pub valued_whole : (R : List EntryParts) (t u : TagForm) → whole_value R t ≡ Some u → ValuedWhole R t u
-valued_whole R t u e = valued_at R t u (whole R t) refl e
+valued_whole R t u e =
+    option_and_then_some (λ (e : EntryParts). tag_of e.value) (whole R t) u e (λ f o g. record { at = f; found = o; named = found_name R t f o; gives = g })
 
 -- what each record has, that record has
 pub whole_has : (R : List EntryParts) (t u : TagForm) (P : EntryParts → Type 0) → All P R → (w : ValuedWhole R t u) → P w.at
 whole_has R t u P h w = (find_has P (λ (e : EntryParts). is_whole t e.name) R w.at h w.found).0
 
 -- where no record of the tag has a value, it has none
-none_at : (R : List EntryParts) (t : TagForm) → All (λ (e : EntryParts). e.name ≡ names.Whole t → tag_of e.value ≡ None) R → (o : Option EntryParts) → whole R t ≡ o → option_and_then (λ (e : EntryParts). tag_of e.value) o ≡ None
-none_at R t h None e = refl
-none_at R t h (Some f) e =
-    (find_has (λ (e : EntryParts). e.name ≡ names.Whole t → tag_of e.value ≡ None) (λ (e : EntryParts). is_whole t e.name) R f h e).0 (found_name R t f e)
-
 pub no_value : (R : List EntryParts) (t : TagForm) → All (λ (e : EntryParts). e.name ≡ names.Whole t → tag_of e.value ≡ None) R → whole_value R t ≡ None
-no_value R t h = none_at R t h (whole R t) refl
+no_value R t h =
+    let never : (u : TagForm) → whole_value R t ≡ Some u → ⊥ = λ u e. (
+    let w = valued_whole R t u e in
+    let none = whole_has R t u (λ (f : EntryParts). f.name ≡ names.Whole t → tag_of f.value ≡ None) h w w.named in
+    let some = w.gives in
+    cc) in
+    grind arith
 
 -- a whole tag with a value is grandfathered, or a valid langtag without extensions and private use
 pub record IsGrandfatheredTag (t : TagForm) : Type 0 where
   pub number : ℕ
   pub is : t ≡ Grandfathered number
 
-whole_kind : (k : Kind) → is_whole_kind k ≡ true → (k ≡ kinds.Grandfathered) ⊎ (k ≡ kinds.Redundant)
+pub whole_kind : (k : Kind) → is_whole_kind k ≡ true → (k ≡ kinds.Grandfathered) ⊎ (k ≡ kinds.Redundant)
 whole_kind kinds.Grandfathered h = inl refl
 whole_kind kinds.Redundant h = inr refl
 whole_kind _ h = cc
@@ -76,11 +71,10 @@ module _ (R : List EntryParts) (C : IsChecked R) where
       let w = valued_whole R t u e in
       let form : IsEntry w.at = whole_has R t u IsEntry C.registry.forms w in
       let fits = subst (λ n. FitsName w.at.kind n) w.named form.name in
-      by w (whole_kind w.at.kind fits.0)
-    where
-      by : (w : ValuedWhole R t u) → (w.at.kind ≡ kinds.Grandfathered) ⊎ (w.at.kind ≡ kinds.Redundant) → IsGrandfatheredTag t ⊎ IsValidCoreAlone R t
-      by w (inl k) =
-          let g = (whole_has R t u (HasFittingGrandfathered R) (grandfathered_fit R C) w).named k in
-          let same : names.Whole t ≡ names.Whole (Grandfathered g.0) = sym w.named ∙ g.1 in
-          inl (record { number = g.0; is = cc })
-      by w (inr k) = inr ((whole_has R t u (HasValidWhole R) (C.passes.valid_whole) w t u w.named w.gives).1 k)
+      elim (whole_kind w.at.kind fits.0) [
+        | inl k ↦ (
+            let g = (whole_has R t u (HasFittingGrandfathered R) (grandfathered_fit R C) w).named k in
+            let same : names.Whole t ≡ names.Whole (Grandfathered g.0) = sym w.named ∙ g.1 in
+            inl (record { number = g.0; is = cc }))
+        | inr k ↦ inr ((whole_has R t u (HasValidWhole R) (C.passes.valid_whole) w t u w.named w.gives).1 k)
+      ]

@@ -1,20 +1,23 @@
 -- What decides the conditions that speak of one subtag after another.
-use Rattle.std.proofs.Common.{◌≡◌, ◌↔◌, ◌⊎◌, inl, inr, ℕ, ◌+◌, ◌<◌, ◌≤◌, ◌==◌, Bool, true, false, List, [], ◌∷◌, length, Option, Some, sym, ap, ◌∙◌, subst, arith, IsTrue, All, bytes_eq}
+use Rattle.std.proofs.Common.{◌≡◌, ◌↔◌, ℕ, ◌<◌, ◌==◌, Bool, true, false, List, [], ◌∷◌, length, Option, Some, refl, sym, ap, ◌∙◌, subst, arith, IsTrue, All, bytes_eq}
 use Rattle.std.specs.Prelude.{slice_index_or}
-use Rattle.std.specs.List.{AllByRecursion, list_all}
-use Rattle.std.proofs.lemmas.List.Elements.{All-head, All-tail}
+use Rattle.std.specs.List.{list_all}
+use Rattle.std.proofs.lemmas.List.Elements.{All-from_recursion, recursion_from_All}
 use Rattle.std.proofs.lemmas.Slice.Eq.{bytes_eq-Decides}
 use Rattle.lt_tag.specs.PlainLangTags.{IsPlainLangTag}
 use Rattle.lt_registry.specs.Parts.{EntryParts}
 use Rattle.lt_registry.specs.Entries.{preferred_value, one_of, is_short}
 use Rattle.lt_registry.specs.declared.entries.Kind.TheVariants as kinds
 use Rattle.lt_rewrite.specs.CoreSteps.{EndsIn}
-use Rattle.lt_rewrite.specs.Conditions.{HasFinalPrefixes, HasLangtagPrefixes}
+use Rattle.lt_rewrite.specs.Conditions.{IsFinalLanguage, HasFinalPrefixes, HasLangtagPrefixes}
 use Rattle.lt_rewrite.proofs.Chains.{same_end}
-use Rattle.lt_check.specs.RecordChecks.{is_final_prefix, EndAlike}
+use Rattle.lt_check.specs.RecordChecks.{is_final, is_final_prefix, EndAlike}
 use Rattle.lt_check.proofs.Deciding.{Decides-each}
-use Rattle.lt_check.proofs.CoreTests.{OneFinal, Decides-one_final, LangtagPrefix}
-use Rattle.lt_check.proofs.FirstFaults.{any_default, each_at, below_or_not}
+use Rattle.std.specs.Bool.{Decides}
+use Rattle.std.proofs.lemmas.Bool.Decides.{Decides-like}
+use Rattle.lt_tag.specs.Parts.{CoreParts}
+use Rattle.lt_tag.specs.Spelling.{spell_core, IsCore}
+use Rattle.lt_tag.specs.WellFormed.{IsNotGrandfathered}
 
 -- a chain has one end
 pub one_end : (f : List ℕ → Option (List ℕ)) (s d e : List ℕ) → EndsIn f s d → EndsIn f s e → d ≡ e
@@ -28,35 +31,36 @@ ends_compared R s t d e b h k same =
       (λ a. same ∙ (bytes_eq-Decides d e).1 (one_end f s d a.0 h a.1 ∙ one_end f t a.0 e a.2 k)),
     )
 
+final_decided : (R : List EntryParts) (l : List ℕ) → Decides (is_final R l) (IsFinalLanguage R l)
+final_decided R l = ((λ h. record { registered = grind arith; final = grind arith }), (λ k. let r = k.registered in let n = k.final in grind arith))
+
+abbrev OneFinal : List EntryParts → List (List ℕ) → Type 0
+OneFinal R p = (l : List ℕ) × (p ≡ l ∷ []) × IsFinalLanguage R l
+
+one_final_decided : (R : List EntryParts) (p : List (List ℕ)) → Decides (is_final_prefix R p) (OneFinal R p)
+one_final_decided R (l ∷ []) =
+    Decides-like (is_final R l) (λ h. (l, refl, h)) (λ k. let a = k.1 in let e : k.0 ≡ l = cc in subst (IsFinalLanguage R) e k.2) (final_decided R l)
+one_final_decided R _ = ((λ h. cc), (λ k. let a = k.1 in cc))
+
 -- the Prefixes of a variant with a language value
 pub beside_compared : (R : List EntryParts) (e : EntryParts) (v : List ℕ) (b : Bool) → e.kind ≡ kinds.Variant → one_of e.value ≡ Some v → is_short v ≡ true → (length e.prefixes == 0) ≡ false → b ≡ list_all (is_final_prefix R) e.prefixes → IsTrue b ↔ HasFinalPrefixes R e
 beside_compared R e v b k o s n same =
-    let each = Decides-each (OneFinal R) (is_final_prefix R) (Decides-one_final R) e.prefixes in (
+    let each = Decides-each (OneFinal R) (is_final_prefix R) (one_final_decided R) e.prefixes in (
       (λ x _ _ _ _. ((λ none. let z : (length e.prefixes == 0) ≡ true = ap (λ (ps : List (List (List ℕ))). length ps == 0) none in cc), each.0 (sym same ∙ x))),
       (λ h. same ∙ each.1 (h k v o s).1),
     )
 
 -- the Prefixes of a variant
 
-each_from_all : {A : Type 0} (P Q : A → Type 0) → ((a : A) → P a → Q a) → (xs : List A) → All P xs → AllByRecursion Q xs
-each_from_all P Q f [] h = tt
-each_from_all P Q f (x ∷ xs) h = (f x (All-head P x xs h), each_from_all P Q f xs (All-tail P x xs h))
+abbrev LangtagPrefix : List (List ℕ) → Type 0
+LangtagPrefix p = (c : CoreParts) × IsCore c × (spell_core c ≡ p) × IsNotGrandfathered p
 
 pub langtags_compared : (R : List EntryParts) (e : EntryParts) (b : Bool) → e.kind ≡ kinds.Variant → IsTrue b ↔ All IsPlainLangTag e.prefixes → IsTrue b ↔ HasLangtagPrefixes R e
 langtags_compared R e b k h = (
-  (λ t _. each_from_all IsPlainLangTag LangtagPrefix (λ p l. (l.core, l.shaped, l.spelled, l.other)) e.prefixes (h.0 t)),
-  (λ all. h.1 (λ i d n. let l = each_at LangtagPrefix e.prefixes i d n (all k) in record { core = l.0; shaped = l.1; spelled = l.2; other = l.3 })),
+  (λ t _. recursion_from_All LangtagPrefix e.prefixes (λ i d n. let l = h.0 t i d n in (l.core, l.shaped, l.spelled, l.other))),
+  (λ all. h.1 (λ i d n. let l = All-from_recursion LangtagPrefix e.prefixes (all k) i d n in record { core = l.0; shaped = l.1; spelled = l.2; other = l.3 })),
 )
 
 -- the Prefixes before a place
 abbrev pub PlainBefore : List (List (List ℕ)) → ℕ → Type 0
 PlainBefore ps i = (k : ℕ) (d : List (List ℕ)) → k < i → IsPlainLangTag (slice_index_or ps k d)
-
-pub plain_more : (ps : List (List (List ℕ))) (i : ℕ) (p : List (List ℕ)) → i < length ps → p ≡ slice_index_or ps i p → PlainBefore ps i → IsPlainLangTag p → PlainBefore ps (i + 1)
-plain_more ps i p n is before plain k d m = by (below_or_not k i)
-  where
-    by : (k < i) ⊎ (i ≤ k) → IsPlainLangTag (slice_index_or ps k d)
-    by (inl l) = before k d l
-    by (inr g) =
-        let s : i ≡ k = omega (arith, m, g) in
-        subst IsPlainLangTag (is ∙ any_default ps i p d n ∙ ap (λ j. slice_index_or ps j d) s) plain

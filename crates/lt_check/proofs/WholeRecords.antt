@@ -1,31 +1,40 @@
 -- What holds of whole records where the conditions that are judged before hold of all records.
-use Rattle.std.proofs.Common.{◌≡◌, ℕ, zero, suc, ◌<◌, ◌⊎◌, inl, inr, Bool, true, false, cond, List, [], ◌∷◌, Option, Some, None, refl, sym, ap, ◌∙◌, subst, length, find, arith}
+use Rattle.std.proofs.Common.{◌≡◌, ◌<◌, inl, inr, List, Some, None, refl, sym, ap, ◌∙◌, subst, arith, ◌≢◌, ◌↔◌, Bool, true, false, not, IsTrue, IfOk, Bor, is_some, [], ◌∷◌, Option, Result, Ok, Err, is_ok, is_none, OnOk, IfErr, length}
 use Rattle.std.specs.Prelude.{Contains, slice_index_or}
-use Rattle.std.specs.List.{AllByRecursion}
-use Rattle.std.specs.Option.{option_and_then}
+use Rattle.std.specs.Option.{option_and_then, option_copied}
 use Rattle.std.proofs.lemmas.List.Elements.{All-contains, All-contains_itself}
 use Rattle.lt_tag.specs.Parts.{CoreParts, TagForm, Grandfathered}
 use Rattle.lt_tag.specs.Spelling.{spell_core, IsCore}
 use Rattle.lt_tag.specs.WellFormed.{IsNotGrandfathered}
 use Rattle.lt_registry.specs.Parts.{EntryParts}
-use Rattle.lt_registry.specs.Entries.{NumbersRise, IsEntry, FitsName, is_whole_kind, is_whole, whole, tag_of, whole_value, IsRegistry}
-use Rattle.lt_registry.specs.Validity.{IsProperCore, HasProperParts}
-use Rattle.lt_registry.specs.declared.entries.Kind.{Kind}
-use Rattle.lt_registry.specs.declared.entries.Kind.TheVariants as kinds
+use Rattle.lt_registry.specs.Entries.{IsEntry, FitsName, is_whole, tag_of, whole_value, IsRegistry}
+use Rattle.lt_registry.specs.Validity.{IsProperCore, HasProperParts, Distinct}
 use Rattle.lt_registry.specs.declared.entries.EntryName.TheVariants as names
 use Rattle.lt_rewrite.specs.Rewriting.{Star}
 use Rattle.lt_rewrite.specs.CoreSteps.{values_of, CoreStep, IsCoreNormalForm}
-use Rattle.lt_rewrite.specs.Conditions.{HasOwnName, HasFittingGrandfathered, MeetsCoreConditions}
+use Rattle.lt_rewrite.specs.Conditions.{HasFittingGrandfathered, MeetsCoreConditions}
 use Rattle.lt_rewrite.proofs.CoreLaws.{one_normal_form}
 use Rattle.lt_rewrite.proofs.Entries.{find_has}
 use Rattle.lt_rewrite.proofs.NormalForms.{star_keeps}
 use Rattle.lt_rewrite.proofs.ProperTags.{step_proper, proper_not_grandfathered}
-use Rattle.lt_check.specs.Conditions.{IsValidCoreAlone, HasValidWhole}
-use Rattle.lt_check.specs.WholeChecks.{MeetsBelow, HasNoValue}
+use Rattle.lt_check.specs.Conditions.{IsValidCoreAlone, HasValidWhole, HasAgreeingWhole}
+use Rattle.lt_check.specs.WholeChecks.{MeetsBelow, HasNoValue, ComesToRest, ComeTogether}
 use Rattle.lt_check.specs.declared.conditions.Condition.TheVariants as conditions
-use Rattle.lt_check.proofs.CheckedRegistry.{valued_whole, whole_has, found_name}
+use Rattle.lt_check.proofs.CheckedRegistry.{valued_whole, whole_has, found_name, whole_kind, no_value}
 use Rattle.lt_check.proofs.Deciding.{same_tag_itself}
-use Rattle.lt_tag.specs.Values.{core_alone}
+use Rattle.lt_check.proofs.FirstFaults.{one_numbered}
+use Rattle.lt_check.proofs.OwnNames.{least}
+use Rattle.std.proofs.lemmas.List.{get_or_default, length-append}
+use Rattle.lt_tag.specs.Values.{core_alone, IsTagValue, extensions_of}
+use Rattle.std.specs.Bool.{Decides}
+use Rattle.std.proofs.lemmas.Bool.Decides.{Decides-like}
+use Rattle.std.specs.Ordering.{eq_by_cmp}
+use Rattle.lt_tag.specs.Order.{core_cmp}
+use Rattle.lt_tag.specs.OrderLaws.{core_total, cores_apart, same_exactly}
+use Rattle.lt_registry.specs.Faults.{HasNoFault, HasTransform, IsRefusal}
+use Rattle.lt_registry.specs.declared.faults.ValidRefusal.{ValidRefusal}
+use Rattle.lt_registry.specs.declared.faults.ValidRefusal.TheVariants as refusals
+use Rattle.lt_registry.proofs.ValidityLaws.{valid_law}
 
 -- the first six conditions
 pub core_below : (R : List EntryParts) → MeetsBelow 10 R → MeetsCoreConditions R
@@ -55,24 +64,18 @@ pub value_proper : (R : List EntryParts) → MeetsBelow 10 R → (e : EntryParts
 value_proper R M e there t u n v c p =
     plain_proper R u c p (All-contains (HasValidWhole R) R e (M conditions.ValidWhole (omega arith)) there t u n v).0
 
-whole_kinds : (k : Kind) → is_whole_kind k ≡ true → (k ≡ kinds.Grandfathered) ⊎ (k ≡ kinds.Redundant)
-whole_kinds kinds.Grandfathered h = inl refl
-whole_kinds kinds.Redundant h = inr refl
-whole_kinds _ h = cc
-
 -- and so is its tag, where that is a langtag without extensions and private use
 pub tag_proper : (R : List EntryParts) → MeetsBelow 10 R → IsRegistry R → (e : EntryParts) → Contains R e → (t u : TagForm) → e.name ≡ names.Whole t → tag_of e.value ≡ Some u → (c : CoreParts) → t ≡ core_alone c → IsProperCore R c
 tag_proper R M I e there t u n v c p =
     let form : IsEntry e = All-contains IsEntry R e I.forms there in
     let fits = subst (λ m. FitsName e.kind m) n form.name in
-    by (whole_kinds e.kind fits.0)
-  where
-    by : (e.kind ≡ kinds.Grandfathered) ⊎ (e.kind ≡ kinds.Redundant) → IsProperCore R c
-    by (inl k) =
-        let g = (All-contains (HasFittingGrandfathered R) R e (M conditions.FittingGrandfathered (omega arith)) there).named k in
-        let same : names.Whole (core_alone c) ≡ names.Whole (Grandfathered g.0) = ap names.Whole (sym p) ∙ sym n ∙ g.1 in
-        absurd (cc)
-    by (inr k) = plain_proper R t c p ((All-contains (HasValidWhole R) R e (M conditions.ValidWhole (omega arith)) there t u n v).1 k)
+    elim (whole_kind e.kind fits.0) [
+      | inl k ↦ (
+          let g = (All-contains (HasFittingGrandfathered R) R e (M conditions.FittingGrandfathered (omega arith)) there).named k in
+          let same : names.Whole (core_alone c) ≡ names.Whole (Grandfathered g.0) = ap names.Whole (sym p) ∙ sym n ∙ g.1 in
+          absurd (cc))
+      | inr k ↦ plain_proper R t c p ((All-contains (HasValidWhole R) R e (M conditions.ValidWhole (omega arith)) there t u n v).1 k)
+    ]
 
 -- a value that is found is proper
 pub found_proper : (R : List EntryParts) → MeetsBelow 10 R → (t : TagForm) (q : CoreParts) → whole_value R t ≡ Some (core_alone q) → IsProperCore R q
@@ -80,45 +83,85 @@ found_proper R M t q e =
     let w = valued_whole R t (core_alone q) e in
     plain_proper R (core_alone q) q refl (whole_has R t (core_alone q) (HasValidWhole R) (M conditions.ValidWhole (omega arith)) w t (core_alone q) w.named w.gives).0
 
--- the first record that passes a test has the lowest number of all that pass
-
-pub above : (n : ℕ) (xs : List EntryParts) → AllByRecursion (λ (f : EntryParts). n < f.number) xs → (k : ℕ) (d : EntryParts) → k < length xs → n < (slice_index_or xs k d).number
-above n [] h k d lt = absurd (omega (arith, lt))
-above n (x ∷ xs) h zero d lt = h.0
-above n (x ∷ xs) h (suc k) d lt = above n xs h.1 k d (omega (arith, lt))
-
-first_found : (R : List EntryParts) (test : EntryParts → Bool) → NumbersRise R → (e : EntryParts) → find test R ≡ Some e → (k : ℕ) (d : EntryParts) → k < length R → test (slice_index_or R k d) ≡ true → (slice_index_or R k d ≡ e) ⊎ (e.number < (slice_index_or R k d).number)
-first_found [] test rise e q k d lt t = absurd (omega (arith, lt))
-first_found (x ∷ xs) test rise e q zero d lt t = inl (let h : Some x ≡ Some e = ap (λ b. cond b (Some x) (find test xs)) (sym t) ∙ q in cc)
-first_found (x ∷ xs) test rise e q (suc k) d lt t = by (λ r. first_found xs test rise.1 e r k d (omega (arith, lt)) t) (test x) q
-  where
-    by : (find test xs ≡ Some e → (slice_index_or xs k d ≡ e) ⊎ (e.number < (slice_index_or xs k d).number)) → (b : Bool) → cond b (Some x) (find test xs) ≡ Some e → (slice_index_or xs k d ≡ e) ⊎ (e.number < (slice_index_or xs k d).number)
-    by rest true r = let same : x ≡ e = cc in inr (subst (λ (y : EntryParts). y.number < (slice_index_or xs k d).number) same (above x.number xs rise.0 k d (omega (arith, lt))))
-    by rest false r = rest r
-
-none_found : (R : List EntryParts) (test : EntryParts → Bool) → find test R ≡ None → (k : ℕ) (d : EntryParts) → k < length R → test (slice_index_or R k d) ≡ true → ⊥
-none_found [] test q k d lt t = absurd (omega (arith, lt))
-none_found (x ∷ xs) test q zero d lt t = let h : Some x ≡ None = ap (λ b. cond b (Some x) (find test xs)) (sym t) ∙ q in cc
-none_found (x ∷ xs) test q (suc k) d lt t = by (λ r. none_found xs test r k d (omega (arith, lt)) t) (test x) q
-  where
-    by : (find test xs ≡ None → ⊥) → (b : Bool) → cond b (Some x) (find test xs) ≡ None → ⊥
-    by rest true r = cc
-    by rest false r = rest r
-
 -- where no value is found for a tag, no record of the tag has one
 pub none_has_value : (R : List EntryParts) → MeetsBelow 10 R → IsRegistry R → (t : TagForm) → whole_value R t ≡ None → HasNoValue R t
-none_has_value R M I t = by (whole R t) refl
-  where
-    is_t : (f : EntryParts) → f.name ≡ names.Whole t → is_whole t f.name ≡ true
-    is_t f n = ap (is_whole t) n ∙ same_tag_itself t
+none_has_value R M I t v k d lt n =
+    let g : EntryParts = slice_index_or R k d in
+    let at = get_or_default R k g d lt in
+    let l = least (λ (f : EntryParts). is_whole t f.name) R I.rising g k lt at (ap (is_whole t) n ∙ same_tag_itself t) in
+    let there = (find_has (Contains R) (λ (f : EntryParts). is_whole t f.name) R l.0 (All-contains_itself R) l.1).0 in
+    let own : l.0.number < g.number → ⊥ = λ low. M conditions.OwnName (omega arith) k d lt l.0 there low (inr (t, found_name R t l.0 l.1, n)) in
+    let same = one_numbered R I.rising l.0 g there (k, lt, at) (omega (arith, l.2, own)) in
+    let none : option_and_then (λ (e : EntryParts). tag_of e.value) (Some l.0) ≡ None = ap (option_and_then (λ (e : EntryParts). tag_of e.value)) (sym l.1) ∙ v in
+    ap (λ (e : EntryParts). tag_of e.value) (sym same) ∙ none
 
-    by : (o : Option EntryParts) → whole R t ≡ o → option_and_then (λ (e : EntryParts). tag_of e.value) o ≡ None → HasNoValue R t
-    by None w v k d lt n = absurd (none_found R (λ (e : EntryParts). is_whole t e.name) w k d lt (is_t (slice_index_or R k d) n))
-    by (Some e) w v k d lt n = at (first_found R (λ (e : EntryParts). is_whole t e.name) I.rising e w k d lt (is_t (slice_index_or R k d) n))
-      where
-        at : (slice_index_or R k d ≡ e) ⊎ (e.number < (slice_index_or R k d).number) → tag_of (slice_index_or R k d).value ≡ None
-        at (inl s) = ap (λ (x : EntryParts). tag_of x.value) s ∙ v
-        at (inr low) =
-            let there : Contains R e = (find_has (Contains R) (λ (e : EntryParts). is_whole t e.name) R e (All-contains_itself R) w).0 in
-            let own : HasOwnName R (slice_index_or R k d) = M conditions.OwnName (omega arith) k d lt in
-            absurd (own e there low (inr (t, found_name R t e w, n)))
+-- ---- what the calls on whole records find
+
+none_transforms : HasTransform [] → ⊥
+none_transforms h = omega (arith, ap length h.3, length-append h.0 (h.1 ∷ h.2))
+
+-- a langtag without extensions and private use is valid exactly if it is not refused
+pub plain_verdict : (R : List EntryParts) (t : TagForm) (c : CoreParts) → t ≡ core_alone c → IsTagValue t → (r : Result (Unit {0}) ValidRefusal) → OnOk r (HasNoFault R t) → IfErr r (IsRefusal R t) → Decides (is_ok r) (IsValidCoreAlone R t)
+plain_verdict R t c e V (Ok u) ok err = ((λ h. record { core = c; is = e; valid = (valid_law R t V).1 ok }), (λ k. refl))
+plain_verdict R t c e V (Err (refusals.Fault f)) ok err = ((λ h. cc), (λ k. absurd ((valid_law R t V).0 k.valid f.kind f.place err.there)))
+plain_verdict R t c e V (Err refusals.OutOfMemory) ok err = absurd (none_transforms (subst HasTransform (ap extensions_of e) err))
+
+-- a whole record whose value is not valid
+pub invalid_whole : (R : List EntryParts) (e : EntryParts) (t u : TagForm) → e.name ≡ names.Whole t → tag_of e.value ≡ Some u → (b : Bool) → Decides b (IsValidCoreAlone R u) → b ≡ false → Decides b (HasValidWhole R e)
+invalid_whole R e t u n v b d f = ((λ h. absurd (let k : true ≡ false = sym h ∙ f in cc)), (λ w. d.1 (w t u n v).0))
+
+-- a core whose core normal form repeats no variant comes to rest exactly if no value is found for that
+pub rest_verdict : (R : List EntryParts) → MeetsBelow 10 R → IsRegistry R → (c form : CoreParts) → IsCoreNormalForm (values_of R) c form → Distinct form.variants → (o : Option TagForm) → o ≡ whole_value R (core_alone form) → Decides (is_none o) (ComesToRest R c)
+rest_verdict R M I c form n D None w =
+    ((λ h d m. subst (λ (x : CoreParts). Distinct x.variants × HasNoValue R (core_alone x)) (one_form R M c form d n m) (D, none_has_value R M I (core_alone form) (sym w))), (λ k. refl))
+rest_verdict R M I c form n D (Some u) w =
+    ((λ h. cc), (λ k. let none : whole_value R (core_alone form) ≡ None = no_value R (core_alone form) (k form n).1 in absurd (let e : Some u ≡ None = w ∙ none in cc)))
+
+-- nothing behind a reference is nothing
+pub none_copied : {A : Type 0} (o : Option (Bor A)) (b : Bool) → is_some o ≡ not b → is_none (option_copied o) ≡ b
+none_copied o b e = grind arith
+
+pub same_verdict : (c d : CoreParts) (b : Bool) → b ≡ eq_by_cmp core_cmp c d → Decides b (c ≡ d)
+same_verdict = same_exactly core_total cores_apart
+
+pub differ : (c d : CoreParts) (b : Bool) → b ≡ eq_by_cmp core_cmp c d → b ≡ false → c ≢ d
+differ c d b e f k = let t : b ≡ true = (same_verdict c d b e).1 k in cc
+
+-- a core that is its own core normal form
+pub together_at_rest : (R : List EntryParts) → MeetsBelow 10 R → (c p form : CoreParts) → IsCoreNormalForm (values_of R) c form → form ≡ c → ComeTogether R c p
+together_at_rest R M c p form n e s d m moved k = absurd (moved (one_form R M c s form m n ∙ e))
+
+-- two cores of one core normal form
+pub together_at_once : (R : List EntryParts) → MeetsBelow 10 R → (c p form end : CoreParts) → IsCoreNormalForm (values_of R) c form → IsCoreNormalForm (values_of R) p end → form ≡ end → ComeTogether R c p
+together_at_once R M c p form end n k e s d m moved l = inl (one_form R M c s form m n ∙ e ∙ one_form R M p end d k l)
+
+module _ (R : List EntryParts) (M : MeetsBelow 10 R) (c p form end : CoreParts) (n : IsCoreNormalForm (values_of R) c form) (k : IsCoreNormalForm (values_of R) p end) (moved : form ≢ c) (apart : form ≢ end) where
+  -- the core normal form has a value, which has a core normal form
+  pub by_value : (q r : CoreParts) → whole_value R (core_alone form) ≡ Some (core_alone q) → IsCoreNormalForm (values_of R) q r → (b : Bool) → Decides b (r ≡ end) → Decides b (ComeTogether R c p)
+  by_value q r w m b d =
+      Decides-like b
+      (λ e s x a f y. inr (q, ap (λ (z : CoreParts). whole_value R (core_alone z)) (sym (one_form R M c form s n a)) ∙ w, subst (IsCoreNormalForm (values_of R) q) (e ∙ one_form R M p end x k y) m))
+      (λ t. elim (t form end n moved k) [
+        | inl e ↦ absurd (apart e)
+        | inr v ↦ (
+            let found : Some (core_alone q) ≡ Some (core_alone v.0) = sym w ∙ v.1 in
+            let same : q ≡ v.0 = cc in
+            one_form R M q r end m (subst (λ (z : CoreParts). IsCoreNormalForm (values_of R) z end) (sym same) v.2))
+      ])
+      d
+
+  -- it has none
+  pub without_value : ((q : CoreParts) → whole_value R (core_alone form) ≡ Some (core_alone q) → ⊥) → ComeTogether R c p → ⊥
+  without_value none t = elim (t form end n moved k) [ inl e ↦ apart e | inr v ↦ none v.0 v.1 ]
+
+-- a whole record whose tag and value are langtags without extensions and private use
+pub agreeing_verdict : {E : Type 0} (R : List EntryParts) (e : EntryParts) (t u : TagForm) (c p : CoreParts) → e.name ≡ names.Whole t → tag_of e.value ≡ Some u → t ≡ core_alone c → u ≡ core_alone p → (r : Result Bool E) → IfOk r (λ b. IsTrue b ↔ ComeTogether R c p) → IfOk r (λ b. IsTrue b ↔ HasAgreeingWhole R e)
+agreeing_verdict R e t u c p n v tc up (Err x) d = tt
+agreeing_verdict R e t u c p n v tc up (Ok b) d =
+    Decides-like b
+    (λ f x y m w a s z q xa yz k moved l.
+    let first : c ≡ a = cc in
+    let second : p ≡ z = cc in
+    (subst (λ (z : CoreParts). ComeTogether R a z) second (subst (λ (a : CoreParts). ComeTogether R a p) first f)) s q k moved l)
+    (λ h s q m moved k. h t u n v c s p q tc up m moved k)
+    d

@@ -33,9 +33,6 @@ letter_reads b h = eqb-true _ _ (agree_below_at (λ x. eqb (get_or LETTERS x 0) 
 pub letter_few : (b : ℕ) → letter b ≤ 26
 letter_few b = grind (arith, nat_tests)
 
-digit_few : (b : ℕ) → digit b ≤ 10
-digit_few b = grind (arith, nat_tests)
-
 letter_folded : (b : ℕ) → letter (to_ascii_lowercase b) ≡ letter b
 letter_folded b = grind (arith, nat_tests)
 
@@ -70,10 +67,6 @@ decode n =
     (cond (nat_lt n 552582) (kinds.Region, true, (n - 551853) / 27 ∷ (n - 551853) % 27 ∷ [])
     (kinds.Region, false, (n - 552582) / 121 ∷ (n - 552582) / 11 % 11 ∷ (n - 552582) % 11 ∷ []))))
 
-two : (x y : ℕ) → x ≤ 26 → y ≤ 26 → decode (x * 27 + y) ≡ (kinds.Language, true, x ∷ y ∷ [])
-unfolding decode
-two x y h k = grind (arith, nat_tests)
-
 three : (x y z : ℕ) → x ≤ 26 → y ≤ 26 → z ≤ 26 → decode (729 + (x * 27 + y) * 27 + z) ≡ (kinds.Language, true, x ∷ y ∷ z ∷ [])
 unfolding decode
 three x y z h k l = grind (arith, nat_tests)
@@ -81,14 +74,6 @@ three x y z h k l = grind (arith, nat_tests)
 four : (x y z w : ℕ) → x ≤ 26 → y ≤ 26 → z ≤ 26 → w ≤ 26 → decode (20412 + ((x * 27 + y) * 27 + z) * 27 + w) ≡ (kinds.Script, true, x ∷ y ∷ z ∷ w ∷ [])
 unfolding decode
 four x y z w h k l m = grind (arith, nat_tests)
-
-region : (x y : ℕ) → x ≤ 26 → y ≤ 26 → decode (551853 + x * 27 + y) ≡ (kinds.Region, true, x ∷ y ∷ [])
-unfolding decode
-region x y h k = grind (arith, nat_tests)
-
-digits : (x y z : ℕ) → x ≤ 10 → y ≤ 10 → z ≤ 10 → decode (552582 + (x * 11 + y) * 11 + z) ≡ (kinds.Region, false, x ∷ y ∷ z ∷ [])
-unfolding decode
-digits x y z h k l = grind (arith, nat_tests)
 
 -- what is known of a subtag that has a place
 data IsPlace (k : Kind) (s : List ℕ) (n : ℕ) : Type 0 where
@@ -103,22 +88,17 @@ unfolding is_numbered
 region_shaped s h = let p = region_is s h in grind (arith, nat_tests)
 
 is_place : (k : Kind) (s : List ℕ) → IfSome (place k s) (IsPlace k s)
-unfolding number is_numbered
+unfolding number is_numbered decode
 is_place kinds.Language (a ∷ b ∷ []) =
-    known true (two (letter a) (letter b) (letter_few a) (letter_few b)) (language_shaped _)
-    (rw (letter_folded a, letter_folded b) refl)
+    known true (grind (arith, nat_tests)) (language_shaped _) (grind (arith, letter_folded))
 is_place kinds.Language (a ∷ b ∷ c ∷ []) =
-    known true (three (letter a) (letter b) (letter c) (letter_few a) (letter_few b) (letter_few c)) (language_shaped _)
-    (rw (letter_folded a, letter_folded b, letter_folded c) refl)
+    known true (three (letter a) (letter b) (letter c) (letter_few a) (letter_few b) (letter_few c)) (language_shaped _) (grind (arith, letter_folded))
 is_place kinds.Script (a ∷ b ∷ c ∷ d ∷ []) =
-    known true (four (letter a) (letter b) (letter c) (letter d) (letter_few a) (letter_few b) (letter_few c) (letter_few d)) (λ h. (script_is _ h).0)
-    (rw (letter_folded a, letter_folded b, letter_folded c, letter_folded d) refl)
+    known true (four (letter a) (letter b) (letter c) (letter d) (letter_few a) (letter_few b) (letter_few c) (letter_few d)) (λ h. (script_is _ h).0) (grind (arith, letter_folded))
 is_place kinds.Region (a ∷ b ∷ []) =
-    known true (region (letter a) (letter b) (letter_few a) (letter_few b)) (region_shaped _)
-    (rw (letter_folded a, letter_folded b) refl)
+    known true (grind (arith, nat_tests)) (region_shaped _) (grind (arith, letter_folded))
 is_place kinds.Region (a ∷ b ∷ c ∷ []) =
-    known false (digits (digit a) (digit b) (digit c) (digit_few a) (digit_few b) (digit_few c)) (region_shaped _)
-    (rw (digit_folded a, digit_folded b, digit_folded c) refl)
+    known false (grind (arith, nat_tests)) (region_shaped _) (grind (arith, digit_folded))
 is_place _ _ = tt
 
 placed : (k : Kind) (s : List ℕ) (n : ℕ) → place k s ≡ Some n → IsPlace k s n

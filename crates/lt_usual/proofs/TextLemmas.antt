@@ -14,7 +14,7 @@ use Rattle.lt_usual.specs.Flags.{flag, AreFlags}
 use Rattle.lt_usual.specs.Shown.{lower, upper, after_if, after_language, nine_before, shown_two}
 use Rattle.lt_usual.specs.declared.texts.AfterLanguage.{AfterLanguage}
 use Rattle.lt_usual.specs.declared.texts.Shown.{Shown}
-use Rattle.std.specs.Char.{is_ascii_lowercase, is_ascii_digit, to_ascii_lowercase, to_ascii_uppercase}
+use Rattle.std.specs.Char.{is_ascii_lowercase, to_ascii_lowercase, to_ascii_uppercase}
 use Rattle.std.specs.List.{list_all, join_with_byte}
 use Rattle.std.proofs.lemmas.List.{append-nil, length-append, length-map, map-append}
 use Rattle.std.proofs.lemmas.Slice.Eq.{bytes_eq-Decides}
@@ -187,16 +187,13 @@ upper_is : (b : ℕ) → is_ascii_lowercase (to_ascii_lowercase b) ≡ true → 
 upper_is b h =
     eqb-true _ _ (rw h at (agree_below_at (λ x. not (is_ascii_lowercase (to_ascii_lowercase x)) || eqb (to_ascii_uppercase (to_ascii_lowercase x)) (upper x)) (λ _. true) 128 b refl (grind (arith, nat_tests))))
 
-digit_is : (b : ℕ) → is_ascii_digit (to_ascii_lowercase b) ≡ true → to_ascii_lowercase b ≡ b
-digit_is b h = grind (arith, nat_tests)
-
 lowered_is : (s : List ℕ) → is_alphabetic (folded s) ≡ true → lowered s ≡ folded s
 lowered_is [] h = refl
 lowered_is (b ∷ s) h = grind (arith, lower_is, lowered_is s)
 
 digits_are : (s : List ℕ) → is_numeric (folded s) ≡ true → folded s ≡ s
 digits_are [] h = refl
-digits_are (b ∷ s) h = grind (arith, digit_is, digits_are s)
+digits_are (b ∷ s) h = grind (arith, nat_tests, digits_are s)
 
 script_as : (s : List ℕ) → is_script (folded s) ≡ true → shown (folded s) ≡ titled s
 script_as s h = let p = script_is (folded s) h in grind (arith, upper_is, lowered_is)

@@ -1,4 +1,3 @@
-use Rattle.std.proofs.Common.{◌≡◌, true}
 use Rattle.lt_check.proofs.FirstFaults.{item_at, before_more, all_met, found_fault}
 use Rattle.lt_check.proofs.checking.first_failing.Goals as goal
 
@@ -8,9 +7,8 @@ returns-then-not-branch g c =
     let i = c.loop-entry.entry-index in
     let e = c.entry-item.result in
     let at = item_at c.entries-entry-items.result.now R i e c.entries-entry-items.ensures.value c.loop-entry-test.true c.entry-item.is in
-    let fails = c.if-not-branch.true in
     found_fault R c.entries-entry-items.ensures.rising c.args.condition i e c.number.result at c.number.ensures.value c.loop-entry.invariant
-    (λ met. let x : c.in_ok-meets.field-0 ≡ true = c.in_ok-meets.ensures.1 met in cc)
+    (λ met. cc (c.if-not-branch.true, c.in_ok-meets.ensures.1 met))
 
 pub loop-entry-preserved : goal.loop-entry-preserved
 loop-entry-preserved g c =

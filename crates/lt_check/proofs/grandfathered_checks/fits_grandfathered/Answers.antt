@@ -1,7 +1,7 @@
 use Rattle.std.proofs.Common.{ap, ◌∙◌}
 use Rattle.std.specs.List.{list_any}
 use Rattle.lt_check.specs.RegularTags.{is_number}
-use Rattle.lt_check.proofs.GrandfatheredVerdicts.{fits_verdict}
+use Rattle.lt_check.proofs.RegularLists.{fits_verdict}
 use Rattle.lt_check.proofs.grandfathered_checks.fits_grandfathered.Goals as goal
 
 pub returns-then-has_fitting_tag : goal.returns-then-has_fitting_tag

@@ -1,4 +1,4 @@
-use Rattle.std.proofs.Common.{◌≡◌, true}
+use Rattle.std.proofs.Common.{refl}
 use Rattle.lt_check.specs.declared.conditions.Condition.TheVariants as conditions
 use Rattle.lt_check.proofs.FirstFaults.{item_at, before_more, all_met, found_fault}
 use Rattle.lt_check.proofs.OwnNames.{new_own, seen_more}
@@ -11,9 +11,8 @@ returns-then-not-branch g c =
     let e = c.entry-item.result in
     let rising = c.entries-entry-items.ensures.rising in
     let at = item_at c.entries-entry-items.result.now R i e c.entries-entry-items.ensures.value c.loop-entry-test.true c.entry-item.is in
-    let old = c.if-not-branch.true in
     found_fault R rising conditions.OwnName i e c.number.result at c.number.ensures.value c.loop-entry.invariant.before
-    (λ own. let x : c.in_ok-is_new.field-0 ≡ true = c.in_ok-is_new.ensures.new.1 ((new_own R i e at rising c.loop-entry.seen c.loop-entry.invariant.seen).1 own) in cc)
+    (λ own. cc (c.if-not-branch.true, c.in_ok-is_new.ensures.new.1 ((new_own R i e at rising c.loop-entry.seen c.loop-entry.invariant.seen _ refl).1 own)))
 
 pub loop-entry-preserved : goal.loop-entry-preserved
 loop-entry-preserved g c =
@@ -23,7 +22,7 @@ loop-entry-preserved g c =
     let rising = c.entries-entry-items.ensures.rising in
     let at = item_at c.entries-entry-items.result.now R i e c.entries-entry-items.ensures.value c.loop-entry-test.true c.entry-item.is in
     record {
-      before = before_more R conditions.OwnName i e at c.loop-entry.invariant.before ((new_own R i e at rising c.loop-entry.seen c.loop-entry.invariant.seen).0 (c.in_ok-is_new.ensures.new.0 c.if-not-branch.false));
+      before = before_more R conditions.OwnName i e at c.loop-entry.invariant.before ((new_own R i e at rising c.loop-entry.seen c.loop-entry.invariant.seen _ refl).0 (c.in_ok-is_new.ensures.new.0 c.if-not-branch.false));
       seen = seen_more R i e at c.loop-entry.seen c.is_new.new.seen c.loop-entry.invariant.seen c.in_ok-is_new.ensures.seen;
     }
 

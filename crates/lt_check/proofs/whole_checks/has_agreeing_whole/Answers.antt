@@ -1,5 +1,4 @@
-use Rattle.lt_check.proofs.WholeRecords.{tag_proper, value_proper}
-use Rattle.lt_check.proofs.WholeVerdicts.{agreeing_verdict}
+use Rattle.lt_check.proofs.WholeRecords.{tag_proper, value_proper, agreeing_verdict}
 use Rattle.lt_check.proofs.whole_checks.has_agreeing_whole.Goals as goal
 
 pub come_together-requires-clause-first : goal.come_together-requires-clause-first

@@ -1,7 +1,6 @@
-use Rattle.lt_check.proofs.WholeVerdicts.{invalid_whole}
+use Rattle.lt_check.proofs.WholeRecords.{invalid_whole}
 use Rattle.lt_check.proofs.whole_checks.has_valid_whole.Goals as goal
 
 pub returns-else-is_valid_plain : goal.returns-else-is_valid_plain
 returns-else-is_valid_plain g c =
-    let R = g.L.Lookup.listed c.args.table.now in
-    invalid_whole R c.args.entry.now c.in-Some.tag.now c.in-Some.value.now c.in-Some.ensures.0 c.in-Some.ensures.1 c.is_valid_plain.result c.is_valid_plain.ensures c.if-is_valid_plain.false
+    invalid_whole (g.L.Lookup.listed c.args.table.now) c.args.entry.now c.in-Some.tag.now c.in-Some.value.now c.in-Some.ensures.0 c.in-Some.ensures.1 c.is_valid_plain.result c.is_valid_plain.ensures c.if-is_valid_plain.false

@@ -1,4 +1,4 @@
-use Rattle.std.proofs.Common.{◌≡◌, ◌++◌, ◌+◌, ℕ, List, length, take, refl, sym, ap, ◌∙◌}
+use Rattle.std.proofs.Common.{ℕ, refl, arith, sym, ◌∙◌}
 use Rattle.std.proofs.Math.Seq.{take-append-add}
 use Rattle.lt_usual.proofs.TextLemmas.{shown_cut, shown_stays, shown_cased, stays_shown}
 use Rattle.lt_usual.proofs.usual_subtags.UsualSubtags.append_text.Goals as goal
@@ -17,9 +17,7 @@ returns-clause-exact c = λ R flags.
 pub returns-clause-appended : goal.returns-clause-appended
 returns-clause-appended c = λ R flags told.
     let t = shown_cut c.args.self.now c.args.text.now c.in-Some.shown (sym c.shown.ensures.value ∙ c.in-Some.is) in
-    let old = c.args.texts.now.items in
-    let count = c.in-Some.shown.count in
-    let end : c.len.result + count ≡ length old + count = ap (λ n. n + count) (c.len.ensures ∙ c.args.texts.now.ok.0) in
-    c.truncate.ensures.items ∙ ap (take (c.len.result + count)) (c.in_ok-extend_from_slice.ensures {u = tt}).items
-    ∙ ap (λ n. take n (old ++ c.in-Some.shown.bytes)) end ∙ take-append-add old c.in-Some.shown.bytes count
-    ∙ ap (λ (m : List ℕ). old ++ m) (shown_cased R c.args.self.now flags c.args.text.now c.in-Some.shown t)
+    let cased = shown_cased R c.args.self.now flags c.args.text.now c.in-Some.shown t in
+    let added = (c.in_ok-extend_from_slice.ensures {u = tt}).items in
+    let long = c.args.texts.now.ok.0 in
+    grind (arith, take-append-add {A = ℕ})
