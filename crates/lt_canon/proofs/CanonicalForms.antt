@@ -1,42 +1,75 @@
--- From cores, extensions and values in their normal forms to the answer that is owed.
-use Rattle.std.proofs.Common.{◌≡◌, ℕ, ◌+◌, ◌<◌, ◌≤◌, inl, inr, false, is_some, List, [], ◌∷◌, Option, Some, None, Err, refl, sym, ap, ◌∙◌, subst, length, arith, IfErr}
-use Rattle.std.specs.List.{AllByRecursion}
+-- From cores, extensions and values in their normal forms to the answer that is owed; the extlang form of a canonical tag,
+-- which is valid and leads back to it; and langtags of a language, and a script and a region where there is one: what is
+-- valid, and what rests; and those whose subtags stay as they are, which are their own canonical forms.
+use Rattle.std.proofs.Common.{◌≡◌, ℕ, ◌+◌, ◌<◌, ◌≤◌, inl, inr, false, is_some, List, [], ◌∷◌, Option, Some, None, Err, refl, sym, ap, ◌∙◌, subst, length, arith, IfErr, Bool, true, ◌&&◌, ◌||◌, get_or, not, ◌++◌, Ok, IfSome, is_none, All}
+use Rattle.std.specs.List.{AllByRecursion, list_any}
 use Rattle.lt_tag.specs.Parts.{CoreParts, ExtensionParts, TForm, TagForm, LangTag, PrivateUse, Grandfathered}
-use Rattle.lt_tag.specs.Spelling.{spell_core}
+use Rattle.lt_tag.specs.Spelling.{spell_core, IsCore}
 use Rattle.lt_tag.specs.Extensions.{transform, IsTransform}
-use Rattle.lt_tag.specs.Values.{core_of, extensions_of, private_of, core_alone}
-use Rattle.lt_tag.specs.WellFormed.{IsNotGrandfathered}
+use Rattle.lt_registry.specs.Faults.{HasNoFault, HasFault, IsFirstOf, IsFirstFault, before_region}
+use Rattle.lt_tag.specs.Values.{IsTagValue, core_of, extensions_of, private_of, core_alone}
+use Rattle.lt_tag.specs.WellFormed.{IsNotGrandfathered, spell}
 use Rattle.lt_tag.proofs.TagLemmas.{AllByRecursion-weaker}
-use Rattle.std.specs.Prelude.{Result}
+use Rattle.std.specs.Prelude.{Result, is_some, unwrap_or}
 use Rattle.lt_registry.proofs.ValidityLaws.{valid_law}
 use Rattle.lt_registry.specs.Parts.{EntryParts}
-use Rattle.lt_registry.specs.Entries.{whole_value}
-use Rattle.lt_registry.specs.Validity.{IsProperExtension, HasDistinctSource, RepeatsNoVariant, IsProper, IsValid}
-use Rattle.lt_rewrite.specs.Rewriting.{IsNormalForm}
-use Rattle.lt_rewrite.specs.CoreSteps.{values_of, IsCoreNormalForm}
+use Rattle.lt_registry.specs.Entries.{whole_value, one_of, preferred_value, entry, prefixes, has_prefix, replacement, is_short, is_registered, is_whole, tag_of, whole}
+use Rattle.lt_registry.specs.Validity.{IsProperExtension, HasDistinctSource, RepeatsNoVariant, IsProper, IsValid, ExtlangsFit, IsProperCore}
+use Rattle.lt_rewrite.specs.Rewriting.{IsNormalForm, Rests, done}
+use Rattle.lt_rewrite.specs.CoreSteps.{values_of, IsCoreNormalForm, CoreStep, EndsIn}
 use Rattle.lt_rewrite.specs.Extensions.{ExtensionsStep}
-use Rattle.lt_rewrite.specs.TagSteps.{CanBeReplacedWhole}
-use Rattle.lt_rewrite.proofs.PartLists.{some_long}
+use Rattle.lt_rewrite.specs.TagSteps.{CanBeReplacedWhole, TagStep, IsReached, IsCanonical, on_core}
+use Rattle.lt_rewrite.proofs.PartLists.{some_long, empty_middle, if_some_is}
 use Rattle.lt_rewrite.proofs.NormalForms.{star_keeps, normal_is_form, rest_is_form}
 use Rattle.lt_check.specs.Conditions.{IsValidCoreAlone, IsChecked}
 use Rattle.lt_canon.specs.Answers.{IsCanonicalFormOf, IsRepeatOf, RefusesOnlyRepeats}
 use Rattle.lt_canon.specs.Settled.{IsCanonicalAnswer, IsDistinctForm, IsCoreRefusal, IsSecondInSources, IsSettledTag, IsSettledLangTag, IsSettledValue, IsReplacedWhole}
+use Rattle.lt_canon.specs.Equivalence.{IsSecondRefusal}
 use Rattle.lt_canon.specs.Refusals.{NamesFault, NamesRepeat, IsRefusedWith}
 use Rattle.lt_canon.specs.declared.refusals.Refusal.{Refusal}
 use Rattle.lt_canon.specs.declared.refusals.Refusal.TheVariants as refusals
 use Rattle.lt_canon.proofs.Distinctness.{second_repeats}
-use Rattle.lt_canon.proofs.EndForms.{star_proper}
-use Rattle.lt_rewrite.proofs.ProperTags.{proper_parts}
-use Rattle.lt_canon.proofs.TagForm.{core_spells_none, core_end, cores_formed, cores_reached, cores_proper, extensions_end, extensions_end_formed, parts_reached, resting, value_end, value_end_is, whole_end, whole_end_at, whole_kept_at, tag_end, end_form, extensions_step_to, none_rests, some_end}
-use Rattle.lt_canon.proofs.SourceRepeats.{source_repeats, named_source}
-use Rattle.lt_canon.proofs.TagRepeats.{end_canonical, lang_distinct, value_distinct}
-use Rattle.lt_tag.specs.Lists.{longest_text}
+use Rattle.lt_canon.proofs.EndForms.{star_proper, rest_is_end, reached_is_end}
+use Rattle.lt_rewrite.proofs.ProperTags.{proper_parts, proper_langtag}
+use Rattle.lt_canon.proofs.TagForm.{core_spells_none, core_end, cores_formed, cores_reached, cores_proper, extensions_end, extensions_end_formed, parts_reached, resting, value_end, value_end_is, whole_end, whole_end_at, whole_kept_at, tag_end, end_form, extensions_step_to, none_rests, some_end, step_of_change, lang_end, tag_reached}
+use Rattle.lt_canon.proofs.TagRepeats.{source_repeats, named_source, end_canonical, lang_distinct, value_distinct}
+use Rattle.lt_tag.specs.Lists.{longest_text, list_of}
+use Rattle.std.proofs.lemmas.Slice.Eq.{bytes_eq-Decides}
+use Rattle.std.proofs.lemmas.Bool.{and_from, leb-true, and_parts, not-true, false_from_ne_true, or_parts}
+use Rattle.std.proofs.lemmas.Option.{cond_some}
+use Rattle.std.specs.Option.{option_map_or, option_and_then, option_to_list}
+use Rattle.lt_subtag.specs.Shapes.{is_language, is_extlang}
+use Rattle.lt_registry.specs.declared.entries.Kind.TheVariants as kinds
+use Rattle.lt_rewrite.specs.Laws.{IsProperValue}
+use Rattle.lt_rewrite.proofs.Entries.{prefixes_at, find_has}
+use Rattle.lt_rewrite.proofs.Forms.{ExtlangEntry, extlang_entry, replacement_at}
+use Rattle.lt_rewrite.proofs.NameForms.{language_form, extlang_form as extlang_name_form}
+use Rattle.lt_rewrite.proofs.CoreLaws.{one_end_one_form, by_extlang, by_language, AtRest, rests}
+use Rattle.lt_canon.specs.ExtlangForm.{prefix_of, behind, extlang_form, IsExtlangFormOf}
+use Rattle.lt_canon.specs.ExtlangLaws.{ExtlangFormsLeadBack}
+use Rattle.lt_check.proofs.Checks.{core_conditions}
+use Rattle.std.proofs.Math.Bool.{and-true}
+use Rattle.std.proofs.lemmas.List.Folds.{list_any_at}
+use Rattle.lt_tag.specs.Conventional.{conventional}
+use Rattle.lt_tag.specs.Faults.{HasTag}
+use Rattle.lt_registry.specs.declared.entries.EntryValue.{EntryValue}
+use Rattle.lt_registry.specs.declared.entries.Kind.{Kind}
+use Rattle.lt_registry.specs.declared.faults.ValidFaultKind.{ValidFaultKind}
+use Rattle.lt_registry.specs.declared.faults.ValidFaultKind.TheVariants as faults
+use Rattle.lt_usual.specs.Staying.{has_no_value, names_plain_of, replaces_plain_of, stays, StaysAs, IsStaying}
+use Rattle.lt_usual.proofs.TextLemmas.{own_record}
+use Rattle.lt_check.proofs.CheckedRegistry.{found_name}
+use Rattle.lt_canon.specs.Texts.{AppendsCanonicalText}
+use Rattle.lt_canon.specs.UsualTags.{IsUsual, one_valued, part_valued, core_valued, Test, on_test}
+use Rattle.lt_registry.specs.Checking.{Check, Counted, and_then, unless, part_check, core_check, variants_check}
+use Rattle.lt_registry.specs.declared.faults.ValidFault.{ValidFault}
+use Rattle.lt_registry.proofs.CoreFaultLemmas.{core_tells}
+use Rattle.lt_registry.proofs.TagFaultLemmas.{tag_core_first}
 
 -- a tag by what its readers show
 pub langtag_of : (t : TagForm) (c : CoreParts) → core_of t ≡ Some c → t ≡ LangTag c (extensions_of t) (private_of t)
 langtag_of (LangTag d es ps) c h = let same : d ≡ c = cc in ap (λ x. LangTag x es ps) same
-langtag_of (PrivateUse ps) c h = cc
-langtag_of (Grandfathered n) c h = cc
+langtag_of _ c h = cc
 
 -- a tag without a core has no parts to settle
 pub coreless_settled : (R : List EntryParts) (t s : TagForm) → core_of t ≡ None → s ≡ t → IsSettledTag R t s
@@ -61,6 +94,10 @@ pub refused : (R : List EntryParts) (t : TagForm) (refusal : Refusal) → NamesF
 refused R t (refusals.Invalid fault) h k n = h
 refused R t (refusals.ReplacementRepeats v) h k n = record { valid = k.0; repeats = k.1; named = n }
 refused R t refusals.OutOfMemory h k n = tt
+
+-- the second tag's, where the first has a form
+pub second_refused : (R : List EntryParts) (t u c : TagForm) (refusal : Refusal) → IsCanonicalFormOf R t c → IsRefusedWith R u refusal → IsSecondRefusal R t u refusal
+second_refused R t u c refusal h k = record { first = c; first_form = h; refused = k }
 
 pub repeats_answered : (R : List EntryParts) (t : TagForm) (r : Result TagForm Refusal) → IsCanonicalAnswer R t r → IfErr r (RefusesOnlyRepeats R t)
 repeats_answered R t (Err (refusals.Invalid fault)) h = λ V. (valid_law R t V.proper.tag).0 V fault.kind fault.place h.there
@@ -114,9 +151,9 @@ module _ (R : List EntryParts) (C : IsChecked R) where
       whole_end_at R C s (Some v.value) v.has ∙ ap (value_end R C) v.settled.from ∙ ap core_alone (normal_is_form (cores_formed R C) v.settled.core v.settled.form v.settled.normal) ∙ sym v.settled.to
   replaced_end s r (inr y) h = whole_end_at R C s None (y.none h) ∙ sym y.same
 
-  stays : (s r : TagForm) → IsReplacedWhole R s r → (CanBeReplacedWhole s → ⊥) → s ≡ r
-  stays s r (inl v) n = absurd (n v.plain)
-  stays s r (inr y) n = sym y.same
+  unreplaced : (s r : TagForm) → IsReplacedWhole R s r → (CanBeReplacedWhole s → ⊥) → s ≡ r
+  unreplaced s r (inl v) n = absurd (n v.plain)
+  unreplaced s r (inr y) n = sym y.same
 
   -- a langtag whose core and extensions are in their normal forms
   parts_end : (c : CoreParts) (es : List ExtensionParts) (ps : List (List ℕ)) (s : TagForm) → IsSettledLangTag R c es ps s → s ≡ LangTag (core_end R C c) (extensions_end R C es) ps
@@ -128,11 +165,11 @@ module _ (R : List EntryParts) (C : IsChecked R) where
       ap (whole_end R C) (sym is) ∙ replaced_end s r w (rw is (refl, refl))
   settled_end (LangTag c [] (p ∷ ps)) s r k w =
       let is : s ≡ LangTag (core_end R C c) [] (p ∷ ps) = parts_end c [] (p ∷ ps) s k ∙ ap (λ es. LangTag (core_end R C c) es (p ∷ ps)) (rest_is_form (extensions_end_formed R C) [] (none_rests R)) in
-      sym is ∙ stays s r w (λ h. let plain : CanBeReplacedWhole (LangTag (core_end R C c) [] (p ∷ ps)) = rw is at h in let none = plain.1 in cc)
+      sym is ∙ unreplaced s r w (λ h. let plain : CanBeReplacedWhole (LangTag (core_end R C c) [] (p ∷ ps)) = rw is at h in let none = plain.1 in cc)
   settled_end (LangTag c (e ∷ es) ps) s r k w =
       let is = parts_end c (e ∷ es) ps s k in
-      sym is ∙ stays s r w (λ h. let plain : CanBeReplacedWhole (LangTag (core_end R C c) (extensions_end R C (e ∷ es)) ps) = rw is at h in some_end R C (e ∷ es) (λ j. cc) plain.0)
-  settled_end (PrivateUse ps) s r k w = sym k ∙ stays s r w (λ h. rw k at h)
+      sym is ∙ unreplaced s r w (λ h. let plain : CanBeReplacedWhole (LangTag (core_end R C c) (extensions_end R C (e ∷ es)) ps) = rw is at h in some_end R C (e ∷ es) (λ j. cc) plain.0)
+  settled_end (PrivateUse ps) s r k w = sym k ∙ unreplaced s r w (λ h. rw k at h)
   settled_end (Grandfathered n) s r k w = ap (whole_end R C) (sym k) ∙ replaced_end s r w (rw k tt)
 
   settled_distinct : (t s : TagForm) → IsSettledTag R t s → RepeatsNoVariant (tag_end R C t)
@@ -148,6 +185,264 @@ module _ (R : List EntryParts) (C : IsChecked R) where
   -- a langtag of more than a core
   pub langtag_canonical : (c d : CoreParts) (es fs : List ExtensionParts) (ps : List (List ℕ)) → IsValid R (LangTag c es ps) → IsDistinctForm R c d → IsNormalForm (ExtensionsStep R) es fs → AllByRecursion HasDistinctSource fs → 0 < length es + length ps → IsCanonicalFormOf R (LangTag c es ps) (LangTag d fs ps)
   langtag_canonical c d es fs ps V n m k h =
-      let some = form_some es fs ps m h in
       settled_canonical (LangTag c es ps) (LangTag d fs ps) (LangTag d fs ps) V (record { core = d; extensions = fs; is = refl; form = n; normal = m; distinct = k })
-      (inr (record { none = λ p. absurd (omega (arith, some, ap length p.0, ap length p.1)); same = refl }))
+      (inr (record { none = λ p. absurd (omega (arith, form_some es fs ps m h, ap length p.0, ap length p.1)); same = refl }))
+
+abbrev core : List ℕ → List (List ℕ) → Option (List ℕ) → Option (List ℕ) → List (List ℕ) → CoreParts
+core l xs sc re vs = record { language = l; extlangs = xs; script = sc; region = re; variants = vs }
+
+-- the one Prefix of a language as an extlang, where an extlang may be after it
+pub record IsFittingPrefix (R : List EntryParts) (l p : List ℕ) : Type 0 where
+  pub entry : ExtlangEntry R l
+  pub one : prefixes R kinds.Extlang l ≡ (p ∷ []) ∷ []
+  pub registered : is_registered R kinds.Language p ≡ true
+  pub prefix : is_language p ≡ true
+  pub short : length p ≤ 3
+  pub extlang : is_extlang l ≡ true
+
+module _ (R : List EntryParts) (C : IsChecked R) where
+  pub fitting_prefix : (l p : List ℕ) → prefix_of (prefixes R kinds.Extlang l) ≡ Some p → IsFittingPrefix R l p
+  fitting_prefix l p e = by (entry R kinds.Extlang l) refl
+    where
+      by : (o : Option EntryParts) → entry R kinds.Extlang l ≡ o → IsFittingPrefix R l p
+      by None h = let none : prefix_of (prefixes R kinds.Extlang l) ≡ None = ap (λ o. prefix_of (option_map_or (λ (e : EntryParts). e.prefixes) o [])) h in cc
+      by (Some at) h =
+          let x : ExtlangEntry R l = extlang_entry R (core_conditions R C.passes) l (ap is_some h) in
+          let found : prefixes R kinds.Extlang l ≡ (x.fits.prefix ∷ []) ∷ [] = prefixes_at R kinds.Extlang l x.at x.found ∙ x.fits.one_prefix in
+          let is = cond_some (is_short x.fits.prefix) x.fits.prefix p (sym (ap prefix_of found) ∙ e) in
+          record {
+            entry = x;
+            one = rw is.1 at found;
+            registered = rw is.1 at x.fits.final_prefix.registered;
+            prefix = rw is.1 at (language_form R C.registry x.fits.prefix x.fits.final_prefix.registered);
+            short = rw is.1 at (leb-true (length x.fits.prefix) 3 is.0);
+            extlang = extlang_name_form R C.registry l x;
+          }
+
+  -- a canonical langtag has no extlang
+  pub no_extlang : (d : CoreParts) (es : List ExtensionParts) (ps : List (List ℕ)) → IsProper R (LangTag d es ps) → Rests (TagStep R) (LangTag d es ps) → (xs : List (List ℕ)) → d.extlangs ≡ xs → xs ≡ []
+  no_extlang d es ps P h [] e = refl
+  no_extlang d es ps P h (x ∷ []) e =
+      let d' : CoreParts = core (replacement R x) [] d.script d.region d.variants in
+      let s : CoreStep (values_of R) d d' = by_extlang (values_of R) d x e in
+      absurd (h (LangTag d' es ps) (step_of_change R C (LangTag d es ps) (LangTag d' es ps) (on_core d d' es ps refl refl s) P))
+  no_extlang d es ps P h (x ∷ y ∷ r) e = absurd (subst (ExtlangsFit R d.language) e P.parts.core.extlangs)
+
+  front_proper : (d : CoreParts) (es : List ExtensionParts) (ps : List (List ℕ)) (p : List ℕ) → IsProper R (LangTag d es ps) → IsFittingPrefix R d.language p → IsProper R (LangTag (behind (Some p) d) es ps)
+  front_proper d es ps p P f =
+      let parts = proper_parts R d es ps P in
+      let shaped : IsCore (behind (Some p) d) = record {
+        language = f.prefix;
+        extlangs = and_from (is_extlang d.language) true f.extlang refl;
+        up_to_three = omega arith;
+        after_short = λ _. f.short;
+        script = parts.core.value.shaped.script;
+        region = parts.core.value.shaped.region;
+        variants = parts.core.value.shaped.variants;
+      } in
+      let proper : IsProperCore R (behind (Some p) d) = record {
+        language = f.registered;
+        extlangs = (ap is_some f.entry.found, ap (λ ps. has_prefix ps p) f.one ∙ ap (λ (b : Bool). (b && true) || false) ((bytes_eq-Decides p p).1 refl));
+        script = parts.core.proper.script;
+        region = parts.core.proper.region;
+        variants = parts.core.proper.variants;
+      } in
+      let value : IsProperValue R (behind (Some p) d) = record { value = record { shaped = shaped; variants = parts.core.value.variants }; proper = proper } in
+      proper_langtag R (behind (Some p) d) es ps (core_spells_none R C (behind (Some p) d) value) (record {
+        core = value;
+        values = parts.values;
+        count = parts.count;
+        private = parts.private;
+        private_count = parts.private_count;
+        extensions = parts.extensions;
+        singletons = parts.singletons;
+      })
+
+  front_end : (d : CoreParts) (p : List ℕ) → d.extlangs ≡ [] → IsFittingPrefix R d.language p → core_end R C (behind (Some p) d) ≡ core_end R C d
+  front_end d p none f =
+      let l : List ℕ = d.language in
+      let x = f.entry in
+      let at : List ℕ → CoreParts = λ u. core u [] d.script d.region d.variants in
+      let back : unwrap_or (one_of x.at.value) x.fits.subtag ≡ replacement R l = ap (unwrap_or (one_of x.at.value)) x.same ∙ sym (replacement_at R l x.at x.found) in
+      let Q : List ℕ → Type 0 = λ u. EndsIn (preferred_value R kinds.Language) u x.fits.end in
+      (cores_formed R C).kept (behind (Some p) d) (at (replacement R l)) (by_extlang (values_of R) (behind (Some p) d) l refl)
+      ∙ one_end_one_form R (core_conditions R C.passes) (preferred_value R kinds.Language) at (λ s t e. by_language (values_of R) (at s) t refl e)
+      (replacement R l) l x.fits.end (subst Q back x.fits.replacement_ends) (subst Q x.same x.fits.ends)
+      ∙ ap (λ xs. core_end R C (core l xs d.script d.region d.variants)) (sym none)
+
+  lead_back_at : (d : CoreParts) (es : List ExtensionParts) (ps : List (List ℕ)) → IsCanonical R (LangTag d es ps) → (o : Option (List ℕ)) → prefix_of (prefixes R kinds.Extlang d.language) ≡ o → IsValid R (LangTag (behind o d) es ps) × IsReached R (LangTag (behind o d) es ps) (LangTag d es ps)
+  lead_back_at d es ps K None h = (K.valid, done)
+  lead_back_at d es ps K (Some p) h =
+      let f = fitting_prefix d.language p h in
+      let Q = front_proper d es ps p K.valid.proper f in
+      let none : d.extlangs ≡ [] = no_extlang d es ps K.valid.proper K.at_rest d.extlangs refl in
+      let ends = ap (λ y. lang_end R C y es ps) (front_end d p none f) ∙ rest_is_end (end_form R C) (LangTag d es ps) K.valid.proper K.at_rest in
+      (record { proper = Q; distinct = K.valid.distinct }, rw ends at (tag_reached R C (LangTag (behind (Some p) d) es ps) Q))
+
+  pub forms_lead_back : ExtlangFormsLeadBack R
+  forms_lead_back (LangTag d es ps) K = let r = lead_back_at d es ps K (prefix_of (prefixes R kinds.Extlang d.language)) refl in record { valid = r.0; reached = r.1 }
+  forms_lead_back _ K = record { valid = K.valid; reached = done }
+
+-- a tag without a core is its own extlang form
+pub coreless_extlang : (R : List EntryParts) (c : TagForm) → core_of c ≡ None → c ≡ extlang_form R c
+coreless_extlang R (LangTag d es ps) h = cc
+coreless_extlang R _ h = refl
+
+-- that of a langtag, by the Prefix of its language
+pub extlang_form_is : (R : List EntryParts) (c : TagForm) (d : CoreParts) (o : Option (List ℕ)) → core_of c ≡ Some d → prefix_of (prefixes R kinds.Extlang d.language) ≡ o → extlang_form R c ≡ LangTag (behind o d) (extensions_of c) (private_of c)
+extlang_form_is R c d o h k = ap (extlang_form R) (langtag_of c d h) ∙ ap (λ x. LangTag (behind x d) (extensions_of c) (private_of c)) k
+
+-- a langtag whose language has no Prefix that can be in front is its own too
+pub prefixless_extlang : (R : List EntryParts) (c : TagForm) (d : CoreParts) → Some d ≡ core_of c → None ≡ prefix_of (prefixes R kinds.Extlang d.language) → c ≡ extlang_form R c
+prefixless_extlang R c d h k = langtag_of c d (sym h) ∙ sym (extlang_form_is R c d None (sym h) (sym k))
+
+module _ (R : List EntryParts) (C : IsChecked R) where
+  -- the extlang form of a canonical form
+  pub extlang_answer : (t c form : TagForm) → IsCanonicalFormOf R t c → form ≡ extlang_form R c → IsExtlangFormOf R t form
+  extlang_answer t c form h e =
+      let L = forms_lead_back R C c h.canonical in
+      let back : IsCanonicalFormOf R (extlang_form R c) c = end_canonical R C (extlang_form R c) c L.valid (reached_is_end (end_form R C) (extlang_form R c) c L.valid.proper L.reached h.canonical.at_rest) h.canonical.valid.distinct in
+      subst (IsExtlangFormOf R t) (sym e) (record { canonical = c; canonical_form = h; is = refl; valid = L.valid; back = back })
+
+  pub no_extlang_there : (c : TagForm) (d : CoreParts) → IsCanonical R c → core_of c ≡ Some d → d.extlangs ≡ []
+  no_extlang_there c d K h =
+      let e = langtag_of c d h in
+      no_extlang R C d (extensions_of c) (private_of c) (subst (IsProper R) e K.valid.proper) (subst (Rests (TagStep R)) e K.at_rest) d.extlangs refl
+
+  -- the Prefix in front spells no grandfathered tag
+  pub front_spells_none : (c : TagForm) (d : CoreParts) (p : List ℕ) → IsCanonical R c → core_of c ≡ Some d → prefix_of (prefixes R kinds.Extlang d.language) ≡ Some p → IsNotGrandfathered (spell_core (behind (Some p) d))
+  front_spells_none c d p K h k =
+      let P = subst (IsProper R) (extlang_form_is R c d (Some p) h k) (forms_lead_back R C c K).valid.proper in
+      core_spells_none R C (behind (Some p) d) (proper_parts R (behind (Some p) d) (extensions_of c) (private_of c) P).core
+
+-- a test tells what a check tells, and this, where it holds of nothing
+abbrev Told : Test → Check → Type 0 → Type 0
+Told (Ok holds) check Bare = (check ≡ Ok tt) × (holds ≡ false → Bare)
+Told (Err fault) check Bare = check ≡ Err fault
+
+one_told : (kind : ValidFaultKind) (place : ℕ) (o : Option EntryParts) → Told (one_valued kind place o) (unless (is_some o) kind place) (option_and_then (λ (e : EntryParts). one_of e.value) o ≡ None)
+one_told kind place (Some e) = (refl, none_of_test (one_of e.value) (one_of e.value) refl)
+one_told kind place None = refl
+
+part_told : (R : List EntryParts) (kind : Kind) (fault : ValidFaultKind) (place : ℕ) (o : Option (List ℕ)) → Told (part_valued R kind fault place o) (part_check R kind fault place o) (IfSome o (λ s. preferred_value R kind s ≡ None))
+part_told R kind fault place (Some s) = one_told fault place (entry R kind s)
+part_told R kind fault place None = (refl, λ _. tt)
+
+then_told : (a : Test) (f : Bool → Test) (k n : Check) (M N : Type 0) → Told a k M → ((b : Bool) → (b ≡ false → M) → Told (f b) n N) → Told (on_test a f) (and_then k n) N
+then_told (Ok b) f k n M N h g = subst (λ z. Told (f b) (and_then z n) N) (sym h.0) (g b h.1)
+then_told (Err fault) f k n M N h g = ap (λ z. and_then z n) h
+
+-- no subtag has a value
+record AreValueless (R : List EntryParts) (l : List ℕ) (sc re : Option (List ℕ)) : Type 0 where
+  language : preferred_value R kinds.Language l ≡ None
+  script : IfSome sc (λ s. preferred_value R kinds.Script s ≡ None)
+  region : IfSome re (λ s. preferred_value R kinds.Region s ≡ None)
+
+usual_told : (R : List EntryParts) (c : CoreParts) → IsUsual c → Told (core_valued R c) (core_check R false 0 c) (AreValueless R c.language c.script c.region)
+unfolding core_valued core_check variants_check
+usual_told R c u =
+    let before : 0 + before_region c + 1 ≡ 2 + length (option_to_list c.script) = omega (arith, ap length u.extlangs) in
+    rw (before, u.extlangs, u.variants) (
+    then_told _ _ (unless (is_some (entry R kinds.Language c.language)) faults.UnknownLanguage 1) _ _ (AreValueless R c.language c.script c.region) (one_told faults.UnknownLanguage 1 (entry R kinds.Language c.language)) (λ a l.
+    then_told _ _ (part_check R kinds.Script faults.UnknownScript 2 c.script) _ _ (AreValueless R c.language c.script c.region) (part_told R kinds.Script faults.UnknownScript 2 c.script) (λ b s.
+    then_told _ _ (part_check R kinds.Region faults.UnknownRegion (2 + length (option_to_list c.script)) c.region) _ _ (AreValueless R c.language c.script c.region) (part_told R kinds.Region faults.UnknownRegion (2 + length (option_to_list c.script)) c.region) (λ d r.
+    (refl, λ none. let p = or_parts (a || b) d none in let q = or_parts a b p.0 in record { language = l q.0; script = s q.1; region = r p.1 })))))
+
+module _ (R : List EntryParts) (t : TagForm) (c : CoreParts) (u : IsUsual c) (k : t ≡ core_alone c) where
+  -- a subtag that is not registered
+  pub usual_refused : (fault : ValidFault) → core_valued R c ≡ Err fault → IsFirstFault R t fault.kind fault.place
+  usual_refused fault h =
+      let first : IsFirstOf (Counted false (HasFault R t)) fault.kind fault.place = tag_core_first R false t c fault (sym (ap core_of k)) (rw h at (usual_told R c u)) in
+      record {
+        there = first.there.0;
+        leftmost = λ other place f. first.leftmost other place (f, λ e. cc);
+        earliest = λ other f. first.earliest other (f, λ e. cc);
+      }
+
+  no_fault : core_check R false 0 c ≡ Ok tt → HasNoFault R (core_alone c)
+  no_fault told kind place (inl f) = (rw told at (core_tells R false 0 c)) kind place (f, λ e. cc)
+  no_fault told kind place (inr (inl f)) = empty_middle f.before f.extension f.after (sym f.there)
+  no_fault told kind place (inr (inr f)) = empty_middle f.1.before f.1.first _ (sym f.1.there)
+
+  -- each subtag is registered
+  pub usual_valid : (b : Bool) → IsTagValue t → core_valued R c ≡ Ok b → IsValid R t
+  usual_valid b v h = (valid_law R t v).1 (rw k (no_fault (rw h at (usual_told R c u)).0))
+
+  -- none has a value, so its parts are in their normal forms
+  pub usual_settled : IsTagValue t → core_valued R c ≡ Ok false → IsSettledTag R t t
+  usual_settled v h =
+      let none = (rw h at (usual_told R c u)).1 refl in
+      let rest : AtRest (values_of R) c = record {
+        extlang = λ x e. let bad : [] ≡ x ∷ [] = sym u.extlangs ∙ e in cc;
+        language = λ _. none.language;
+        script = λ s e. if_some_is (λ s. preferred_value R kinds.Script s ≡ None) c.script s e none.script;
+        region = λ s e. if_some_is (λ s. preferred_value R kinds.Region s ≡ None) c.region s e none.region;
+        variant = rw u.variants tt;
+        variant_language = λ _. rw u.variants tt;
+      } in
+      let form : IsDistinctForm R c c = record { normal = record { reached = done; at_rest = λ d s. rests (values_of R) c d rest s }; distinct = (rw k at (usual_valid false v h)).distinct.0 } in
+      let settled : IsSettledTag R (core_alone c) t = record { core = c; extensions = []; is = k; form = form; normal = record { reached = done; at_rest = none_rests R }; distinct = tt } in
+      subst (λ a. IsSettledTag R a t) (sym k) settled
+
+-- ---- no subtag has a value
+
+valueless : (kind : ValidFaultKind) (place : ℕ) (e : EntryParts) (o : Option EntryValue) → e.value ≡ o → is_none o ≡ true → one_valued kind place (Some e) ≡ Ok false
+valueless kind place e None h n = rw h refl
+valueless kind place e (Some v) h n = cc
+
+one_stays : (R : List EntryParts) (k : Kind) (s : List ℕ) (kind : ValidFaultKind) (place : ℕ) → stays R k s ≡ true → one_valued kind place (entry R k s) ≡ Ok false
+one_stays R k s kind place h =
+    let own = own_record R k s h in
+    rw own.found (valueless kind place own.entry own.entry.value refl own.valueless)
+
+part_stays : (R : List EntryParts) (k : Kind) (kind : ValidFaultKind) (place : ℕ) (o : Option (List ℕ)) → IfSome o (λ s. stays R k s ≡ true) → part_valued R k kind place o ≡ Ok false
+part_stays R k kind place None h = refl
+part_stays R k kind place (Some s) h = one_stays R k s kind place h
+
+module _ (R : List EntryParts) (text : List ℕ) (c : CoreParts) (stay : StaysAs R text c) where
+  usual : IsUsual c
+  usual = record { extlangs = stay.extlangs; variants = stay.variants }
+
+  valued : core_valued R c ≡ Ok false
+  unfolding core_valued
+  valued =
+      let l = one_stays R kinds.Language c.language faults.UnknownLanguage 1 stay.language in
+      let s = part_stays R kinds.Script faults.UnknownScript 2 c.script stay.script in
+      let r = part_stays R kinds.Region faults.UnknownRegion (2 + length (option_to_list c.script)) c.region stay.region in
+      rw (l, s, r) refl
+
+  value : IsTagValue (core_alone c)
+  value = record { tag = stay.read.tag; counts = (rw stay.variants (omega arith), omega arith, tt, omega arith) }
+
+  -- ---- no whole record replaces it
+
+  replaces_none : All (λ (e : EntryParts). replaces_plain_of c.language e ≡ false) R
+  replaces_none k d within =
+      let p = and_parts (has_no_value R kinds.Language c.language) (not (list_any (replaces_plain_of c.language) R)) stay.language in
+      false_from_ne_true (replaces_plain_of c.language (get_or R k d)) (λ h.
+      let both : true ≡ false = sym (list_any_at (replaces_plain_of c.language) R k d within h) ∙ not-true (list_any (replaces_plain_of c.language) R) p.1 in
+      cc)
+
+  no_value : (o : Option EntryParts) → whole R (core_alone c) ≡ o → option_and_then (λ (e : EntryParts). tag_of e.value) o ≡ None
+  no_value None h = refl
+  no_value (Some e) h =
+      let other = (find_has (λ (e : EntryParts). replaces_plain_of c.language e ≡ false) (λ (e : EntryParts). is_whole (core_alone c) e.name) R e replaces_none h).0 in
+      let plain : names_plain_of c.language e.name ≡ true = rw (found_name R (core_alone c) e h, stay.extlangs, stay.variants, (bytes_eq-Decides c.language c.language).1 refl) refl in
+      none_of_test (tag_of e.value) (tag_of e.value) refl (rw (plain, and-true) at other)
+
+  pub stays_canonical : IsChecked R → IsCanonicalFormOf R (core_alone c) (core_alone c)
+  stays_canonical C = settled_canonical R C (core_alone c) (core_alone c) (core_alone c) (usual_valid R (core_alone c) c usual refl false value valued) (usual_settled R (core_alone c) c usual refl value valued) (inr (record { none = λ _. no_value (whole R (core_alone c)) refl; same = refl }))
+
+-- a canonical text that was appended is that of the form that was given
+pub appended : (R : List EntryParts) (text : List ℕ) (tag form : TagForm) (old new : List ℕ) → HasTag text tag → IsCanonicalFormOf R tag form
+    → new ≡ old ++ conventional (spell form) → AppendsCanonicalText R text old new
+appended R text tag form old new read is grown = record {
+  canonical = conventional (spell form);
+  grown = grown;
+  is_canonical = record { tag = tag; read = read; form = form; is_form = is; written = refl };
+}
+
+-- its conventional text is its canonical text
+pub stays_appended : (R : List EntryParts) → IsChecked R → (text old new : List ℕ) → IsStaying R text → new ≡ old ++ conventional (list_of text) → AppendsCanonicalText R text old new
+stays_appended R C text old new stay grown =
+    appended R text (core_alone stay.0) (core_alone stay.0) old new stay.1.read (stays_canonical R text stay.0 stay.1 C) (grown ∙ ap (λ l. old ++ conventional l) (sym stay.1.read.spelled))

@@ -1,35 +1,290 @@
--- Runs on the parts of a tag, one after another, to where no step leads on: these explain its canonical form.
-use Rattle.std.proofs.Common.{◌≡◌, ℕ, ◌+◌, ◌<◌, true, false, is_some, inr, List, [], ◌∷◌, ◌++◌, Option, Some, None, refl, sym, ap, ◌∙◌, subst, length, arith}
-use Rattle.std.specs.Prelude.{MatchOption}
-use Rattle.std.specs.List.{AllByRecursion}
-use Rattle.lt_tag.specs.Parts.{CoreParts, ExtensionParts, TForm, TagForm, LangTag, PrivateUse, Grandfathered}
-use Rattle.lt_tag.specs.Spelling.{spell_core}
-use Rattle.lt_tag.specs.Extensions.{transform, IsTransform}
-use Rattle.lt_tag.specs.Values.{core_of, extensions_of, private_of, core_alone, number_of as tag_number}
+-- Traces one step after another, and their lines; and the runs on the parts of a tag that explain its canonical form.
+-- The first step on a part is the first on the tag, where none comes before it, and a tag has one explanation: the first
+-- of the steps that lead on is one alone.
+use Rattle.std.proofs.Common.{◌≡◌, ◌≢◌, ℕ, ◌+◌, ◌<◌, List, [], ◌∷◌, ◌++◌, refl, sym, ap, ◌∙◌, subst, length, take, drop, get_or, arith, ◌≤◌, append_assoc, inl, Bool, Ordering, inr, true, false, is_some, Option, Some, None}
+use Rattle.std.proofs.lemmas.List.{take_more, drop_more, take-append-drop, length-take-le, drop_all, append-nil}
+use Rattle.lt_tag.specs.Parts.{TagForm, CoreParts, ExtensionParts, TForm, LangTag, PrivateUse, Grandfathered}
 use Rattle.lt_registry.specs.Parts.{EntryParts}
-use Rattle.lt_registry.specs.Entries.{whole, whole_value, number_of}
-use Rattle.lt_registry.specs.Validity.{IsProper}
-use Rattle.lt_rewrite.specs.Rewriting.{Star, then, Rests, IsNormalForm}
-use Rattle.lt_rewrite.specs.CoreSteps.{values_of, CoreStep, IsCoreNormalForm}
-use Rattle.lt_rewrite.specs.Extensions.{ExtensionsStep}
-use Rattle.lt_rewrite.specs.TagSteps.{CanBeReplacedWhole, TagChange, on_core, on_extensions, on_whole, TagStep}
-use Rattle.lt_rewrite.specs.Labels.{step_at, core_label, extensions_label, tag_label, LeadsBy, IsTrace}
-use Rattle.lt_rewrite.specs.Applying.{CoreLeads, ExtensionsLeads}
-use Rattle.lt_rewrite.specs.Runs.{kind_rank, extension_rank, IsFirst, IsRun, NoneLeads, Adds, AddsOnCore, AddsOnExtensions}
-use Rattle.lt_rewrite.specs.declared.steps.Step.{Step}
-use Rattle.lt_rewrite.specs.declared.steps.StepKind.TheVariants as steps
+use Rattle.lt_registry.specs.Validity.{IsValid, IsProper}
+use Rattle.lt_registry.specs.Faults.{IsRefusal}
+use Rattle.lt_registry.proofs.ValidityLaws.{valid_law}
+use Rattle.lt_registry.specs.declared.faults.ValidRefusal.{ValidRefusal}
+use Rattle.lt_registry.specs.declared.faults.ValidRefusal.TheVariants as checks
+use Rattle.lt_rewrite.specs.Rewriting.{then, Rests, Star, IsNormalForm}
+use Rattle.lt_rewrite.specs.TagSteps.{IsReached, CanBeReplacedWhole, TagChange, on_core, on_extensions, on_whole, TagStep}
 use Rattle.lt_rewrite.proofs.Stars.{star_path}
+use Rattle.lt_canon.proofs.EndForms.{star_equivalent, reached_is_end}
+use Rattle.lt_rewrite.specs.Labels.{LeadsBy, IsTrace, core_label, list_label, extension_label, extensions_label, tag_label, step_at}
+use Rattle.lt_rewrite.specs.ApplyFaults.{IsApplyFault}
+use Rattle.lt_rewrite.specs.declared.steps.Step.{Step}
+use Rattle.lt_rewrite.specs.declared.apply_faults.ApplyFault.{ApplyFault}
+use Rattle.lt_rewrite.specs.declared.apply_faults.ApplyFault.TheVariants as apply_faults
+use Rattle.lt_rewrite.proofs.StepLaws.{steps_determined, core_rank, core_low, core_high}
+use Rattle.lt_canon.specs.TraceLaws.{TracesReachTheirEnd, TracesHaveOneEnd}
+use Rattle.lt_canon.specs.Traces.{IsValidTrace, IsMisstep, IsTraceFault, IsFollowFault, of_invalid, no_trace_memory}
+use Rattle.lt_canon.specs.declared.traces.TraceFault.{TraceFault}
+use Rattle.lt_canon.specs.declared.traces.TraceFault.TheVariants as faults
+use Rattle.lt_canon.specs.ExplanationTexts.{AppendsSteps, AreStepLines, step_line}
+use Rattle.std.proofs.lemmas.Bool.Decides.{nat_tests}
+use Rattle.lt_tag.specs.Spelling.{spell_core, spell_extension, spell_extensions}
+use Rattle.lt_tag.specs.Extensions.{spell_keyword, spell_field, transform, IsTransform}
+use Rattle.lt_rewrite.specs.CoreSteps.{values_of, CoreStep, IsCoreNormalForm}
+use Rattle.lt_rewrite.specs.Orderings.{ListStep, by_swap, by_drop}
+use Rattle.lt_rewrite.specs.Extensions.{on_attributes, on_keywords, on_types, on_source, on_fields, ExtensionStep, in_unicode, in_transform, ExtensionsStep, inside, among}
+use Rattle.lt_rewrite.specs.Applying.{CoreLeads, ExtensionsLeads}
+use Rattle.lt_rewrite.specs.Runs.{rank_of, kind_rank, extension_rank, IsNoLater, IsFirst, NoneLeads, IsRun, Adds, AddsOnCore, AddsOnExtensions}
+use Rattle.lt_rewrite.specs.declared.steps.StepKind.{StepKind}
+use Rattle.lt_rewrite.specs.declared.steps.StepKind.TheVariants as steps
+use Rattle.lt_check.specs.Conditions.{IsChecked}
+use Rattle.lt_canon.specs.Explaining.{rank_in, is_of_source, HasOneExplanation, IsExplanation, RestsOnCore, LeadsToRest}
+use Rattle.lt_canon.proofs.TagForm.{steps_keep, extensions_step_from, core_end, cores_formed, value_rests, end_form, lang_at_end, grandfathered_rests, private_rests, none_rests}
+use Rattle.lt_tag.specs.Splitting.{spell_source}
+use Rattle.std.specs.Prelude.{nat_le, if◌then◌else◌, MatchOption}
+use Rattle.lt_rewrite.specs.Laws.{AreOneStep}
+use Rattle.std.specs.List.{AllByRecursion}
+use Rattle.lt_tag.specs.Values.{core_of, extensions_of, private_of, core_alone, number_of as tag_number}
+use Rattle.lt_registry.specs.Entries.{whole, whole_value, number_of}
 use Rattle.lt_rewrite.proofs.NormalForms.{normal_is_form}
 use Rattle.lt_rewrite.proofs.FirstSteps.{adds_none, adds_more, adds_all, run_lift}
-use Rattle.lt_check.specs.Conditions.{IsChecked}
 use Rattle.lt_canon.specs.Answers.{IsCanonicalFormOf}
-use Rattle.lt_canon.specs.Explaining.{rank_in, IsExplanation, RestsOnCore, LeadsToRest}
 use Rattle.lt_check.proofs.CheckedRegistry.{value_plain}
-use Rattle.lt_canon.proofs.TagForm.{core_end, cores_formed, value_rests, extensions_step_from, end_form, lang_at_end, grandfathered_rests, private_rests, none_rests}
-use Rattle.lt_canon.proofs.EndForms.{reached_is_end}
 use Rattle.lt_canon.proofs.TagRepeats.{form_is_end}
 use Rattle.lt_canon.proofs.CanonicalForms.{langtag_of, transforms_have_parts, form_some}
-use Rattle.lt_canon.proofs.FirstTagSteps.{core_is_first, extensions_is_first}
+
+pub trace_determined : (R : List EntryParts) → TracesHaveOneEnd R
+trace_determined R t a b [] h k = sym h ∙ k
+trace_determined R t a b (step ∷ steps) h k =
+    trace_determined R h.0 a b steps h.2 (rw (steps_determined R t k.0 h.0 step step k.1 h.1 refl refl).result at k.2)
+
+trace_reached : (R : List EntryParts) (steps : List Step) (t end : TagForm) → IsTrace R t steps end → IsReached R t end
+trace_reached R [] t end h = star_path t end h
+trace_reached R (step ∷ steps) t end h = (then) h.1.0 (trace_reached R steps h.0 end h.2)
+
+pub traces_reach_their_end : (R : List EntryParts) → TracesReachTheirEnd R
+traces_reach_their_end R t end steps h = let r = trace_reached R steps t end h in (r, star_equivalent r)
+
+-- a trace, and one after it
+trace_append : (R : List EntryParts) (xs ys : List Step) (t u v : TagForm) → IsTrace R t xs u → IsTrace R u ys v → IsTrace R t (xs ++ ys) v
+trace_append R [] ys t u v h k = rw h k
+trace_append R (x ∷ xs) ys t u v h k = (h.0, h.1, trace_append R xs ys h.0 u v h.2 k)
+
+-- a trace cut in two
+trace_cut : (R : List EntryParts) (xs ys : List Step) (t v : TagForm) → IsTrace R t (xs ++ ys) v → (u : TagForm) × IsTrace R t xs u × IsTrace R u ys v
+trace_cut R [] ys t v h = (t, refl, h)
+trace_cut R (x ∷ xs) ys t v h = let rest = trace_cut R xs ys h.0 v h.2 in (rest.0, (h.0, h.1, rest.1), rest.2)
+
+-- a tag that is not found valid
+pub invalid_trace : (R : List EntryParts) (t end : TagForm) (steps : List Step) (refused : ValidRefusal) → IsRefusal R t refused → IsTraceFault R t steps end (of_invalid refused)
+invalid_trace R t end steps (checks.Fault fault) h = h
+invalid_trace R t end steps checks.OutOfMemory h = tt
+
+-- the step at an index does not lead on
+pub misstep_here : (R : List EntryParts) (t : TagForm) (steps : List Step) (i : ℕ) (default : Step) (here : TagForm) (fault : ApplyFault) → i < length steps → IsTrace R t (take i steps) here → IsApplyFault R here (get_or steps i default) fault → fault ≡ apply_faults.NoSuchStep → IsMisstep R t steps (i + 1)
+misstep_here R t steps i default here fault h led stuck e = record {
+  before = take i steps;
+  step = get_or steps i default;
+  after = drop (i + 1) steps;
+  there = sym (take-append-drop i steps) ∙ ap (λ xs. take i steps ++ xs) (drop_more steps i default h);
+  nth = ap (λ n. n + 1) (sym (length-take-le i steps (omega (arith, h))));
+  tag = here;
+  led = led;
+  stuck = subst (IsApplyFault R here (get_or steps i default)) e stuck;
+}
+
+-- the step at an index leads on
+pub trace_here : (R : List EntryParts) (t : TagForm) (steps : List Step) (i : ℕ) (default : Step) (here next : TagForm) → i < length steps → IsTrace R t (take i steps) here → LeadsBy R here (get_or steps i default) next → IsTrace R t (take (i + 1) steps) next
+trace_here R t steps i default here next h led on =
+    rw (take_more steps i default h) (trace_append R (take i steps) (get_or steps i default ∷ []) t here next led (next, on, refl))
+
+-- steps from a valid tag that lead to no end
+pub follow_fault : (R : List EntryParts) (t end : TagForm) (steps : List Step) (fault : TraceFault) → IsValid R t → IsFollowFault R t steps fault → IsTraceFault R t steps end fault
+follow_fault R t end steps (faults.Invalid fault) V h = absurd h
+follow_fault R t end steps (faults.NoSuchStep n) V h = (V, h)
+follow_fault R t end steps faults.WrongEnd V h = absurd h
+follow_fault R t end steps faults.OutOfMemory V h = tt
+
+-- where a fault is reported, there is no trace
+pub fault_excludes : (R : List EntryParts) (t end : TagForm) (steps : List Step) (fault : TraceFault) → IsTraceFault R t steps end fault → fault ≢ no_trace_memory → IsValidTrace R t steps end → ⊥
+fault_excludes R t end steps (faults.Invalid fault) h n v = (valid_law R t v.valid.proper.tag).0 v.valid fault.kind fault.place h.there
+fault_excludes R t end steps (faults.NoSuchStep k) h n v =
+    let m : IsMisstep R t steps k = h.1 in
+    let cut = trace_cut R m.before (m.step ∷ m.after) t end (rw m.there at v.trace) in
+    m.stuck cut.2.0 (rw (trace_determined R t cut.0 m.tag m.before cut.1 m.led) at cut.2.1)
+fault_excludes R t end steps faults.WrongEnd h n v = h.1.other (trace_determined R t h.1.tag end steps h.1.led v.trace)
+fault_excludes R t end steps faults.OutOfMemory h n v = n refl
+
+-- the rest of the trace leads on from here, and its lines complete those that were appended
+pub record LinesSoFar (R : List EntryParts) (t : TagForm) (steps : List Step) (end : TagForm) (old new : List ℕ) (i : ℕ) (here : TagForm) : Type 0 where
+  pub proper : IsProper R here
+  pub ahead : IsTrace R here (drop i steps) end
+  pub lines : List ℕ
+  pub grown : new ≡ old ++ lines
+  pub completes : (rest : List ℕ) → AreStepLines R (drop i steps) end here rest → AreStepLines R steps end t (lines ++ rest)
+
+-- a step led on, and its line was appended
+pub explaining_more : (R : List EntryParts) (t : TagForm) (steps : List Step) (end : TagForm) (old new more : List ℕ) (i : ℕ) (default : Step) (here next : TagForm) → i < length steps
+    → LinesSoFar R t steps end old new i here → LeadsBy R here (get_or steps i default) next → IsProper R next → more ≡ new ++ step_line (get_or steps i default) next
+    → LinesSoFar R t steps end old more (i + 1) next
+explaining_more R t steps end old new more i default here next h now on proper grown =
+    let step = get_or steps i default in
+    let ahead : IsTrace R here (step ∷ drop (i + 1) steps) end = rw (drop_more steps i default h) at now.ahead in
+    let same : ahead.0 ≡ next = (steps_determined R here ahead.0 next step step ahead.1 on refl refl).result in
+    record {
+      proper = proper;
+      ahead = rw same at ahead.2;
+      lines = now.lines ++ step_line step next;
+      grown = rw (grown, now.grown) (append_assoc old now.lines (step_line step next));
+      completes = λ rest printed. rw (append_assoc now.lines (step_line step next) rest)
+          (now.completes (step_line step next ++ rest) (rw (drop_more steps i default h) (record { after = next; leads = on; rest = rest; printed = printed; line_is = refl })));
+    }
+
+-- all steps led on
+pub explaining_done : (R : List EntryParts) (t : TagForm) (steps : List Step) (end : TagForm) (old new : List ℕ) (i : ℕ) (here : TagForm) → length steps ≤ i
+    → LinesSoFar R t steps end old new i here → AppendsSteps R t steps end old new
+explaining_done R t steps end old new i here h now =
+    let none : drop i steps ≡ [] = drop_all i steps h in
+    let there : IsTrace R here [] end = rw none at now.ahead in
+    record { lines = now.lines; grown = now.grown; are_steps = rw (append-nil now.lines) at (now.completes [] (rw none (there, refl))) }
+
+-- the step at an index leads on
+pub step_leads : (R : List EntryParts) (steps : List Step) (end : TagForm) (i : ℕ) (default : Step) (here : TagForm) (fault : ApplyFault) → i < length steps → IsTrace R here (drop i steps) end
+    → IsApplyFault R here (get_or steps i default) fault → fault ≡ apply_faults.NoSuchStep → ⊥
+step_leads R steps end i default here fault h trace stuck e =
+    let ahead : IsTrace R here (get_or steps i default ∷ drop (i + 1) steps) end = rw (drop_more steps i default h) at trace in
+    let none : IsApplyFault R here (get_or steps i default) apply_faults.NoSuchStep = rw e at stuck in
+    none ahead.0 ahead.1
+
+-- the ranks of steps
+
+-- a step on extensions that begin after this many subtags
+record IsBehind (start : ℕ) (step : Step) : Type 0 where
+  pub late : 8 ≤ extension_rank step
+  pub behind : kind_rank step ≤ 6 → start < step.place
+
+by_kind : (start : ℕ) (step : Step) → 8 ≤ kind_rank step → IsBehind start step
+by_kind start step h = record { late = grind (arith, nat_tests); behind = λ k. absurd (omega (arith, h, k)) }
+
+list_behind : {A : Type 0} {once : Bool} {cmp : A → A → Ordering} {xs ys : List A} (swap drop : StepKind) → 8 ≤ rank_of swap → 8 ≤ rank_of drop → (spell : A → List (List ℕ)) (start place : ℕ) (s : ListStep once cmp xs ys) → IsBehind start (list_label swap drop spell place s)
+list_behind swap drop h k spell start place (by_swap before a b after s) = by_kind start _ h
+list_behind swap drop h k spell start place (by_drop before a between b after o s) = by_kind start _ k
+
+extension_behind : (R : List EntryParts) (start place : ℕ) (e f : ExtensionParts) (s : ExtensionStep R e f) → start ≤ place → IsBehind start (extension_label R place s)
+extension_behind R start place e f (in_unicode p q _ _ _ _ (on_attributes s k)) h = list_behind steps.SwapAttributes steps.DropAttribute (omega arith) (omega arith) (λ a. a ∷ []) start place s
+extension_behind R start place e f (in_unicode p q _ _ _ _ (on_keywords a s)) h = list_behind steps.SwapKeywords steps.DropKeyword (omega arith) (omega arith) spell_keyword start (place + length p.attributes) s
+extension_behind R start place e f (in_unicode p q _ _ _ _ (on_types a before k after s)) h = by_kind start _ (omega arith)
+extension_behind R start place e f (in_transform p q _ _ _ _ (on_fields a s)) h = list_behind steps.SwapFields steps.SwapFields (omega arith) (omega arith) spell_field start (place + length (spell_source p.source)) s
+extension_behind R start place e f (in_transform p q _ _ _ _ (on_source c d _ _ s _)) h =
+    let r = core_rank R place c d s in
+    record { late = omega (arith, r.some, r.raised); behind = λ _. omega (arith, h, core_low R place c d s) }
+
+extensions_behind : (R : List EntryParts) (start : ℕ) (es fs : List ExtensionParts) (s : ExtensionsStep R es fs) → IsBehind start (extensions_label R start s)
+extensions_behind R start es fs (inside before e f after w s) = extension_behind R start (start + length (spell_extensions before) + 1) e f s (omega arith)
+extensions_behind R start es fs (among s) = list_behind steps.SwapExtensions steps.SwapExtensions (omega arith) (omega arith) spell_extension start start s
+
+-- the ranks in a tag
+
+behind_rank : (c : CoreParts) (es : List ExtensionParts) (ps : List (List ℕ)) (step : Step) → IsBehind (length (spell_core c)) step → rank_in (LangTag c es ps) step ≡ extension_rank step
+behind_rank c es ps step h = grind (arith, nat_tests, h.behind)
+
+before_rank : (c : CoreParts) (es : List ExtensionParts) (ps : List (List ℕ)) (step : Step) → step.place ≤ length (spell_core c) → rank_in (LangTag c es ps) step ≡ kind_rank step
+before_rank c es ps step h = grind (arith, nat_tests)
+
+module _ (R : List EntryParts) (c : CoreParts) (es : List ExtensionParts) (ps : List (List ℕ)) where
+  abbrev here : TagForm
+  here = LangTag c es ps
+
+  -- a step on the core
+  core_leads_rank : (step : Step) (d : CoreParts) → CoreLeads R 0 c step d → (rank_in here step ≡ kind_rank step) × (kind_rank step ≤ 6)
+  core_leads_rank step d l =
+      (before_rank c es ps step (subst (λ (x : Step). x.place ≤ length (spell_core c)) l.1 (omega (arith, core_high R 0 c d l.0))), subst (λ (x : Step). kind_rank x ≤ 6) l.1 (core_rank R 0 c d l.0).most)
+
+  -- a step on the extensions
+  extensions_lead_rank : (step : Step) (fs : List ExtensionParts) → ExtensionsLeads R (length (spell_core c)) es step fs → (rank_in here step ≡ extension_rank step) × (8 ≤ extension_rank step)
+  extensions_lead_rank step fs l =
+      let b = subst (IsBehind (length (spell_core c))) l.1 (extensions_behind R (length (spell_core c)) es fs l.0) in
+      (behind_rank c es ps step b, b.late)
+
+  -- what follows for a step on the tag from what it is
+  leads_by : (Q : Type 0) (step : Step) (u : TagForm) → LeadsBy R here step u → ((d : CoreParts) → CoreLeads R 0 c step d → Q) → ((fs : List ExtensionParts) → ExtensionsLeads R (length (spell_core c)) es step fs → Q) → (CanBeReplacedWhole here → rank_in here step ≡ 7 → Q) → Q
+  leads_by Q step u l f g h = by l.0.change l.1
+    where
+      by : (s : TagChange R here u) → tag_label R s ≡ step → Q
+      by (on_core b d fs qs from _ s) e = let same : b ≡ c = cc in f d (subst (λ x. CoreLeads R 0 x step d) same (s, e))
+      by (on_extensions b gs fs qs from _ s) e =
+          let one : b ≡ c = cc in
+          let all : gs ≡ es = cc in
+          g fs (rw (← one, ← all) (s, e))
+      by (on_whole is_plain _) e = h is_plain (ap (rank_in here) (sym e))
+
+  module _ (C : IsChecked R) where
+    -- the first on the core is the first of all
+    pub core_is_first : (step : Step) (d : CoreParts) → IsProper R here → IsFirst (CoreLeads R 0 c) kind_rank step d → IsProper R (LangTag d es ps) × IsFirst (LeadsBy R here) (rank_in here) step (LangTag d es ps)
+    core_is_first step d P h =
+        let to = (steps_keep R C).core c d es ps h.leads.0 P in
+        let a = core_leads_rank step d h.leads in (
+          to,
+          record {
+            leads = (record { from = P; to = to; change = on_core c d es ps refl refl h.leads.0 }, h.leads.1);
+            first = λ other u l. leads_by (IsNoLater (rank_in here) step other) other u l
+                (λ e k. rw (a.0, (core_leads_rank other e k).0) (h.first other e k))
+                (λ fs k. let b = extensions_lead_rank other fs k in inl (omega (arith, a.0, a.1, b.0, b.1)))
+                (λ p b. inl (omega (arith, a.0, a.1, b)));
+          },
+        )
+
+    -- where no step on the core is left, the first on the extensions is
+    pub extensions_is_first : (step : Step) (fs : List ExtensionParts) → IsProper R here → NoneLeads (CoreLeads R 0 c) → IsFirst (ExtensionsLeads R (length (spell_core c)) es) extension_rank step fs → IsProper R (LangTag c fs ps) × IsFirst (LeadsBy R here) (rank_in here) step (LangTag c fs ps)
+    extensions_is_first step fs P none h =
+        let to = (steps_keep R C).extensions c es fs ps h.leads.0 P in (
+          to,
+          record {
+            leads = (record { from = P; to = to; change = on_extensions c es fs ps refl refl h.leads.0 }, h.leads.1);
+            first = λ other u l. leads_by (IsNoLater (rank_in here) step other) other u l
+                (λ d k. absurd (none other d k))
+                (λ gs k. rw ((extensions_lead_rank step fs h.leads).0, (extensions_lead_rank other gs k).0) (h.first other gs k))
+                (λ p _. absurd (extensions_step_from R es fs h.leads.0 p.0));
+          },
+        )
+
+-- the kinds by their ranks, those of steps on a source after the others and before SwapFields
+kind_at : ℕ → StepKind
+kind_at n = get_or (
+    steps.Whole ∷ steps.Extlang ∷ steps.Language ∷ steps.Script ∷ steps.Region ∷ steps.Variant ∷ steps.VariantLanguage ∷ steps.Whole ∷
+    steps.SwapExtensions ∷ steps.DropAttribute ∷ steps.SwapAttributes ∷ steps.DropKeyword ∷ steps.SwapKeywords ∷ steps.DropTrue ∷
+    steps.Extlang ∷ steps.Language ∷ steps.Script ∷ steps.Region ∷ steps.Variant ∷ steps.VariantLanguage ∷ []) n steps.SwapFields
+
+-- the rank of a kind, on a source or elsewhere
+rank_on : Bool → StepKind → ℕ
+rank_on source kind = if source then (if nat_le (rank_of kind) 6 then rank_of kind + 13 else rank_of kind) else rank_of kind
+
+kind_back : (source : Bool) (kind : StepKind) → kind_at (rank_on source kind) ≡ kind
+unfolding kind_at rank_on
+kind_back true steps.Extlang = refl
+kind_back true _ = refl
+kind_back false steps.Extlang = refl
+kind_back false _ = refl
+
+-- so the rank of a step among the steps on a tag tells its kind
+rank_tells : (t : TagForm) (step : Step) → kind_at (rank_in t step) ≡ step.kind
+unfolding rank_on
+rank_tells t step = kind_back (is_of_source t step) step.kind
+
+-- of two steps that each come no later than the other
+both_first : (rank : Step → ℕ) (a b : Step) → IsNoLater rank a b → IsNoLater rank b a → (rank a ≡ rank b) × (a.place ≡ b.place)
+both_first rank a b h k = (grind arith, grind arith)
+
+one_run : (R : List EntryParts) (t a b : TagForm) (xs ys : List Step) → IsRun (LeadsBy R) rank_in t xs a → IsRun (LeadsBy R) rank_in t ys b → Rests (TagStep R) a → Rests (TagStep R) b → (xs ≡ ys) × (a ≡ b)
+one_run R t a b [] [] h k m n = (refl, sym h ∙ k)
+one_run R t a b [] (y ∷ ys) h k m n = absurd (m k.0 (subst (λ x. TagStep R x k.0) h k.1.leads.0))
+one_run R t a b (x ∷ xs) [] h k m n = absurd (n h.0 (subst (λ x. TagStep R x h.0) k h.1.leads.0))
+one_run R t a b (x ∷ xs) (y ∷ ys) h k m n =
+    let e = both_first (rank_in t) x y (h.1.first y k.0 k.1.leads) (k.1.first x h.0 h.1.leads) in
+    let one : AreOneStep x y h.0 k.0 = steps_determined R t h.0 k.0 x y h.1.leads k.1.leads (sym (rank_tells t x) ∙ ap kind_at e.0 ∙ rank_tells t y) e.1 in
+    let rest = one_run R h.0 a b xs ys h.2 (subst (λ c. IsRun (LeadsBy R) rank_in c ys b) (sym one.result) k.2) m n in
+    (λ i. one.same i ∷ rest.0 i, rest.1)
+
+pub one_explanation : (R : List EntryParts) → HasOneExplanation R
+one_explanation R t a b xs ys h k = one_run R t a b xs ys h.is_run k.is_run h.form.canonical.at_rest k.form.canonical.at_rest
 
 -- what a reader shows where it has an answer, and where it has none
 pub some_by : {A : Type 0} (o : Option A) (N : Type 0) (S : A → Type 0) → MatchOption o N S → true ≡ is_some o → (a : A) × S a
@@ -49,7 +304,7 @@ more_than_core core (e ∷ es) ps h = omega arith
 -- a run goes by steps
 run_star : {A : Type 0} (Leads : A → Step → A → Type 0) (rank : A → Step → ℕ) (Move : A → A → Type 0) → ((a : A) (step : Step) (b : A) → Leads a step b → Move a b) → (run : List Step) (a b : A) → IsRun Leads rank a run b → Star Move a b
 run_star Leads rank Move move [] a b h = star_path a b h
-run_star Leads rank Move move (step ∷ run) a b h = then (move a step h.0 h.1.leads) (run_star Leads rank Move move run h.0 b h.2)
+run_star Leads rank Move move (step ∷ run) a b h = (then) (move a step h.0 h.1.leads) (run_star Leads rank Move move run h.0 b h.2)
 
 module _ (R : List EntryParts) where
   run_trace : (run : List Step) (t end : TagForm) → IsRun (LeadsBy R) rank_in t run end → IsTrace R t run end
@@ -58,17 +313,6 @@ module _ (R : List EntryParts) where
 
   core_rests : (d : CoreParts) → NoneLeads (CoreLeads R 0 d) → Rests (CoreStep (values_of R)) d
   core_rests d none e s = none (core_label R 0 s) e (s, refl)
-
-  -- no step leads from a tag whose core is at rest and that has no value
-  pub whole_at_rest : (t : TagForm) → CanBeReplacedWhole t → RestsOnCore R t → whole_value R t ≡ None → Rests (TagStep R) t
-  whole_at_rest (LangTag c es ps) h k e u s =
-      lang_at_end R c es ps (record {
-        core = core_rests c (k c refl);
-        extensions = subst (Rests (ExtensionsStep R)) (sym h.0) (none_rests R);
-        whole = λ a b. ap (whole_value R) (λ i. LangTag c (sym a i) (sym b i)) ∙ e;
-      }) u s.change
-  whole_at_rest (PrivateUse ps) h k e u s = absurd h
-  whole_at_rest (Grandfathered n) h k e u s = grandfathered_rests R n e u s.change
 
   only_whole : (t : TagForm) → CanBeReplacedWhole t → RestsOnCore R t → (step : Step) (u : TagForm) (s : TagChange R t u) → tag_label R s ≡ step → step ≡ step_at steps.Whole 1 (number_of (whole R t))
   only_whole t h k step u (on_core c d es ps from _ s) e = absurd (k c (ap core_of from) (core_label R 0 s) d (s, refl))
@@ -96,8 +340,12 @@ module _ (R : List EntryParts) where
     pub rests : (t : TagForm) (old : List Step) → Rests (TagStep R) t → LeadsToRest R t old old
     rests t old h = record { end = t; adds = adds_none (LeadsBy R) rank_in t old; at_rest = h }
 
+    -- no step leads from a tag whose core is at rest and that has no value
     pub valueless_explained : (t : TagForm) (old : List Step) → CanBeReplacedWhole t → RestsOnCore R t → whole_value R t ≡ None → LeadsToRest R t old old
-    valueless_explained t old h k e = rests t old (whole_at_rest t h k e)
+    valueless_explained (LangTag c es ps) old h k e = rests (LangTag c es ps) old (λ u s.
+        lang_at_end R c es ps (core_rests c (k c refl)) (subst (Rests (ExtensionsStep R)) (sym h.0) (none_rests R)) (λ a b. ap (whole_value R) (λ i. LangTag c (sym a i) (sym b i)) ∙ e) u s.change)
+    valueless_explained (PrivateUse ps) old h k e = absurd h
+    valueless_explained (Grandfathered n) old h k e = rests (Grandfathered n) old (λ u s. grandfathered_rests R n e u s.change)
 
     -- the value of a whole tag, and the steps on its core
     pub value_rests_by : (t : TagForm) (core form : CoreParts) (step : Step) (old mid new : List Step) → IsProper R t → CanBeReplacedWhole t → RestsOnCore R t → whole_value R t ≡ Some (core_alone core) → step ≡ step_at steps.Whole 1 (number_of (whole R t)) → mid ≡ old ++ step ∷ [] → AddsOnCore R 0 core form mid new → NoneLeads (CoreLeads R 0 form) → LeadsToRest R t old new
@@ -107,7 +355,7 @@ module _ (R : List EntryParts) where
         let same : core_end R C core ≡ form = normal_is_form (cores_formed R C) core form normal in
         let valueless : whole_value R (core_alone form) ≡ None = ap (λ c. whole_value R (core_alone c)) (sym same) ∙ value_rests R C t core v in
         let on : RestsOnCore R (core_alone form) = λ c i. let j : form ≡ c = cc in rw j at none in
-        let rest : LeadsToRest R (core_alone form) new new = rests (core_alone form) new (whole_at_rest (core_alone form) (refl, refl) on valueless) in
+        let rest : LeadsToRest R (core_alone form) new new = valueless_explained (core_alone form) new (refl, refl) on valueless in
         let one : Adds (LeadsBy R) rank_in t (core_alone core) old mid = adds_more (LeadsBy R) rank_in t t (core_alone core) old old mid step (adds_none (LeadsBy R) rank_in t old) (whole_is_first t (core_alone core) step P h k v e) m in
         first_adds t (core_alone core) old mid new one (first_adds (core_alone core) (core_alone form) mid new new (adds_on_core core form [] [] mid new Q a).1 rest)
 
@@ -137,7 +385,7 @@ module _ (R : List EntryParts) where
         let rest : LeadsToRest R (LangTag d es ps) mid new = record {
           end = LangTag d fs ps;
           adds = record { run = b.run; added = b.added; is_run = lifted.1 };
-          at_rest = λ u s. lang_at_end R d fs ps (record { core = core_rests d none; extensions = normal.at_rest; whole = λ x y. absurd (omega (arith, left, ap length x, ap length y)) }) u s.change;
+          at_rest = λ u s. lang_at_end R d fs ps (core_rests d none) normal.at_rest (λ x y. absurd (omega (arith, left, ap length x, ap length y))) u s.change;
         } in
         rw same (first_adds (LangTag core es ps) (LangTag d es ps) old mid new on.1 rest)
 
@@ -153,8 +401,7 @@ module _ (R : List EntryParts) where
     -- they lead to the canonical form
     pub explained : (t end : TagForm) (run : List Step) → IsCanonicalFormOf R t end → LeadsToRest R t [] run → IsExplanation R t run end
     explained t end run F h =
-        let reached = run_star (LeadsBy R) rank_in (TagStep R) (λ a step b l. l.0) h.adds.run t h.end h.adds.is_run in
-        let same : h.end ≡ end = sym (reached_is_end (end_form R C) t h.end F.valid.proper reached h.at_rest) ∙ form_is_end R C t end F in
+        let same : h.end ≡ end = sym (reached_is_end (end_form R C) t h.end F.valid.proper (run_star (LeadsBy R) rank_in (TagStep R) (λ a step b l. l.0) h.adds.run t h.end h.adds.is_run) h.at_rest) ∙ form_is_end R C t end F in
         let all : run ≡ h.adds.run = h.adds.added in
         let is_run : IsRun (LeadsBy R) rank_in t run end = rw (all, ← same) h.adds.is_run in
         record { form = F; trace = run_trace run t end is_run; is_run = is_run }

@@ -6,8 +6,4 @@ pub mod TagRepeats
 pub mod CanonicalForms
 pub mod StayingTags
 -- What this crate alone uses.
-mod ExtlangForms
-mod SourceRepeats
-mod Tracing
-mod FirstTagSteps
 mod Explained

@@ -162,13 +162,10 @@ module _ (R : List EntryParts) (C : IsChecked R) where
   pub cores_proper : {c d : CoreParts} → Star (CoreStep (values_of R)) c d → (es : List ExtensionParts) (ps : List (List ℕ)) → IsProper R (LangTag c es ps) → IsProper R (LangTag d es ps)
   cores_proper r es ps P = star_keeps (λ x. IsProper R (LangTag x es ps)) (λ x y s p. steps_keep.core x y es ps s p) r P
 
-  pub extensions_reached : (d : CoreParts) {es fs : List ExtensionParts} → Star (ExtensionsStep R) es fs → (ps : List (List ℕ)) → IsProper R (LangTag d es ps) → IsReached R (LangTag d es ps) (LangTag d fs ps)
-  extensions_reached d r ps P =
-      star_map_while (λ x. IsProper R (LangTag d x ps)) (λ x. LangTag d x ps) (λ x y s p. steps_keep.extensions d x y ps s p)
-      (λ x y s p q. step_of_change (LangTag d x ps) (LangTag d y ps) (on_extensions d x y ps refl refl s) p) r P
-
   pub parts_reached : {c d : CoreParts} {es fs : List ExtensionParts} → Star (CoreStep (values_of R)) c d → Star (ExtensionsStep R) es fs → (ps : List (List ℕ)) → IsProper R (LangTag c es ps) → IsReached R (LangTag c es ps) (LangTag d fs ps)
-  parts_reached {c} {d} {es} {fs} r s ps P = star_trans (cores_reached r es ps P) (extensions_reached d s ps (cores_proper r es ps P))
+  parts_reached {c} {d} {es} {fs} r s ps P =
+      star_trans (cores_reached r es ps P) (star_map_while (λ x. IsProper R (LangTag d x ps)) (λ x. LangTag d x ps) (λ x y k p. steps_keep.extensions d x y ps k p)
+      (λ x y k p q. step_of_change (LangTag d x ps) (LangTag d y ps) (on_extensions d x y ps refl refl k) p) s (cores_proper r es ps P))
 
   whole_reached_at : (t : TagForm) → CanBeReplacedWhole t → IsProper R t → (o : Option TagForm) → whole_value R t ≡ o → IsReached R t (or_value t value_end o)
   whole_reached_at t h P None e = done
@@ -176,37 +173,29 @@ module _ (R : List EntryParts) (C : IsChecked R) where
       let v = value_plain R C t u e in
       rw v.is (then (step_of_change t (core_alone v.core) (on_whole h (e ∙ ap Some v.is)) P) (cores_reached (cores_formed.reached v.core) [] [] (rw v.is at v.valid.proper)))
 
-  whole_reached : (t : TagForm) → CanBeReplacedWhole t → IsProper R t → IsReached R t (whole_end t)
-  whole_reached t h P = whole_reached_at t h P (whole_value R t) refl
-
   pub tag_reached : (t : TagForm) → IsProper R t → IsReached R t (tag_end t)
   tag_reached (LangTag c [] []) P =
       let r = cores_formed.reached c in
-      star_trans (cores_reached r [] [] P) (whole_reached (core_alone (core_end c)) (refl, refl) (cores_proper r [] [] P))
+      star_trans (cores_reached r [] [] P) (whole_reached_at (core_alone (core_end c)) (refl, refl) (cores_proper r [] [] P) (whole_value R (core_alone (core_end c))) refl)
   tag_reached (LangTag c [] (p ∷ ps)) P = cores_reached (cores_formed.reached c) [] (p ∷ ps) P
   tag_reached (LangTag c (e ∷ es) ps) P = parts_reached (cores_formed.reached c) (extensions_end_formed.reached (e ∷ es)) ps P
   tag_reached (PrivateUse ps) P = done
-  tag_reached (Grandfathered n) P = whole_reached (Grandfathered n) tt P
+  tag_reached (Grandfathered n) P = whole_reached_at (Grandfathered n) tt P (whole_value R (Grandfathered n)) refl
 
   -- so the end form is one
   pub end_form : IsEndForm (IsProper R) (TagStep R) tag_end
   end_form = record { to = λ a b s. s.to; kept = λ a b s. change_kept a b s.change; reached = tag_reached }
 
--- a langtag at its end
-pub record IsLangAtEnd (R : List EntryParts) (d : CoreParts) (es : List ExtensionParts) (ps : List (List ℕ)) : Type 0 where
-  pub core : Rests (CoreStep (values_of R)) d
-  pub extensions : Rests (ExtensionsStep R) es
-  pub whole : es ≡ [] → ps ≡ [] → whole_value R (core_alone d) ≡ None
-
-pub lang_at_end : (R : List EntryParts) (d : CoreParts) (es : List ExtensionParts) (ps : List (List ℕ)) → IsLangAtEnd R d es ps → (u : TagForm) → TagChange R (LangTag d es ps) u → ⊥
-lang_at_end R d es ps E u (on_core c c' fs qs from _ s) = let same : c ≡ d = cc in E.core c' (subst (λ x. CoreStep (values_of R) x c') same s)
-lang_at_end R d es ps E u (on_extensions c es' fs qs from _ s) = let same : es' ≡ es = cc in E.extensions fs (subst (λ x. ExtensionsStep R x fs) same s)
-lang_at_end R d es ps E u (on_whole is_plain has) =
-    let none : whole_value R (LangTag d es ps) ≡ None = ap (whole_value R) (λ i. LangTag d (is_plain.0 i) (is_plain.1 i)) ∙ E.whole is_plain.0 is_plain.1 in
-    cc
-
 abbrev pub NoChange : List EntryParts → TagForm → Type 0
 NoChange R t = (u : TagForm) → TagChange R t u → ⊥
+
+-- a langtag at its end
+pub lang_at_end : (R : List EntryParts) (d : CoreParts) (es : List ExtensionParts) (ps : List (List ℕ)) → Rests (CoreStep (values_of R)) d → Rests (ExtensionsStep R) es → (es ≡ [] → ps ≡ [] → whole_value R (core_alone d) ≡ None) → NoChange R (LangTag d es ps)
+lang_at_end R d es ps k m w u (on_core c c' fs qs from _ s) = let same : c ≡ d = cc in k c' (subst (λ x. CoreStep (values_of R) x c') same s)
+lang_at_end R d es ps k m w u (on_extensions c es' fs qs from _ s) = let same : es' ≡ es = cc in m fs (subst (λ x. ExtensionsStep R x fs) same s)
+lang_at_end R d es ps k m w u (on_whole is_plain has) =
+    let none : whole_value R (LangTag d es ps) ≡ None = ap (whole_value R) (λ i. LangTag d (is_plain.0 i) (is_plain.1 i)) ∙ w is_plain.0 is_plain.1 in
+    cc
 
 pub grandfathered_rests : (R : List EntryParts) (n : ℕ) → whole_value R (Grandfathered n) ≡ None → NoChange R (Grandfathered n)
 grandfathered_rests R n h u (on_core c c' es ps from _ _) = cc
@@ -223,7 +212,7 @@ none_rests R fs s = extensions_step_from R [] fs s refl
 
 module _ (R : List EntryParts) (C : IsChecked R) where
   plain_end : (c : CoreParts) → whole_value R (core_alone (core_end R C c)) ≡ None → NoChange R (core_alone (core_end R C c))
-  plain_end c n = lang_at_end R (core_end R C c) [] [] (record { core = (cores_formed R C).rests c; extensions = none_rests R; whole = λ _ _. n })
+  plain_end c n = lang_at_end R (core_end R C c) [] [] ((cores_formed R C).rests c) (none_rests R) (λ _ _. n)
 
   whole_rests_at : (t : TagForm) → (whole_value R t ≡ None → NoChange R t) → (o : Option TagForm) → whole_value R t ≡ o → NoChange R (or_value t (value_end R C) o)
   whole_rests_at t h None e = h e
@@ -236,13 +225,9 @@ module _ (R : List EntryParts) (C : IsChecked R) where
 
   lang_rests : (c : CoreParts) (es : List ExtensionParts) (ps : List (List ℕ)) → NoChange R (lang_end R C (core_end R C c) es ps)
   lang_rests c [] [] = whole_rests_at (core_alone (core_end R C c)) (plain_end c) (whole_value R (core_alone (core_end R C c))) refl
-  lang_rests c [] (p ∷ ps) = lang_at_end R (core_end R C c) [] (p ∷ ps) (record { core = (cores_formed R C).rests c; extensions = none_rests R; whole = λ _ h. absurd (cc) })
+  lang_rests c [] (p ∷ ps) = lang_at_end R (core_end R C c) [] (p ∷ ps) ((cores_formed R C).rests c) (none_rests R) (λ _ h. absurd (cc))
   lang_rests c (e ∷ es) ps =
-      lang_at_end R (core_end R C c) (extensions_end R C (e ∷ es)) ps (record {
-        core = (cores_formed R C).rests c;
-        extensions = (extensions_end_formed R C).rests (e ∷ es);
-        whole = λ h _. absurd (some_end (e ∷ es) (λ k. cc) h);
-      })
+      lang_at_end R (core_end R C c) (extensions_end R C (e ∷ es)) ps ((cores_formed R C).rests c) ((extensions_end_formed R C).rests (e ∷ es)) (λ h _. absurd (some_end (e ∷ es) (λ k. cc) h))
 
   -- no change leads from the end form of a tag
   pub tag_end_rests : (t : TagForm) → Rests (TagStep R) (tag_end R C t)

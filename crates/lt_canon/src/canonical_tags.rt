@@ -34,6 +34,7 @@ use std::alloc::Global;
 /// value, the chain of values of each is followed. Of any other langtag the chains are followed besides what
 /// `validate` looks up. Where neither a tag without extensions and private use nor its value has variants it
 /// takes no memory.
+#[tactic(auto, using(crate::proofs::CanonicalForms::repeats_answered))]
 pub fn canonical<L: Lookup>(alloc: Global, checked: &Checked<L>, tag: &Tag) -> Result<Tag, Refusal>
     ensures ok { IfOk result (λ form. IsCanonicalFormOf (L.listed checked.now) tag.now form) }
     ensures repeats { IfErr result (λ refusal. RefusesOnlyRepeats (L.listed checked.now) tag.now refusal) }
@@ -67,7 +68,7 @@ pub(crate) fn canonical_of<L: Lookup>(
 
 /// Whether a part of a tag may not be in its normal form. Refused exactly where the tag is not valid, or memory
 /// runs out.
-#[tactic(auto, using(crate::proofs::StayingTags::usual_refused, crate::proofs::StayingTags::usual_valid, crate::proofs::StayingTags::usual_settled))]
+#[tactic(auto, using(crate::proofs::CanonicalForms::usual_refused, crate::proofs::CanonicalForms::usual_valid, crate::proofs::CanonicalForms::usual_settled))]
 fn needs_settling<L: Lookup>(alloc: Global, table: &L, tag: &Tag) -> Result<bool, Refusal>
     ensures valid { IfOk result (λ needs. IsValid (L.listed table.now) tag.now) }
     ensures settled { IfOk result (λ needs. needs ≡ false → IsSettledTag (L.listed table.now) tag.now tag.now) }

@@ -21,6 +21,7 @@ use std::alloc::Global;
 /// VariantLanguage; Whole; the leftmost SwapExtensions; in a `u` extension the leftmost DropAttribute,
 /// SwapAttributes, DropKeyword, SwapKeywords and DropTrue; on the source of a `t` extension the steps
 /// on a core; the leftmost SwapFields. It is refused as `canonical` refuses.
+#[tactic(auto, using(crate::proofs::CanonicalForms::refused))]
 pub fn explain<L: Lookup>(alloc: Global, checked: &Checked<L>, tag: &Tag) -> Result<Trace, Refusal>
     ensures ok { IfOk result (λ trace. IsExplanation (L.listed checked.now) tag.now trace.steps.items trace.last) }
     ensures err { IfErr result (λ refusal. IsRefusedWith (L.listed checked.now) tag.now refusal) }

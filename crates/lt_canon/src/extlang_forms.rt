@@ -18,6 +18,7 @@ use std::alloc::Global;
 /// Prefix of that in front of it. `cmn-Hans` gives `zh-cmn-Hans`. A Prefix of 4 to 8 letters can't be before an
 /// extlang, so such a tag is left in its canonical form; and so are the sources of `t` extensions. It is valid,
 /// and its canonical form is that of the tag. A refusal is that of `canonical`.
+#[tactic(auto, using(crate::proofs::CanonicalForms::refused, crate::proofs::CanonicalForms::extlang_answer, crate::proofs::CanonicalForms::coreless_extlang, crate::proofs::CanonicalForms::prefixless_extlang))]
 pub fn extlang_form<L: Lookup>(
     alloc: Global,
     checked: &Checked<L>,

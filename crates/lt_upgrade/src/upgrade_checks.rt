@@ -36,6 +36,7 @@ pub(crate) fn stays_registered<L: Lookup>(newer: &L, ranges: &WidestRanges, entr
 }
 
 /// Whether the chains of two subtags of a kind, not of extlangs, come to one end.
+#[tactic(auto, using(crate::proofs::UpgradeChecks::endless_apart))]
 fn have_same_end<L: Lookup>(
     table: &L,
     shortcuts: &Shortcuts,

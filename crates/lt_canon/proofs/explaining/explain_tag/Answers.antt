@@ -22,8 +22,8 @@ plain g c =
 pub from_parts-settled-requires-clause-not_grandfathered :
     goal.from_parts-settled-requires-clause-not_grandfathered
 from_parts-settled-requires-clause-not_grandfathered g c =
-    let on = plain g (goal.at.from_parts-settled-requires-clause-not_grandfathered g c).Then-is_some in
-    inl (core_spells_none (g.L.Lookup.listed c.args.table.now) c.requires.checked c.in_ok-settled.settled (proper_parts (g.L.Lookup.listed c.args.table.now) c.in_ok-settled.settled [] [] on.0).core)
+    inl (core_spells_none (g.L.Lookup.listed c.args.table.now) c.requires.checked c.in_ok-settled.settled (proper_parts (g.L.Lookup.listed c.args.table.now) c.in_ok-settled.settled [] []
+    (plain g (goal.at.from_parts-settled-requires-clause-not_grandfathered g c).Then-is_some).0).core)
 
 pub explain_whole-requires-then-is_some : goal.explain_whole-requires-then-is_some
 explain_whole-requires-then-is_some g c = rw (c.from_parts-settled.ensures, c.new.ensures.items, c.new-then-is_some.ensures.items) (record {

@@ -26,7 +26,6 @@ returns g c =
     let core = c.in-Some-core.core.now in
     let value_is = has g (goal.at.returns g c).In-Some-tag_value in
     let is = plain_of_core R value core (value_plain R c.requires.checked c.args.tag.now value value_is) (sym (c.in-Some-core.ensures {u = tt}).value) in
-    let numbered = ap (step_at steps.Whole 1) (c.number.ensures.value ∙ ap number_of (c.in-Some.ensures {u = tt})) in
     let given = c.in_ok-steps.ensures {u = tt} in
     value_rests_by R c.requires.checked c.args.tag.now core c.in_ok-steps.field-0-0 _ c.args.steps.items c.push.new.self.items c.in_ok-steps.steps.items c.requires.proper c.requires.plain c.requires.at_rest
-    (value_is ∙ ap Some is) numbered (c.in_ok-push.ensures {u = tt}).items (rw (← c.in_ok-copy.ensures {u = tt}) given.adds) given.at_rest
+    (value_is ∙ ap Some is) (ap (step_at steps.Whole 1) (c.number.ensures.value ∙ ap number_of (c.in-Some.ensures {u = tt}))) (c.in_ok-push.ensures {u = tt}).items (rw (← c.in_ok-copy.ensures {u = tt}) given.adds) given.at_rest

@@ -1,11 +1,8 @@
-use Rattle.std.proofs.Common.{◌≡◌, None, ◌∙◌, inl, [], ◌∷◌, Some, sym}
-use Rattle.std.proofs.lemmas.Result.{err_from_is_err_and}
-use Rattle.lt_tag.specs.Parts.{CoreParts}
+use Rattle.std.proofs.Common.{◌≡◌, inl, [], ◌∷◌, Some, sym}
 use Rattle.lt_registry.specs.Entries.{prefixes}
 use Rattle.lt_registry.specs.declared.entries.Kind.TheVariants as kinds
 use Rattle.lt_canon.specs.ExtlangForm.{prefix_of}
-use Rattle.lt_canon.proofs.CanonicalForms.{langtag_of, refused}
-use Rattle.lt_canon.proofs.ExtlangForms.{extlang_answer, coreless_extlang, extlang_form_is, no_extlang_there, front_spells_none, IsFittingPrefix, fitting_prefix}
+use Rattle.lt_canon.proofs.CanonicalForms.{extlang_answer, extlang_form_is, no_extlang_there, front_spells_none, IsFittingPrefix, fitting_prefix}
 use Rattle.lt_canon.proofs.extlang_forms.extlang_form.Goals as goal
 use Rattle.lt_canon.proofs.extlang_forms.extlang_form.Goals.{In-Some-extlang_prefix, After-set_extlang}
 
@@ -18,28 +15,6 @@ fitting g c = fitting_prefix (g.L.Lookup.listed c.args.checked.now) c.table-tabl
 -- the core with the Prefix in front
 fronted : (g : _) (c : After-set_extlang g) → c.set_extlang.new.self ≡ record c.in-Some.canonical_core.now { language = c.in-Some-extlang_prefix.prefix.now; extlangs = c.in-Some.canonical_core.now.language ∷ [] }
 fronted g c = rw (c.set_extlang.ensures, c.set_language.ensures, c.in_ok-core.ensures {u = tt}, c.copy-2.ensures, c.copy-3.ensures, c.language-2.ensures.value)
-
-pub returns-in_err-form-clause-refusal : goal.returns-in_err-form-clause-refusal
-returns-in_err-form-clause-refusal g c =
-    let p = err_from_is_err_and c.from_residual.result c.from_residual.ensures.1 in
-    let h = c.in_err-form.ensures {u = tt} in
-    rw (p.1, p.2) (refused (g.L.Lookup.listed c.args.checked.now) c.args.tag.now c.in_err-form.field-0.0 h.invalid h.repeats h.named)
-
-pub returns-in_default-clause-form : goal.returns-in_default-clause-form
-returns-in_default-clause-form g c =
-    let R = g.L.Lookup.listed c.args.checked.now in
-    let form = c.in_ok-form.form in
-    extlang_answer R c.table-table.ensures.checked c.args.tag.now form form (c.in_ok-form.ensures {u = tt}).ok (coreless_extlang R form (sym c.in_default.ensures.value))
-
-pub returns-in_default-extlang_prefix-clause-form :
-    goal.returns-in_default-extlang_prefix-clause-form
-returns-in_default-extlang_prefix-clause-form g c =
-    let R = g.L.Lookup.listed c.args.checked.now in
-    let form = c.in_ok-form.form in
-    let d : CoreParts = c.in-Some.canonical_core.now in
-    extlang_answer R c.table-table.ensures.checked c.args.tag.now form form (c.in_ok-form.ensures {u = tt}).ok
-    (langtag_of form d (sym c.in-Some.ensures.value)
-    ∙ sym (extlang_form_is R form d None (sym c.in-Some.ensures.value) (rw (← c.table-table.ensures.value, ← c.language.ensures.value) (sym c.in_default-extlang_prefix.ensures))))
 
 pub set_language-requires : goal.set_language-requires
 set_language-requires g c =

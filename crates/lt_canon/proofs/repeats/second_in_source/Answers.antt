@@ -1,7 +1,7 @@
 use Rattle.std.proofs.Common.{refl, sym, ap, ◌∙◌, arith}
 use Rattle.lt_tag.specs.Parts.{TForm}
 use Rattle.lt_canon.proofs.CanonicalForms.{none_of_test}
-use Rattle.lt_canon.proofs.SourceRepeats.{no_source, of_source, distinct_subtags}
+use Rattle.lt_canon.proofs.TagRepeats.{no_source, of_source, distinct_subtags}
 use Rattle.lt_canon.proofs.repeats.second_in_source.Goals as goal
 
 pub returns-in-Some : goal.returns-in-Some

@@ -6,7 +6,7 @@ use Rattle.lt_registry.proofs.ValidityLaws.{valid_law}
 use Rattle.lt_rewrite.specs.Labels.{IsTrace}
 use Rattle.lt_canon.specs.Traces.{IsTraceFault}
 use Rattle.lt_canon.specs.declared.traces.TraceFault.TheVariants as faults
-use Rattle.lt_canon.proofs.Tracing.{invalid_trace, follow_fault, fault_excludes}
+use Rattle.lt_canon.proofs.Explained.{invalid_trace, follow_fault, fault_excludes}
 use Rattle.lt_canon.proofs.traces.verify.Goals as goal
 use Rattle.lt_canon.proofs.traces.verify.Goals.{After-extensions, In_ok-end}
 

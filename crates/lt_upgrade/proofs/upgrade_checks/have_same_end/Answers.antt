@@ -1,10 +1,6 @@
-use Rattle.lt_upgrade.proofs.UpgradeChecks.{ends_compared, endless_apart}
+use Rattle.lt_upgrade.proofs.UpgradeChecks.{ends_compared}
 use Rattle.lt_upgrade.proofs.upgrade_checks.have_same_end.Goals as goal
 
 pub returns-in-Ok-chain_end : goal.returns-in-Ok-chain_end
 returns-in-Ok-chain_end g c =
     ends_compared (g.L.Lookup.listed c.args.table.now) c.args.kind c.requires.kind c.args.left.now c.args.right.now c.in-Ok.end c.in-Ok-chain_end.other c.eq.result (c.in-Ok.ensures {u = tt}).end (c.in-Ok-chain_end.ensures {u = tt}).end c.eq.ensures
-
-pub returns-in-Err : goal.returns-in-Err
-returns-in-Err g c =
-    endless_apart (g.L.Lookup.listed c.args.table.now) c.args.kind c.requires.kind c.args.left.now c.args.right.now (c.in-Err.ensures {u = tt}).cycle

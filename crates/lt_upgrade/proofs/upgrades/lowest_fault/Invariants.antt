@@ -1,5 +1,5 @@
 use Rattle.lt_upgrade.specs.Upgrade.{MeetsUpgrade, records_of}
-use Rattle.lt_upgrade.proofs.UpgradeFaults.{EachBefore}
+use Rattle.lt_upgrade.proofs.UpgradeChecks.{EachBefore}
 use Rattle.lt_upgrade.proofs.upgrades.lowest_fault.Given as goal
 
 abbrev pub invariant-loop-entry : goal.invariant-loop-entry

@@ -2,7 +2,7 @@ use Rattle.std.proofs.Common.{subst}
 use Rattle.std.specs.Prelude.{slice_index_or}
 use Rattle.lt_upgrade.specs.UpgradeChecking.{IsLowestUpgradeFault}
 use Rattle.lt_upgrade.specs.declared.conditions.UpgradeCondition.TheVariants as upgrades
-use Rattle.lt_upgrade.proofs.UpgradeFaults.{all_upgrades, one_more}
+use Rattle.lt_upgrade.proofs.UpgradeChecks.{all_upgrades, one_more}
 use Rattle.lt_upgrade.proofs.upgrades.upgrade_check.Goals as goal
 
 pub loop-condition-preserved : goal.loop-condition-preserved

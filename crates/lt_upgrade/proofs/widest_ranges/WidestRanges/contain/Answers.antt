@@ -20,24 +20,16 @@ held c d =
     let point = IsPartitionPoint-from_clause p c.deref.result.now i c.partition_point-count.ensures.partitioned (subst (IsPartitionedBy p) (sym c.deref.ensures.value) (parted rows a c.self.invariant)) (λ x r f k. search rules) in
     let here = subst (λ (found : List RangeRow). IsPartitionPoint (λ v. p v ≡ true) (λ v. p v ≡ false) found i) c.deref.ensures.value point in
     let bound = subst (λ (found : List RangeRow). i ≤ length found) c.deref.ensures.value c.partition_point-count.ensures.bound in
-    ap (list_any (contains a b)) (sym c.self.view_is) ∙ held_at a b rows i d c.self.invariant bound (λ k m. here.0 k d (omega arith) m) (λ k l m. here.1 k d l m)
+    ap (list_any (contains a b)) (sym c.self.view_is) ∙ held_at a b rows i d c.self.invariant bound here
 
 pub returns-then-count-gt0 : goal.returns-then-count-gt0
 returns-then-count-gt0 c =
     let at = (goal.at.returns-then-count-gt0 c).After-partition_point-count in
-    let rows = c.self.inside.rows.items in
-    let i = c.partition_point-count.result in
-    let b = c.args.last.now in
-    let d = c.index.result.now in
-    let some : i ≡ suc (i - 1) = omega (arith, c.if-count-gt0.true) in
-    c.is_up_to.ensures ∙ ap (λ (v : RangeRow). is_up_to b v.last) c.index.ensures ∙ sym (ap (λ n. last_holds b rows n d) some) ∙ sym (held at d)
+    let some : c.partition_point-count.result ≡ suc (c.partition_point-count.result - 1) = omega (arith, c.if-count-gt0.true) in
+    c.is_up_to.ensures ∙ ap (λ (v : RangeRow). is_up_to c.args.last.now v.last) c.index.ensures ∙ sym (rw some at (held at c.index.result.now))
 
 pub returns-else-count-gt0 : goal.returns-else-count-gt0
 returns-else-count-gt0 c =
     let at = (goal.at.returns-else-count-gt0 c).After-partition_point-count in
-    let i = c.partition_point-count.result in
-    let rows = c.self.inside.rows.items in
-    let b = c.args.last.now in
-    let d : RangeRow = record { first = b; last = b } in
-    let none : i ≡ 0 = omega (arith, c.if-count-gt0.false) in
-    le-ltb 0 i c.if-count-gt0.false ∙ sym (ap (λ n. last_holds b rows n d) none) ∙ sym (held at d)
+    let none : c.partition_point-count.result ≡ 0 = omega (arith, c.if-count-gt0.false) in
+    le-ltb 0 c.partition_point-count.result c.if-count-gt0.false ∙ sym (rw none at (held at (record { first = c.args.last.now; last = c.args.last.now })))

@@ -1,19 +1,18 @@
-use Rattle.std.proofs.Common.{rules, of_calls, subst, sym}
+use Rattle.std.proofs.Common.{rules, of_calls}
 use Rattle.std.proofs.lemmas.Fn.{always_returns_same, dedup_same}
 use Rattle.std.proofs.lemmas.List.Sorted.{ranks_by}
-use Rattle.lt_upgrade.specs.WidestRanges.{EndsRise}
 use Rattle.lt_upgrade.specs.declared.widest_ranges.RangeRow.{RangeRow}
-use Rattle.lt_upgrade.proofs.WidestRanges.{end_total, begins_before, ends_by, widest_rise, widest_hold}
+use Rattle.lt_upgrade.proofs.WidestRanges.{end_total, begins_before, ends_by, widest_of}
 use Rattle.lt_upgrade.proofs.widest_ranges.WidestRanges.of_rows.Goals as goal
 
 pub invariant_of-result : goal.invariant_of-result
 invariant_of-result c =
     let up = c.sort_unstable_by.ensures.sorted begins_before (ranks_by end_total (λ (r : RangeRow). r.first)) (always_returns_same _ _ _ (λ a r f called. search (rules, of_calls))) in
     let kept = dedup_same _ ends_by _ (λ x y b f' x' y' k. search rules) _ _ c.dedup_by.ensures.filtered in
-    subst EndsRise (sym kept) (widest_rise c.sort_unstable_by.new.self.items up)
+    (widest_of c.args.rows.items c.sort_unstable_by.new.self.items c.dedup_by.new.self.items c.sort_unstable_by.ensures.permutation up kept).0
 
 pub returns : goal.returns
-returns c a b =
+returns c =
     let up = c.sort_unstable_by.ensures.sorted begins_before (ranks_by end_total (λ (r : RangeRow). r.first)) (always_returns_same _ _ _ (λ a r f called. search (rules, of_calls))) in
     let kept = dedup_same _ ends_by _ (λ x y b f' x' y' k. search rules) _ _ c.dedup_by.ensures.filtered in
-    widest_hold a b c.args.rows.items c.sort_unstable_by.new.self.items c.dedup_by.new.self.items c.sort_unstable_by.ensures.permutation up kept
+    (widest_of c.args.rows.items c.sort_unstable_by.new.self.items c.dedup_by.new.self.items c.sort_unstable_by.ensures.permutation up kept).1
