@@ -141,6 +141,7 @@ impl RecentEnds {
     /// Appends what follows a core in a canonical text, for a `t` extension by what is kept for its fields; tells whether
     /// it did.
     #[inline(always)]
+    #[tactic(auto, using(crate::proofs::KeptEnds::transformed_appended))]
     fn append_by_fields<L: Lookup>(
         &self,
         checked: &Checked<L>,
@@ -157,6 +158,7 @@ impl RecentEnds {
 
     /// Appends what follows a core in a canonical text, by what is kept for an end or for its fields; tells whether it did.
     #[inline(always)]
+    #[tactic(auto, using(crate::proofs::KeptEnds::kept_appended_after))]
     fn append_end<L: Lookup>(
         &self,
         checked: &Checked<L>,

@@ -1,21 +1,114 @@
--- What the turns of a run over lines keep, and how it ends.
-use Rattle.std.proofs.Common.{◌≡◌, ◌≤◌, ◌<◌, ◌+◌, ◌*◌, ◌++◌, ◌∙◌, inl, inr, ℕ, List, [], false, Option, Result, Ok, Err, IfOk, IfErr, length, sym, ap, refl, subst, arith, add-one, append-nil, length-append, take, drop}
+-- What the turns over a piece of lines keep, and those of a run over lines, and how it ends.
+use Rattle.std.proofs.Common.{◌≡◌, ◌≤◌, ◌+◌, ◌++◌, ◌∷◌, ◌∙◌, inl, inr, ℕ, List, [], Option, Result, Ok, Err, OnOk, length, take, sym, ap, refl, subst, arith, append_assoc, append-nil, length-append, ◌<◌, ◌*◌, false, add-one, drop}
 use Rattle.std.specs.Io.KnownBytes.{Appends, Consumes, IsAtEnd, Keeps}
 use Rattle.std.proofs.KnownBytes.{Appends-nil, Appends-trans, Consumes-kept, Consumes-nil, Consumes-trans}
-use Rattle.lt_jar.specs.Devices.{HasFailed, after_reads, failures_of, inner_of, last_given_of, one_more, reads_of}
-use Rattle.lt_jar.specs.Sources.{most_reads}
+use Rattle.std.proofs.Math.Seq.{take-append_seam}
+use Rattle.lt_jar.specs.Devices.{failures_of, inner_of, HasFailed, after_reads, last_given_of, one_more, reads_of}
 use Rattle.lt_jar.specs.declared.devices.Device.{Device}
-use Rattle.lt_lines.specs.Answering.{AreRecent, FinishesLines, HasRoom, IsLastStop, IsStop, IsTaken, TakesPiece}
-use Rattle.lt_lines.specs.Owed.{EndsInQuotes, IsBegun, IsOwed, Terms, units_of}
-use Rattle.lt_lines.specs.Running.{EndsAs, HasRead, RunsLines}
+use Rattle.lt_lines.specs.DeviceOutput.{IsFrontOf}
+use Rattle.lt_lines.specs.Answering.{CountsFeed, IsTaken, TakesPiece, WritesOwed, open_after, part_kept, AreRecent, FinishesLines, HasRoom, IsStop}
+use Rattle.lt_lines.specs.Owed.{IsOneLine, Terms, EndsInQuotes, IsBegun, IsOwed, units_of}
 use Rattle.lt_lines.specs.declared.answering.Answering.{Answering}
 use Rattle.lt_lines.specs.declared.faults.ToolFault.{ToolFault}
-use Rattle.lt_lines.specs.declared.faults.ToolFault.TheVariants as faults
-use Rattle.lt_lines.specs.declared.runs.Counts.{Counts}
 use Rattle.lt_lines.proofs.DeviceLemmas.{failed_from}
-use Rattle.lt_lines.proofs.OwedLemmas.{of_none}
-use Rattle.lt_lines.proofs.TakenLemmas.{begun_nothing, begun_to_last_feed, owed_to_last_feed, taken_room}
-use Rattle.std.proofs.Math.Seq.{take-append_seam}
+use Rattle.lt_lines.proofs.TakenLemmas.{begun_front, begun_nothing, taken_part, taken_write, begun_to_last_feed, owed_to_last_feed, taken_room, of_none}
+use Rattle.lt_jar.specs.Sources.{most_reads}
+use Rattle.lt_lines.specs.Running.{EndsAs, HasRead, RunsLines}
+use Rattle.lt_lines.specs.declared.runs.Counts.{Counts}
+use Rattle.lt_lines.specs.declared.faults.ToolFault.TheVariants as faults
+
+-- so far the front of the piece was taken
+pub record PieceTurn {W : Type 0} (T : Terms) (contents : W → Option (List ℕ)) (piece rest : List ℕ) (old now : Answering) (before after : Device W) : Type 0 where
+  pub front : List ℕ
+  pub split : piece ≡ front ++ rest
+  pub written : List ℕ
+  pub appends : Appends (contents (inner_of before)) (contents (inner_of after)) written
+  pub failures : failures_of after ≡ failures_of before
+  pub taken : (bytes out : List ℕ) → IsTaken T bytes out old → IsTaken T (bytes ++ front) (out ++ written) now
+  pub room : now.counts.lines + length rest ≤ old.counts.lines + length piece
+  pub feeds : now.feeds + length rest ≤ old.feeds + length piece
+  pub refused : now.counts.refused ≤ now.counts.lines
+
+module _ {W : Type 0} (T : Terms) (contents : W → Option (List ℕ)) (piece rest : List ℕ) (old now : Answering) (before between : Device W)
+    (t : PieceTurn T contents piece rest old now before between) where
+  -- a line of the piece was answered
+  pub turn_line : (line after : List ℕ) (mid : Answering) → IsOneLine line × (rest ≡ line ++ 10 ∷ after)
+      → ((bytes out : List ℕ) → IsOneLine (take (length line) rest) → IsTaken T bytes out now → IsTaken T (bytes ++ (take (length line) rest ++ 10 ∷ [])) out mid)
+      → CountsFeed now mid → PieceTurn T contents piece after old mid before between
+  turn_line line after mid split answered counted =
+      let whole : take (length line) rest ≡ line = ap (take (length line)) split.1 ∙ take-append_seam line (10 ∷ after) in
+      let long = ap length split.1 ∙ length-append line (10 ∷ after) in
+      record {
+        front = t.front ++ (line ++ 10 ∷ []);
+        split = t.split ∙ ap (λ (l : List ℕ). t.front ++ l) (split.1 ∙ sym (append_assoc line (10 ∷ []) after)) ∙ sym (append_assoc t.front (line ++ 10 ∷ []) after);
+        written = t.written;
+        appends = t.appends;
+        failures = t.failures;
+        taken = λ bytes out old_taken. subst (λ (l : List ℕ). IsTaken T l (out ++ t.written) mid) (append_assoc bytes t.front (line ++ 10 ∷ []))
+            (subst (λ (l : List ℕ). IsTaken T ((bytes ++ t.front) ++ (l ++ 10 ∷ [])) (out ++ t.written) mid) whole
+            (answered (bytes ++ t.front) (out ++ t.written) (subst IsOneLine (sym whole) split.0) (t.taken bytes out old_taken)));
+        room = omega (arith, t.room, counted.lines, long);
+        feeds = omega (arith, t.feeds, counted.feeds, long);
+        refused = counted.refused;
+      }
+
+  -- some of what is owed was written
+  pub turn_written : (new : Answering) (last : Device W) → WritesOwed contents now new between last (Ok tt) → PieceTurn T contents piece rest old new before last
+  turn_written new last w = record {
+    front = t.front;
+    split = t.split;
+    written = t.written ++ w.written;
+    appends = Appends-trans _ _ _ _ _ t.appends w.appends;
+    failures = w.done.1 ∙ t.failures;
+    taken = λ bytes out old_taken. subst (λ (l : List ℕ). IsTaken T (bytes ++ t.front) l new) (append_assoc out t.written w.written)
+        (taken_write T (bytes ++ t.front) (out ++ t.written) w.written now new (t.taken bytes out old_taken) w.same w.done.0);
+    room = rw w.same.counts t.room;
+    feeds = rw w.same.feeds t.feeds;
+    refused = rw w.same.counts t.refused;
+  }
+
+  -- memory ran out, or a write failed that wrote a part of what is owed
+  pub turn_stops : (new : Answering) (last : Device W) (f : ToolFault) (part : List ℕ) → Appends (contents (inner_of between)) (contents (inner_of last)) part → IsStop before last f
+      → IsFrontOf part now.owed.items → TakesPiece T contents piece old new before last (Err f)
+  turn_stops new last f part appends stop front = record {
+    written = t.written ++ part;
+    appends = Appends-trans _ _ _ _ _ t.appends appends;
+    done = tt;
+    stopped = (stop, λ bytes out taken. begun_front T _ _ part rest _ _ now (t.taken bytes out taken) front (rw (t.split, append_assoc bytes t.front rest) refl) (sym (append_assoc out t.written part)));
+  }
+
+  pub turn_fails : (new : Answering) (last : Device W) (f : ToolFault) → WritesOwed contents now new between last (Err f) → TakesPiece T contents piece old new before last (Err f)
+  turn_fails new last f w = turn_stops new last f w.written w.appends (inl (w.stopped.0, failed_from before between last t.failures w.stopped.1)) w.stopped.2
+
+  -- the rest of the piece is kept
+  pub turn_kept : (mid : Answering) → IsOneLine rest → mid.kept.items ≡ now.kept.items ++ part_kept T.form (length now.kept.items) rest
+      → mid.is_open ≡ open_after T.form now.is_open rest → mid.feeds ≡ now.feeds → mid.owed.items ≡ now.owed.items → mid.counts ≡ now.counts → mid.recent ≡ now.recent
+      → PieceTurn T contents piece [] old mid before between
+  turn_kept mid one kept inside feeds owed counts recent = record {
+    front = piece;
+    split = sym (append-nil piece);
+    written = t.written;
+    appends = t.appends;
+    failures = t.failures;
+    taken = λ bytes out old_taken. rw (t.split, ← append_assoc bytes t.front rest)
+        (taken_part T (bytes ++ t.front) (out ++ t.written) rest now mid (t.taken bytes out old_taken) one kept inside feeds owed counts recent);
+    room = rw counts (omega (arith, t.room));
+    feeds = omega (arith, t.feeds, feeds);
+    refused = rw counts t.refused;
+  }
+
+-- the last write over the piece
+pub turn_last : {W : Type 0} (T : Terms) (contents : W → Option (List ℕ)) (piece : List ℕ) (old mid new : Answering) (before between last : Device W) (r : Result (Unit {0}) ToolFault)
+    → PieceTurn T contents piece [] old mid before between → WritesOwed contents mid new between last r → OnOk r (new.owed.items ≡ []) → TakesPiece T contents piece old new before last r
+turn_last T contents piece old mid new before between last (Ok u) t w none =
+    let n = turn_written T contents piece [] old mid before between t new last w in
+    record {
+      written = n.written;
+      appends = n.appends;
+      done = (n.failures, none, λ bytes out old_taken. subst (λ (l : List ℕ). IsTaken T (bytes ++ l) (out ++ n.written) new) (sym (append-nil n.front) ∙ sym n.split) (n.taken bytes out old_taken));
+      stopped = tt;
+    }
+turn_last T contents piece old mid new before between last (Err f) t w none = turn_fails T contents piece [] old mid before between t new last f w
 
 -- so far this was read and answered
 pub record RunTurn {I O : Type 0} (T : Terms) (remaining : I → Option (List ℕ)) (contents : O → Option (List ℕ))
@@ -76,25 +169,6 @@ run_first T remaining contents input output state items place counts recent = re
 pub read_more : {I : Type 0} (input before after : Device I) (turn : ℕ) → HasRead input before turn → reads_of after ≡ one_more (reads_of before) → HasRead input after (turn + 1)
 read_more input before after turn has more = more ∙ ap one_more has ∙ ap (after_reads (reads_of input)) (sym (add-one turn))
 
--- a piece was read and taken
-pub run_next : {I O : Type 0} (T : Terms) (remaining : I → Option (List ℕ)) (contents : O → Option (List ℕ)) (input before after : Device I) (output between last : Device O)
-    (state new : Answering) (turn : ℕ) (piece : List ℕ) → RunTurn T remaining contents input before output between state turn → ReadsPiece remaining before after piece
-    → 0 < length piece → length piece ≤ 65536 → 0 < last_given_of after → TakesPiece T contents piece state new between last (Ok tt) → RunTurn T remaining contents input after output last new (turn + 1)
-run_next T remaining contents input before after output between last state new turn piece t r some short gave takes = record {
-  read = t.read ++ piece;
-  written = t.written ++ takes.written;
-  consumes = Consumes-trans _ _ _ _ _ t.consumes r.consumes;
-  appends = Appends-trans _ _ _ _ _ t.appends takes.appends;
-  taken = takes.done.2 t.read t.written t.taken;
-  emptied = takes.done.1;
-  calls = read_more input before after turn t.calls r.calls;
-  some = let n = length-append t.read piece in omega (arith, n, t.some);
-  last_gave = λ some. gave;
-  most = let n = length-append t.read piece in omega (arith, n, t.most);
-  read_failures = r.failures ∙ t.read_failures;
-  write_failures = takes.done.0 ∙ t.write_failures;
-}
-
 -- memory ran out for the pieces
 pub run_lacks : {I O : Type 0} (T : Terms) (remaining : I → Option (List ℕ)) (contents : O → Option (List ℕ)) (input : Device I) (output : Device O)
     → RunsLines T remaining contents input input output output (Err faults.OutOfMemory)
@@ -112,104 +186,107 @@ run_lacks T remaining contents input output = record {
   write_rises = λ lt. absurd (omega (arith, lt));
 }
 
--- a read failed
-pub run_failed : {I O : Type 0} (T : Terms) (remaining : I → Option (List ℕ)) (contents : O → Option (List ℕ)) (input before after : Device I) (output last : Device O)
-    (state : Answering) (turn : ℕ) → RunTurn T remaining contents input before output last state turn → turn < most_reads → Keeps (remaining (inner_of before)) (remaining (inner_of after))
-    → reads_of after ≡ one_more (reads_of before) → HasFailed before after → RunsLines T remaining contents input after output last (Err faults.Read)
-run_failed T remaining contents input before after output last state turn t few kept more failed = record {
-  read = t.read;
-  written = t.written;
-  reads = turn + 1;
-  consumes = Consumes-kept _ _ _ _ t.consumes kept;
-  appends = t.appends;
-  begun = begun_nothing T t.read t.written [] t.read state t.taken (sym (append-nil t.read));
-  calls = read_more input before after turn t.calls more;
-  bounded = omega (arith, few);
-  ends = record { failed = failed_from input before after t.read_failures failed; owed = owed_to_last_feed T t.read t.written state t.taken t.emptied };
-  read_rises = λ lt. refl;
-  write_rises = λ lt. absurd (omega (arith, lt, t.write_failures));
-}
-
--- all reads were made
-pub run_turns : {I O : Type 0} (T : Terms) (remaining : I → Option (List ℕ)) (contents : O → Option (List ℕ)) (input after : Device I) (output last : Device O)
-    (state : Answering) (turn : ℕ) → RunTurn T remaining contents input after output last state turn → turn ≡ most_reads
-    → RunsLines T remaining contents input after output last (Err faults.TooManyTurns)
-run_turns T remaining contents input after output last state turn t all = record {
-  read = t.read;
-  written = t.written;
-  reads = turn;
-  consumes = t.consumes;
-  appends = t.appends;
-  begun = begun_nothing T t.read t.written [] t.read state t.taken (sym (append-nil t.read));
-  calls = t.calls;
-  bounded = omega (arith, all);
-  ends = record { all_made = all; gave_bytes = omega (arith, all, t.some); last_gave = t.last_gave (omega (arith, all)); owed = owed_to_last_feed T t.read t.written state t.taken t.emptied };
-  read_rises = λ lt. absurd (omega (arith, lt, t.read_failures));
-  write_rises = λ lt. absurd (omega (arith, lt, t.write_failures));
-}
-
--- a run that ends after a read
-run_after : {I O : Type 0} (T : Terms) (remaining : I → Option (List ℕ)) (contents : O → Option (List ℕ)) (input before after : Device I) (output between last : Device O)
-    (state : Answering) (turn : ℕ) (piece part : List ℕ) (r : Result Counts ToolFault) (t : RunTurn T remaining contents input before output between state turn) → turn < most_reads → ReadsPiece remaining before after piece
-    → Appends (contents (inner_of between)) (contents (inner_of last)) part → IsBegun T (t.read ++ piece) (t.written ++ part) → EndsAs T remaining input after output last (turn + 1) (t.read ++ piece) (t.written ++ part) r
-    → (failures_of output < failures_of last → r ≡ Err faults.Write) → RunsLines T remaining contents input after output last r
-run_after T remaining contents input before after output between last state turn piece part r t few reads appends begun ends rises = record {
-  read = t.read ++ piece;
-  written = t.written ++ part;
-  reads = turn + 1;
-  consumes = Consumes-trans _ _ _ _ _ t.consumes reads.consumes;
-  appends = Appends-trans _ _ _ _ _ t.appends appends;
-  begun = begun;
-  calls = read_more input before after turn t.calls reads.calls;
-  bounded = omega (arith, few);
-  ends = ends;
-  read_rises = λ lt. absurd (omega (arith, lt, reads.failures, t.read_failures));
-  write_rises = rises;
-}
-
--- a run over lines that could not all be answered or written
-pub run_stopped : {I O : Type 0} (T : Terms) (remaining : I → Option (List ℕ)) (contents : O → Option (List ℕ)) (input before after : Device I) (output between last : Device O)
-    (state : Answering) (turn : ℕ) (piece part : List ℕ) (f : ToolFault) (t : RunTurn T remaining contents input before output between state turn) → turn < most_reads → ReadsPiece remaining before after piece
-    → Appends (contents (inner_of between)) (contents (inner_of last)) part → IsStop between last f → IsBegun T (t.read ++ piece) (t.written ++ part) → RunsLines T remaining contents input after output last (Err f)
-run_stopped T remaining contents input before after output between last state turn piece part f t few reads appends (inl wrote) begun = rw wrote.0
-    (run_after T remaining contents input before after output between last state turn piece part _ t few reads appends begun (failed_from output between last t.write_failures wrote.1) (λ _. refl))
-run_stopped T remaining contents input before after output between last state turn piece part f t few reads appends (inr lacks) begun = rw lacks.0
-    (run_after T remaining contents input before after output between last state turn piece part _ t few reads appends begun tt (λ lt. absurd (omega (arith, lt, t.write_failures, lacks.1))))
-
--- the reader was at its end
-pub run_finished : {I O : Type 0} (T : Terms) (remaining : I → Option (List ℕ)) (contents : O → Option (List ℕ)) (input before after : Device I) (output between last : Device O)
-    (state : Answering) (turn : ℕ) (piece : List ℕ) (r : Result Counts ToolFault) → RunTurn T remaining contents input before output between state turn → turn < most_reads → ReadsPiece remaining before after piece
-    → piece ≡ [] → IsAtEnd (remaining (inner_of after)) → FinishesLines T contents state between last r → RunsLines T remaining contents input after output last r
-run_finished T remaining contents input before after output between last state turn piece r t few reads none end finish =
-    by_result r finish.done finish.stopped
-  where
-    all : t.read ≡ t.read ++ piece
-    all = sym (append-nil t.read) ∙ ap (λ (l : List ℕ). t.read ++ l) (sym none)
-
-    run : (r : Result Counts ToolFault) → IsBegun T (t.read ++ piece) (t.written ++ finish.written) → EndsAs T remaining input after output last (turn + 1) (t.read ++ piece) (t.written ++ finish.written) r
-        → failures_of last ≡ failures_of between → RunsLines T remaining contents input after output last r
-    run r begun ends same = run_after T remaining contents input before after output between last state turn piece finish.written r t few reads finish.appends begun ends
-        (λ lt. absurd (omega (arith, lt, same, t.write_failures)))
-
-    by_result : (r : Result Counts ToolFault) → IfOk r (λ counts. (failures_of last ≡ failures_of between) × ((bytes out : List ℕ) → IsTaken T bytes out state → IsOwed T bytes (out ++ finish.written) counts))
-        → IfErr r (IsLastStop T state between last finish.written) → RunsLines T remaining contents input after output last r
-    by_result (Ok counts) done stopped =
-        let owed = subst (λ (l : List ℕ). IsOwed T l (t.written ++ finish.written) counts) all (done.1 t.read t.written t.taken) in
-        run (Ok counts) (record { lines = units_of T.form (t.read ++ piece); others = []; cut = sym (append-nil (units_of T.form (t.read ++ piece))); owed = owed.owed; each = owed.each; rest = []; front = sym owed.all ∙ sym (append-nil _) })
-        (record { end = end; owed = owed }) done.0
-    by_result (Err f) done (inl q) =
-        let quotes = subst (λ (l : List ℕ). EndsInQuotes T l (t.written ++ finish.written) q.line) all (q.ends t.read t.written t.taken t.emptied) in
-        rw q.fault (run (Err (faults.BadCsv q.line)) (begun_to_last_feed T (t.read ++ piece) (t.written ++ finish.written) quotes.owed) (record { end = end; ends = quotes }) q.same)
-    by_result (Err f) done (inr stop) = run_stopped T remaining contents input before after output between last state turn piece finish.written f t few reads finish.appends stop.0
-        (subst (λ (l : List ℕ). IsBegun T l (t.written ++ finish.written)) all (stop.1 t.read t.written t.taken))
-
 -- the pieces' buffer after a read
 pub refilled : (count : ℕ) (items buffer : List ℕ) → count ≡ length items → length buffer ≡ length items → take count (buffer ++ drop (length buffer) items) ≡ buffer
 refilled count items buffer is same = ap (λ (n : ℕ). take n (buffer ++ drop (length buffer) items)) (is ∙ sym same) ∙ take-append_seam buffer (drop (length buffer) items)
 
--- the counts have room for the lines of a piece
-pub run_room : {I O : Type 0} (T : Terms) (remaining : I → Option (List ℕ)) (contents : O → Option (List ℕ)) (input before : Device I) (output between : Device O)
-    (state : Answering) (turn lines : ℕ) → RunTurn T remaining contents input before output between state turn → turn < most_reads → lines ≤ 65536 → HasRoom state lines
-run_room T remaining contents input before output between state turn lines t few short =
-    let room = taken_room T t.read t.written state t.taken in
-    record { room = omega (arith, room.0, t.most, few, short); feeds = omega (arith, room.2, t.most, few, short); refused = room.1 }
+module _ {I O : Type 0} (T : Terms) (remaining : I → Option (List ℕ)) (contents : O → Option (List ℕ)) (input before : Device I) (output between : Device O)
+    (state : Answering) (turn : ℕ) (t : RunTurn T remaining contents input before output between state turn) where
+  -- a piece was read and taken
+  pub run_next : (after : Device I) (last : Device O) (new : Answering) (piece : List ℕ) → ReadsPiece remaining before after piece
+      → 0 < length piece → length piece ≤ 65536 → 0 < last_given_of after → TakesPiece T contents piece state new between last (Ok tt) → RunTurn T remaining contents input after output last new (turn + 1)
+  run_next after last new piece r some short gave takes = record {
+    read = t.read ++ piece;
+    written = t.written ++ takes.written;
+    consumes = Consumes-trans _ _ _ _ _ t.consumes r.consumes;
+    appends = Appends-trans _ _ _ _ _ t.appends takes.appends;
+    taken = takes.done.2 t.read t.written t.taken;
+    emptied = takes.done.1;
+    calls = read_more input before after turn t.calls r.calls;
+    some = let n = length-append t.read piece in omega (arith, n, t.some);
+    last_gave = λ some. gave;
+    most = let n = length-append t.read piece in omega (arith, n, t.most);
+    read_failures = r.failures ∙ t.read_failures;
+    write_failures = takes.done.0 ∙ t.write_failures;
+  }
+
+  -- a read failed
+  pub run_failed : (after : Device I) → turn < most_reads → Keeps (remaining (inner_of before)) (remaining (inner_of after)) → reads_of after ≡ one_more (reads_of before)
+      → HasFailed before after → RunsLines T remaining contents input after output between (Err faults.Read)
+  run_failed after few kept more failed = record {
+    read = t.read;
+    written = t.written;
+    reads = turn + 1;
+    consumes = Consumes-kept _ _ _ _ t.consumes kept;
+    appends = t.appends;
+    begun = begun_nothing T t.read t.written [] t.read state t.taken (sym (append-nil t.read));
+    calls = read_more input before after turn t.calls more;
+    bounded = omega (arith, few);
+    ends = record { failed = failed_from input before after t.read_failures failed; owed = owed_to_last_feed T t.read t.written state t.taken t.emptied };
+    read_rises = λ lt. refl;
+    write_rises = λ lt. absurd (omega (arith, lt, t.write_failures));
+  }
+
+  -- all reads were made
+  pub run_turns : turn ≡ most_reads → RunsLines T remaining contents input before output between (Err faults.TooManyTurns)
+  run_turns all = record {
+    read = t.read;
+    written = t.written;
+    reads = turn;
+    consumes = t.consumes;
+    appends = t.appends;
+    begun = begun_nothing T t.read t.written [] t.read state t.taken (sym (append-nil t.read));
+    calls = t.calls;
+    bounded = omega (arith, all);
+    ends = record { all_made = all; gave_bytes = omega (arith, all, t.some); last_gave = t.last_gave (omega (arith, all)); owed = owed_to_last_feed T t.read t.written state t.taken t.emptied };
+    read_rises = λ lt. absurd (omega (arith, lt, t.read_failures));
+    write_rises = λ lt. absurd (omega (arith, lt, t.write_failures));
+  }
+
+  -- a run that ends after a read
+  run_after : (after : Device I) (last : Device O) (piece part : List ℕ) (r : Result Counts ToolFault) → turn < most_reads → ReadsPiece remaining before after piece
+      → Appends (contents (inner_of between)) (contents (inner_of last)) part → IsBegun T (t.read ++ piece) (t.written ++ part) → EndsAs T remaining input after output last (turn + 1) (t.read ++ piece) (t.written ++ part) r
+      → (failures_of output < failures_of last → r ≡ Err faults.Write) → RunsLines T remaining contents input after output last r
+  run_after after last piece part r few reads appends begun ends rises = record {
+    read = t.read ++ piece;
+    written = t.written ++ part;
+    reads = turn + 1;
+    consumes = Consumes-trans _ _ _ _ _ t.consumes reads.consumes;
+    appends = Appends-trans _ _ _ _ _ t.appends appends;
+    begun = begun;
+    calls = read_more input before after turn t.calls reads.calls;
+    bounded = omega (arith, few);
+    ends = ends;
+    read_rises = λ lt. absurd (omega (arith, lt, reads.failures, t.read_failures));
+    write_rises = rises;
+  }
+
+  -- a run over lines that could not all be answered or written
+  pub run_stopped : (after : Device I) (last : Device O) (piece part : List ℕ) (f : ToolFault) → turn < most_reads → ReadsPiece remaining before after piece
+      → Appends (contents (inner_of between)) (contents (inner_of last)) part → IsStop between last f → IsBegun T (t.read ++ piece) (t.written ++ part) → RunsLines T remaining contents input after output last (Err f)
+  run_stopped after last piece part f few reads appends (inl wrote) begun = rw wrote.0
+      (run_after after last piece part _ few reads appends begun (failed_from output between last t.write_failures wrote.1) (λ _. refl))
+  run_stopped after last piece part f few reads appends (inr lacks) begun = rw lacks.0
+      (run_after after last piece part _ few reads appends begun tt (λ lt. absurd (omega (arith, lt, t.write_failures, lacks.1))))
+
+  -- the reader was at its end
+  pub run_finished : (after : Device I) (last : Device O) (r : Result Counts ToolFault) → turn < most_reads → ReadsPiece remaining before after [] → IsAtEnd (remaining (inner_of after))
+      → FinishesLines T contents state between last r → RunsLines T remaining contents input after output last r
+  run_finished after last (Ok counts) few reads end f =
+      let owed : IsOwed T (t.read ++ []) (t.written ++ f.written) counts = rw (append-nil t.read) (f.done.1 t.read t.written t.taken) in
+      run_after after last [] f.written (Ok counts) few reads f.appends
+      (record { lines = units_of T.form (t.read ++ []); others = []; cut = sym (append-nil (units_of T.form (t.read ++ []))); owed = owed.owed; each = owed.each; rest = []; front = sym owed.all ∙ sym (append-nil _) })
+      (record { end = end; owed = owed }) (λ lt. absurd (omega (arith, lt, f.done.0, t.write_failures)))
+  run_finished after last (Err e) few reads end f = elim f.stopped [
+    | inl q ↦
+        let quotes : EndsInQuotes T (t.read ++ []) (t.written ++ f.written) q.line = rw (append-nil t.read) (q.ends t.read t.written t.taken t.emptied) in
+        rw q.fault (run_after after last [] f.written (Err (faults.BadCsv q.line)) few reads f.appends (begun_to_last_feed T (t.read ++ []) (t.written ++ f.written) quotes.owed)
+        (record { end = end; ends = quotes }) (λ lt. absurd (omega (arith, lt, q.same, t.write_failures))))
+    | inr stop ↦ run_stopped after last [] f.written e few reads f.appends stop.0 (rw (append-nil t.read) (stop.1 t.read t.written t.taken))
+  ]
+
+  -- the counts have room for the lines of a piece
+  pub run_room : (lines : ℕ) → turn < most_reads → lines ≤ 65536 → HasRoom state lines
+  run_room lines few short =
+      let room = taken_room T t.read t.written state t.taken in
+      record { room = omega (arith, room.0, t.most, few, short); feeds = omega (arith, room.2, t.most, few, short); refused = room.1 }

@@ -1,17 +1,123 @@
--- What was taken of lines that come in pieces.
-use Rattle.std.proofs.Common.{◌≡◌, ◌≤◌, ◌<◌, ◌+◌, ◌-◌, ◌++◌, ◌∷◌, ◌∙◌, inl, inr, ℕ, List, [], true, false, length, take, sym, ap, refl, subst, arith, append_assoc, append-nil, length-append, ◌==◌}
+-- Lines that are ended, what is owed for them, and what was taken of lines that come in pieces.
+use Rattle.std.proofs.Math.Bool.{and-true, and-false}
+use Rattle.std.proofs.Common.{Result, Ok, Err, OnOk, ◌&&◌, ◌≡◌, ◌≢◌, ◌≤◌, ◌<◌, ◌+◌, ◌++◌, ◌∷◌, ◌∙◌, ℕ, List, [], Bool, true, false, length, sym, ap, refl, subst, arith, append_assoc, append-nil, length-append, suc, cond, ◌==◌, ne_eqb, ◌-◌, inl, inr, take}
+use Rattle.std.specs.List.{AllByRecursion}
+use Rattle.std.proofs.lemmas.List.Elements.{All-append, All-head, All-tail}
+use Rattle.std.proofs.lemmas.List.Sums.{sum_by-append, count_by-le-length}
+use Rattle.lt_jar.proofs.CutLemmas.{lines_of-ended, lines_of-last}
+use Rattle.lt_lines.specs.Answering.{kept_of, one_if, open_after, AreRecent, GoesOn, IsAnswered, IsTaken, IsWholeAfter, KeepsLine, longest_kept, part_kept}
+use Rattle.lt_lines.specs.Owed.{AreRepliesFrom, IsOneLine, IsReplyTo, IsUnit, IsWhole, Reply, Terms, bytes_in, ended, feeds_in, is_open, refused_in, units_of, EndsInQuotes, IsBegun, IsOwed, IsOwedToLastFeed}
+use Rattle.lt_lines.specs.Quotes.{is_inside}
+use Rattle.lt_lines.specs.declared.forms.LineForm.{LineForm}
+use Rattle.lt_lines.proofs.RowLemmas.{each-last, free-append, free_of_none, is_inside-append, records_from-ended, records_from-last}
 use Rattle.std.proofs.lemmas.Bool.{eqb-true, eqb-false}
 use Rattle.std.proofs.lemmas.Bool.Decides.{leb_tells}
 use Rattle.std.proofs.lemmas.List.{take_all, length-take, length-take-le, nil_from_length, take-append-le}
-use Rattle.std.proofs.lemmas.List.Sums.{count_by-le-length}
 use Rattle.std.proofs.Math.Seq.{take-append-add}
-use Rattle.lt_lines.specs.Answering.{AreRecent, GoesOn, IsAnswered, IsTaken, IsWholeAfter, KeepsLine, kept_of, longest_kept, one_if, open_after, part_kept}
-use Rattle.lt_lines.specs.Owed.{EndsInQuotes, IsBegun, IsOneLine, IsOwed, IsOwedToLastFeed, IsReplyTo, IsUnit, IsWhole, Reply, Terms, ended, feeds_in, is_open, units_of}
-use Rattle.lt_lines.specs.declared.forms.LineForm.{LineForm}
-use Rattle.lt_lines.specs.declared.forms.LineForm.TheVariants as forms
 use Rattle.lt_lines.specs.DeviceOutput.{IsFrontOf}
 use Rattle.lt_lines.specs.declared.answering.Answering.{Answering}
-use Rattle.lt_lines.proofs.OwedLemmas.{bytes_in-last, each-last, ended-append, ended-length, ended_first, feeds_in-append, first_by_count, no_feeds, of_none, one_feed, open-append, open-feed, open_after_ended, refused_in-last, replies-append, replies-length, unit-append, unit-feed, units-ended, units-last}
+use Rattle.lt_lines.specs.declared.forms.LineForm.TheVariants as forms
+
+-- ---- lines by their form
+
+-- of no bytes
+pub record HasNone (form : LineForm) : Type 0 where
+  pub units : units_of form [] ≡ []
+  pub unit : IsUnit form []
+  pub closed : is_open form [] ≡ false
+  pub kept : kept_of form [] ≡ []
+
+pub of_none : (form : LineForm) → HasNone form
+of_none (forms.Csv before) = record { units = refl; unit = tt; closed = refl; kept = refl }
+of_none form = record { units = refl; unit = λ k d lt. absurd (omega (arith, lt)); closed = refl; kept = refl }
+
+-- a line and its line feed
+pub units-ended : (form : LineForm) (line rest : List ℕ) → IsWhole form line → units_of form (line ++ 10 ∷ rest) ≡ line ∷ units_of form rest
+units-ended (forms.Csv before) line rest h = records_from-ended false line rest h.unit h.closed
+units-ended form line rest h = lines_of-ended line rest h.unit
+
+-- a last line
+pub units-last : (form : LineForm) (line : List ℕ) → IsUnit form line → 0 < length line → units_of form line ≡ line ∷ []
+units-last (forms.Csv before) line one some = records_from-last false line one some
+units-last form line one some = lines_of-last line one some
+
+-- a line goes on with bytes before the next line feed
+pub unit-append : (form : LineForm) (last part : List ℕ) → IsUnit form last → IsOneLine part → IsUnit form (last ++ part)
+unit-append (forms.Csv before) last part h one = free-append 10 false last part h (free_of_none 10 (is_inside false last) part one)
+unit-append form last part h one = All-append (λ (byte : ℕ). byte ≢ 10) last part h one
+
+pub open-append : (form : LineForm) (last part : List ℕ) → is_open form (last ++ part) ≡ open_after form (is_open form last) part
+open-append (forms.Csv before) last part = is_inside-append false last part
+open-append form last part = refl
+
+-- a line feed within quotes
+feed_within : (form : LineForm) (last : List ℕ) → IsUnit form last → is_open form last ≡ true → IsUnit form (last ++ 10 ∷ []) × (is_open form (last ++ 10 ∷ []) ≡ true)
+feed_within (forms.Csv before) last h inside = (free-append 10 false last (10 ∷ []) h (λ e. inside, tt), is_inside-append false last (10 ∷ []) ∙ ap (λ b. is_inside b (10 ∷ [])) inside)
+feed_within form last h inside = let bad : false ≡ true = inside in cc
+
+-- lines that are ended come first
+pub ended_first : (form : LineForm) (lines : List (List ℕ)) (more : List ℕ) → AllByRecursion (IsWhole form) lines
+    → units_of form (ended lines ++ more) ≡ lines ++ units_of form more
+ended_first form [] more h = refl
+ended_first form (line ∷ lines) more h =
+    rw (append_assoc line (10 ∷ ended lines) more, units-ended form line (ended lines ++ more) h.0, ended_first form lines more h.1) refl
+
+-- no quote is open after them
+open_after_ended : (form : LineForm) (lines : List (List ℕ)) (last : List ℕ) → AllByRecursion (IsWhole form) lines
+    → is_open form (ended lines ++ last) ≡ is_open form last
+open_after_ended form [] last h = refl
+open_after_ended (forms.Csv before) (line ∷ lines) last h =
+    rw (append_assoc line (10 ∷ ended lines) last, is_inside-append false line (10 ∷ (ended lines ++ last)), h.0.closed) (open_after_ended (forms.Csv before) lines last h.1)
+open_after_ended form lines last h = refl
+
+-- one more line that is ended
+pub ended-append : (lines : List (List ℕ)) (line : List ℕ) → ended (lines ++ line ∷ []) ≡ ended lines ++ (line ++ 10 ∷ [])
+ended-append [] line = refl
+ended-append (l ∷ lines) line = rw (ended-append lines line, append_assoc l (10 ∷ ended lines) (line ++ 10 ∷ [])) refl
+
+-- there are no more lines than bytes that end them
+pub ended-length : (lines : List (List ℕ)) → length lines ≤ length (ended lines)
+ended-length [] = omega arith
+ended-length (line ∷ lines) = let fewer = ended-length lines in omega (arith, length-append line (10 ∷ ended lines))
+
+-- ---- line feeds
+
+feeds_in-append : (text more : List ℕ) → feeds_in (text ++ more) ≡ feeds_in text + feeds_in more
+feeds_in-append text more = sum_by-append (λ (byte : ℕ). cond (byte == 10) 1 0) text more
+
+pub no_feeds : (text : List ℕ) → IsOneLine text → feeds_in text ≡ 0
+no_feeds [] one = refl
+no_feeds (byte ∷ text) one =
+    rw (ne_eqb byte 10 (All-head (λ (b : ℕ). b ≢ 10) byte text one)) (omega (arith, no_feeds text (All-tail (λ (b : ℕ). b ≢ 10) byte text one)))
+
+pub one_feed : (text part : List ℕ) → IsOneLine part → feeds_in (text ++ (part ++ 10 ∷ [])) ≡ feeds_in text + 1
+one_feed text part one =
+    rw (feeds_in-append text (part ++ 10 ∷ []), feeds_in-append part (10 ∷ []), no_feeds part one) refl
+
+-- ---- answers
+
+-- a line after these is the first of all if there are none
+replies-append : (T : Terms) (first : Bool) (lines : List (List ℕ)) (owed : List Reply) (line : List ℕ) (r : Reply)
+    → AreRepliesFrom T first lines owed → IsReplyTo T ((length owed == 0) && first) line r → AreRepliesFrom T first (lines ++ line ∷ []) (owed ++ r ∷ [])
+replies-append T first [] [] line r h one = (one, tt)
+replies-append T first (l ∷ lines) (o ∷ owed) line r h one =
+    let later = rw (ne_eqb (suc (length owed)) 0 (λ e. omega (arith, e))) at one in
+    (h.0, replies-append T false lines owed line r h.1 (rw (and-false (length owed == 0)) later))
+replies-append T first lines owed line r h one = absurd h
+
+-- an answer is owed for each line
+pub replies-length : (T : Terms) (first : Bool) (lines : List (List ℕ)) (owed : List Reply) → AreRepliesFrom T first lines owed → length owed ≡ length lines
+replies-length T first [] [] h = refl
+replies-length T first (l ∷ lines) (o ∷ owed) h = ap (λ n. suc n) (replies-length T false lines owed h.1)
+replies-length T first lines owed h = absurd h
+
+pub bytes_in-last : (owed : List Reply) (r : Reply) → bytes_in (owed ++ r ∷ []) ≡ bytes_in owed ++ r.bytes
+bytes_in-last [] r = append-nil r.bytes
+bytes_in-last (o ∷ owed) r = ap (λ l. o.bytes ++ l) (bytes_in-last owed r) ∙ sym (append_assoc o.bytes (bytes_in owed) r.bytes)
+
+pub refused_in-last : (owed : List Reply) (r : Reply) → refused_in (owed ++ r ∷ []) ≡ refused_in owed + one_if r.refused
+refused_in-last owed r =
+    sum_by-append (λ (o : Reply). cond o.refused 1 0) owed (r ∷ []) ∙ ap (λ n. refused_in owed + n) (elim r.refused as (λ t. 0 + cond t 1 0 ≡ one_if t) [ true ↦ refl | false ↦ refl ])
 
 -- whether there are bytes, by their count
 pub no_items : (items : List ℕ) (count : ℕ) → count ≡ length items → (count == 0) ≡ true → items ≡ []
@@ -20,10 +126,9 @@ no_items items count is e = nil_from_length items (sym is ∙ eqb-true count 0 e
 pub some_items : (items : List ℕ) (count : ℕ) → count ≡ length items → (count == 0) ≡ false → items ≡ [] → ⊥
 some_items items count is e none = eqb-false count 0 e (is ∙ ap length none)
 
--- what is kept of a tag that goes on
-tag_more : (kept last part new : List ℕ) → kept ≡ take longest_kept last → new ≡ kept ++ take (longest_kept - length kept) part
-    → new ≡ take longest_kept (last ++ part)
-tag_more kept last part new is e = elim (leb_tells (length last) longest_kept) [
+-- what is kept of a line that goes on
+pub kept_more : (form : LineForm) (kept last part new : List ℕ) → kept ≡ kept_of form last → new ≡ kept ++ part_kept form (length kept) part → new ≡ kept_of form (last ++ part)
+kept_more forms.Tag kept last part new is e = elim (leb_tells (length last) longest_kept) [
   | inl short ↦
       let all : kept ≡ last = is ∙ take_all longest_kept last short.1 in
       let room : longest_kept ≡ length last + (longest_kept - length last) = omega (arith, short.1) in
@@ -34,10 +139,6 @@ tag_more kept last part new is e = elim (leb_tells (length last) longest_kept) [
       let none : longest_kept - length kept ≡ 0 = omega (arith, full) in
       e ∙ ap (λ (n : ℕ). kept ++ take n part) none ∙ append-nil kept ∙ is ∙ sym (take-append-le longest_kept last part (omega (arith, long.1)))
 ]
-
--- what is kept of a line that goes on
-pub kept_more : (form : LineForm) (kept last part new : List ℕ) → kept ≡ kept_of form last → new ≡ kept ++ part_kept form (length kept) part → new ≡ kept_of form (last ++ part)
-kept_more forms.Tag kept last part new is e = tag_more kept last part new is e
 kept_more form kept last part new is e = e ∙ ap (λ (l : List ℕ). l ++ part) is
 
 -- a line of which nothing is kept is empty
@@ -58,12 +159,10 @@ pub taken_line : (T : Terms) (bytes out part : List ℕ) (r : Reply) (old new : 
     → new.counts.refused ≡ old.counts.refused + one_if r.refused → AreRecent T new.recent → IsTaken T (bytes ++ (part ++ 10 ∷ [])) out new
 taken_line T bytes out part r old new t one owed_for grown none closed feeds lines refusals recent =
     let whole = t.last ++ part in
-    let split : (t.last ++ (part ++ 10 ∷ [])) ≡ whole ++ 10 ∷ [] = sym (append_assoc t.last part (10 ∷ [])) in
     record {
       lines = t.lines ++ whole ∷ [];
       last = [];
-      cut = ap (λ (l : List ℕ). l ++ (part ++ 10 ∷ [])) t.cut ∙ append_assoc (ended t.lines) t.last (part ++ 10 ∷ []) ∙ ap (λ (l : List ℕ). ended t.lines ++ l) split
-          ∙ sym (ended-append t.lines whole) ∙ sym (append-nil (ended (t.lines ++ whole ∷ [])));
+      cut = rw (t.cut, ended-append t.lines whole) (simp (append_assoc, append-nil));
       each_one = each-last (IsWhole T.form) t.lines whole t.each_one (record {
         unit = unit-append T.form t.last part t.last_one one.one;
         closed = open-append T.form t.last part ∙ ap (λ b. open_after T.form b part) (sym t.goes_on) ∙ one.closed;
@@ -73,8 +172,7 @@ taken_line T bytes out part r old new t one owed_for grown none closed feeds lin
       goes_on = closed ∙ sym (of_none T.form).closed;
       feeds = feeds ∙ ap (λ n. n + 1) t.feeds ∙ sym (one_feed bytes part one.one);
       owed = t.owed ++ r ∷ [];
-      each = replies-append T true t.lines t.owed whole r t.each
-          (subst (λ b. IsReplyTo T b whole r) (first_by_count t.lines old.counts.lines (t.count ∙ replies-length T true t.lines t.owed t.each)) (owed_for t.last t.kept));
+      each = replies-append T true t.lines t.owed whole r t.each (rw (and-true (length t.owed == 0), ← t.count) (owed_for t.last t.kept));
       all = ap (λ (l : List ℕ). out ++ l) grown ∙ sym (append_assoc out old.owed.items r.bytes) ∙ ap (λ (l : List ℕ). l ++ r.bytes) t.all ∙ sym (bytes_in-last t.owed r);
       count = omega (arith, lines, t.count, length-append t.owed (r ∷ []));
       refused = refusals ∙ ap (λ (n : ℕ). n + one_if r.refused) t.refused ∙ sym (refused_in-last t.owed r);
@@ -107,11 +205,12 @@ pub taken_within : (T : Terms) (bytes out part : List ℕ) (old new : Answering)
 taken_within T bytes out part old new t one inside g =
     let whole = t.last ++ part in
     let after : is_open T.form whole ≡ true = open-append T.form t.last part ∙ ap (λ b. open_after T.form b part) (sym t.goes_on) ∙ inside in
+    let fed = feed_within T.form whole (unit-append T.form t.last part t.last_one one) after in
     let split = append_assoc t.last part (10 ∷ []) in
     let front = old.kept.items ++ part_kept T.form (length old.kept.items) part in
-    taken_more T bytes out (part ++ 10 ∷ []) old new t (subst (IsUnit T.form) split (unit-feed T.form whole (unit-append T.form t.last part t.last_one one) after))
+    taken_more T bytes out (part ++ 10 ∷ []) old new t (subst (IsUnit T.form) split fed.0)
     (kept_more T.form front whole (10 ∷ []) new.kept.items (kept_more T.form old.kept.items t.last part front t.kept refl) g.kept ∙ ap (kept_of T.form) split)
-    (g.goes_on ∙ sym (open-feed T.form whole after) ∙ ap (is_open T.form) split) (g.feeds ∙ ap (λ n. old.feeds + n) (sym (one_feed [] part one))) g.owed g.counts g.recent
+    (g.goes_on ∙ sym fed.1 ∙ ap (is_open T.form) split) (g.feeds ∙ ap (λ n. old.feeds + n) (sym (one_feed [] part one))) g.owed g.counts g.recent
 
 -- with no line feed
 pub taken_part : (T : Terms) (bytes out part : List ℕ) (old new : Answering) → IsTaken T bytes out old → IsOneLine part
@@ -147,8 +246,7 @@ pub begun_front : (T : Terms) (bytes out part more all wrote : List ℕ) (state 
 begun_front T bytes out part more all wrote state t front all_is wrote_is = record {
   lines = t.lines;
   others = units_of T.form (t.last ++ more);
-  cut = ap (units_of T.form) (all_is ∙ ap (λ (l : List ℕ). l ++ more) t.cut ∙ append_assoc (ended t.lines) t.last more)
-      ∙ ended_first T.form t.lines (t.last ++ more) t.each_one;
+  cut = rw (all_is, t.cut, append_assoc (ended t.lines) t.last more) (ended_first T.form t.lines (t.last ++ more) t.each_one);
   owed = t.owed;
   each = t.each;
   rest = front.0;
@@ -166,8 +264,7 @@ taken_open T bytes out state t = ap (is_open T.form) t.cut ∙ open_after_ended 
 -- the lines of the bytes, where nothing is kept
 units_taken : (T : Terms) (bytes out : List ℕ) (state : Answering) (t : IsTaken T bytes out state) → state.kept.items ≡ [] → units_of T.form bytes ≡ t.lines
 units_taken T bytes out state t none =
-    ap (units_of T.form) t.cut ∙ ended_first T.form t.lines t.last t.each_one ∙ ap (λ (l : List ℕ). t.lines ++ units_of T.form l) (nothing_kept T.form state.kept.items t.last t.kept none)
-    ∙ ap (λ (l : List (List ℕ)). t.lines ++ l) (of_none T.form).units ∙ append-nil t.lines
+    rw (t.cut, ended_first T.form t.lines t.last t.each_one, nothing_kept T.form state.kept.items t.last t.kept none, (of_none T.form).units, append-nil t.lines) refl
 
 -- what was taken of other bytes answers these, if they have the same lines
 answered_by : (T : Terms) (bytes others out : List ℕ) (state : Answering) (t : IsTaken T others out state) → is_open T.form bytes ≡ false → units_of T.form bytes ≡ t.lines → IsAnswered T bytes out state
@@ -191,20 +288,25 @@ last_ended : (T : Terms) (bytes out : List ℕ) (state : Answering) → IsTaken 
     → units_of T.form (bytes ++ 10 ∷ []) ≡ units_of T.form bytes
 last_ended T bytes out state t some closed =
     let long : 0 < length t.last = last_length t.last t.kept in
-    let units = units_of T.form in
     rw (t.cut, append_assoc (ended t.lines) t.last (10 ∷ []), ended_first T.form t.lines (t.last ++ 10 ∷ []) t.each_one, ended_first T.form t.lines t.last t.each_one)
-    (ap (λ (l : List (List ℕ)). t.lines ++ l) (units-ended T.form t.last [] (record { unit = t.last_one; closed = sym t.goes_on ∙ closed })
-    ∙ ap (λ (l : List (List ℕ)). t.last ∷ l) (of_none T.form).units ∙ sym (units-last T.form t.last t.last_one long)))
+    (rw (units-ended T.form t.last [] (record { unit = t.last_one; closed = sym t.goes_on ∙ closed }), (of_none T.form).units, units-last T.form t.last t.last_one long) refl)
   where
     last_length : (last : List ℕ) → state.kept.items ≡ kept_of T.form last → 0 < length last
     last_length [] is = absurd (some (is ∙ (of_none T.form).kept))
     last_length (byte ∷ last) is = omega arith
 
--- a last line was ended and answered
-pub answered_last : (T : Terms) (bytes out : List ℕ) (old new : Answering) → IsTaken T bytes out old → (old.kept.items ≡ [] → ⊥) → old.is_open ≡ false
-    → IsTaken T (bytes ++ 10 ∷ []) out new → new.kept.items ≡ [] → IsAnswered T bytes out new
-answered_last T bytes out old new t some closed after none =
+nothing_after : (form : LineForm) (inside : Bool) → inside ≡ false → open_after form inside [] ≡ false
+nothing_after (forms.Csv before) inside closed = closed
+nothing_after form inside closed = refl
+
+-- whether the last line was answered
+pub last_answered : {E : Type 0} (T : Terms) (old new : Answering) (r : Result (Unit {0}) E) → (old.kept.items ≡ [] → ⊥) → old.is_open ≡ false
+    → OnOk r ((bytes out : List ℕ) → IsWholeAfter T.form old.is_open [] → IsTaken T bytes out old → IsTaken T (bytes ++ ([] ++ 10 ∷ [])) out new) → OnOk r (new.kept.items ≡ [])
+    → OnOk r ((bytes out : List ℕ) → IsTaken T bytes out old → IsAnswered T bytes out new)
+last_answered T old new (Ok _) some closed taken none =
+    λ bytes out t. let after = taken bytes out (record { one = λ k d lt. absurd (omega (arith, lt)); closed = nothing_after T.form old.is_open closed }) t in
     answered_by T bytes (bytes ++ 10 ∷ []) out new after (taken_open T bytes out old t ∙ sym t.goes_on ∙ closed) (sym (last_ended T bytes out old t some closed) ∙ units_taken T (bytes ++ 10 ∷ []) out new after none)
+last_answered T old new (Err _) some closed taken none = tt
 
 -- all that is owed was written
 pub owed_all : (T : Terms) (bytes out part : List ℕ) (state new : Answering) → IsAnswered T bytes out state → KeepsLine state new

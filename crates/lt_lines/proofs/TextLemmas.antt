@@ -1,13 +1,13 @@
--- What is owed for a text by its first bytes: a long one is too long, and a canonical one is no refusal.
-use Rattle.std.proofs.Common.{map, ◌≡◌, ◌≤◌, ◌<◌, ◌+◌, ◌-◌, ◌++◌, ◌∷◌, inl, inr, ℕ, List, [], Bool, true, false, length, take, sym, ap, ◌∙◌, append_assoc, refl, subst, arith, if◌then◌else◌, ◌==◌, ◌&&◌, take_all, length-take-le}
+-- What is owed for a text by its first bytes: a long one is too long, and a canonical one is no refusal. Answers that were given lately.
+use Rattle.std.proofs.Common.{map, ◌≡◌, ◌≤◌, ◌<◌, ◌+◌, ◌-◌, ◌++◌, ◌∷◌, inl, inr, ℕ, List, [], Bool, true, false, length, take, sym, ap, ◌∙◌, append_assoc, refl, subst, arith, if◌then◌else◌, ◌==◌, ◌&&◌, take_all, length-take-le, Option, Result, OnOk, drop, All}
 use Rattle.std.proofs.lemmas.Bool.{cases_Bool, eqb-true}
 use Rattle.std.proofs.lemmas.Bool.Decides.{leb_tells}
 use Rattle.std.specs.Io.BufRead.{ends_with_byte}
+use Rattle.std.proofs.lemmas.List.{take_rest}
 use Rattle.std.specs.List.{list_all, onto_first}
 use Rattle.lt_subtag.specs.Bytes.{folded, is_subtag}
 use Rattle.lt_tag.specs.Faults.{HasList}
 use Rattle.lt_tag.specs.Lists.{pieces, longest_text}
-use Rattle.lt_tag.specs.declared.faults.TagFaultKind.TheVariants as kinds
 use Rattle.lt_tag.proofs.LetterLemmas.{from_HasList}
 use Rattle.lt_tag.proofs.FaultLemmas.{one_fault}
 use Rattle.lt_tag.proofs.OneTagLemmas.{text_of_tag}
@@ -15,10 +15,18 @@ use Rattle.lt_jar.specs.Lines.{content_of}
 use Rattle.lt_registry.specs.Parts.{EntryParts}
 use Rattle.lt_canon.specs.Texts.{AppendsCanonicalText, IsTextRefusal}
 use Rattle.lt_canon.specs.declared.refusals.TextRefusal.{TextRefusal}
-use Rattle.lt_canon.specs.declared.refusals.TextRefusal.TheVariants as refusals
-use Rattle.lt_lines.specs.Answering.{AppendsTextReply, kept_of, longest_kept}
-use Rattle.lt_lines.specs.Owed.{IsReplyIn, IsTextReply, Reply, is_refusal}
+use Rattle.lt_lines.specs.Answering.{AppendsTextReply, kept_of, longest_kept, AreRecent, IsRecent}
+use Rattle.lt_lines.specs.Owed.{IsReplyIn, IsTextReply, Reply, is_refusal, Terms, terms}
 use Rattle.lt_lines.specs.declared.forms.LineForm.{LineForm}
+use Rattle.std.proofs.lemmas.Result.{on_ok_weaker}
+use Rattle.std.proofs.Math.Seq.{drop-append_seam}
+use Rattle.lt_tag.specs.declared.faults.OutOfMemory.{OutOfMemory}
+use Rattle.lt_recent.specs.Recent.{PutsIn, kept}
+use Rattle.lt_recent.specs.declared.Kept.{Kept}
+use Rattle.lt_ends.proofs.KeptEnds.{all_put}
+use Rattle.lt_lines.specs.declared.recent_answers.RecentAnswers.{RecentAnswers}
+use Rattle.lt_tag.specs.declared.faults.TagFaultKind.TheVariants as kinds
+use Rattle.lt_canon.specs.declared.refusals.TextRefusal.TheVariants as refusals
 use Rattle.lt_lines.specs.declared.forms.LineForm.TheVariants as forms
 
 -- ---- long texts
@@ -51,17 +59,13 @@ content-length line = elim (ends_with_byte 13 line) as (λ t. length line ≤ le
   | false ↦ omega arith
 ]
 
--- what is owed for the front of a tag, as far as it is kept, is owed for the tag
-reply_for_front : (R : List EntryParts) (line : List ℕ) (r : Reply) → IsTextReply R (content_of (take longest_kept line)) r → IsTextReply R (content_of line) r
-reply_for_front R line r owed = elim (leb_tells (length line) longest_kept) [
+-- what is owed for the front of a line, as far as it is kept, is owed for the line
+pub reply_for_kept : (R : List EntryParts) (form : LineForm) (first : Bool) (line : List ℕ) (r : Reply) → IsReplyIn R form first (kept_of form line) r → IsReplyIn R form first line r
+reply_for_kept R forms.Tag first line r owed = elim (leb_tells (length line) longest_kept) [
   | inl short ↦ subst (λ (l : List ℕ). IsTextReply R (content_of l) r) (take_all longest_kept line short.1) owed
   | inr long ↦ reply_for_long R (content_of (take longest_kept line)) (content_of line) r
       (omega (arith, length-take-le longest_kept line (omega (arith, long.1)), content-length (take longest_kept line))) (omega (arith, content-length line, long.1)) owed
 ]
-
--- what is owed for the front of a line, as far as it is kept, is owed for the line
-pub reply_for_kept : (R : List EntryParts) (form : LineForm) (first : Bool) (line : List ℕ) (r : Reply) → IsReplyIn R form first (kept_of form line) r → IsReplyIn R form first line r
-reply_for_kept R forms.Tag first line r owed = reply_for_front R line r owed
 reply_for_kept R form first line r owed = owed
 
 -- ---- refusals
@@ -96,3 +100,17 @@ canonical_reply R text old new ended a last = record {
     marked = sym (unmarked a.canonical (subst HasList (sym a.is_canonical.written) (text_of_tag a.is_canonical.form a.is_canonical.is_form.canonical.valid.proper.tag.tag).0));
   };
 }
+
+-- what was appended for a text may be put
+pub put_appended : (T : Terms) (before after : List (Option Kept)) (text bytes old new items : List ℕ) (start : ℕ) (refused : Bool) → PutsIn before after text (take (length items - start) (drop start items)) refused
+    → items ≡ new → start ≡ length old → new ≡ old ++ bytes → IsRecent T (kept text bytes refused) → All (IsRecent T) before → All (IsRecent T) after
+put_appended T before after text bytes old new items start refused puts is from grown right =
+    let same : take (length items - start) (drop start items) ≡ bytes = take_rest items start ∙ rw (is, from, grown) (drop-append_seam old bytes) in
+    all_put (IsRecent T) before after text (take (length items - start) (drop start items)) refused puts (subst (λ (l : List ℕ). IsRecent T (kept text l refused)) (sym same) right)
+
+-- the canonical texts of fields are kept alike where tabs part fields and where commas do
+pub csv_recent : (R : List EntryParts) (before : ℕ) (form : LineForm) (r : Result Bool OutOfMemory) (old new : RecentAnswers) → form ≡ forms.Csv before
+    → OnOk r (AreRecent (terms R (forms.Row before)) old → AreRecent (terms R (forms.Row before)) new) → OnOk r (AreRecent (terms R form) old → AreRecent (terms R form) new)
+csv_recent R before form r old new is h =
+    subst (λ (f : LineForm). OnOk r (AreRecent (terms R f) old → AreRecent (terms R f) new)) (sym is)
+    (on_ok_weaker r (λ keeps recent. let a = keeps (record { whole = recent.whole; ends = recent.ends }) in record { whole = a.whole; ends = a.ends }) h)

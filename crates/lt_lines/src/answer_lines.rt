@@ -58,6 +58,7 @@ pub(crate) fn without_return(line: &[u8]) -> &[u8]
 }
 
 /// Appends what is owed for a text, and tells whether it was refused.
+#[tactic(auto, using(crate::proofs::TextLemmas::canonical_reply))]
 pub(crate) fn append_answer<L: Lookup>(
     lines: &mut Vec<u8>,
     alloc: Global,

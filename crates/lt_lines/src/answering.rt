@@ -67,6 +67,7 @@ fn is_open_after(form: LineForm, is_open: bool, part: &[u8]) -> bool
 }
 
 /// Appends what is owed for the line that the first `count` bytes of a text are, and tells whether it was refused.
+#[tactic(auto, using(crate::proofs::TextLemmas::csv_recent))]
 fn append_reply<L: Lookup>(
     lines: &mut Vec<u8>,
     alloc: Global,

@@ -10,6 +10,7 @@ fn after_byte(inside: bool, byte: u8) -> bool
 }
 
 /// Whether what follows a text is within quotes, by whether its first byte is.
+#[tactic(auto, using(crate::proofs::RowLemmas::inside_next))]
 pub(crate) fn after_text(inside: bool, text: &[u8]) -> bool
     ensures { result ≡ is_inside inside text.now }
 {
@@ -21,6 +22,7 @@ pub(crate) fn after_text(inside: bool, text: &[u8]) -> bool
 }
 
 /// What is before the first such byte outside of quotes and after it, if there is one.
+#[tactic(auto, using(crate::proofs::RowLemmas::inside_next, crate::proofs::RowLemmas::free_next))]
 pub(crate) fn split_outside(stop: u8, text: &[u8]) -> Option<(&[u8], &[u8])>
     ensures { SplitsOutside stop text.now result }
 {

@@ -56,6 +56,7 @@ pub(crate) fn append_again<L: Lookup>(
 
 /// Appends what is owed for a text whose subtags stay as they are, and tells whether it did; for any other it does
 /// nothing.
+#[tactic(auto, using(crate::proofs::TextLemmas::canonical_reply))]
 #[inline(always)]
 fn append_usual_answer<L: Lookup>(
     lines: &mut Vec<u8>,

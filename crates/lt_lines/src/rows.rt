@@ -37,6 +37,7 @@ impl Separator {
 }
 
 /// The rest of a row, after this many fields, if it has more.
+#[tactic(auto, using(crate::proofs::RowLemmas::skips_none, crate::proofs::RowLemmas::skips_more, crate::proofs::RowLemmas::skips_last))]
 fn skip_fields(separator: Separator, row: &[u8], count: usize) -> Option<&[u8]>
     ensures { MatchOption result (HasFewer separator count row.now) (λ rest. Skips separator count row.now rest.now) }
 {

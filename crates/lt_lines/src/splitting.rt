@@ -5,6 +5,7 @@ ghost use Rattle.lt_lines.specs.Splitting.{SplitsAt};
 use memchr::memchr_iter;
 
 /// Where the first such byte is, which is likely to be near: the next 32 bytes are looked at first.
+#[tactic(auto, using(crate::proofs::RowLemmas::first_byte))]
 #[inline(always)]
 fn first_place(byte: u8, bytes: &[u8]) -> Option<usize>
     ensures { IsFirstByte (is_byte byte) bytes.now result }
@@ -13,6 +14,7 @@ fn first_place(byte: u8, bytes: &[u8]) -> Option<usize>
 }
 
 /// What is before the first such byte and after it, if there is one: `a` and `b-c` of `a-b-c` at a hyphen.
+#[tactic(auto, using(crate::proofs::RowLemmas::free_front, crate::proofs::RowLemmas::free_whole, crate::proofs::RowLemmas::split_at))]
 #[inline(always)]
 pub fn split_first(byte: u8, bytes: &[u8]) -> Option<(&[u8], &[u8])>
     ensures { SplitsAt byte bytes.now result }

@@ -1,6 +1,2 @@
 -- Lemmas on judging an explanation.
-pub mod StepLemmas
-pub mod FollowLemmas
-pub mod VerdictLemmas
-pub mod PlaceLemmas
-pub mod PrintedLemmas
+pub mod JudgingLemmas

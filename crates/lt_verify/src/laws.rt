@@ -7,6 +7,7 @@ use lt_canon::laws::traces_have_one_end;
 use lt_registry::Lookup;
 
 /// Lines have one verdict. Nothing is computed here: the contract is the law.
+#[tactic(auto, using(crate::proofs::JudgingLemmas::one_verdict))]
 pub fn lines_have_one_verdict()
     ensures { (R : List EntryParts) → HaveOneVerdict R }
 {
@@ -23,6 +24,7 @@ fn numbers_fit<L: Lookup>(table: &L)
 }
 
 /// What `explanation_text` gives for the text of a tag is judged right, by the same table.
+#[tactic(auto, using(crate::proofs::JudgingLemmas::explanations_right))]
 pub fn explanations_are_right<L: Lookup>(table: &L)
     ensures { ExplanationsAreRight (L.listed table.now) }
 {

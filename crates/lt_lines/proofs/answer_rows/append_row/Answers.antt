@@ -23,4 +23,4 @@ pub returns-in_ok-end_refused-in-Some-2-clause-owed : goal.returns-in_ok-end_ref
 returns-in_ok-end_refused-in-Some-2-clause-owed g c = λ recent.
     let at = found g (goal.at.returns-in_ok-end_refused-in-Some-2-clause-owed g c).After-append_field in
     let made = rw c.in-Some-2.is at (c.in_ok-append_field.ensures.owed recent) in
-    row_refused _ _ _ c.args.line.now _ _ _ _ _ _ _ _ _ c.in-Some-2.refusal at.0 c.text_in.ensures at.1 made.0 made.1 c.in_ok-end_refused-in-Some-2.ensures
+    row_refused _ _ _ c.args.line.now _ _ _ _ _ _ _ _ _ at.0 c.text_in.ensures at.1 c.in-Some-2.refusal made.0 made.1 c.in_ok-end_refused-in-Some-2.ensures

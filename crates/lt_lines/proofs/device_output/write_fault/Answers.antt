@@ -2,7 +2,7 @@ use Rattle.std.proofs.Common.{◌++◌, ◌∷◌, [], Ok, codes}
 use Rattle.std.proofs.lemmas.Result.{err_from_is_err_and}
 use Rattle.lt_lines.specs.DeviceOutput.{WritesText}
 use Rattle.lt_lines.specs.Faults.{place_said, tool_name_of}
-use Rattle.lt_lines.proofs.WrittenLemmas.{wrote_less, wrote_more}
+use Rattle.lt_lines.proofs.DeviceLemmas.{wrote_less, wrote_more}
 use Rattle.lt_lines.proofs.device_output.write_fault.Goals as goal
 use Rattle.lt_lines.proofs.device_output.write_fault.Goals.{In_ok-write_text-2}
 

@@ -1,7 +1,7 @@
 use Rattle.std.proofs.Common.{◌∙◌, List, ℕ, codes, subst, decimal}
 use Rattle.std.proofs.lemmas.Result.{err_from_is_err_and}
 use Rattle.lt_lines.specs.DeviceOutput.{WritesText}
-use Rattle.lt_lines.proofs.WrittenLemmas.{wrote_less, wrote_more}
+use Rattle.lt_lines.proofs.DeviceLemmas.{wrote_less, wrote_more}
 use Rattle.lt_lines.proofs.device_output.write_place.Goals as goal
 
 pub returns-in_err-write_text : goal.returns-in_err-write_text

@@ -1,16 +1,14 @@
-use Rattle.std.proofs.Common.{◌∙◌, drop, ap}
-use Rattle.std.proofs.lemmas.List.{take_rest}
+use Rattle.std.proofs.Common.{◌∙◌}
 use Rattle.lt_lines.specs.Owed.{terms}
 use Rattle.lt_lines.specs.declared.forms.LineForm.TheVariants as forms
-use Rattle.lt_lines.proofs.RecentLemmas.{put_appended}
+use Rattle.lt_lines.proofs.TextLemmas.{put_appended}
 use Rattle.lt_lines.proofs.recent_answers.append_found_field.Goals as goal
 
 pub returns-in-Ok-clause-recent : goal.returns-in-Ok-clause-recent
 returns-in-Ok-clause-recent g c = λ recent.
     let a = c.in-Ok.ensures.appended recent.ends in
     record {
-      whole = put_appended (terms (g.L.Lookup.listed c.args.checked.now) (forms.Row c.args.before)) _ _ _ a.canonical c.args.lines.now.items c.append_canonical_text.new.texts.items _ _ c.put.ensures
-          (take_rest c.deref.result.now c.len-start.result ∙ ap (drop c.len-start.result) c.deref.ensures.value ∙ ap (λ n. drop n c.append_canonical_text.new.texts.items) (c.len-start.ensures ∙ c.args.lines.now.ok.0))
-          a.grown a.is_canonical recent.whole;
+      whole = put_appended (terms (g.L.Lookup.listed c.args.checked.now) (forms.Row c.args.before)) _ _ _ a.canonical c.args.lines.now.items c.append_canonical_text.new.texts.items c.deref.result.now c.len-start.result _ c.put.ensures
+          c.deref.ensures.value (c.len-start.ensures ∙ c.args.lines.now.ok.0) a.grown a.is_canonical recent.whole;
       ends = c.in-Ok.ensures.ends recent.ends;
     }

@@ -1,6 +1,6 @@
 use Rattle.std.proofs.Common.{◌∙◌, ap, arith}
 use Rattle.lt_rewrite.specs.Names.{name_of}
-use Rattle.lt_verify.proofs.StepLemmas.{kind_at}
+use Rattle.lt_verify.proofs.JudgingLemmas.{kind_at}
 use Rattle.lt_verify.proofs.labels.kind_named.Goals as goal
 
 pub returns : goal.returns

@@ -1,5 +1,5 @@
 use Rattle.std.proofs.Common.{◌∙◌, ◌++◌, ◌∷◌, ap}
-use Rattle.lt_verify.proofs.StepLemmas.{no_name, no_number, no_place}
+use Rattle.lt_verify.proofs.JudgingLemmas.{no_name, no_number, no_place}
 use Rattle.lt_verify.proofs.labels.words_of.Goals as goal
 
 pub returns-in_err-name : goal.returns-in_err-name

@@ -1,19 +1,14 @@
 use Rattle.std.proofs.Common.{◌≡◌, ◌≤◌, ◌∙◌, ℕ, length, take, sym, ap, arith, length-take}
-use Rattle.std.proofs.lemmas.Result.{err_from_is_err_and}
 use Rattle.lt_lines.proofs.RunLemmas.{ReadsPiece, refilled}
-use Rattle.lt_verify.proofs.FollowLemmas.{run_failed, run_finished, run_first, run_lacks, run_next, run_room, run_settled, run_stopped, run_turns}
+use Rattle.lt_verify.proofs.JudgingLemmas.{run_failed, run_finished, run_first, run_lacks, run_next, run_room, run_settled, run_stopped, run_turns}
 use Rattle.lt_verify.proofs.lines.verify_lines.Goals as goal
 use Rattle.lt_verify.proofs.lines.verify_lines.Goals.{After-deref}
 
 pub returns-in_err-buffer : goal.returns-in_err-buffer
-returns-in_err-buffer g c =
-    let p = err_from_is_err_and c.from_residual.result c.from_residual.ensures.1 in
-    rw (p.1, p.2) run_lacks
+returns-in_err-buffer g c = run_lacks c.from_residual.result c.from_residual.ensures.1
 
 pub returns-in_err-following : goal.returns-in_err-following
-returns-in_err-following g c =
-    let p = err_from_is_err_and c.from_residual-in_err-following.result c.from_residual-in_err-following.ensures.1 in
-    rw (p.1, p.2) run_lacks
+returns-in_err-following g c = run_lacks c.from_residual-in_err-following.result c.from_residual-in_err-following.ensures.1
 
 pub loop-read-init : goal.loop-read-init
 loop-read-init g c = record {
@@ -44,9 +39,9 @@ returns g c = run_turns c.loop-read.invariant.turn (omega (arith, c.loop-read-te
 
 pub returns-in_err-finish-in-Ok-eq0 : goal.returns-in_err-finish-in-Ok-eq0
 returns-in_err-finish-in-Ok-eq0 g c =
-    let p = err_from_is_err_and c.from_residual-in_err-finish-in-Ok-eq0.result c.from_residual-in_err-finish-in-Ok-eq0.ensures.1 in
     let ensures = c.in-Ok-eq0.ensures in
-    rw (p.1, p.2) (run_stopped c.loop-read.invariant.turn (take c.in-Ok-eq0.field-0 c.read.new.buf) c.loop-read-test.true (record { consumes = ensures.bytes.0; calls = ensures.reads; failures = ensures.works }))
+    run_stopped c.loop-read.invariant.turn (take c.in-Ok-eq0.field-0 c.read.new.buf) c.from_residual-in_err-finish-in-Ok-eq0.result c.from_residual-in_err-finish-in-Ok-eq0.ensures.1 c.loop-read-test.true
+    (record { consumes = ensures.bytes.0; calls = ensures.reads; failures = ensures.works })
 
 -- what was read is in the buffer
 reads : (g : _) (c : goal.After-deref g) → (length c.read.new.buf ≡ 65536) × ReadsPiece g.R.Read.remaining c.loop-read.input c.read.new.self (take c.in-Ok.count c.read.new.buf) × (c.deref.result.now ≡ c.read.new.buf)
@@ -61,8 +56,8 @@ reads g c =
 
 pub returns-in_err-verdict-in-Ok : goal.returns-in_err-verdict-in-Ok
 returns-in_err-verdict-in-Ok g c =
-    let p = err_from_is_err_and c.from_residual-in_err-verdict-in-Ok.result c.from_residual-in_err-verdict-in-Ok.ensures.1 in
-    rw (p.1, p.2) (run_stopped c.loop-read.invariant.turn (take c.in-Ok.count c.read.new.buf) c.loop-read-test.true (reads g (goal.at.returns-in_err-verdict-in-Ok g c).After-deref).1)
+    run_stopped c.loop-read.invariant.turn (take c.in-Ok.count c.read.new.buf) c.from_residual-in_err-verdict-in-Ok.result c.from_residual-in_err-verdict-in-Ok.ensures.1 c.loop-read-test.true
+    (reads g (goal.at.returns-in_err-verdict-in-Ok g c).After-deref).1
 
 pub take_piece-requires : goal.take_piece-requires
 take_piece-requires g c =

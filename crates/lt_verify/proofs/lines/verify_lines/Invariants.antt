@@ -1,5 +1,5 @@
 use Rattle.std.proofs.Common.{◌≡◌, length}
-use Rattle.lt_verify.proofs.FollowLemmas.{HasTurned}
+use Rattle.lt_verify.proofs.JudgingLemmas.{HasTurned}
 use Rattle.lt_verify.proofs.lines.verify_lines.Given as goal
 
 abbrev pub invariant-loop-read : goal.invariant-loop-read

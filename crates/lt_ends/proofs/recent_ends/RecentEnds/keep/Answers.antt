@@ -1,6 +1,5 @@
 use Rattle.std.proofs.Common.{◌∙◌, ◌+◌, length, subst, sym, arith}
 use Rattle.lt_ends.specs.Ends.{AreEnds}
-use Rattle.lt_ends.specs.Appending.{EndStands}
 use Rattle.lt_ends.proofs.KeptEnds.{CanKeep, follows_front, follows_source, kept_put}
 use Rattle.lt_ends.proofs.recent_ends.RecentEnds.keep.Goals as goal
 use Rattle.lt_ends.proofs.recent_ends.RecentEnds.keep.Goals.{After-deref, After-deref-in-None}
@@ -9,8 +8,8 @@ use Rattle.lt_ends.proofs.recent_ends.RecentEnds.keep.Goals.{After-deref, After-
 after_source : (g : _) (c : goal.After-deref g) → CanKeep (g.L.Lookup.listed c.args.checked.now) c.in-Some.fields.now c.deref.result.now (c.args.from + 3 + length c.in-Some.source.now)
 after_source g c =
     let found = c.in-Some.ensures {u = tt} in
-    follows_source _ c.table.ensures.checked c.in-Some.source.now c.in-Some.fields.now c.args.end.now c.deref.result.now c.args.from
-    (subst (EndStands (g.L.Lookup.listed c.args.checked.now) c.args.end.now c.args.from) (sym (c.deref.ensures.value ∙ c.staying_source.ensures.kept)) c.requires) found.source found.end
+    follows_source _ c.table.ensures.checked c.in-Some.source.now c.in-Some.fields.now c.args.end.now c.deref.result.now _ c.args.from c.requires
+    (c.deref.ensures.value ∙ c.staying_source.ensures.kept) found.source found.end
 
 pub overflow_add-from : goal.overflow_add-from
 overflow_add-from g c = omega (arith, (after_source g c).within, c.deref.type_inv.0)
@@ -30,9 +29,7 @@ returns-in-Some-clause-ends g c = λ ends.
 
 -- what they have after the front
 after_front : (g : _) (c : goal.After-deref-in-None g) → CanKeep (g.L.Lookup.listed c.args.checked.now) c.args.end.now c.deref-in-None.result.now c.args.from
-after_front g c =
-    follows_front _ c.table.ensures.checked c.args.end.now c.deref-in-None.result.now c.args.from
-    (subst (EndStands (g.L.Lookup.listed c.args.checked.now) c.args.end.now c.args.from) (sym (c.deref-in-None.ensures.value ∙ c.staying_source.ensures.kept)) c.requires)
+after_front g c = follows_front _ c.table.ensures.checked c.args.end.now c.deref-in-None.result.now _ c.args.from c.requires (c.deref-in-None.ensures.value ∙ c.staying_source.ensures.kept)
 
 pub slice_bounds-put-count-in-None : goal.slice_bounds-put-count-in-None
 slice_bounds-put-count-in-None g c = (after_front g c).within

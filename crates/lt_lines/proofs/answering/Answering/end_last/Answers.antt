@@ -1,24 +1,7 @@
-use Rattle.std.proofs.Common.{◌≡◌, ◌∙◌, ◌++◌, ◌∷◌, ℕ, Bool, false, refl, List, [], Result, Ok, Err, sym, arith, vec_len, OnOk}
-use Rattle.lt_tag.specs.declared.faults.OutOfMemory.{OutOfMemory}
-use Rattle.lt_lines.specs.Answering.{IsAnswered, IsTaken, IsWholeAfter, open_after}
-use Rattle.lt_lines.specs.Owed.{Terms, terms}
-use Rattle.lt_lines.specs.declared.answering.Answering.{Answering}
-use Rattle.lt_lines.specs.declared.forms.LineForm.{LineForm}
-use Rattle.lt_lines.specs.declared.forms.LineForm.TheVariants as forms
-use Rattle.lt_lines.proofs.TakenLemmas.{answered_last, answered_none, no_items, some_items}
+use Rattle.std.proofs.Common.{◌∙◌, sym, vec_len}
+use Rattle.lt_lines.specs.Owed.{terms}
+use Rattle.lt_lines.proofs.TakenLemmas.{answered_none, last_answered, no_items, some_items}
 use Rattle.lt_lines.proofs.answering.Answering.end_last.Goals as goal
-
-nothing_after : (form : LineForm) (inside : Bool) → inside ≡ false → open_after form inside [] ≡ false
-nothing_after (forms.Csv before) inside closed = closed
-nothing_after form inside closed = refl
-
--- whether the last line was answered
-last_answered : (T : Terms) (old new : Answering) (r : Result (Unit {0}) OutOfMemory) → (old.kept.items ≡ [] → ⊥) → old.is_open ≡ false
-    → OnOk r ((bytes out : List ℕ) → IsWholeAfter T.form old.is_open [] → IsTaken T bytes out old → IsTaken T (bytes ++ ([] ++ 10 ∷ [])) out new) → OnOk r (new.kept.items ≡ [])
-    → OnOk r ((bytes out : List ℕ) → IsTaken T bytes out old → IsAnswered T bytes out new)
-last_answered T old new (Ok _) some closed taken none =
-    λ bytes out t. answered_last T bytes out old new t some closed (taken bytes out (record { one = λ k d lt. absurd (omega (arith, lt)); closed = nothing_after T.form old.is_open closed }) t) none
-last_answered T old new (Err _) some closed taken none = tt
 
 pub returns-then-is_empty : goal.returns-then-is_empty
 returns-then-is_empty g c = λ bytes out t.

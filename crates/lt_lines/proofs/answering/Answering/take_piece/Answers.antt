@@ -1,9 +1,10 @@
-use Rattle.std.proofs.Common.{◌≡◌, ◌++◌, ◌∷◌, ◌∙◌, ℕ, refl, ap, arith, length, length-append}
+use Rattle.std.proofs.KnownBytes.{Appends-nil}
+use Rattle.std.proofs.Common.{[], inr, ◌≡◌, ◌++◌, ◌∷◌, ◌∙◌, ℕ, refl, ap, arith, length, length-append}
 use Rattle.std.proofs.lemmas.Result.{err_from_is_err_and}
 use Rattle.lt_lines.specs.Answering.{part_kept}
 use Rattle.lt_lines.specs.Owed.{IsOneLine, terms}
 use Rattle.lt_lines.specs.declared.answering.Answering.{Answering}
-use Rattle.lt_lines.proofs.PieceLemmas.{PieceTurn, turn_fails, turn_kept, turn_lacks, turn_last, turn_line, turn_written}
+use Rattle.lt_lines.proofs.RunLemmas.{PieceTurn, turn_fails, turn_kept, turn_stops, turn_last, turn_line, turn_written}
 use Rattle.lt_lines.proofs.answering.Answering.take_piece.Goals as goal
 use Rattle.lt_lines.proofs.answering.Answering.take_piece.Goals.{In_ok-end_line}
 
@@ -15,29 +16,29 @@ end_line-requires-clause-count g c =
 pub returns-in_err-end_line : goal.returns-in_err-end_line
 returns-in_err-end_line g c =
     let p = err_from_is_err_and c.from_residual.result c.from_residual.ensures.1 in
-    rw (p.1, p.2) (turn_lacks _ _ _ _ _ _ _ _ _ c.loop-line.invariant)
+    rw (p.1, p.2) (turn_stops _ _ _ _ _ _ _ _ c.loop-line.invariant _ _ _ [] (Appends-nil _) (inr (refl, c.loop-line.invariant.failures)) (_, refl))
 
 -- after the answer to a line
 after_line : (g : _) (c : goal.In_ok-end_line g)
     → PieceTurn (terms (g.L.Lookup.listed c.args.checked.now) c.args.form) g.W.Write.contents c.args.piece.now c.in-Some.after.now c.args.self.now c.end_line.new.self c.args.output.now c.loop-line.output
-after_line g c = turn_line _ _ _ c.loop-line.rest.now c.in-Some.line.now _ _ c.loop-line.self _ _ _ c.loop-line.invariant c.in-Some.ensures c.in_ok-end_line.ensures.taken c.in_ok-end_line.ensures.counted
+after_line g c = turn_line _ _ _ c.loop-line.rest.now _ c.loop-line.self _ _ c.loop-line.invariant c.in-Some.line.now _ _ c.in-Some.ensures c.in_ok-end_line.ensures.taken c.in_ok-end_line.ensures.counted
 
 pub returns-in_err-write_much : goal.returns-in_err-write_much
 returns-in_err-write_much g c =
     let p = err_from_is_err_and c.from_residual-in_err-write_much.result c.from_residual-in_err-write_much.ensures.1 in
-    rw (p.1, p.2) (turn_fails _ _ _ _ _ _ _ _ _ _ _ (after_line g (goal.at.returns-in_err-write_much g c).In_ok-end_line) c.in_err-write_much.ensures.writes)
+    rw (p.1, p.2) (turn_fails _ _ _ _ _ _ _ _ (after_line g (goal.at.returns-in_err-write_much g c).In_ok-end_line) _ _ _ c.in_err-write_much.ensures.writes)
 
 pub loop-line-preserved : goal.loop-line-preserved
-loop-line-preserved g c = turn_written _ _ _ _ _ _ _ _ _ _ (after_line g (goal.at.loop-line-preserved g c).In_ok-end_line) c.in_ok-write_much.ensures.writes
+loop-line-preserved g c = turn_written _ _ _ _ _ _ _ _ (after_line g (goal.at.loop-line-preserved g c).In_ok-end_line) _ _ c.in_ok-write_much.ensures.writes
 
 pub returns-in_err-keep : goal.returns-in_err-keep
 returns-in_err-keep g c =
     let p = err_from_is_err_and c.from_residual-in_err-keep.result c.from_residual-in_err-keep.ensures.1 in
-    rw (p.1, p.2) (turn_lacks _ _ _ _ _ _ _ _ _ c.loop-line.invariant)
+    rw (p.1, p.2) (turn_stops _ _ _ _ _ _ _ _ c.loop-line.invariant _ _ _ [] (Appends-nil _) (inr (refl, c.loop-line.invariant.failures)) (_, refl))
 
 pub returns : goal.returns
 returns g c =
     let now = c.loop-line.self in
     let mid : Answering = record { kept = c.keep.new.kept; is_open = c.is_open_after-self.result; feeds = now.feeds; owed = now.owed; counts = now.counts; recent = now.recent } in
     let kept = c.in_ok-keep.ensures ∙ ap (λ (n : ℕ). now.kept.items ++ part_kept c.args.form n c.loop-line.rest.now) now.kept.ok.0 in
-    turn_last _ _ _ _ mid _ _ _ _ c.write.result (turn_kept _ _ _ _ _ now mid _ _ c.loop-line.invariant c.in_default.ensures kept c.is_open_after-self.ensures refl refl refl refl) c.write.ensures.writes c.write.ensures.emptied
+    turn_last _ _ _ _ mid _ _ _ _ c.write.result (turn_kept _ _ _ _ _ now _ _ c.loop-line.invariant mid c.in_default.ensures kept c.is_open_after-self.ensures refl refl refl refl) c.write.ensures.writes c.write.ensures.emptied

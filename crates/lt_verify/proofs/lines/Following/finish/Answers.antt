@@ -1,6 +1,6 @@
 use Rattle.std.proofs.Common.{◌∙◌, sym, vec_len, []}
 use Rattle.lt_lines.proofs.TakenLemmas.{some_items}
-use Rattle.lt_verify.proofs.FollowLemmas.{last_judged}
+use Rattle.lt_verify.proofs.JudgingLemmas.{last_judged}
 use Rattle.lt_verify.proofs.lines.Following.finish.Goals as goal
 
 pub returns-in-Some : goal.returns-in-Some

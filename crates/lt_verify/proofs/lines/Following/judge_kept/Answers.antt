@@ -1,5 +1,5 @@
 use Rattle.std.proofs.Common.{inl, inr}
-use Rattle.lt_verify.proofs.FollowLemmas.{went_on}
+use Rattle.lt_verify.proofs.JudgingLemmas.{went_on}
 use Rattle.lt_verify.proofs.lines.Following.judge_kept.Goals as goal
 
 pub returns-in-Ends : goal.returns-in-Ends

@@ -3,7 +3,7 @@ use Rattle.std.proofs.lemmas.Result.{IfOk-weaker}
 use Rattle.lt_lines.proofs.TakenLemmas.{some_items}
 use Rattle.lt_verify.specs.Judging.{IsProperIf}
 use Rattle.lt_verify.specs.declared.verdicts.Verdict.{Verdict}
-use Rattle.lt_verify.proofs.FollowLemmas.{kept_behind, settled_rest}
+use Rattle.lt_verify.proofs.JudgingLemmas.{kept_behind, settled_rest}
 use Rattle.lt_verify.proofs.lines.Following.judge_rest.Goals as goal
 
 pub returns-in_default : goal.returns-in_default

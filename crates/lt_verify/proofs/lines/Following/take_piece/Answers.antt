@@ -1,7 +1,7 @@
 use Rattle.std.proofs.Common.{Option, arith}
 use Rattle.std.proofs.lemmas.Result.{IfOk-weaker}
 use Rattle.lt_verify.specs.declared.verdicts.Verdict.{Verdict}
-use Rattle.lt_verify.proofs.FollowLemmas.{first_turn, last_turn, next_turn, settled_turn, turn_proper, turn_room}
+use Rattle.lt_verify.proofs.JudgingLemmas.{first_turn, last_turn, next_turn, settled_turn, turn_proper, turn_room}
 use Rattle.lt_verify.proofs.lines.Following.take_piece.Goals as goal
 
 pub loop-part-init : goal.loop-part-init
