@@ -822,55 +822,34 @@ not_empty [] h e = cc
 not_empty (x ∷ xs) h e = cc
 
 -- the core as the calls leave it one after another
-pub record Settlings (V : Values) (c c1 c2 c3 c4 : CoreParts) : Type 0 where
+pub record Settlings (V : Values) (c c1 c2 c3 : CoreParts) : Type 0 where
   pub script : Star (CoreStep V) c c1
   pub region : Star (CoreStep V) c1 c2
-  pub variants : Star (CoreStep V) c2 c3
-  pub extlang : Star (CoreStep V) c3 c4
+  pub extlang : Star (CoreStep V) c2 c3
   pub final_script : HasFinalScript V c1
   pub final_region : HasFinalRegion V c2
-  pub final_variants : HasFinalVariants V c3
-  pub none_alone : (x : List ℕ) → c4.extlangs ≡ x ∷ [] → ⊥
+  pub none_alone : (x : List ℕ) → c3.extlangs ≡ x ∷ [] → ⊥
   pub other_than_region : c2 ≡ record c1 { region = c2.region }
-  pub other_than_variants : c3 ≡ record c2 { variants = c3.variants }
-  pub other_than_extlang : c4 ≡ record c3 { language = c4.language; extlangs = c4.extlangs }
+  pub other_than_extlang : c3 ≡ record c2 { language = c3.language; extlangs = c3.extlangs }
 
-pub settled_reached : (V : Values) (c c1 c2 c3 c4 : CoreParts) → Settlings V c c1 c2 c3 c4 → Star (CoreStep V) c c4
-settled_reached V c c1 c2 c3 c4 S = star_trans S.script (star_trans S.region (star_trans S.variants S.extlang))
-
-settled_script : (V : Values) (c c1 c2 c3 c4 : CoreParts) → Settlings V c c1 c2 c3 c4 → HasFinalScript V c4
-settled_script V c c1 c2 c3 c4 S =
-    let P : Option (List ℕ) → Type 0 = λ o. IfSome o (λ s. V.script s ≡ None) in
-    subst P (sym (ap (λ (d : CoreParts). d.script) S.other_than_extlang ∙ ap (λ (d : CoreParts). d.script) S.other_than_variants ∙ ap (λ (d : CoreParts). d.script) S.other_than_region)) S.final_script
-
-settled_region : (V : Values) (c c1 c2 c3 c4 : CoreParts) → Settlings V c c1 c2 c3 c4 → HasFinalRegion V c4
-settled_region V c c1 c2 c3 c4 S =
-    let P : Option (List ℕ) → Type 0 = λ o. IfSome o (λ s. V.region s ≡ None) in
-    subst P (sym (ap (λ (d : CoreParts). d.region) S.other_than_extlang ∙ ap (λ (d : CoreParts). d.region) S.other_than_variants)) S.final_region
-
-settled_variants : (V : Values) (c c1 c2 c3 c4 : CoreParts) → Settlings V c c1 c2 c3 c4 → HasFinalVariants V c4
-settled_variants V c c1 c2 c3 c4 S =
-    subst (All (λ (v : List ℕ). V.variant v ≡ None)) (sym (ap (λ (d : CoreParts). d.variants) S.other_than_extlang)) S.final_variants
-
--- where extlangs stay, the core rests
-pub rests_with_extlangs : (V : Values) (c c1 c2 c3 c4 : CoreParts) → Settlings V c c1 c2 c3 c4 → (c4.extlangs ≡ [] → ⊥) → IsCoreNormalForm V c c4
-rests_with_extlangs V c c1 c2 c3 c4 S some = record {
-  reached = settled_reached V c c1 c2 c3 c4 S;
-  at_rest = at_rest V c4 S.none_alone (settled_script V c c1 c2 c3 c4 S) (settled_region V c c1 c2 c3 c4 S) (settled_variants V c c1 c2 c3 c4 S) (λ e. absurd (some e));
-}
-
--- else the VariantLanguage steps are done
-pub rests_after_variant_languages : (V : Values) (c c1 c2 c3 c4 d : CoreParts) → Settlings V c c1 c2 c3 c4 → Star (CoreStep V) c4 d → HasFinalLanguage V d → HasNoVariantLanguage V d → HasFinalVariants V d → d ≡ record c4 { language = d.language; variants = d.variants } → IsCoreNormalForm V c d
-rests_after_variant_languages V c c1 c2 c3 c4 d S variant_languages language none variants other = record {
-  reached = star_trans (settled_reached V c c1 c2 c3 c4 S) variant_languages;
+-- and the language and the variants at last, where no VariantLanguage step is left or extlangs stay
+pub rests_settled : (V : Values) (c c1 c2 c3 d : CoreParts) → Settlings V c c1 c2 c3 → Star (CoreStep V) c3 d → HasFinalVariants V d → (c3.extlangs ≡ [] → HasFinalLanguage V d × HasNoVariantLanguage V d) → d ≡ record c3 { language = d.language; variants = d.variants } → IsCoreNormalForm V c d
+rests_settled V c c1 c2 c3 d S last variants language other = record {
+  reached = star_trans S.script (star_trans S.region (star_trans S.extlang last));
   at_rest =
       at_rest V d
       (λ x e. S.none_alone x (sym (ap (λ (k : CoreParts). k.extlangs) other) ∙ e))
-      (let P : Option (List ℕ) → Type 0 = λ o. IfSome o (λ s. V.script s ≡ None) in subst P (sym (ap (λ (k : CoreParts). k.script) other)) (settled_script V c c1 c2 c3 c4 S))
-      (let P : Option (List ℕ) → Type 0 = λ o. IfSome o (λ s. V.region s ≡ None) in subst P (sym (ap (λ (k : CoreParts). k.region) other)) (settled_region V c c1 c2 c3 c4 S))
+      (subst P (sym (ap (λ (k : CoreParts). k.script) other ∙ ap (λ (k : CoreParts). k.script) S.other_than_extlang ∙ ap (λ (k : CoreParts). k.script) S.other_than_region)) S.final_script)
+      (subst Q (sym (ap (λ (k : CoreParts). k.region) other ∙ ap (λ (k : CoreParts). k.region) S.other_than_extlang)) S.final_region)
       variants
-      (λ e. (language, none));
+      (λ e. language (sym (ap (λ (k : CoreParts). k.extlangs) other) ∙ e));
 }
+  where
+    P : Option (List ℕ) → Type 0
+    P o = IfSome o (λ s. V.script s ≡ None)
+
+    Q : Option (List ℕ) → Type 0
+    Q o = IfSome o (λ s. V.region s ≡ None)
 
 -- Core steps come to an end: each makes a number lower.
 

@@ -16,6 +16,6 @@ pub mod StepLaws
 mod Sorting
 mod OrderingRows
 mod ChainWalks
-mod FoundRows
+mod FoundPairs
 mod TagLeading
 mod ExtensionRuns

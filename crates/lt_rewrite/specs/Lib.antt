@@ -11,7 +11,7 @@ pub mod Laws
 pub mod ChainEnds
 pub mod CoreSettling
 pub mod VariantLanguages
-pub mod VariantRows
+pub mod VariantPairs
 pub mod CorePlaces
 pub mod ExtensionSettling
 pub mod ExtensionsSettling

@@ -8,13 +8,15 @@ ghost use Rattle.lt_rewrite.specs.CoreSteps.{values_of, CoreStep, IsCoreNormalFo
 ghost use Rattle.lt_rewrite.specs.Conditions as conditions;
 ghost use Rattle.lt_rewrite.specs.Conditions.{HasEndingChain};
 ghost use Rattle.lt_rewrite.specs.Shortcuts.{AreShortcuts};
+ghost use Rattle.lt_rewrite.specs.VariantLanguages.{ArePlaces};
 ghost use Rattle.lt_rewrite.specs.CoreSettling.{IsFirstVariantLanguage, HasNoVariantLanguage, HasFinalLanguage, HasFinalScript, HasFinalRegion, HasFinalVariants};
 
 use crate::chain_ends::{end_of_chain, replacement};
-use crate::core_places::{lower_to, set_places, take_out};
+use crate::core_places::{lower_to, take_out};
 use crate::shortcuts::Shortcuts;
 use crate::values::{is_short, one_value};
-use crate::variant_languages::{first_variant_language_at, places_of};
+use crate::variant_languages::{first_variant_language_at, settled_variant};
+use arrayvec::ArrayVec;
 use lt_registry::{Kind, Lookup};
 use lt_subtag::Subtag;
 use lt_tag::Core;
@@ -165,13 +167,36 @@ fn settle_variant_languages<L: Lookup>(table: &L, shortcuts: Option<&Shortcuts>,
     }
 }
 
-/// The same of at most 256 variants by shortcuts: each variant is looked up once, and which of them have a
-/// step beside a language is told by the shortcuts.
+/// Replaces each of at most 256 variants by the end of its chain of variants, by shortcuts, and gives the places of
+/// their entries.
+fn settle_few_variants<L: Lookup>(
+    table: &L,
+    shortcuts: &Shortcuts,
+    core: &mut Core,
+) -> ArrayVec<usize, 256>
+    requires chains { All (HasEndingChain (L.listed table.now)) (L.listed table.now) }
+    requires shortcuts { AreShortcuts (L.listed table.now) shortcuts.now }
+    requires few { length core.old.variants ≤ 256 }
+    ensures reached { Star (CoreStep (values_of (L.listed table.now))) core.old core.new }
+    ensures at_rest { HasFinalVariants (values_of (L.listed table.now)) core.new }
+    ensures places { ArePlaces (L.listed table.now) core.new.variants result.items }
+    ensures others { core.new ≡ record core.old { variants = core.new.variants } }
+{
+    let mut places = ArrayVec::new();
+    for index in 0..core.variants().len() {
+        let (end, place) = settled_variant(table, shortcuts, &core.variants()[index]);
+        core.set_variant(index, end);
+        places.push(place);
+    }
+    places
+}
+
+/// Replaces the language and at most 256 variants so, by shortcuts: each variant is looked up once, and which of them
+/// have a step beside a language is told by the shortcuts.
 fn settle_few_variant_languages<L: Lookup>(table: &L, shortcuts: &Shortcuts, core: &mut Core)
     requires chains { All (HasEndingChain (L.listed table.now)) (L.listed table.now) }
     requires shortcuts { AreShortcuts (L.listed table.now) shortcuts.now }
     requires alone { core.old.extlangs ≡ [] }
-    requires variants { HasFinalVariants (values_of (L.listed table.now)) core.old }
     requires few { length core.old.variants ≤ 256 }
     ensures reached { Star (CoreStep (values_of (L.listed table.now))) core.old core.new }
     ensures language { HasFinalLanguage (values_of (L.listed table.now)) core.new }
@@ -179,19 +204,12 @@ fn settle_few_variant_languages<L: Lookup>(table: &L, shortcuts: &Shortcuts, cor
     ensures variants { HasFinalVariants (values_of (L.listed table.now)) core.new }
     ensures others { core.new ≡ record core.old { language = core.new.language; variants = core.new.variants } }
 {
+    let mut places = settle_few_variants(table, shortcuts, core);
     settle_language(table, Some(shortcuts), core);
-    let mut places = places_of(table, core.variants());
-    let mut marks = [0; 2048];
-    let mut indices = [255; 65536];
-    set_places(&mut marks, &places);
+    let mut indices = [255; 131072];
     lower_to(&mut indices, &places);
     while let Some((index, language)) = first_variant_language_at(
-        table,
-        shortcuts.rows(),
-        &marks,
-        &indices,
-        &places,
-        core,
+        table, shortcuts, &indices, &places, core,
     ) {
         core.remove_variant(index);
         take_out(&mut indices, &places, index);
@@ -201,8 +219,8 @@ fn settle_few_variant_languages<L: Lookup>(table: &L, shortcuts: &Shortcuts, cor
     }
 }
 
-/// The same of any variants. Without shortcuts, and of few or very many, each is looked up again for each
-/// language.
+/// Replaces the language and any variants so. Without shortcuts, and of few or very many, each is looked up again for
+/// each language.
 fn settle_all_variant_languages<L: Lookup>(
     table: &L,
     shortcuts: Option<&Shortcuts>,
@@ -211,7 +229,6 @@ fn settle_all_variant_languages<L: Lookup>(
     requires chains { All (HasEndingChain (L.listed table.now)) (L.listed table.now) }
     requires shortcuts { IfSome shortcuts (λ s. AreShortcuts (L.listed table.now) s.now) }
     requires alone { core.old.extlangs ≡ [] }
-    requires variants { HasFinalVariants (values_of (L.listed table.now)) core.old }
     ensures reached { Star (CoreStep (values_of (L.listed table.now))) core.old core.new }
     ensures language { HasFinalLanguage (values_of (L.listed table.now)) core.new }
     ensures variant_languages { HasNoVariantLanguage (values_of (L.listed table.now)) core.new }
@@ -223,7 +240,10 @@ fn settle_all_variant_languages<L: Lookup>(
         Some(shortcuts) if 16 <= count && count <= 256 => {
             settle_few_variant_languages(table, shortcuts, core)
         }
-        _ => settle_variant_languages(table, shortcuts, core),
+        _ => {
+            settle_variants(table, shortcuts, core);
+            settle_variant_languages(table, shortcuts, core);
+        }
     }
 }
 
@@ -235,10 +255,11 @@ pub(crate) fn settle_along<L: Lookup>(table: &L, shortcuts: Option<&Shortcuts>, 
 {
     settle_script(table, shortcuts, core);
     settle_region(table, shortcuts, core);
-    settle_variants(table, shortcuts, core);
     settle_extlang(table, core);
     if core.extlangs().is_empty() {
         settle_all_variant_languages(table, shortcuts, core);
+    } else {
+        settle_variants(table, shortcuts, core);
     }
 }
 

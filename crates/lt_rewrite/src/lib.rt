@@ -17,6 +17,7 @@ mod extensions_explaining;
 mod extensions_settling;
 mod field_applying;
 mod keyword_applying;
+mod language_bits;
 pub mod laws;
 pub mod ordering_laws;
 mod part_applying;
@@ -28,7 +29,7 @@ mod transform_explaining;
 mod unicode_explaining;
 pub mod values;
 mod variant_languages;
-mod variant_rows;
+mod variant_pairs;
 
 pub use apply_faults::ApplyFault;
 pub use applying::apply;

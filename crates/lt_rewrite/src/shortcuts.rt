@@ -1,6 +1,7 @@
 //! Shortcuts along the chains of values of a table's records (RFC 5646, 3.1.7).
-ghost use Rattle.std.specs.Prelude.{◌≡◌, ◌+◌, ◌≤◌, ◌<◌, true, Some, ℕ, List, All, IfOk, OnErr, Contains, length, map, IsTrue, ◌↔◌};
-ghost use Rattle.std.specs.List.{slice_get, AllByRecursion};
+ghost use Rattle.std.specs.Prelude.{◌≡◌, ◌+◌, ◌≤◌, ◌<◌, true, false, Some, ℕ, List, All, IfOk, OnErr, Contains, length, map, IsTrue, ◌↔◌};
+ghost use Rattle.std.specs.List.{slice_get, AllByRecursion, AllWithin};
+ghost use Rattle.std.specs.List.Sorted.{IsNonDecreasingBy};
 ghost use Rattle.lt_tag.specs.Parts.{ExtensionParts, TForm};
 ghost use Rattle.lt_tag.specs.Extensions.{transform, IsTransform};
 ghost use Rattle.lt_registry.specs.Validity.{Distinct};
@@ -12,13 +13,17 @@ ghost use Rattle.lt_rewrite.specs.CoreSteps.{values_of, Ends, EndsIn, IsCoreNorm
 ghost use Rattle.lt_rewrite.specs.Conditions as conditions;
 ghost use Rattle.lt_rewrite.specs.Conditions.{HasEndingChain};
 ghost use Rattle.lt_rewrite.specs.ChainEnds.{ChainEnds, ChainEndsIn};
+ghost use Rattle.lt_rewrite.specs.CorePlaces.{AreBounds};
+ghost use Rattle.lt_rewrite.specs.VariantPairs.{pair, has_pair, number_in, AreBitsOf};
 ghost use Rattle.lt_rewrite.specs.Shortcuts.{IsOnward, IsShortcut, LeadOn, AreShortcuts};
 
 use crate::chain_ends::{Cycle, following, next_value, replacement};
+use crate::core_places::{Indices, first_in_pairs};
 use crate::core_settling::settle_along;
 use crate::extensions_settling::settle_all;
+use crate::language_bits::{LanguageBits, bits_beside, first_in_bits, language_bits};
 use crate::values::one_value;
-use crate::variant_rows::{VariantRow, variant_rows};
+use crate::variant_pairs::{pairs_beside, variant_pairs};
 use lt_registry::{Entry, Kind, Lookup};
 use lt_subtag::Subtag;
 use lt_tag::{Core, Extension, OutOfMemory};
@@ -32,8 +37,10 @@ use std::marker::Model;
 pub struct Shortcuts {
     /// For each record the place of a record on its chain.
     places: Vec<usize>,
-    /// Of such variants, in the order of those languages.
-    rows: Vec<VariantRow>,
+    /// Such variants, in the order of those languages.
+    pairs: Vec<u64>,
+    /// The bits of the languages that are Prefixes of many.
+    languages: Vec<LanguageBits>,
 }
 
 impl Model for Shortcuts {
@@ -41,7 +48,7 @@ impl Model for Shortcuts {
 
     ghost Value = { ShortcutParts };
 
-    ghost view = { λ s. record { places = s.places.items; rows = s.rows.items } };
+    ghost view = { λ s. record { places = s.places.items; pairs = s.pairs.items; languages = s.languages.items } };
 }
 
 impl Shortcuts {
@@ -53,15 +60,26 @@ impl Shortcuts {
         ensures { IfOk result (AreShortcuts (L.listed table.now)) }
     {
         let places = last_places(alloc, table)?;
-        let rows = variant_rows(alloc, table)?;
-        Ok(Shortcuts { places, rows })
+        let pairs = variant_pairs(alloc, table)?;
+        let languages = language_bits(alloc, table.entries().len() / 64 + 1, &pairs)?;
+        Ok(Shortcuts {
+            places,
+            pairs,
+            languages,
+        })
     }
 
-    /// The rows of variants.
-    pub(crate) fn rows(&self) -> &[VariantRow]
-        ensures { result.now ≡ self.now.rows }
+    /// An index before which no place is in a pair of a language's number.
+    pub(crate) fn first_beside(&self, number: u64, indices: &Indices, places: &[usize]) -> usize
+        requires rising { IsNonDecreasingBy number_in self.now.pairs }
+        requires bits { All (AreBitsOf self.now.pairs) self.now.languages }
+        requires bounds { AreBounds places.now indices.now }
+        ensures { AllWithin (λ place. has_pair (pair number place) self.now.pairs ≡ false) places.now 0 result }
     {
-        &self.rows
+        match bits_beside(&self.languages, number) {
+            Some(bits) => first_in_bits(bits, places),
+            None => first_in_pairs(indices, pairs_beside(&self.pairs, number), places),
+        }
     }
 
     /// The subtag as many values on from a subtag as there are records: the end of its chain, if it

@@ -1,21 +1,23 @@
 //! VariantLanguage steps one after another, where each variant is looked up once.
-ghost use Rattle.std.specs.Prelude.{◌≡◌, ◌≤◌, true, IfSome, MatchOption, length};
+ghost use Rattle.std.specs.Prelude.{◌≡◌, true, All, IfSome, MatchOption};
 ghost use Rattle.std.specs.List.{slice_get};
 ghost use Rattle.std.specs.Option.{option_copied};
 ghost use Rattle.lt_subtag.specs.Shapes.{is_language};
-ghost use Rattle.lt_registry.specs.Entries.{entry};
+ghost use Rattle.lt_registry.specs.Entries.{entry, has_form};
 ghost use Rattle.lt_registry.specs.declared.entries.Kind.TheVariants as kinds;
-ghost use Rattle.lt_rewrite.specs.CoreSteps.{values_of};
+ghost use Rattle.lt_rewrite.specs.CoreSteps.{values_of, EndsIn};
+ghost use Rattle.lt_rewrite.specs.Conditions as conditions;
+ghost use Rattle.lt_rewrite.specs.Conditions.{HasEndingChain};
+ghost use Rattle.lt_rewrite.specs.Shortcuts.{AreShortcuts};
 ghost use Rattle.lt_rewrite.specs.CoreSettling.{IsFirstVariantLanguage, HasNoVariantLanguage};
 ghost use Rattle.lt_rewrite.specs.VariantLanguages.{ArePlaces};
-ghost use Rattle.lt_rewrite.specs.VariantRows.{AreVariantRows};
-ghost use Rattle.lt_rewrite.specs.CorePlaces.{AreSet, AreBounds};
+ghost use Rattle.lt_rewrite.specs.CorePlaces.{AreBounds};
 
-use crate::core_places::{Indices, Marks, first_in_rows};
-use crate::shortcuts::place_of;
+use crate::chain_ends::following;
+use crate::core_places::Indices;
+use crate::shortcuts::{Shortcuts, place_of};
 use crate::values::{is_short, one_value};
-use crate::variant_rows::{VariantRow, number_of, rows_beside};
-use arrayvec::ArrayVec;
+use crate::variant_pairs::number_of;
 use lt_registry::{Entry, Kind, Lookup};
 use lt_subtag::Subtag;
 use lt_tag::Core;
@@ -31,16 +33,29 @@ fn variant_place<L: Lookup>(table: &L, variant: &Subtag) -> usize
     }
 }
 
-/// The places of the entries of variants.
-pub(crate) fn places_of<L: Lookup>(table: &L, variants: &[Subtag]) -> ArrayVec<usize, 256>
-    requires { length variants.now ≤ 256 }
-    ensures { ArePlaces (L.listed table.now) variants.now result.items }
+/// The end of a variant's chain of variants, and the place of its entry, or one after the last where it has none;
+/// in a registry whose chains end.
+pub(crate) fn settled_variant<L: Lookup>(
+    table: &L,
+    shortcuts: &Shortcuts,
+    variant: &Subtag,
+) -> (Subtag, usize)
+    requires chains { All (HasEndingChain (L.listed table.now)) (L.listed table.now) }
+    requires shortcuts { AreShortcuts (L.listed table.now) shortcuts.now }
+    ensures end { EndsIn (conditions.next_value (L.listed table.now) kinds.Variant) variant.now result.0 }
+    ensures form { has_form kinds.Variant variant.now ≡ true → has_form kinds.Variant result.0 ≡ true }
+    ensures place { slice_get (L.listed table.now) result.1 ≡ entry (L.listed table.now) kinds.Variant result.0 }
 {
-    let mut places = ArrayVec::new();
-    for variant in variants {
-        places.push(variant_place(table, variant));
+    let entries = table.entries();
+    let Some(entry) = table.entry(Kind::Variant, variant) else {
+        return (variant.copy(), entries.len());
+    };
+    if following(Kind::Variant, entry).is_none() {
+        return (variant.copy(), place_of(entries, entry));
     }
-    places
+    let end = shortcuts.certain_end(table, Kind::Variant, variant);
+    let place = variant_place(table, &end);
+    (end, place)
 }
 
 /// The entry at a place.
@@ -72,20 +87,18 @@ fn variant_language_at<'a, L: Lookup>(
     }
 }
 
-/// The leftmost variant with a VariantLanguage step, by the rows of variants and the places of the core's own:
-/// its index, counted from 0, and the language to which it leads. Variants before the first with a row of the
-/// language are not looked at.
+/// The leftmost variant with a VariantLanguage step, by shortcuts and the places of the core's variants: its index,
+/// counted from 0, and the language to which it leads. Variants before the first that may have the language as a
+/// Prefix are not looked at.
 pub(crate) fn first_variant_language_at<L: Lookup>(
     table: &L,
-    rows: &[VariantRow],
-    marks: &Marks,
+    shortcuts: &Shortcuts,
     indices: &Indices,
     places: &[usize],
     core: &Core,
 ) -> Option<(usize, Subtag)>
-    requires rows { AreVariantRows (L.listed table.now) rows.now }
+    requires shortcuts { AreShortcuts (L.listed table.now) shortcuts.now }
     requires places { ArePlaces (L.listed table.now) core.now.variants places.now }
-    requires set { AreSet places.now marks.now }
     requires bounds { AreBounds places.now indices.now }
     ensures variant_language { MatchOption result
         (HasNoVariantLanguage (values_of (L.listed table.now)) core.now)
@@ -93,7 +106,7 @@ pub(crate) fn first_variant_language_at<L: Lookup>(
     ensures form { IfSome result (λ first. is_language first.1 ≡ true) }
 {
     let number = number_of(core.language());
-    let first = first_in_rows(marks, indices, rows_beside(rows, number), places);
+    let first = shortcuts.first_beside(number, indices, places);
     let variants = core.variants();
     for index in first..variants.len() {
         if let Some(language) = variant_language_at(

@@ -3,7 +3,7 @@ use Rattle.lt_rewrite.specs.Rewriting.{Star}
 use Rattle.lt_rewrite.specs.CoreSteps.{values_of, CoreStep}
 use Rattle.lt_rewrite.specs.CoreSettling.{HasFinalLanguage, HasFinalVariants}
 use Rattle.lt_rewrite.specs.VariantLanguages.{ArePlaces}
-use Rattle.lt_rewrite.specs.CorePlaces.{AreSet, AreBounds}
+use Rattle.lt_rewrite.specs.CorePlaces.{AreBounds}
 use Rattle.lt_rewrite.proofs.core_settling.settle_few_variant_languages.Given as goal
 
 -- steps lead here, the entries of the variants stand at their places, and language and variants are at the ends of their chains
@@ -13,7 +13,6 @@ invariant-loop-index g l = record {
   language : HasFinalLanguage (values_of (g.L.Lookup.listed l.table)) l.core;
   variants : HasFinalVariants (values_of (g.L.Lookup.listed l.table)) l.core;
   places : ArePlaces (g.L.Lookup.listed l.table) l.core.variants l.places.items;
-  set : AreSet l.places.items l.marks;
   bounds : AreBounds l.places.items l.indices;
   others : l.core ≡ record l.fn.core { language = l.core.language; variants = l.core.variants };
 }

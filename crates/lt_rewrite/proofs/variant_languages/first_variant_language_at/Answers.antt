@@ -3,18 +3,19 @@ use Rattle.std.specs.Option.{option_copied}
 use Rattle.std.proofs.lemmas.List.{take_all}
 use Rattle.lt_rewrite.specs.CoreSteps.{values_of}
 use Rattle.lt_rewrite.specs.VariantLanguages.{ArePlaces}
-use Rattle.lt_rewrite.specs.VariantRows.{number, pair, has_pair}
+use Rattle.lt_rewrite.specs.VariantPairs.{number, pair, has_pair}
 use Rattle.lt_rewrite.proofs.CoreLaws.{first_variant_language_at, none_more}
-use Rattle.lt_rewrite.proofs.FoundRows.{none_before, placed_at}
+use Rattle.lt_rewrite.proofs.FoundPairs.{none_before, placed_at}
 use Rattle.lt_rewrite.proofs.variant_languages.first_variant_language_at.Goals as goal
 
 pub loop-index-init : goal.loop-index-init
 loop-index-init g c =
     let R = g.L.Lookup.listed c.args.table.now in
+    let s = c.args.shortcuts.now in
     let same : c.number_of-number.result ≡ number c.args.core.now.language = c.number_of-number.ensures.value ∙ ap number c.language.ensures.value in
-    none_before R c.args.core.now.language c.args.rows.now c.variants-variants.result.now c.args.places.now c.first_in_rows-first.result c.requires.rows
+    none_before R c.args.core.now.language s.pairs s.languages c.variants-variants.result.now c.args.places.now c.first_beside-first.result c.requires.shortcuts.variants
     (subst (λ vs. ArePlaces R vs c.args.places.now) (sym c.variants-variants.ensures.value) c.requires.places)
-    (λ k below h. true≢false (sym (c.rows_beside.ensures (get_or c.args.places.now k 0) (subst (λ n. has_pair (pair n (get_or c.args.places.now k 0)) c.args.rows.now ≡ true) (sym same) h)) ∙ c.first_in_rows-first.ensures c.number_of-number.result k 0 (omega arith) below))
+    (λ k below h. true≢false (sym (subst (λ n. has_pair (pair n (get_or c.args.places.now k 0)) s.pairs ≡ true) (sym same) h) ∙ c.first_beside-first.ensures k 0 (omega arith) below))
 
 pub variant_language_at-requires : goal.variant_language_at-requires
 variant_language_at-requires g c =
