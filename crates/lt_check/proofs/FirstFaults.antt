@@ -1,6 +1,7 @@
 -- The first record that fails a test is the lowest at fault.
-use Rattle.std.proofs.Common.{◌≡◌, ℕ, zero, suc, ◌+◌, ◌<◌, ◌≤◌, ◌⊎◌, All, inl, inr, List, [], ◌∷◌, length, sym, ap, ◌∙◌, subst, arith}
+use Rattle.std.proofs.Common.{◌≡◌, ℕ, zero, suc, ◌+◌, ◌<◌, ◌≤◌, ◌⊎◌, All, inl, inr, Option, Some, None, List, [], ◌∷◌, length, refl, sym, ap, ◌∙◌, subst, arith}
 use Rattle.std.specs.Prelude.{Contains, slice_index_or}
+use Rattle.std.specs.Option.{option_or}
 use Rattle.std.proofs.Math.Nat.{eq-or-lt_of_le}
 use Rattle.std.proofs.lemmas.Bool.{cases_lt}
 use Rattle.std.proofs.lemmas.List.{get_or_default}
@@ -8,8 +9,9 @@ use Rattle.std.proofs.lemmas.List.Elements.{All-from_recursion}
 use Rattle.lt_registry.specs.Parts.{EntryParts}
 use Rattle.lt_registry.specs.Entries.{NumbersRise}
 use Rattle.lt_check.specs.Conditions.{Meets}
-use Rattle.lt_check.specs.Checking.{IsFirstAtFault}
+use Rattle.lt_check.specs.Checking.{IsFirstAtFault, IsLowestFault}
 use Rattle.lt_check.specs.declared.conditions.Condition.{Condition}
+use Rattle.lt_check.specs.declared.rejections.Finding.{Finding}
 
 -- a later record has a higher number
 pub rising_at : (R : List EntryParts) → NumbersRise R → (i k : ℕ) (d c : EntryParts) → i < k → k < length R → (slice_index_or R i d).number < (slice_index_or R k c).number
@@ -60,14 +62,34 @@ pub all_met : (xs R : List EntryParts) (condition : Condition) (i : ℕ) → xs 
 all_met xs R condition i same n before k d m = let l : length xs ≡ length R = ap length same in before k d (omega (arith, n, m, l))
 
 -- the record at a place is the first at fault
-pub found_fault : (R : List EntryParts) → NumbersRise R → (condition : Condition) (i : ℕ) (e : EntryParts) (number : ℕ) → IsAt R i e → number ≡ e.number → AllBefore R condition i → (Meets condition R e → ⊥) → IsFirstAtFault R condition number
-found_fault R h condition i e number a same before fails = record {
-  fault = record { entry = e; there = contains_at R i e a; numbered = sym same; fails = fails };
-  first = λ other f. elim (below_or_not f.there.0 i) [
-    | inl l ↦ absurd (f.fails (subst (Meets condition R) f.there.2 (before f.there.0 f.entry l)))
-    | inr m ↦ (let o = ordered_at R h i f.there.0 e f.entry m f.there.1 in let x = a.there in let y = f.there.2 in let z = f.numbered in grind arith)
-  ];
-}
+pub found_fault : (R : List EntryParts) → NumbersRise R → (condition : Condition) (i : ℕ) (e : EntryParts) (number : ℕ) → IsAt R i e → number ≡ e.number → AllBefore R condition i → (Meets condition R e → ⊥) → IsLowestFault R condition (Some (record { condition = condition; number = number }))
+found_fault R h condition i e number a same before fails = (
+  refl,
+  record {
+    fault = record { entry = e; there = contains_at R i e a; numbered = sym same; fails = fails };
+    first = λ other f. elim (below_or_not f.there.0 i) [
+      | inl l ↦ absurd (f.fails (subst (Meets condition R) f.there.2 (before f.there.0 f.entry l)))
+      | inr m ↦ (let o = ordered_at R h i f.there.0 e f.entry m f.there.1 in let x = a.there in let y = f.there.2 in let z = f.numbered in grind arith)
+    ];
+  },
+)
+
+-- each record before a place meets a condition, or this is the first at fault
+abbrev pub IsSoFar : List EntryParts → Condition → ℕ → Option Finding → Type 0
+IsSoFar R condition i None = AllBefore R condition i
+IsSoFar R condition i (Some finding) = (finding.condition ≡ condition) × IsFirstAtFault R condition finding.number
+
+pub so_far_met : (R : List EntryParts) (condition : Condition) (i : ℕ) (e : EntryParts) → IsAt R i e → (o : Option Finding) → IsSoFar R condition i o → Meets condition R e → IsSoFar R condition (i + 1) o
+so_far_met R condition i e a None s m = before_more R condition i e a s m
+so_far_met R condition i e a (Some f) s m = s
+
+pub so_far_fault : (R : List EntryParts) → NumbersRise R → (condition : Condition) (i : ℕ) (e : EntryParts) (number : ℕ) → IsAt R i e → number ≡ e.number → (o : Option Finding) → IsSoFar R condition i o → (Meets condition R e → ⊥) → IsSoFar R condition (i + 1) (option_or o (Some (record { condition = condition; number = number })))
+so_far_fault R h condition i e number a n None s fails = found_fault R h condition i e number a n s fails
+so_far_fault R h condition i e number a n (Some f) s fails = s
+
+pub so_far_all : (xs R : List EntryParts) (condition : Condition) (i : ℕ) → xs ≡ R → length xs ≤ i → (o : Option Finding) → IsSoFar R condition i o → IsLowestFault R condition o
+so_far_all xs R condition i same n None s = all_met xs R condition i same n s
+so_far_all xs R condition i same n (Some f) s = s
 
 -- a number is that of one record
 pub one_numbered : (R : List EntryParts) → NumbersRise R → (e f : EntryParts) → Contains R e → Contains R f → e.number ≡ f.number → e ≡ f

@@ -1,30 +1,35 @@
 -- The conditions in their order, and which of them a look at one record after another decides.
-use Rattle.std.proofs.Common.{◌≡◌, ℕ, ◌<◌, ◌+◌, eqb, true, List, All, refl, arith, rules}
+use Rattle.std.proofs.Common.{◌≡◌, ℕ, zero, suc, ◌≤◌, ◌<◌, ◌+◌, eqb, true, List, Option, Some, None, Result, Ok, Err, IfOk, All, refl, sym, subst, arith, rules}
 use Rattle.std.specs.Prelude.{slice_index_or}
 use Rattle.std.proofs.lemmas.Bool.{eqb-true, agree_below_at}
 use Rattle.std.proofs.lemmas.List.Elements.{All-contains}
 use Rattle.lt_registry.specs.Parts.{EntryParts}
-use Rattle.lt_check.specs.Conditions.{Meets, rank_of, Passes, IsAtFault}
-use Rattle.lt_check.specs.Checking.{is_by_record}
+use Rattle.lt_check.specs.Conditions.{Meets, rank_of, Passes, IsAtFault, IsFinding}
+use Rattle.lt_check.specs.Checking.{is_by_record, next_of, IsLowestFault, IsVerdictBelow}
 use Rattle.lt_check.specs.WholeChecks.{MeetsBelow}
 use Rattle.lt_check.specs.declared.conditions.Condition.{Condition}
 use Rattle.lt_check.specs.declared.conditions.Condition.TheVariants as conditions
+use Rattle.lt_check.specs.declared.rejections.Finding.{Finding}
 use Rattle.lt_check.specs.declared.checking.TheConstants.{IN_ORDER}
 
--- but for three of them
-pub by_record : (k : Condition) → (k ≡ conditions.OwnName → ⊥) → (k ≡ conditions.FittingGrandfathered → ⊥) → is_by_record k ≡ true
-by_record conditions.OwnName a c = absurd (a refl)
-by_record conditions.FittingGrandfathered a c = absurd (c refl)
-by_record _ a c = refl
+-- but for four of them
+pub by_record : (k : Condition) → (k ≡ conditions.OwnName → ⊥) → (k ≡ conditions.FittingGrandfathered → ⊥) → (k ≡ conditions.RestingWhole → ⊥) → (k ≡ conditions.AgreeingWhole → ⊥) → is_by_record k ≡ true
+by_record _ a b c d = grind arith
+
+-- the rank up to which all is judged before a place
+abbrev pub rank_at : ℕ → ℕ
+rank_at zero = 1
+rank_at (suc i) = next_of (slice_index_or IN_ORDER i conditions.OwnName)
 
 -- the conditions are in the order of their ranks
-ranked : (i : ℕ) → i < 12 → rank_of (slice_index_or IN_ORDER i conditions.OwnName) ≡ i + 1
-ranked i h = eqb-true _ _ (agree_below_at (λ i. eqb (rank_of (slice_index_or IN_ORDER i conditions.OwnName)) (i + 1)) (λ _. true) 12 i refl h)
+ranked : (i : ℕ) → i < 11 → rank_of (slice_index_or IN_ORDER i conditions.OwnName) ≡ rank_at i
+ranked i h = eqb-true _ _ (agree_below_at (λ i. eqb (rank_of (slice_index_or IN_ORDER i conditions.OwnName)) (rank_at i)) (λ _. true) 11 i refl h)
 
 -- where the conditions of all ranks are met, so is each
-pub all_below : (R : List EntryParts) (n : ℕ) → 12 < n → MeetsBelow n R → Passes R
-all_below R n more h =
-    let each : (k : Condition) → All (Meets k R) R = λ k. h k (grind (arith, more)) in
+pub all_below : (R : List EntryParts) (i : ℕ) → 11 ≤ i → i ≤ 11 → MeetsBelow (rank_at i) R → Passes R
+all_below R i m l h =
+    let last : i ≡ 11 = omega (arith, m, l) in
+    let each : (k : Condition) → All (Meets k R) R = λ k. subst (λ j. MeetsBelow (rank_at j) R) last h k (grind arith) in
     record {
       own_name = each conditions.OwnName;
       registered_value = each conditions.RegisteredValue;
@@ -40,6 +45,21 @@ all_below R n more h =
       no_range_value = each conditions.NoRangeValue;
     }
 
+-- where the conditions below a rank are met, and that of the rank
+pub below_more : (R : List EntryParts) (k : Condition) (n : ℕ) → n ≡ rank_of k + 1 → MeetsBelow (rank_of k) R → All (Meets k R) R → MeetsBelow n R
+below_more R _ n e M a _ l = search (rules, arith)
+
+-- what a look at one condition finds
+pub judged : {E : Type 0} (R : List EntryParts) (k : Condition) → MeetsBelow (rank_of k) R → (k ≡ conditions.RestingWhole → ⊥) → (r : Result (Option Finding) E) → IfOk r (IsLowestFault R k) → IfOk r (IsVerdictBelow (next_of k) R)
+judged R k M n (Err x) a = tt
+judged R k M n (Ok None) a = below_more R k (next_of k) (grind arith) M a
+judged R k M n (Ok (Some f)) (e, a) =
+    subst (λ (x : Condition). IsFinding R x f.number) (sym e) (record { fault = a.fault; lower = M; first = a.first })
+
+-- what a look at the tenth and the eleventh finds
+pub judged_whole : (R : List EntryParts) → MeetsBelow 10 R → All (Meets conditions.RestingWhole R) R → (o : Option Finding) → IsLowestFault R conditions.AgreeingWhole o → IsVerdictBelow 12 R o
+judged_whole R M a o = judged {E = Unit {0}} R conditions.AgreeingWhole (below_more R conditions.RestingWhole 11 refl M a) (λ e. cc) (Ok o)
+
 meets : (R : List EntryParts) → Passes R → (k : Condition) → All (Meets k R) R
 meets R P conditions.OwnName = P.own_name
 meets R P _ = search rules
@@ -48,9 +68,9 @@ meets R P _ = search rules
 pub none_that_passes : (R : List EntryParts) (k : Condition) (n : ℕ) → IsAtFault R k n → Passes R → ⊥
 none_that_passes R k n f P = f.fails (All-contains (Meets k R) R f.entry (meets R P k) f.there)
 
-pub not_by_record : (k : Condition) → is_by_record k ≡ true → (k ≡ conditions.RegisteredValue → ⊥) → (k ≡ conditions.EndingChain → ⊥) → (k ≡ conditions.FittingExtlang → ⊥) → (k ≡ conditions.FittingVariantValue → ⊥) → (k ≡ conditions.FinalPrefixes → ⊥) → (k ≡ conditions.LangtagPrefixes → ⊥) → (k ≡ conditions.ValidWhole → ⊥) → (k ≡ conditions.RestingWhole → ⊥) → (k ≡ conditions.AgreeingWhole → ⊥) → (k ≡ conditions.NoRangeValue → ⊥) → ⊥
-not_by_record _ h a z b c d p e f g i = grind arith
+pub not_by_record : (k : Condition) → is_by_record k ≡ true → (k ≡ conditions.RegisteredValue → ⊥) → (k ≡ conditions.EndingChain → ⊥) → (k ≡ conditions.FittingExtlang → ⊥) → (k ≡ conditions.FittingVariantValue → ⊥) → (k ≡ conditions.FinalPrefixes → ⊥) → (k ≡ conditions.LangtagPrefixes → ⊥) → (k ≡ conditions.ValidWhole → ⊥) → (k ≡ conditions.NoRangeValue → ⊥) → ⊥
+not_by_record _ h a z b c d p e f = grind arith
 
 -- where the conditions so far are met, those below the next are
-pub lower_at : (R : List EntryParts) (i : ℕ) → i < 12 → MeetsBelow (i + 1) R → MeetsBelow (rank_of (slice_index_or IN_ORDER i conditions.OwnName)) R
+pub lower_at : (R : List EntryParts) (i : ℕ) → i < 11 → MeetsBelow (rank_at i) R → MeetsBelow (rank_of (slice_index_or IN_ORDER i conditions.OwnName)) R
 lower_at R i n h other l = h other (omega (arith, ranked i n, l))

@@ -1,5 +1,5 @@
 -- What holds of whole records where the conditions that are judged before hold of all records.
-use Rattle.std.proofs.Common.{◌≡◌, ◌<◌, inl, inr, List, Some, None, refl, sym, ap, ◌∙◌, subst, arith, ◌≢◌, ◌↔◌, Bool, true, false, not, IsTrue, IfOk, Bor, is_some, [], ◌∷◌, Option, Result, Ok, Err, is_ok, is_none, OnOk, IfErr, length}
+use Rattle.std.proofs.Common.{◌≡◌, ◌<◌, inl, inr, List, Some, None, refl, sym, ap, ◌∙◌, subst, arith, ◌≢◌, Bool, true, false, not, Bor, is_some, [], ◌∷◌, Option, Result, Ok, Err, is_ok, OnOk, IfErr, length}
 use Rattle.std.specs.Prelude.{Contains, slice_index_or}
 use Rattle.std.specs.Option.{option_and_then, option_copied}
 use Rattle.std.proofs.lemmas.List.Elements.{All-contains, All-contains_itself}
@@ -17,8 +17,8 @@ use Rattle.lt_rewrite.proofs.CoreLaws.{one_normal_form}
 use Rattle.lt_rewrite.proofs.Entries.{find_has}
 use Rattle.lt_rewrite.proofs.NormalForms.{star_keeps}
 use Rattle.lt_rewrite.proofs.ProperTags.{step_proper, proper_not_grandfathered}
-use Rattle.lt_check.specs.Conditions.{IsValidCoreAlone, HasValidWhole, HasAgreeingWhole}
-use Rattle.lt_check.specs.WholeChecks.{MeetsBelow, HasNoValue, ComesToRest, ComeTogether}
+use Rattle.lt_check.specs.Conditions.{IsValidCoreAlone, HasValidWhole, OfWhole}
+use Rattle.lt_check.specs.WholeChecks.{MeetsBelow, HasNoValue, Rests, ComesTo, Agrees}
 use Rattle.lt_check.specs.declared.conditions.Condition.TheVariants as conditions
 use Rattle.lt_check.proofs.CheckedRegistry.{valued_whole, whole_has, found_name, whole_kind, no_value}
 use Rattle.lt_check.proofs.Deciding.{same_tag_itself}
@@ -27,6 +27,7 @@ use Rattle.lt_check.proofs.OwnNames.{least}
 use Rattle.std.proofs.lemmas.List.{get_or_default, length-append}
 use Rattle.lt_tag.specs.Values.{core_alone, IsTagValue, extensions_of}
 use Rattle.std.specs.Bool.{Decides}
+use Rattle.std.proofs.lemmas.Bool.{not-true, not-false}
 use Rattle.std.proofs.lemmas.Bool.Decides.{Decides-like}
 use Rattle.std.specs.Ordering.{eq_by_cmp}
 use Rattle.lt_tag.specs.Order.{core_cmp}
@@ -110,16 +111,11 @@ plain_verdict R t c e V (Err refusals.OutOfMemory) ok err = absurd (none_transfo
 pub invalid_whole : (R : List EntryParts) (e : EntryParts) (t u : TagForm) → e.name ≡ names.Whole t → tag_of e.value ≡ Some u → (b : Bool) → Decides b (IsValidCoreAlone R u) → b ≡ false → Decides b (HasValidWhole R e)
 invalid_whole R e t u n v b d f = ((λ h. absurd (let k : true ≡ false = sym h ∙ f in cc)), (λ w. d.1 (w t u n v).0))
 
--- a core whose core normal form repeats no variant comes to rest exactly if no value is found for that
-pub rest_verdict : (R : List EntryParts) → MeetsBelow 10 R → IsRegistry R → (c form : CoreParts) → IsCoreNormalForm (values_of R) c form → Distinct form.variants → (o : Option TagForm) → o ≡ whole_value R (core_alone form) → Decides (is_none o) (ComesToRest R c)
-rest_verdict R M I c form n D None w =
-    ((λ h d m. subst (λ (x : CoreParts). Distinct x.variants × HasNoValue R (core_alone x)) (one_form R M c form d n m) (D, none_has_value R M I (core_alone form) (sym w))), (λ k. refl))
-rest_verdict R M I c form n D (Some u) w =
-    ((λ h. cc), (λ k. let none : whole_value R (core_alone form) ≡ None = no_value R (core_alone form) (k form n).1 in absurd (let e : Some u ≡ None = w ∙ none in cc)))
-
--- nothing behind a reference is nothing
-pub none_copied : {A : Type 0} (o : Option (Bor A)) (b : Bool) → is_some o ≡ not b → is_none (option_copied o) ≡ b
-none_copied o b e = grind arith
+-- a core that repeats no variant rests exactly if no value is found for it
+pub rest_verdict : (R : List EntryParts) → MeetsBelow 10 R → IsRegistry R → (c : CoreParts) → Distinct c.variants → (o : Option (Bor TagForm)) → option_copied o ≡ whole_value R (core_alone c) → (b : Bool) → is_some o ≡ not b → Decides b (Rests R c)
+rest_verdict R M I c D None w b n = ((λ h. (D, none_has_value R M I (core_alone c) (sym w))), (λ k. not-false b (sym n)))
+rest_verdict R M I c D (Some u) w b n =
+    ((λ h. let f = not-true b (sym n) in cc), (λ k. let none : whole_value R (core_alone c) ≡ None = no_value R (core_alone c) k.1 in let f = w ∙ none in cc))
 
 pub same_verdict : (c d : CoreParts) (b : Bool) → b ≡ eq_by_cmp core_cmp c d → Decides b (c ≡ d)
 same_verdict = same_exactly core_total cores_apart
@@ -127,41 +123,38 @@ same_verdict = same_exactly core_total cores_apart
 pub differ : (c d : CoreParts) (b : Bool) → b ≡ eq_by_cmp core_cmp c d → b ≡ false → c ≢ d
 differ c d b e f k = let t : b ≡ true = (same_verdict c d b e).1 k in cc
 
--- a core that is its own core normal form
-pub together_at_rest : (R : List EntryParts) → MeetsBelow 10 R → (c p form : CoreParts) → IsCoreNormalForm (values_of R) c form → form ≡ c → ComeTogether R c p
-together_at_rest R M c p form n e s d m moved k = absurd (moved (one_form R M c s form m n ∙ e))
-
--- two cores of one core normal form
-pub together_at_once : (R : List EntryParts) → MeetsBelow 10 R → (c p form end : CoreParts) → IsCoreNormalForm (values_of R) c form → IsCoreNormalForm (values_of R) p end → form ≡ end → ComeTogether R c p
-together_at_once R M c p form end n k e s d m moved l = inl (one_form R M c s form m n ∙ e ∙ one_form R M p end d k l)
-
-module _ (R : List EntryParts) (M : MeetsBelow 10 R) (c p form end : CoreParts) (n : IsCoreNormalForm (values_of R) c form) (k : IsCoreNormalForm (values_of R) p end) (moved : form ≢ c) (apart : form ≢ end) where
-  -- the core normal form has a value, which has a core normal form
-  pub by_value : (q r : CoreParts) → whole_value R (core_alone form) ≡ Some (core_alone q) → IsCoreNormalForm (values_of R) q r → (b : Bool) → Decides b (r ≡ end) → Decides b (ComeTogether R c p)
-  by_value q r w m b d =
-      Decides-like b
-      (λ e s x a f y. inr (q, ap (λ (z : CoreParts). whole_value R (core_alone z)) (sym (one_form R M c form s n a)) ∙ w, subst (IsCoreNormalForm (values_of R) q) (e ∙ one_form R M p end x k y) m))
-      (λ t. elim (t form end n moved k) [
-        | inl e ↦ absurd (apart e)
-        | inr v ↦ (
-            let found : Some (core_alone q) ≡ Some (core_alone v.0) = sym w ∙ v.1 in
-            let same : q ≡ v.0 = cc in
-            one_form R M q r end m (subst (λ (z : CoreParts). IsCoreNormalForm (values_of R) z end) (sym same) v.2))
-      ])
-      d
-
-  -- it has none
-  pub without_value : ((q : CoreParts) → whole_value R (core_alone form) ≡ Some (core_alone q) → ⊥) → ComeTogether R c p → ⊥
-  without_value none t = elim (t form end n moved k) [ inl e ↦ apart e | inr v ↦ none v.0 v.1 ]
-
--- a whole record whose tag and value are langtags without extensions and private use
-pub agreeing_verdict : {E : Type 0} (R : List EntryParts) (e : EntryParts) (t u : TagForm) (c p : CoreParts) → e.name ≡ names.Whole t → tag_of e.value ≡ Some u → t ≡ core_alone c → u ≡ core_alone p → (r : Result Bool E) → IfOk r (λ b. IsTrue b ↔ ComeTogether R c p) → IfOk r (λ b. IsTrue b ↔ HasAgreeingWhole R e)
-agreeing_verdict R e t u c p n v tc up (Err x) d = tt
-agreeing_verdict R e t u c p n v tc up (Ok b) d =
+-- a tag agrees as its core normal form does
+pub at_form : (R : List EntryParts) → MeetsBelow 10 R → (t : TagForm) (c form end : CoreParts) → t ≡ core_alone c → IsCoreNormalForm (values_of R) c form → (b : Bool) → Decides b (form ≢ c → ComesTo R form end) → Decides b (Agrees R t end)
+at_form R M t c form end e n b d =
     Decides-like b
-    (λ f x y m w a s z q xa yz k moved l.
-    let first : c ≡ a = cc in
-    let second : p ≡ z = cc in
-    (subst (λ (z : CoreParts). ComeTogether R a z) second (subst (λ (a : CoreParts). ComeTogether R a p) first f)) s q k moved l)
-    (λ h s q m moved k. h t u n v c s p q tc up m moved k)
+    (λ f a s x m moved.
+    let core : c ≡ a = cc in
+    let same = one_form R M a form s (subst (λ (z : CoreParts). IsCoreNormalForm (values_of R) z form) core n) m in
+    subst (λ (z : CoreParts). ComesTo R z end) same (f (λ k. moved (sym same ∙ k ∙ core))))
+    (λ h moved. h c form e n moved)
+    d
+
+-- the core normal form has a value, which has a core normal form
+pub by_value : (R : List EntryParts) → MeetsBelow 10 R → (c form end q r : CoreParts) → form ≢ c → form ≢ end → whole_value R (core_alone form) ≡ Some (core_alone q) → IsCoreNormalForm (values_of R) q r → (b : Bool) → Decides b (r ≡ end) → Decides b (form ≢ c → ComesTo R form end)
+by_value R M c form end q r moved apart w m b d =
+    Decides-like b
+    (λ e k. inr (q, w, subst (IsCoreNormalForm (values_of R) q) e m))
+    (λ t. elim (t moved) [
+      | inl e ↦ absurd (apart e)
+      | inr v ↦ (
+          let found : Some (core_alone q) ≡ Some (core_alone v.0) = sym w ∙ v.1 in
+          let same : q ≡ v.0 = cc in
+          one_form R M q r end m (subst (λ (z : CoreParts). IsCoreNormalForm (values_of R) z end) (sym same) v.2))
+    ])
+    d
+
+-- a whole record whose value is a langtag without extensions and private use
+pub at_end : (R : List EntryParts) → MeetsBelow 10 R → (e : EntryParts) (t u : TagForm) (p end : CoreParts) → e.name ≡ names.Whole t → tag_of e.value ≡ Some u → u ≡ core_alone p → IsCoreNormalForm (values_of R) p end → (P : TagForm → CoreParts → Type 0) (b : Bool) → Decides b (P t end) → Decides b (OfWhole e (λ t u. (p d : CoreParts) → u ≡ core_alone p → IsCoreNormalForm (values_of R) p d → P t d))
+at_end R M e t u p end n v up k P b d =
+    Decides-like b
+    (λ f x y m w z q yz l.
+    let tag : t ≡ x = cc in
+    let core : z ≡ p = cc in
+    subst (λ (a : TagForm). P a q) tag (subst (P t) (one_form R M p end q k (subst (λ (z : CoreParts). IsCoreNormalForm (values_of R) z q) core l)) f))
+    (λ h. h t u n v p end up k)
     d

@@ -1,9 +1,10 @@
 -- What a walk over the records finds.
-use Rattle.std.specs.Prelude.{ℕ, ◌≤◌, Bool, true, false, List, Option, Some, None, All}
+use Rattle.std.specs.Prelude.{ℕ, ◌≡◌, ◌+◌, ◌≤◌, Bool, true, false, List, Option, Some, None, All}
 use Rattle.lt_registry.specs.Parts.{EntryParts}
 use Rattle.lt_rewrite.specs.Shortcuts.{ShortcutParts, AreShortcuts}
 use Rattle.lt_usual.specs.Flags.{AreFlags}
-use Rattle.lt_check.specs.Conditions.{Meets, IsAtFault, Passes, IsFinding, IsChecked}
+use Rattle.lt_check.specs.Conditions.{Meets, rank_of, IsAtFault, Passes, IsFinding, IsChecked}
+use Rattle.lt_check.specs.WholeChecks.{MeetsBelow}
 use Rattle.lt_check.specs.declared.conditions.Condition.{Condition}
 use Rattle.lt_check.specs.declared.conditions.Condition.TheVariants as conditions
 use Rattle.lt_check.specs.declared.rejections.Finding.{Finding}
@@ -15,21 +16,33 @@ pub record IsFirstAtFault (R : List EntryParts) (condition : Condition) (number 
   pub fault : IsAtFault R condition number
   pub first : (other : ℕ) → IsAtFault R condition other → number ≤ other
 
--- each record meets the condition, or this is the lowest that does not
-abbrev pub IsLowestFault : List EntryParts → Condition → Option ℕ → Type 0
+-- each record meets the condition, or this names it and the lowest that does not
+abbrev pub IsLowestFault : List EntryParts → Condition → Option Finding → Type 0
 IsLowestFault R condition None = All (Meets condition R) R
-IsLowestFault R condition (Some number) = IsFirstAtFault R condition number
+IsLowestFault R condition (Some finding) = (finding.condition ≡ condition) × IsFirstAtFault R condition finding.number
 
 -- whether a look at one record after another decides the condition
 abbrev pub is_by_record : Condition → Bool
 is_by_record conditions.OwnName = false
 is_by_record conditions.FittingGrandfathered = false
+is_by_record conditions.RestingWhole = false
+is_by_record conditions.AgreeingWhole = false
 is_by_record _ = true
 
 -- each record meets each condition, or this is what the check finds
 abbrev pub IsVerdict : List EntryParts → Option Finding → Type 0
 IsVerdict R None = Passes R
 IsVerdict R (Some finding) = IsFinding R finding.condition finding.number
+
+-- all records meet each condition of a lower rank, or this is what the check finds
+abbrev pub IsVerdictBelow : ℕ → List EntryParts → Option Finding → Type 0
+IsVerdictBelow rank R None = MeetsBelow rank R
+IsVerdictBelow rank R (Some finding) = IsFinding R finding.condition finding.number
+
+-- the rank up to which all is judged once a condition is: the eleventh is judged along with the tenth
+abbrev pub next_of : Condition → ℕ
+next_of conditions.RestingWhole = 12
+next_of condition = rank_of condition + 1
 
 -- A rejection names a condition, and a record that does not meet it. Where memory runs out nothing is said.
 abbrev pub IsCause : List EntryParts → RejectedCause → Type 0

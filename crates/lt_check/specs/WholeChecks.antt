@@ -18,10 +18,9 @@ MeetsBelow rank R = (other : Condition) → rank_of other < rank → All (Meets 
 abbrev pub HasNoValue : List EntryParts → TagForm → Type 0
 HasNoValue R t = All (λ (f : EntryParts). f.name ≡ names.Whole t → tag_of f.value ≡ None) R
 
--- the core normal form of a core repeats no variant and has no value
-abbrev pub ComesToRest : List EntryParts → CoreParts → Type 0
-ComesToRest R c =
-    (d : CoreParts) → IsCoreNormalForm (values_of R) c d → Distinct d.variants × HasNoValue R (core_alone d)
+-- a core repeats no variant and has no value
+abbrev pub Rests : List EntryParts → CoreParts → Type 0
+Rests R d = Distinct d.variants × HasNoValue R (core_alone d)
 
 -- a core comes to an end: it is that, or its value comes to it
 abbrev pub ComesTo : List EntryParts → CoreParts → CoreParts → Type 0
@@ -29,7 +28,6 @@ ComesTo R s d =
     (s ≡ d) ⊎ ((q : CoreParts) × (whole_value R (core_alone s) ≡ Some (core_alone q))
     × IsCoreNormalForm (values_of R) q d)
 
--- where a core has a core normal form other than itself, that comes to the core normal form of another core
-abbrev pub ComeTogether : List EntryParts → CoreParts → CoreParts → Type 0
-ComeTogether R c p =
-    (s d : CoreParts) → IsCoreNormalForm (values_of R) c s → s ≢ c → IsCoreNormalForm (values_of R) p d → ComesTo R s d
+-- where a tag has a core normal form other than itself, that comes to an end
+abbrev pub Agrees : List EntryParts → TagForm → CoreParts → Type 0
+Agrees R t d = (c s : CoreParts) → t ≡ core_alone c → IsCoreNormalForm (values_of R) c s → s ≢ c → ComesTo R s d

@@ -1,9 +1,9 @@
 //! The check of a registry, condition by condition.
-ghost use Rattle.std.specs.Prelude.{◌≡◌, ◌↔◌, true, Contains, IsTrue, IfOk};
+ghost use Rattle.std.specs.Prelude.{◌≡◌, ◌↔◌, true, IsTrue, IfOk};
 ghost use Rattle.lt_rewrite.specs.Shortcuts.{AreShortcuts};
 ghost use Rattle.lt_check.specs.Conditions.{Meets, rank_of};
 ghost use Rattle.lt_check.specs.WholeChecks.{MeetsBelow};
-ghost use Rattle.lt_check.specs.Checking.{is_by_record, IsLowestFault, IsVerdict};
+ghost use Rattle.lt_check.specs.Checking.{is_by_record, next_of, IsLowestFault, IsVerdict, IsVerdictBelow};
 
 use crate::conditions::Condition;
 use crate::grandfathered_checks::{fits_grandfathered, validating_records};
@@ -13,14 +13,15 @@ use crate::record_checks::{
     has_registered_value, stands_beside_final_languages,
 };
 use crate::rejections::Finding;
-use crate::whole_checks::{has_agreeing_whole, has_resting_whole, has_valid_whole};
+use crate::whole_checks::{has_valid_whole, judge_whole};
 use lt_registry::{Entry, Lookup};
 use lt_rewrite::Shortcuts;
 use lt_tag::OutOfMemory;
 use std::alloc::Global;
 
-/// The conditions in the order in which they are judged.
-const IN_ORDER: [Condition; 12] = [
+/// The conditions in the order in which they are judged, but for the eleventh, which is judged along with the
+/// tenth.
+const IN_ORDER: [Condition; 11] = [
     Condition::OwnName,
     Condition::RegisteredValue,
     Condition::EndingChain,
@@ -31,7 +32,6 @@ const IN_ORDER: [Condition; 12] = [
     Condition::FittingGrandfathered,
     Condition::ValidWhole,
     Condition::RestingWhole,
-    Condition::AgreeingWhole,
     Condition::NoRangeValue,
 ];
 
@@ -42,24 +42,20 @@ fn meets<L: Lookup>(
     shortcuts: &Shortcuts,
     condition: Condition,
     entry: &Entry,
-) -> Result<bool, OutOfMemory>
+) -> bool
     requires shortcuts { AreShortcuts (L.listed table.now) shortcuts.now }
     requires by_record { is_by_record condition ≡ true }
-    requires lower { MeetsBelow (rank_of condition) (L.listed table.now) }
-    requires listed { Contains (L.listed table.now) entry.now }
-    ensures { IfOk result (λ meets. IsTrue meets ↔ Meets condition (L.listed table.now) entry.now) }
+    ensures { IsTrue result ↔ Meets condition (L.listed table.now) entry.now }
 {
     match condition {
-        Condition::RegisteredValue => Ok(has_registered_value(table, entry)),
-        Condition::EndingChain => Ok(shortcuts.has_end(table, entry)),
-        Condition::FittingExtlang => Ok(fits_as_extlang(table, shortcuts, entry)),
-        Condition::FittingVariantValue => Ok(has_fitting_variant_value(table, entry)),
-        Condition::FinalPrefixes => Ok(stands_beside_final_languages(table, entry)),
-        Condition::LangtagPrefixes => Ok(has_langtag_prefixes(entry)),
-        Condition::ValidWhole => Ok(has_valid_whole(alloc, table, entry)),
-        Condition::RestingWhole => has_resting_whole(alloc, table, shortcuts, entry),
-        Condition::AgreeingWhole => has_agreeing_whole(alloc, table, shortcuts, entry),
-        Condition::NoRangeValue => Ok(has_no_range_value(entry)),
+        Condition::RegisteredValue => has_registered_value(table, entry),
+        Condition::EndingChain => shortcuts.has_end(table, entry),
+        Condition::FittingExtlang => fits_as_extlang(table, shortcuts, entry),
+        Condition::FittingVariantValue => has_fitting_variant_value(table, entry),
+        Condition::FinalPrefixes => stands_beside_final_languages(table, entry),
+        Condition::LangtagPrefixes => has_langtag_prefixes(entry),
+        Condition::ValidWhole => has_valid_whole(alloc, table, entry),
+        Condition::NoRangeValue => has_no_range_value(entry),
         _ => unreachable!(),
     }
 }
@@ -71,49 +67,80 @@ fn first_failing<L: Lookup>(
     table: &L,
     shortcuts: &Shortcuts,
     condition: Condition,
-) -> Result<Option<u32>, OutOfMemory>
+) -> Option<Finding>
     requires shortcuts { AreShortcuts (L.listed table.now) shortcuts.now }
     requires by_record { is_by_record condition ≡ true }
-    requires lower { MeetsBelow (rank_of condition) (L.listed table.now) }
-    ensures { IfOk result (IsLowestFault (L.listed table.now) condition) }
+    ensures { IsLowestFault (L.listed table.now) condition result }
 {
     for entry in table.entries() {
-        if !meets(alloc, table, shortcuts, condition, entry)? {
-            return Ok(Some(entry.number()));
-        }
-    }
-    Ok(None)
-}
-
-/// The first record whose tag is a grandfathered type and none of the 26, or which makes a regular one
-/// of the 26 valid as a langtag.
-fn first_misfit<L: Lookup>(table: &L) -> Option<u32>
-    ensures { IsLowestFault (L.listed table.now) Condition.FittingGrandfathered result }
-{
-    let validating = validating_records(table);
-    for entry in table.entries() {
-        if !fits_grandfathered(table, &validating, entry) {
-            return Some(entry.number());
+        if !meets(alloc, table, shortcuts, condition, entry) {
+            let number = entry.number();
+            return Some(Finding { condition, number });
         }
     }
     None
 }
 
-/// The lowest record at fault by a condition, where all records meet the conditions before it.
+/// The first record whose tag is a grandfathered type and none of the 26, or which makes a regular one
+/// of the 26 valid as a langtag.
+fn first_misfit<L: Lookup>(table: &L) -> Option<Finding>
+    ensures { IsLowestFault (L.listed table.now) Condition.FittingGrandfathered result }
+{
+    let validating = validating_records(table);
+    for entry in table.entries() {
+        if !fits_grandfathered(table, &validating, entry) {
+            let condition = Condition::FittingGrandfathered;
+            let number = entry.number();
+            return Some(Finding { condition, number });
+        }
+    }
+    None
+}
+
+/// What the check finds by the tenth and the eleventh condition, where all records meet those before.
+fn first_whole_fault<L: Lookup>(
+    alloc: Global,
+    table: &L,
+    shortcuts: &Shortcuts,
+) -> Result<Option<Finding>, OutOfMemory>
+    requires shortcuts { AreShortcuts (L.listed table.now) shortcuts.now }
+    requires lower { MeetsBelow 10 (L.listed table.now) }
+    ensures { IfOk result (IsVerdictBelow 12 (L.listed table.now)) }
+{
+    let mut found = None;
+    for entry in table.entries() {
+        let judged = judge_whole(alloc, table, shortcuts, entry)?;
+        let number = entry.number();
+        if !judged.rests {
+            let condition = Condition::RestingWhole;
+            return Ok(Some(Finding { condition, number }));
+        }
+        if !judged.agrees {
+            let condition = Condition::AgreeingWhole;
+            found = found.or(Some(Finding { condition, number }));
+        }
+    }
+    Ok(found)
+}
+
+/// What the check finds by a condition, where all records meet the conditions before it.
 fn lowest_fault<L: Lookup>(
     alloc: Global,
     table: &L,
     shortcuts: &Shortcuts,
     condition: Condition,
-) -> Result<Option<u32>, OutOfMemory>
+) -> Result<Option<Finding>, OutOfMemory>
     requires shortcuts { AreShortcuts (L.listed table.now) shortcuts.now }
     requires lower { MeetsBelow (rank_of condition) (L.listed table.now) }
-    ensures { IfOk result (IsLowestFault (L.listed table.now) condition) }
+    ensures { IfOk result (IsVerdictBelow (next_of condition) (L.listed table.now)) }
 {
     match condition {
         Condition::OwnName => first_taken_name(alloc, table),
         Condition::FittingGrandfathered => Ok(first_misfit(table)),
-        _ => first_failing(alloc, table, shortcuts, condition),
+        Condition::RestingWhole | Condition::AgreeingWhole => {
+            first_whole_fault(alloc, table, shortcuts)
+        }
+        _ => Ok(first_failing(alloc, table, shortcuts, condition)),
     }
 }
 
@@ -128,8 +155,8 @@ pub(crate) fn find_fault<L: Lookup>(
     ensures { IfOk result (IsVerdict (L.listed table.now)) }
 {
     for condition in IN_ORDER {
-        if let Some(number) = lowest_fault(alloc, table, shortcuts, condition)? {
-            return Ok(Some(Finding { condition, number }));
+        if let Some(finding) = lowest_fault(alloc, table, shortcuts, condition)? {
+            return Ok(Some(finding));
         }
     }
     Ok(None)

@@ -8,6 +8,7 @@ ghost use Rattle.lt_check.specs.Checking.{IsLowestFault};
 
 use crate::conditions::Condition;
 use crate::range_names::RangeNames;
+use crate::rejections::Finding;
 use lt_registry::{Entry, EntryName, Lookup};
 use lt_tag::OutOfMemory;
 use std::alloc::Global;
@@ -41,13 +42,15 @@ fn is_new<L: Lookup>(table: &L, seen: &mut RangeNames, entry: &Entry) -> Result<
 pub(crate) fn first_taken_name<L: Lookup>(
     alloc: Global,
     table: &L,
-) -> Result<Option<u32>, OutOfMemory>
+) -> Result<Option<Finding>, OutOfMemory>
     ensures { IfOk result (IsLowestFault (L.listed table.now) Condition.OwnName) }
 {
     let mut seen = RangeNames::new(alloc);
     for entry in table.entries() {
         if !is_new(table, &mut seen, entry)? {
-            return Ok(Some(entry.number()));
+            let condition = Condition::OwnName;
+            let number = entry.number();
+            return Ok(Some(Finding { condition, number }));
         }
     }
     Ok(None)

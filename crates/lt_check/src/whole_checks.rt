@@ -11,7 +11,7 @@ ghost use Rattle.lt_registry.specs.declared.entries.EntryName.TheVariants as nam
 ghost use Rattle.lt_rewrite.specs.CoreSteps.{values_of, IsCoreNormalForm};
 ghost use Rattle.lt_rewrite.specs.Shortcuts.{AreShortcuts};
 ghost use Rattle.lt_check.specs.Conditions.{OfWhole, IsValidCoreAlone, Meets};
-ghost use Rattle.lt_check.specs.WholeChecks.{MeetsBelow, ComesToRest, ComeTogether};
+ghost use Rattle.lt_check.specs.WholeChecks.{MeetsBelow, Rests, Agrees};
 ghost use Rattle.lt_check.specs.declared.conditions.Condition.TheVariants as conditions;
 
 use lt_registry::{Entry, Kind, Lookup, are_distinct, validate};
@@ -93,97 +93,80 @@ fn plain_value_of<L: Lookup>(alloc: Global, table: &L, core: Core) -> Option<&Co
     }
 }
 
-/// Whether the core normal form of a proper core repeats no variant and has no value.
-fn comes_to_rest<L: Lookup>(
-    alloc: Global,
-    table: &L,
-    shortcuts: &Shortcuts,
-    core: &Core,
-) -> Result<bool, OutOfMemory>
-    requires shortcuts { AreShortcuts (L.listed table.now) shortcuts.now }
+/// Whether a core repeats no variant and has no value.
+fn rests<L: Lookup>(alloc: Global, table: &L, core: Core) -> bool
     requires lower { MeetsBelow 10 (L.listed table.now) }
-    requires proper { IsProperCore (L.listed table.now) core.now }
-    ensures { IfOk result (λ rests. IsTrue rests ↔ ComesToRest (L.listed table.now) core.now) }
+    requires spelled { IsNotGrandfathered (spell_core core) }
+    ensures { IsTrue result ↔ Rests (L.listed table.now) core }
 {
     know_entries(table);
-    let form = settled(alloc, table, shortcuts, core)?;
-    if !are_distinct(form.variants()) {
-        return Ok(false);
-    }
-    Ok(value_of(alloc, table, form).is_none())
+    are_distinct(core.variants()) && value_of(alloc, table, core).is_none()
 }
 
-/// Whether a record is no whole record with a value; or no variant occurs twice in the core normal form
-/// of its value, and this form is not the tag of a whole record with a value.
-pub(crate) fn has_resting_whole<L: Lookup>(
+/// Whether the core normal form of a tag, if it is another, is a given core, or has a value whose core
+/// normal form this is.
+fn comes_to<L: Lookup>(
     alloc: Global,
     table: &L,
     shortcuts: &Shortcuts,
-    entry: &Entry,
+    tag: &Tag,
+    end: &Core,
 ) -> Result<bool, OutOfMemory>
     requires shortcuts { AreShortcuts (L.listed table.now) shortcuts.now }
     requires lower { MeetsBelow 10 (L.listed table.now) }
-    requires listed { Contains (L.listed table.now) entry.now }
-    ensures { IfOk result (λ meets. IsTrue meets ↔ Meets conditions.RestingWhole (L.listed table.now) entry.now) }
+    requires proper { (c : CoreParts) → tag.now ≡ core_alone c → IsProperCore (L.listed table.now) c }
+    ensures { IfOk result (λ comes. IsTrue comes ↔ Agrees (L.listed table.now) tag.now end.now) }
 {
-    let Some((_, value)) = tag_and_value(entry) else {
+    let Some(core) = tag.core_alone() else {
         return Ok(true);
     };
-    match value.core_alone() {
-        Some(core) => comes_to_rest(alloc, table, shortcuts, core),
-        None => Ok(true),
-    }
-}
-
-/// Whether the core normal form of a proper core, if it is another, is that of a second core, or has
-/// a value with the same core normal form as the second core.
-fn come_together<L: Lookup>(
-    alloc: Global,
-    table: &L,
-    shortcuts: &Shortcuts,
-    first: &Core,
-    second: &Core,
-) -> Result<bool, OutOfMemory>
-    requires shortcuts { AreShortcuts (L.listed table.now) shortcuts.now }
-    requires lower { MeetsBelow 10 (L.listed table.now) }
-    requires first { IsProperCore (L.listed table.now) first.now }
-    requires second { IsProperCore (L.listed table.now) second.now }
-    ensures { IfOk result (λ together. IsTrue together ↔ ComeTogether (L.listed table.now) first.now second.now) }
-{
-    let form = settled(alloc, table, shortcuts, first)?;
-    if form == *first {
-        return Ok(true);
-    }
-    let end = settled(alloc, table, shortcuts, second)?;
-    if form == end {
+    let form = settled(alloc, table, shortcuts, core)?;
+    if form == *core || form == *end {
         return Ok(true);
     }
     match plain_value_of(alloc, table, form) {
-        Some(next) => Ok(settled(alloc, table, shortcuts, next)? == end),
+        Some(next) => Ok(settled(alloc, table, shortcuts, next)? == *end),
         None => Ok(false),
     }
 }
 
-/// Whether the tag of a record, if it is a whole record with a value, agrees with its value: where
-/// the tag has a core normal form other than itself, that, or the core normal form of that one's
-/// value, equals the core normal form of the value.
-pub(crate) fn has_agreeing_whole<L: Lookup>(
+/// Which of two conditions a record meets.
+#[derive(Clone, Copy)]
+pub(crate) struct Judged {
+    /// It is no whole record with a value; or no variant occurs twice in the core normal form of its value,
+    /// and this form is not the tag of a whole record with a value.
+    pub(crate) rests: bool,
+    /// It is no whole record with a value; or where its tag has a core normal form other than itself, that,
+    /// or the core normal form of that one's value, equals the core normal form of its value.
+    pub(crate) agrees: bool,
+}
+
+/// What is found of a record by a look at the core normal forms of its value and its tag.
+pub(crate) fn judge_whole<L: Lookup>(
     alloc: Global,
     table: &L,
     shortcuts: &Shortcuts,
     entry: &Entry,
-) -> Result<bool, OutOfMemory>
+) -> Result<Judged, OutOfMemory>
     requires shortcuts { AreShortcuts (L.listed table.now) shortcuts.now }
     requires lower { MeetsBelow 10 (L.listed table.now) }
     requires listed { Contains (L.listed table.now) entry.now }
-    ensures { IfOk result (λ meets. IsTrue meets ↔ Meets conditions.AgreeingWhole (L.listed table.now) entry.now) }
+    ensures rests { IfOk result (λ judged. IsTrue judged.rests ↔ Meets conditions.RestingWhole (L.listed table.now) entry.now) }
+    ensures agrees { IfOk result (λ judged. IsTrue judged.agrees ↔ Meets conditions.AgreeingWhole (L.listed table.now) entry.now) }
 {
     know_entries(table);
-    let Some((tag, value)) = tag_and_value(entry) else {
-        return Ok(true);
+    let both = Judged {
+        rests: true,
+        agrees: true,
     };
-    match (tag.core_alone(), value.core_alone()) {
-        (Some(first), Some(second)) => come_together(alloc, table, shortcuts, first, second),
-        _ => Ok(true),
-    }
+    let Some((tag, value)) = tag_and_value(entry) else {
+        return Ok(both);
+    };
+    let Some(core) = value.core_alone() else {
+        return Ok(both);
+    };
+    let end = settled(alloc, table, shortcuts, core)?;
+    let agrees = comes_to(alloc, table, shortcuts, tag, &end)?;
+    let rests = rests(alloc, table, end);
+    Ok(Judged { rests, agrees })
 }

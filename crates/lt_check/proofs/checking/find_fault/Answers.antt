@@ -1,9 +1,13 @@
-use Rattle.std.proofs.Common.{arith}
-use Rattle.lt_check.proofs.Judging.{all_below, lower_at}
+use Rattle.std.proofs.Common.{suc, subst, add-one}
+use Rattle.lt_check.specs.Checking.{IsVerdictBelow}
+use Rattle.lt_check.proofs.Judging.{all_below, lower_at, rank_at}
 use Rattle.lt_check.proofs.checking.find_fault.Goals as goal
 
 pub lowest_fault-requires-clause-lower : goal.lowest_fault-requires-clause-lower
-lowest_fault-requires-clause-lower g c = lower_at (g.L.Lookup.listed c.args.table.now) c.loop-condition.condition-index c.loop-condition-test.true c.loop-condition.invariant
+lowest_fault-requires-clause-lower g c = lower_at _ _ c.loop-condition-test.true c.loop-condition.invariant
+
+pub loop-condition-preserved : goal.loop-condition-preserved
+loop-condition-preserved g c = rw (add-one c.loop-condition.condition-index) (subst (IsVerdictBelow (rank_at (suc c.loop-condition.condition-index)) (g.L.Lookup.listed c.args.table.now)) c.in_default.is c.in_ok-finding.ensures)
 
 pub returns : goal.returns
-returns g c = all_below (g.L.Lookup.listed c.args.table.now) _ (omega (arith, c.loop-condition-test.false)) c.loop-condition.invariant
+returns g c = all_below _ _ c.loop-condition-test.false c.loop-condition.auto.condition-index-end c.loop-condition.invariant

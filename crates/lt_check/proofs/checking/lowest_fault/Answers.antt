@@ -1,5 +1,18 @@
-use Rattle.lt_check.proofs.Judging.{by_record}
+use Rattle.std.proofs.Common.{Ok}
+use Rattle.lt_check.proofs.Judging.{by_record, judged}
 use Rattle.lt_check.proofs.checking.lowest_fault.Goals as goal
 
 pub first_failing-requires-clause-by_record : goal.first_failing-requires-clause-by_record
-first_failing-requires-clause-by_record g c = by_record c.args.condition c.in_default.not-OwnName c.in_default.not-FittingGrandfathered
+first_failing-requires-clause-by_record g c = by_record c.args.condition c.in_default.not-OwnName c.in_default.not-FittingGrandfathered c.in_default.not-RestingWhole c.in_default.not-AgreeingWhole
+
+pub returns-in-OwnName : goal.returns-in-OwnName
+returns-in-OwnName g c =
+    judged _ c.args.condition c.requires.lower (λ e. let k = c.in-OwnName.is in cc) _ (rw c.in-OwnName.is c.first_taken_name.ensures)
+
+pub returns-in-FittingGrandfathered : goal.returns-in-FittingGrandfathered
+returns-in-FittingGrandfathered g c =
+    judged {E = Unit {0}} _ c.args.condition c.requires.lower (λ e. let k = c.in-FittingGrandfathered.is in cc) (Ok c.first_misfit.result) (rw c.in-FittingGrandfathered.is c.first_misfit.ensures)
+
+pub returns-in_default : goal.returns-in_default
+returns-in_default g c =
+    judged {E = Unit {0}} _ c.args.condition c.requires.lower c.in_default.not-RestingWhole (Ok c.first_failing.result) c.first_failing.ensures

@@ -3,16 +3,10 @@ use Rattle.lt_check.proofs.checking.meets.Goals as goal
 
 pub unreachable-requires : goal.unreachable-requires
 unreachable-requires g c =
-    not_by_record c.args.condition c.requires.by_record c.in_default.not-RegisteredValue c.in_default.not-EndingChain c.in_default.not-FittingExtlang c.in_default.not-FittingVariantValue c.in_default.not-FinalPrefixes c.in_default.not-LangtagPrefixes c.in_default.not-ValidWhole c.in_default.not-RestingWhole c.in_default.not-AgreeingWhole c.in_default.not-NoRangeValue
+    not_by_record c.args.condition c.requires.by_record c.in_default.not-RegisteredValue c.in_default.not-EndingChain c.in_default.not-FittingExtlang c.in_default.not-FittingVariantValue c.in_default.not-FinalPrefixes c.in_default.not-LangtagPrefixes c.in_default.not-ValidWhole c.in_default.not-NoRangeValue
 
 pub returns-in-ValidWhole : goal.returns-in-ValidWhole
 returns-in-ValidWhole g c = rw c.in-ValidWhole.is c.has_valid_whole.ensures
-
-pub returns-in-RestingWhole : goal.returns-in-RestingWhole
-returns-in-RestingWhole g c = rw c.in-RestingWhole.is c.has_resting_whole.ensures
-
-pub returns-in-AgreeingWhole : goal.returns-in-AgreeingWhole
-returns-in-AgreeingWhole g c = rw c.in-AgreeingWhole.is c.has_agreeing_whole.ensures
 
 pub returns-in-LangtagPrefixes : goal.returns-in-LangtagPrefixes
 returns-in-LangtagPrefixes g c = rw c.in-LangtagPrefixes.is (c.has_langtag_prefixes.ensures (g.L.Lookup.listed c.args.table.now))

@@ -6,24 +6,18 @@ use Rattle.lt_check.proofs.name_checks.first_taken_name.Goals as goal
 
 pub returns-then-not-branch : goal.returns-then-not-branch
 returns-then-not-branch g c =
-    let R = g.L.Lookup.listed c.args.table.now in
-    let i = c.loop-entry.entry-index in
-    let e = c.entry-item.result in
     let rising = c.entries-entry-items.ensures.rising in
-    let at = item_at c.entries-entry-items.result.now R i e c.entries-entry-items.ensures.value c.loop-entry-test.true c.entry-item.is in
-    found_fault R rising conditions.OwnName i e c.number.result at c.number.ensures.value c.loop-entry.invariant.before
-    (λ own. cc (c.if-not-branch.true, c.in_ok-is_new.ensures.new.1 ((new_own R i e at rising c.loop-entry.seen c.loop-entry.invariant.seen _ refl).1 own)))
+    let at = item_at _ _ _ _ c.entries-entry-items.ensures.value c.loop-entry-test.true c.entry-item.is in
+    found_fault _ rising conditions.OwnName _ _ _ at c.number-number.ensures.value c.loop-entry.invariant.before
+    (λ own. cc (c.if-not-branch.true, c.in_ok-is_new.ensures.new.1 ((new_own _ _ _ at rising c.loop-entry.seen c.loop-entry.invariant.seen _ refl).1 own)))
 
 pub loop-entry-preserved : goal.loop-entry-preserved
 loop-entry-preserved g c =
-    let R = g.L.Lookup.listed c.args.table.now in
-    let i = c.loop-entry.entry-index in
-    let e = c.entry-item.result in
     let rising = c.entries-entry-items.ensures.rising in
-    let at = item_at c.entries-entry-items.result.now R i e c.entries-entry-items.ensures.value c.loop-entry-test.true c.entry-item.is in
+    let at = item_at _ _ _ _ c.entries-entry-items.ensures.value c.loop-entry-test.true c.entry-item.is in
     record {
-      before = before_more R conditions.OwnName i e at c.loop-entry.invariant.before ((new_own R i e at rising c.loop-entry.seen c.loop-entry.invariant.seen _ refl).0 (c.in_ok-is_new.ensures.new.0 c.if-not-branch.false));
-      seen = seen_more R i e at c.loop-entry.seen c.is_new.new.seen c.loop-entry.invariant.seen c.in_ok-is_new.ensures.seen;
+      before = before_more _ conditions.OwnName _ _ at c.loop-entry.invariant.before ((new_own _ _ _ at rising c.loop-entry.seen c.loop-entry.invariant.seen _ refl).0 (c.in_ok-is_new.ensures.new.0 c.if-not-branch.false));
+      seen = seen_more _ _ _ at c.loop-entry.seen c.is_new.new.seen c.loop-entry.invariant.seen c.in_ok-is_new.ensures.seen;
     }
 
 pub returns : goal.returns

@@ -8,6 +8,5 @@ settle_core-requires-clause-chains g c = (core_below (g.L.Lookup.listed c.args.t
 
 pub returns-clause-spelled : goal.returns-clause-spelled
 returns-clause-spelled g c =
-    let R = g.L.Lookup.listed c.args.table.now in
-    let proper = subst (IsProperCore R) (sym c.in_ok-form.ensures) c.requires.proper in
-    form_spells_none R c.requires.lower c.in_ok-form.form c.settle_core.new.core proper c.settle_core.ensures.reached c.language.ensures.core.shaped
+    let proper = subst (IsProperCore (g.L.Lookup.listed c.args.table.now)) (sym c.in_ok-form.ensures) c.requires.proper in
+    form_spells_none _ c.requires.lower _ _ proper c.settle_core.ensures.reached c.language.ensures.core.shaped

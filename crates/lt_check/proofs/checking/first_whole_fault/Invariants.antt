@@ -1,0 +1,11 @@
+use Rattle.lt_check.specs.declared.conditions.Condition.TheVariants as conditions
+use Rattle.lt_check.proofs.FirstFaults.{AllBefore, IsSoFar}
+use Rattle.lt_check.proofs.checking.first_whole_fault.Given as goal
+
+abbrev pub invariant-loop-entry : goal.invariant-loop-entry
+invariant-loop-entry g l =
+    let R = g.L.Lookup.listed l.table in
+    record {
+      rests : AllBefore R conditions.RestingWhole l.entry-index;
+      agrees : IsSoFar R conditions.AgreeingWhole l.entry-index l.found;
+    }

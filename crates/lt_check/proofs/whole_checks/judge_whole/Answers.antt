@@ -1,0 +1,22 @@
+use Rattle.std.proofs.lemmas.Bool.Decides.{Decides-like}
+use Rattle.lt_check.specs.WholeChecks.{Rests, Agrees}
+use Rattle.lt_check.proofs.WholeRecords.{tag_proper, value_proper, at_end}
+use Rattle.lt_check.proofs.whole_checks.judge_whole.Goals as goal
+
+pub settled-requires-clause-proper : goal.settled-requires-clause-proper
+settled-requires-clause-proper g c =
+    value_proper _ c.requires.lower _ c.requires.listed _ _ c.in-Some.ensures.0 c.in-Some.ensures.1 _ c.in-Some-core_alone.ensures.value
+
+pub comes_to-requires-clause-proper : goal.comes_to-requires-clause-proper
+comes_to-requires-clause-proper g c = tag_proper _ c.requires.lower c.know_entries.ensures _ c.requires.listed _ _ c.in-Some.ensures.0 c.in-Some.ensures.1
+
+pub returns : goal.returns
+returns g c =
+    let at = at_end (g.L.Lookup.listed c.args.table.now) c.requires.lower c.args.entry.now _ _ _ _ c.in-Some.ensures.0 c.in-Some.ensures.1 c.in-Some-core_alone.ensures.value c.in_ok-end.ensures.normal in
+    record {
+      rests = at (λ _. Rests (g.L.Lookup.listed c.args.table.now)) _ c.rests-rests.ensures;
+      agrees = Decides-like _
+          (λ f t u n v c s p d tc up m moved l. f t u n v p d up l c s tc m moved)
+          (λ f t u n v p d up l c s tc m moved. f t u n v c s p d tc up m moved l)
+          (at (Agrees (g.L.Lookup.listed c.args.table.now)) _ c.in_ok-agrees.ensures);
+    }
