@@ -241,11 +241,12 @@ def prefixes_and_tags(count):
     ]
 
 
-def in_turn(others, past=False, idle=0, apart=0, spread=0):
+def in_turn(others, past=False, idle=0, apart=0, spread=0, alike=0):
     """Languages, and as many variants as a tag may have: each has the language before it as Prefix, the next as value,
     and so many Prefixes besides; or all the languages after it too, so that a language is a Prefix of each variant that
     turned before. And so many variants that no tag has, with all the languages as Prefixes. After each of the former
-    come so many variants that are not replaced, and after each of the latter so many."""
+    come so many variants that are not replaced, and after each of the latter so many; and at last so many that begin
+    as those that turn do."""
     beside = [name(n, 5) for n in range(others)]
     languages = [name(n, 3) for n in range(MOST_VARIANTS + 1)]
     heads = [record("language", one) for one in languages] + BY_RANGE
@@ -256,7 +257,7 @@ def in_turn(others, past=False, idle=0, apart=0, spread=0):
     for n in range(idle):
         heads.append(record("variant", name(n, 8), "aaa", languages[:-1]))
         heads += [record("variant", name(n * spread + m, 6)) for m in range(spread)]
-    return heads
+    return heads + [record("variant", "0a" + name(n, 6)) for n in range(alike)]
 
 
 def turning(first=0):
@@ -264,10 +265,29 @@ def turning(first=0):
     return name(first, 3) + "".join("-" + short_variant(n) for n in reversed(range(first, MOST_VARIANTS)))
 
 
-def turns_in_values(count, heads):
+def turning_from_the_first():
+    """The same, the first of those that are left each time."""
+    return name(0, 3) + "".join("-" + short_variant(n) for n in range(MOST_VARIANTS))
+
+
+def turns_in_values(count, heads, value=turning()):
     """Redundant tags whose values have all those variants."""
     left = max(1, (100 * count - sum(4 + len(one) for one in heads)) // 1120)
-    return heads + [record("redundant", name(n, 4) + "-AA", turning()) for n in range(left)]
+    return heads + [record("redundant", name(n, 4) + "-AA", value) for n in range(left)]
+
+
+def turns_among_strangers(count):
+    """Half as many variants that turn in turn, after as many that stay and stand 65,536 records before them."""
+    half = MOST_VARIANTS // 2
+    languages = [name(n, 3) for n in range(half + 1)]
+    stay = [record("variant", short_variant(half + n)) for n in range(half)]
+    turn = [record("variant", short_variant(n), languages[n + 1], [languages[n]]) for n in range(half)]
+    between = min(65536, 2 * count // 3) - half
+    heads = [record("language", one) for one in languages] + BY_RANGE
+    heads += [record("language", "aaaa..zzzz"), record("region", "AA")] + stay
+    heads += [record("variant", name(n, 5)) for n in range(between)] + turn
+    value = languages[0] + "".join("-" + short_variant(half + n) for n in range(half))
+    return turns_in_values(count, heads, value + "".join("-" + short_variant(n) for n in reversed(range(half))))
 
 
 def turns_in_both(count):
@@ -415,9 +435,13 @@ REGISTRIES = {
     "turns-after-others": lambda count: turns_in_values(count, in_turn(0, past=True)),
     "turns-beside-3": lambda count: turns_in_values(count, in_turn(0, idle=3)),
     "turns-beside-100": lambda count: turns_in_values(count, in_turn(0, idle=count // 1000)),
+    "turns-beside-60": lambda count: turns_in_values(count, in_turn(0, idle=count // 1600, alike=count // 4)),
     "turns-beside-1000": lambda count: turns_in_values(count, in_turn(0, idle=count // 100)),
     "turns-apart": lambda count: turns_in_values(count, in_turn(0, idle=count // 100, apart=64)),
     "turns-beside-spread": lambda count: turns_in_values(count, in_turn(0, idle=count // 200, spread=63)),
+    "turns-among-alike": lambda count: turns_in_values(count, in_turn(0, alike=count // 5)),
+    "turns-among-strangers": turns_among_strangers,
+    "turns-from-the-first": lambda count: turns_in_values(count, in_turn(0), turning_from_the_first()),
     "turns-in-both": turns_in_both,
 }
 
