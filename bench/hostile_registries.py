@@ -224,6 +224,14 @@ def prefixes_of_variants(count):
     ]
 
 
+def languages_of_many(count):
+    """Languages that are each a Prefix of 300 variants with a language value, and as many records as there may be."""
+    listed = [name(n, 3) for n in range(count // 54)]
+    turned = [record("variant", name(n, 8), "fr", listed) for n in range(300)]
+    head = [record("language", "aaa..zzz"), record("language", "fr")] + turned
+    return head + ["Type: variant\nSubtag: " + name(n, 5) for n in range(count - 310)]
+
+
 def long_prefixes(count):
     """Variants with a Prefix that fills its line."""
     tail = "".join("-" + short_variant(n) for n in range(13000))
@@ -415,6 +423,7 @@ REGISTRIES = {
     "prefixes-mixed": lambda count: prefixes(count, mixed),
     "equal-prefixes": equal_prefixes,
     "prefixes-of-variants": prefixes_of_variants,
+    "languages-of-many": languages_of_many,
     "long-prefixes": long_prefixes,
     "prefixes-and-tags": prefixes_and_tags,
     "grandfathered": grandfathered,
