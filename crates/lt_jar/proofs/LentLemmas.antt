@@ -8,7 +8,7 @@ use Rattle.lt_jar.specs.Limits.{most_records}
 use Rattle.lt_jar.specs.Records.{Field, HasRecords, IsWithin, Written, has_field, is_shown, lines_of_ended, lines_of_group, record_of, shown}
 use Rattle.lt_jar.specs.Faults.{Fault, IsReached, IsTheFault, IsWrong, IsWrongAt, begun, is_inside}
 use Rattle.lt_jar.specs.Lending.{AreEnded, CutsRecord, EndsRecord, IsSound, BreaksOff, IsCutShort}
-use Rattle.lt_jar.proofs.GroupLemmas.{past_ended, records_of, records_of-append}
+use Rattle.lt_jar.proofs.GroupLemmas.{finished-going_of, past_ended, records_of, records_of-append}
 use Rattle.lt_jar.proofs.ReadLemmas.{count_of, each_fault, shown-append, within_of}
 use Rattle.lt_jar.proofs.ReadingLemmas.{Refused, Runs, each-append, fault_told, holds_here, lines_of-whole, lines_of-whole_lines, reached_told, rest_some, runs_end, runs_out, runs_taken, whole_joined, whole-append}
 use Rattle.lt_jar.specs.LentSoFar.{HasLent}
@@ -28,11 +28,9 @@ where_in : {A : Type 0} (xs ys front : List A) (y : A) (after : List A) → xs +
 where_in [] ys front y after e = inr (front, refl, e)
 where_in (x ∷ xs) ys [] y after e = inl (xs, cc)
 where_in (x ∷ xs) ys (b ∷ front) y after e =
-    let rest : xs ++ ys ≡ front ++ y ∷ after = cc in
-    let first : x ≡ b = cc in
-    elim (where_in xs ys front y after rest) [
-      | inl within ↦ inl (within.0, cc (within.1, first))
-      | inr behind ↦ inr (behind.0, cc (behind.1, first), behind.2)
+    elim (where_in xs ys front y after (cc)) [
+      | inl within ↦ inl (within.0, cc (within.1, e))
+      | inr behind ↦ inr (behind.0, cc (behind.1, e), behind.2)
     ]
 
 -- whole lines with which nothing is wrong, and these are their records: so many, and the next line has this number
@@ -116,43 +114,28 @@ reached_on {lines} {rest = rest} front bytes is count = record {
 ended-append : (xs ys : List (List ℕ)) (first second : List (List Field)) → AreEnded xs first → AreEnded ys second → AreEnded (xs ++ ys) (first ++ second)
 ended-append xs ys first second ended more = record {
   groups = ended.groups ++ more.groups;
-  lines_are = shown-append xs ys ∙ ap (λ l. l ++ shown ys) ended.lines_are ∙ ap (λ l. flat_map lines_of_ended ended.groups ++ l) more.lines_are
-      ∙ sym (flat_map-append lines_of_ended ended.groups more.groups);
-  records_are = ap (λ l. l ++ second) ended.records_are ∙ ap (λ l. records_of ended.groups ++ l) more.records_are ∙ sym (records_of-append ended.groups more.groups);
+  lines_are = cc (shown-append xs ys, flat_map-append lines_of_ended ended.groups more.groups);
+  records_are = cc (records_of-append ended.groups more.groups);
 }
 
 -- a group without a field for each separator
-abbrev empty_groups : List Line → List (List Written)
-empty_groups [] = []
-empty_groups (line ∷ lines) = [] ∷ empty_groups lines
-
-lines_of-empty_groups : (skipped : List Line) → AllByRecursion (λ line. line ≡ Separator) skipped → skipped ≡ flat_map lines_of_ended (empty_groups skipped)
-lines_of-empty_groups [] each = refl
-lines_of-empty_groups (line ∷ skipped) each = ap (λ l. l ∷ skipped) each.0 ∙ ap (λ l. Separator ∷ l) (lines_of-empty_groups skipped each.1)
-
-records_of-empty_groups : (skipped : List Line) → records_of (empty_groups skipped) ≡ []
-records_of-empty_groups [] = refl
-records_of-empty_groups (line ∷ skipped) = records_of-empty_groups skipped
-
-one_record : (fields : List Field) (group : List Written) → fields ≡ record_of group → fields ≢ [] → fields ∷ [] ≡ records_of (group ∷ [])
-one_record fields [] is some = absurd (some is)
-one_record fields (field ∷ group) is some = ap (λ f. f ∷ []) is
+empty_groups : (skipped : List Line) → AllByRecursion (λ line. line ≡ Separator) skipped → (groups : List (List Written)) × (skipped ≡ flat_map lines_of_ended groups) × (records_of groups ≡ [])
+empty_groups [] each = ([], refl, refl)
+empty_groups (line ∷ skipped) each = let rest = empty_groups skipped each.1 in ([] ∷ rest.0, cc (each.0, rest.1), rest.2)
 
 -- the lines of one record
 one_ended : (lines : List (List ℕ)) (fields : List Field) → EndsRecord lines fields → AreEnded lines (fields ∷ [])
 one_ended lines fields ends =
     let gathers = ends.gathers in
-    let empty = empty_groups gathers.skipped in
+    let empty = empty_groups gathers.skipped gathers.separators in
     let separator : shown (ends.last ∷ []) ≡ Separator ∷ [] = ap (λ k. filter is_shown (k ∷ [])) ends.separator in
     record {
-      groups = empty ++ gathers.group ∷ [];
-      lines_are = ap shown ends.lines_are ∙ shown-append ends.before (ends.last ∷ []) ∙ ap (λ l. shown ends.before ++ l) separator ∙ ap (λ l. l ++ Separator ∷ []) gathers.lines_are
-          ∙ append_assoc gathers.skipped (lines_of_group gathers.group) (Separator ∷ [])
-          ∙ ap (λ l. l ++ lines_of_ended gathers.group) (lines_of-empty_groups gathers.skipped gathers.separators)
-          ∙ ap (λ l. flat_map lines_of_ended empty ++ l) (sym (append-nil (lines_of_ended gathers.group)))
-          ∙ sym (flat_map-append lines_of_ended empty (gathers.group ∷ []));
-      records_are = one_record fields gathers.group gathers.fields_are ends.some
-          ∙ ap (λ l. l ++ records_of (gathers.group ∷ [])) (sym (records_of-empty_groups gathers.skipped)) ∙ sym (records_of-append empty (gathers.group ∷ []));
+      groups = empty.0 ++ gathers.group ∷ [];
+      lines_are = cc (
+        ap shown ends.lines_are, shown-append ends.before (ends.last ∷ []), separator, gathers.lines_are, append_assoc gathers.skipped (lines_of_group gathers.group) (Separator ∷ []), empty.1,
+        append-nil (lines_of_ended gathers.group), flat_map-append lines_of_ended empty.0 (gathers.group ∷ []),
+      );
+      records_are = cc (rest_some fields ends.some, ap rest_of gathers.fields_are, finished-going_of [] gathers.group, empty.2, records_of-append empty.0 (gathers.group ∷ []));
     }
 
 -- a record more
@@ -175,10 +158,11 @@ records_on {lines} {records} {more} {rest = rest} front bytes has =
     record {
       ended = ended.groups ++ has.ended;
       last = has.last;
-      lines = ap shown (lines_behind rest front bytes) ∙ shown-append lines (lines_of rest) ∙ ap (λ l. l ++ shown (lines_of rest)) ended.lines_are ∙ ap (λ l. groups ++ l) has.lines
-          ∙ sym (append_assoc groups (flat_map lines_of_ended has.ended) (lines_of_group has.last)) ∙ ap (λ l. l ++ lines_of_group has.last) (sym (flat_map-append lines_of_ended ended.groups has.ended));
-      all = ap (λ l. l ++ more) ended.records_are ∙ ap (λ l. records_of ended.groups ++ l) has.all ∙ sym (records_of-append ended.groups (has.ended ++ has.last ∷ []))
-          ∙ ap records_of (sym (append_assoc ended.groups has.ended (has.last ∷ [])));
+      lines = cc (
+        ap shown (lines_behind rest front bytes), shown-append lines (lines_of rest), append_assoc groups (flat_map lines_of_ended has.ended) (lines_of_group has.last),
+        flat_map-append lines_of_ended ended.groups has.ended,
+      );
+      all = cc (records_of-append ended.groups (has.ended ++ has.last ∷ []), append_assoc ended.groups has.ended (has.last ∷ []));
     }
 
 some_lines : (lines : List (List ℕ)) → 1 ≤ begun false (shown lines) → 1 ≤ length lines

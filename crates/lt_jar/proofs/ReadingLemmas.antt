@@ -25,15 +25,6 @@ use Rattle.lt_jar.proofs.ReadLemmas.{HasRead, by_result, by_test, few_at, next_r
 use Rattle.lt_jar.specs.declared.faults.JarFaultKind.TheVariants as kinds
 use Rattle.lt_jar.specs.declared.drafts.Progress.TheVariants as progress
 
-pub take_line-passing : (ended : ℕ) (fields : List Field) (line : List ℕ) → length line ≤ longest_line → IsUtf8 line → take_line ended fields line ≡ take_kind ended fields (line_of line)
-take_line-passing ended fields line short utf8 = rw (le-ltb longest_line (length line) short, is_utf8-from_IsUtf8 line utf8) refl
-
-pub take_line-not_utf8 : (ended : ℕ) (fields : List Field) (line : List ℕ) → length line ≤ longest_line → (IsUtf8 line → ⊥) → take_line ended fields line ≡ Err NotUtf8
-take_line-not_utf8 ended fields line short not = rw (le-ltb longest_line (length line) short, false_from_ne_true (is_utf8 line) (λ is. not (IsUtf8-from_is_utf8 line is))) refl
-
-pub take_line-too_long : (ended : ℕ) (fields : List Field) (line : List ℕ) → longest_line < length line → take_line ended fields line ≡ Err LineTooLong
-take_line-too_long ended fields line long = rw (lt-ltb longest_line (length line) long) refl
-
 -- the last field is at i
 with_text-set : (text : List ℕ) (fields : List Field) (i : ℕ) (last : Field) → i + 1 ≡ length fields → get_or fields i last ≡ last
     → with_text text fields ≡ set fields i (last.0, lengthened last.1 text)
@@ -138,10 +129,6 @@ turn_first old piece begun = record {
   room = omega arith;
 }
 
--- the front of the piece with a line more
-split_more : (piece front rest line after : List ℕ) → piece ≡ front ++ rest → rest ≡ line ++ 10 ∷ after → piece ≡ (front ++ (line ++ 10 ∷ [])) ++ after
-split_more piece front rest line after is cut = rw (is, cut) (simp append_assoc)
-
 -- the bytes after a line that is cut off
 after_line : (lines : List (List ℕ)) (partial line rest after all : List ℕ) → all ≡ whole_lines lines ++ (partial ++ rest) → rest ≡ line ++ 10 ∷ after
     → all ≡ whole_lines (lines ++ (partial ++ line) ∷ []) ++ after
@@ -165,7 +152,7 @@ turn_next {old} {now} new {piece} {rest} line after turn cut one said ended coun
       bytes = after_line turn.lines now.partial.items line rest after (old.partial.items ++ piece) turn.bytes cut
           ∙ ap (λ l. whole_lines (turn.lines ++ whole ∷ []) ++ (l ++ after)) (sym none);
       front = turn.front ++ (line ++ 10 ∷ []);
-      split = split_more piece turn.front rest line after turn.split cut;
+      split = simp append_assoc (cc (turn.split, cut));
       room = omega (arith, counted, turn.room, long);
     }
 
@@ -187,7 +174,7 @@ turn_ends {old} {now} new {piece} {rest} line after turn cut one said ended coun
       empty = none;
       bytes = after_line turn.lines now.partial.items line rest after (old.partial.items ++ piece) turn.bytes cut;
       front = turn.front ++ (line ++ 10 ∷ []);
-      split = split_more piece turn.front rest line after turn.split cut;
+      split = simp append_assoc (cc (turn.split, cut));
       room = omega (arith, counted, turn.room, long);
     }
 
@@ -231,7 +218,7 @@ unended_refused ended fields (byte ∷ line) more kind one some why =
       cut = first.2;
       said = elim why [
         | inl memory ↦ inl memory
-        | inr long ↦ inr (LineTooLong, ap fault_in long.0, take_line-too_long ended fields ((byte ∷ line) ++ first.0) (omega (arith, long.1, length-append (byte ∷ line) first.0)))
+        | inr long ↦ inr (LineTooLong, ap fault_in long.0, rw (lt-ltb longest_line (length ((byte ∷ line) ++ first.0)) (omega (arith, long.1, length-append (byte ∷ line) first.0))) refl)
       ];
     }
 

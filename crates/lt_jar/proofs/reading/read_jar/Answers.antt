@@ -49,24 +49,14 @@ returns-clause-fault c =
     let runs = runs_taken (text_runs c.loop-after.invariant) takes in
     rw c.line-in-Err-finish.ensures (said_of c.loop-after.invariant (runs_stops_last runs takes.over.begun c.in-Err-finish.ensures tt))
 
-pub returns-in-Ok-true-clause-records : goal.returns-in-Ok-true-clause-records
-returns-in-Ok-true-clause-records c =
+pub returns-in-Ok-true : goal.returns-in-Ok-true
+returns-in-Ok-true c =
     let takes = rw c.in-Ok-None.field-0-is at c.in-Ok-None.ensures in
     let ended = text_ended c.finish.new.self c.loop-after.invariant takes (rw c.in-Ok-true.field-0-test at c.in-Ok-true.ensures) in
-    subst (HasRecords c.args.text.now) (sym c.in_ok-push_record-in-Ok-true.ensures.record) ended.has
+    rw c.in_ok-push_record-in-Ok-true.ensures.record (record { records = ended.has; within = ended.within; fault = tt })
 
-pub returns-in-Ok-true-clause-within : goal.returns-in-Ok-true-clause-within
-returns-in-Ok-true-clause-within c =
+pub returns-in-Ok-false : goal.returns-in-Ok-false
+returns-in-Ok-false c =
     let takes = rw c.in-Ok-None.field-0-is at c.in-Ok-None.ensures in
-    let ended = text_ended c.finish.new.self c.loop-after.invariant takes (rw c.in-Ok-true.field-0-test at c.in-Ok-true.ensures) in
-    subst (IsWithin c.args.text.now) (sym c.in_ok-push_record-in-Ok-true.ensures.record) ended.within
-
-pub returns-in-Ok-false-clause-records : goal.returns-in-Ok-false-clause-records
-returns-in-Ok-false-clause-records c =
-    let takes = rw c.in-Ok-None.field-0-is at c.in-Ok-None.ensures in
-    (text_over c.finish.new.self c.loop-after.invariant takes (rw c.in-Ok-false.field-0-test at c.in-Ok-false.ensures)).0
-
-pub returns-in-Ok-false-clause-within : goal.returns-in-Ok-false-clause-within
-returns-in-Ok-false-clause-within c =
-    let takes = rw c.in-Ok-None.field-0-is at c.in-Ok-None.ensures in
-    (text_over c.finish.new.self c.loop-after.invariant takes (rw c.in-Ok-false.field-0-test at c.in-Ok-false.ensures)).1
+    let over = text_over c.finish.new.self c.loop-after.invariant takes (rw c.in-Ok-false.field-0-test at c.in-Ok-false.ensures) in
+    record { records = over.0; within = over.1; fault = tt }

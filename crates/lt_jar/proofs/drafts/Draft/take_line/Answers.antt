@@ -1,13 +1,18 @@
-use Rattle.std.proofs.Common.{arith, inr, refl, ap, ◌∙◌}
+use Rattle.std.proofs.Common.{arith, inr, refl, ap, length, ◌∙◌}
+use Rattle.std.specs.Str.{is_utf8}
+use Rattle.std.proofs.lemmas.Bool.{false_from_ne_true, le-ltb}
+use Rattle.std.proofs.lemmas.Str.{IsUtf8-from_is_utf8, is_utf8-from_IsUtf8}
+use Rattle.lt_jar.specs.Limits.{longest_line}
 use Rattle.lt_jar.specs.LineKinds.{line_of}
 use Rattle.lt_jar.specs.Faults as faults
-use Rattle.lt_jar.proofs.ReadingLemmas.{take_line-passing, take_line-not_utf8}
 use Rattle.lt_jar.proofs.drafts.Draft.take_line.Goals as goal
 
 pub returns-in-Ok : goal.returns-in-Ok
 returns-in-Ok c =
     let kind = c.kind_of.ensures ∙ ap line_of c.in-Ok.ensures.cases.0 in
-    rw (take_line-passing c.args.ended c.args.self.now.fields.items c.args.line.now (omega arith) c.in-Ok.ensures.cases.1, ← kind) c.take_kind.ensures
+    rw (le-ltb longest_line (length c.args.line.now) (omega arith), is_utf8-from_IsUtf8 c.args.line.now c.in-Ok.ensures.cases.1, ← kind) c.take_kind.ensures
 
 pub returns-in-Err : goal.returns-in-Err
-returns-in-Err c = inr (faults.NotUtf8, refl, take_line-not_utf8 c.args.ended c.args.self.now.fields.items c.args.line.now (omega arith) c.in-Err.ensures.cases.0)
+returns-in-Err c = 
+    let line = c.args.line.now in
+    inr (faults.NotUtf8, refl, rw (le-ltb longest_line (length line) (omega arith), false_from_ne_true (is_utf8 line) (λ is. c.in-Err.ensures.cases.0 (IsUtf8-from_is_utf8 line is))) refl)
