@@ -163,7 +163,7 @@ past_ended ((field ∷ group) ∷ ended) lines =
       ap (fits false) order ∙ past_group (fits true) (λ _ _. refl) (λ _ _ _. refl) (field ∷ group) _ ∙ rest.2,
     )
 
-past_last : (last : List Written) → (is_inside false (lines_of_group last) ≡ has_field last) × (begun false (lines_of_group last) ≡ length (filter has_field (last ∷ []))) × (fits false (lines_of_group last) ≡ true)
+pub past_last : (last : List Written) → (is_inside false (lines_of_group last) ≡ has_field last) × (begun false (lines_of_group last) ≡ length (filter has_field (last ∷ []))) × (fits false (lines_of_group last) ≡ true)
 past_last [] = (refl, refl, refl)
 past_last (field ∷ last) =
     let all = append-nil (lines_of_group (field ∷ last)) in (
@@ -172,14 +172,8 @@ past_last (field ∷ last) =
       ap (fits true) (sym all) ∙ past_group (fits true) (λ _ _. refl) (λ _ _ _. refl) (field ∷ last) [],
     )
 
-pub is_inside-groups : (ended : List (List Written)) (last : List Written) → is_inside false (lines_of_groups ended last) ≡ has_field last
-is_inside-groups ended last = (past_ended ended (lines_of_group last)).0 ∙ (past_last last).0
-
 pub begun-groups : (ended : List (List Written)) (last : List Written) → begun false (lines_of_groups ended last) ≡ length (records_of (ended ++ last ∷ []))
 begun-groups ended last = simp (length-map, filter-append, length-append) (omega (arith, (past_ended ended (lines_of_group last)).1, (past_last last).1))
-
-pub fits-groups : (ended : List (List Written)) (last : List Written) → fits false (lines_of_groups ended last) ≡ true
-fits-groups ended last = (past_ended ended (lines_of_group last)).2 ∙ (past_last last).2
 
 -- the continuations at the front, and the groups after them
 abbrev Parsed : Type 0

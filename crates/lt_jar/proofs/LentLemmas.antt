@@ -169,23 +169,6 @@ some_lines : (lines : List (List ℕ)) → 1 ≤ begun false (shown lines) → 1
 some_lines [] some = omega (arith, some)
 some_lines (line ∷ lines) some = omega arith
 
--- the last line of a text with which nothing is wrong is reached
-pub reached_at_end : (text : List ℕ) (records : List (List Field)) → HasRecords text records → IsSound 0 text → 1 ≤ length records → IsReached 0 text (length (lines_of text))
-reached_at_end text records has sound some = record {
-  from = some_lines (lines_of text) (omega (arith, some, count_of text records has));
-  to = omega arith;
-  clean = λ other at wrong. absurd (sound other at wrong);
-}
-
--- and so is the last of whole lines
-reached_behind_lines : {lines : List (List ℕ)} {records : List (List Field)} {earlier line number : ℕ} {text : List ℕ} (rest : List ℕ) → Behind lines records earlier line → text ≡ whole_lines lines ++ rest
-    → 1 ≤ length lines → number + 1 ≡ line → IsReached 0 text number
-reached_behind_lines {lines} rest front bytes some count = record {
-  from = omega (arith, some, count, front.line_is);
-  to = omega (arith, count, front.line_is, ap length (lines_behind rest front bytes), length-append lines (lines_of rest));
-  clean = λ other at wrong. let there = wrong_is_behind front bytes wrong in omega (arith, there.1, count, there.2.counted);
-}
-
 front_of : {bytes : List ℕ} {records : List (List Field)} {s : JarSource} → (lent : HasLent bytes records s) → Behind lent.lines records (lent_by s) (line_of_kept s)
 front_of lent = record { each = lent.each; ended = lent.ended; sound = lent.sound; counted = lent.counted; line_is = lent.line }
 
@@ -296,7 +279,12 @@ pub text_refused : {text rest after : List ℕ} {records : List (List Field)} {n
 text_refused {text} {rest} {after} number turn takes counted =
     let out = runs_out (text_runs turn) takes in
     let bytes = whole_joined text rest after turn.lines out.lines turn.bytes out.cuts.bytes in
-    reached_behind_lines after (behind_more turn.front out.cuts refl out.line) bytes (omega (arith, length-append turn.lines out.lines, out.some)) counted
+    let front = behind_more turn.front out.cuts refl out.line in
+    record {
+      from = omega (arith, length-append turn.lines out.lines, out.some, counted, front.line_is);
+      to = omega (arith, counted, front.line_is, ap length (lines_behind after front bytes), length-append (turn.lines ++ out.lines) (lines_of after));
+      clean = λ other at wrong. let there = wrong_is_behind front bytes wrong in omega (arith, there.1, counted, there.2.counted);
+    }
 
 -- the first line after lines of the rest is wrong, or memory ran out at it
 pub said_of : {text rest : List ℕ} {records : List (List Field)} {now new : Engine} {kind : JarFaultKind} → TextTurn text rest records now → Refused (Unit {0}) now.ended rest now.line new kind
@@ -329,7 +317,11 @@ text_ends {text} {rest} {records} new more turn takes fin is =
       reached = λ number counted some.
           let lines = ap length (lines_behind rest turn.front turn.bytes) in
           let at : length (lines_of text) ≡ number = omega (arith, counted, fin.line, end.line, turn.front.line_is, lines, length-append turn.lines (lines_of rest)) in
-          subst (IsReached 0 text) at (reached_at_end text (records ++ more) has sound (omega (arith, some, length-append records more)));
+          record {
+            from = omega (arith, at, some_lines (lines_of text) (omega (arith, some, length-append records more, count_of text (records ++ more) has)));
+            to = omega (arith, at);
+            clean = λ other line wrong. absurd (sound other line wrong);
+          };
     }
 
 -- the text ended with a record that no separator ends

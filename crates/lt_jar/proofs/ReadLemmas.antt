@@ -10,11 +10,11 @@ use Rattle.std.proofs.lemmas.List.Elements.{All-cons, All-drop, All-head, All-ni
 use Rattle.lt_jar.specs.Lines.{lines_of}
 use Rattle.lt_jar.specs.LineKinds.{Line, Blank, Separator, Continuation, Start, Bad, line_of}
 use Rattle.lt_jar.specs.Limits.{longest_line, most_records}
-use Rattle.lt_jar.specs.Records.{Field, HasRecords, IsWithin, Written, field_of, has_field, is_shown, shown}
+use Rattle.lt_jar.specs.Records.{Field, HasRecords, IsWithin, Written, field_of, has_field, is_shown, lines_of_group, shown}
 use Rattle.lt_jar.specs.Faults.{Fault, LineTooLong, NotUtf8, LeadingContinuation, BadLine, TooManyRecords, IsReached, IsTheFault, IsWrong, IsWrongAt, begun, is_continuation, is_inside, rank}
 use Rattle.lt_jar.specs.Reading.{Going, Taken, finished, on_taken, start, step, take_kind, take_line}
 use Rattle.lt_jar.specs.Lending.{IsSound}
-use Rattle.lt_jar.proofs.GroupLemmas.{Leaves, Makes, begun-append, begun-groups, finished-going_of, fits, fits-behind, fits-groups, is_inside-groups, leaves_more, one_list, records_of}
+use Rattle.lt_jar.proofs.GroupLemmas.{Leaves, Makes, begun-append, begun-groups, finished-going_of, fits, fits-behind, leaves_more, one_list, past_ended, past_last, records_of}
 
 pub shown-append : (xs ys : List (List ℕ)) → shown (xs ++ ys) ≡ shown xs ++ shown ys
 shown-append xs ys = ap (filter is_shown) (map-append line_of xs ys) ∙ filter-append is_shown (map line_of xs) (map line_of ys)
@@ -37,33 +37,30 @@ none_begun true = (refl, refl)
 none_begun false = (refl, refl)
 
 -- the same of a short line of text, by its kind, after groups of which the last is this
-kind_judges : (earlier : ℕ) (before : List (List ℕ)) (line : List ℕ) (count : ℕ) (last : List Written) (kind : Line) → length line ≤ longest_line → IsUtf8 line → earlier + begun false (shown before) ≤ most_records
-    → is_inside false (shown before) ≡ has_field last → begun false (shown before) ≡ count + length (filter has_field (last ∷ [])) → line_of line ≡ kind → Judges earlier before line (take_kind (earlier + count) (map field_of last) kind)
-kind_judges earlier before line count last kind short utf8 few inside counted is = by_kind last kind inside counted is
-  where
-    added : (b : Bool) (k : Line) → is_inside false (shown before) ≡ b → line_of line ≡ k → begun false (shown (before ++ line ∷ [])) ≡ begun false (shown before) + begun b (filter is_shown (k ∷ []))
-    added b k at so = rw (← at, ← so) (ap (begun false) (shown-append before (line ∷ [])) ∙ begun-append false (shown before) (shown (line ∷ [])))
+module _ (earlier : ℕ) (before : List (List ℕ)) (line : List ℕ) (count : ℕ) (short : length line ≤ longest_line) (utf8 : IsUtf8 line) (few : earlier + begun false (shown before) ≤ most_records) where
+  added : (b : Bool) (k : Line) → is_inside false (shown before) ≡ b → line_of line ≡ k → begun false (shown (before ++ line ∷ [])) ≡ begun false (shown before) + begun b (filter is_shown (k ∷ []))
+  added b k at so = rw (← at, ← so) (ap (begun false) (shown-append before (line ∷ [])) ∙ begun-append false (shown before) (shown (line ∷ [])))
 
-    calm : (k : Line) → line_of line ≡ k → (is_continuation k ≡ true → is_inside false (shown before) ≡ true) → (k ≡ Bad → ⊥) → earlier + begun false (shown (before ++ line ∷ [])) ≤ most_records
-        → ((other : Fault) → IsWrong earlier other before line → ⊥) × (earlier + begun false (shown (before ++ line ∷ [])) ≤ most_records)
-    calm k so goes good room = (each_fault (λ other. IsWrong earlier other before line → ⊥) (λ w. omega arith) (λ w. w utf8) (λ w. both_ways _ w.1 (goes (sym (ap is_continuation so) ∙ w.0))) (λ w. good (sym so ∙ w)) (λ w. omega arith), room)
+  calm : (k : Line) → line_of line ≡ k → (is_continuation k ≡ true → is_inside false (shown before) ≡ true) → (k ≡ Bad → ⊥) → earlier + begun false (shown (before ++ line ∷ [])) ≤ most_records
+      → ((other : Fault) → IsWrong earlier other before line → ⊥) × (earlier + begun false (shown (before ++ line ∷ [])) ≤ most_records)
+  calm k so goes good room = (each_fault (λ other. IsWrong earlier other before line → ⊥) (λ w. omega arith) (λ w. w utf8) (λ w. both_ways _ w.1 (goes (sym (ap is_continuation so) ∙ w.0))) (λ w. good (sym so ∙ w)) (λ w. omega arith), room)
 
-    least : (n : ℕ) → (IsWrong earlier LeadingContinuation before line → n ≤ 2) → (IsWrong earlier BadLine before line → n ≤ 3) → n ≤ 4 → (other : Fault) → IsWrong earlier other before line → n ≤ rank other
-    least n leading bad any = each_fault (λ other. IsWrong earlier other before line → n ≤ rank other) (λ w. absurd (omega arith)) (λ w. absurd (w utf8)) leading bad (λ w. any)
+  least : (n : ℕ) → (IsWrong earlier LeadingContinuation before line → n ≤ 2) → (IsWrong earlier BadLine before line → n ≤ 3) → n ≤ 4 → (other : Fault) → IsWrong earlier other before line → n ≤ rank other
+  least n leading bad any = each_fault (λ other. IsWrong earlier other before line → n ≤ rank other) (λ w. absurd (omega arith)) (λ w. absurd (w utf8)) leading bad (λ w. any)
 
-    by_kind : (l : List Written) (k : Line) → is_inside false (shown before) ≡ has_field l → begun false (shown before) ≡ count + length (filter has_field (l ∷ [])) → line_of line ≡ k
-        → Judges earlier before line (take_kind (earlier + count) (map field_of l) k)
-    by_kind l Blank at sum so = calm Blank so (λ m. cc) (λ m. cc) (omega (arith, added (has_field l) Blank at so, (none_begun (has_field l)).0))
-    by_kind l Separator at sum so = calm Separator so (λ m. cc) (λ m. cc) (omega (arith, added (has_field l) Separator at so, (none_begun (has_field l)).1))
-    by_kind [] (Continuation text) at sum so = ((ap is_continuation so, at), least 2 (λ w. omega arith) (λ w. omega arith) (omega arith))
-    by_kind (field ∷ l) (Continuation text) at sum so = calm (Continuation text) so (λ m. at) (λ m. cc) (omega (arith, added true (Continuation text) at so))
-    by_kind [] (Start name body) at sum so =
-        let more = added false (Start name body) at so in
-        cond_both (nat_lt (earlier + count) most_records) _ _ (Judges earlier before line)
-        (λ below. calm (Start name body) so (λ m. cc) (λ m. cc) (omega (arith, more, sum, ltb-true _ _ below)))
-        (λ full. (omega (arith, more, sum, ltb-false _ _ full), least 4 (λ w. let no = sym (ap is_continuation so) ∙ w.0 in cc) (λ w. let no = sym so ∙ w in cc) (omega arith)))
-    by_kind (field ∷ l) (Start name body) at sum so = calm (Start name body) so (λ m. cc) (λ m. cc) (omega (arith, added true (Start name body) at so))
-    by_kind l Bad at sum so = (so, least 3 (λ w. let no = sym (ap is_continuation so) ∙ w.0 in cc) (λ w. omega arith) (omega arith))
+  kind_judges : (l : List Written) (k : Line) → is_inside false (shown before) ≡ has_field l → begun false (shown before) ≡ count + length (filter has_field (l ∷ [])) → line_of line ≡ k
+      → Judges earlier before line (take_kind (earlier + count) (map field_of l) k)
+  kind_judges l Blank at sum so = calm Blank so (λ m. cc) (λ m. cc) (omega (arith, added (has_field l) Blank at so, (none_begun (has_field l)).0))
+  kind_judges l Separator at sum so = calm Separator so (λ m. cc) (λ m. cc) (omega (arith, added (has_field l) Separator at so, (none_begun (has_field l)).1))
+  kind_judges [] (Continuation text) at sum so = ((ap is_continuation so, at), least 2 (λ w. omega arith) (λ w. omega arith) (omega arith))
+  kind_judges (field ∷ l) (Continuation text) at sum so = calm (Continuation text) so (λ m. at) (λ m. cc) (omega (arith, added true (Continuation text) at so))
+  kind_judges [] (Start name body) at sum so =
+      let more = added false (Start name body) at so in
+      cond_both (nat_lt (earlier + count) most_records) _ _ (Judges earlier before line)
+      (λ below. calm (Start name body) so (λ m. cc) (λ m. cc) (omega (arith, more, sum, ltb-true _ _ below)))
+      (λ full. (omega (arith, more, sum, ltb-false _ _ full), least 4 (λ w. let no = sym (ap is_continuation so) ∙ w.0 in cc) (λ w. let no = sym so ∙ w in cc) (omega arith)))
+  kind_judges (field ∷ l) (Start name body) at sum so = calm (Start name body) so (λ m. cc) (λ m. cc) (omega (arith, added true (Start name body) at so))
+  kind_judges l Bad at sum so = (so, least 3 (λ w. let no = sym (ap is_continuation so) ∙ w.0 in cc) (λ w. omega arith) (omega arith))
 
 -- what is said of a line, by what it is
 pub by_test : (ended : ℕ) (fields : List Field) (line : List ℕ) (P : Result Taken Fault → Type 0) → (longest_line < length line → P (Err LineTooLong))
@@ -74,11 +71,11 @@ by_test ended fields line P long text other = cond_both (nat_lt longest_line (le
 judges : (earlier : ℕ) (before : List (List ℕ)) (line : List ℕ) (going : Going) → Leaves (shown before) going → earlier + begun false (shown before) ≤ most_records
     → Judges earlier before line (take_line (earlier + length going.records) going.fields line)
 judges earlier before line going leaves few =
-    let inside = ap (is_inside false) leaves.lines_are ∙ is_inside-groups leaves.ended leaves.last in
+    let inside = ap (is_inside false) leaves.lines_are ∙ (past_ended leaves.ended (lines_of_group leaves.last)).0 ∙ (past_last leaves.last).0 in
     let count : begun false (shown before) ≡ length (records_of leaves.ended) + length (filter has_field (leaves.last ∷ [])) =
     ap (begun false) leaves.lines_are ∙ begun-groups leaves.ended leaves.last ∙ simp (filter-append, length-map, length-append) in
     rw leaves.going_is (by_test _ _ line (Judges earlier before line) (λ long. (long, λ other wrong. omega arith))
-    (λ short utf8. kind_judges earlier before line (length (records_of leaves.ended)) leaves.last (line_of line) short utf8 few inside count refl)
+    (λ short utf8. kind_judges earlier before line (length (records_of leaves.ended)) short utf8 few leaves.last (line_of line) inside count refl)
     (λ short not. (not, each_fault (λ other. IsWrong earlier other before line → 1 ≤ rank other) (λ w. absurd (omega arith)) (λ w. omega arith) (λ w. omega arith) (λ w. omega arith) (λ w. omega arith))))
 
 -- this many lines of the text are read, and these are left
@@ -105,10 +102,8 @@ wrong_there : (earlier : ℕ) (text : List ℕ) (before : List (List ℕ)) (line
     → at ≡ length before + 1 → IsWrong earlier other before line
 wrong_there earlier text before line after other at all wrong here =
     let long : length wrong.before ≡ length before = omega (arith, wrong.counted) in
-    let same : wrong.before ≡ before =
-    sym (take-append_seam wrong.before (wrong.line ∷ wrong.after)) ∙ ap (λ n. take n (wrong.before ++ wrong.line ∷ wrong.after)) long ∙ ap (take (length before)) (sym wrong.all ∙ all) ∙ take-append_seam before (line ∷ after) in
-    let rest : wrong.line ∷ wrong.after ≡ line ∷ after =
-    sym (drop-append_seam wrong.before (wrong.line ∷ wrong.after)) ∙ ap (λ n. drop n (wrong.before ++ wrong.line ∷ wrong.after)) long ∙ ap (drop (length before)) (sym wrong.all ∙ all) ∙ drop-append_seam before (line ∷ after) in
+    let same : wrong.before ≡ before = cc (take-append_seam wrong.before (wrong.line ∷ wrong.after), take-append_seam before (line ∷ after), wrong.all, all, long) in
+    let rest : wrong.line ∷ wrong.after ≡ line ∷ after = cc (drop-append_seam wrong.before (wrong.line ∷ wrong.after), drop-append_seam before (line ∷ after), wrong.all, all, long) in
     let first : wrong.line ≡ line = cc in
     subst (λ l. IsWrong earlier other before l) first (subst (λ b. IsWrong earlier other b wrong.line) same wrong.wrong)
 
@@ -145,14 +140,6 @@ read_step earlier text number going line after read =
       lowest = λ other at wrong. omega (arith, read.clean other at wrong);
       first = λ other wrong. judged.1 other (there other (number + 1) wrong refl);
     }
-
--- the next line is reached
-pub next_reached : (earlier : ℕ) (text : List ℕ) (number : ℕ) (going : Going) (line : List ℕ) (after : List (List ℕ)) → HasRead earlier text number (line ∷ after) going → IsReached earlier text (number + 1)
-next_reached earlier text number going line after read = record {
-  from = omega arith;
-  to = omega (arith, ap length read.all, length-append read.before (line ∷ after), read.counted);
-  clean = λ other at wrong. omega (arith, read.clean other at wrong);
-}
 
 -- the records are no more than may be
 pub few_at : (earlier : ℕ) (text : List ℕ) (number : ℕ) (left : List (List ℕ)) (going : Going) → HasRead earlier text number left going → earlier + length (finished going) ≤ most_records
@@ -217,7 +204,7 @@ nothing_wrong_at text records has within fault number wrong =
     let front = wrong.before in
     let line = wrong.line in
     let behind = fits-behind false (shown front) (shown (line ∷ wrong.after))
-    (ap (fits false) (sym (shown-append front (line ∷ wrong.after)) ∙ ap shown (sym wrong.all) ∙ has.lines) ∙ fits-groups has.ended has.last) in
+    (ap (fits false) (sym (shown-append front (line ∷ wrong.after)) ∙ ap shown (sym wrong.all) ∙ has.lines) ∙ (past_ended has.ended (lines_of_group has.last)).2 ∙ (past_last has.last).2) in
     each_fault (λ f. IsWrong 0 f front line → ⊥)
     (λ w. omega (arith, w, all_at (λ l. length l ≤ longest_line) front line wrong.after (subst (All (λ l. length l ≤ longest_line)) wrong.all within.short)))
     (λ w. w (all_at IsUtf8 front line wrong.after (subst (All IsUtf8) wrong.all within.utf8)))

@@ -21,7 +21,7 @@ use Rattle.lt_jar.specs.declared.drafts.Progress.{Progress}
 use Rattle.lt_jar.proofs.CutLemmas.{IsNoEnd, first_goes_on, lines_of-ended, lines_of-last}
 use Rattle.lt_jar.specs.Lending.{CutsRecord, Gathers, IsCutShort, IsSound}
 use Rattle.lt_jar.proofs.GroupLemmas.{Leaves, records_of}
-use Rattle.lt_jar.proofs.ReadLemmas.{HasRead, by_result, by_test, few_at, next_reached, read_none, read_step, records_at_end}
+use Rattle.lt_jar.proofs.ReadLemmas.{HasRead, by_result, by_test, few_at, read_none, read_step, records_at_end}
 use Rattle.lt_jar.specs.declared.faults.JarFaultKind.TheVariants as kinds
 use Rattle.lt_jar.specs.declared.drafts.Progress.TheVariants as progress
 
@@ -119,21 +119,6 @@ pub record PieceTurn (old now : Engine) (piece rest : List ℕ) : Type 0 where
   pub split : piece ≡ front ++ rest
   pub room : now.line + length rest ≤ old.line + length piece
 
-pub turn_first : (old : Engine) (piece : List ℕ) → IsOneLine old.partial.items → PieceTurn old old piece piece
-turn_first old piece begun = record {
-  lines = [];
-  over = record { each = tt; ran = refl; line = omega arith; ended = refl; begun = begun };
-  bytes = refl;
-  front = [];
-  split = refl;
-  room = omega arith;
-}
-
--- the bytes after a line that is cut off
-after_line : (lines : List (List ℕ)) (partial line rest after all : List ℕ) → all ≡ whole_lines lines ++ (partial ++ rest) → rest ≡ line ++ 10 ∷ after
-    → all ≡ whole_lines (lines ++ (partial ++ line) ∷ []) ++ after
-after_line lines partial line rest after all is cut = rw (is, cut) (simp (whole-append, append_assoc, append-nil))
-
 pub turn_next : {old now : Engine} (new : Engine) {piece rest : List ℕ} (line after : List ℕ) → PieceTurn old now piece rest → rest ≡ line ++ 10 ∷ after → IsOneLine line
     → take_line now.ended (fields_in now) (now.partial.items ++ line) ≡ Ok (GoesOn (fields_in new)) → new.ended ≡ now.ended → new.line ≡ now.line + 1 → new.partial.items ≡ []
     → PieceTurn old new piece after
@@ -149,8 +134,7 @@ turn_next {old} {now} new {piece} {rest} line after turn cut one said ended coun
         ended = ended ∙ turn.over.ended;
         begun = subst IsOneLine (sym none) (All-nil IsNoEnd);
       };
-      bytes = after_line turn.lines now.partial.items line rest after (old.partial.items ++ piece) turn.bytes cut
-          ∙ ap (λ l. whole_lines (turn.lines ++ whole ∷ []) ++ (l ++ after)) (sym none);
+      bytes = simp (whole-append, append_assoc, append-nil) (cc (turn.bytes, cut, none));
       front = turn.front ++ (line ++ 10 ∷ []);
       split = simp append_assoc (cc (turn.split, cut));
       room = omega (arith, counted, turn.room, long);
@@ -172,7 +156,7 @@ turn_ends {old} {now} new {piece} {rest} line after turn cut one said ended coun
       line = omega (arith, counted, turn.over.line);
       ended = ended ∙ turn.over.ended;
       empty = none;
-      bytes = after_line turn.lines now.partial.items line rest after (old.partial.items ++ piece) turn.bytes cut;
+      bytes = simp (whole-append, append_assoc, append-nil) (cc (turn.bytes, cut));
       front = turn.front ++ (line ++ 10 ∷ []);
       split = simp append_assoc (cc (turn.split, cut));
       room = omega (arith, counted, turn.room, long);
@@ -351,7 +335,13 @@ fault_told {earlier} {text} {lines = lines} {fields} {kind} fault r first is =
 -- and it is reached
 pub reached_told : {earlier : ℕ} {text rest : List ℕ} {lines : List (List ℕ)} {fields : List Field} {kind : JarFaultKind} → Ran earlier text lines rest fields → RefusesFirst earlier fields rest kind
     → IsReached earlier text (length lines + 1)
-reached_told {earlier} {text} {lines = lines} r first = next_reached earlier text (length lines) _ first.line first.after (read_ran r first.cut)
+reached_told {earlier} {text} {lines = lines} r first =
+    let read = read_ran r first.cut in
+    record {
+      from = omega arith;
+      to = omega (arith, ap length read.all, length-append read.before (first.line ∷ first.after), read.counted);
+      clean = λ other at wrong. omega (arith, read.clean other at wrong);
+    }
 
 -- so far the engine went over these lines of all the bytes, of which this rest is left
 pub record Runs (earlier : ℕ) (all rest : List ℕ) (start : ℕ) (engine : Engine) : Type 0 where

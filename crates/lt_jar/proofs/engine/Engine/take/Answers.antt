@@ -1,10 +1,10 @@
-use Rattle.std.proofs.Common.{sym, subst}
+use Rattle.std.proofs.Common.{[], arith, refl, sym, subst}
 use Rattle.std.proofs.lemmas.Result.{err_from_is_err_and}
 use Rattle.std.proofs.lemmas.List.Elements.{All-append}
 use Rattle.lt_jar.specs.Lines.{IsOneLine}
 use Rattle.lt_jar.specs.Pieces.{fields_in}
 use Rattle.lt_jar.proofs.CutLemmas.{IsNoEnd}
-use Rattle.lt_jar.proofs.ReadingLemmas.{first_refused, turn_all, turn_ends, turn_first, turn_next, turn_stops, unended_refused}
+use Rattle.lt_jar.proofs.ReadingLemmas.{first_refused, turn_all, turn_ends, turn_next, turn_stops, unended_refused}
 use Rattle.lt_jar.proofs.engine.Engine.take.Goals as goal
 
 pub returns-in_err-end_line : goal.returns-in_err-end_line
@@ -43,4 +43,11 @@ returns c =
     turn_all c.keep.new.self c.loop-line.invariant c.in_default.ensures c.in_ok-keep.ensures.kept same.0 same.1 same.2
 
 pub loop-line-init : goal.loop-line-init
-loop-line-init c = turn_first c.args.self.now c.args.piece.now c.requires.begun
+loop-line-init c = record {
+  lines = [];
+  over = record { each = tt; ran = refl; line = omega arith; ended = refl; begun = c.requires.begun };
+  bytes = refl;
+  front = [];
+  split = refl;
+  room = omega arith;
+}
