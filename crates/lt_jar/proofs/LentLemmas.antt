@@ -1,5 +1,5 @@
 -- What is wrong with a text after whole lines, what was lent or read of it so far, and what follows at its end.
-use Rattle.std.proofs.Common.{◌≡◌, ◌≢◌, ◌∙◌, ◌++◌, ◌∷◌, ◌⊎◌, inl, inr, ℕ, List, [], Bool, true, false, refl, sym, ap, subst, append_assoc, append-nil, length, ◌+◌, ◌≤◌, arith, length-append, Option}
+use Rattle.std.proofs.Common.{if◌then◌else◌, ◌≡◌, ◌≢◌, ◌∙◌, ◌++◌, ◌∷◌, ◌⊎◌, inl, inr, ℕ, List, [], Bool, true, false, refl, sym, ap, subst, append_assoc, append-nil, length, ◌+◌, ◌≤◌, arith, length-append, Option}
 use Rattle.std.specs.List.{AllByRecursion, filter, flat_map}
 use Rattle.std.proofs.lemmas.Grind.{flat_map-append}
 use Rattle.lt_jar.specs.Lines.{IsOneLine, lines_of, whole_lines, HoldsOfWhole}
@@ -10,7 +10,7 @@ use Rattle.lt_jar.specs.Faults.{Fault, IsReached, IsTheFault, IsWrong, IsWrongAt
 use Rattle.lt_jar.specs.Lending.{AreEnded, CutsRecord, EndsRecord, IsSound, BreaksOff, IsCutShort}
 use Rattle.lt_jar.proofs.GroupLemmas.{finished-going_of, past_ended, records_of, records_of-append}
 use Rattle.lt_jar.proofs.ReadLemmas.{count_of, each_fault, shown-append, within_of}
-use Rattle.lt_jar.proofs.ReadingLemmas.{Refused, Runs, each-append, fault_told, holds_here, lines_of-whole, lines_of-whole_lines, reached_told, rest_some, runs_end, runs_out, runs_taken, whole_joined, whole-append}
+use Rattle.lt_jar.proofs.ReadingLemmas.{Refused, Runs, each-append, fault_told, holds_here, lines_of-whole, lines_of-whole_lines, reached_told, rest_by, rest_some, runs_end, runs_out, runs_taken, whole_joined, whole-append}
 use Rattle.lt_jar.specs.LentSoFar.{HasLent}
 use Rattle.lt_jar.specs.Sources.{IsFresh, LendsEnded, LendsLast, kept_in, lent_by, line_of_kept, record_in}
 use Rattle.lt_jar.specs.declared.devices.Device.{Device}
@@ -299,20 +299,20 @@ said_of {now = now} {new} {kind} turn r =
 
 -- the text ended, and its last lines have these records, one or none
 pub record TextEnds (text : List ℕ) (records more : List (List Field)) (new : Engine) : Type 0 where
-  pub has : HasRecords text (records ++ more)
-  pub within : IsWithin text (records ++ more)
+  pub has : (all : List (List Field)) → all ≡ records ++ more → HasRecords text all × IsWithin text all
   pub few : new.ended + length more ≤ most_records
   pub reached : (number : ℕ) → number + 1 ≡ new.line → 1 ≤ length more → IsReached 0 text number
 
-text_ends : {text rest : List ℕ} {records : List (List Field)} {now mid : Engine} (new : Engine) {some : Bool} (more : List (List Field)) → TextTurn text rest records now → TakesAll now mid rest → Finishes mid new some
-    → rest_of (fields_in new) ≡ more → TextEnds text records more new
-text_ends {text} {rest} {records} new more turn takes fin is =
+pub text_ends : {text rest : List ℕ} {records : List (List Field)} {now mid : Engine} (new : Engine) {some : Bool} → TextTurn text rest records now → TakesAll now mid rest → Finishes mid new some
+    → TextEnds text records (if some then fields_in new ∷ [] else []) new
+text_ends {text} {rest} {records} new {some} turn takes fin =
+    let more = if some then fields_in new ∷ [] else [] in
+    let is = rest_by some (fields_in new) fin.with_fields fin.without in
     let end = runs_end (runs_taken (text_runs turn) takes) takes.over.begun fin.going fin.ran in
     let has = records_on turn.front turn.bytes (subst (HasRecords rest) (fin.record_is ∙ is) end.has) in
     let sound = sound_on turn.front turn.bytes end.sound in
     record {
-      has = has;
-      within = within_of text (records ++ more) has sound;
+      has = λ all same. rw same (has, within_of text (records ++ more) has sound);
       few = omega (arith, end.few, ap length (fin.record_is ∙ is), fin.ended, takes.over.ended);
       reached = λ number counted some.
           let lines = ap length (lines_behind rest turn.front turn.bytes) in
@@ -323,15 +323,3 @@ text_ends {text} {rest} {records} new more turn takes fin is =
             clean = λ other line wrong. absurd (sound other line wrong);
           };
     }
-
--- the text ended with a record that no separator ends
-pub text_ended : {text rest : List ℕ} {records : List (List Field)} {now mid : Engine} (new : Engine) → TextTurn text rest records now → TakesAll now mid rest → Finishes mid new true
-    → TextEnds text records (fields_in new ∷ []) new
-text_ended new turn takes fin = text_ends new (fields_in new ∷ []) turn takes fin (rest_some (fields_in new) (fin.with_fields refl))
-
--- the text ended after its last record
-pub text_over : {text rest : List ℕ} {records : List (List Field)} {now mid : Engine} (new : Engine) → TextTurn text rest records now → TakesAll now mid rest → Finishes mid new false
-    → HasRecords text records × IsWithin text records
-text_over {records = records} new turn takes fin =
-    let ends = text_ends new [] turn takes fin (ap rest_of (fin.without refl)) in
-    rw (← append-nil records) (ends.has, ends.within)

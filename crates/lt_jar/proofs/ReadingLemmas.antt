@@ -1,5 +1,5 @@
 -- What a line does to the record that goes on, what the turns over a piece keep, and what lines that ran make of the text that they are.
-use Rattle.std.proofs.Common.{◌≡◌, ◌≢◌, ◌∙◌, ◌≤◌, ◌<◌, ◌+◌, ◌∷◌, ℕ, zero, suc, List, [], Result, Ok, Err, refl, sym, ap, length, get_or, arith, nat_lt, MatchResult, ◌⊎◌, inl, inr, not, ◌++◌, subst, append_assoc, append-nil, add-zero, length-append, Option, Some, None, zero-add}
+use Rattle.std.proofs.Common.{◌≡◌, ◌≢◌, Bool, true, false, if◌then◌else◌, ◌∙◌, ◌≤◌, ◌<◌, ◌+◌, ◌∷◌, ℕ, zero, suc, List, [], Result, Ok, Err, refl, sym, ap, length, get_or, arith, nat_lt, MatchResult, ◌⊎◌, inl, inr, not, ◌++◌, subst, append_assoc, append-nil, add-zero, length-append, Option, Some, None, zero-add}
 use Rattle.std.proofs.Math.ListN.{set}
 use Rattle.std.specs.Str.{IsUtf8, is_utf8}
 use Rattle.std.proofs.lemmas.Str.{IsUtf8-from_is_utf8, is_utf8-from_IsUtf8}
@@ -225,6 +225,10 @@ turn_all {now = now} new {rest = rest} turn one kept same ended counted = record
 pub rest_some : (fields : List Field) → fields ≢ [] → rest_of fields ≡ fields ∷ []
 rest_some [] some = absurd (some refl)
 rest_some (field ∷ fields) some = refl
+
+pub rest_by : (some : Bool) (fields : List Field) → (some ≡ true → fields ≢ []) → (some ≡ false → fields ≡ []) → rest_of fields ≡ (if some then fields ∷ [] else [])
+rest_by true fields has none = rest_some fields (has refl)
+rest_by false fields has none = ap rest_of (none refl)
 
 -- what the last line leaves
 pub last_taken : (earlier : ℕ) (old new : List Field) (line : List ℕ) (p : Progress) → take_line earlier old line ≡ Ok (taken_in p new)

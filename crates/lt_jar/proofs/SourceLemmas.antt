@@ -10,8 +10,8 @@ use Rattle.lt_jar.specs.Limits.{most_records}
 use Rattle.lt_jar.specs.Lending.{CutsRecord}
 use Rattle.lt_jar.specs.Records.{Field, HasRecords}
 use Rattle.lt_jar.specs.Reading.{finished, going_on, rest_of, take_line}
-use Rattle.lt_jar.specs.Pieces.{RefusesFirst, StopsAt, TakesAll, TakesRecord}
-use Rattle.lt_jar.specs.Sources.{EndsAs, Fills, Finished, IsRead, LastGave, LendsLast, ReadsRecord, Stops, kept_in, lent_by, line_of_kept, most_reads, record_in, unread_in}
+use Rattle.lt_jar.specs.Pieces.{RefusesFirst, StopsAt, TakesRecord}
+use Rattle.lt_jar.specs.Sources.{EndsAs, Fills, Finished, Finishes, IsRead, LastGave, LendsLast, ReadsRecord, Stops, TakesUnread, kept_in, lent_by, line_of_kept, most_reads, record_in, unread_in}
 use Rattle.lt_jar.specs.Views.{fault_in}
 use Rattle.lt_jar.specs.declared.devices.Device.{Device}
 use Rattle.lt_jar.specs.declared.faults.JarFaultKind.{JarFaultKind}
@@ -49,17 +49,17 @@ read_kept : {R : Type 0} {remaining : R → Option (List ℕ)} {old now new : Ja
 read_kept turns is = record { consumes = is.consumes; calls = is.calls; each = is.each; turns = turns ∙ is.turns; bounded = omega (arith, turns, is.bounded) }
 
 -- all that was read is handed on
-pub turn_taken : {R : Type 0} {remaining : R → Option (List ℕ)} {old now : JarSource} (new : JarSource) {before after : Device R} {rest : List ℕ} → SourceTurn remaining old now before after rest
-    → TakesAll now.engine new.engine rest → new.turns ≡ now.turns → new.status ≡ now.status → SourceTurn remaining old new before after []
-turn_taken new turn takes turns status = record {
+pub turn_taken : {R : Type 0} {remaining : R → Option (List ℕ)} {old now : JarSource} (new : JarSource) {before after : Device R} {some : Bool} → SourceTurn remaining old now before after (unread_in now)
+    → some ≡ false → TakesUnread now new (Ok some) → (new.turns ≡ now.turns) × (new.status ≡ now.status) → SourceTurn remaining old new before after []
+turn_taken new turn none takes same = record {
   read = turn.read;
   reads = turn.reads;
-  is_read = read_kept turns turn.is_read;
+  is_read = read_kept same.0 turn.is_read;
   gave_bytes = turn.gave_bytes;
-  last_gave = λ gave some. turn.last_gave gave (omega (arith, some, turns));
+  last_gave = λ gave some. turn.last_gave gave (omega (arith, some, same.0));
   failures = turn.failures;
-  runs = runs_taken turn.runs takes;
-  status = status ∙ turn.status;
+  runs = runs_taken turn.runs (rw none at takes).0;
+  status = same.1 ∙ turn.status;
 }
 
 after_more : (count m n : ℕ) → after_reads (after_reads count m) n ≡ after_reads count (m + n)
@@ -211,41 +211,31 @@ turn_failed {old = old} new {before} {between} {after} turn one fills engine =
 -- how the call ends where the text does
 pub turn_over : {R : Type 0} {remaining : R → Option (List ℕ)} {old now mid : JarSource} (new : JarSource) {before between after : Device R} (r : Result Bool JarFaultKind) → SourceTurn remaining old now before between []
     → IsOneLine mid.engine.partial.items → Fills remaining now mid between after (Ok false) → mid.engine ≡ now.engine → Finished mid new r → ReadsRecord remaining old new before after r
-turn_over {remaining = remaining} {old = old} {mid = mid} new {before} {after = after} (Ok some) turn one fills engine fin =
-    let runs = runs_over mid fills.read turn fills.fills.1 engine in
-    let end = runs_end runs one fin.going fin.ran in
-    record {
-      read = turn.read ++ fills.read;
-      reads = turn.reads + fills.reads;
-      is_read = read_kept fin.turns (more_read _ _ _ _ _ _ _ turn.read fills.read turn.reads fills.reads turn.is_read fills.is_read);
-      ends = by_some some refl runs.ended (λ records is. record {
-        has = subst (HasRecords (kept_in old ++ (turn.read ++ fills.read))) is end.has;
-        sound = end.sound;
-        used = fin.used;
-        line = fin.line ∙ end.line;
-        end = fills.fills.2;
-        status = fin.status;
-      });
-      rises = λ rise. absurd (omega (arith, rise, turn.failures, fills.fills.3));
-      works = λ other. fills.fills.3 ∙ turn.failures;
-    }
-  where
-    by_some : (b : Bool) → some ≡ b → lent_by mid ≡ lent_by old → ((records : List (List Field)) → finished fin.going ≡ records → LendsLast remaining old new after (turn.read ++ fills.read) records)
-        → EndsAs remaining old new before after (turn.read ++ fills.read) (turn.reads + fills.reads) (Ok b)
-    by_some true is lent lends =
-        let there = fin.with_fields is in
-        (there.1 ∙ ap (λ n. n + 1) lent, inr (lends (record_in new ∷ []) (fin.record_is ∙ rest_some (record_in new) there.0)))
-    by_some false is lent lends =
-        let without = fin.without is in
-        (without.1 ∙ lent, lends [] (fin.record_is ∙ ap rest_of without.0))
-turn_over {mid = mid} new (Err kind) turn one fills engine (stops, turns) = record {
+turn_over {remaining = remaining} {old = old} {mid = mid} new {before} {after = after} r turn one fills engine fin = record {
   read = turn.read ++ fills.read;
   reads = turn.reads + fills.reads;
-  is_read = read_kept turns (more_read _ _ _ _ _ _ _ turn.read fills.read turn.reads fills.reads turn.is_read fills.is_read);
-  ends = stops_said _ _ new _ _ (turn.read ++ fills.read) (turn.reads + fills.reads) kind (runs_stops_last (runs_over mid fills.read turn fills.fills.1 engine) one stops fills.fills.2);
+  is_read = read_kept (turns r fin) (more_read _ _ _ _ _ _ _ turn.read fills.read turn.reads fills.reads turn.is_read fills.is_read);
+  ends = ends r fin;
   rises = λ rise. absurd (omega (arith, rise, turn.failures, fills.fills.3));
   works = λ other. fills.fills.3 ∙ turn.failures;
 }
+  where
+    runs : Runs (lent_by old) (kept_in old ++ (turn.read ++ fills.read)) [] (line_of_kept old) mid.engine
+    runs = runs_over mid fills.read turn fills.fills.1 engine
+
+    turns : (r : Result Bool JarFaultKind) → Finished mid new r → new.turns ≡ mid.turns
+    turns (Ok some) fin = fin.turns
+    turns (Err kind) fin = fin.1
+
+    lends : {some : Bool} (fin : Finishes mid new some) (records : List (List Field)) → rest_of (record_in new) ≡ records → LendsLast remaining old new after (turn.read ++ fills.read) records
+    lends fin records is =
+        let end = runs_end runs one fin.going fin.ran in
+        record { has = rw (← is, ← fin.record_is) end.has; sound = end.sound; used = fin.used; line = fin.line ∙ end.line; end = fills.fills.2; status = fin.status }
+
+    ends : (r : Result Bool JarFaultKind) → Finished mid new r → EndsAs remaining old new before after (turn.read ++ fills.read) (turn.reads + fills.reads) r
+    ends (Ok true) fin = let there = fin.with_fields refl in (there.1 ∙ ap (λ n. n + 1) runs.ended, inr (lends fin (record_in new ∷ []) (rest_some (record_in new) there.0)))
+    ends (Ok false) fin = let without = fin.without refl in (without.1 ∙ runs.ended, lends fin [] (ap rest_of without.0))
+    ends (Err kind) fin = stops_said _ _ new _ _ (turn.read ++ fills.read) (turn.reads + fills.reads) kind (runs_stops_last runs one fin.0 fills.fills.2)
 
 -- the bytes after those that were handed on
 pub unread_rest : (buffer : List ℕ) (start end : ℕ) (front rest : List ℕ) → start ≤ end → end ≤ length buffer → take (end - start) (drop start buffer) ≡ front ++ rest

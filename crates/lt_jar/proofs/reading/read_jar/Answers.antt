@@ -1,7 +1,6 @@
-use Rattle.std.proofs.Common.{arith, inr, sym, subst}
+use Rattle.std.proofs.Common.{append-nil, arith, inr, sym}
 use Rattle.std.proofs.lemmas.Result.{err_from_is_err_and}
-use Rattle.lt_jar.specs.Records.{HasRecords, IsWithin}
-use Rattle.lt_jar.proofs.LentLemmas.{said_of, text_begins, text_ended, text_more, text_over, text_refused, text_runs}
+use Rattle.lt_jar.proofs.LentLemmas.{said_of, text_begins, text_ends, text_more, text_refused, text_runs}
 use Rattle.lt_jar.proofs.ReadingLemmas.{runs_out, runs_stops, runs_stops_last, runs_taken}
 use Rattle.lt_jar.proofs.reading.read_jar.Goals as goal
 
@@ -32,13 +31,13 @@ returns-in-Err-clause-fault c = rw c.line.ensures (said_of c.loop-after.invarian
 pub push_record-requires-in-Ok-true-clause-few : goal.push_record-requires-in-Ok-true-clause-few
 push_record-requires-in-Ok-true-clause-few c =
     let takes = rw c.in-Ok-None.field-0-is at c.in-Ok-None.ensures in
-    let ended = text_ended c.finish.new.self c.loop-after.invariant takes (rw c.in-Ok-true.field-0-test at c.in-Ok-true.ensures) in
+    let ended = text_ends c.finish.new.self c.loop-after.invariant takes (rw c.in-Ok-true.field-0-test at c.in-Ok-true.ensures) in
     omega (arith, ended.few)
 
 pub returns-in_err-push_record-in-Ok-true-clause-fault : goal.returns-in_err-push_record-in-Ok-true-clause-fault
 returns-in_err-push_record-in-Ok-true-clause-fault c =
     let takes = rw c.in-Ok-None.field-0-is at c.in-Ok-None.ensures in
-    let ended = text_ended c.finish.new.self c.loop-after.invariant takes (rw c.in-Ok-true.field-0-test at c.in-Ok-true.ensures) in
+    let ended = text_ends c.finish.new.self c.loop-after.invariant takes (rw c.in-Ok-true.field-0-test at c.in-Ok-true.ensures) in
     let p = err_from_is_err_and c.from_residual-in_err-push_record-in-Ok-true.result c.from_residual-in_err-push_record-in-Ok-true.ensures.1 in
     let memory = c.in_err-push_record-in-Ok-true.ensures.memory in
     rw (p.1, p.2) (inr (memory.0, ended.reached c.in_err-push_record-in-Ok-true.field-0.0.line memory.1 (omega arith)))
@@ -52,11 +51,12 @@ returns-clause-fault c =
 pub returns-in-Ok-true : goal.returns-in-Ok-true
 returns-in-Ok-true c =
     let takes = rw c.in-Ok-None.field-0-is at c.in-Ok-None.ensures in
-    let ended = text_ended c.finish.new.self c.loop-after.invariant takes (rw c.in-Ok-true.field-0-test at c.in-Ok-true.ensures) in
-    rw c.in_ok-push_record-in-Ok-true.ensures.record (record { records = ended.has; within = ended.within; fault = tt })
+    let ended = text_ends c.finish.new.self c.loop-after.invariant takes (rw c.in-Ok-true.field-0-test at c.in-Ok-true.ensures) in
+    let all = ended.has _ c.in_ok-push_record-in-Ok-true.ensures.record in
+    record { records = all.0; within = all.1; fault = tt }
 
 pub returns-in-Ok-false : goal.returns-in-Ok-false
 returns-in-Ok-false c =
     let takes = rw c.in-Ok-None.field-0-is at c.in-Ok-None.ensures in
-    let over = text_over c.finish.new.self c.loop-after.invariant takes (rw c.in-Ok-false.field-0-test at c.in-Ok-false.ensures) in
-    record { records = over.0; within = over.1; fault = tt }
+    let all = (text_ends c.finish.new.self c.loop-after.invariant takes (rw c.in-Ok-false.field-0-test at c.in-Ok-false.ensures)).has _ (sym (append-nil _)) in
+    record { records = all.0; within = all.1; fault = tt }

@@ -46,29 +46,25 @@ pub returns-in_err-fill : goal.returns-in_err-fill
 returns-in_err-fill g c =
     let p = err_from_is_err_and c.from_residual-in_err-fill.result c.from_residual-in_err-fill.ensures.1 in
     let ensures = c.in_ok-take_unread.ensures in
-    let takes = rw c.if-branch.false at ensures.takes in
     let fill = c.in_err-fill.ensures in
-    rw (p.1, p.2) (turn_failed c.fill.new.self (turn_taken c.take_unread.new.self c.loop-self.invariant takes.0 ensures.same.0 ensures.same.1) c.fill.new.self.begun fill.fills fill.same.0)
+    rw (p.1, p.2) (turn_failed c.fill.new.self (turn_taken c.take_unread.new.self c.loop-self.invariant c.if-branch.false ensures.takes ensures.same) c.fill.new.self.begun fill.fills fill.same.0)
 
 pub finish-requires-clause-few : goal.finish-requires-clause-few
 finish-requires-clause-few g c =
     let ensures = c.in_ok-take_unread.ensures in
-    let takes = rw c.if-branch.false at ensures.takes in
-    let runs = runs_over c.fill.new.self [] (turn_taken c.take_unread.new.self c.loop-self.invariant takes.0 ensures.same.0 ensures.same.1) refl c.in_ok-fill.ensures.same.0 in
+    let runs = runs_over c.fill.new.self [] (turn_taken c.take_unread.new.self c.loop-self.invariant c.if-branch.false ensures.takes ensures.same) refl c.in_ok-fill.ensures.same.0 in
     λ going ran. omega (arith, (runs_end runs c.fill.new.self.begun going ran).few, runs.ended)
 
 pub returns-then-not-branch : goal.returns-then-not-branch
 returns-then-not-branch g c =
     let ensures = c.in_ok-take_unread.ensures in
-    let takes = rw c.if-branch.false at ensures.takes in
     let fill = c.in_ok-fill.ensures in
     let fills = rw c.if-not-branch.true at fill.fills in
-    turn_over c.finish.new.self c.finish.result (turn_taken c.take_unread.new.self c.loop-self.invariant takes.0 ensures.same.0 ensures.same.1) c.fill.new.self.begun fills fill.same.0 c.finish.ensures
+    turn_over c.finish.new.self c.finish.result (turn_taken c.take_unread.new.self c.loop-self.invariant c.if-branch.false ensures.takes ensures.same) c.fill.new.self.begun fills fill.same.0 c.finish.ensures
 
 pub loop-self-preserved : goal.loop-self-preserved
 loop-self-preserved g c =
     let ensures = c.in_ok-take_unread.ensures in
-    let takes = rw c.if-branch.false at ensures.takes in
     let fill = c.in_ok-fill.ensures in
     let fills = rw c.if-not-branch.false at fill.fills in
-    turn_filled (turn_taken c.take_unread.new.self c.loop-self.invariant takes.0 ensures.same.0 ensures.same.1) fills fill.same.0 fill.same.1
+    turn_filled (turn_taken c.take_unread.new.self c.loop-self.invariant c.if-branch.false ensures.takes ensures.same) fills fill.same.0 fill.same.1
