@@ -186,11 +186,10 @@ with_field field (group ∷ groups) = (field ∷ group) ∷ groups
 
 abbrev parsed : List Line → Parsed
 parsed [] = ([], [] ∷ [])
-parsed (Blank ∷ lines) = parsed lines
 parsed (Separator ∷ lines) = ([], [] ∷ (parsed lines).1)
 parsed (Continuation text ∷ lines) = (text ∷ (parsed lines).0, (parsed lines).1)
 parsed (Start name body ∷ lines) = ([], with_field (record { name = name; first = body; more = (parsed lines).0 }) (parsed lines).1)
-parsed (Bad ∷ lines) = parsed lines
+parsed (line ∷ lines) = parsed lines
 
 parsed-texts : (texts : List (List ℕ)) (lines : List Line) (groups : List (List Written)) → parsed lines ≡ (let p : Parsed = ([], groups) in p)
     → parsed (map Continuation texts ++ lines) ≡ (let p : Parsed = (texts, groups) in p)

@@ -32,10 +32,6 @@ Judges earlier before line said = MatchResult said
     (λ taken. ((other : Fault) → IsWrong earlier other before line → ⊥) × (earlier + begun false (shown (before ++ line ∷ [])) ≤ most_records))
     (λ fault. IsWrong earlier fault before line × ((other : Fault) → IsWrong earlier other before line → rank fault ≤ rank other))
 
-none_begun : (inside : Bool) → (begun inside [] ≡ 0) × (begun inside (Separator ∷ []) ≡ 0)
-none_begun true = (refl, refl)
-none_begun false = (refl, refl)
-
 -- the same of a short line of text, by its kind, after groups of which the last is this
 module _ (earlier : ℕ) (before : List (List ℕ)) (line : List ℕ) (count : ℕ) (short : length line ≤ longest_line) (utf8 : IsUtf8 line) (few : earlier + begun false (shown before) ≤ most_records) where
   added : (b : Bool) (k : Line) → is_inside false (shown before) ≡ b → line_of line ≡ k → begun false (shown (before ++ line ∷ [])) ≡ begun false (shown before) + begun b (filter is_shown (k ∷ []))
@@ -50,8 +46,9 @@ module _ (earlier : ℕ) (before : List (List ℕ)) (line : List ℕ) (count : �
 
   kind_judges : (l : List Written) (k : Line) → is_inside false (shown before) ≡ has_field l → begun false (shown before) ≡ count + length (filter has_field (l ∷ [])) → line_of line ≡ k
       → Judges earlier before line (take_kind (earlier + count) (map field_of l) k)
-  kind_judges l Blank at sum so = calm Blank so (λ m. cc) (λ m. cc) (omega (arith, added (has_field l) Blank at so, (none_begun (has_field l)).0))
-  kind_judges l Separator at sum so = calm Separator so (λ m. cc) (λ m. cc) (omega (arith, added (has_field l) Separator at so, (none_begun (has_field l)).1))
+  kind_judges l Blank at sum so = calm Blank so (λ m. cc) (λ m. cc) (omega (arith, added (has_field l) Blank at so))
+  kind_judges [] Separator at sum so = calm Separator so (λ m. cc) (λ m. cc) (omega (arith, added false Separator at so))
+  kind_judges (field ∷ l) Separator at sum so = calm Separator so (λ m. cc) (λ m. cc) (omega (arith, added true Separator at so))
   kind_judges [] (Continuation text) at sum so = ((ap is_continuation so, at), least 2 (λ w. omega arith) (λ w. omega arith) (omega arith))
   kind_judges (field ∷ l) (Continuation text) at sum so = calm (Continuation text) so (λ m. at) (λ m. cc) (omega (arith, added true (Continuation text) at so))
   kind_judges [] (Start name body) at sum so =

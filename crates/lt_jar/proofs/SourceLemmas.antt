@@ -198,14 +198,8 @@ turn_failed {old = old} new {before} {between} {after} turn one fills engine =
           first = λ is. let no = sym made.0 ∙ is in cc;
         }
       ];
-      rises = λ more. elim fills.fills.1 [
-        | inl failed ↦ ap (λ k. let r : Result Bool JarFaultKind = Err k in r) failed.0
-        | inr made ↦ absurd (omega (arith, more, turn.failures, made.1))
-      ];
-      works = λ other. elim fills.fills.1 [
-        | inl failed ↦ absurd (other (ap (λ k. let r : Result Bool JarFaultKind = Err k in r) failed.0))
-        | inr made ↦ made.1 ∙ turn.failures
-      ];
+      rises = λ more. grind (arith, fills.fills.1, turn.failures, more);
+      works = λ other. grind (arith, fills.fills.1, turn.failures, other);
     }
 
 -- how the call ends where the text does
@@ -247,5 +241,4 @@ unread_rest buffer start end front rest low high is =
     let sum : end - start ≡ k + n = sym (length-take-le (end - start) (drop start buffer) fits) ∙ ap length is ∙ length-append front rest in
     let at : end - n ≡ start + k = omega (arith, sum, low) in
     let size : end - (end - n) ≡ n = omega (arith, sum, low) in
-    ap (λ m. take m (drop (end - n) buffer)) size ∙ ap (λ m. take n (drop m buffer)) at ∙ ap (take n) (sym (drop-drop k start buffer)) ∙ sym (drop-take k n (drop start buffer))
-    ∙ ap (λ m. drop k (take m (drop start buffer))) (sym sum) ∙ ap (drop k) is ∙ drop-append_seam front rest
+    cc (size, at, drop-drop k start buffer, drop-take k n (drop start buffer), sum, is, drop-append_seam front rest)
