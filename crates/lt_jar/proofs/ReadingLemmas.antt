@@ -236,8 +236,7 @@ pub last_taken : (earlier : ℕ) (old new : List Field) (line : List ℕ) (p : P
 last_taken earlier old new line progress.GoesOn said = (record { records = []; fields = new }, step_first earlier old line (Ok (GoesOn new)) said, refl)
 last_taken earlier old new line progress.Ends said =
     let ends = line_ends earlier old new line said in
-    let some : new ≢ [] = λ none. ends.2 (sym ends.0 ∙ none) in
-    (record { records = new ∷ []; fields = [] }, step_first earlier old line (Ok (Ends new)) said, sym (rest_some new some))
+    (record { records = new ∷ []; fields = [] }, step_first earlier old line (Ok (Ends new)) said, sym (rest_some new (λ none. ends.2 (sym ends.0 ∙ none))))
 
 -- lines more
 read_more_lines : (earlier : ℕ) (text : List ℕ) (number : ℕ) (lines left : List (List ℕ)) (going new : Going) → HasRead earlier text number (lines ++ left) going

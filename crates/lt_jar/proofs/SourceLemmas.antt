@@ -177,27 +177,24 @@ turn_failed {old = old} new {before} {between} {after} turn one fills engine =
       read = turn.read ++ fills.read;
       reads = turn.reads + fills.reads;
       is_read = more_read _ _ _ _ _ _ _ turn.read fills.read turn.reads fills.reads turn.is_read fills.is_read;
-      ends = elim fills.fills.1 [
-        | inl failed ↦ record {
-          format = λ fault is. cc (ap fault_in failed.0);
-          memory = λ is. let no = sym failed.0 ∙ is in cc;
-          device = λ is. (rw (← turn.failures) failed.1, (length runs.lines + 1, short, line));
-          all_made = λ is. let no = sym failed.0 ∙ is in cc;
-          first = λ is. let no = sym failed.0 ∙ is in cc;
-        }
-        | inr made ↦ record {
-          format = λ fault is. cc (ap fault_in made.0);
-          memory = λ is. let no = sym made.0 ∙ is in cc;
-          device = λ is. let no = sym is ∙ made.0 in cc;
-          all_made = λ is. (
+      ends = record {
+        format = λ fault is. absurd (grind (arith, fills.fills.1, is));
+        memory = λ is. absurd (grind (arith, fills.fills.1, is));
+        device = λ is. elim fills.fills.1 [
+          | inl failed ↦ (rw (← turn.failures) failed.1, (length runs.lines + 1, short, line))
+          | inr made ↦ let no = sym is ∙ made.0 in cc
+        ];
+        all_made = λ is. elim fills.fills.1 [
+          | inl failed ↦ let no = sym failed.0 ∙ is in cc
+          | inr made ↦ (
             made.2,
             omega (arith, made.3, turn.gave_bytes, long),
             λ gave some. omega (arith, turn.last_gave gave (omega (arith, made.2, made.3, fills.is_read.turns)), made.4),
             (length runs.lines + 1, short, line),
-          );
-          first = λ is. let no = sym made.0 ∙ is in cc;
-        }
-      ];
+          )
+        ];
+        first = λ is. grind (arith, fills.fills.1, is);
+      };
       rises = λ more. grind (arith, fills.fills.1, turn.failures, more);
       works = λ other. grind (arith, fills.fills.1, turn.failures, other);
     }
