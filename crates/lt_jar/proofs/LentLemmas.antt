@@ -1,5 +1,5 @@
 -- What is wrong with a text after whole lines, what was lent or read of it so far, and what follows at its end.
-use Rattle.std.proofs.Common.{if◌then◌else◌, ◌≡◌, ◌≢◌, ◌∙◌, ◌++◌, ◌∷◌, ◌⊎◌, inl, inr, ℕ, List, [], Bool, true, false, refl, sym, ap, subst, append_assoc, append-nil, length, ◌+◌, ◌≤◌, arith, length-append, Option}
+use Rattle.std.proofs.Common.{if◌then◌else◌, ◌≡◌, ◌∙◌, ◌++◌, ◌∷◌, ◌⊎◌, inl, inr, ℕ, List, [], Bool, false, refl, sym, ap, subst, append_assoc, append-nil, length, ◌+◌, ◌≤◌, arith, length-append, Option}
 use Rattle.std.specs.List.{AllByRecursion, filter, flat_map}
 use Rattle.std.proofs.lemmas.Grind.{flat_map-append}
 use Rattle.lt_jar.specs.Lines.{IsOneLine, lines_of, whole_lines, HoldsOfWhole}
@@ -132,8 +132,14 @@ one_ended lines fields ends =
     record {
       groups = empty.0 ++ gathers.group ∷ [];
       lines_are = cc (
-        ap shown ends.lines_are, shown-append ends.before (ends.last ∷ []), separator, gathers.lines_are, append_assoc gathers.skipped (lines_of_group gathers.group) (Separator ∷ []), empty.1,
-        append-nil (lines_of_ended gathers.group), flat_map-append lines_of_ended empty.0 (gathers.group ∷ []),
+        ap shown ends.lines_are,
+        shown-append ends.before (ends.last ∷ []),
+        separator,
+        gathers.lines_are,
+        append_assoc gathers.skipped (lines_of_group gathers.group) (Separator ∷ []),
+        empty.1,
+        append-nil (lines_of_ended gathers.group),
+        flat_map-append lines_of_ended empty.0 (gathers.group ∷ []),
       );
       records_are = cc (rest_some fields ends.some, ap rest_of gathers.fields_are, finished-going_of [] gathers.group, empty.2, records_of-append empty.0 (gathers.group ∷ []));
     }
@@ -159,7 +165,9 @@ records_on {lines} {records} {more} {rest = rest} front bytes has =
       ended = ended.groups ++ has.ended;
       last = has.last;
       lines = cc (
-        ap shown (lines_behind rest front bytes), shown-append lines (lines_of rest), append_assoc groups (flat_map lines_of_ended has.ended) (lines_of_group has.last),
+        ap shown (lines_behind rest front bytes),
+        shown-append lines (lines_of rest),
+        append_assoc groups (flat_map lines_of_ended has.ended) (lines_of_group has.last),
         flat_map-append lines_of_ended ended.groups has.ended,
       );
       all = cc (records_of-append ended.groups (has.ended ++ has.last ∷ []), append_assoc ended.groups has.ended (has.last ∷ []));

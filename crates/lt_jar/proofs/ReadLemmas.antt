@@ -1,5 +1,5 @@
 -- What is computed of a line is right, what is known once the first lines of a text are read, and that a text has records or a fault, and not both.
-use Rattle.std.proofs.Common.{◌≡◌, ◌∙◌, ◌++◌, ◌∷◌, ◌⊎◌, inl, inr, ℕ, List, [], Bool, true, false, Result, Ok, Err, refl, sym, ap, subst, append_assoc, append-nil, map, nat_lt, length, take, drop, get_or, ◌+◌, ◌<◌, ◌≤◌, arith, MatchResult, length-append}
+use Rattle.std.proofs.Common.{◌≡◌, ◌∙◌, ◌++◌, ◌∷◌, ◌⊎◌, inl, inr, ℕ, List, [], Bool, true, false, Result, Ok, Err, refl, sym, ap, subst, append_assoc, append-nil, map, nat_lt, length, get_or, ◌+◌, ◌<◌, ◌≤◌, arith, MatchResult, length-append}
 use Rattle.std.specs.List.{All, filter}
 use Rattle.std.specs.Str.{IsUtf8, is_utf8}
 use Rattle.std.proofs.Math.Seq.{drop-append_seam, take-append_seam}
@@ -11,7 +11,7 @@ use Rattle.lt_jar.specs.Lines.{lines_of}
 use Rattle.lt_jar.specs.LineKinds.{Line, Blank, Separator, Continuation, Start, Bad, line_of}
 use Rattle.lt_jar.specs.Limits.{longest_line, most_records}
 use Rattle.lt_jar.specs.Records.{Field, HasRecords, IsWithin, Written, field_of, has_field, is_shown, lines_of_group, shown}
-use Rattle.lt_jar.specs.Faults.{Fault, LineTooLong, NotUtf8, LeadingContinuation, BadLine, TooManyRecords, IsReached, IsTheFault, IsWrong, IsWrongAt, begun, is_continuation, is_inside, rank}
+use Rattle.lt_jar.specs.Faults.{Fault, LineTooLong, NotUtf8, LeadingContinuation, BadLine, TooManyRecords, IsTheFault, IsWrong, IsWrongAt, begun, is_continuation, is_inside, rank}
 use Rattle.lt_jar.specs.Reading.{Going, Taken, finished, on_taken, start, step, take_kind, take_line}
 use Rattle.lt_jar.specs.Lending.{IsSound}
 use Rattle.lt_jar.proofs.GroupLemmas.{Leaves, Makes, begun-append, begun-groups, finished-going_of, fits, fits-behind, leaves_more, one_list, past_ended, past_last, records_of}

@@ -1,13 +1,11 @@
 -- What a line does to the record that goes on, what the turns over a piece keep, and what lines that ran make of the text that they are.
-use Rattle.std.proofs.Common.{◌≡◌, ◌≢◌, Bool, true, false, if◌then◌else◌, ◌∙◌, ◌≤◌, ◌<◌, ◌+◌, ◌∷◌, ℕ, zero, suc, List, [], Result, Ok, Err, refl, sym, ap, length, get_or, arith, nat_lt, MatchResult, ◌⊎◌, inl, inr, not, ◌++◌, subst, append_assoc, append-nil, add-zero, length-append, Option, Some, None, zero-add}
+use Rattle.std.proofs.Common.{◌≡◌, ◌≢◌, Bool, true, false, if◌then◌else◌, ◌∙◌, ◌≤◌, ◌<◌, ◌+◌, ◌∷◌, ℕ, zero, suc, List, [], Result, Ok, Err, refl, sym, ap, length, get_or, arith, nat_lt, MatchResult, ◌⊎◌, inl, inr, ◌++◌, subst, append_assoc, append-nil, add-zero, length-append, Option, Some, None, zero-add}
 use Rattle.std.proofs.Math.ListN.{set}
-use Rattle.std.specs.Str.{IsUtf8, is_utf8}
-use Rattle.std.proofs.lemmas.Str.{IsUtf8-from_is_utf8, is_utf8-from_IsUtf8}
-use Rattle.std.proofs.lemmas.Bool.{cond_both, false_from_ne_true, le-ltb, lt-ltb}
+use Rattle.std.proofs.lemmas.Bool.{cond_both, lt-ltb}
 use Rattle.lt_jar.specs.LineKinds.{Line, Blank, Separator, Continuation, Start, Bad, line_of}
 use Rattle.lt_jar.specs.Limits.{longest_line, most_records}
 use Rattle.lt_jar.specs.Records.{Field, HasRecords, Written, lines_of_ended, shown}
-use Rattle.lt_jar.specs.Faults.{Fault, LineTooLong, NotUtf8, IsReached, IsTheFault, begun}
+use Rattle.lt_jar.specs.Faults.{Fault, LineTooLong, IsReached, IsTheFault, begun}
 use Rattle.lt_jar.specs.Reading.{Ends, GoesOn, Taken, continued, lengthened, take_kind, take_line, with_text, Going, finished, going_on, rest_of, on_going, on_taken, steps, start, step}
 use Rattle.std.specs.List.{AllByRecursion, flat_map}
 use Rattle.std.proofs.lemmas.Grind.{flat_map-append}

@@ -8,8 +8,8 @@ use Rattle.lt_jar.specs.Devices.{after_reads, failures_of, inner_of, one_more, r
 use Rattle.lt_jar.specs.Lines.{IsOneLine, whole_lines}
 use Rattle.lt_jar.specs.Limits.{most_records}
 use Rattle.lt_jar.specs.Lending.{CutsRecord}
-use Rattle.lt_jar.specs.Records.{Field, HasRecords}
-use Rattle.lt_jar.specs.Reading.{finished, going_on, rest_of, take_line}
+use Rattle.lt_jar.specs.Records.{Field}
+use Rattle.lt_jar.specs.Reading.{going_on, rest_of, take_line}
 use Rattle.lt_jar.specs.Pieces.{RefusesFirst, StopsAt, TakesRecord}
 use Rattle.lt_jar.specs.Sources.{EndsAs, Fills, Finished, Finishes, IsRead, LastGave, LendsLast, ReadsRecord, Stops, TakesUnread, kept_in, lent_by, line_of_kept, most_reads, record_in, unread_in}
 use Rattle.lt_jar.specs.Views.{fault_in}

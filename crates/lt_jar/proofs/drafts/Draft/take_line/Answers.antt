@@ -13,6 +13,6 @@ returns-in-Ok c =
     rw (le-ltb longest_line (length c.args.line.now) (omega arith), is_utf8-from_IsUtf8 c.args.line.now c.in-Ok.ensures.cases.1, ← kind) c.take_kind.ensures
 
 pub returns-in-Err : goal.returns-in-Err
-returns-in-Err c = 
+returns-in-Err c =
     let line = c.args.line.now in
     inr (faults.NotUtf8, refl, rw (le-ltb longest_line (length line) (omega arith), false_from_ne_true (is_utf8 line) (λ is. c.in-Err.ensures.cases.0 (IsUtf8-from_is_utf8 line is))) refl)
