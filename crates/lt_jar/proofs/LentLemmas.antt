@@ -131,16 +131,7 @@ one_ended lines fields ends =
     let separator : shown (ends.last ∷ []) ≡ Separator ∷ [] = ap (λ k. filter is_shown (k ∷ [])) ends.separator in
     record {
       groups = empty.0 ++ gathers.group ∷ [];
-      lines_are = cc (
-        ap shown ends.lines_are,
-        shown-append ends.before (ends.last ∷ []),
-        separator,
-        gathers.lines_are,
-        append_assoc gathers.skipped (lines_of_group gathers.group) (Separator ∷ []),
-        empty.1,
-        append-nil (lines_of_ended gathers.group),
-        flat_map-append lines_of_ended empty.0 (gathers.group ∷ []),
-      );
+      lines_are = simp (flat_map-append, append-nil) (cc (shown-append ends.before (ends.last ∷ []), separator, append_assoc gathers.skipped (lines_of_group gathers.group) (Separator ∷ []), empty.1));
       records_are = cc (rest_some fields ends.some, ap rest_of gathers.fields_are, finished-going_of [] gathers.group, empty.2, records_of-append empty.0 (gathers.group ∷ []));
     }
 
@@ -160,16 +151,10 @@ pub records_on : {lines : List (List ℕ)} {records more : List (List Field)} {e
     → HasRecords text (records ++ more)
 records_on {lines} {records} {more} {rest = rest} front bytes has =
     let ended = front.ended in
-    let groups = flat_map lines_of_ended ended.groups in
     record {
       ended = ended.groups ++ has.ended;
       last = has.last;
-      lines = cc (
-        ap shown (lines_behind rest front bytes),
-        shown-append lines (lines_of rest),
-        append_assoc groups (flat_map lines_of_ended has.ended) (lines_of_group has.last),
-        flat_map-append lines_of_ended ended.groups has.ended,
-      );
+      lines = simp (flat_map-append, append_assoc) (cc (lines_behind rest front bytes, shown-append lines (lines_of rest), ended.lines_are));
       all = cc (records_of-append ended.groups (has.ended ++ has.last ∷ []), append_assoc ended.groups has.ended (has.last ∷ []));
     }
 
