@@ -12,12 +12,12 @@ use Rattle.lt_tag.specs.Splitting.{spell_source}
 use Rattle.lt_registry.specs.Parts.{EntryParts}
 use Rattle.lt_registry.specs.Entries.{entry, is_registered, has_prefix}
 use Rattle.lt_registry.specs.Faults.{HasCoreFault, before_script, before_region, before_variants, HasExtensionFault}
-use Rattle.lt_registry.specs.Checking.{unless, Tells, Counted, prefix_check, second_check, extlangs_check, part_check, core_check, source_check}
+use Rattle.lt_registry.specs.Checking.{unless, Tells, Counted, prefix_check, second_check, extlangs_check, part_check, core_check, source_check, stands_in}
 use Rattle.lt_registry.specs.declared.entries.Kind.{Kind}
 use Rattle.lt_registry.specs.declared.faults.ValidFaultKind.{ValidFaultKind}
 use Rattle.lt_registry.specs.declared.entries.Kind.TheVariants as kinds
 use Rattle.lt_registry.specs.declared.faults.ValidFaultKind.TheVariants as faults
-use Rattle.lt_registry.proofs.VariantFaultLemmas.{Or, SameFaults, Precede, Upto, Past, Part, part_then, part_none, Single, tells_and, tells_same, tells_unless, first_left, single_first, single_precede, single_same, VariantFault, variants_part, variants_shown, IsUnknownAt, IsRepeatedAt, unknown_hidden, repeated_hidden, stands_at, stands_there}
+use Rattle.lt_registry.proofs.VariantFaultLemmas.{Or, SameFaults, Precede, Upto, Past, Part, part_then, part_none, Single, tells_and, tells_same, tells_unless, first_left, single_first, single_precede, single_same, VariantFault, variants_part, variants_shown, IsVariantAt, VariantHead, variants_hidden, repeats, repeated, stands_at, stands_there}
 
 -- The check of a core tells the first of its faults.
 
@@ -114,15 +114,19 @@ module _ (R : List EntryParts) (r : Bool) (start : ℕ) (c : CoreParts) where
   extlang_shown (x ∷ rest) e k p (inl (inr f)) = of_kind k faults.ExtlangPrefix p f.kinded (λ w. cc) (x, rest, e, f.placed, f.cause)
   extlang_shown (x ∷ rest) e k p (inr f) = of_kind k faults.TooManyExtlangs p f.kinded (λ w. cc) (x, f.cause.0, f.cause.1, e ∙ ap (λ ys. x ∷ ys) f.cause.2, f.placed)
 
-  variant_shown : (k : ValidFaultKind) (p : ℕ) → ((k ≡ faults.UnknownVariant) × IsUnknownAt R (start + before_variants c + 1) c.variants p) ⊎ ((k ≡ faults.DuplicateVariant) × (r ≡ false) × IsRepeatedAt (start + before_variants c + 1) [] c.variants p) → CoreFault k p
-  variant_shown k p (inl u) =
-      of_kind k faults.UnknownVariant p u.0 (λ w. cc) (u.1.front, u.1.variant, u.1.after, u.1.there, omega (arith, u.1.placed), u.1.cause)
-  variant_shown k p (inr u) =
-      let at = stands_at u.2.front u.2.variant u.2.cause in
-      let split : c.variants ≡ at.0 ++ u.2.variant ∷ (at.1 ++ u.2.variant ∷ u.2.after) = u.2.there ∙ ap (λ ws. ws ++ u.2.variant ∷ u.2.after) at.2 ∙ append_assoc at.0 (u.2.variant ∷ at.1) (u.2.variant ∷ u.2.after) in
-      let long : length u.2.front ≡ length at.0 + length (u.2.variant ∷ at.1) = ap length at.2 ∙ length-append at.0 (u.2.variant ∷ at.1) in
-      let fault : HasCoreFault R start c faults.DuplicateVariant p = (at.0, u.2.variant, at.1, u.2.after, split, omega (arith, u.2.placed, long)) in
-      (subst (λ z. HasCoreFault R start c z p) (sym u.0) fault, λ t f. let bad : true ≡ false = sym t ∙ u.1 in cc)
+  variant_shown : (k : ValidFaultKind) (p : ℕ) → IsVariantAt R r (start + before_variants c + 1) [] c.variants k p → CoreFault k p
+  variant_shown k p at = by at.fault
+    where
+      by : VariantHead R r (start + before_variants c + 1 + length at.front) at.front at.variant k p → CoreFault k p
+      by (inl u) =
+          of_kind k faults.UnknownVariant p u.kinded (λ w. cc) (at.front, at.variant, at.after, at.there, omega (arith, u.placed), u.cause)
+      by (inr u) =
+          let again = repeats r (stands_in at.front at.variant) u.cause in
+          let two = stands_at at.front at.variant again.1 in
+          let split : c.variants ≡ two.0 ++ at.variant ∷ (two.1 ++ at.variant ∷ at.after) = at.there ∙ ap (λ ws. ws ++ at.variant ∷ at.after) two.2 ∙ append_assoc two.0 (at.variant ∷ two.1) (at.variant ∷ at.after) in
+          let long : length at.front ≡ length two.0 + length (at.variant ∷ two.1) = ap length two.2 ∙ length-append two.0 (at.variant ∷ two.1) in
+          let fault : HasCoreFault R start c faults.DuplicateVariant p = (two.0, at.variant, two.1, at.after, split, omega (arith, u.placed, long)) in
+          (subst (λ z. HasCoreFault R start c z p) (sym u.kinded) fault, λ t f. let bad : true ≡ false = sym t ∙ again.0 in cc)
 
   part_shown : (k : ValidFaultKind) (p : ℕ) → CorePart k p → CoreFault k p
   part_shown k p (inl f) = of_kind k faults.UnknownLanguage p f.kinded (λ w. cc) (f.placed, f.cause)
@@ -145,11 +149,12 @@ module _ (R : List EntryParts) (r : Bool) (start : ℕ) (c : CoreParts) where
   part_hidden faults.UnknownScript p (h, n) = inr (inr (inl (record { kinded = refl; placed = h.2; cause = (h.0, h.1, h.3) })))
   part_hidden faults.UnknownRegion p (h, n) = inr (inr (inr (inl (record { kinded = refl; placed = h.2; cause = (h.0, h.1, h.3) }))))
   part_hidden faults.UnknownVariant p (h, n) =
-      in_variants (h.0 ++ h.1 ∷ h.2) faults.UnknownVariant p h.3 (unknown_hidden R r (start + before_variants c + 1) [] h.0 h.1 h.2 p (omega (arith, h.4)) h.5)
+      in_variants (h.0 ++ h.1 ∷ h.2) faults.UnknownVariant p h.3 (variants_hidden R r (start + before_variants c + 1) [] h.0 h.1 h.2 faults.UnknownVariant p (inl (record { kinded = refl; placed = omega (arith, h.4); cause = h.5 })))
   part_hidden faults.DuplicateVariant p (h, n) =
       let split : c.variants ≡ (h.0 ++ h.1 ∷ h.2) ++ h.1 ∷ h.3 = h.4 ∙ sym (append_assoc h.0 (h.1 ∷ h.2) (h.1 ∷ h.3)) in
       let long : length (h.0 ++ h.1 ∷ h.2) ≡ length h.0 + length (h.1 ∷ h.2) = length-append h.0 (h.1 ∷ h.2) in
-      in_variants ((h.0 ++ h.1 ∷ h.2) ++ h.1 ∷ h.3) faults.DuplicateVariant p split (repeated_hidden R r (start + before_variants c + 1) [] (h.0 ++ h.1 ∷ h.2) h.1 h.3 p (omega (arith, h.5, long)) (false_from_ne_true r (λ t. n t refl)) (stands_there h.0 h.2 h.1))
+      let cause = repeated r (stands_in (h.0 ++ h.1 ∷ h.2) h.1) (false_from_ne_true r (λ t. n t refl)) (stands_there h.0 h.2 h.1) in
+      in_variants ((h.0 ++ h.1 ∷ h.2) ++ h.1 ∷ h.3) faults.DuplicateVariant p split (variants_hidden R r (start + before_variants c + 1) [] (h.0 ++ h.1 ∷ h.2) h.1 h.3 faults.DuplicateVariant p (inr (record { kinded = refl; placed = omega (arith, h.5, long); cause = cause })))
   part_hidden _ p (h, n) = absurd h
 
   -- the check tells the first fault

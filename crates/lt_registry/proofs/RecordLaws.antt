@@ -1,20 +1,18 @@
 -- What is read of records: the texts of one, their entries, and a registry that is read record by record.
-use Rattle.std.proofs.Common.{◌≡◌, ℕ, ◌+◌, ◌<◌, ◌≤◌, Bool, true, false, ◌&&◌, eqb, List, [], ◌∷◌, ◌++◌, length, take, drop, get_or, Option, Some, None, refl, sym, ap, ◌∙◌, arith, add-one, append_assoc, zero, suc, leb, ◌⊎◌, inl, inr, subst, ◌≢◌, if◌then◌else◌, length-append, Result, Ok, Err, append-nil}
+use Rattle.std.proofs.Common.{◌≡◌, ℕ, ◌+◌, ◌<◌, ◌≤◌, Bool, true, false, eqb, List, [], ◌∷◌, ◌++◌, length, take, drop, get_or, Option, Some, None, refl, sym, ap, ◌∙◌, arith, add-one, append_assoc, zero, suc, ◌⊎◌, inl, inr, subst, ◌≢◌, if◌then◌else◌, length-append, Result, Ok, Err, append-nil}
 use Rattle.std.specs.Prelude.{Ok, Err, option_map, Result, IfOk, IfErr, All}
 use Rattle.std.proofs.Math.Seq.{drop-cons, get_or-append_seam, take-append_seam}
 use Rattle.std.proofs.lemmas.List.{take_more, drop_all, drop-drop, append-nil, take_all, length-take-le, length_push}
 use Rattle.std.specs.List.{list_all, AllByRecursion, onto_first}
-use Rattle.std.specs.Char.{is_ascii_alphanumeric}
-use Rattle.std.proofs.lemmas.Bool.{and_parts, and_from, eqb-true, leb-true, cases_Bool, cases_eq, eq-eqb, cases_lt}
+use Rattle.std.proofs.lemmas.Bool.{and_from, eqb-true, cases_Bool, cases_eq, eq-eqb, cases_lt}
+use Rattle.std.proofs.lemmas.Bool.Decides.{nat_tests}
 use Rattle.std.proofs.lemmas.List.Elements.{All-push, All-nil}
 use Rattle.std.specs.Io.KnownBytes.{IsAtEnd}
 use Rattle.std.proofs.KnownBytes.{Consumes-nil}
 use Rattle.lt_subtag.specs.Reading.{subtag_of}
 use Rattle.lt_subtag.specs.declared.SubtagFault.{SubtagFault}
 use Rattle.lt_subtag.specs.Bytes.{is_subtag, folded}
-use Rattle.lt_subtag.specs.Shapes.{is_alphabetic}
 use Rattle.lt_subtag.proofs.BytesLemmas.{piece_folds}
-use Rattle.lt_subtag.specs.declared.SubtagFault.TheVariants as subtag_faults
 use Rattle.lt_tag.specs.Lists.{pieces}
 use Rattle.lt_tag.specs.Parts.{TagForm}
 use Rattle.lt_tag.specs.Faults.{HasTag}
@@ -36,8 +34,8 @@ use Rattle.lt_jar.proofs.SourceLemmas.{more_read}
 use Rattle.lt_jar.specs.declared.faults.JarFaultKind.TheVariants as jars
 use Rattle.lt_jar.specs.declared.sources.Status.TheVariants as state
 use Rattle.lt_registry.specs.Records.{begins_dots, with_first, ends_of, with_subtag, subtags_of, with_prefix, prefix_of, prefixes_of, bodies, is_called, formed, is_range, range_of, single_of, name_by, subtags_named, body, type_name, subtag_name}
-use Rattle.lt_registry.specs.Records.{tag_name, value_name, repeats_field, kind_of, HasKind, name_field, IsName, IsValue, IsValueOf, prefix_name, has_prefixes, prefixes_in, IsEntryOf, HasRecordFault, record_rank, is_header_at, EntriesFrom, HasEntries, HasFaultAt, IsFirstRecordFault}
-use Rattle.lt_registry.specs.Entries.{has_form, letters_le, IsRange, IsPrefix, is_whole_kind, has_value_form, IsEntry, NumbersRise, IsRegistry}
+use Rattle.lt_registry.specs.Records.{tag_name, value_name, repeats_field, kind_of, HasKind, name_field, IsName, IsValue, IsValueOf, prefix_name, prefixes_in, IsEntryOf, HasRecordFault, record_rank, is_header_at, EntriesFrom, HasEntries, HasFaultAt, IsFirstRecordFault}
+use Rattle.lt_registry.specs.Entries.{has_form, IsPrefix, is_whole_kind, IsEntry, NumbersRise}
 use Rattle.lt_registry.specs.declared.entries.Kind.{Kind}
 use Rattle.lt_registry.specs.declared.entries.EntryName.{EntryName}
 use Rattle.lt_registry.specs.declared.faults.RecordFaultKind.{RecordFaultKind}
@@ -73,20 +71,18 @@ unfolding ends_of
 dots_found [] h = cc
 dots_found (b ∷ s) h = rw h refl
 
-no_dots : (b : ℕ) (s : List ℕ) → begins_dots (b ∷ s) ≡ false → ends_of (b ∷ s) ≡ with_first b (ends_of s)
-unfolding ends_of
-no_dots b s h = rw h refl
-
 behind_more : (front : List ℕ) (b : ℕ) (o : Option (List ℕ × List ℕ)) → behind front (with_first b o) ≡ behind (front ++ b ∷ []) o
 behind_more front b None = refl
 behind_more front b (Some p) = ap (λ z. Some (z, p.1)) (sym (append_assoc front (b ∷ []) p.0))
 
 pub ends_stay : (text : List ℕ) (i : ℕ) → i < length text → begins_dots (drop i text) ≡ false → behind (take i text) (ends_of (drop i text)) ≡ behind (take (i + 1) text) (ends_of (drop (i + 1) text))
+unfolding ends_of
 ends_stay text i l h =
     let b = get_or text i 0 in
     let d : drop i text ≡ b ∷ drop (i + 1) text = drop-cons text i 0 l ∙ rw (add-one i) refl in
     let none : begins_dots (b ∷ drop (i + 1) text) ≡ false = ap begins_dots (sym d) ∙ h in
-    ap (λ z. behind (take i text) (ends_of z)) d ∙ ap (behind (take i text)) (no_dots b (drop (i + 1) text) none)
+    let step : ends_of (b ∷ drop (i + 1) text) ≡ with_first b (ends_of (drop (i + 1) text)) = rw none refl in
+    ap (λ z. behind (take i text) (ends_of z)) d ∙ ap (behind (take i text)) step
     ∙ behind_more (take i text) b (ends_of (drop (i + 1) text)) ∙ ap (λ z. behind z (ends_of (drop (i + 1) text))) (sym (take_more text i 0 l))
 
 pub ends_found : (text : List ℕ) (i : ℕ) → begins_dots (drop i text) ≡ true → behind (take i text) (ends_of (drop i text)) ≡ Some (take i text, drop (i + 2) text)
@@ -108,14 +104,10 @@ after_one : {A : Type 0} (front : List A) (x : A) (o : Option (List A)) → afte
 after_one front x None = refl
 after_one front x (Some rest) = ap Some (sym (append_assoc front (x ∷ []) rest))
 
-subtags_step : (front : List (List ℕ)) (piece s : List ℕ) (rest : List (List ℕ)) → subtag_of piece ≡ Ok s → after front (subtags_of (piece ∷ rest)) ≡ after (front ++ s ∷ []) (subtags_of rest)
-unfolding subtags_of
-subtags_step front piece s rest h =
-    ap (λ z. after front (with_subtag z (subtags_of rest))) h ∙ after_one front s (subtags_of rest)
-
 pub piece_stays : (all front : List (List ℕ)) (text piece s : List ℕ) (rest : List (List ℕ)) → subtags_of all ≡ after front (subtags_of (pieces text)) → pieces text ≡ piece ∷ rest → subtag_of piece ≡ Ok s → subtags_of all ≡ after (front ++ s ∷ []) (subtags_of rest)
+unfolding subtags_of
 piece_stays all front text piece s rest so_far cut h =
-    so_far ∙ ap (λ z. after front (subtags_of z)) cut ∙ subtags_step front piece s rest h
+    so_far ∙ ap (λ z. after front (subtags_of z)) cut ∙ ap (λ z. after front (with_subtag z (subtags_of rest))) h ∙ after_one front s (subtags_of rest)
 
 pub piece_fails : (all front : List (List ℕ)) (text piece : List ℕ) (rest : List (List ℕ)) (fault : SubtagFault) → subtags_of all ≡ after front (subtags_of (pieces text)) → pieces text ≡ piece ∷ rest → subtag_of piece ≡ Err fault → subtags_of all ≡ None
 unfolding subtags_of
@@ -128,26 +120,21 @@ piece_last all front text piece s so_far cut h = piece_stays all front text piec
 
 -- the Prefixes of fields
 
-called : (name : List ℕ) (f : Field) (r : List Field) → is_called name f ≡ true → bodies name (f ∷ r) ≡ f.1 ∷ bodies name r
-called name f r h = rw h refl
-
-not_called : (name : List ℕ) (f : Field) (r : List Field) → is_called name f ≡ false → bodies name (f ∷ r) ≡ bodies name r
-not_called name f r h = rw h refl
-
-prefixes_step : (s : List ℕ) (ss : List (List ℕ)) → prefixes_of (s ∷ ss) ≡ with_prefix (prefix_of s) (prefixes_of ss)
-unfolding prefixes_of
-prefixes_step s ss = refl
-
 module _ (name : List ℕ) (all r : List Field) (i : ℕ) (front : List (List (List ℕ))) (f : Field) (l : i < length r) (is : f ≡ get_or r i f)
     (so_far : prefixes_of (bodies name all) ≡ after front (prefixes_of (bodies name (drop i r)))) where
   field_here : bodies name (drop i r) ≡ bodies name (f ∷ drop (i + 1) r)
   field_here = ap (bodies name) (drop_turn r i f l is)
 
   pub field_skipped : is_called name f ≡ false → prefixes_of (bodies name all) ≡ after front (prefixes_of (bodies name (drop (i + 1) r)))
-  field_skipped h = so_far ∙ ap (λ z. after front (prefixes_of z)) (field_here ∙ not_called name f (drop (i + 1) r) h)
+  field_skipped h =
+      let none : bodies name (f ∷ drop (i + 1) r) ≡ bodies name (drop (i + 1) r) = rw h refl in
+      so_far ∙ ap (λ z. after front (prefixes_of z)) (field_here ∙ none)
 
   called_step : is_called name f ≡ true → prefixes_of (bodies name all) ≡ after front (with_prefix (prefix_of f.1) (prefixes_of (bodies name (drop (i + 1) r))))
-  called_step h = so_far ∙ ap (λ z. after front (prefixes_of z)) (field_here ∙ called name f (drop (i + 1) r) h) ∙ ap (after front) (prefixes_step f.1 (bodies name (drop (i + 1) r)))
+  unfolding prefixes_of
+  called_step h =
+      let one : bodies name (f ∷ drop (i + 1) r) ≡ f.1 ∷ bodies name (drop (i + 1) r) = rw h refl in
+      so_far ∙ ap (λ z. after front (prefixes_of z)) (field_here ∙ one)
 
   pub field_taken : (p : List (List ℕ)) → is_called name f ≡ true → prefix_of f.1 ≡ Some p → prefixes_of (bodies name all) ≡ after (front ++ p ∷ []) (prefixes_of (bodies name (drop (i + 1) r)))
   field_taken p h g =
@@ -160,74 +147,31 @@ pub no_field : (name : List ℕ) (r : List Field) (i : ℕ) (front : List (List 
 unfolding prefixes_of
 no_field name r i front l = ap (λ z. after front (prefixes_of (bodies name z))) (drop_all i r l) ∙ ap Some (append-nil front)
 
--- What the texts of a record's fields give has the forms of its kind.
+-- What the texts of a record's fields give.
 
-formed_if : (form : List ℕ → Bool) (s n : List ℕ) (b : Bool) → form s ≡ b → formed form (Ok s) ≡ Some n → form n ≡ true
-formed_if form s n true e h =
-    let told : Some s ≡ Some n = rw e at h in
-    let same : s ≡ n = cc in ap form (sym same) ∙ e
-formed_if form s n false e h = let bad : None ≡ Some n = rw e at h in cc
+-- a name of subtags, or one of two faults
+abbrev pub IsSubtagsResult : Result EntryName RecordFaultKind → Type 0
+IsSubtagsResult (Ok (names.Whole t)) = ⊥
+IsSubtagsResult (Err fault) = (fault ≡ faults.BadRange) ⊎ (fault ≡ faults.BadSubtag)
+IsSubtagsResult _ = Unit {0}
 
-pub formed_has : (form : List ℕ → Bool) (r : Result (List ℕ) SubtagFault) (n : List ℕ) → formed form r ≡ Some n → form n ≡ true
-formed_has form (Ok s) n h = formed_if form s n (form s) refl h
-formed_has form (Err fault) n h = cc
+single_fits : (o : Option (List ℕ)) → IsSubtagsResult (single_of o)
+single_fits None = inr refl
+single_fits (Some n) = tt
 
-pub range_has : (k : Kind) (a b : List ℕ) → is_range k a b ≡ true → IsRange k a b
-range_has k a b h =
-    let p0 = and_parts (has_form k a) (has_form k b && (is_alphabetic a && (is_alphabetic b && (eqb (length a) (length b) && letters_le a b)))) h in
-    let p1 = and_parts (has_form k b) (is_alphabetic a && (is_alphabetic b && (eqb (length a) (length b) && letters_le a b))) p0.1 in
-    let p2 = and_parts (is_alphabetic a) (is_alphabetic b && (eqb (length a) (length b) && letters_le a b)) p1.1 in
-    let p3 = and_parts (is_alphabetic b) (eqb (length a) (length b) && letters_le a b) p2.1 in
-    let p4 = and_parts (eqb (length a) (length b)) (letters_le a b) p3.1 in
-    record { first_form = p0.0; last_form = p1.0; first_letters = p2.0; last_letters = p3.0; one_length = eqb-true (length a) (length b) p4.0; in_order = p4.1 }
-
--- a name of subtags and its form, or one of two faults
-abbrev pub IsSubtagsResult : Kind → Result EntryName RecordFaultKind → Type 0
-IsSubtagsResult k (Ok (names.Single n)) = has_form k n ≡ true
-IsSubtagsResult k (Ok (names.Range a b)) = IsRange k a b
-IsSubtagsResult k (Ok (names.Whole t)) = ⊥
-IsSubtagsResult k (Err fault) = (fault ≡ faults.BadRange) ⊎ (fault ≡ faults.BadSubtag)
-
-single_fits : (k : Kind) (o : Option (List ℕ)) → ((n : List ℕ) → o ≡ Some n → has_form k n ≡ true) → IsSubtagsResult k (single_of o)
-single_fits k None f = inr refl
-single_fits k (Some n) f = f n refl
-
-range_if : (k : Kind) (a b : List ℕ) (t : Bool) → is_range k a b ≡ t → IsSubtagsResult k (range_of k (Ok a) (Ok b))
-range_if k a b true e = rw e (range_has k a b e)
-range_if k a b false e = rw e (inl refl)
-
-range_fits : (k : Kind) (a b : Result (List ℕ) SubtagFault) → IsSubtagsResult k (range_of k a b)
-range_fits k (Ok a) (Ok b) = range_if k a b (is_range k a b) refl
+range_fits : (k : Kind) (a b : Result (List ℕ) SubtagFault) → IsSubtagsResult (range_of k a b)
+range_fits k (Ok a) (Ok b) = elim (cases_Bool (is_range k a b)) [ inl e ↦ rw e tt | inr e ↦ rw e (inl refl) ]
 range_fits k _ _ = inl refl
 
-name_fits : (k : Kind) (s : List ℕ) (o : Option (List ℕ × List ℕ)) → IsSubtagsResult k (name_by k s o)
-name_fits k s None = single_fits k (formed (has_form k) (subtag_of s)) (λ n h. formed_has (has_form k) (subtag_of s) n h)
+name_fits : (k : Kind) (s : List ℕ) (o : Option (List ℕ × List ℕ)) → IsSubtagsResult (name_by k s o)
+name_fits k s None = single_fits (formed (has_form k) (subtag_of s))
 name_fits k s (Some ends) = range_fits k (subtag_of ends.0) (subtag_of ends.1)
-
-pub subtags_fit : (k : Kind) (s : List ℕ) → IsSubtagsResult k (subtags_named k s)
-subtags_fit k s = name_fits k s (ends_of s)
 
 -- what reading a piece gives is a subtag
 pub subtag_is : (piece n : List ℕ) → subtag_of piece ≡ Ok n → is_subtag n ≡ true
 subtag_is piece n h =
-    elim (cases_Bool (eqb (length piece) 0)) [
-      | inl empty ↦ let bad : Err subtag_faults.Empty ≡ Ok n = rw empty at h in cc
-      | inr some ↦ elim (cases_Bool (list_all is_ascii_alphanumeric piece)) [
-        | inr bytes ↦ let bad : Err subtag_faults.BadByte ≡ Ok n = rw (some, bytes) at h in cc
-        | inl bytes ↦ elim (cases_Bool (leb (length piece) 8)) [
-          | inr long ↦ let bad : Err subtag_faults.TooLong ≡ Ok n = rw (some, bytes, long) at h in cc
-          | inl few ↦
-              let told : Ok (folded piece) ≡ Ok n = rw (some, bytes, few) at h in
-              let same : folded piece ≡ n = cc in
-              let positive : 0 < length piece = not_zero (length piece) some in
-              ap is_subtag (sym same) ∙ piece_folds piece bytes positive (leb-true (length piece) 8 few)
-        ]
-      ]
-    ]
-  where
-    not_zero : (m : ℕ) → eqb m 0 ≡ false → 0 < m
-    not_zero zero e = cc
-    not_zero (suc m) e = omega arith
+    let same : n ≡ folded piece = grind (arith, nat_tests) in
+    rw same (piece_folds piece (grind (arith, nat_tests)) (grind (arith, nat_tests)) (grind (arith, nat_tests)))
 
 -- a text has a piece
 some_more : (b : ℕ) (ps : List (List ℕ)) → 0 < length (onto_first b ps)
@@ -236,11 +180,7 @@ some_more b (p ∷ ps) = omega arith
 
 pub some_piece : (text : List ℕ) → 0 < length (pieces text)
 some_piece [] = omega arith
-some_piece (b ∷ bs) =
-    elim (cases_Bool (eqb b 45)) [
-      | inl e ↦ rw e (omega arith)
-      | inr e ↦ rw e (some_more b (pieces bs))
-    ]
+some_piece (b ∷ bs) = grind (arith, nat_tests, some_more b (pieces bs))
 
 -- the subtags of pieces
 
@@ -272,28 +212,16 @@ prefixes_are (s ∷ ss) ps h = prefixes_at (prefix_of s) (prefixes_of ss) ps (pr
 
 -- A record gives one entry or has one first fault, and not both.
 
-pub same_some : {A : Type 0} (o : Option A) (a b : A) → o ≡ Some a → o ≡ Some b → a ≡ b
-same_some None a b h k = cc
-same_some (Some c) a b h k = cc
-
-not_none : {A : Type 0} (o : Option A) (a : A) → o ≡ Some a → o ≡ None → ⊥
-not_none None a h k = cc
-not_none (Some c) a h k = cc
-
-both : (b : Bool) → b ≡ true → b ≡ false → ⊥
-both true h k = cc
-both false h k = cc
-
 -- a record has one kind
 pub one_kind : (r : List Field) (k l : Kind) → HasKind r k → HasKind r l → k ≡ l
 one_kind r k l h g =
-    let same : h.0 ≡ g.0 = same_some (body type_name r) h.0 g.0 h.1 g.1 in
-    same_some (kind_of g.0) k l (ap kind_of (sym same) ∙ h.2) g.2
+    let same : h.0 ≡ g.0 = cc (h.1, g.1) in
+    cc (ap kind_of (sym same) ∙ h.2, g.2)
 
 no_unknown_type : (r : List Field) (k : Kind) → HasKind r k → HasRecordFault r faults.UnknownType → ⊥
 no_unknown_type r k h f =
-    let same : h.0 ≡ f.0 = same_some (body type_name r) h.0 f.0 h.1 f.1 in
-    not_none (kind_of f.0) k (ap kind_of (sym same) ∙ h.2) f.2
+    let same : h.0 ≡ f.0 = cc (h.1, f.1) in
+    cc (ap kind_of (sym same) ∙ h.2, f.2)
 
 pub field_of_subtag : (k : Kind) → is_whole_kind k ≡ false → name_field k ≡ subtag_name
 field_of_subtag k e = ap (λ b. if b then tag_name else subtag_name) e
@@ -304,14 +232,14 @@ field_of_tag k e = ap (λ b. if b then tag_name else subtag_name) e
 no_missing_name : (r : List Field) (k : Kind) (s : List ℕ) → HasKind r k → body (name_field k) r ≡ Some s → HasRecordFault r faults.MissingName → ⊥
 no_missing_name r k s h there f =
     let same : f.0 ≡ k = one_kind r f.0 k f.1 h in
-    not_none (body (name_field k) r) s there (ap (λ (z : Kind). body (name_field z) r) (sym same) ∙ f.2)
+    cc (there, ap (λ (z : Kind). body (name_field z) r) (sym same) ∙ f.2)
 
 -- a text that is judged as a subtag or a range gives a name or a fault
 no_subtag_fault : (r : List Field) (k : Kind) (s : List ℕ) (fault : RecordFaultKind) (a : Result EntryName RecordFaultKind) → HasKind r k → body subtag_name r ≡ Some s → subtags_named k s ≡ a → a ≢ Err fault
     → (l : Kind) (t : List ℕ) → HasKind r l → body subtag_name r ≡ Some t → subtags_named l t ≡ Err fault → ⊥
 no_subtag_fault r k s fault a h there told other l t g here bad =
     let kind : k ≡ l = one_kind r k l h g in
-    let text : s ≡ t = same_some (body subtag_name r) s t there here in
+    let text : s ≡ t = cc (there, here) in
     other (sym told ∙ ap (λ (z : Kind). subtags_named z s) kind ∙ ap (subtags_named l) text ∙ bad)
 
 abbrev IsSubtagFault : List Field → RecordFaultKind → Type 0
@@ -319,7 +247,7 @@ IsSubtagFault r fault = (k : Kind) × (s : List ℕ) × HasKind r k × (is_whole
 
 not_subtags : (r : List Field) (k : Kind) (fault : RecordFaultKind) → HasKind r k → is_whole_kind k ≡ true → IsSubtagFault r fault → ⊥
 not_subtags r k fault h whole f =
-    both (is_whole_kind k) whole (ap is_whole_kind (one_kind r k f.0 h f.2) ∙ f.3)
+    cc (whole, ap is_whole_kind (one_kind r k f.0 h f.2) ∙ f.3)
 
 no_named_fault : (r : List Field) (k : Kind) (name : EntryName) (fault : RecordFaultKind) → HasKind r k → IsNameIn k r name → IsSubtagFault r fault → ⊥
 no_named_fault r k (names.Whole t) fault h (s, there, is) f = not_subtags r k fault h is.0 f
@@ -330,32 +258,30 @@ no_named_fault r k name fault h (s, there, is) f =
 no_bad_tag : (r : List Field) (k : Kind) (name : EntryName) → HasKind r k → IsNameIn k r name → HasRecordFault r faults.BadTag → ⊥
 no_bad_tag r k (names.Whole t) h (s, there, is) f =
     let e : body tag_name r ≡ Some s = ap (λ z. body z r) (sym (field_of_tag k is.0)) ∙ there in
-    let same : s ≡ f.1 = same_some (body tag_name r) s f.1 e f.4 in
+    let same : s ≡ f.1 = cc (e, f.4) in
     f.5 t (subst (λ z. HasTag z t) same is.1)
-no_bad_tag r k _ h (s, there, is) f = both (is_whole_kind k) (ap is_whole_kind (one_kind r k f.0 h f.2) ∙ f.3) is.0
+no_bad_tag r k _ h (s, there, is) f = cc (ap is_whole_kind (one_kind r k f.0 h f.2) ∙ f.3, is.0)
 
-value_there : (k : Kind) (o : Option (List ℕ)) (v : Option EntryValue) (s : List ℕ) → IsValueOf k o v → o ≡ Some s → (w : EntryValue) × IsValue k s w
-value_there k None None s is e = cc
-value_there k None (Some v) s is e = absurd is
-value_there k (Some t) None s is e = absurd is
-value_there k (Some t) (Some v) s is e = let same : t ≡ s = cc in (v, subst (λ z. IsValue k z v) same is)
+value_there : (k : Kind) (s : List ℕ) (v : Option EntryValue) → IsValueOf k (Some s) v → (w : EntryValue) × IsValue k s w
+value_there k s None is = absurd is
+value_there k s (Some v) is = (v, is)
 
 no_bad_value : (r : List Field) (k : Kind) (v : Option EntryValue) → HasKind r k → IsValueOf k (body value_name r) v → HasRecordFault r faults.BadPreferred → ⊥
 no_bad_value r k v h is f =
-    let got = value_there k (body value_name r) v f.1 is f.3 in
+    let got = value_there k f.1 v (subst (λ o. IsValueOf k o v) f.3 is) in
     f.4 got.0 (subst (λ (z : Kind). IsValue z f.1 got.0) (one_kind r k f.0 h f.2) got.1)
 
 -- a record that gives an entry has no fault
 pub entry_faultless : (r : List Field) (n : ℕ) (e : EntryParts) → IsEntryOf r n e → (fault : RecordFaultKind) → HasRecordFault r fault → ⊥
-entry_faultless r n e h faults.RepeatedField f = both (repeats_field r) f h.once
-entry_faultless r n e h faults.MissingType f = not_none (body type_name r) h.kind.0 h.kind.1 f
+entry_faultless r n e h faults.RepeatedField f = cc (f, h.once)
+entry_faultless r n e h faults.MissingType f = cc (h.kind.1, f)
 entry_faultless r n e h faults.UnknownType f = no_unknown_type r e.kind h.kind f
 entry_faultless r n e h faults.MissingName f = no_missing_name r e.kind h.named.0 h.kind h.named.1 f
 entry_faultless r n e h faults.BadRange f = no_named_fault r e.kind e.name faults.BadRange h.kind h.named f
 entry_faultless r n e h faults.BadSubtag f = no_named_fault r e.kind e.name faults.BadSubtag h.kind h.named f
 entry_faultless r n e h faults.BadTag f = no_bad_tag r e.kind e.name h.kind h.named f
 entry_faultless r n e h faults.BadPreferred f = no_bad_value r e.kind e.value h.kind h.valued f
-entry_faultless r n e h faults.BadPrefix f = not_none (prefixes_in e.kind r) e.prefixes h.prefixed (ap (λ (z : Kind). prefixes_in z r) (one_kind r e.kind f.0 h.kind f.1) ∙ f.2)
+entry_faultless r n e h faults.BadPrefix f = cc (h.prefixed, ap (λ (z : Kind). prefixes_in z r) (one_kind r e.kind f.0 h.kind f.1) ∙ f.2)
 entry_faultless r n e h faults.OutOfMemory f = f
 
 -- the first fault, by the faults before it that are not there
@@ -385,7 +311,7 @@ module _ (r : List Field) where
   -- the kind is known
   module _ (k : Kind) (once : repeats_field r ≡ false) (kind : HasKind r k) where
     kind_clear : ClearTo 3
-    kind_clear = (((tt, λ f. both (repeats_field r) f once), λ f. not_none (body type_name r) kind.0 kind.1 f), no_unknown_type r k kind)
+    kind_clear = (((tt, λ f. cc (f, once)), λ f. cc (kind.1, f)), no_unknown_type r k kind)
 
     subtag_named_there : (s : List ℕ) → is_whole_kind k ≡ false → body subtag_name r ≡ Some s → ClearTo 4
     subtag_named_there s whole there = (kind_clear, no_missing_name r k s kind (ap (λ z. body z r) (field_of_subtag k whole) ∙ there))
@@ -438,14 +364,14 @@ one_text_tag s t u h g = one_tag t u h.tag g.tag (h.spelled ∙ sym g.spelled)
 
 one_name : (k : Kind) (s : List ℕ) (a b : EntryName) → IsName k s a → IsName k s b → a ≡ b
 one_name k s (names.Whole t) (names.Whole u) h g = ap names.Whole (one_text_tag s t u h.1 g.1)
-one_name k s (names.Whole t) _ h g = absurd (both (is_whole_kind k) h.0 g.0)
-one_name k s _ (names.Whole t) h g = absurd (both (is_whole_kind k) g.0 h.0)
+one_name k s (names.Whole t) _ h g = cc (h.0, g.0)
+one_name k s _ (names.Whole t) h g = cc (g.0, h.0)
 one_name k s a b h g = let e : Ok a ≡ Ok b = sym h.1 ∙ g.1 in cc
 
 one_value : (k : Kind) (s : List ℕ) (a b : EntryValue) → IsValue k s a → IsValue k s b → a ≡ b
-one_value k s (values.One m) (values.One n) h g = ap values.One (same_some (formed (has_value_form k) (subtag_of s)) m n h.1 g.1)
-one_value k s (values.One m) (values.Whole t) h g = absurd (both (is_whole_kind k) g.0 h.0)
-one_value k s (values.Whole t) (values.One n) h g = absurd (both (is_whole_kind k) h.0 g.0)
+one_value k s (values.One m) (values.One n) h g = let same : m ≡ n = cc (h.1, g.1) in ap values.One same
+one_value k s (values.One m) (values.Whole t) h g = cc (g.0, h.0)
+one_value k s (values.Whole t) (values.One n) h g = cc (h.0, g.0)
 one_value k s (values.Whole t) (values.Whole u) h g = ap values.Whole (one_text_tag s t u h.1 g.1)
 
 one_value_of : (k : Kind) (o : Option (List ℕ)) (a b : Option EntryValue) → IsValueOf k o a → IsValueOf k o b → a ≡ b
@@ -461,26 +387,23 @@ one_entry r n e f h g =
     let number : e.number ≡ f.number = h.numbered ∙ sym g.numbered in
     let kind : e.kind ≡ f.kind = one_kind r e.kind f.kind h.kind g.kind in
     let named : IsNameIn f.kind r e.name = subst (λ (z : Kind). IsNameIn z r e.name) kind h.named in
-    let text : named.0 ≡ g.named.0 = same_some (body (name_field f.kind) r) named.0 g.named.0 named.1 g.named.1 in
+    let text : named.0 ≡ g.named.0 = cc (named.1, g.named.1) in
     let name : e.name ≡ f.name = one_name f.kind g.named.0 e.name f.name (subst (λ z. IsName f.kind z e.name) text named.2) g.named.2 in
     let value : e.value ≡ f.value = one_value_of f.kind (body value_name r) e.value f.value (subst (λ (z : Kind). IsValueOf z (body value_name r) e.value) kind h.valued) g.valued in
-    let prefixes : e.prefixes ≡ f.prefixes = same_some (prefixes_in f.kind r) e.prefixes f.prefixes (ap (λ (z : Kind). prefixes_in z r) (sym kind) ∙ h.prefixed) g.prefixed in
+    let prefixes : e.prefixes ≡ f.prefixes = cc (ap (λ (z : Kind). prefixes_in z r) (sym kind) ∙ h.prefixed, g.prefixed) in
     λ i. record { number = number i; kind = kind i; name = name i; value = value i; prefixes = prefixes i }
 
 -- what the steps tell
 
-subtags_told : (r : List Field) (k : Kind) (s : List ℕ) (a : Result EntryName RecordFaultKind) → is_whole_kind k ≡ false → body (name_field k) r ≡ Some s → subtags_named k s ≡ a → IsSubtagsResult k a → IfOk a (IsNameIn k r) × IfErr a (IsNameFault k r)
+subtags_told : (r : List Field) (k : Kind) (s : List ℕ) (a : Result EntryName RecordFaultKind) → is_whole_kind k ≡ false → body (name_field k) r ≡ Some s → subtags_named k s ≡ a → IsSubtagsResult a → IfOk a (IsNameIn k r) × IfErr a (IsNameFault k r)
 subtags_told r k s (Ok (names.Whole t)) whole there e fits = absurd fits
 subtags_told r k s (Ok _) whole there e fits = ((s, there, (whole, e)), tt)
-subtags_told r k s (Err fault) whole there e (inl bad) =
+subtags_told r k s (Err fault) whole there e bad =
     let here : body subtag_name r ≡ Some s = ap (λ z. body z r) (sym (field_of_subtag k whole)) ∙ there in
-    (tt, subst (IsNameFault k r) (sym bad) (s, whole, here, e ∙ ap Err bad))
-subtags_told r k s (Err fault) whole there e (inr bad) =
-    let here : body subtag_name r ≡ Some s = ap (λ z. body z r) (sym (field_of_subtag k whole)) ∙ there in
-    (tt, subst (IsNameFault k r) (sym bad) (s, whole, here, e ∙ ap Err bad))
+    (tt, elim bad [ inl is ↦ subst (IsNameFault k r) (sym is) (s, whole, here, e ∙ ap Err is) | inr is ↦ subst (IsNameFault k r) (sym is) (s, whole, here, e ∙ ap Err is) ])
 
 pub name_told : (r : List Field) (k : Kind) (s : List ℕ) (a : Result EntryName RecordFaultKind) → is_whole_kind k ≡ false → body (name_field k) r ≡ Some s → a ≡ subtags_named k s → IfOk a (IsNameIn k r) × IfErr a (IsNameFault k r)
-name_told r k s a whole there e = subtags_told r k s a whole there (sym e) (subst (IsSubtagsResult k) (sym e) (subtags_fit k s))
+name_told r k s a whole there e = subtags_told r k s a whole there (sym e) (subst IsSubtagsResult (sym e) (name_fits k s (ends_of s)))
 
 pub text_told : (r : List Field) (k : Kind) (s : List ℕ) → body value_name r ≡ Some s → (fault : RecordFaultKind) → IsTextFault k s fault → IsValueFault k r fault
 text_told r k s there faults.BadPreferred f = (s, there, f)
@@ -489,46 +412,31 @@ text_told r k s there _ f = absurd f
 
 -- the entry has its forms
 
-prefixes_by : (k : Kind) (r : List Field) (ps : List (List (List ℕ))) (b : Bool) → has_prefixes k ≡ b → prefixes_in k r ≡ Some ps → AllByRecursion IsPrefix ps
-prefixes_by k r ps true e h = let told : prefixes_of (bodies prefix_name r) ≡ Some ps = rw e at h in prefixes_are (bodies prefix_name r) ps told
-prefixes_by k r ps false e h = let told : Some [] ≡ Some ps = rw e at h in let same : [] ≡ ps = cc in subst (AllByRecursion IsPrefix) same tt
-
 pub prefixes_fit : (k : Kind) (r : List Field) (ps : List (List (List ℕ))) → prefixes_in k r ≡ Some ps → AllByRecursion IsPrefix ps
-prefixes_fit k r ps h = prefixes_by k r ps (has_prefixes k) refl h
-
-none_listed : (ps : List (List (List ℕ))) → Some [] ≡ Some ps → ps ≡ []
-none_listed ps h = cc
+prefixes_fit kinds.Extlang r ps h = prefixes_are (bodies prefix_name r) ps h
+prefixes_fit kinds.Variant r ps h = prefixes_are (bodies prefix_name r) ps h
+prefixes_fit _ r ps h = let same : [] ≡ ps = cc in subst (AllByRecursion IsPrefix) same tt
 
 pub prefixes_where : (k : Kind) (r : List Field) (ps : List (List (List ℕ))) → prefixes_in k r ≡ Some ps → (ps ≡ []) ⊎ ((k ≡ kinds.Extlang) ⊎ (k ≡ kinds.Variant))
 prefixes_where kinds.Extlang r ps h = inr (inl refl)
 prefixes_where kinds.Variant r ps h = inr (inr refl)
-prefixes_where _ r ps h = inl (none_listed ps h)
+prefixes_where _ r ps h = inl (cc)
 
 -- The entries of records, and a registry that is read record by record.
 
 -- The entries of records, one record after another.
 
--- one record more at the end
+-- those of further records
 
-entries_more : (n : ℕ) (rs : List (List Field)) (r : List Field) (es : List EntryParts) (e : EntryParts) (m : ℕ) → m ≡ n + length rs → EntriesFrom n rs es → is_header_at m r ≡ false → IsEntryOf r m e → EntriesFrom n (rs ++ r ∷ []) (es ++ e ∷ [])
+entries_append : (n m : ℕ) (rs qs : List (List Field)) (es fs : List EntryParts) → m ≡ n + length rs → EntriesFrom n rs es → EntriesFrom m qs fs → EntriesFrom n (rs ++ qs) (es ++ fs)
 unfolding EntriesFrom
-entries_more n [] r es e m same h head is =
+entries_append n m [] qs es fs same h k =
     let here : m ≡ n = omega (arith, same) in
-    inr (subst (λ z. is_header_at z r ≡ false) here head, (e, [], ap (λ zs. zs ++ e ∷ []) h, subst (λ z. IsEntryOf r z e) here is, refl))
-entries_more n (q ∷ qs) r es e m same (inl h) head is = inl (h.0, entries_more (n + 1) qs r es e m (omega (arith, same)) h.1 head is)
-entries_more n (q ∷ qs) r es e m same (inr h) head is =
+    subst (λ z. EntriesFrom z qs (es ++ fs)) here (subst (λ zs. EntriesFrom m qs (zs ++ fs)) (sym h) k)
+entries_append n m (r ∷ rs) qs es fs same (inl h) k = inl (h.0, entries_append (n + 1) m rs qs es fs (omega (arith, same)) h.1 k)
+entries_append n m (r ∷ rs) qs es fs same (inr h) k =
     let x = h.1 in
-    inr (h.0, (x.0, x.1 ++ e ∷ [], ap (λ zs. zs ++ e ∷ []) x.2, x.3, entries_more (n + 1) qs r x.1 e m (omega (arith, same)) x.4 head is))
-
-entries_skip : (n : ℕ) (rs : List (List Field)) (r : List Field) (es : List EntryParts) (m : ℕ) → m ≡ n + length rs → EntriesFrom n rs es → is_header_at m r ≡ true → EntriesFrom n (rs ++ r ∷ []) es
-unfolding EntriesFrom
-entries_skip n [] r es m same h head =
-    let here : m ≡ n = omega (arith, same) in
-    inl (subst (λ z. is_header_at z r ≡ true) here head, h)
-entries_skip n (q ∷ qs) r es m same (inl h) head = inl (h.0, entries_skip (n + 1) qs r es m (omega (arith, same)) h.1 head)
-entries_skip n (q ∷ qs) r es m same (inr h) head =
-    let x = h.1 in
-    inr (h.0, (x.0, x.1, x.2, x.3, entries_skip (n + 1) qs r x.1 m (omega (arith, same)) x.4 head))
+    inr (h.0, (x.0, x.1 ++ fs, ap (λ zs. zs ++ fs) x.2, x.3, entries_append (n + 1) m rs qs x.1 fs (omega (arith, same)) x.4 k))
 
 -- the record at a place
 
@@ -567,57 +475,59 @@ next_clean records i r is clean none k m h = by (eqb m (i + 1)) refl
         let judged : is_header_at (i + 1) r ≡ false = ap (λ z. is_header_at (i + 1) z) (sym here) ∙ ap (λ z. is_header_at z h.here) (sym same) ∙ h.judged in
         absurd (none judged k (subst (λ z. HasRecordFault z k) here h.fault))
     by false e =
-        let other : m ≢ i + 1 = λ same. let t = eq-eqb m (i + 1) same in both (eqb m (i + 1)) t e in
+        let other : m ≢ i + 1 = λ same. cc (eq-eqb m (i + 1) same, e) in
         let past = clean k m h in
         omega (arith, past, other)
 
-pub made_skip : (records : List (List Field)) (i : ℕ) (r : List Field) (es : List EntryParts) → i < length records → r ≡ get_or records i r → is_header_at (i + 1) r ≡ true → Made records i es → Made records (i + 1) es
-made_skip records i r es l is head made =
+made_entries : (records : List (List Field)) (i : ℕ) (r : List Field) (es fs : List EntryParts) → i < length records → r ≡ get_or records i r → Made records i es → EntriesFrom (i + 1) (r ∷ []) fs → EntriesFrom 1 (take (i + 1) records) (es ++ fs)
+made_entries records i r es fs l is made h =
     let long = length-take-le i records (omega (arith, l)) in
-    record {
-      entries = subst (λ zs. EntriesFrom 1 zs es) (sym (take_turn records i r l is)) (entries_skip 1 (take i records) r es (i + 1) (omega (arith, long)) made.entries head);
-      below = below_more i (i + 1) (omega arith) es made.below;
+    subst (λ zs. EntriesFrom 1 zs (es ++ fs)) (sym (take_turn records i r l is)) (entries_append 1 (i + 1) (take i records) (r ∷ []) es fs (omega (arith, long)) made.entries h)
+
+-- the record at a place adds its entry, if it is no header
+pub made_next : (records : List (List Field)) (i : ℕ) (r : List Field) (old new : List EntryParts) → i < length records → r ≡ get_or records i r → IsAdded r (i + 1) old new → Made records i old → Made records (i + 1) new
+unfolding EntriesFrom
+made_next records i r old new l is (inl skipped) made =
+    subst (Made records (i + 1)) (sym skipped.1) (record {
+      entries = subst (EntriesFrom 1 (take (i + 1) records)) (append-nil old) (made_entries records i r old [] l is made (inl (skipped.0, refl)));
+      below = below_more i (i + 1) (omega arith) old made.below;
       rising = made.rising;
       forms = made.forms;
-      clean = next_clean records i r is made.clean (λ judged k f. both (is_header_at (i + 1) r) head judged);
-    }
+      clean = next_clean records i r is made.clean (λ judged k f. cc (skipped.0, judged));
+    })
+made_next records i r old new l is (inr added) made =
+    let put = added.1 in
+    let number = put.1.numbered in
+    subst (Made records (i + 1)) (sym put.3) (record {
+      entries = made_entries records i r old (put.0 ∷ []) l is made (inr (added.0, (put.0, [], refl, put.1, refl)));
+      below = all_more (λ (x : EntryParts). x.number ≤ i + 1) old put.0 (below_more i (i + 1) (omega arith) old made.below) (omega (arith, number));
+      rising = rising_with i old put.0 made.rising made.below (omega (arith, number));
+      forms = All-push IsEntry old put.0 made.forms put.2;
+      clean = next_clean records i r is made.clean (λ judged k f. entry_faultless r (i + 1) put.0 put.1 k f);
+    })
 
-pub made_more : (records : List (List Field)) (i : ℕ) (r : List Field) (es : List EntryParts) (e : EntryParts) → i < length records → r ≡ get_or records i r → is_header_at (i + 1) r ≡ false → IsEntryOf r (i + 1) e → IsEntry e → Made records i es → Made records (i + 1) (es ++ e ∷ [])
-made_more records i r es e l is head of fits made =
-    let long = length-take-le i records (omega (arith, l)) in
-    let number = of.numbered in
-    record {
-      entries = subst (λ zs. EntriesFrom 1 zs (es ++ e ∷ [])) (sym (take_turn records i r l is)) (entries_more 1 (take i records) r es e (i + 1) (omega (arith, long)) made.entries head of);
-      below = all_more (λ (x : EntryParts). x.number ≤ i + 1) es e (below_more i (i + 1) (omega arith) es made.below) (omega (arith, number));
-      rising = rising_with i es e made.rising made.below (omega (arith, number));
-      forms = All-push IsEntry es e made.forms fits;
-      clean = next_clean records i r is made.clean (λ judged k f. entry_faultless r (i + 1) e of k f);
-    }
+-- the record at a place gives no entry
+pub made_stops : (records : List (List Field)) (i : ℕ) (r : List Field) (es : List EntryParts) (fault : RecordFault) → i < length records → r ≡ get_or records i r → IsRefusedAt r (i + 1) fault → Made records i es → IsRecordRefusal records fault
+made_stops records i r es fault l is refused made = by refused.refused
+  where
+    there : records ≡ take i records ++ r ∷ drop (i + 1) records
+    there = whole_turn records i r l is
 
-pub made_all : (records : List (List Field)) (i : ℕ) (es : List EntryParts) → length records ≤ i → Made records i es → HasEntries records es × IsRegistry es
-made_all records i es l made = (subst (λ zs. EntriesFrom 1 zs es) (take_all i records l) made.entries, record { rising = made.rising; forms = made.forms })
+    number : fault.number ≡ length (take i records) + 1
+    number = omega (arith, refused.numbered, length-take-le i records (omega (arith, l)))
 
-pub made_refused : (records : List (List Field)) (i : ℕ) (r : List Field) (es : List EntryParts) (kind : RecordFaultKind) → i < length records → r ≡ get_or records i r → is_header_at (i + 1) r ≡ false → IsRefused r kind → Made records i es → IsRecordRefusal records (record { kind = kind; number = i + 1 })
-made_refused records i r es kind l is head (inl memory) made =
-    let long = length-take-le i records (omega (arith, l)) in
-    inl (
-      memory,
-      record {
-        before = take i records;
-        here = r;
-        after = drop (i + 1) records;
-        there = whole_turn records i r l is;
-        numbered = omega (arith, long);
-        judged = head;
-        clean = λ k m h. let past = made.clean k m h in omega (arith, past);
-      },
-    )
-made_refused records i r es kind l is head (inr first) made =
-    let long = length-take-le i records (omega (arith, l)) in
-    inr (record {
-      fault = record { before = take i records; here = r; after = drop (i + 1) records; there = whole_turn records i r l is; numbered = omega (arith, long); judged = head; fault = first.there };
-      lowest = λ k m h. let past = made.clean k m h in omega (arith, past);
-      earliest = λ k h. first.earliest k (subst (λ z. HasRecordFault z k) (same_record records i r k (i + 1) h refl is) h.fault);
+    judged : is_header_at fault.number r ≡ false
+    judged = subst (λ n. is_header_at n r ≡ false) (sym refused.numbered) refused.judged
+
+    low : (k : RecordFaultKind) (m : ℕ) → HasFaultAt records k m → fault.number ≤ m
+    low k m h = omega (arith, refused.numbered, made.clean k m h)
+
+    by : IsRefused r fault.kind → IsRecordRefusal records fault
+    by (inl memory) = inl (memory, record { before = take i records; here = r; after = drop (i + 1) records; there = there; numbered = number; judged = judged; clean = low })
+    by (inr first) = inr (record {
+      fault = record { before = take i records; here = r; after = drop (i + 1) records; there = there; numbered = number; judged = judged; fault = first.there };
+      lowest = low;
+      earliest = λ k h. first.earliest k (subst (λ z. HasRecordFault z k) (same_record records i r k fault.number h refused.numbered is) h.fault);
     })
 
 -- laws: records give one list of entries, or have one first fault, and not both
@@ -626,8 +536,8 @@ entries_same : (n : ℕ) (rs : List (List Field)) (es fs : List EntryParts) → 
 unfolding EntriesFrom
 entries_same n [] es fs h g = h ∙ sym g
 entries_same n (r ∷ rs) es fs (inl h) (inl g) = entries_same (n + 1) rs es fs h.1 g.1
-entries_same n (r ∷ rs) es fs (inl h) (inr g) = absurd (both (is_header_at n r) h.0 g.0)
-entries_same n (r ∷ rs) es fs (inr h) (inl g) = absurd (both (is_header_at n r) g.0 h.0)
+entries_same n (r ∷ rs) es fs (inl h) (inr g) = cc (h.0, g.0)
+entries_same n (r ∷ rs) es fs (inr h) (inl g) = cc (g.0, h.0)
 entries_same n (r ∷ rs) es fs (inr h) (inr g) =
     let x = h.1 in
     let y = g.1 in
@@ -638,26 +548,17 @@ entries_same n (r ∷ rs) es fs (inr h) (inr g) =
 pub one_list : (records : List (List Field)) (es fs : List EntryParts) → HasEntries records es → HasEntries records fs → es ≡ fs
 one_list records es fs h g = entries_same 1 records es fs h g
 
-faultless : (n : ℕ) (rs : List (List Field)) (es : List EntryParts) (before : List (List Field)) (here : List Field) (after : List (List Field)) (m : ℕ) (k : RecordFaultKind) → EntriesFrom n rs es → rs ≡ before ++ here ∷ after → m ≡ n + length before → is_header_at m here ≡ false → HasRecordFault here k → ⊥
+faultless : (n : ℕ) (before : List (List Field)) (here : List Field) (after : List (List Field)) (es : List EntryParts) (m : ℕ) (k : RecordFaultKind) → EntriesFrom n (before ++ here ∷ after) es → m ≡ n + length before → is_header_at m here ≡ false → HasRecordFault here k → ⊥
 unfolding EntriesFrom
-faultless n [] es [] here after m k h e same judged f = cc
-faultless n [] es (b ∷ before) here after m k h e same judged f = cc
-faultless n (r ∷ rs) es [] here after m k (inl h) e same judged f =
-    let at : r ≡ here = cc in
+faultless n [] here after es m k (inl h) same judged f =
     let number : m ≡ n = omega (arith, same) in
-    both (is_header_at n r) h.0 (ap (is_header_at n) at ∙ ap (λ z. is_header_at z here) (sym number) ∙ judged)
-faultless n (r ∷ rs) es [] here after m k (inr h) e same judged f =
-    let at : r ≡ here = cc in
-    entry_faultless r n h.1.0 h.1.3 k (subst (λ z. HasRecordFault z k) (sym at) f)
-faultless n (r ∷ rs) es (b ∷ before) here after m k (inl h) e same judged f =
-    let rest : rs ≡ before ++ here ∷ after = cc in
-    faultless (n + 1) rs es before here after m k h.1 rest (omega (arith, same)) judged f
-faultless n (r ∷ rs) es (b ∷ before) here after m k (inr h) e same judged f =
-    let rest : rs ≡ before ++ here ∷ after = cc in
-    faultless (n + 1) rs h.1.1 before here after m k h.1.4 rest (omega (arith, same)) judged f
+    cc (h.0, ap (λ z. is_header_at z here) (sym number) ∙ judged)
+faultless n [] here after es m k (inr h) same judged f = entry_faultless here n h.1.0 h.1.3 k f
+faultless n (b ∷ before) here after es m k (inl h) same judged f = faultless (n + 1) before here after es m k h.1 (omega (arith, same)) judged f
+faultless n (b ∷ before) here after es m k (inr h) same judged f = faultless (n + 1) before here after h.1.1 m k h.1.4 (omega (arith, same)) judged f
 
 pub entries_or_fault : (records : List (List Field)) (es : List EntryParts) (k : RecordFaultKind) (m : ℕ) → HasEntries records es → HasFaultAt records k m → ⊥
-entries_or_fault records es k m h f = faultless 1 records es f.before f.here f.after m k h f.there (omega (arith, f.numbered)) f.judged f.fault
+entries_or_fault records es k m h f = faultless 1 f.before f.here f.after es m k (subst (λ zs. EntriesFrom 1 zs es) f.there h) (omega (arith, f.numbered)) f.judged f.fault
 
 pub one_record_fault : (records : List (List Field)) (k l : RecordFaultKind) (m n : ℕ) → IsFirstRecordFault records k m → IsFirstRecordFault records l n → (k ≡ l) × (m ≡ n)
 one_record_fault records k l m n a b =
@@ -671,18 +572,6 @@ one_record_fault records k l m n a b =
 
 -- The draft of a registry, one record after another.
 
--- the record at a place adds its entry, if it is no header
-pub made_next : (records : List (List Field)) (i : ℕ) (r : List Field) (old new : List EntryParts) → i < length records → r ≡ get_or records i r → IsAdded r (i + 1) old new → Made records i old → Made records (i + 1) new
-made_next records i r old new l is (inl skipped) made = subst (Made records (i + 1)) (sym skipped.1) (made_skip records i r old l is skipped.0 made)
-made_next records i r old new l is (inr added) made =
-    let put = added.1 in
-    subst (Made records (i + 1)) (sym put.3) (made_more records i r old put.0 l is added.0 put.1 put.2 made)
-
--- the record at a place gives no entry
-pub made_stops : (records : List (List Field)) (i : ℕ) (r : List Field) (es : List EntryParts) (fault : RecordFault) → i < length records → r ≡ get_or records i r → IsRefusedAt r (i + 1) fault → Made records i es → IsRecordRefusal records fault
-made_stops records i r es fault l is refused made =
-    subst (λ n. IsRecordRefusal records (record { kind = fault.kind; number = n })) (sym refused.numbered) (made_refused records i r es fault.kind l is refused.judged refused.refused made)
-
 -- a record after others
 
 record_back : (before : List (List Field)) (here : List Field) (after rs : List (List Field)) (r : List Field) → rs ++ r ∷ [] ≡ before ++ here ∷ after → length before < length rs → (rest : List (List Field)) × (rs ≡ before ++ here ∷ rest)
@@ -693,17 +582,6 @@ record_back (b ∷ before) here after (x ∷ rs) r e l =
     let tail : rs ++ r ∷ [] ≡ before ++ here ∷ after = cc in
     let found = record_back before here after rs r tail (omega (arith, l)) in
     (found.0, ap (λ z. z ∷ rs) same ∙ ap (λ zs. b ∷ zs) found.1)
-
-fault_on : (rs : List (List Field)) (r : List Field) (k : RecordFaultKind) (m : ℕ) → HasFaultAt rs k m → HasFaultAt (rs ++ r ∷ []) k m
-fault_on rs r k m h = record {
-  before = h.before;
-  here = h.here;
-  after = h.after ++ r ∷ [];
-  there = ap (λ zs. zs ++ r ∷ []) h.there ∙ append_assoc h.before (h.here ∷ h.after) (r ∷ []);
-  numbered = h.numbered;
-  judged = h.judged;
-  fault = h.fault;
-}
 
 fault_back : (rs : List (List Field)) (r : List Field) (k : RecordFaultKind) (m : ℕ) → HasFaultAt (rs ++ r ∷ []) k m → m ≤ length rs → HasFaultAt rs k m
 fault_back rs r k m h l =
@@ -738,9 +616,11 @@ refusal_on rs r fault (inl memory) =
       },
     )
 refusal_on rs r fault (inr first) =
-    let low = fault_within rs fault.kind fault.number first.fault in
+    let at = first.fault in
+    let low = fault_within rs fault.kind fault.number at in
+    let there = ap (λ zs. zs ++ r ∷ []) at.there ∙ append_assoc at.before (at.here ∷ at.after) (r ∷ []) in
     inr (record {
-      fault = fault_on rs r fault.kind fault.number first.fault;
+      fault = record { before = at.before; here = at.here; after = at.after ++ r ∷ []; there = there; numbered = at.numbered; judged = at.judged; fault = at.fault };
       lowest = clean_on rs r fault.number (omega (arith, low)) first.lowest;
       earliest = λ k h. first.earliest k (fault_back rs r k fault.number h low);
     })
@@ -762,12 +642,6 @@ HasDrafted records es (Some fault) = IsRecordRefusal records fault
 pub record IsDraftOf (records : List (List Field)) (d : Draft) : Type 0 where
   pub numbered : d.number ≡ length records
   pub drafted : HasDrafted records d.entries.items d.fault
-
-pub draft_none : (d : Draft) → d.entries.items ≡ [] → d.number ≡ 0 → d.fault ≡ None → IsDraftOf [] d
-draft_none d entries number fault = record {
-  numbered = number;
-  drafted = subst (HasDrafted [] d.entries.items) (sym fault) (made_none [] d.entries.items entries);
-}
 
 drafted_more : (rs : List (List Field)) (r : List Field) (number : ℕ) (old new : List EntryParts) (had has : Option RecordFault) → number ≡ length rs + 1 → TakesFrom r number old new had has → HasDrafted rs old had → HasDrafted (rs ++ r ∷ []) new has
 drafted_more rs r number old new None None at takes made =
@@ -812,7 +686,7 @@ read_none remaining s device d fresh entries number fault = record {
   is_read = record { consumes = Consumes-nil _; calls = refl; each = omega arith; turns = omega arith; bounded = omega (arith, fresh.turns) };
   failures = refl;
   lent = fresh.lent;
-  draft = draft_none d entries number fault;
+  draft = record { numbered = number; drafted = subst (HasDrafted [] d.entries.items) (sym fault) (made_none [] d.entries.items entries) };
   stands = inl (fresh.status, lent_start fresh, omega arith, λ some. absurd (omega (arith, some, fresh.turns)));
 }
 
@@ -821,9 +695,6 @@ pub read_more : {R : Type 0} (remaining : R → Option (List ℕ)) (first old ne
     → Advances remaining old new now after (Ok true) → Takes (record_in new) d e → HasReadSoFar remaining first new before after e
 read_more {R} remaining first old new before now after d e so advances takes = by_stand so.stands
   where
-    works : (let r : Result Bool JarFaultKind = Ok true in r) ≢ Err jars.Read
-    works is = cc
-
     by_end : (lent : HasLent so.bytes so.records old) → so.reads ≤ length so.bytes → LastGave old now → (r : ReadsRecord remaining old new now after (Ok true)) → LendsEnded old new now after r.read r.reads ⊎ LendsLast remaining old new after r.read (record_in new ∷ [])
         → lent_by new ≡ lent_by old + 1 → Stands remaining after new (so.bytes ++ r.read) (so.reads + r.reads) (so.records ++ record_in new ∷ [])
     by_end lent gave last r (inl ended) count = inl (ended.status, lent_more lent ended count, omega (arith, gave, ended.gave_bytes, length-append so.bytes r.read), ended.last_gave last)
@@ -839,98 +710,57 @@ read_more {R} remaining first old new before now after d e so advances takes = b
           records = so.records ++ record_in new ∷ [];
           none = so.none;
           is_read = more_read remaining first old new before now after so.bytes r.read so.reads r.reads so.is_read r.is_read;
-          failures = r.works works ∙ so.failures;
+          failures = r.works (λ is. cc) ∙ so.failures;
           lent = omega (arith, count, so.lent, length-append so.records (record_in new ∷ []));
           draft = draft_more so.records (record_in new) d e takes so.draft;
           stands = by_end goes.1 goes.2 goes.3 r r.ends.1 count;
         }
     by_stand (inr ended) = absurd (let over = (advances.over ended.0).0 in cc)
 
--- what the whole text gives
-abbrev pub Whole : {R : Type 0} → (R → Option (List ℕ)) → JarSource → JarSource → (before after : Device R) → Draft → Type 0
-Whole remaining first new before after d =
-    (bytes : List ℕ) × (reads : ℕ) × (records : List (List Field)) × IsRead remaining first new before after bytes reads × IsReadWhole remaining before after bytes records × IsDraftOf records d
+-- what the draft answers
+abbrev pub answer_of : {A : Type 0} → Result A RecordFault → (A → List EntryParts) → Result (List EntryParts) RegistryFault
+answer_of (Ok entries) items = Ok (items entries)
+answer_of (Err fault) items = Err (registry_faults.Record fault)
 
--- the text has ended
-pub read_whole : {R : Type 0} (remaining : R → Option (List ℕ)) (first old new : JarSource) (before now after : Device R) (d : Draft) → HasReadSoFar remaining first old before now d
-    → Advances remaining old new now after (Ok false) → (last : JarSource) × Whole remaining first last before after d
-read_whole {R} remaining first old new before now after d so advances = by_stand so.stands
+-- the whole text was read
+whole_reads : {R : Type 0} (remaining : R → Option (List ℕ)) (first last : JarSource) (before after : Device R) (d : Draft) (bytes : List ℕ) (reads : ℕ) (records : List (List Field)) → first.turns ≡ 0 → IsRead remaining first last before after bytes reads
+    → IsReadWhole remaining before after bytes records → IsDraftOf records d → ReadsRegistry remaining before after (answer_of (finished d.entries d.fault) (λ v. v.items))
+whole_reads remaining first last before after d bytes reads records none is whole draft =
+    record {
+      bytes = bytes;
+      reads = reads;
+      consumes = is.consumes;
+      calls = is.calls;
+      bounded = omega (arith, is.turns, is.bounded, none);
+      each = is.each;
+      answers = by d.fault draft.drafted;
+      rises = λ more. absurd (omega (arith, more, whole.works));
+    }
   where
-    works : (let r : Result Bool JarFaultKind = Ok false in r) ≢ Err jars.Read
-    works is = cc
+    by : (o : Option RecordFault) → HasDrafted records d.entries.items o → AnswersAs remaining before after bytes reads (answer_of (finished d.entries o) (λ v. v.items))
+    by None made = (records, whole, subst (λ rs. EntriesFrom 1 rs d.entries.items) (take_all (length records) records (omega arith)) made.entries)
+    by (Some fault) refusal = (records, whole, refusal)
 
-    by_stand : Stands remaining now old so.bytes so.reads so.records → (last : JarSource) × Whole remaining first last before after d
+-- the text has ended, and the draft has no fault, or has one
+pub read_ended : {R : Type 0} (remaining : R → Option (List ℕ)) (first old new : JarSource) (before now after : Device R) (d : Draft) → HasReadSoFar remaining first old before now d
+    → Advances remaining old new now after (Ok false) → ReadsRegistry remaining before after (answer_of (finished d.entries d.fault) (λ v. v.items))
+read_ended {R} remaining first old new before now after d so advances = by_stand so.stands
+  where
+    by_stand : Stands remaining now old so.bytes so.reads so.records → ReadsRegistry remaining before after (answer_of (finished d.entries d.fault) (λ v. v.items))
     by_stand (inl goes) =
         let r = advances.reads goes.0 in
         let last = r.ends.1 in
         let all = lent_last goes.1 last in
         let records : so.records ++ [] ≡ so.records = append-nil so.records in
-        let has = subst (HasRecords (so.bytes ++ r.read)) records all.0 in (
-          new,
-          (
-            so.bytes ++ r.read,
-            so.reads + r.reads,
-            so.records,
-            more_read remaining first old new before now after so.bytes r.read so.reads r.reads so.is_read r.is_read,
-            record { has = has; within = lent_within has all.1; end = last.end; works = r.works works ∙ so.failures },
-            so.draft,
-          ),
-        )
+        let has = subst (HasRecords (so.bytes ++ r.read)) records all.0 in
+        whole_reads remaining first new before after d (so.bytes ++ r.read) (so.reads + r.reads) so.records so.none
+        (more_read remaining first old new before now after so.bytes r.read so.reads r.reads so.is_read r.is_read)
+        (record { has = has; within = lent_within has all.1; end = last.end; works = r.works (λ is. cc) ∙ so.failures })
+        so.draft
     by_stand (inr ended) =
         let same = (advances.over ended.0).2 in
-        subst (λ (z : Device R). (last : JarSource) × Whole remaining first last before z d) (sym same) (
-          old,
-          (
-            so.bytes,
-            so.reads,
-            so.records,
-            so.is_read,
-            record { has = ended.1; within = lent_within ended.1 ended.2; end = ended.3; works = so.failures },
-            so.draft,
-          ),
-        )
-
-whole_reads : {R : Type 0} (remaining : R → Option (List ℕ)) (first new : JarSource) (before after : Device R) (d : Draft) (result : Result (List EntryParts) RegistryFault) → first.turns ≡ 0 → (whole : Whole remaining first new before after d)
-    → AnswersAs remaining before after whole.0 whole.1 result → ReadsRegistry remaining before after result
-whole_reads remaining first new before after d result none whole answers = record {
-  bytes = whole.0;
-  reads = whole.1;
-  consumes = whole.3.consumes;
-  calls = whole.3.calls;
-  bounded = omega (arith, whole.3.turns, whole.3.bounded, none);
-  each = whole.3.each;
-  answers = answers;
-  rises = λ more. absurd (omega (arith, more, whole.4.works));
-}
-
-finished_ok : {A : Type 0} (entries given : A) (fault : Option RecordFault) → finished entries fault ≡ Ok given → (fault ≡ None) × (entries ≡ given)
-finished_ok entries given None e = (refl, cc)
-finished_ok entries given (Some fault) e = absurd cc
-
-finished_err : {A : Type 0} (entries : A) (fault : Option RecordFault) (given : RecordFault) → finished entries fault ≡ Err given → fault ≡ Some given
-finished_err entries None given e = absurd cc
-finished_err entries (Some fault) given e = cc
-
--- the text has ended, and the draft has no fault, or has one
-pub read_entries : {R : Type 0} (remaining : R → Option (List ℕ)) (first old new : JarSource) (before now after : Device R) (d : Draft) (given : _) → HasReadSoFar remaining first old before now d
-    → Advances remaining old new now after (Ok false) → finished d.entries d.fault ≡ Ok given → ReadsRegistry remaining before after (Ok given.items) × IsRegistry given.items
-read_entries remaining first old new before now after d given so advances is =
-    let at = read_whole remaining first old new before now after d so advances in
-    let whole = at.1 in
-    let fin = finished_ok d.entries given d.fault is in
-    let made = subst (HasDrafted whole.2 d.entries.items) fin.0 whole.5.drafted in
-    let all = made_all whole.2 (length whole.2) d.entries.items (omega arith) made in
-    let same = ap (λ v. v.items) fin.1 in (
-      whole_reads remaining first at.0 before after d (Ok given.items) so.none whole (whole.2, whole.4, subst (HasEntries whole.2) same all.0),
-      subst IsRegistry same all.1,
-    )
-
-pub read_fault : {R : Type 0} (remaining : R → Option (List ℕ)) (first old new : JarSource) (before now after : Device R) (d : Draft) (fault : RecordFault) → HasReadSoFar remaining first old before now d
-    → Advances remaining old new now after (Ok false) → finished d.entries d.fault ≡ Err fault → ReadsRegistry remaining before after (Err (registry_faults.Record fault))
-read_fault remaining first old new before now after d fault so advances is =
-    let at = read_whole remaining first old new before now after d so advances in
-    let whole = at.1 in
-    whole_reads remaining first at.0 before after d (Err (registry_faults.Record fault)) so.none whole (whole.2, whole.4, subst (HasDrafted whole.2 d.entries.items) (finished_err d.entries d.fault fault is) whole.5.drafted)
+        subst (λ (z : Device R). ReadsRegistry remaining before z (answer_of (finished d.entries d.fault) (λ v. v.items))) (sym same)
+        (whole_reads remaining first old before now d so.bytes so.reads so.records so.none so.is_read (record { has = ended.1; within = lent_within ended.1 ended.2; end = ended.3; works = so.failures }) so.draft)
 
 -- the reader answered a fault
 pub read_stops : {R : Type 0} (remaining : R → Option (List ℕ)) (first old new : JarSource) (before now after : Device R) (d : Draft) (fault : JarFault) → HasReadSoFar remaining first old before now d

@@ -1,18 +1,18 @@
 -- The numbers of subtags, the sorted rows of a table, and what a search in them finds.
 use Rattle.std.proofs.Common.{◌≡◌, ◌≢◌, ℕ, zero, suc, ◌+◌, ◌-◌, ◌*◌, ◌^◌, ◌<◌, ◌≤◌, Bool, true, false, ◌||◌, cond, eqb, ltb, leb, List, [], ◌∷◌, ◌++◌, length, length-append, map, replicate, get_or, true≢false, refl, sym, ap, ◌∙◌, arith, inl, inr, ◌&&◌, Result, Ok, Err, Option, Some, None, ◌⊎◌, subst, take, drop}
-use Rattle.std.specs.Prelude.{bytes_eq}
+use Rattle.std.specs.Prelude.{bytes_eq, filter}
 use Rattle.std.specs.Int.{to_be_bytes, from_be_bytes, w64}
 use Rattle.std.specs.List.{list_all, AllByRecursion, AllAdjacentBelow, IsDistinct, list_any, filter_map, All, AllPairs, Any, Contains, find, slice_get, dedup, dedup_from, HoldsAt, slice_range, cons_option}
 use Rattle.std.specs.List.Sorted.{IsPermutation, IsBinarySearchResult, IsSorted, IsStrictlySortedBy, IsNonDecreasingBy, IsPartitionPoint}
 use Rattle.std.specs.Ordering.{nat_cmp, eq_by_cmp, ordering_then, is_eq, ordering_reverse, ordering_index, is_lt, on}
-use Rattle.std.specs.Cmp.{nat_cmp_is, IsTotalOrder}
+use Rattle.std.specs.Cmp.{nat_cmp_is, IsTotalOrder, Equal-is}
 use Rattle.std.specs.declared.cmp.Ordering.TheVariants.{Less, Equal, Greater}
 use Rattle.std.specs.Char.{is_ascii_lowercase, is_ascii_digit}
-use Rattle.std.specs.Cmp.Lexicographic.{same_text, slice_cmp, pointwise, options_total}
-use Rattle.std.proofs.lemmas.Bool.{and_parts, cases_Bool, cases_eq, cases_lt, eqb-true, ltb-true, eq-eqb, ne_eqb, lt-ltb, le-ltb, le-leb, lt-leb, ltb-false, false_from_ne_true, leb-true, leb-false}
+use Rattle.std.specs.Cmp.Lexicographic.{slice_cmp, pointwise, options_total}
+use Rattle.std.proofs.lemmas.Bool.{and_parts, cases_Bool, cases_eq, cases_lt, eqb-true, ltb-true, eq-eqb, ne_eqb, lt-ltb, le-ltb, le-leb, lt-leb, false_from_ne_true, leb-true, leb-false}
 use Rattle.std.proofs.Math.Bool.{and-true, and-false}
 use Rattle.std.proofs.lemmas.Bool.Decides.{nat_tests}
-use Rattle.std.proofs.lemmas.Cmp.{nat_list_eq_equiv, nat_cmp_total, eq_by_cmp_equiv, then_total, on_total, tied_back, tied_itself}
+use Rattle.std.proofs.lemmas.Cmp.{nat_cmp_total, eq_by_cmp_equiv, then_total, on_total, tied_back, tied_itself}
 use Rattle.std.proofs.lemmas.List.{length-replicate, get_or_append_left, get_or-append_right, get_or-drop, get_or-replicate, get_or-take, get_or_push, length-append, length-drop, length-take, length_push, take-append-drop, take_all, append-nil, append_assoc, drop_all, get_or_default, take_rest}
 use Rattle.std.proofs.lemmas.List.Sorted.{IsPermutation-sym, searched, sorted_far, list_any-IsPermutation, ranks_by, searchable_from_sorted, Contains-permutation, All-permutation}
 use Rattle.std.proofs.lemmas.Map.Keys.{IsDistinct-IsPermutation, IsDistinct-from_sorted, sorted_from_all_adjacent, ge_from_not_lt}
@@ -32,16 +32,17 @@ use Rattle.lt_subtag.specs.Shapes.{is_variant, is_alphabetic}
 use Rattle.lt_subtag.proofs.BytesLemmas.{subtag_length}
 use Rattle.lt_tag.proofs.Apart.{extlang_is, script_is, region_is}
 use Rattle.lt_tag.proofs.ShapeLemmas.{all_weaker, language_long}
-use Rattle.lt_tag.specs.Parts.{CoreParts, ExtensionParts, TagForm, LangTag, PrivateUse, Grandfathered}
-use Rattle.lt_tag.specs.OrderLaws.{tag_total}
-use Rattle.lt_tag.specs.Order.{subtag_cmp, list_cmp, core_cmp, extension_cmp, tag_cmp}
+use Rattle.lt_tag.specs.Parts.{ExtensionParts, TagForm, LangTag, PrivateUse, Grandfathered}
+use Rattle.lt_tag.specs.OrderLaws.{tag_total, tags_apart}
+use Rattle.std.proofs.lemmas.Slice.Eq.{bytes_eq-Decides}
+use Rattle.lt_tag.specs.Order.{subtag_cmp, list_cmp, extension_cmp, tag_cmp}
 use Rattle.lt_tag.proofs.TagLemmas.{AllByRecursion-weaker}
 use Rattle.lt_registry.specs.Entries.{has_form, letters_le, IsPrefix, has_prefix, is_whole_kind, FitsName, IsEntry, is_named, holds, is_whole, entry, whole}
 use Rattle.lt_registry.specs.Validity.{Distinct}
 use Rattle.lt_registry.specs.Sorted.{filled, number, rank, IsRowAt, AreRows, IsIndex, single_number, single_row, place_of, tag_in, tag_at, language_number, whole_row, whole_key, key_cmp, IsSingles, IsWholes, index_of, RowsRise, beginning, IsInSpan, AreStarts, is_within, first_within, place_in, StartsRise, AreStretches, AreMerged, starts_first, ends, range_row, range_rows}
 use Rattle.lt_registry.specs.declared.entries.Kind.{Kind}
 use Rattle.lt_registry.specs.Prefixes.{single_of, AreSingles}
-use Rattle.lt_registry.specs.Same.{same_list, same_core, same_extension, same_tag, same_kind}
+use Rattle.lt_registry.specs.Same.{same_list, same_extension, same_tag, same_kind}
 use Rattle.lt_registry.specs.Parts.{EntryParts}
 use Rattle.lt_registry.specs.declared.entries.EntryName.{EntryName}
 use Rattle.lt_registry.specs.declared.rows.Row.{Row}
@@ -65,14 +66,8 @@ pub subtag_few : (s : List ℕ) → is_subtag s ≡ true → IsFew s
 unfolding is_subtag
 subtag_few s h = record { bytes = (and_parts (list_all is_subtag_byte s) _ h).0; few = (subtag_length s h).1 }
 
-letter_is : (b : ℕ) → is_ascii_lowercase b ≡ true → is_subtag_byte b ≡ true
-letter_is b h = rw h refl
-
-digit_is : (b : ℕ) → is_ascii_digit b ≡ true → is_subtag_byte b ≡ true
-digit_is b h = elim (is_ascii_lowercase b) as (λ x. (x || is_ascii_digit b) ≡ true) [ true ↦ refl | false ↦ h ]
-
 letters_few : (s : List ℕ) → list_all is_ascii_lowercase s ≡ true → length s ≤ 8 → IsFew s
-letters_few s h l = record { bytes = all_weaker is_ascii_lowercase is_subtag_byte letter_is s h; few = l }
+letters_few s h l = record { bytes = all_weaker is_ascii_lowercase is_subtag_byte (λ b k. rw k refl) s h; few = l }
 
 -- what has the form of a kind is one
 pub form_few : (kind : Kind) (s : List ℕ) → has_form kind s ≡ true → IsFew s
@@ -83,7 +78,7 @@ form_few kinds.Script s h = let x = script_is s h in letters_few s x.0 (omega (a
 form_few kinds.Region s h =
     elim (region_is s h) [
       | inl x ↦ letters_few s x.0 (omega (arith, x.1))
-      | inr x ↦ record { bytes = all_weaker is_ascii_digit is_subtag_byte digit_is s x.0; few = omega (arith, x.1) }
+      | inr x ↦ record { bytes = all_weaker is_ascii_digit is_subtag_byte (λ b k. grind (arith, nat_tests)) s x.0; few = omega (arith, x.1) }
     ]
 form_few kinds.Variant s h = subtag_few s (and_parts (is_subtag s) _ h).0
 form_few _ s h = cc
@@ -94,12 +89,9 @@ byte_bounds b h = (grind (arith, nat_tests), grind (arith, nat_tests))
 abbrev AreBytes : List ℕ → Type 0
 AreBytes bs = AllByRecursion (λ (b : ℕ). b < 256) bs
 
-zero_bytes : (n : ℕ) → AreBytes (replicate n 0)
-zero_bytes zero = tt
-zero_bytes (suc n) = (omega arith, zero_bytes n)
-
 filled_bytes : (s : List ℕ) (n : ℕ) → list_all is_subtag_byte s ≡ true → AreBytes (s ++ replicate n 0)
-filled_bytes [] n h = zero_bytes n
+filled_bytes [] zero h = tt
+filled_bytes [] (suc n) h = (omega arith, filled_bytes [] n h)
 filled_bytes (b ∷ s) n h = let both = and_parts (is_subtag_byte b) (list_all is_subtag_byte s) h in ((byte_bounds b both.0).1, filled_bytes s n both.1)
 
 byte_below : (bs : List ℕ) (i : ℕ) → AreBytes bs → get_or bs i 0 < 256
@@ -107,61 +99,44 @@ byte_below [] i h = omega arith
 byte_below (b ∷ bs) zero h = h.0
 byte_below (b ∷ bs) (suc i) h = byte_below bs i h.1
 
--- no byte is zero, so the zeros begin where the bytes end
-none_more : (c : ℕ) (t : List ℕ) (m n : ℕ) → is_subtag_byte c ≡ true → replicate m 0 ≡ c ∷ (t ++ replicate n 0) → ⊥
-none_more c t zero n h e = cc
-none_more c t (suc m) n h e = let same : 0 ≡ c = cc in omega (arith, (byte_bounds c h).0)
+small : (s : List ℕ) → IsFew s → (i : ℕ) → get_or (filled s) i 0 < 256
+small s h i = byte_below (filled s) i (filled_bytes s (8 - length s) h.bytes)
 
-same_filled : (s t : List ℕ) (m n : ℕ) → list_all is_subtag_byte s ≡ true → list_all is_subtag_byte t ≡ true → s ++ replicate m 0 ≡ t ++ replicate n 0 → s ≡ t
-same_filled [] [] m n h k e = refl
-same_filled [] (c ∷ t) m n h k e = absurd (none_more c t m n (and_parts (is_subtag_byte c) (list_all is_subtag_byte t) k).0 e)
-same_filled (b ∷ s) [] m n h k e = absurd (none_more b s n m (and_parts (is_subtag_byte b) (list_all is_subtag_byte s) h).0 (sym e))
-same_filled (b ∷ s) (c ∷ t) m n h k e =
-    let first : b ≡ c = cc in
-    let rest : s ++ replicate m 0 ≡ t ++ replicate n 0 = cc in
-    let others : s ≡ t = same_filled s t m n (and_parts (is_subtag_byte b) (list_all is_subtag_byte s) h).1 (and_parts (is_subtag_byte c) (list_all is_subtag_byte t) k).1 rest in
-    cc
+-- no byte is zero, so the bytes are what is not
+unfilled : (s : List ℕ) (n : ℕ) → list_all is_subtag_byte s ≡ true → filter (ltb 0) (s ++ replicate n 0) ≡ s
+unfilled [] zero h = refl
+unfilled [] (suc n) h = unfilled [] n h
+unfilled (b ∷ s) n h =
+    let both = and_parts (is_subtag_byte b) (list_all is_subtag_byte s) h in
+    ap (λ t. cond t (b ∷ filter (ltb 0) (s ++ replicate n 0)) (filter (ltb 0) (s ++ replicate n 0))) (lt-ltb 0 b (byte_bounds b both.0).0) ∙ ap (λ bs. b ∷ bs) (unfilled s n both.1)
 
 filled_length : (s : List ℕ) → length s ≤ 8 → length (filled s) ≡ 8
 filled_length s l = length-append s (replicate (8 - length s) 0) ∙ omega (arith, length-replicate {A = ℕ} (8 - length s) 0)
 
-pub same_number : (s t : List ℕ) → IsFew s → IsFew t → number s ≡ number t → s ≡ t
+bytes_of : (s : List ℕ) → IsFew s → to_be_bytes w64 (number s) ≡ filled s
 unfolding number
+bytes_of s h = be_bytes_8 (filled s) (number s) (filled_length s h.few) (small s h) refl
+
+pub same_number : (s t : List ℕ) → IsFew s → IsFew t → number s ≡ number t → s ≡ t
 same_number s t h k e =
-    same_filled s t (8 - length s) (8 - length t) h.bytes k.bytes
-    (sym (be_bytes_8 (filled s) (number s) (filled_length s h.few) (λ i. byte_below (filled s) i (filled_bytes s (8 - length s) h.bytes)) refl)
-    ∙ ap (to_be_bytes w64) e
-    ∙ be_bytes_8 (filled t) (number t) (filled_length t k.few) (λ i. byte_below (filled t) i (filled_bytes t (8 - length t) k.bytes)) refl)
+    sym (unfilled s (8 - length s) h.bytes) ∙ ap (filter (ltb 0)) (sym (bytes_of s h) ∙ ap (to_be_bytes w64) e ∙ bytes_of t k) ∙ unfilled t (8 - length t) k.bytes
+
+same_test : (b c : Bool) → (b ≡ true → c ≡ true) → (c ≡ true → b ≡ true) → b ≡ c
+same_test true c f g = sym (f refl)
+same_test false true f g = g refl
+same_test false false f g = refl
 
 -- so their numbers are equal where they are
 pub numbers_equal : (s t : List ℕ) → IsFew s → IsFew t → eqb (number s) (number t) ≡ bytes_eq s t
 numbers_equal s t h k =
-    elim (cases_Bool (bytes_eq s t)) [
-      | inl same ↦ rw (same_text s t (sym same)) (eqb_itself (number t) ∙ sym (nat_list_eq_equiv.refl t))
-      | inr other ↦ elim (cases_Bool (eqb (number s) (number t))) [
-        | inl e ↦
-            let are : s ≡ t = same_number s t h k (eqb-true (number s) (number t) e) in
-            e ∙ sym (ap (bytes_eq s) (sym are) ∙ nat_list_eq_equiv.refl s)
-        | inr e ↦ e ∙ sym other
-      ]
-    ]
-  where
-    eqb_itself : (n : ℕ) → eqb n n ≡ true
-    eqb_itself n = grind (arith, nat_tests)
+    let told = bytes_eq-Decides s t in
+    same_test (eqb (number s) (number t)) (bytes_eq s t) (λ e. told.1 (same_number s t h k (eqb-true (number s) (number t) e))) (λ e. eq-eqb (number s) (number t) (ap number (told.0 e)))
 
 -- each byte, and zeros after the last
 pub filled_by_index : (s : List ℕ) → length s ≤ 8
     → filled s ≡ get_or s 0 0 ∷ get_or s 1 0 ∷ get_or s 2 0 ∷ get_or s 3 0 ∷ get_or s 4 0 ∷ get_or s 5 0 ∷ get_or s 6 0 ∷ get_or s 7 0 ∷ []
-filled_by_index [] l = refl
-filled_by_index (a ∷ []) l = refl
-filled_by_index (a ∷ b ∷ []) l = refl
-filled_by_index (a ∷ b ∷ c ∷ []) l = refl
-filled_by_index (a ∷ b ∷ c ∷ d ∷ []) l = refl
-filled_by_index (a ∷ b ∷ c ∷ d ∷ e ∷ []) l = refl
-filled_by_index (a ∷ b ∷ c ∷ d ∷ e ∷ f ∷ []) l = refl
-filled_by_index (a ∷ b ∷ c ∷ d ∷ e ∷ f ∷ g ∷ []) l = refl
-filled_by_index (a ∷ b ∷ c ∷ d ∷ e ∷ f ∷ g ∷ h ∷ []) l = refl
 filled_by_index (a ∷ b ∷ c ∷ d ∷ e ∷ f ∷ g ∷ h ∷ i ∷ s) l = absurd (omega (arith, l))
+filled_by_index _ l = refl
 
 -- numbers of subtags of one length are in their order
 
@@ -171,14 +146,11 @@ through v (b ∷ bs) = through (v * 256 + b) bs
 
 through_below : (u v : ℕ) (s t : List ℕ) → u < v → length s ≡ length t → AreBytes s → through u s < through v t
 through_below u v [] [] low one are = low
-through_below u v [] (y ∷ t) low one are = absurd (omega (arith, one))
-through_below u v (x ∷ s) [] low one are = absurd (omega (arith, one))
 through_below u v (x ∷ s) (y ∷ t) low one are = through_below (u * 256 + x) (v * 256 + y) s t (omega (arith, low, are.0)) (omega (arith, one)) are.1
+through_below u v _ _ low one are = absurd (omega (arith, one))
 
 through_ordered : (u : ℕ) (s t : List ℕ) → length s ≡ length t → AreBytes s → AreBytes t → letters_le s t ≡ leb (through u s) (through u t)
 through_ordered u [] [] one are too = sym (le-leb u u (omega arith))
-through_ordered u [] (y ∷ t) one are too = absurd (omega (arith, one))
-through_ordered u (x ∷ s) [] one are too = absurd (omega (arith, one))
 through_ordered u (x ∷ s) (y ∷ t) one are too =
     let rest : length s ≡ length t = omega (arith, one) in
     elim (cases_eq x y) [
@@ -196,30 +168,21 @@ through_ordered u (x ∷ s) (y ∷ t) one are too =
                 le-ltb x y high ∙ sym (lt-leb (through (u * 256 + x) s) (through (u * 256 + y) t) (through_below (u * 256 + y) (u * 256 + x) t s (omega (arith, above)) (sym rest) too.1))
           ]
     ]
+through_ordered u _ _ one are too = absurd (omega (arith, one))
 
 letters_filled : (s t : List ℕ) (n : ℕ) → length s ≡ length t → letters_le (s ++ replicate n 0) (t ++ replicate n 0) ≡ letters_le s t
-letters_filled [] [] n one = zeros n
-  where
-    zeros : (k : ℕ) → letters_le (replicate k 0) (replicate k 0) ≡ true
-    zeros zero = refl
-    zeros (suc k) = zeros k
-letters_filled [] (y ∷ t) n one = absurd (omega (arith, one))
-letters_filled (x ∷ s) [] n one = absurd (omega (arith, one))
+letters_filled [] [] zero one = refl
+letters_filled [] [] (suc n) one = letters_filled [] [] n one
 letters_filled (x ∷ s) (y ∷ t) n one = ap (λ b. cond (eqb x y) b (ltb x y)) (letters_filled s t n (omega (arith, one)))
-
-spread : (a b c d e f g h : ℕ) → from_be_bytes w64 (a ∷ b ∷ c ∷ d ∷ e ∷ f ∷ g ∷ h ∷ []) ≡ through 0 (a ∷ b ∷ c ∷ d ∷ e ∷ f ∷ g ∷ h ∷ [])
-spread a b c d e f g h = omega arith
+letters_filled _ _ n one = absurd (omega (arith, one))
 
 -- the number of a subtag, by its bytes
 number_through : (s : List ℕ) → length s ≤ 8 → from_be_bytes w64 (filled s) ≡ through 0 (filled s)
-number_through s l = rw (filled_by_index s l) (spread (get_or s 0 0) (get_or s 1 0) (get_or s 2 0) (get_or s 3 0) (get_or s 4 0) (get_or s 5 0) (get_or s 6 0) (get_or s 7 0))
-
-below_all : (bs : List ℕ) → ((i : ℕ) → get_or bs i 0 < 256) → from_be_bytes w64 bs < 2 ^ 64
-below_all bs small = omega (arith, small 0, small 1, small 2, small 3, small 4, small 5, small 6, small 7)
+number_through s l = rw (filled_by_index s l) (omega arith)
 
 pub number_below : (s : List ℕ) → IsFew s → number s < 2 ^ 64
 unfolding number
-number_below s h = below_all (filled s) (λ i. byte_below (filled s) i (filled_bytes s (8 - length s) h.bytes))
+number_below s h = let at = small s h in omega (arith, at 0, at 1, at 2, at 3, at 4, at 5, at 6, at 7)
 
 pub numbers_ordered : (s t : List ℕ) → IsFew s → IsFew t → length s ≡ length t → letters_le s t ≡ leb (number s) (number t)
 unfolding number
@@ -303,12 +266,7 @@ lists_found ps ns l r s h k b =
 
 -- The sorted rows of a table, and what a search in them finds.
 
--- The order of tags is total, and tags are equal by it where they are the same.
-
--- total
-
-pub optional_tag_total : IsTotalOrder (option_cmp tag_cmp)
-optional_tag_total = options_total tag_total
+-- Tags are equal by their order where they are the same.
 
 -- equal where the same
 
@@ -321,9 +279,8 @@ nats_equal m n = grind (arith, nat_tests)
 
 lists_equal : {A : Type 0} (R : A → A → Ordering) (E : A → A → Bool) → ((x y : A) → is_eq (R x y) ≡ E x y) → (xs ys : List A) → is_eq (slice_cmp R xs ys) ≡ pointwise E xs ys
 lists_equal R E same (x ∷ xs) (y ∷ ys) = then_equal (R x y) (slice_cmp R xs ys) ∙ rw (same x y, lists_equal R E same xs ys) refl
-lists_equal R E same (x ∷ xs) [] = refl
 lists_equal R E same [] [] = refl
-lists_equal R E same [] (y ∷ ys) = refl
+lists_equal R E same _ _ = refl
 
 subtags_equal : (a b : List ℕ) → is_eq (subtag_cmp a b) ≡ bytes_eq a b
 subtags_equal = lists_equal nat_cmp eqb nats_equal
@@ -334,23 +291,14 @@ many_equal = lists_equal subtag_cmp bytes_eq subtags_equal
 options_equal : (a b : Option (List ℕ)) → is_eq (option_cmp subtag_cmp a b) ≡ option_eq bytes_eq a b
 options_equal (Some a) (Some b) = subtags_equal a b
 options_equal None None = refl
-options_equal (Some a) None = refl
-options_equal None (Some b) = refl
-
-then_last : (a : Ordering) → is_eq (ordering_then a Equal) ≡ is_eq a
-then_last a = then_equal a Equal ∙ and-true (is_eq a)
-
-cores_equal : (c d : CoreParts) → is_eq (core_cmp c d) ≡ same_core c d
-cores_equal c d = simp (then_equal, subtags_equal, many_equal, options_equal)
+options_equal _ _ = refl
 
 extensions_equal : (a b : ExtensionParts) → is_eq (extension_cmp a b) ≡ same_extension a b
 extensions_equal a b = then_equal (nat_cmp a.singleton b.singleton) (list_cmp a.subtags b.subtags) ∙ rw (nats_equal a.singleton b.singleton, many_equal a.subtags b.subtags) refl
 
 pub tags_equal : (t u : TagForm) → is_eq (tag_cmp t u) ≡ same_tag t u
-tags_equal (LangTag c es ps) (LangTag d fs qs) =
-    then_equal (core_cmp c d) (ordering_then (slice_cmp extension_cmp es fs) (ordering_then (list_cmp ps qs) Equal))
-    ∙ rw (cores_equal c d, then_equal (slice_cmp extension_cmp es fs) (ordering_then (list_cmp ps qs) Equal), lists_equal extension_cmp same_extension extensions_equal es fs, then_last (list_cmp ps qs), many_equal ps qs) refl
-tags_equal (PrivateUse ps) (PrivateUse qs) = then_last (list_cmp ps qs) ∙ many_equal ps qs
+tags_equal (LangTag c es ps) (LangTag d fs qs) = simp (then_equal, and-true, subtags_equal, options_equal, many_equal, lists_equal extension_cmp same_extension extensions_equal)
+tags_equal (PrivateUse ps) (PrivateUse qs) = simp (then_equal, and-true, many_equal)
 tags_equal (PrivateUse ps) (Grandfathered n) = then_equal (list_cmp ps []) Less ∙ and-false (is_eq (list_cmp ps []))
 tags_equal (Grandfathered m) (PrivateUse qs) = then_equal (list_cmp [] qs) Greater ∙ and-false (is_eq (list_cmp [] qs))
 tags_equal (Grandfathered m) (Grandfathered n) = nats_equal m n
@@ -360,10 +308,6 @@ tags_equal _ _ = refl
 
 -- membership by recursion
 
-abbrev In : {X : Type 0} → X → List X → Type 0
-In y [] = ⊥
-In y (x ∷ xs) = (x ≡ y) ⊎ In y xs
-
 abbrev Has : {X : Type 0} → (X → Type 0) → List X → Type 0
 Has P [] = ⊥
 Has P (x ∷ xs) = P x ⊎ Has P xs
@@ -372,11 +316,6 @@ has_more : {X : Type 0} (P Q : X → Type 0) → ((x : X) → P x → Q x) → (
 has_more P Q f [] h = absurd h
 has_more P Q f (x ∷ xs) (inl p) = inl (f x p)
 has_more P Q f (x ∷ xs) (inr h) = inr (has_more P Q f xs h)
-
-in_from : {X : Type 0} (xs : List X) (y : X) (k : ℕ) → k < length xs → get_or xs k y ≡ y → In y xs
-in_from [] y k l e = absurd (omega arith)
-in_from (x ∷ xs) y zero l e = inl e
-in_from (x ∷ xs) y (suc k) l e = inr (in_from xs y k (omega arith) e)
 
 any_from : {X : Type 0} (P : X → Type 0) (xs : List X) → Has P xs → Any P xs
 any_from P [] h = absurd h
@@ -411,15 +350,7 @@ find_first P (x ∷ xs) zero e h t n = let same : x ≡ e = cc in rw (ap P same 
 find_first P (x ∷ xs) (suc p) e h t n = rw (n 0 x (omega arith) refl) (find_first P xs p e h t (λ j f l k. n (suc j) f (omega arith) k))
 
 not_below : (m n : ℕ) → is_lt (nat_cmp m n) ≡ false → n ≤ m
-not_below m n h =
-    elim (cases_Bool (ltb m n)) [
-      | inl e ↦ let bad : true ≡ false = rw e at h in cc
-      | inr e ↦ ltb-false m n e
-    ]
-
-pub equal_if : (o : Ordering) → is_eq o ≡ true → o ≡ Equal
-equal_if Equal h = refl
-equal_if _ h = cc
+not_below m n h = grind (arith, nat_tests)
 
 front_upto : (a b : Ordering) → is_lt (ordering_then a b) ≡ false → is_lt a ≡ false
 front_upto Less b h = h
@@ -475,7 +406,7 @@ module _ {W K : Type 0} {cmp : K → K → Ordering} (total : IsTotalOrder cmp) 
 
   near_next : (k x : W) → same_key x k ≡ true → Precedes k x → (v : W) → Near k v → Near x v
   near_next k x e pre v n =
-      let back : cmp (key k) (key x) ≡ Equal = tied_back total (key x) (key k) (equal_if (cmp (key x) (key k)) e) in
+      let back : cmp (key k) (key x) ≡ Equal = tied_back total (key x) (key k) ((Equal-is (cmp (key x) (key k))).0 e) in
       let low : place k ≤ place x = upto pre back in
       (total.congr (key v) (key k) (key x) n.0 ∙ back, omega (arith, n.1))
     where
@@ -483,25 +414,25 @@ module _ {W K : Type 0} {cmp : K → K → Ordering} (total : IsTotalOrder cmp) 
       upto (inl less) back = let bad : Less ≡ Equal = sym less ∙ back in cc
       upto (inr p) back = p.1
 
-  keep_step : (k x : W) (xs : List W) (y : W) (b : Bool) → same_key x k ≡ b → Precedes k x
-      → ((z : W) → In z (k ∷ xs) → Has (Near z) (dedup_from same_key k xs)) → ((z : W) → In z (x ∷ xs) → Has (Near z) (dedup_from same_key x xs))
-      → In y (k ∷ x ∷ xs) → Has (Near y) (cond b (dedup_from same_key k xs) (k ∷ dedup_from same_key x xs))
-  keep_step k x xs y true e pre keep next (inl is) = keep y (inl is)
-  keep_step k x xs y true e pre keep next (inr (inl is)) =
-      subst (λ z. Has (Near z) (dedup_from same_key k xs)) is (has_more (Near k) (Near x) (near_next k x e pre) (dedup_from same_key k xs) (keep k (inl refl)))
-  keep_step k x xs y true e pre keep next (inr (inr there)) = keep y (inr there)
-  keep_step k x xs y false e pre keep next (inl is) = inl (near_itself k y is)
-  keep_step k x xs y false e pre keep next (inr there) = inr (next y there)
-
-  kept_from : (k : W) (xs : List W) → AllByRecursion (Precedes k) xs → Ascends xs → (y : W) → In y (k ∷ xs) → Has (Near y) (dedup_from same_key k xs)
-  kept_from k [] before up y (inl is) = inl (near_itself k y is)
-  kept_from k [] before up y (inr bad) = absurd bad
-  kept_from k (x ∷ xs) before up y there =
-      keep_step k x xs y (same_key x k) refl before.0 (kept_from k xs before.1 up.1) (kept_from x xs up.0 up.1) there
+  keeps : (k : W) (xs : List W) → AllByRecursion (Precedes k) xs → Ascends xs → AllByRecursion (λ y. Has (Near y) (dedup_from same_key k xs)) (k ∷ xs)
+  keeps k [] before up = (inl (near_itself k k refl), tt)
+  keeps k (x ∷ xs) before up =
+      let near = keeps k xs before.1 up.1 in
+      let next = keeps x xs up.0 up.1 in
+      elim (cases_Bool (same_key x k)) [
+        | inl e ↦
+            let same : dedup_from same_key k xs ≡ dedup_from same_key k (x ∷ xs) = rw e refl in
+            subst (λ ds. AllByRecursion (λ y. Has (Near y) ds) (k ∷ x ∷ xs)) same (near.0, (has_more (Near k) (Near x) (near_next k x e before.0) (dedup_from same_key k xs) near.0, near.1))
+        | inr e ↦
+            let same : k ∷ dedup_from same_key x xs ≡ dedup_from same_key k (x ∷ xs) = rw e refl in
+            subst (λ ds. AllByRecursion (λ y. Has (Near y) ds) (k ∷ x ∷ xs)) same
+            (inl (near_itself k k refl), AllByRecursion-weaker (λ y. Has (Near y) (dedup_from same_key x xs)) (λ y. Near y k ⊎ Has (Near y) (dedup_from same_key x xs)) (λ y h. inr h) (x ∷ xs) next)
+      ]
 
   kept : (xs : List W) → Ascends xs → (y : W) → Contains xs y → Has (Near y) (dedup same_key xs)
   kept [] up y c = absurd (omega (arith, c.1))
-  kept (x ∷ xs) up y c = kept_from x xs up.0 up.1 y (in_from (x ∷ xs) y c.0 c.1 c.2)
+  kept (x ∷ xs) up y c =
+      subst (λ z. Has (Near z) (dedup_from same_key x xs)) c.2 (All-from_recursion (λ z. Has (Near z) (dedup_from same_key x xs)) (x ∷ xs) (keeps x xs up.0 up.1) c.0 y c.1)
 
   rising_from : (xs : List W) → IsStrictlySortedBy (on key cmp) xs → AllPairs (λ v w. cmp (key v) (key w) ≡ Less) xs
   unfolding IsStrictlySortedBy
@@ -546,77 +477,72 @@ module _ {W K : Type 0} {cmp : K → K → Ordering} (total : IsTotalOrder cmp) 
       rises = searchable_from_sorted total key rows q (λ k d l m. ap is_lt (total.antisymm (key (get_or rows (k + 1) d)) (key (get_or rows k d)) ∙ ap ordering_reverse (ix.rising k (k + 1) d (omega arith) m)))
 
       module _ (P : EntryParts → Bool) (agree : (p : ℕ) (e : EntryParts) → slice_get R p ≡ Some e → P e ≡ matches cmp key q (row p e)) where
-        none_before : (i : ℕ) (w : W) → i < length rows → get_or rows i w ≡ w → cmp (key w) q ≡ Equal → (j : ℕ) (f : EntryParts) → j < place w → slice_get R j ≡ Some f → (o : Option W) → row j f ≡ o → (b : Bool) → matches cmp key q o ≡ b → b ≡ false
-        none_before i w l ew is j f low there None gives b e = sym e
-        none_before i w l ew is j f low there (Some v) gives false e = refl
-        none_before i w l ew is j f low there (Some v) gives true e =
-            let ev : cmp (key v) q ≡ Equal = equal_if (cmp (key v) q) e in
-            let near : Any (λ u. (cmp (key u) (key v) ≡ Equal) × (place u ≤ j)) rows = ix.complete j f v there gives in
-            let eu : cmp (key near.1) q ≡ Equal = total.congr (key near.1) (key v) q near.4.0 ∙ ev in
-            let tied : cmp (key near.1) (key w) ≡ Equal = total.congr (key near.1) q (key w) eu ∙ tied_back total (key w) q is in
-            let same : near.1 ≡ w = one_row rows ix near.0 i near.1 w near.2 l near.3 ew tied in
-            absurd (omega (arith, near.4.1, ap place same))
+        near : (j : ℕ) (f : EntryParts) → slice_get R j ≡ Some f → P f ≡ true → Any (λ u. (cmp (key u) q ≡ Equal) × (place u ≤ j)) rows
+        near j f there passes = by (row j f) refl (sym (agree j f there) ∙ passes)
+          where
+            by : (o : Option W) → row j f ≡ o → matches cmp key q o ≡ true → Any (λ u. (cmp (key u) q ≡ Equal) × (place u ≤ j)) rows
+            by None gives e = cc
+            by (Some v) gives e =
+                let n = ix.complete j f v there gives in
+                (n.0, n.1, n.2, n.3, (total.congr (key n.1) (key v) q n.4.0 ∙ (Equal-is (cmp (key v) q)).0 e, n.4.1))
 
         pub found : (i : ℕ) (w : W) → i < length rows → w ≡ get_or rows i w → cmp (key w) q ≡ Equal → find P R ≡ slice_get R (place w)
         found i w l ew is =
             let there : IsRowAt row place R w = subst (IsRowAt row place R) (sym ew) (ix.sound i w l) in
             find_first P R (place w) there.0 there.1 (agree (place w) there.0 there.1 ∙ ap (matches cmp key q) there.2 ∙ ap is_eq is)
-            (λ j f low k. none_before i w l (sym ew) is j f low k (row j f) refl (P f) (sym (agree j f k)))
+            (λ j f low k. false_from_ne_true (P f) (λ passes.
+            let n = near j f k passes in
+            let tied : cmp (key n.1) (key w) ≡ Equal = total.congr (key n.1) q (key w) n.4.0 ∙ tied_back total (key w) q is in
+            let same : n.1 ≡ w = one_row rows ix n.0 i n.1 w n.2 l n.3 (sym ew) tied in
+            absurd (omega (arith, low, n.4.1, ap place same))))
             ∙ sym there.1
 
-        nowhere : ((i : ℕ) (w : W) → i < length rows → get_or rows i w ≡ w → cmp (key w) q ≡ Equal → ⊥) → (j : ℕ) (f : EntryParts) → slice_get R j ≡ Some f → (o : Option W) → row j f ≡ o → (b : Bool) → matches cmp key q o ≡ b → b ≡ false
-        nowhere none j f there None gives b e = sym e
-        nowhere none j f there (Some v) gives false e = refl
-        nowhere none j f there (Some v) gives true e =
-            let ev : cmp (key v) q ≡ Equal = equal_if (cmp (key v) q) e in
-            let near : Any (λ u. (cmp (key u) (key v) ≡ Equal) × (place u ≤ j)) rows = ix.complete j f v there gives in
-            absurd (none near.0 near.1 near.2 near.3 (total.congr (key near.1) (key v) q near.4.0 ∙ ev))
-
         pub missing : ((i : ℕ) (w : W) → i < length rows → get_or rows i w ≡ w → cmp (key w) q ≡ Equal → ⊥) → find P R ≡ None
-        missing none = find_none P R (λ j f k. nowhere none j f k (row j f) refl (P f) (sym (agree j f k)))
+        missing none = find_none P R (λ j f k. false_from_ne_true (P f) (λ passes. let n = near j f k passes in none n.0 n.1 n.2 n.3 n.4.0))
 
         pub absent : (i : ℕ) → IsPartitionPoint (λ w. cmp (key w) q ≡ Less) (λ w. cmp (key w) q ≡ Greater) rows i → find P R ≡ None
-        absent i point = missing unequal
-          where
-            unequal : (m : ℕ) (w : W) → m < length rows → get_or rows m w ≡ w → cmp (key w) q ≡ Equal → ⊥
-            unequal m w l e tied =
-                elim (cases_lt m i) [
-                  | inl low ↦ let less : cmp (key w) q ≡ Less = ap (λ z. cmp (key z) q) (sym e) ∙ point.0 m w (omega arith) low in let bad : Less ≡ Equal = sym less ∙ tied in cc
-                  | inr high ↦ let more : cmp (key w) q ≡ Greater = ap (λ z. cmp (key z) q) (sym e) ∙ point.1 m w high l in let bad : Greater ≡ Equal = sym more ∙ tied in cc
-                ]
+        absent i point =
+            missing (λ m w l e tied. elim (cases_lt m i) [
+              | inl low ↦ let less : cmp (key w) q ≡ Less = ap (λ z. cmp (key z) q) (sym e) ∙ point.0 m w (omega arith) low in cc
+              | inr high ↦ let more : cmp (key w) q ≡ Greater = ap (λ z. cmp (key z) q) (sym e) ∙ point.1 m w high l in cc
+            ])
 
 -- rows are gathered entry by entry
-module _ {W : Type 0} (row : ℕ → EntryParts → Option W) (place : W → ℕ) (placed : (p : ℕ) (e : EntryParts) (w : W) → row p e ≡ Some w → place w ≡ p) (R : List EntryParts) where
-  pub rows_skipped : (i : ℕ) (e : EntryParts) (rows : List W) → i < length R → e ≡ get_or R i e → row i e ≡ None → AreRows row place R i rows → AreRows row place R (i + 1) rows
-  rows_skipped i e rows l is none g =
-      record {
+module _ {W : Type 0} (row : ℕ → EntryParts → Option W) (place : W → ℕ) (R : List EntryParts) where
+  same_row : (i p : ℕ) (e f : EntryParts) → i < length R → e ≡ get_or R i e → p < i + 1 → i ≤ p → slice_get R p ≡ Some f → row p f ≡ row i e
+  same_row i p e f l is low high there =
+      let here : p ≡ i = omega arith in
+      let same : Some e ≡ Some f = sym (slice_get_read R (length R) i e refl l is) ∙ ap (slice_get R) (sym here) ∙ there in
+      ap (row p) (sym (same_Some e f same)) ∙ ap (λ k. row k e) here
+
+  pub rows_skipped : (i : ℕ) (e : EntryParts) (rows new : List W) → i < length R → e ≡ get_or R i e → row i e ≡ None → new ≡ rows → AreRows row place R i rows → AreRows row place R (i + 1) new
+  rows_skipped i e rows new l is none same g =
+      rw same record {
         sound = g.sound;
         complete = λ p f w low there gives.
             elim (cases_lt p i) [
               | inl before ↦ g.complete p f w before there gives
-              | inr not_before ↦
-                  let here : p ≡ i = omega arith in
-                  let same : Some e ≡ Some f = sym (slice_get_read R (length R) i e refl l is) ∙ ap (slice_get R) (sym here) ∙ there in
-                  let bad : None ≡ Some w = sym none ∙ ap (λ k. row k e) (sym here) ∙ ap (row p) (same_Some e f same) ∙ gives in cc
+              | inr after ↦ let bad : None ≡ Some w = sym none ∙ sym (same_row i p e f l is low after there) ∙ gives in cc
             ];
       }
 
-  pub rows_more : (i : ℕ) (e : EntryParts) (v : W) (rows : List W) → i < length R → e ≡ get_or R i e → row i e ≡ Some v → AreRows row place R i rows → AreRows row place R (i + 1) (rows ++ v ∷ [])
-  rows_more i e v rows l is some g =
-      let where_v : place v ≡ i = placed i e v some in
-      let at_i : slice_get R i ≡ Some e = slice_get_read R (length R) i e refl l is in
-      record {
-        sound = All-push (IsRowAt row place R) rows v g.sound (e, ap (slice_get R) where_v ∙ at_i, ap (λ k. row k e) where_v ∙ some);
+  pub rows_more : (i : ℕ) (e : EntryParts) (v : W) (rows new : List W) → i < length R → e ≡ get_or R i e → row i e ≡ Some v → place v ≡ i → new ≡ rows ++ v ∷ [] → AreRows row place R i rows → AreRows row place R (i + 1) new
+  rows_more i e v rows new l is some where_v same g =
+      rw same record {
+        sound = All-push (IsRowAt row place R) rows v g.sound (e, ap (slice_get R) where_v ∙ slice_get_read R (length R) i e refl l is, ap (λ k. row k e) where_v ∙ some);
         complete = λ p f w low there gives.
             elim (cases_lt p i) [
               | inl before ↦ Contains-append_left rows (v ∷ []) w (g.complete p f w before there gives)
-              | inr not_before ↦
-                  let here : p ≡ i = omega arith in
-                  let same : Some e ≡ Some f = sym at_i ∙ ap (slice_get R) (sym here) ∙ there in
-                  let are : Some v ≡ Some w = sym some ∙ ap (λ k. row k e) (sym here) ∙ ap (row p) (same_Some e f same) ∙ gives in
+              | inr after ↦
+                  let are : Some v ≡ Some w = sym some ∙ sym (same_row i p e f l is low after there) ∙ gives in
                   subst (Contains (rows ++ v ∷ [])) (same_Some v w are) (Contains-push rows v)
             ];
       }
+
+-- a row that is made for a place says it
+placed_at : {A W : Type 0} (place : W → ℕ) (make : A → W) (p : ℕ) → ((a : A) → place (make a) ≡ p) → (b : Bool) (o : Option A) (w : W) → cond b (option_map make o) None ≡ Some w → place w ≡ p
+placed_at place make p at true (Some a) w h = let same : make a ≡ w = cc in ap place (sym same) ∙ at a
+placed_at place make p at _ _ w h = cc
 
 -- What the indexes of a sorted table find.
 
@@ -630,11 +556,7 @@ and_false false = refl
 -- single records
 
 pub single_placed : (kind : Kind) (p : ℕ) (e : EntryParts) (w : Row) → single_row kind p e ≡ Some w → w.place ≡ p
-single_placed kind p e w h = by (same_kind e.kind kind) (single_number e.name) h
-  where
-    by : (b : Bool) (o : Option ℕ) → cond b (option_map (λ (n : ℕ). record { number = n; place = p }) o) None ≡ Some w → w.place ≡ p
-    by true (Some n) k = let same : record { number = n; place = p } ≡ w = cc in sym (ap (λ (r : Row). r.place) same)
-    by _ _ k = cc
+single_placed kind p e w h = placed_at (λ (r : Row). r.place) (λ (n : ℕ). record { number = n; place = p }) p (λ n. refl) (same_kind e.kind kind) (single_number e.name) w h
 
 module _ (R : List EntryParts) (kind : Kind) (rows : List Row) (s : List ℕ) (ix : IsSingles R kind rows) (forms : All IsEntry R) (few : IsFew s) where
   abbrev is_it : EntryParts → Bool
@@ -648,14 +570,15 @@ module _ (R : List EntryParts) (kind : Kind) (rows : List Row) (s : List ℕ) (i
   agrees : (p : ℕ) (e : EntryParts) → slice_get R p ≡ Some e → is_it e ≡ matches nat_cmp (λ (w : Row). w.number) (number s) (single_row kind p e)
   agrees p e there = name_agrees p e.kind (same_kind e.kind kind) e.name (entry_at R forms p e there).name
 
-  pub single_at : option_and_then (slice_get R) (place_of (number s) rows) ≡ find is_it R
-  single_at = sym (by (find (λ (w : Row). eqb w.number (number s)) rows) refl)
+  pub single_at : (n : ℕ) (o : Option ℕ) → n ≡ number s → o ≡ place_of n rows → option_and_then (slice_get R) o ≡ find is_it R
+  single_at n o is said =
+      ap (option_and_then (slice_get R)) (said ∙ ap (λ m. place_of m rows) is) ∙ sym (by (find (λ (w : Row). eqb w.number (number s)) rows) refl)
     where
       by : (o : Option Row) → find (λ (w : Row). eqb w.number (number s)) rows ≡ o → find is_it R ≡ option_and_then (slice_get R) (option_map (λ (w : Row). w.place) o)
       by (Some w) is =
           let at = found_passes (λ (v : Row). eqb v.number (number s)) rows w is in
           found nat_cmp_total (λ (r : Row). r.number) (λ (r : Row). r.place) (single_row kind) (single_placed kind) R rows ix (number s) is_it agrees at.0 w at.1 at.2
-          (equal_if (nat_cmp w.number (number s)) (nats_equal w.number (number s) ∙ at.3))
+          ((Equal-is (nat_cmp w.number (number s))).0 (nats_equal w.number (number s) ∙ at.3))
       by None is =
           missing nat_cmp_total (λ (r : Row). r.number) (λ (r : Row). r.place) (single_row kind) (single_placed kind) R rows ix (number s) is_it agrees
           (λ i w l at tied.
@@ -665,33 +588,18 @@ module _ (R : List EntryParts) (kind : Kind) (rows : List Row) (s : List ℕ) (i
 -- whole records
 
 pub whole_placed : (p : ℕ) (e : EntryParts) (w : Row) → whole_row p e ≡ Some w → w.place ≡ p
-whole_placed p e w h = by (tag_in e.name) h
-  where
-    by : (o : Option TagForm) → option_map (λ (t : TagForm). record { number = language_number t; place = p }) o ≡ Some w → w.place ≡ p
-    by (Some t) k = let same : record { number = language_number t; place = p } ≡ w = cc in sym (ap (λ (r : Row). r.place) same)
-    by None k = cc
+whole_placed p e w h = placed_at (λ (r : Row). r.place) (λ (t : TagForm). record { number = language_number t; place = p }) p (λ t. refl) true (tag_in e.name) w h
 
 pub key_total : IsTotalOrder key_cmp
-key_total = then_total (on_total (λ (k : ℕ × Option TagForm). k.0) nat_cmp_total) (on_total (λ (k : ℕ × Option TagForm). k.1) optional_tag_total)
-
--- equal tags have one language
-one_language : (u t : TagForm) → same_tag u t ≡ true → language_number u ≡ language_number t
-one_language (LangTag c es ps) (LangTag d fs qs) h =
-    let cores = (and_parts (same_core c d) _ h).0 in
-    let languages = (and_parts (bytes_eq c.language d.language) _ cores).0 in
-    ap number (same_text c.language d.language (sym languages))
-one_language (LangTag c es ps) _ h = cc
-one_language _ (LangTag d fs qs) h = cc
-one_language _ _ h = refl
+key_total = then_total (on_total (λ (k : ℕ × Option TagForm). k.0) nat_cmp_total) (on_total (λ (k : ℕ × Option TagForm). k.1) (options_total tag_total))
 
 keys_equal : (u t : TagForm) → is_eq (key_cmp (language_number u, Some u) (language_number t, Some t)) ≡ same_tag u t
 keys_equal u t =
-    then_equal (nat_cmp (language_number u) (language_number t)) (tag_cmp u t)
-    ∙ rw (nats_equal (language_number u) (language_number t), tags_equal u t)
-    (elim (cases_Bool (same_tag u t)) [
-      | inl same ↦ rw (same, one_language u t same) (grind (arith, nat_tests))
-      | inr other ↦ rw other (and_false (eqb (language_number u) (language_number t)))
-    ])
+    same_test (is_eq (key_cmp (language_number u, Some u) (language_number t, Some t))) (same_tag u t)
+    (λ e. sym (tags_equal u t) ∙ (and_parts (is_eq (nat_cmp (language_number u) (language_number t))) (is_eq (tag_cmp u t)) (sym (then_equal (nat_cmp (language_number u) (language_number t)) (tag_cmp u t)) ∙ e)).1)
+    (λ e.
+    let same : u ≡ t = tags_apart u t ((Equal-is (tag_cmp u t)).0 (tags_equal u t ∙ e)) in
+    subst (λ z. is_eq (key_cmp (language_number u, Some u) (language_number z, Some z)) ≡ true) same (ap is_eq (tied_itself key_total (language_number u, Some u))))
 
 module _ (R : List EntryParts) (rows : List Row) (t : TagForm) (ix : IsWholes R rows) where
   abbrev is_that : EntryParts → Bool
@@ -729,16 +637,13 @@ apart s _ _ w f = cc
 
 pub no_entry : (R : List EntryParts) (kind : Kind) (s : List ℕ) → All IsEntry R → is_whole_kind kind ≡ true → entry R kind s ≡ None
 no_entry R kind s forms w =
-    rw (find_none (λ (e : EntryParts). same_kind e.kind kind && is_named s e.name) R (λ p e there. unnamed e.kind e.name (entry_at R forms p e there).name))
-    (find_none (λ (e : EntryParts). same_kind e.kind kind && holds s e.name) R (λ p e there. unheld e.kind e.name (entry_at R forms p e there).name))
+    rw (find_none (λ (e : EntryParts). same_kind e.kind kind && is_named s e.name) R (λ p e there. (unmet e.kind e.name (entry_at R forms p e there).name).0))
+    (find_none (λ (e : EntryParts). same_kind e.kind kind && holds s e.name) R (λ p e there. (unmet e.kind e.name (entry_at R forms p e there).name).1))
   where
-    unnamed : (k : Kind) (name : EntryName) → FitsName k name → (same_kind k kind && is_named s name) ≡ false
-    unnamed k (names.Single n) fits = rw (apart n k kind w fits) refl
-    unnamed k _ fits = and_false (same_kind k kind)
-
-    unheld : (k : Kind) (name : EntryName) → FitsName k name → (same_kind k kind && holds s name) ≡ false
-    unheld k (names.Range a b) fits = rw (apart a k kind w fits.first_form) refl
-    unheld k _ fits = and_false (same_kind k kind)
+    unmet : (k : Kind) (name : EntryName) → FitsName k name → ((same_kind k kind && is_named s name) ≡ false) × ((same_kind k kind && holds s name) ≡ false)
+    unmet k (names.Single n) fits = (rw (apart n k kind w fits) refl, and_false (same_kind k kind))
+    unmet k (names.Range a b) fits = (and_false (same_kind k kind), rw (apart a k kind w fits.first_form) refl)
+    unmet k _ fits = (and_false (same_kind k kind), and_false (same_kind k kind))
 
 -- a kind without an index
 pub no_index : (indexes : Indexes) (kind : Kind) → index_of indexes kind ≡ None → is_whole_kind kind ≡ true
@@ -756,9 +661,6 @@ rise : (rows : List Row) (i m : ℕ) (v w : Row) → RowsRise rows → i < m →
 rise rows i m v w up l at to =
     less_below v.number w.number
     (rw (get_or_from_slice_get rows i v v at, get_or_from_slice_get rows m w v to) at (up i m v l (slice_get_within rows m w to)))
-
-begin_later : (m n : ℕ) → m ≤ n → beginning m ≤ beginning n
-begin_later m n h = omega arith
 
 -- the row at an index is in the span of a beginning, as far as the starts go
 pub record IsBegun (starts : List ℕ) (k i : ℕ) : Type 0 where
@@ -837,7 +739,8 @@ module _ (rows : List Row) (i : ℕ) (w : Row) (starts more : List ℕ) (l : i <
         small = λ k h. omega (arith, low k h);
         short = λ m v after there.
             let later : w.number < v.number = rise rows i m w v up (omega (arith, after)) here there in
-            omega (arith, long, begin_later w.number v.number (omega (arith, later)));
+            let after : beginning w.number ≤ beginning v.number = omega (arith, later) in
+            omega (arith, long, after);
       }
 
 pub starts_all : (rows : List Row) (starts ends : List ℕ) → StartsSoFar rows (length rows) starts → ends ≡ starts ++ length rows ∷ [] → AreStarts rows ends
@@ -949,14 +852,11 @@ searchable rows n up =
     searchable_from_sorted nat_cmp_total (λ (w : Row). w.number) rows n
     (λ k d l m. ap is_lt (nat_cmp_total.antisymm (get_or rows (k + 1) d).number (get_or rows k d).number ∙ ap ordering_reverse (up k (k + 1) d (omega arith) m)))
 
-tells : (n : ℕ) (w : Row) → (b : Bool) → is_eq (nat_cmp w.number n) ≡ b → has n w ≡ b
-tells n w b h = sym (nats_equal w.number n) ∙ h
-
 pub place_found : (rows : List Row) (n i : ℕ) → RowsRise rows → i < length rows → (d : Row) → HoldsAt (λ (v : Row). nat_cmp v.number n ≡ Equal) rows i → Some (get_or rows i d).place ≡ place_of n rows
 place_found rows n i up l d tied =
     let w : Row = get_or rows i d in
     let there : slice_get rows i ≡ Some w = slice_get-get_or rows i d l in
-    let passes : has n w ≡ true = tells n w true (ap is_eq (tied d)) in
+    let passes : has n w ≡ true = sym (nats_equal w.number n) ∙ ap is_eq (tied d) in
     sym (ap (option_map (λ (v : Row). v.place))
     (find_first (has n) rows i w there passes (λ j v before at.
     let less : v.number < w.number = rise rows j i v w up before at there in
@@ -969,8 +869,8 @@ place_missing rows n i point =
     let at : get_or rows j w ≡ w = get_or_from_slice_get rows j w w there in
     let within : j < length rows = slice_get_within rows j w there in
     elim (cases_lt j i) [
-      | inl low ↦ tells n w false (ap (λ (v : Row). is_eq (nat_cmp v.number n)) (sym at) ∙ ap is_eq (point.0 j w (omega arith) low))
-      | inr high ↦ tells n w false (ap (λ (v : Row). is_eq (nat_cmp v.number n)) (sym at) ∙ ap is_eq (point.1 j w high within))
+      | inl low ↦ sym (nats_equal w.number n) ∙ ap (λ (v : Row). is_eq (nat_cmp v.number n)) (sym at) ∙ ap is_eq (point.0 j w (omega arith) low)
+      | inr high ↦ sym (nats_equal w.number n) ∙ ap (λ (v : Row). is_eq (nat_cmp v.number n)) (sym at) ∙ ap is_eq (point.1 j w high within)
     ])))
 
 -- The rows of ranges, and their stretches.
@@ -1164,11 +1064,10 @@ place_at before (s ∷ ss) q (suc (suc i)) d l under over =
     ∙ place_at s.place ss q (suc i) d (omega (arith, l)) (λ k m. under (suc k) (omega (arith, m))) (λ k m n. over (suc k) (omega (arith, m)) (omega (arith, n)))
 
 pub starts_sorted : (ss : List Stretch) → StartsRise ss → IsNonDecreasingBy (λ (s : Stretch). s.start) ss
-starts_sorted [] up i j d le l = absurd (omega arith)
 starts_sorted (s ∷ ss) up zero zero d le l = omega arith
 starts_sorted (s ∷ ss) up zero (suc j) d le l = All-from_recursion (λ (t : Stretch). s.start ≤ t.start) ss up.0 j d (omega (arith, l))
-starts_sorted (s ∷ ss) up (suc i) zero d le l = absurd (omega (arith, le))
 starts_sorted (s ∷ ss) up (suc i) (suc j) d le l = starts_sorted ss up.1 i j d (omega (arith, le)) (omega (arith, l))
+starts_sorted _ up _ _ d le l = absurd (omega (arith, le, l))
 
 -- The rows of ranges, and the first range that holds a subtag.
 
@@ -1202,25 +1101,7 @@ module _ (kind : Kind) where
 
 within_agrees : (a b s : List ℕ) → IsFew a → IsFew b → IsFew s → length a ≡ length b → (eqb (length s) (length a) && (letters_le a s && letters_le s b)) ≡ (leb (rank a) (rank s) && leb (rank s) (rank b))
 within_agrees a b s fa fb fs one =
-    elim (cases_lt (length s) (length a)) [
-      | inl shorter ↦
-          ap (λ t. t && (letters_le a s && letters_le s b)) (ne_eqb (length s) (length a) (λ e. omega (arith, shorter, e)))
-          ∙ sym (ap (λ t. t && leb (rank s) (rank b)) (lt-leb (rank a) (rank s) (rank_shorter s a fs shorter)))
-      | inr no_shorter ↦ elim (cases_lt (length a) (length s)) [
-        | inl longer ↦
-            ap (λ t. t && (letters_le a s && letters_le s b)) (ne_eqb (length s) (length a) (λ e. omega (arith, longer, e)))
-            ∙ sym (ap (λ t. leb (rank a) (rank s) && t) (lt-leb (rank s) (rank b) (rank_shorter b s fb (omega (arith, longer, one)))) ∙ and_false (leb (rank a) (rank s)))
-        | inr no_longer ↦
-            let same : length s ≡ length a = omega (arith, no_shorter, no_longer) in
-            ap (λ t. t && (letters_le a s && letters_le s b)) (eq-eqb (length s) (length a) same)
-            ∙ ap (λ t. t && letters_le s b) (ranks_ordered a s fa fs (sym same))
-            ∙ ap (λ t. leb (rank a) (rank s) && t) (ranks_ordered s b fs fb (same ∙ one))
-      ]
-    ]
-
--- no further than the last is before the one after it
-up_to : (m n : ℕ) → leb m n ≡ ltb m (n + 1)
-up_to m n = grind (arith, nat_tests)
+    grind (arith, nat_tests, rank_shorter s a fs, rank_shorter b s fb, ranks_ordered a s fa fs, ranks_ordered s b fs fb)
 
 abbrev pub by_range : Kind → List ℕ → EntryParts → Bool
 by_range kind s e = same_kind e.kind kind && holds s e.name
@@ -1234,9 +1115,10 @@ module _ (R : List EntryParts) (kind : Kind) (s : List ℕ) (few : IsFew s) (let
   name_says : (p : ℕ) (k : Kind) (b : Bool) (name : EntryName) → FitsName k name
       → (b && holds s name) ≡ says (cond b (option_map (λ (n : ℕ × ℕ). record { start = n.0; end = n.1; place = p }) (ends name)) None)
   name_says p k true (names.Range a b) fits =
+      let up_to : leb (rank s) (rank b) ≡ ltb (rank s) (rank b + 1) = grind (arith, nat_tests) in
       ap (λ t. eqb (length s) (length a) && (t && (letters_le a s && letters_le s b))) letters
       ∙ within_agrees a b s (form_few k a fits.first_form) (form_few k b fits.last_form) few fits.one_length
-      ∙ ap (λ t. leb (rank a) (rank s) && t) (up_to (rank s) (rank b))
+      ∙ ap (λ t. leb (rank a) (rank s) && t) up_to
   name_says p k _ _ fits = refl
 
   row_first : (e : EntryParts) (o : Option RangeRow) (rows : List RangeRow) (b : Bool) (other : Option EntryParts) → b ≡ says o
@@ -1252,11 +1134,7 @@ module _ (R : List EntryParts) (kind : Kind) (s : List ℕ) (few : IsFew s) (let
       by _ _ same = cc
 
   placed : (p : ℕ) (e : EntryParts) (row : RangeRow) → range_row kind p e ≡ Some row → row.place ≡ p
-  placed p e row h = by (same_kind e.kind kind) (ends e.name) h
-    where
-      by : (b : Bool) (o : Option (ℕ × ℕ)) → cond b (option_map (λ (n : ℕ × ℕ). record { start = n.0; end = n.1; place = p }) o) None ≡ Some row → row.place ≡ p
-      by true (Some n) k = let same : record { start = n.0; end = n.1; place = p } ≡ row = cc in sym (ap (λ (r : RangeRow). r.place) same)
-      by _ _ k = cc
+  placed p e row h = placed_at (λ (r : RangeRow). r.place) (λ (n : ℕ × ℕ). record { start = n.0; end = n.1; place = p }) p (λ n. refl) (same_kind e.kind kind) (ends e.name) row h
 
   found_from : (p : ℕ) (es : List EntryParts) → ((i : ℕ) (e : EntryParts) → slice_get es i ≡ Some e → IsEntry e) → ((i : ℕ) → slice_get R (p + i) ≡ slice_get es i)
       → option_and_then (slice_get R) (first_within (range_rows kind p es) (rank s)) ≡ find (by_range kind s) es

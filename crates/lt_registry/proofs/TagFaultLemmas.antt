@@ -136,57 +136,35 @@ length_more : (u : ExtensionParts) (front : List ExtensionParts) → length (spe
 length_more u front = let a = length-append u.subtags (spell_extensions front) in omega (arith, a)
 
 -- a fault of one of some extensions
-record IsExtensionAt (R : List EntryParts) (here : ℕ) (es : List ExtensionParts) (k : ValidFaultKind) (p : ℕ) : Type 0 where
+record IsHeadAt (R : List EntryParts) (here : ℕ) (before es : List ExtensionParts) (k : ValidFaultKind) (p : ℕ) : Type 0 where
   front : List ExtensionParts
   extension : ExtensionParts
   after : List ExtensionParts
   there : es ≡ front ++ extension ∷ after
-  fault : HasExtensionFault R (here + length (spell_extensions front)) extension k p
+  fault : HeadFault R (here + length (spell_extensions front)) (before ++ front) extension k p
 
--- a singleton that occurs again
-record IsSecondAt (here : ℕ) (before es : List ExtensionParts) (p : ℕ) : Type 0 where
-  front : List ExtensionParts
-  extension : ExtensionParts
-  after : List ExtensionParts
-  there : es ≡ front ++ extension ∷ after
-  placed : p ≡ here + length (spell_extensions front)
-  again : has_singleton (before ++ front) extension.singleton ≡ true
+moved : (R : List EntryParts) (e : ExtensionParts) (k : ValidFaultKind) (p : ℕ) {m n : ℕ} {bs cs : List ExtensionParts} → m ≡ n → bs ≡ cs → HeadFault R m bs e k p → HeadFault R n cs e k p
+moved R e k p {m} {n} {bs} {cs} number front f = subst (λ z. HeadFault R z cs e k p) number (subst (λ z. HeadFault R m z e k p) front f)
 
-moved : (R : List EntryParts) (m n : ℕ) (e : ExtensionParts) (k : ValidFaultKind) (p : ℕ) → m ≡ n → HasExtensionFault R m e k p → HasExtensionFault R n e k p
-moved R m n e k p same f = subst (λ z. HasExtensionFault R z e k p) same f
-
-shown : (R : List EntryParts) (here : ℕ) (before es : List ExtensionParts) (k : ValidFaultKind) (p : ℕ) → ListFault R here before es k p → IsExtensionAt R here es k p ⊎ ((k ≡ faults.DuplicateSingleton) × IsSecondAt here before es p)
+shown : (R : List EntryParts) (here : ℕ) (before es : List ExtensionParts) (k : ValidFaultKind) (p : ℕ) → ListFault R here before es k p → IsHeadAt R here before es k p
 unfolding ListFault
 shown R here before [] k p f = absurd f
-shown R here before (e ∷ after) k p (inl (inl d)) =
-    inr (d.0, record { front = []; extension = e; after = after; there = refl; placed = omega (arith, d.1); again = ap (λ bs. has_singleton bs e.singleton) (append-nil before) ∙ d.2 })
-shown R here before (e ∷ after) k p (inl (inr f)) =
-    inl (record { front = []; extension = e; after = after; there = refl; fault = moved R here (here + 0) e k p (omega arith) f })
+shown R here before (e ∷ after) k p (inl f) =
+    let same : here ≡ here + 0 = omega arith in
+    record { front = []; extension = e; after = after; there = refl; fault = moved R e k p same (sym (append-nil before)) f }
 shown R here before (e ∷ after) k p (inr f) =
-    elim (shown R (here + (1 + length e.subtags)) (before ++ e ∷ []) after k p f) [
-      | inl a ↦
-          let long = length_more e a.front in
-          inl (record { front = e ∷ a.front; extension = a.extension; after = a.after; there = ap (λ ws. e ∷ ws) a.there; fault = moved R (here + (1 + length e.subtags) + length (spell_extensions a.front)) (here + length (spell_extensions (e ∷ a.front))) a.extension k p (omega (arith, long)) a.fault })
-      | inr a ↦
-          let long = length_more e a.1.front in
-          let again = ap (λ bs. has_singleton bs a.1.extension.singleton) (sym (append_assoc before (e ∷ []) a.1.front)) ∙ a.1.again in
-          inr (a.0, record { front = e ∷ a.1.front; extension = a.1.extension; after = a.1.after; there = ap (λ ws. e ∷ ws) a.1.there; placed = omega (arith, long, a.1.placed); again = again })
-    ]
+    let at = shown R (here + (1 + length e.subtags)) (before ++ e ∷ []) after k p f in
+    let same : here + (1 + length e.subtags) + length (spell_extensions at.front) ≡ here + length (spell_extensions (e ∷ at.front)) = omega (arith, length_more e at.front) in
+    record { front = e ∷ at.front; extension = at.extension; after = at.after; there = ap (λ ws. e ∷ ws) at.there; fault = moved R at.extension k p same (append_assoc before (e ∷ []) at.front) at.fault }
 
-extension_hidden : (R : List EntryParts) (here : ℕ) (before front : List ExtensionParts) (e : ExtensionParts) (after : List ExtensionParts) (k : ValidFaultKind) (p : ℕ) → HasExtensionFault R (here + length (spell_extensions front)) e k p → ListFault R here before (front ++ e ∷ after) k p
+hidden : (R : List EntryParts) (here : ℕ) (before front : List ExtensionParts) (e : ExtensionParts) (after : List ExtensionParts) (k : ValidFaultKind) (p : ℕ) → HeadFault R (here + length (spell_extensions front)) (before ++ front) e k p → ListFault R here before (front ++ e ∷ after) k p
 unfolding ListFault
-extension_hidden R here before [] e after k p f = inl (inr (moved R (here + 0) here e k p (omega arith) f))
-extension_hidden R here before (u ∷ front) e after k p f =
-    let long = length_more u front in
-    inr (extension_hidden R (here + (1 + length u.subtags)) (before ++ u ∷ []) front e after k p
-    (moved R (here + length (spell_extensions (u ∷ front))) (here + (1 + length u.subtags) + length (spell_extensions front)) e k p (omega (arith, long)) f))
-
-second_hidden : (R : List EntryParts) (here : ℕ) (before front : List ExtensionParts) (e : ExtensionParts) (after : List ExtensionParts) (p : ℕ) → p ≡ here + length (spell_extensions front) → has_singleton (before ++ front) e.singleton ≡ true → ListFault R here before (front ++ e ∷ after) faults.DuplicateSingleton p
-unfolding ListFault
-second_hidden R here before [] e after p placed again = inl (inl (refl, omega (arith, placed), ap (λ bs. has_singleton bs e.singleton) (sym (append-nil before)) ∙ again))
-second_hidden R here before (u ∷ front) e after p placed again =
-    let long = length_more u front in
-    inr (second_hidden R (here + (1 + length u.subtags)) (before ++ u ∷ []) front e after p (omega (arith, placed, long)) (ap (λ bs. has_singleton bs e.singleton) (append_assoc before (u ∷ []) front) ∙ again))
+hidden R here before [] e after k p f =
+    let same : here + 0 ≡ here = omega arith in
+    inl (moved R e k p same (append-nil before) f)
+hidden R here before (u ∷ front) e after k p f =
+    let same : here + length (spell_extensions (u ∷ front)) ≡ here + (1 + length u.subtags) + length (spell_extensions front) = omega (arith, length_more u front) in
+    inr (hidden R (here + (1 + length u.subtags)) (before ++ u ∷ []) front e after k p (moved R e k p same (sym (append_assoc before (u ∷ []) front)) f))
 
 module _ (R : List EntryParts) (c : CoreParts) (es : List ExtensionParts) where
   abbrev pub first : ℕ
@@ -197,24 +175,27 @@ module _ (R : List EntryParts) (c : CoreParts) (es : List ExtensionParts) where
 
   list_shown : (k : ValidFaultKind) (p : ℕ) → ListFault R first [] es k p → Extensions k p
   list_shown k p f =
-      elim (shown R first [] es k p f) [
-        | inl a ↦ inl (record { before = a.front; extension = a.extension; after = a.after; there = a.there; fault = moved R (first + length (spell_extensions a.front)) (length (spell_core c) + length (spell_extensions a.front) + 1) a.extension k p (omega arith) a.fault })
-        | inr a ↦
-            let at = one_singleton a.1.front a.1.extension.singleton a.1.again in
-            let split : es ≡ at.0 ++ at.1 ∷ (at.2 ++ a.1.extension ∷ a.1.after) = a.1.there ∙ ap (λ ws. ws ++ a.1.extension ∷ a.1.after) at.3 ∙ append_assoc at.0 (at.1 ∷ at.2) (a.1.extension ∷ a.1.after) in
-            let long : length (spell_extensions a.1.front) ≡ length (spell_extensions (at.0 ++ at.1 ∷ at.2)) = ap (λ ws. length (spell_extensions ws)) at.3 in
-            inr (a.0, record { before = at.0; first = at.1; between = at.2; second = a.1.extension; after = a.1.after; there = split; alike = at.4; here = omega (arith, long, a.1.placed) })
+      let at = shown R first [] es k p f in
+      elim at.fault [
+        | inl d ↦
+            let two = one_singleton at.front at.extension.singleton d.2 in
+            let split : es ≡ two.0 ++ two.1 ∷ (two.2 ++ at.extension ∷ at.after) = at.there ∙ ap (λ ws. ws ++ at.extension ∷ at.after) two.3 ∙ append_assoc two.0 (two.1 ∷ two.2) (at.extension ∷ at.after) in
+            let long : length (spell_extensions at.front) ≡ length (spell_extensions (two.0 ++ two.1 ∷ two.2)) = ap (λ ws. length (spell_extensions ws)) two.3 in
+            inr (d.0, record { before = two.0; first = two.1; between = two.2; second = at.extension; after = at.after; there = split; alike = two.4; here = omega (arith, long, d.1) })
+        | inr h ↦
+            let same : first + length (spell_extensions at.front) ≡ length (spell_core c) + length (spell_extensions at.front) + 1 = omega arith in
+            inl (record { before = at.front; extension = at.extension; after = at.after; there = at.there; fault = subst (λ z. HasExtensionFault R z at.extension k p) same h })
       ]
 
   list_hidden : (k : ValidFaultKind) (p : ℕ) → Extensions k p → ListFault R first [] es k p
   list_hidden k p (inl a) =
+      let same : length (spell_core c) + length (spell_extensions a.before) + 1 ≡ first + length (spell_extensions a.before) = omega arith in
       subst (λ z. ListFault R first [] z k p) (sym a.there)
-      (extension_hidden R first [] a.before a.extension a.after k p (moved R (length (spell_core c) + length (spell_extensions a.before) + 1) (first + length (spell_extensions a.before)) a.extension k p (omega arith) a.fault))
+      (hidden R first [] a.before a.extension a.after k p (inr (subst (λ z. HasExtensionFault R z a.extension k p) same a.fault)))
   list_hidden k p (inr a) =
       let split : es ≡ (a.1.before ++ a.1.first ∷ a.1.between) ++ a.1.second ∷ a.1.after = a.1.there ∙ sym (append_assoc a.1.before (a.1.first ∷ a.1.between) (a.1.second ∷ a.1.after)) in
       subst (λ z. ListFault R first [] z k p) (sym split)
-      (subst (λ z. ListFault R first [] ((a.1.before ++ a.1.first ∷ a.1.between) ++ a.1.second ∷ a.1.after) z p) (sym a.0)
-      (second_hidden R first [] (a.1.before ++ a.1.first ∷ a.1.between) a.1.second a.1.after p (omega (arith, a.1.here)) (singleton_there a.1.before a.1.between a.1.first a.1.second.singleton a.1.alike)))
+      (hidden R first [] (a.1.before ++ a.1.first ∷ a.1.between) a.1.second a.1.after k p (inl (a.0, omega (arith, a.1.here), singleton_there a.1.before a.1.between a.1.first a.1.second.singleton a.1.alike)))
 
   parted : SameFaults (Or (HasCoreFault R 0 c) (ListFault R first [] es)) (Or (HasCoreFault R 0 c) Extensions)
   parted = record {

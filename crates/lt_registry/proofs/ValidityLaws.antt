@@ -1,5 +1,5 @@
 -- A tag is valid exactly if it has no fault.
-use Rattle.std.proofs.Common.{◌≡◌, ℕ, ◌+◌, ◌≤◌, Bool, true, false, if◌then◌else◌, eqb, inl, inr, List, [], ◌∷◌, ◌++◌, length, Option, Some, None, refl, sym, ap, ◌∙◌, subst, arith}
+use Rattle.std.proofs.Common.{◌≡◌, ℕ, ◌+◌, ◌≤◌, true, if◌then◌else◌, eqb, inl, inr, List, [], ◌∷◌, ◌++◌, length, Option, Some, None, refl, sym, ap, ◌∙◌, subst, arith}
 use Rattle.std.specs.Prelude.{◌↔◌, IfSome}
 use Rattle.std.proofs.lemmas.Bool.{true_from_ne_false}
 use Rattle.lt_tag.specs.Parts.{CoreParts, ExtensionParts, TForm, TagForm, LangTag}
@@ -17,13 +17,9 @@ use Rattle.lt_registry.specs.declared.faults.ValidFaultKind.{ValidFaultKind}
 use Rattle.lt_registry.specs.declared.faults.ValidFaultKind.TheVariants as faults
 use Rattle.lt_registry.proofs.SplitListLemmas.{all_from, all_at, distinct_from, distinct_at, distinct_map_from, distinct_map_at}
 
-both : (b : Bool) → b ≡ true → b ≡ false → ⊥
-both true h k = cc
-both false h k = cc
-
-at_some : {A : Type 0} (P : A → Type 0) (o : Option A) (s : A) → o ≡ Some s → IfSome o P → P s
-at_some P None s e h = cc
-at_some P (Some t) s e h = let same : t ≡ s = cc in subst P same h
+if_some : {A : Type 0} (P : A → Type 0) (o : Option A) → ((s : A) → o ≡ Some s → P s) → IfSome o P
+if_some P None f = tt
+if_some P (Some s) f = f s refl
 
 -- cores
 
@@ -39,40 +35,30 @@ module _ (R : List EntryParts) (start : ℕ) (c : CoreParts) where
   )
   extlangs_from f (x ∷ y ∷ rest) e = let bad = f faults.TooManyExtlangs (start + 3) (x, y, rest, e, refl) in cc
 
-  script_from : Repeats → (o : Option (List ℕ)) → c.script ≡ o → IfSome o (λ s. is_registered R kinds.Script s ≡ true)
-  script_from f None e = tt
-  script_from f (Some s) e = true_from_ne_false (is_registered R kinds.Script s) (λ h. let bad = f faults.UnknownScript (start + before_script c + 1) (s, e, refl, h) in cc)
-
-  region_from : Repeats → (o : Option (List ℕ)) → c.region ≡ o → IfSome o (λ s. is_registered R kinds.Region s ≡ true)
-  region_from f None e = tt
-  region_from f (Some s) e = true_from_ne_false (is_registered R kinds.Region s) (λ h. let bad = f faults.UnknownRegion (start + before_region c + 1) (s, e, refl, h) in cc)
-
   proper_core_from : Repeats → IsProperCore R c
   proper_core_from f = record {
     language = true_from_ne_false (is_registered R kinds.Language c.language) (λ h. let bad = f faults.UnknownLanguage (start + 1) (refl, h) in cc);
     extlangs = extlangs_from f c.extlangs refl;
-    script = script_from f c.script refl;
-    region = region_from f c.region refl;
+    script = if_some (λ s. is_registered R kinds.Script s ≡ true) c.script
+        (λ s e. true_from_ne_false (is_registered R kinds.Script s) (λ h. let bad = f faults.UnknownScript (start + before_script c + 1) (s, e, refl, h) in cc));
+    region = if_some (λ s. is_registered R kinds.Region s ≡ true) c.region
+        (λ s e. true_from_ne_false (is_registered R kinds.Region s) (λ h. let bad = f faults.UnknownRegion (start + before_region c + 1) (s, e, refl, h) in cc));
     variants = all_from (λ v. is_registered R kinds.Variant v ≡ true) c.variants
         (λ b v a e. true_from_ne_false (is_registered R kinds.Variant v) (λ h. let bad = f faults.UnknownVariant (start + before_variants c + length b + 1) (b, v, a, e, refl, h) in cc));
   }
 
-  one_extlang : (xs : List (List ℕ)) (x : List ℕ) (rest : List (List ℕ)) → xs ≡ x ∷ rest → ExtlangsFit R c.language xs → (rest ≡ []) × (is_registered R kinds.Extlang x ≡ true) × (has_prefix (prefixes R kinds.Extlang x) c.language ≡ true)
-  one_extlang [] x rest e h = cc
-  one_extlang (y ∷ []) x rest e h =
-      let same : y ≡ x = cc in
-      let none : [] ≡ rest = cc in
-      (sym none, ap (is_registered R kinds.Extlang) (sym same) ∙ h.0, ap (λ z. has_prefix (prefixes R kinds.Extlang z) c.language) (sym same) ∙ h.1)
-  one_extlang (y ∷ z ∷ ys) x rest e h = absurd h
+  one_extlang : (x : List ℕ) (rest : List (List ℕ)) → ExtlangsFit R c.language (x ∷ rest) → (rest ≡ []) × (is_registered R kinds.Extlang x ≡ true) × (has_prefix (prefixes R kinds.Extlang x) c.language ≡ true)
+  one_extlang x [] h = (refl, h.0, h.1)
+  one_extlang x (y ∷ rest) h = absurd h
 
   proper_core_has : IsProperCore R c → Repeats
-  proper_core_has h faults.UnknownLanguage p f = absurd (both (is_registered R kinds.Language c.language) h.language f.1)
-  proper_core_has h faults.UnknownExtlang p f = absurd (both (is_registered R kinds.Extlang f.0) (one_extlang c.extlangs f.0 f.1 f.2 h.extlangs).1 f.4)
-  proper_core_has h faults.ExtlangPrefix p f = absurd (both (has_prefix (prefixes R kinds.Extlang f.0) c.language) (one_extlang c.extlangs f.0 f.1 f.2 h.extlangs).2 f.4)
-  proper_core_has h faults.TooManyExtlangs p f = let bad = (one_extlang c.extlangs f.0 (f.1 ∷ f.2) f.3 h.extlangs).0 in cc
-  proper_core_has h faults.UnknownScript p f = absurd (both (is_registered R kinds.Script f.0) (at_some (λ s. is_registered R kinds.Script s ≡ true) c.script f.0 f.1 h.script) f.3)
-  proper_core_has h faults.UnknownRegion p f = absurd (both (is_registered R kinds.Region f.0) (at_some (λ s. is_registered R kinds.Region s ≡ true) c.region f.0 f.1 h.region) f.3)
-  proper_core_has h faults.UnknownVariant p f = absurd (both (is_registered R kinds.Variant f.1) (all_at (λ v. is_registered R kinds.Variant v ≡ true) c.variants f.0 f.1 f.2 f.3 h.variants) f.5)
+  proper_core_has h faults.UnknownLanguage p f = cc (h.language, f.1)
+  proper_core_has h faults.UnknownExtlang p f = cc ((one_extlang f.0 f.1 (subst (ExtlangsFit R c.language) f.2 h.extlangs)).1, f.4)
+  proper_core_has h faults.ExtlangPrefix p f = cc ((one_extlang f.0 f.1 (subst (ExtlangsFit R c.language) f.2 h.extlangs)).2, f.4)
+  proper_core_has h faults.TooManyExtlangs p f = let bad = (one_extlang f.0 (f.1 ∷ f.2) (subst (ExtlangsFit R c.language) f.3 h.extlangs)).0 in cc
+  proper_core_has h faults.UnknownScript p f = cc (subst (λ o. IfSome o (λ s. is_registered R kinds.Script s ≡ true)) f.1 h.script, f.3)
+  proper_core_has h faults.UnknownRegion p f = cc (subst (λ o. IfSome o (λ s. is_registered R kinds.Region s ≡ true)) f.1 h.region, f.3)
+  proper_core_has h faults.UnknownVariant p f = cc (all_at (λ v. is_registered R kinds.Variant v ≡ true) c.variants f.0 f.1 f.2 f.3 h.variants, f.5)
   proper_core_has h faults.DuplicateVariant p f = refl
   proper_core_has h faults.DuplicateSingleton p f = absurd f
   proper_core_has h faults.BadTransform p f = absurd f
@@ -89,18 +75,13 @@ module _ (R : List EntryParts) (here : ℕ) (e : ExtensionParts) where
   abbrev ExtensionRepeats : Type 0
   ExtensionRepeats = (k : ValidFaultKind) (p : ℕ) → HasExtensionFault R here e k p → k ≡ faults.DuplicateVariant
 
-  source_from : ExtensionRepeats → e.singleton ≡ transform → (parts : TForm) → IsTransform e.subtags parts → (o : Option CoreParts) → parts.source ≡ o → IfSome o (IsProperCore R)
-  source_from f t parts formed None there = tt
-  source_from f t parts formed (Some c) there =
-      proper_core_from R here c (λ k p h. f k p (inr (c, record { transforms = t; parts = parts; formed = formed; there = there }, h)))
-
   transform_from : ExtensionRepeats → e.singleton ≡ transform → (o : Option TForm) → transform_of e.subtags ≡ o → (p : TForm) × IsTransform e.subtags p × IfSome p.source (IsProperCore R)
   transform_from f t None none =
       let formless : (p : TForm) → IsTransform e.subtags p → ⊥ = λ p h. let bad : None ≡ Some p = sym none ∙ (t_decided e.subtags p).1 h in cc in
       let bad = f faults.BadTransform here (inl (refl, refl, record { transforms = t; formless = formless })) in cc
   transform_from f t (Some parts) there =
       let formed = (t_decided e.subtags parts).0 there in
-      (parts, formed, source_from f t parts formed parts.source refl)
+      (parts, formed, if_some (IsProperCore R) parts.source (λ c there. proper_core_from R here c (λ k p h. f k p (inr (c, record { transforms = t; parts = parts; formed = formed; there = there }, h)))))
 
   proper_extension_from : ExtensionRepeats → IsProperExtension R e
   proper_extension_from f t = transform_from f t (transform_of e.subtags) refl
@@ -111,20 +92,17 @@ module _ (R : List EntryParts) (here : ℕ) (e : ExtensionParts) where
       let parts = h f.1.transforms in
       let same : parts.0 ≡ f.1.parts = t_unique e.subtags parts.0 f.1.parts parts.1 f.1.formed in
       let there : parts.0.source ≡ Some f.0 = ap (λ (z : TForm). z.source) same ∙ f.1.there in
-      proper_core_has R here f.0 (at_some (IsProperCore R) parts.0.source f.0 there parts.2) k p f.2
-
-  distinct_source_at : ((k : ValidFaultKind) (p : ℕ) → HasExtensionFault R here e k p → ⊥) → e.singleton ≡ transform → (parts : TForm) → IsTransform e.subtags parts → (o : Option CoreParts) → parts.source ≡ o → IfSome o (λ (c : CoreParts). Distinct c.variants)
-  distinct_source_at f t parts formed None there = tt
-  distinct_source_at f t parts formed (Some c) there =
-      distinct_core_from R here c (λ p h. f faults.DuplicateVariant p (inr (c, record { transforms = t; parts = parts; formed = formed; there = there }, h)))
+      proper_core_has R here f.0 (subst (λ o. IfSome o (IsProperCore R)) there parts.2) k p f.2
 
   distinct_source_from : ((k : ValidFaultKind) (p : ℕ) → HasExtensionFault R here e k p → ⊥) → HasDistinctSource e
-  distinct_source_from f t parts formed = distinct_source_at f t parts formed parts.source refl
+  distinct_source_from f t parts formed =
+      if_some (λ (c : CoreParts). Distinct c.variants) parts.source
+      (λ c there. distinct_core_from R here c (λ p h. f faults.DuplicateVariant p (inr (c, record { transforms = t; parts = parts; formed = formed; there = there }, h))))
 
   distinct_source_has : HasDistinctSource e → (k : ValidFaultKind) (p : ℕ) → k ≡ faults.DuplicateVariant → HasExtensionFault R here e k p → ⊥
   distinct_source_has h k p dup (inl bad) = let no : faults.DuplicateVariant ≡ faults.BadTransform = sym dup ∙ bad.0 in cc
   distinct_source_has h k p dup (inr f) =
-      let d = at_some (λ (c : CoreParts). Distinct c.variants) f.1.parts.source f.0 f.1.there (h f.1.transforms f.1.parts f.1.formed) in
+      let d = subst (λ o. IfSome o (λ (c : CoreParts). Distinct c.variants)) f.1.there (h f.1.transforms f.1.parts f.1.formed) in
       distinct_core_has R here f.0 d p (subst (λ z. HasCoreFault R here f.0 z p) dup f.2)
 
 -- tags

@@ -1,7 +1,8 @@
 -- The first of several faults, and the faults of variants.
 use Rattle.std.proofs.Common.{◌≡◌, ℕ, ◌≤◌, ◌<◌, Bool, true, false, ◌⊎◌, inl, inr, refl, sym, subst, ◌∙◌, arith, ◌+◌, ◌||◌, not, List, [], ◌∷◌, ◌++◌, length, ap, append_assoc, bytes_eq, ◌≢◌, take, drop, get_or}
 use Rattle.std.specs.Prelude.{Result, Ok, Err, bytes_eq}
-use Rattle.std.proofs.lemmas.Bool.{or_cases}
+use Rattle.std.proofs.lemmas.Bool.{or_cases, false_from_ne_true}
+use Rattle.std.proofs.lemmas.List.Elements.{recursion_from_All}
 use Rattle.std.proofs.lemmas.Slice.Eq.{bytes_eq-Decides}
 use Rattle.std.specs.List.{AllByRecursion}
 use Rattle.std.proofs.Math.Bool.{or-true}
@@ -202,57 +203,44 @@ variants_part R r m before (v ∷ after) =
     (subst (λ n. Part (m + 1) n (VariantFault R r (m + 1 + 1) (before ++ v ∷ []) after) (variants_check R r (m + 1 + 1) (before ++ v ∷ []) after)) (omega arith) (variants_part R r (m + 1) (before ++ v ∷ []) after))
     (omega arith) (omega arith) (omega arith)
 
--- a variant that is not registered
-pub record IsUnknownAt (R : List EntryParts) (here : ℕ) (vs : List (List ℕ)) (p : ℕ) : Type 0 where
+-- a fault of the variant at one place of a list
+pub record IsVariantAt (R : List EntryParts) (r : Bool) (here : ℕ) (before vs : List (List ℕ)) (k : ValidFaultKind) (p : ℕ) : Type 0 where
   pub front : List (List ℕ)
   pub variant : List ℕ
   pub after : List (List ℕ)
   pub there : vs ≡ front ++ variant ∷ after
-  pub placed : p ≡ here + length front
-  pub cause : is_registered R kinds.Variant variant ≡ false
+  pub fault : VariantHead R r (here + length front) (before ++ front) variant k p
 
--- a variant that occurs again
-pub record IsRepeatedAt (here : ℕ) (before vs : List (List ℕ)) (p : ℕ) : Type 0 where
-  pub front : List (List ℕ)
-  pub variant : List ℕ
-  pub after : List (List ℕ)
-  pub there : vs ≡ front ++ variant ∷ after
-  pub placed : p ≡ here + length front
-  pub cause : stands_in (before ++ front) variant ≡ true
+moved : (R : List EntryParts) (r : Bool) (v : List ℕ) (k : ValidFaultKind) (p : ℕ) {m n : ℕ} {bs cs : List (List ℕ)} → m ≡ n → bs ≡ cs → VariantHead R r m bs v k p → VariantHead R r n cs v k p
+moved R r v k p {m} {n} {bs} {cs} number front f = subst (λ z. VariantHead R r z cs v k p) number (subst (λ z. VariantHead R r m z v k p) front f)
 
-repeats : (r b : Bool) → (r || not b) ≡ false → (r ≡ false) × (b ≡ true)
+pub variants_shown : (R : List EntryParts) (r : Bool) (here : ℕ) (before vs : List (List ℕ)) (k : ValidFaultKind) (p : ℕ) → VariantFault R r here before vs k p → IsVariantAt R r here before vs k p
+unfolding VariantFault
+variants_shown R r here before [] k p h = absurd h
+variants_shown R r here before (v ∷ after) k p (inl h) =
+    let same : here ≡ here + 0 = omega arith in
+    record { front = []; variant = v; after = after; there = refl; fault = moved R r v k p same (sym (append-nil before)) h }
+variants_shown R r here before (v ∷ after) k p (inr h) =
+    let at = variants_shown R r (here + 1) (before ++ v ∷ []) after k p h in
+    let same : here + 1 + length at.front ≡ here + length (v ∷ at.front) = omega arith in
+    record { front = v ∷ at.front; variant = at.variant; after = at.after; there = ap (λ ws. v ∷ ws) at.there; fault = moved R r at.variant k p same (append_assoc before (v ∷ []) at.front) at.fault }
+
+pub variants_hidden : (R : List EntryParts) (r : Bool) (here : ℕ) (before front : List (List ℕ)) (v : List ℕ) (after : List (List ℕ)) (k : ValidFaultKind) (p : ℕ) → VariantHead R r (here + length front) (before ++ front) v k p → VariantFault R r here before (front ++ v ∷ after) k p
+unfolding VariantFault
+variants_hidden R r here before [] v after k p h =
+    let same : here + 0 ≡ here = omega arith in
+    inl (moved R r v k p same (append-nil before) h)
+variants_hidden R r here before (u ∷ front) v after k p h =
+    let same : here + length (u ∷ front) ≡ here + 1 + length front = omega arith in
+    inr (variants_hidden R r (here + 1) (before ++ u ∷ []) front v after k p (moved R r v k p same (sym (append_assoc before (u ∷ []) front)) h))
+
+pub repeats : (r b : Bool) → (r || not b) ≡ false → (r ≡ false) × (b ≡ true)
 repeats false true h = (refl, refl)
 repeats _ _ h = cc
 
-repeated : (r b : Bool) → r ≡ false → b ≡ true → (r || not b) ≡ false
+pub repeated : (r b : Bool) → r ≡ false → b ≡ true → (r || not b) ≡ false
 repeated false true h e = refl
 repeated _ _ h e = cc
-
-pub variants_shown : (R : List EntryParts) (r : Bool) (here : ℕ) (before vs : List (List ℕ)) (k : ValidFaultKind) (p : ℕ) → VariantFault R r here before vs k p → ((k ≡ faults.UnknownVariant) × IsUnknownAt R here vs p) ⊎ ((k ≡ faults.DuplicateVariant) × (r ≡ false) × IsRepeatedAt here before vs p)
-unfolding VariantFault
-variants_shown R r here before [] k p h = absurd h
-variants_shown R r here before (v ∷ after) k p (inl (inl h)) =
-    inl (h.kinded, record { front = []; variant = v; after = after; there = refl; placed = omega (arith, h.placed); cause = h.cause })
-variants_shown R r here before (v ∷ after) k p (inl (inr h)) =
-    let both = repeats r (stands_in before v) h.cause in
-    inr (h.kinded, both.0, record { front = []; variant = v; after = after; there = refl; placed = omega (arith, h.placed); cause = ap (λ bs. stands_in bs v) (append-nil before) ∙ both.1 })
-variants_shown R r here before (v ∷ after) k p (inr h) =
-    elim (variants_shown R r (here + 1) (before ++ v ∷ []) after k p h) [
-      | inl u ↦ inl (u.0, record { front = v ∷ u.1.front; variant = u.1.variant; after = u.1.after; there = ap (λ ws. v ∷ ws) u.1.there; placed = omega (arith, u.1.placed); cause = u.1.cause })
-      | inr u ↦ inr (u.0, u.1, record { front = v ∷ u.2.front; variant = u.2.variant; after = u.2.after; there = ap (λ ws. v ∷ ws) u.2.there; placed = omega (arith, u.2.placed); cause = ap (λ bs. stands_in bs u.2.variant) (sym (append_assoc before (v ∷ []) u.2.front)) ∙ u.2.cause })
-    ]
-
-pub unknown_hidden : (R : List EntryParts) (r : Bool) (here : ℕ) (before front : List (List ℕ)) (v : List ℕ) (after : List (List ℕ)) (p : ℕ) → p ≡ here + length front → is_registered R kinds.Variant v ≡ false → VariantFault R r here before (front ++ v ∷ after) faults.UnknownVariant p
-unfolding VariantFault
-unknown_hidden R r here before [] v after p e h = inl (inl (record { kinded = refl; placed = omega (arith, e); cause = h }))
-unknown_hidden R r here before (u ∷ front) v after p e h = inr (unknown_hidden R r (here + 1) (before ++ u ∷ []) front v after p (omega (arith, e)) h)
-
-pub repeated_hidden : (R : List EntryParts) (r : Bool) (here : ℕ) (before front : List (List ℕ)) (v : List ℕ) (after : List (List ℕ)) (p : ℕ) → p ≡ here + length front → r ≡ false → stands_in (before ++ front) v ≡ true → VariantFault R r here before (front ++ v ∷ after) faults.DuplicateVariant p
-unfolding VariantFault
-repeated_hidden R r here before [] v after p e f h =
-    inl (inr (record { kinded = refl; placed = omega (arith, e); cause = repeated r (stands_in before v) f (ap (λ bs. stands_in bs v) (sym (append-nil before)) ∙ h) }))
-repeated_hidden R r here before (u ∷ front) v after p e f h =
-    inr (repeated_hidden R r (here + 1) (before ++ u ∷ []) front v after p (omega (arith, e)) f (ap (λ bs. stands_in bs v) (append_assoc before (u ∷ []) front) ∙ h))
 
 -- The check of a core step by step.
 
@@ -277,14 +265,10 @@ variants_end R r p before vs i l = ap (variants_check R r p before) (drop_all i 
 
 -- where none stands before, it doesn't matter whether they may repeat
 
-unlike : (v w : List ℕ) (b : Bool) → bytes_eq v w ≡ b → w ≢ v → b ≡ false
-unlike v w true e d = absurd (d (sym ((bytes_eq-Decides v w).0 e)))
-unlike v w false e d = refl
-
 next_before : (before : List (List ℕ)) (v : List ℕ) (after : List (List ℕ)) → AllByRecursion (λ w. w ≢ v) after → AllByRecursion (λ w. stands_in before w ≡ false) after → AllByRecursion (λ w. stands_in (before ++ v ∷ []) w ≡ false) after
 next_before before v [] d n = tt
 next_before before v (w ∷ after) d n =
-    (list_any-append (λ u. bytes_eq u w) before (v ∷ []) ∙ ap (λ b. b || stands_in (v ∷ []) w) n.0 ∙ ap (λ b. b || false) (unlike v w (bytes_eq v w) refl d.0), next_before before v after d.1 n.1)
+    (list_any-append (λ u. bytes_eq u w) before (v ∷ []) ∙ ap (λ b. b || stands_in (v ∷ []) w) n.0 ∙ ap (λ b. b || false) (false_from_ne_true (bytes_eq v w) (λ e. d.0 (sym ((bytes_eq-Decides v w).0 e)))), next_before before v after d.1 n.1)
 
 differing_after : (R : List EntryParts) (p : ℕ) (before vs : List (List ℕ)) → Distinct vs → AllByRecursion (λ v. stands_in before v ≡ false) vs → variants_check R true p before vs ≡ variants_check R false p before vs
 unfolding variants_check
@@ -293,12 +277,8 @@ differing_after R p before (v ∷ after) d n =
     ap (and_then (variant_check R true p before v)) (differing_after R (p + 1) (before ++ v ∷ []) after d.1 (next_before before v after d.0 n.1))
     ∙ ap (λ b. and_then (and_then (unless (is_registered R kinds.Variant v) faults.UnknownVariant p) (unless (not b) faults.DuplicateVariant p)) (variants_check R false (p + 1) (before ++ v ∷ []) after)) (sym n.0)
 
-none_at_first : (vs : List (List ℕ)) → AllByRecursion (λ v. stands_in [] v ≡ false) vs
-none_at_first [] = tt
-none_at_first (v ∷ vs) = (refl, none_at_first vs)
-
 -- variants that differ may be taken for such as may repeat
 pub differing_pass : (R : List EntryParts) (r : Bool) (p : ℕ) (vs : List (List ℕ)) (d : Bool) → (d ≡ true → Distinct vs) → variants_check R (r || d) p [] vs ≡ variants_check R r p [] vs
 differing_pass R true p vs d h = refl
-differing_pass R false p vs true h = differing_after R p [] vs (h refl) (none_at_first vs)
+differing_pass R false p vs true h = differing_after R p [] vs (h refl) (recursion_from_All (λ v. stands_in [] v ≡ false) vs (λ k d l. refl))
 differing_pass R false p vs false h = refl

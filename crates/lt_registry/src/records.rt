@@ -23,6 +23,7 @@ use std::alloc::Global;
 
 /// The entry of the record of these fields, which has this number in the file; or the first of what is
 /// wrong with it.
+#[tactic(auto, using(crate::proofs::RecordLaws::kind_there, crate::proofs::RecordLaws::name_refused, crate::proofs::RecordLaws::prefixes_fit, crate::proofs::RecordLaws::prefixes_where))]
 pub(crate) fn read_entry(
     alloc: Global,
     fields: &[JarField],
@@ -67,6 +68,7 @@ fn name_field(kind: Kind) -> &'static str
     if is_whole_kind(kind) { "Tag" } else { "Subtag" }
 }
 
+#[tactic(auto, using(crate::proofs::RecordLaws::name_told))]
 fn read_name(alloc: Global, kind: Kind, fields: &[JarField]) -> Result<EntryName, RecordFaultKind>
     ensures ok { IfOk result (steps.IsNameIn kind fields.now) }
     ensures fits { IfOk result (FitsName kind) }
@@ -249,6 +251,7 @@ fn read_prefixes(
     }
 }
 
+#[tactic(auto, using(crate::proofs::RecordLaws::field_taken, crate::proofs::RecordLaws::field_skipped, crate::proofs::RecordLaws::field_fails, crate::proofs::RecordLaws::no_field))]
 fn read_all_prefixes(alloc: Global, fields: &[JarField]) -> Result<Vec<Prefix>, RecordFaultKind>
     ensures ok { IfOk result (λ prefixes. record_words.prefixes_of (record_words.bodies record_words.prefix_name fields.now) ≡ Some prefixes.items) }
     ensures err { IfErr result (steps.IsPrefixesFault fields.now) }

@@ -222,6 +222,7 @@ fn check_variant<L: Lookup>(
 }
 
 /// Checks the extensions of a langtag, of which the first has its singleton at a place.
+#[tactic(auto, using(crate::proofs::TagFaultLemmas::told_extension, crate::proofs::TagFaultLemmas::stepped, crate::proofs::TagFaultLemmas::all_told))]
 fn check_extensions<L: Lookup>(
     alloc: Global,
     table: &L,

@@ -1,11 +1,8 @@
-use Rattle.std.proofs.Common.{◌≡◌, false, sym, ◌∙◌, arith}
+use Rattle.std.proofs.Common.{◌≡◌, false, sym, ◌∙◌}
 use Rattle.std.proofs.lemmas.Result.{err_from_is_err_and}
 use Rattle.lt_registry.specs.Records.{repeats_field, HasKind}
-use Rattle.lt_registry.proofs.RecordLaws.{kind_there, name_refused, value_refused, prefix_refused, prefixes_fit, prefixes_where}
+use Rattle.lt_registry.proofs.RecordLaws.{kind_there, value_refused, prefix_refused}
 use Rattle.lt_registry.proofs.records.read_entry.Goals as goal
-
-pub returns-in_err-name-clause-err : goal.returns-in_err-name-clause-err
-returns-in_err-name-clause-err c = grind (arith, kind_there, name_refused)
 
 pub returns-in_err-value-clause-err : goal.returns-in_err-value-clause-err
 returns-in_err-value-clause-err c =
@@ -20,9 +17,3 @@ returns-in_err-prefixes-clause-err c =
     let once : repeats_field c.args.fields.now ≡ false = sym c.repeats_field.ensures ∙ c.if-repeats_field.false in
     let kind : HasKind c.args.fields.now c.in_ok-kind.kind = kind_there c.args.fields.now c.in_ok-kind.kind (sym c.read_kind.ensures ∙ c.in_ok-kind.was) in
     rw (p.1, p.2) (prefix_refused c.args.fields.now c.in_ok-kind.kind once kind c.in_ok-name.name c.in_ok-name.ensures.ok c.in_ok-value.value c.in_ok-value.ensures.ok c.in_err-prefixes.field-0.0 c.in_err-prefixes.ensures.err)
-
-pub of_parts-requires : goal.of_parts-requires
-of_parts-requires c = grind (arith, prefixes_fit, prefixes_where)
-
-pub returns-clause-ok : goal.returns-clause-ok
-returns-clause-ok c = grind (arith, kind_there)

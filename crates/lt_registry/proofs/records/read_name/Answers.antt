@@ -1,12 +1,9 @@
-use Rattle.std.proofs.Common.{◌≡◌, Some, true, sym, ap, ◌∙◌, subst, arith}
+use Rattle.std.proofs.Common.{◌≡◌, Some, true, sym, ap, ◌∙◌, subst}
 use Rattle.lt_registry.specs.Entries.{is_whole_kind}
 use Rattle.lt_registry.specs.Records.{body, name_field, HasNoTag, subtags_named}
 use Rattle.lt_registry.specs.RecordSteps.{IsTagOf}
 use Rattle.lt_registry.proofs.RecordLaws.{name_told, field_of_tag}
 use Rattle.lt_registry.proofs.records.read_name.Goals as goal
-
-pub returns-then-not-is_whole_kind-clause-ok : goal.returns-then-not-is_whole_kind-clause-ok
-returns-then-not-is_whole_kind-clause-ok c = grind (arith, name_told)
 
 pub returns-then-not-is_whole_kind-clause-err : goal.returns-then-not-is_whole_kind-clause-err
 returns-then-not-is_whole_kind-clause-err c =

@@ -1,5 +1,5 @@
-use Rattle.std.proofs.Common.{sym, ◌∙◌, arith}
-use Rattle.lt_registry.proofs.TagFaultLemmas.{told_duplicate, told_extension, stepped, all_told}
+use Rattle.std.proofs.Common.{sym, ◌∙◌}
+use Rattle.lt_registry.proofs.TagFaultLemmas.{told_duplicate}
 use Rattle.lt_registry.proofs.validity.check_extensions.Goals as goal
 
 pub returns-then-has_singleton : goal.returns-then-has_singleton
@@ -7,12 +7,3 @@ returns-then-has_singleton g c =
     let again = sym c.has_singleton.ensures ∙ c.if-has_singleton.true in
     told_duplicate (g.L.Lookup.listed c.args.table.now) c.args.may_repeat c.args.first c.args.extensions.now c.loop-index.place c.loop-index.index c.index-extensions-index.result c.loop-index-test.true c.index-extensions-index.is c.loop-index.invariant.1
     (rw (← c.singleton.ensures.value) again)
-
-pub returns-in_err-check_extension : goal.returns-in_err-check_extension
-returns-in_err-check_extension g c = grind (arith, told_extension)
-
-pub loop-index-preserved : goal.loop-index-preserved
-loop-index-preserved g c = grind (arith, stepped)
-
-pub returns : goal.returns
-returns g c = grind (arith, all_told)

@@ -1,15 +1,8 @@
-use Rattle.std.proofs.Common.{◌∙◌, sym, ap, Ok, false, rules, arith}
+use Rattle.std.proofs.Common.{◌∙◌, sym, ap, Ok, rules}
 use Rattle.std.proofs.lemmas.Result.{err_from_is_err_and}
-use Rattle.lt_jar.specs.Sources.{Advances}
 use Rattle.lt_registry.specs.AddedRecords.{finished}
-use Rattle.lt_registry.proofs.RecordLaws.{read_none, read_more, read_stops, read_entries, read_fault}
+use Rattle.lt_registry.proofs.RecordLaws.{read_stops, read_ended}
 use Rattle.lt_registry.proofs.registry.Registry.read.Goals as goal
-
-pub records-init : goal.records-init
-records-init g c = grind (arith, read_none)
-
-pub records-preserved : goal.records-preserved
-records-preserved g c = grind (arith, read_more)
 
 pub returns-in_err-take_next : goal.returns-in_err-take_next
 returns-in_err-take_next g c =
@@ -23,20 +16,16 @@ returns-in_err-take_next g c =
 pub returns-in_err-finish : goal.returns-in_err-finish
 returns-in_err-finish g c =
     let p = err_from_is_err_and c.from_residual-in_err-finish.result c.from_residual-in_err-finish.ensures.1 in
-    let old = c.records.reader in
-    let new = c.take_next.new.reader in
     let no_more = c.in_ok-take_next.was ∙ ap Ok c.if-branch.false in
-    let advances : Advances g.R.Read.remaining old.source new.source old.device.now new.device.now (Ok false) = rw no_more at c.take_next.ensures.advances in
     let given = ap (λ d. finished d.entries d.fault) (sym (c.take_next.ensures.keeps no_more)) ∙ sym c.finish.ensures ∙ c.in_err-finish.was in
-    let done = read_fault g.R.Read.remaining c.in_ok-reader.reader.source old.source new.source c.args.device.now old.device.now new.device.now c.records.draft c.in_err-finish.field-0.0 c.records.invariant.1 advances given in
+    let done = rw given at (read_ended g.R.Read.remaining c.in_ok-reader.reader.source c.records.reader.source c.take_next.new.reader.source c.args.device.now c.records.reader.device.now c.take_next.new.reader.device.now c.records.draft c.records.invariant.1
+    (rw no_more at c.take_next.ensures.advances)) in
     rw (p.1, p.2) (search rules)
 
 pub returns : goal.returns
 returns g c =
-    let old = c.records.reader in
-    let new = c.take_next.new.reader in
     let no_more = c.in_ok-take_next.was ∙ ap Ok c.if-branch.false in
-    let advances : Advances g.R.Read.remaining old.source new.source old.device.now new.device.now (Ok false) = rw no_more at c.take_next.ensures.advances in
     let given = ap (λ d. finished d.entries d.fault) (sym (c.take_next.ensures.keeps no_more)) ∙ sym c.finish.ensures ∙ c.in_ok-finish.was in
-    let done = (read_entries g.R.Read.remaining c.in_ok-reader.reader.source old.source new.source c.args.device.now old.device.now new.device.now c.records.draft c.in_ok-finish.field-0 c.records.invariant.1 advances given).0 in
+    let done = rw given at (read_ended g.R.Read.remaining c.in_ok-reader.reader.source c.records.reader.source c.take_next.new.reader.source c.args.device.now c.records.reader.device.now c.take_next.new.reader.device.now c.records.draft c.records.invariant.1
+    (rw no_more at c.take_next.ensures.advances)) in
     search rules
