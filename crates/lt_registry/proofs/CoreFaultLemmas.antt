@@ -205,12 +205,6 @@ module _ (R : List EntryParts) (r : Bool) (here : ℕ) (e : ExtensionParts) wher
   source_tells parts (Some source) t formed there =
       tells_same (CoreFault R r here source) ExtensionFault (core_check R r here source) (same_source parts source t formed there) (core_tells R r here source)
 
-source_short : (parts : TForm) (source : CoreParts) → parts.source ≡ Some source → length (spell_core source) ≤ length (spell_t parts)
-source_short parts source there =
-    let a = length-append (spell_source parts.source) (flat_map spell_field parts.fields) in
-    let b : length (spell_source parts.source) ≡ length (spell_core source) = ap (λ o. length (spell_source o)) there in
-    omega (arith, a, b)
-
 -- a fault at the singleton is that of the form; the places of the others are those of the extension's subtags
 pub fault_at : (R : List EntryParts) (here : ℕ) (e : ExtensionParts) (k : ValidFaultKind) (p : ℕ) → HasExtensionFault R here e k p → ((k ≡ faults.BadTransform) × (p ≡ here)) ⊎ ((here < p) × (p ≤ here + length e.subtags))
 fault_at R here e k p (inl bad) = inl (bad.0, bad.1)
@@ -219,6 +213,7 @@ fault_at R here e k p (inr other) =
     let past = core_past R false here other.0 k p h in
     let upto = core_upto R false here other.0 k p h in
     let long = length_core other.0 in
-    let short = source_short other.1.parts other.0 other.1.there in
+    let spelling = length-append (spell_source other.1.parts.source) (flat_map spell_field other.1.parts.fields) in
+    let short : length (spell_source other.1.parts.source) ≡ length (spell_core other.0) = ap (λ o. length (spell_source o)) other.1.there in
     let spelled : length (spell_t other.1.parts) ≡ length e.subtags = ap length other.1.formed.spelled in
-    inr (past, omega (arith, upto, long, short, spelled))
+    inr (past, omega (arith, upto, long, spelling, short, spelled))

@@ -395,15 +395,13 @@ one_entry r n e f h g =
 
 -- what the steps tell
 
-subtags_told : (r : List Field) (k : Kind) (s : List ℕ) (a : Result EntryName RecordFaultKind) → is_whole_kind k ≡ false → body (name_field k) r ≡ Some s → subtags_named k s ≡ a → IsSubtagsResult a → IfOk a (IsNameIn k r) × IfErr a (IsNameFault k r)
-subtags_told r k s (Ok (names.Whole t)) whole there e fits = absurd fits
-subtags_told r k s (Ok _) whole there e fits = ((s, there, (whole, e)), tt)
-subtags_told r k s (Err fault) whole there e bad =
-    let here : body subtag_name r ≡ Some s = ap (λ z. body z r) (sym (field_of_subtag k whole)) ∙ there in
-    (tt, elim bad [ inl is ↦ subst (IsNameFault k r) (sym is) (s, whole, here, e ∙ ap Err is) | inr is ↦ subst (IsNameFault k r) (sym is) (s, whole, here, e ∙ ap Err is) ])
-
 pub name_told : (r : List Field) (k : Kind) (s : List ℕ) (a : Result EntryName RecordFaultKind) → is_whole_kind k ≡ false → body (name_field k) r ≡ Some s → a ≡ subtags_named k s → IfOk a (IsNameIn k r) × IfErr a (IsNameFault k r)
-name_told r k s a whole there e = subtags_told r k s a whole there (sym e) (subst IsSubtagsResult (sym e) (name_fits k s (ends_of s)))
+name_told r k s (Ok (names.Whole t)) whole there e = absurd (subst IsSubtagsResult (sym e) (name_fits k s (ends_of s)))
+name_told r k s (Ok _) whole there e = ((s, there, (whole, sym e)), tt)
+name_told r k s (Err fault) whole there e =
+    let here : body subtag_name r ≡ Some s = ap (λ z. body z r) (sym (field_of_subtag k whole)) ∙ there in
+    let bad : (fault ≡ faults.BadRange) ⊎ (fault ≡ faults.BadSubtag) = subst IsSubtagsResult (sym e) (name_fits k s (ends_of s)) in
+    (tt, elim bad [ inl is ↦ subst (IsNameFault k r) (sym is) (s, whole, here, sym e ∙ ap Err is) | inr is ↦ subst (IsNameFault k r) (sym is) (s, whole, here, sym e ∙ ap Err is) ])
 
 pub text_told : (r : List Field) (k : Kind) (s : List ℕ) → body value_name r ≡ Some s → (fault : RecordFaultKind) → IsTextFault k s fault → IsValueFault k r fault
 text_told r k s there faults.BadPreferred f = (s, there, f)
@@ -466,18 +464,14 @@ rising_with i (x ∷ es) e h b l = (all_more (λ (f : EntryParts). x.number < f.
 
 next_clean : (records : List (List Field)) (i : ℕ) (r : List Field) → r ≡ get_or records i r → ((k : RecordFaultKind) (m : ℕ) → HasFaultAt records k m → i < m)
     → (is_header_at (i + 1) r ≡ false → (k : RecordFaultKind) → HasRecordFault r k → ⊥) → (k : RecordFaultKind) (m : ℕ) → HasFaultAt records k m → i + 1 < m
-next_clean records i r is clean none k m h = by (eqb m (i + 1)) refl
-  where
-    by : (b : Bool) → eqb m (i + 1) ≡ b → i + 1 < m
-    by true e =
-        let same : m ≡ i + 1 = eqb-true m (i + 1) e in
-        let here : h.here ≡ r = same_record records i r k m h same is in
-        let judged : is_header_at (i + 1) r ≡ false = ap (λ z. is_header_at (i + 1) z) (sym here) ∙ ap (λ z. is_header_at z h.here) (sym same) ∙ h.judged in
-        absurd (none judged k (subst (λ z. HasRecordFault z k) here h.fault))
-    by false e =
-        let other : m ≢ i + 1 = λ same. cc (eq-eqb m (i + 1) same, e) in
-        let past = clean k m h in
-        omega (arith, past, other)
+next_clean records i r is clean none k m h =
+    elim (cases_eq m (i + 1)) [
+      | inl same ↦
+          let here : h.here ≡ r = same_record records i r k m h same is in
+          let judged : is_header_at (i + 1) r ≡ false = ap (λ z. is_header_at (i + 1) z) (sym here) ∙ ap (λ z. is_header_at z h.here) (sym same) ∙ h.judged in
+          absurd (none judged k (subst (λ z. HasRecordFault z k) here h.fault))
+      | inr other ↦ let past = clean k m h in omega (arith, past, other)
+    ]
 
 made_entries : (records : List (List Field)) (i : ℕ) (r : List Field) (es fs : List EntryParts) → i < length records → r ≡ get_or records i r → Made records i es → EntriesFrom (i + 1) (r ∷ []) fs → EntriesFrom 1 (take (i + 1) records) (es ++ fs)
 made_entries records i r es fs l is made h =
@@ -588,9 +582,6 @@ fault_back rs r k m h l =
     let found = record_back h.before h.here h.after rs r h.there (omega (arith, h.numbered, l)) in
     record { before = h.before; here = h.here; after = found.0; there = found.1; numbered = h.numbered; judged = h.judged; fault = h.fault }
 
-fault_within : (rs : List (List Field)) (k : RecordFaultKind) (m : ℕ) → HasFaultAt rs k m → m ≤ length rs
-fault_within rs k m h = omega (arith, h.numbered, ap length h.there, length-append h.before (h.here ∷ h.after))
-
 -- where the records so far have no fault below a number, none is below it after them
 clean_on : (rs : List (List Field)) (r : List Field) (n : ℕ) → n ≤ length rs + 1 → ((k : RecordFaultKind) (m : ℕ) → HasFaultAt rs k m → n ≤ m) → (k : RecordFaultKind) (m : ℕ) → HasFaultAt (rs ++ r ∷ []) k m → n ≤ m
 clean_on rs r n l clean k m h = by_order (cases_lt m n)
@@ -617,7 +608,7 @@ refusal_on rs r fault (inl memory) =
     )
 refusal_on rs r fault (inr first) =
     let at = first.fault in
-    let low = fault_within rs fault.kind fault.number at in
+    let low : fault.number ≤ length rs = omega (arith, at.numbered, ap length at.there, length-append at.before (at.here ∷ at.after)) in
     let there = ap (λ zs. zs ++ r ∷ []) at.there ∙ append_assoc at.before (at.here ∷ at.after) (r ∷ []) in
     inr (record {
       fault = record { before = at.before; here = at.here; after = at.after ++ r ∷ []; there = there; numbered = at.numbered; judged = at.judged; fault = at.fault };
@@ -770,9 +761,6 @@ read_stops {R} remaining first old new before now after d fault so advances = by
     line : fault.line ≡ line_of_kept new
     line = (advances.fails fault refl).1
 
-    kind_of : (k l : JarFaultKind) → (let r : Result Bool JarFaultKind = Err k in r) ≡ Err l → k ≡ l
-    kind_of k l e = cc
-
     refusal : (lent : HasLent so.bytes so.records old) → so.reads ≤ length so.bytes → LastGave old now → (r : ReadsRecord remaining old new now after (Err fault.kind)) → IsJarRefusal remaining before after (so.bytes ++ r.read) (so.reads + r.reads) fault
     refusal lent gave last r =
         let stops = r.ends in
@@ -807,6 +795,6 @@ read_stops {R} remaining first old new before now after d fault so advances = by
           bounded = omega (arith, all.turns, all.bounded, so.none);
           each = all.each;
           answers = refusal goes.1 goes.2 goes.3 r;
-          rises = λ more. kind_of fault.kind jars.Read (r.rises (omega (arith, more, so.failures)));
+          rises = λ more. let failed = r.rises (omega (arith, more, so.failures)) in cc;
         }
     by_stand (inr ended) = absurd (let over = (advances.over ended.0).0 in cc)

@@ -197,13 +197,10 @@ numbers_ordered s t h k one =
 pub rank_shorter : (s t : List ℕ) → IsFew s → length s < length t → rank s < rank t
 rank_shorter s t h low = omega (arith, number_below s h, low)
 
-shifted : (k m n : ℕ) → leb (k + m) (k + n) ≡ leb m n
-shifted k m n = grind (arith, nat_tests)
-
 pub ranks_ordered : (s t : List ℕ) → IsFew s → IsFew t → length s ≡ length t → letters_le s t ≡ leb (rank s) (rank t)
 ranks_ordered s t h k one =
-    numbers_ordered s t h k one
-    ∙ sym (ap (λ l. leb (rank s) (l * 2 ^ 64 + number t)) (sym one) ∙ shifted (length s * 2 ^ 64) (number s) (number t))
+    let shifted : leb (length s * 2 ^ 64 + number s) (length s * 2 ^ 64 + number t) ≡ leb (number s) (number t) = grind (arith, nat_tests) in
+    numbers_ordered s t h k one ∙ sym (ap (λ l. leb (rank s) (l * 2 ^ 64 + number t)) (sym one) ∙ shifted)
 
 pub subtag_short : (s : List ℕ) → is_subtag s ≡ true → length s ≤ 8
 subtag_short s h = (subtag_length s h).1
@@ -401,9 +398,6 @@ module _ {W K : Type 0} {cmp : K → K → Ordering} (total : IsTotalOrder cmp) 
   abbrev Near : W → W → Type 0
   Near y v = (cmp (key v) (key y) ≡ Equal) × (place v ≤ place y)
 
-  near_itself : (k y : W) → k ≡ y → Near y k
-  near_itself k y e = subst (λ z. Near z k) e (tied_itself total (key k), omega arith)
-
   near_next : (k x : W) → same_key x k ≡ true → Precedes k x → (v : W) → Near k v → Near x v
   near_next k x e pre v n =
       let back : cmp (key k) (key x) ≡ Equal = tied_back total (key x) (key k) ((Equal-is (cmp (key x) (key k))).0 e) in
@@ -415,7 +409,7 @@ module _ {W K : Type 0} {cmp : K → K → Ordering} (total : IsTotalOrder cmp) 
       upto (inr p) back = p.1
 
   keeps : (k : W) (xs : List W) → AllByRecursion (Precedes k) xs → Ascends xs → AllByRecursion (λ y. Has (Near y) (dedup_from same_key k xs)) (k ∷ xs)
-  keeps k [] before up = (inl (near_itself k k refl), tt)
+  keeps k [] before up = (inl (tied_itself total (key k), omega arith), tt)
   keeps k (x ∷ xs) before up =
       let near = keeps k xs before.1 up.1 in
       let next = keeps x xs up.0 up.1 in
@@ -426,7 +420,7 @@ module _ {W K : Type 0} {cmp : K → K → Ordering} (total : IsTotalOrder cmp) 
         | inr e ↦
             let same : k ∷ dedup_from same_key x xs ≡ dedup_from same_key k (x ∷ xs) = rw e refl in
             subst (λ ds. AllByRecursion (λ y. Has (Near y) ds) (k ∷ x ∷ xs)) same
-            (inl (near_itself k k refl), AllByRecursion-weaker (λ y. Has (Near y) (dedup_from same_key x xs)) (λ y. Near y k ⊎ Has (Near y) (dedup_from same_key x xs)) (λ y h. inr h) (x ∷ xs) next)
+            (inl (tied_itself total (key k), omega arith), AllByRecursion-weaker (λ y. Has (Near y) (dedup_from same_key x xs)) (λ y. Near y k ⊎ Has (Near y) (dedup_from same_key x xs)) (λ y h. inr h) (x ∷ xs) next)
       ]
 
   kept : (xs : List W) → Ascends xs → (y : W) → Contains xs y → Has (Near y) (dedup same_key xs)
@@ -653,14 +647,11 @@ no_index indexes _ h = cc
 
 -- Where rows of one beginning start, and what a search among them finds.
 
-less_below : (m n : ℕ) → nat_cmp m n ≡ Less → m < n
-less_below m n h = grind (arith, nat_tests)
-
 -- a later row has a greater number
 rise : (rows : List Row) (i m : ℕ) (v w : Row) → RowsRise rows → i < m → slice_get rows i ≡ Some v → slice_get rows m ≡ Some w → v.number < w.number
 rise rows i m v w up l at to =
-    less_below v.number w.number
-    (rw (get_or_from_slice_get rows i v v at, get_or_from_slice_get rows m w v to) at (up i m v l (slice_get_within rows m w to)))
+    let less = rw (get_or_from_slice_get rows i v v at, get_or_from_slice_get rows m w v to) at (up i m v l (slice_get_within rows m w to)) in
+    grind (arith, nat_tests)
 
 -- the row at an index is in the span of a beginning, as far as the starts go
 pub record IsBegun (starts : List ℕ) (k i : ℕ) : Type 0 where
@@ -880,9 +871,6 @@ place_missing rows n i point =
 abbrev AllFrom : ℕ → List Stretch → Type 0
 AllFrom low ss = AllByRecursion (λ (t : Stretch). low ≤ t.start) ss
 
-all_later : (low high : ℕ) (ss : List Stretch) → low ≤ high → AllFrom high ss → AllFrom low ss
-all_later low high ss up h = AllByRecursion-weaker (λ (t : Stretch). high ≤ t.start) (λ (t : Stretch). low ≤ t.start) (λ t l. omega (arith, up, l)) ss h
-
 -- none starts before a rank
 abbrev NotBefore : ℕ → List Stretch → Type 0
 NotBefore low [] = Unit {0}
@@ -890,7 +878,7 @@ NotBefore low (s ∷ ss) = low ≤ s.start
 
 all_from : (low : ℕ) (ss : List Stretch) → NotBefore low ss → StartsRise ss → AllFrom low ss
 all_from low [] h up = tt
-all_from low (s ∷ ss) h up = (h, all_later low s.start ss h up.0)
+all_from low (s ∷ ss) h up = (h, AllByRecursion-weaker (λ (t : Stretch). s.start ≤ t.start) (λ (t : Stretch). low ≤ t.start) (λ t l. omega (arith, h, l)) ss up.0)
 
 nothing_yet : (low q : ℕ) (before : Option ℕ) (ss : List Stretch) → NotBefore low ss → q < low → place_in before ss q ≡ before
 nothing_yet low q before [] h under = refl
@@ -901,9 +889,6 @@ pub record Merges (first second : Option ℕ) (xs ys zs : List Stretch) : Type 0
   pub places : (q : ℕ) → place_in (option_or first second) zs q ≡ option_or (place_in first xs q) (place_in second ys q)
   pub bounded : (low : ℕ) → AllFrom low xs → AllFrom low ys → AllFrom low zs
   pub rising : StartsRise xs → StartsRise ys → StartsRise zs
-
-pub merges_none : (first second : Option ℕ) → Merges first second [] [] []
-merges_none first second = record { places = λ q. refl; bounded = λ low h k. tt; rising = λ h k. tt }
 
 merges_left : (first second : Option ℕ) (x : Stretch) (xs ys zs : List Stretch) → NotBefore x.start ys → Merges x.place second xs ys zs
     → Merges first second (x ∷ xs) ys (record { start = x.start; place = option_or x.place second } ∷ zs)
@@ -1017,7 +1002,7 @@ module _ (A B : List Stretch) where
     at_last over beyond up rises =
         let last : Merges first second (drop left A) (drop right B) [] =
         subst (λ ys. Merges first second (drop left A) ys []) (sym (drop_all right B beyond))
-        (subst (λ xs. Merges first second xs [] []) (sym (drop_all left A over)) (merges_none first second)) in
+        (subst (λ xs. Merges first second xs [] []) (sym (drop_all left A over)) (record { places = λ q. refl; bounded = λ low h k. tt; rising = λ h k. tt })) in
         let merged_all : Merges None None A B out = subst (Merges None None A B) (append-nil out) (so_far.merging [] last) in
         record { rising = merged_all.rising up rises; places = merged_all.places }
 

@@ -41,10 +41,6 @@ pub turn : (R : List EntryParts) (here : ℕ) (es : List ExtensionParts) (i : �
 unfolding ListFault
 turn R here es i e l is = rw (drop_turn es i e l is, take_turn es i e l is) (record { there = λ k p f. f; back = λ k p f. f })
 
-pub ended : (R : List EntryParts) (here : ℕ) (before es : List ExtensionParts) (i : ℕ) → length es ≤ i → (k : ValidFaultKind) (p : ℕ) → ListFault R here before (drop i es) k p → ⊥
-unfolding ListFault
-ended R here before es i l k p f = subst (λ zs. ListFault R here before zs k p) (drop_all i es l) f
-
 -- a singleton that occurs again is reported first
 dup_first : (R : List EntryParts) (r : Bool) (here : ℕ) (before : List ExtensionParts) (e : ExtensionParts) (G : Faults) → Past here G → has_singleton before e.singleton ≡ true → IsFirstOf (Counted r (Or (HeadFault R here before e) G)) faults.DuplicateSingleton here
 dup_first R r here before e G past again = record {
@@ -115,7 +111,8 @@ module _ (R : List EntryParts) (r : Bool) (first : ℕ) (es : List ExtensionPart
       (same_trans (Counted r (Or H G)) (Or (Counted r H) (Counted r G)) (Counted r G) (same_back (Or (Counted r H) (Counted r G)) (Counted r (Or H G)) (counted_or r H G)) (same_second (Counted r H) (Counted r G) none))
 
   pub all_told : (here i : ℕ) → length es ≤ i → SameFaults Whole (From here i) → (k : ValidFaultKind) (p : ℕ) → Whole k p → ⊥
-  all_told here i l so_far k p f = ended R here (take i es) es i l k p (so_far.there k p f).0
+  unfolding ListFault
+  all_told here i l so_far k p f = subst (λ zs. ListFault R here (take i es) zs k p) (drop_all i es l) (so_far.there k p f).0
 
 -- The faults of a tag are those of its core and of its extensions from left to right.
 
