@@ -1,10 +1,10 @@
 -- What is read of records: the texts of one, their entries, and a registry that is read record by record.
-use Rattle.std.proofs.Common.{◌≡◌, ℕ, ◌+◌, ◌<◌, ◌≤◌, Bool, true, false, eqb, List, [], ◌∷◌, ◌++◌, length, take, drop, get_or, Option, Some, None, refl, sym, ap, ◌∙◌, arith, add-one, append_assoc, zero, suc, ◌⊎◌, inl, inr, subst, ◌≢◌, if◌then◌else◌, length-append, Result, Ok, Err, append-nil}
+use Rattle.std.proofs.Common.{◌≡◌, ℕ, ◌+◌, ◌<◌, ◌≤◌, true, false, eqb, List, [], ◌∷◌, ◌++◌, length, take, drop, get_or, Option, Some, None, refl, sym, ap, ◌∙◌, arith, add-one, append_assoc, zero, suc, ◌⊎◌, inl, inr, subst, ◌≢◌, if◌then◌else◌, length-append, Result, Ok, Err, append-nil}
 use Rattle.std.specs.Prelude.{Ok, Err, option_map, Result, IfOk, IfErr, All}
 use Rattle.std.proofs.Math.Seq.{drop-cons, get_or-append_seam, take-append_seam}
 use Rattle.std.proofs.lemmas.List.{take_more, drop_all, drop-drop, append-nil, take_all, length-take-le, length_push}
 use Rattle.std.specs.List.{list_all, AllByRecursion, onto_first}
-use Rattle.std.proofs.lemmas.Bool.{and_from, eqb-true, cases_Bool, cases_eq, eq-eqb, cases_lt}
+use Rattle.std.proofs.lemmas.Bool.{and_from, cases_Bool, cases_eq, cases_lt}
 use Rattle.std.proofs.lemmas.Bool.Decides.{nat_tests}
 use Rattle.std.proofs.lemmas.List.Elements.{All-push, All-nil}
 use Rattle.std.specs.Io.KnownBytes.{IsAtEnd}
@@ -27,11 +27,9 @@ use Rattle.lt_jar.specs.LentSoFar.{HasLent}
 use Rattle.lt_jar.specs.Sources.{Advances, IsFresh, IsRead, LastGave, LendsEnded, LendsLast, ReadsRecord, lent_by, line_of_kept, record_in}
 use Rattle.lt_jar.specs.declared.devices.Device.{Device}
 use Rattle.lt_jar.specs.declared.faults.JarFault.{JarFault}
-use Rattle.lt_jar.specs.declared.faults.JarFaultKind.{JarFaultKind}
 use Rattle.lt_jar.specs.declared.sources.JarSource.{JarSource}
 use Rattle.lt_jar.proofs.LentLemmas.{lent_cut, lent_fault, lent_last, lent_more, lent_reached, lent_start, lent_within}
 use Rattle.lt_jar.proofs.SourceLemmas.{more_read}
-use Rattle.lt_jar.specs.declared.faults.JarFaultKind.TheVariants as jars
 use Rattle.lt_jar.specs.declared.sources.Status.TheVariants as state
 use Rattle.lt_registry.specs.Records.{begins_dots, with_first, ends_of, with_subtag, subtags_of, with_prefix, prefix_of, prefixes_of, bodies, is_called, formed, is_range, range_of, single_of, name_by, subtags_named, body, type_name, subtag_name}
 use Rattle.lt_registry.specs.Records.{tag_name, value_name, repeats_field, kind_of, HasKind, name_field, IsName, IsValue, IsValueOf, prefix_name, prefixes_in, IsEntryOf, HasRecordFault, record_rank, is_header_at, EntriesFrom, HasEntries, HasFaultAt, IsFirstRecordFault}

@@ -1015,17 +1015,14 @@ first_append xs ys q = ap (option_map (λ (row : RangeRow). row.place)) (find-ap
     apart None p = refl
     apart (Some x) p = refl
 
-joined : (xs ys : List RangeRow) (A B zs : List Stretch) → AreStretches xs A → AreStretches ys B → AreMerged A B zs → AreStretches (xs ++ ys) zs
-joined xs ys A B zs h k m =
-    record {
-      rising = m.rising;
-      places = λ q. m.places q ∙ ap (λ o. option_or o (place_in None B q)) (h.places q) ∙ ap (option_or (first_within xs q)) (k.places q) ∙ sym (first_append xs ys q);
-    }
-
 pub halves : (rows : List RangeRow) (i : ℕ) (A B C D zs : List Stretch) → AreStretches (take i rows) A → AreStretches (take (length rows - i) (drop i rows)) B → C ≡ A → D ≡ B → AreMerged C D zs → AreStretches rows zs
 halves rows i A B C D zs h k left right m =
-    let both : AreMerged A B zs = subst (λ ss. AreMerged ss B zs) left (subst (λ ss. AreMerged C ss zs) right m) in
-    subst (λ r. AreStretches r zs) (take-append-drop i rows) (joined (take i rows) (drop i rows) A B zs h (subst (λ r. AreStretches r B) (take_rest rows i) k) both)
+    let merged : AreMerged A B zs = subst (λ ss. AreMerged ss B zs) left (subst (λ ss. AreMerged C ss zs) right m) in
+    let later : AreStretches (drop i rows) B = subst (λ r. AreStretches r B) (take_rest rows i) k in
+    subst (λ r. AreStretches r zs) (take-append-drop i rows) (record {
+      rising = merged.rising;
+      places = λ q. merged.places q ∙ ap (λ o. option_or o (place_in None B q)) (h.places q) ∙ ap (option_or (first_within (take i rows) q)) (later.places q) ∙ sym (first_append (take i rows) (drop i rows) q);
+    })
 
 -- at most one range
 
