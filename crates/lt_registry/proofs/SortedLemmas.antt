@@ -202,9 +202,6 @@ ranks_ordered s t h k one =
     let shifted : leb (length s * 2 ^ 64 + number s) (length s * 2 ^ 64 + number t) ≡ leb (number s) (number t) = grind (arith, nat_tests) in
     numbers_ordered s t h k one ∙ sym (ap (λ l. leb (rank s) (l * 2 ^ 64 + number t)) (sym one) ∙ shifted)
 
-pub subtag_short : (s : List ℕ) → is_subtag s ≡ true → length s ≤ 8
-subtag_short s h = (subtag_length s h).1
-
 -- numbers that differ are those of subtags that do
 
 abbrev by_order : ℕ → ℕ → Bool

@@ -30,7 +30,7 @@ pub(crate) fn number_of(subtag: &Subtag) -> u64
 }
 
 /// The rank of a subtag: its length, and after it its number. So subtags of one length are together, in their order.
-#[tactic(auto, using(crate::proofs::SortedLemmas::subtag_short))]
+#[tactic(auto, using(lt_subtag::proofs::BytesLemmas::subtag_length))]
 pub(crate) fn rank_of(subtag: &Subtag) -> u128
     ensures value { result ≡ sorted.rank subtag.now }
     ensures small { result < 2 ^ 68 }
