@@ -8,6 +8,9 @@ pub record IsFormOf {A : Type 0} (Step : A → A → Type 0) (form : A → A) : 
   pub reached : (a : A) → Star Step a (form a)
   pub rests : (a : A) → Rests Step (form a)
 
+pub formed_by : {A : Type 0} {Step : A → A → Type 0} {form : A → A} → ((a b : A) → Step a b → form a ≡ form b) → ((a : A) → IsNormalForm Step a (form a)) → IsFormOf Step form
+formed_by k n = record { kept = k; reached = λ a. (n a).reached; rests = λ a. (n a).at_rest }
+
 pub star_rests : {A : Type 0} {Step : A → A → Type 0} {a b : A} → Star Step a b → Rests Step a → a ≡ b
 star_rests done h = refl
 star_rests (then {b = b} s r) h = absurd (h b s)
