@@ -1,5 +1,5 @@
 -- The normal forms of an extension and of a list of extensions, as functions, and their laws.
-use Rattle.std.proofs.Common.{◌≡◌, ℕ, ◌≤◌, ◌<◌, Bool, true, false, cond, List, [], ◌∷◌, ◌++◌, refl, sym, ap, ◌∙◌, subst, subst₂, ap₂, bytes_eq, length, arith, Option, Some, None, IfSome, ◌==◌, ◌≢◌, ◌⊎◌, inl, inr, ltb, zero, suc, ◌+◌, get_or, set, take, drop}
+use Rattle.std.proofs.Common.{◌≡◌, ℕ, ◌≤◌, ◌<◌, Bool, true, false, cond, List, [], ◌∷◌, ◌++◌, refl, sym, ap, ◌∙◌, subst, subst₂, ap₂, bytes_eq, length, arith, Option, Some, None, IfSome, ◌==◌, ◌≢◌, ◌⊎◌, inl, inr, ltb, zero, suc, get_or, set, take, drop}
 use Rattle.std.specs.Prelude.{codes, flat_map, map, option_map, position}
 use Rattle.std.specs.List.{list_all, AllByRecursion, position_or_len}
 use Rattle.std.specs.Option.{option_map_or}

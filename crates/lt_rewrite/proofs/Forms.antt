@@ -1,6 +1,7 @@
 -- What the forms of entries say of names and values.
 use Rattle.std.proofs.Common.{◌≡◌, ℕ, ◌⊎◌, inl, inr, true, false, ◌&&◌, List, Option, Some, None, refl, sym, ap, ◌∙◌, subst, length, arith, IfSome, Bor}
 use Rattle.std.specs.Prelude.{nat_le, is_some, unwrap_or}
+use Rattle.std.specs.Option.{option_and_then}
 use Rattle.std.proofs.lemmas.Slice.Eq.{bytes_eq-Decides}
 use Rattle.std.proofs.lemmas.Bool.{and_parts, and_from, or_cases, lt-leb}
 use Rattle.lt_subtag.specs.Shapes.{is_alphabetic, is_language, is_extlang, is_variant}
@@ -62,10 +63,7 @@ extlang_entry R C x h =
     record { at = en.0; found = en.1; fits = fits; same = single_name x fits.subtag en.0.name fits.single of.names }
 
 pub replacement_at : (R : List EntryParts) (x : List ℕ) (e : EntryParts) → entry R kinds.Extlang x ≡ Some e → replacement R x ≡ unwrap_or (one_of e.value) x
-replacement_at R x e h = ap (λ (o : Option (List ℕ)). unwrap_or o x) (value_at h)
-  where
-    value_at : entry R kinds.Extlang x ≡ Some e → preferred_value R kinds.Extlang x ≡ one_of e.value
-    value_at h = rw h refl
+replacement_at R x e h = ap (λ (o : Option EntryParts). unwrap_or (option_and_then (λ (f : EntryParts). one_of f.value) o) x) h
 
 -- the replacement of an extlang is a registered language
 pub replacement_registered : (R : List EntryParts) → MeetsCoreConditions R → (x : List ℕ) → is_registered R kinds.Extlang x ≡ true → is_registered R kinds.Language (replacement R x) ≡ true
@@ -92,23 +90,26 @@ pub variant_not_short : (v : List ℕ) → is_variant v ≡ true → is_short v 
 variant_not_short v h =
     elim (variant_is v h) [ inl n ↦ lt-leb (length v) 3 (omega (arith, n)) | inr n ↦ lt-leb (length v) 3 (omega (arith, n.0)) ]
 
+-- a short value of a variant has the form of a language
+pub short_value_form : (v : List ℕ) → has_value_form kinds.Variant v ≡ true → is_short v ≡ true → is_language v ≡ true
+short_value_form v h s =
+    elim (or_cases (is_variant v) (is_language v && is_short v) h) [
+      | inl a ↦ (let f = variant_not_short v a in cc)
+      | inr a ↦ (and_parts (is_language v) (is_short v) a).0
+    ]
+
 pub language_value_form : (R : List EntryParts) → IsRegistry R → (v m : List ℕ) → language_value R v ≡ Some m → is_language m ≡ true
 language_value_form R G v m e =
     let p = language_value_is R v m e in
-    by p.1 (or_cases (is_variant m) (is_language m && is_short m) (value_form R G kinds.Variant v m p.0))
-  where
-    by : is_short m ≡ true → (is_variant m ≡ true) ⊎ ((is_language m && is_short m) ≡ true) → is_language m ≡ true
-    by s (inl a) = let f = variant_not_short m a in cc
-    by s (inr a) = (and_parts (is_language m) (is_short m) a).0
+    short_value_form m (value_form R G kinds.Variant v m p.0) p.1
 
 pub variant_value_form : (R : List EntryParts) → IsRegistry R → (v w : List ℕ) → variant_value R v ≡ Some w → is_variant w ≡ true
 variant_value_form R G v w e =
     let p = variant_value_is R v w e in
-    by p.1 (or_cases (is_variant w) (is_language w && is_short w) (value_form R G kinds.Variant v w p.0))
-  where
-    by : is_short w ≡ false → (is_variant w ≡ true) ⊎ ((is_language w && is_short w) ≡ true) → is_variant w ≡ true
-    by s (inl a) = a
-    by s (inr a) = let f = (and_parts (is_language w) (is_short w) a).1 in cc
+    elim (or_cases (is_variant w) (is_language w && is_short w) (value_form R G kinds.Variant v w p.0)) [
+      | inl a ↦ a
+      | inr a ↦ (let f = (and_parts (is_language w) (is_short w) a).1 in cc)
+    ]
 
 -- What the forms of an entry say of its value.
 
@@ -119,11 +120,3 @@ form_under R k s e v h f = subst (λ x. has_value_form x v ≡ true) (entry_of R
 pub each_form_under : (R : List EntryParts) (k : Kind) (s : List ℕ) (e : EntryParts) (o : Option (Bor (List ℕ))) → entry R k s ≡ Some e → IfSome o (λ v. has_value_form e.kind v.now ≡ true) → IfSome o (λ v. has_value_form k v.now ≡ true)
 each_form_under R k s e None h f = f
 each_form_under R k s e (Some v) h f = form_under R k s e v.now h f
-
--- a short value of a variant has the form of a language
-pub short_value_form : (v : List ℕ) → has_value_form kinds.Variant v ≡ true → is_short v ≡ true → is_language v ≡ true
-short_value_form v h s = by s (or_cases (is_variant v) (is_language v && is_short v) h)
-  where
-    by : is_short v ≡ true → (is_variant v ≡ true) ⊎ ((is_language v && is_short v) ≡ true) → is_language v ≡ true
-    by s (inl a) = let f = variant_not_short v a in cc
-    by s (inr a) = (and_parts (is_language v) (is_short v) a).0

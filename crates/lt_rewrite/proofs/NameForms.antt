@@ -22,11 +22,9 @@ language_range s a b h k =
 
 language_at : (s : List ℕ) (n : EntryName) → FitsName kinds.Language n → (is_named s n ≡ true) ⊎ (holds s n ≡ true) → is_language s ≡ true
 language_at s (names.Single t) h (inl e) = let same : t ≡ s = (bytes_eq-Decides t s).0 e in subst (λ x. is_language x ≡ true) same h
-language_at s (names.Single t) h (inr e) = cc
-language_at s (names.Range a b) h (inl e) = cc
 language_at s (names.Range a b) h (inr e) = language_range s a b h.first_form e
-language_at s (names.Whole t) h (inl e) = cc
-language_at s (names.Whole t) h (inr e) = cc
+language_at s n h (inl e) = cc
+language_at s n h (inr e) = cc
 
 pub language_form : (R : List EntryParts) → IsRegistry R → (s : List ℕ) → is_registered R kinds.Language s ≡ true → is_language s ≡ true
 language_form R G s h =

@@ -1,8 +1,10 @@
 -- What the steps on lists of parts keep.
-use Rattle.std.proofs.Common.{◌≡◌, ◌≢◌, ℕ, ◌≤◌, ◌<◌, ◌+◌, Bool, true, List, [], ◌∷◌, ◌++◌, Option, Some, None, refl, sym, ap, ◌∙◌, subst, Ordering, length, arith, IfSome, suc, get_or, set, take, drop, append_assoc}
+use Rattle.std.proofs.Common.{◌≡◌, ◌≢◌, ℕ, ◌≤◌, ◌<◌, ◌+◌, Bool, true, List, [], ◌∷◌, ◌++◌, Option, Some, refl, sym, ap, ap₂, ◌∙◌, subst, Ordering, length, arith, IfSome, suc, get_or, set, take, drop}
 use Rattle.std.specs.Prelude.{flat_map, map}
 use Rattle.std.specs.List.{list_all, AllByRecursion}
-use Rattle.std.proofs.lemmas.Bool.{and_parts, and_from}
+use Rattle.std.proofs.lemmas.List.Elements.{All-from_recursion, recursion_from_All, All-map, All-weaker}
+use Rattle.std.proofs.lemmas.List.Sums.{AllPass-from_list_all, list_all-from_AllPass}
+use Rattle.std.proofs.Math.Seq.{get_or-append_seam}
 use Rattle.std.proofs.lemmas.Grind.{flat_map-append}
 use Rattle.std.proofs.lemmas.List.{length-append, set_split, set-get_or}
 use Rattle.lt_rewrite.specs.Orderings.{ListStep, by_swap, by_drop}
@@ -11,44 +13,41 @@ use Rattle.lt_registry.specs.Validity.{Distinct}
 
 -- a test of each part, as a fact of each
 pub facts_of_tests : {A : Type 0} (test : A → Bool) (xs : List A) → list_all test xs ≡ true → AllByRecursion (λ x. test x ≡ true) xs
-facts_of_tests test [] h = tt
-facts_of_tests test (x ∷ xs) h = let p = and_parts (test x) (list_all test xs) h in (p.0, facts_of_tests test xs p.1)
+facts_of_tests test xs h = recursion_from_All (λ x. test x ≡ true) xs (AllPass-from_list_all test xs h)
 
 pub tests_of_facts : {A : Type 0} (test : A → Bool) (xs : List A) → AllByRecursion (λ x. test x ≡ true) xs → list_all test xs ≡ true
-tests_of_facts test [] h = refl
-tests_of_facts test (x ∷ xs) h = and_from (test x) (list_all test xs) h.0 (tests_of_facts test xs h.1)
+tests_of_facts test xs h = list_all-from_AllPass test xs (All-from_recursion (λ x. test x ≡ true) xs h)
+
+-- after the same parts
+all_under : {A : Type 0} (P : A → Type 0) (before xs ys : List A) → (AllByRecursion P xs → AllByRecursion P ys) → AllByRecursion P (before ++ xs) → AllByRecursion P (before ++ ys)
+all_under P [] xs ys f h = f h
+all_under P (u ∷ us) xs ys f h = (h.0, all_under P us xs ys f h.1)
 
 pub all_swapped : {A : Type 0} (P : A → Type 0) (before : List A) (a b : A) (after : List A) → AllByRecursion P (before ++ a ∷ b ∷ after) → AllByRecursion P (before ++ b ∷ a ∷ after)
-all_swapped P [] a b after h = (h.1.0, (h.0, h.1.1))
-all_swapped P (u ∷ us) a b after h = (h.0, all_swapped P us a b after h.1)
+all_swapped P before a b after h = all_under P before (a ∷ b ∷ after) (b ∷ a ∷ after) (λ k. (k.1.0, (k.0, k.1.1))) h
 
 pub all_without : {A : Type 0} (P : A → Type 0) (before : List A) (v : A) (after : List A) → AllByRecursion P (before ++ v ∷ after) → AllByRecursion P (before ++ after)
-all_without P [] v after h = h.1
-all_without P (u ∷ us) v after h = (h.0, all_without P us v after h.1)
-
-all_dropped : {A : Type 0} (P : A → Type 0) (before : List A) (a : A) (between : List A) (b : A) (after : List A) → AllByRecursion P (before ++ a ∷ (between ++ b ∷ after)) → AllByRecursion P (before ++ a ∷ (between ++ after))
-all_dropped P [] a between b after h = (h.0, all_without P between b after h.1)
-all_dropped P (u ∷ us) a between b after h = (h.0, all_dropped P us a between b after h.1)
+all_without P before v after h = all_under P before (v ∷ after) after (λ k. k.1) h
 
 -- what each part has, each part has after a step
 pub all_step : {A : Type 0} (P : A → Type 0) {once : Bool} {cmp : A → A → Ordering} (xs ys : List A) → ListStep once cmp xs ys → AllByRecursion P xs → AllByRecursion P ys
 all_step P xs ys (by_swap before a b after s) h = subst (AllByRecursion P) (sym s.result) (all_swapped P before a b after (subst (AllByRecursion P) s.there h))
-all_step P xs ys (by_drop before a between b after o s) h = subst (AllByRecursion P) (sym s.result) (all_dropped P before a between b after (subst (AllByRecursion P) s.there h))
+all_step P xs ys (by_drop before a between b after o s) h =
+    subst (AllByRecursion P) (sym s.result)
+    (all_under P before (a ∷ (between ++ b ∷ after)) (a ∷ (between ++ after)) (λ k. (k.0, all_without P between b after k.1)) (subst (AllByRecursion P) s.there h))
 
 pub list_all_step : {A : Type 0} (test : A → Bool) {once : Bool} {cmp : A → A → Ordering} (xs ys : List A) → ListStep once cmp xs ys → list_all test xs ≡ true → list_all test ys ≡ true
 list_all_step test xs ys s h = tests_of_facts test ys (all_step (λ x. test x ≡ true) xs ys s (facts_of_tests test xs h))
 
 pub all_replaced : {A : Type 0} (P : A → Type 0) (before : List A) (v w : A) (after : List A) → AllByRecursion P (before ++ v ∷ after) → P w → AllByRecursion P (before ++ w ∷ after)
-all_replaced P [] v w after h p = (p, h.1)
-all_replaced P (u ∷ us) v w after h p = (h.0, all_replaced P us v w after h.1 p)
+all_replaced P before v w after h p = all_under P before (v ∷ after) (w ∷ after) (λ k. (p, k.1)) h
 
 pub all_middle : {A : Type 0} (P : A → Type 0) (before : List A) (v : A) (after : List A) → AllByRecursion P (before ++ v ∷ after) → P v
 all_middle P [] v after h = h.0
 all_middle P (u ∷ us) v after h = all_middle P us v after h.1
 
 pub all_mapped : {A B : Type 0} (P : A → Type 0) (Q : B → Type 0) (g : A → B) → ((a : A) → P a → Q (g a)) → (xs : List A) → AllByRecursion P xs → AllByRecursion Q (map g xs)
-all_mapped P Q g h [] a = tt
-all_mapped P Q g h (x ∷ xs) a = (h x a.0, all_mapped P Q g h xs a.1)
+all_mapped P Q g h xs a = recursion_from_All Q (map g xs) (All-map Q g xs (All-weaker P (λ x. Q (g x)) h xs (All-from_recursion P xs a)))
 
 pub all_unmapped : {A B : Type 0} (P : B → Type 0) (g : A → B) (xs : List A) → AllByRecursion P (map g xs) → AllByRecursion (λ x. P (g x)) xs
 all_unmapped P g [] h = tt
@@ -67,52 +66,26 @@ others_same x y xs ys e = cc
 
 -- the subtags of parts
 
-spelled_middle : {A : Type 0} (spell : A → List (List ℕ)) (before : List A) (v : A) (after : List A) → length (flat_map spell (before ++ v ∷ after)) ≡ length (flat_map spell before) + (length (spell v) + length (flat_map spell after))
-spelled_middle spell before v after =
-    ap length (flat_map-append spell before (v ∷ after)) ∙ length-append (flat_map spell before) (spell v ++ flat_map spell after)
-    ∙ ap (λ n. length (flat_map spell before) + n) (length-append (spell v) (flat_map spell after))
-
 -- a step on a list makes its subtags no more
 pub spelled_step : {A : Type 0} (spell : A → List (List ℕ)) {once : Bool} {cmp : A → A → Ordering} (xs ys : List A) → ListStep once cmp xs ys → length (flat_map spell ys) ≤ length (flat_map spell xs)
 spelled_step spell xs ys (by_swap before a b after s) =
-    let e = ap (λ l. length (flat_map spell l)) s.there in
-    let f = ap (λ l. length (flat_map spell l)) s.result in
-    omega (arith, spelled_middle spell before a (b ∷ after), spelled_middle spell before b (a ∷ after), spelled_middle spell [] b after, spelled_middle spell [] a after, e, f)
+    rw (s.result, s.there) (simp (flat_map-append, length-append) (omega arith))
 spelled_step spell xs ys (by_drop before a between b after o s) =
-    let q = ap length (flat_map-append spell between after) ∙ length-append (flat_map spell between) (flat_map spell after) in
-    let e = ap (λ l. length (flat_map spell l)) s.there in
-    let f = ap (λ l. length (flat_map spell l)) s.result in
-    omega (arith, spelled_middle spell before a (between ++ b ∷ after), spelled_middle spell before a (between ++ after), spelled_middle spell between b after, q, e, f)
+    rw (s.result, s.there) (simp (flat_map-append, length-append) (omega arith))
 
 -- a part that becomes one with no more subtags
 pub spelled_replaced : {A : Type 0} (spell : A → List (List ℕ)) (before : List A) (v w : A) (after : List A) → length (spell w) ≤ length (spell v) → length (flat_map spell (before ++ w ∷ after)) ≤ length (flat_map spell (before ++ v ∷ after))
 spelled_replaced spell before v w after h =
-    omega (arith, h, spelled_middle spell before v after, spelled_middle spell before w after)
+    simp (flat_map-append, length-append) (omega arith)
 
 -- the number of parts
 
-length_middle : {A : Type 0} (before : List A) (v : A) (after : List A) → length (before ++ v ∷ after) ≡ length before + (1 + length after)
-length_middle before v after = length-append before (v ∷ after) ∙ omega arith
-
 pub length_step : {A : Type 0} {once : Bool} {cmp : A → A → Ordering} (xs ys : List A) → ListStep once cmp xs ys → length ys ≤ length xs
-length_step xs ys (by_swap before a b after s) =
-    let m = length_middle before a (b ∷ after) in
-    let n = length_middle before b (a ∷ after) in
-    let p : length (a ∷ after) ≡ length (b ∷ after) = refl in
-    let e = ap length s.there in
-    let f = ap length s.result in
-    omega (arith, m, n, p, e, f)
-length_step xs ys (by_drop before a between b after o s) =
-    let m = length_middle before a (between ++ b ∷ after) in
-    let n = length_middle before a (between ++ after) in
-    let p = length_middle between b after in
-    let q = length-append between after in
-    let e = ap length s.there in
-    let f = ap length s.result in
-    omega (arith, m, n, p, q, e, f)
+length_step xs ys (by_swap before a b after s) = rw (s.result, s.there) (simp length-append (omega arith))
+length_step xs ys (by_drop before a between b after o s) = rw (s.result, s.there) (simp length-append (omega arith))
 
 pub length_replaced : {A : Type 0} (before : List A) (v w : A) (after : List A) → length (before ++ w ∷ after) ≡ length (before ++ v ∷ after)
-length_replaced before v w after = length_middle before w after ∙ sym (length_middle before v after)
+length_replaced before v w after = simp length-append
 
 -- something is left
 pub step_some : {A : Type 0} {once : Bool} {cmp : A → A → Ordering} (xs ys : List A) → ListStep once cmp xs ys → ys ≢ []
@@ -126,22 +99,16 @@ some_long (x ∷ xs) h = omega arith
 -- what holds of what may be there
 
 pub if_some_is : {A : Type 0} (P : A → Type 0) (o : Option A) (a : A) → o ≡ Some a → IfSome o P → P a
-if_some_is P None a e h = cc
-if_some_is P (Some b) a e h = let same : b ≡ a = cc in subst P same h
+if_some_is P o a e h = subst (λ x. IfSome x P) e h
 
 pub is_if_some : {A : Type 0} (P : A → Type 0) (o : Option A) (a : A) → o ≡ Some a → P a → IfSome o P
-is_if_some P None a e h = cc
-is_if_some P (Some b) a e h = let same : a ≡ b = cc in subst P same h
+is_if_some P o a e h = subst (λ x. IfSome x P) (sym e) h
 
 -- Lists cut at an element.
 
 -- a list cut at an element has it there
 pub cut_at : {A : Type 0} (before : List A) (v : A) (after vs : List A) (d : A) → vs ≡ before ++ v ∷ after → get_or vs (length before) d ≡ v
-cut_at before v after vs d e = ap (λ us. get_or us (length before) d) e ∙ at_middle before v after d
-  where
-    at_middle : {A : Type 0} (before : List A) (v : A) (after : List A) (d : A) → get_or (before ++ v ∷ after) (length before) d ≡ v
-    at_middle [] v after d = refl
-    at_middle (u ∷ us) v after d = at_middle us v after d
+cut_at before v after vs d e = ap (λ us. get_or us (length before) d) e ∙ get_or-append_seam before v after d
 
 pub cut_within : {A : Type 0} (before : List A) (v : A) (after vs : List A) → vs ≡ before ++ v ∷ after → length before < length vs
 cut_within before v after vs e = omega (arith, ap length e, length-append before (v ∷ after))
@@ -158,58 +125,44 @@ pub record SameCut {A : Type 0} (xs ys : List A) (v w : A) (us vs : List A) : Ty
   pub at : v ≡ w
   pub rest : us ≡ vs
 
-pub same_cut : {A : Type 0} (xs ys : List A) (v w : A) (us vs : List A) → xs ++ v ∷ us ≡ ys ++ w ∷ vs → length xs ≡ length ys → SameCut xs ys v w us vs
-same_cut [] [] v w us vs e l = record { front = refl; at = let k : v ≡ w = cc in k; rest = let k : us ≡ vs = cc in k }
-same_cut (x ∷ xs) (y ∷ ys) v w us vs e l =
-    let a : xs ++ v ∷ us ≡ ys ++ w ∷ vs = cc in
-    let k : SameCut xs ys v w us vs = same_cut xs ys v w us vs a (omega arith) in
+-- where the parts before have one number, or whatever else keeps either from being longer
+same_by : {A : Type 0} (Q : List A → List A → Type 0) → ((y : A) (ys : List A) → Q [] (y ∷ ys) → ⊥) → ((x : A) (xs : List A) → Q (x ∷ xs) [] → ⊥) → ((x : A) (xs ys : List A) → Q (x ∷ xs) (x ∷ ys) → Q xs ys) → (xs ys : List A) (v w : A) (us vs : List A) → xs ++ v ∷ us ≡ ys ++ w ∷ vs → Q xs ys → SameCut xs ys v w us vs
+same_by Q l r more [] [] v w us vs e q = record { front = refl; at = let k : v ≡ w = cc in k; rest = others_same v w us vs e }
+same_by Q l r more [] (y ∷ ys) v w us vs e q = absurd (l y ys q)
+same_by Q l r more (x ∷ xs) [] v w us vs e q = absurd (r x xs q)
+same_by Q l r more (x ∷ xs) (y ∷ ys) v w us vs e q =
     let h : x ≡ y = cc in
-    record { front = λ i. h i ∷ k.front i; at = k.at; rest = k.rest }
-same_cut s t v w us vs e l = cc
+    let k = same_by Q l r more xs ys v w us vs (others_same x y (xs ++ v ∷ us) (ys ++ w ∷ vs) e) (more x xs ys (subst (λ z. Q (x ∷ xs) (z ∷ ys)) (sym h) q)) in
+    record { front = ap₂ (λ z zs. z ∷ zs) h k.front; at = k.at; rest = k.rest }
+
+pub same_cut : {A : Type 0} (xs ys : List A) (v w : A) (us vs : List A) → xs ++ v ∷ us ≡ ys ++ w ∷ vs → length xs ≡ length ys → SameCut xs ys v w us vs
+same_cut xs ys v w us vs e l =
+    same_by (λ a b. length a ≡ length b) (λ y ys h. omega arith) (λ x xs h. omega arith) (λ x xs ys h. omega arith) xs ys v w us vs e l
 
 -- lists of parts
 
-none_long : (s : List (List ℕ)) → s ≢ [] → length s ≡ 0 → ⊥
-none_long [] h k = h refl
-none_long (x ∷ r) h k = omega arith
-
 pub same_flat : {A : Type 0} (spell : A → List (List ℕ)) → ((a : A) → spell a ≢ []) → (xs ys : List A) (v w : A) (us vs : List A) → xs ++ v ∷ us ≡ ys ++ w ∷ vs → length (flat_map spell xs) ≡ length (flat_map spell ys) → SameCut xs ys v w us vs
-same_flat spell n [] [] v w us vs e l = record { front = refl; at = let k : v ≡ w = cc in k; rest = let k : us ≡ vs = cc in k }
-same_flat spell n [] (y ∷ ys) v w us vs e l = absurd (none_long (spell y) (n y) (omega (arith, l, length-append (spell y) (flat_map spell ys))))
-same_flat spell n (x ∷ xs) [] v w us vs e l = absurd (none_long (spell x) (n x) (omega (arith, l, length-append (spell x) (flat_map spell xs))))
-same_flat spell n (x ∷ xs) (y ∷ ys) v w us vs e l =
-    let h : x ≡ y = cc in
-    let a : xs ++ v ∷ us ≡ ys ++ w ∷ vs = cc in
-    let s : length (spell x) ≡ length (spell y) = ap (λ z. length (spell z)) h in
-    let k : SameCut xs ys v w us vs = same_flat spell n xs ys v w us vs a (omega (arith, l, s, length-append (spell x) (flat_map spell xs), length-append (spell y) (flat_map spell ys))) in
-    record { front = λ i. h i ∷ k.front i; at = k.at; rest = k.rest }
-
-flat-append : {A : Type 0} (spell : A → List (List ℕ)) (xs ys : List A) → flat_map spell (xs ++ ys) ≡ flat_map spell xs ++ flat_map spell ys
-flat-append spell [] ys = refl
-flat-append spell (x ∷ xs) ys = ap (λ l. spell x ++ l) (flat-append spell xs ys) ∙ sym (append_assoc (spell x) (flat_map spell xs) (flat_map spell ys))
+same_flat spell n xs ys v w us vs e l =
+    same_by (λ a b. length (flat_map spell a) ≡ length (flat_map spell b))
+    (λ y ys h. omega (arith, h, some_long (spell y) (n y), length-append (spell y) (flat_map spell ys)))
+    (λ x xs h. omega (arith, h, some_long (spell x) (n x), length-append (spell x) (flat_map spell xs)))
+    (λ x xs ys h. omega (arith, h, length-append (spell x) (flat_map spell xs), length-append (spell x) (flat_map spell ys))) xs ys v w us vs e l
 
 pub flat_length : {A : Type 0} (spell : A → List (List ℕ)) (before : List A) (a : A) (between : List A) → length (flat_map spell (before ++ a ∷ between)) ≡ length (flat_map spell before) + length (spell a) + length (flat_map spell between)
 flat_length spell before a between =
-    ap length (flat-append spell before (a ∷ between)) ∙ (omega (arith, length-append (flat_map spell before) (flat_map spell (a ∷ between)), length-append (spell a) (flat_map spell between)))
+    simp (flat_map-append, length-append) (omega arith)
 
-all_front : (P : ℕ → Type 0) (xs : List ExtensionParts) (v : ExtensionParts) (us : List ExtensionParts) → AllByRecursion P (map (λ (e : ExtensionParts). e.singleton) (xs ++ v ∷ us)) → P v.singleton
-all_front P [] v us h = h.0
-all_front P (x ∷ xs) v us h = all_front P xs v us h.1
+abbrev singleton_of : ExtensionParts → ℕ
+singleton_of e = e.singleton
 
 -- singletons that differ cut the list at one place
 pub distinct_cut : (xs ys : List ExtensionParts) (v w : ExtensionParts) (us vs : List ExtensionParts) → xs ++ v ∷ us ≡ ys ++ w ∷ vs → Distinct (map (λ (e : ExtensionParts). e.singleton) (xs ++ v ∷ us)) → v.singleton ≡ w.singleton → SameCut xs ys v w us vs
-distinct_cut [] [] v w us vs e d k = record { front = refl; at = let h : v ≡ w = cc in h; rest = let h : us ≡ vs = cc in h }
-distinct_cut [] (y ∷ ys) v w us vs e d k =
-    let a : v ≡ y = cc in
-    let b : us ≡ ys ++ w ∷ vs = cc in
-    let ne : w.singleton ≢ v.singleton = all_front (λ n. n ≢ v.singleton) ys w vs (subst (λ l. AllByRecursion (λ n. n ≢ v.singleton) (map (λ (e : ExtensionParts). e.singleton) l)) b d.0) in
-    absurd (ne (sym k))
-distinct_cut (x ∷ xs) [] v w us vs e d k =
-    let a : x ≡ w = cc in
-    let ne : v.singleton ≢ x.singleton = all_front (λ n. n ≢ x.singleton) xs v us d.0 in
-    absurd (ne (k ∙ sym (ap (λ (e : ExtensionParts). e.singleton) a)))
-distinct_cut (x ∷ xs) (y ∷ ys) v w us vs e d k =
-    let h : x ≡ y = cc in
-    let r : xs ++ v ∷ us ≡ ys ++ w ∷ vs = cc in
-    let c : SameCut xs ys v w us vs = distinct_cut xs ys v w us vs r d.1 k in
-    record { front = λ i. h i ∷ c.front i; at = c.at; rest = c.rest }
+distinct_cut xs ys v w us vs e d k =
+    same_by (λ as' bs. (as' ++ v ∷ us ≡ bs ++ w ∷ vs) × Distinct (map singleton_of (as' ++ v ∷ us)))
+    (λ y bs q.
+    let others = subst (λ l. AllByRecursion (λ n. n ≢ v.singleton) (map singleton_of l)) (others_same v y us (bs ++ w ∷ vs) q.0) q.1.0 in
+    all_middle (λ (x : ExtensionParts). x.singleton ≢ v.singleton) bs w vs (all_unmapped (λ n. n ≢ v.singleton) singleton_of (bs ++ w ∷ vs) others) (sym k))
+    (λ x as' q.
+    let same : x ≡ w = cc (q.0) in
+    all_middle (λ (y : ExtensionParts). y.singleton ≢ x.singleton) as' v us (all_unmapped (λ n. n ≢ x.singleton) singleton_of (as' ++ v ∷ us) q.1.0) (k ∙ ap singleton_of (sym same)))
+    (λ x as' bs q. (others_same x x (as' ++ v ∷ us) (bs ++ w ∷ vs) q.0, q.1.1)) xs ys v w us vs e (e, d)

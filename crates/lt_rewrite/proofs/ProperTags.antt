@@ -17,7 +17,7 @@ use Rattle.lt_registry.specs.Entries.{IsRegistry}
 use Rattle.lt_rewrite.specs.Conditions.{HasFittingGrandfathered, MeetsCoreConditions}
 use Rattle.lt_rewrite.specs.Laws.{IsProperValue, StepsKeepTagsProper}
 use Rattle.lt_rewrite.proofs.CoreLaws.{steps_keep_proper}
-use Rattle.lt_rewrite.proofs.PartLists.{all_both, all_step, all_middle, all_replaced, if_some_is, is_if_some}
+use Rattle.lt_rewrite.proofs.PartLists.{all_both, all_step, all_swapped, all_middle, all_replaced, if_some_is, is_if_some}
 use Rattle.lt_rewrite.proofs.ExtensionLaws.{one_transform, extension_step_singleton, extensions_step_values, extensions_step_count}
 use Rattle.lt_tag.specs.Lists.{longest_text}
 pub use Rattle.lt_rewrite.proofs.CoreLaws.{step_proper, proper_not_grandfathered, proper_spells_none}
@@ -65,11 +65,7 @@ proper_langtag R c es ps n P = record {
 
 distinct_swapped : (before : List ℕ) (a b : ℕ) (after : List ℕ) → Distinct (before ++ a ∷ b ∷ after) → Distinct (before ++ b ∷ a ∷ after)
 distinct_swapped [] a b after h = (((λ e. h.0.0 (sym e)), h.1.0), (h.0.1, h.1.1))
-distinct_swapped (u ∷ us) a b after h = (all_swap (λ y. y ≢ u) us a b after h.0, distinct_swapped us a b after h.1)
-  where
-    all_swap : (P : ℕ → Type 0) (before : List ℕ) (a b : ℕ) (after : List ℕ) → AllByRecursion P (before ++ a ∷ b ∷ after) → AllByRecursion P (before ++ b ∷ a ∷ after)
-    all_swap P [] a b after h = (h.1.0, (h.0, h.1.1))
-    all_swap P (u ∷ us) a b after h = (h.0, all_swap P us a b after h.1)
+distinct_swapped (u ∷ us) a b after h = (all_swapped (λ y. y ≢ u) us a b after h.0, distinct_swapped us a b after h.1)
 
 abbrev singletons_of : List ExtensionParts → List ℕ
 singletons_of es = map (λ (e : ExtensionParts). e.singleton) es
