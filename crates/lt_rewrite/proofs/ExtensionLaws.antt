@@ -54,7 +54,7 @@ record LosesTrue (k l : KeywordParts) : Type 0 where
   sole : k.types ≡ codes "true" ∷ []
   result : l ≡ record { key = k.key; types = [] }
 
-abbrev with_types : List ℕ → List (List ℕ) → KeywordParts
+abbrev pub with_types : List ℕ → List (List ℕ) → KeywordParts
 with_types key types = record { key = key; types = types }
 
 -- types are a sole true, or lose nothing
@@ -66,11 +66,6 @@ sole_or_kept (t ∷ []) =
     ]
 sole_or_kept s = inr refl
 
-types_rest : (types : List (List ℕ)) → without_true types ≡ codes "true" ∷ [] → ⊥
-types_rest types h =
-    let none : without_true types ≡ [] = elim (sole_or_kept types) [ inl e ↦ ap without_true e | inr e ↦ ap without_true (sym e ∙ h) ] in
-    cc
-
 untrue_is_form : IsFormOf LosesTrue untrue
 untrue_is_form = record {
   kept = λ k l s. ap (λ ts. with_types k.key (without_true ts)) s.sole ∙ sym (ap untrue s.result);
@@ -78,7 +73,10 @@ untrue_is_form = record {
     | inl e ↦ then (record { sole = e; result = ap (λ ts. with_types k.key (without_true ts)) e }) done
     | inr e ↦ subst (λ ts. Star LosesTrue k (with_types k.key ts)) (sym e) done
   ];
-  rests = λ k l s. types_rest k.types s.sole;
+  rests = λ k l s.
+      let none : without_true k.types ≡ [] = elim (sole_or_kept k.types) [ inl e ↦ ap without_true e | inr e ↦ ap without_true (sym e ∙ s.sole) ] in
+      let sole : without_true k.types ≡ codes "true" ∷ [] = s.sole in
+      cc;
 }
 
 -- sole types true go, then keywords whose keys are earlier, and the rest are in the order of their keys
@@ -91,7 +89,7 @@ keywords_formed = parts_are_formed LosesTrue untrue untrue_is_form true key_cmp 
 abbrev pub u_form : UForm → UForm
 u_form p = record { attributes = sorted true text_cmp p.attributes; keywords = keywords_form p.keywords }
 
-abbrev with_parts : List (List ℕ) → List KeywordParts → UForm
+abbrev pub with_parts : List (List ℕ) → List KeywordParts → UForm
 with_parts attributes keywords = record { attributes = attributes; keywords = keywords }
 
 keyword_step : (p q : UForm) → q.attributes ≡ p.attributes → PartStep LosesTrue true key_cmp p.keywords q.keywords → UnicodeStep p q
@@ -265,7 +263,7 @@ attributes_count (x ∷ xs) = omega (arith, attributes_count xs)
 pub singleton_total : IsTotalOrder singleton_cmp
 singleton_total = on_total (λ (e : ExtensionParts). e.singleton) nat_cmp_total
 
-abbrev extension : ℕ → List (List ℕ) → ExtensionParts
+abbrev pub extension : ℕ → List (List ℕ) → ExtensionParts
 extension singleton subtags = record { singleton = singleton; subtags = subtags }
 
 -- what the parts of an extension come to, the extension comes to
@@ -482,20 +480,6 @@ pub unicode_settles : (p q : UForm) → IsNormalForm (ListStep true text_cmp) p.
 unicode_settles p q a k =
     let ks = normal_is_form (sorting_is_form true key_cmp key_total) (map untrue p.keywords) q.keywords k in
     subst (IsNormalForm UnicodeStep p) (ap₂ with_parts (normal_is_form (sorting_is_form true text_cmp text_total) p.attributes q.attributes a) ks) (form_is_normal u_formed p)
-
--- many steps keep the forms of the parts, and make the subtags no more
-
-pub unicode_kept : (p q : UForm) → IsNormalForm UnicodeStep p q → IsU p → IsU q
-unicode_kept p q n k = star_keeps IsU u_shaped n.reached k
-
-pub unicode_no_more : (p q : UForm) → IsNormalForm UnicodeStep p q → length (spell_u q) ≤ length (spell_u p)
-unicode_no_more p q n = star_keeps (λ x. length (spell_u x) ≤ length (spell_u p)) (λ a b t l. let m = u_step_length a b t in omega (arith, m, l)) n.reached (omega arith)
-
-pub transform_kept : (R : List EntryParts) → IsRegistry R → (p q : TForm) → IsNormalForm (TransformStep R) p q → IsT p → IsT q
-transform_kept R G p q n k = star_keeps IsT (t_shaped R (step_shaped R G)) n.reached k
-
-pub transform_no_more : (R : List EntryParts) (p q : TForm) → IsNormalForm (TransformStep R) p q → length (spell_t q) ≤ length (spell_t p)
-transform_no_more R p q n = star_keeps (λ x. length (spell_t x) ≤ length (spell_t p)) (λ a b t l. let m = t_step_length R a b t in omega (arith, m, l)) n.reached (omega arith)
 
 -- where the first extension of a singleton is
 

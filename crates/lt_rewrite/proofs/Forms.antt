@@ -17,13 +17,10 @@ use Rattle.lt_registry.specs.declared.entries.Kind.TheVariants as kinds
 use Rattle.lt_registry.specs.declared.entries.EntryName.TheVariants as names
 use Rattle.lt_registry.specs.declared.entries.EntryValue.TheVariants as values
 
-pub some_at : {A : Type 0} (o : Option A) → is_some o ≡ true → (a : A) × (o ≡ Some a)
-some_at None e = cc
-some_at (Some a) e = (a, refl)
-
 -- the entry of a registered subtag
 pub registered_entry : (R : List EntryParts) (k : Kind) (s : List ℕ) → is_registered R k s ≡ true → (e : EntryParts) × (entry R k s ≡ Some e)
-registered_entry R k s h = some_at (entry R k s) h
+registered_entry R k s h =
+    (elim (entry R k s) as (λ o. is_some o ≡ true → (e : EntryParts) × (o ≡ Some e)) [ None ↦ λ e. cc | Some a ↦ λ e. (a, refl) ]) h
 
 pub value_form_at : (k : Kind) (o : Option EntryValue) (v : List ℕ) → IfSome o (FitsValue k) → one_of o ≡ Some v → has_value_form k v ≡ true
 value_form_at k (Some (values.One s)) v h e = let same : s ≡ v = cc in subst (λ x. has_value_form k x ≡ true) same h

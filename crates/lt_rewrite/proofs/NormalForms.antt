@@ -1,5 +1,5 @@
 -- A function that names the one normal form.
-use Rattle.std.proofs.Common.{◌≡◌, refl, sym, ◌∙◌}
+use Rattle.std.proofs.Common.{◌≡◌, ℕ, ◌≤◌, refl, sym, ◌∙◌, arith}
 use Rattle.lt_rewrite.specs.Rewriting.{Star, done, then, Rests, IsNormalForm}
 
 -- each step keeps it, steps reach it, and none leads from it
@@ -42,6 +42,10 @@ star_map g h (then {a = a} {b = b} s r) = then (h a b s) (star_map g h r)
 pub star_keeps : {A : Type 0} {Step : A → A → Type 0} (P : A → Type 0) → ((a b : A) → Step a b → P a → P b) → {a b : A} → Star Step a b → P a → P b
 star_keeps P h done p = p
 star_keeps P h (then {a = a} {b = b} s r) p = star_keeps P h r (h a b s p)
+
+-- what no step makes more, many steps make no more
+pub star_no_more : {A : Type 0} {Step : A → A → Type 0} (f : A → ℕ) → ((a b : A) → Step a b → f b ≤ f a) → {a b : A} → Star Step a b → f b ≤ f a
+star_no_more f h {a = p} r = star_keeps (λ x. f x ≤ f p) (λ a b s l. let m = h a b s in omega (arith, m, l)) r (omega arith)
 
 -- and they lead to steps where what they keep holds
 pub star_map_while : {A B : Type 0} {Step : A → A → Type 0} {Other : B → B → Type 0} (P : A → Type 0) (g : A → B) → ((a b : A) → Step a b → P a → P b) → ((a b : A) → Step a b → P a → P b → Other (g a) (g b)) → {a b : A} → Star Step a b → P a → Star Other (g a) (g b)

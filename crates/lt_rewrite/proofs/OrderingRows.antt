@@ -1,22 +1,13 @@
 -- Rows of the normal forms of parts, by computation.
 use Rattle.std.proofs.Common.{◌≡◌, ℕ, false, List, [], ◌∷◌, refl}
 use Rattle.std.specs.Prelude.{codes}
-use Rattle.lt_tag.specs.Parts.{ExtensionParts, KeywordParts, UForm, FieldParts}
+use Rattle.lt_tag.specs.Parts.{FieldParts}
 use Rattle.lt_rewrite.specs.Extensions.{separator_cmp, singleton_cmp}
 use Rattle.lt_rewrite.proofs.Sorting.{sorted}
-use Rattle.lt_rewrite.proofs.ExtensionLaws.{u_form}
-
-abbrev keyword : List ℕ → List (List ℕ) → KeywordParts
-keyword key types = record { key = key; types = types }
+use Rattle.lt_rewrite.proofs.ExtensionLaws.{u_form, with_types as keyword, with_parts as parts, extension}
 
 abbrev field : List ℕ → List (List ℕ) → FieldParts
 field separator values = record { separator = separator; values = values }
-
-abbrev extension : ℕ → List (List ℕ) → ExtensionParts
-extension singleton subtags = record { singleton = singleton; subtags = subtags }
-
-abbrev parts : List (List ℕ) → List KeywordParts → UForm
-parts attributes keywords = record { attributes = attributes; keywords = keywords }
 
 -- foo-bar-foo-nu-latn-ca-buddhist-nu-arab
 repeated : u_form (parts (codes "foo" ∷ codes "bar" ∷ codes "foo" ∷ []) (keyword (codes "nu") (codes "latn" ∷ []) ∷ keyword (codes "ca") (codes "buddhist" ∷ []) ∷ keyword (codes "nu") (codes "arab" ∷ []) ∷ []))

@@ -72,16 +72,11 @@ singletons_of es = map (λ (e : ExtensionParts). e.singleton) es
 
 distinct_order : (es fs : List ExtensionParts) → ListStep false singleton_cmp es fs → Distinct (singletons_of es) → Distinct (singletons_of fs)
 distinct_order es fs (by_swap before a b after s) h =
-    let g : ExtensionParts → ℕ = λ x. x.singleton in
-    let k : Distinct (map g before ++ a.singleton ∷ b.singleton ∷ map g after) = subst Distinct (ap (map g) s.there ∙ map-append g before (a ∷ b ∷ after)) h in
-    subst Distinct (sym (ap (map g) s.result ∙ map-append g before (b ∷ a ∷ after))) (distinct_swapped (map g before) a.singleton b.singleton (map g after) k)
+    rw s.result (simp map-append (distinct_swapped (singletons_of before) a.singleton b.singleton (singletons_of after) (simp map-append at (subst (λ l. Distinct (singletons_of l)) s.there h))))
 distinct_order es fs (by_drop before a between b after o s) h = cc
 
 same_singletons : (before : List ExtensionParts) (e f : ExtensionParts) (after : List ExtensionParts) → f.singleton ≡ e.singleton → singletons_of (before ++ e ∷ after) ≡ singletons_of (before ++ f ∷ after)
-same_singletons before e f after h =
-    map-append (λ (x : ExtensionParts). x.singleton) before (e ∷ after)
-    ∙ ap (λ n. map (λ (x : ExtensionParts). x.singleton) before ++ n ∷ map (λ (x : ExtensionParts). x.singleton) after) (sym h)
-    ∙ sym (map-append (λ (x : ExtensionParts). x.singleton) before (f ∷ after))
+same_singletons before e f after h = simp (map-append, h)
 
 distinct_step : (R : List EntryParts) (es fs : List ExtensionParts) → ExtensionsStep R es fs → Distinct (singletons_of es) → Distinct (singletons_of fs)
 distinct_step R es fs (inside before e f after w s) h =

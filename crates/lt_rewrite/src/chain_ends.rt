@@ -66,6 +66,7 @@ pub(crate) fn next_value<'a, L: Lookup>(
 }
 
 /// Where the chain of a kind ends. It does so within as many values as there are entries, if it ends.
+#[tactic(auto, using(crate::proofs::ChainWalks::walk_ends, crate::proofs::ChainWalks::end_form))]
 pub(crate) fn end_of_chain<L: Lookup>(
     table: &L,
     kind: Kind,
@@ -107,6 +108,7 @@ pub(crate) fn replacement<L: Lookup>(table: &L, extlang: &Subtag) -> Subtag
 ///
 /// Refused exactly where the chain has no end. Takes no memory; it looks up at most one subtag more than there
 /// are entries.
+#[tactic(auto, using(crate::proofs::ChainWalks::own_end, crate::proofs::ChainWalks::own_cycle))]
 pub fn chain_end<L: Lookup>(table: &L, kind: Kind, subtag: &Subtag) -> Result<Subtag, Cycle>
     ensures end { IfOk result (λ end. ChainEndsIn (L.listed table.now) kind subtag.now end) }
     ensures cycle { OnErr result (ChainEnds (L.listed table.now) kind subtag.now → ⊥) }

@@ -28,6 +28,7 @@ pub(crate) fn place_of(extensions: &[Extension], singleton: u8) -> Option<usize>
 }
 
 /// The normal form of the `u` extension, and where that is.
+#[tactic(auto, using(crate::proofs::ExtensionLaws::none_there))]
 fn settled_unicode(
     alloc: Global,
     extensions: &[Extension],
@@ -43,6 +44,7 @@ fn settled_unicode(
 }
 
 /// The normal form of the `t` extension, and where that is.
+#[tactic(auto, using(crate::proofs::ExtensionLaws::none_there))]
 fn settled_transform<L: Lookup>(
     alloc: Global,
     table: &L,

@@ -84,6 +84,7 @@ impl Shortcuts {
 
     /// The subtag as many values on from a subtag as there are records: the end of its chain, if it
     /// has one.
+    #[tactic(auto, using(std::proofs::lemmas::Option::slice_get_within, crate::proofs::ChainWalks::entry_there, crate::proofs::ChainWalks::onward_form))]
     fn further<'a, L: Lookup>(&self, table: &'a L, kind: Kind, subtag: &'a Subtag) -> &'a Subtag
         requires { AreShortcuts (L.listed table.now) self.now }
         ensures onward { IsOnward (conditions.next_value (L.listed table.now) kind) (length (L.listed table.now)) subtag.now result.now }
@@ -144,6 +145,7 @@ impl Shortcuts {
     }
 
     /// The answer of [`chain_end`](crate::chain_end), by the shortcuts of the table.
+    #[tactic(auto, using(crate::proofs::ChainWalks::own_end, crate::proofs::ChainWalks::own_cycle))]
     pub fn chain_end<L: Lookup>(
         &self,
         table: &L,
@@ -206,6 +208,7 @@ pub(crate) fn place_of(entries: &[Entry], entry: &Entry) -> usize
 
 /// The place of the entry of the value that follows an entry at a place, or its own place where that
 /// value is the last.
+#[tactic(auto, using(std::proofs::lemmas::Option::slice_get_within, crate::proofs::ChainWalks::entry_there, crate::proofs::ChainWalks::to_itself, crate::proofs::ChainWalks::to_next, crate::proofs::ChainWalks::next_by))]
 fn next_place<L: Lookup>(table: &L, entry: &Entry, place: usize) -> usize
     requires { slice_get (L.listed table.now) place ≡ Some entry.now }
     ensures within { result < length (L.listed table.now) }

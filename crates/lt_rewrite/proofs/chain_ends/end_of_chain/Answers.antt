@@ -2,18 +2,8 @@ use Rattle.std.proofs.Common.{◌≡◌, length, sym, ap, ◌∙◌, arith}
 use Rattle.std.specs.Option.{option_copied}
 use Rattle.lt_rewrite.specs.CoreSteps.{chase}
 use Rattle.lt_rewrite.specs.Conditions.{next_value}
-use Rattle.lt_rewrite.proofs.ChainWalks.{chase_more, walk_ends, walk_cycles, end_form}
+use Rattle.lt_rewrite.proofs.ChainWalks.{chase_more, walk_cycles}
 use Rattle.lt_rewrite.proofs.chain_ends.end_of_chain.Goals as goal
-
-pub returns-in-None-clause-end : goal.returns-in-None-clause-end
-returns-in-None-clause-end g c =
-    walk_ends (next_value (g.L.Lookup.listed c.args.table.now) c.args.kind) c.loop-step._step c.args.subtag.now c.loop-step.end c.loop-step.invariant (sym c.next_value.ensures ∙ ap option_copied c.in-None.is)
-
-pub returns-in-None-clause-form : goal.returns-in-None-clause-form
-returns-in-None-clause-form g c =
-    let R = g.L.Lookup.listed c.args.table.now in
-    end_form R (record { rising = c.entries-step-end.ensures.rising; forms = c.entries-step-end.ensures.forms }) c.args.kind c.args.subtag.now c.loop-step.end
-    (walk_ends (next_value R c.args.kind) c.loop-step._step c.args.subtag.now c.loop-step.end c.loop-step.invariant (sym c.next_value.ensures ∙ ap option_copied c.in-None.is))
 
 pub returns-in-Some-next_value-clause-cycle : goal.returns-in-Some-next_value-clause-cycle
 returns-in-Some-next_value-clause-cycle g c =
@@ -21,16 +11,6 @@ returns-in-Some-next_value-clause-cycle g c =
     let steps : c.loop-step._step ≡ length R = omega (arith, ap length c.entries-step-end.ensures.value, c.loop-step.auto._step-end, c.loop-step-test.false) in
     walk_cycles R c.args.kind c.args.subtag.now c.loop-step.end c.in-Some-next_value.field-0.now
     (c.loop-step.invariant ∙ ap (λ n. chase (next_value R c.args.kind) n c.args.subtag.now) steps) (sym c.next_value-2.ensures ∙ ap option_copied c.in-Some-next_value.is)
-
-pub returns-in-None-next_value-clause-end : goal.returns-in-None-next_value-clause-end
-returns-in-None-next_value-clause-end g c =
-    walk_ends (next_value (g.L.Lookup.listed c.args.table.now) c.args.kind) c.loop-step._step c.args.subtag.now c.loop-step.end c.loop-step.invariant (sym c.next_value-2.ensures ∙ ap option_copied c.in-None-next_value.is)
-
-pub returns-in-None-next_value-clause-form : goal.returns-in-None-next_value-clause-form
-returns-in-None-next_value-clause-form g c =
-    let R = g.L.Lookup.listed c.args.table.now in
-    end_form R (record { rising = c.entries-step-end.ensures.rising; forms = c.entries-step-end.ensures.forms }) c.args.kind c.args.subtag.now c.loop-step.end
-    (walk_ends (next_value R c.args.kind) c.loop-step._step c.args.subtag.now c.loop-step.end c.loop-step.invariant (sym c.next_value-2.ensures ∙ ap option_copied c.in-None-next_value.is))
 
 pub loop-step-preserved : goal.loop-step-preserved
 loop-step-preserved g c =

@@ -1,10 +1,13 @@
-use Rattle.std.proofs.Common.{false, Option, Some, List, sym, ap, ◌∙◌, subst}
+use Rattle.std.proofs.Common.{false, Option, Some, List, sym, ap, ◌∙◌, subst, length}
 use Rattle.lt_tag.specs.Parts.{CoreParts, FieldParts, TForm}
 use Rattle.lt_tag.specs.contracts.parts.TParts.{the_view}
 use Rattle.lt_rewrite.specs.Rewriting.{IsNormalForm}
 use Rattle.lt_rewrite.specs.Orderings.{ListStep}
 use Rattle.lt_rewrite.specs.Extensions.{separator_cmp, TransformStep}
-use Rattle.lt_rewrite.proofs.ExtensionLaws.{SourceSettles, transform_settles, transform_kept, transform_no_more}
+use Rattle.lt_tag.specs.Extensions.{spell_t, IsT}
+use Rattle.lt_rewrite.proofs.CoreLaws.{step_shaped}
+use Rattle.lt_rewrite.proofs.NormalForms.{star_keeps, star_no_more}
+use Rattle.lt_rewrite.proofs.ExtensionLaws.{SourceSettles, transform_settles, t_shaped, t_step_length}
 use Rattle.lt_rewrite.proofs.extension_settling.settle_transform.Goals as goal
 use Rattle.lt_rewrite.proofs.extension_settling.settle_transform.Goals.{in-Some, in_default}
 
@@ -27,7 +30,9 @@ returns-clause-settled g c =
     ]
 
 pub returns-clause-shaped : goal.returns-clause-shaped
-returns-clause-shaped g c = transform_kept (g.L.Lookup.listed c.args.table.now) c.recall_forms.ensures c.args.parts.now (the_view c.match-parts.parts-inside) (returns-clause-settled g c)
+returns-clause-shaped g c =
+    star_keeps IsT (t_shaped (g.L.Lookup.listed c.args.table.now) (step_shaped (g.L.Lookup.listed c.args.table.now) c.recall_forms.ensures)) (returns-clause-settled g c).reached
 
 pub returns-clause-few : goal.returns-clause-few
-returns-clause-few g c = transform_no_more (g.L.Lookup.listed c.args.table.now) c.args.parts.now (the_view c.match-parts.parts-inside) (returns-clause-settled g c)
+returns-clause-few g c =
+    star_no_more (λ (t : TForm). length (spell_t t)) (t_step_length (g.L.Lookup.listed c.args.table.now)) (returns-clause-settled g c).reached

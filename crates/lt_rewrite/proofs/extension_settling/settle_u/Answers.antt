@@ -6,7 +6,9 @@ use Rattle.lt_rewrite.specs.Rewriting.{IsNormalForm}
 use Rattle.lt_rewrite.specs.Orderings.{ListStep}
 use Rattle.lt_rewrite.specs.Extensions.{text_cmp, key_cmp}
 use Rattle.lt_rewrite.specs.ExtensionSettling.{untrue}
-use Rattle.lt_rewrite.proofs.ExtensionLaws.{unicode_settles, unicode_kept, unicode_no_more}
+use Rattle.lt_tag.specs.Extensions.{spell_u, IsU}
+use Rattle.lt_rewrite.proofs.NormalForms.{star_keeps, star_no_more}
+use Rattle.lt_rewrite.proofs.ExtensionLaws.{unicode_settles, u_shaped, u_step_length}
 use Rattle.lt_rewrite.proofs.extension_settling.settle_u.Goals as goal
 
 pub loop-keyword-preserved : goal.loop-keyword-preserved
@@ -35,8 +37,8 @@ returns-clause-settled c =
 
 pub returns-clause-shaped : goal.returns-clause-shaped
 returns-clause-shaped c =
-    unicode_kept c.args.parts.now (record { attributes = c.put_in_order.new.parts.items; keywords = c.put_in_order-2.new.parts.items }) (returns-clause-settled c)
+    star_keeps IsU u_shaped (returns-clause-settled c).reached
 
 pub returns-clause-few : goal.returns-clause-few
 returns-clause-few c =
-    unicode_no_more c.args.parts.now (record { attributes = c.put_in_order.new.parts.items; keywords = c.put_in_order-2.new.parts.items }) (returns-clause-settled c)
+    star_no_more (λ (u : UForm). length (spell_u u)) u_step_length (returns-clause-settled c).reached

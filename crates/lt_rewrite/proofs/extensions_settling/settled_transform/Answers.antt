@@ -3,11 +3,8 @@ use Rattle.lt_tag.specs.Parts.{ExtensionParts}
 use Rattle.lt_tag.specs.Extensions.{transform}
 use Rattle.lt_rewrite.specs.Rewriting.{IsNormalForm}
 use Rattle.lt_rewrite.specs.Extensions.{ExtensionStep}
-use Rattle.lt_rewrite.proofs.ExtensionLaws.{transform_settled, none_there, FoundAt, found_there, form_of_transform as transform_form}
+use Rattle.lt_rewrite.proofs.ExtensionLaws.{transform_settled, FoundAt, found_there, form_of_transform as transform_form}
 use Rattle.lt_rewrite.proofs.extensions_settling.settled_transform.Goals as goal
-
-pub returns-in_default : goal.returns-in_default
-returns-in_default g c = none_there c.args.extensions.now transform (sym c.place_of.ensures ∙ c.in_default.is)
 
 pub split_t-requires : goal.split_t-requires
 split_t-requires g c = (found_there c.args.extensions.now transform c.in-Some.place c.index-extensions-place.result (sym c.place_of.ensures ∙ c.in-Some.is) c.index-extensions-place.is).of_singleton

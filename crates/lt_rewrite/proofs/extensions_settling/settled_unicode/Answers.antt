@@ -3,11 +3,8 @@ use Rattle.lt_tag.specs.Parts.{ExtensionParts}
 use Rattle.lt_tag.specs.Extensions.{unicode}
 use Rattle.lt_rewrite.specs.Rewriting.{IsNormalForm}
 use Rattle.lt_rewrite.specs.Extensions.{ExtensionStep}
-use Rattle.lt_rewrite.proofs.ExtensionLaws.{unicode_settled, none_there, FoundAt, found_there}
+use Rattle.lt_rewrite.proofs.ExtensionLaws.{unicode_settled, FoundAt, found_there}
 use Rattle.lt_rewrite.proofs.extensions_settling.settled_unicode.Goals as goal
-
-pub returns-in_default : goal.returns-in_default
-returns-in_default c = λ R. none_there c.args.extensions.now unicode (sym c.place_of.ensures ∙ c.in_default.is)
 
 pub split_u-requires : goal.split_u-requires
 split_u-requires c = (found_there c.args.extensions.now unicode c.in-Some.place c.index-extensions-place.result (sym c.place_of.ensures ∙ c.in-Some.is) c.index-extensions-place.is).of_singleton

@@ -1,11 +1,10 @@
-use Rattle.std.proofs.Common.{◌≡◌, List, Some, None, Contains, length, sym, ap, ◌∙◌, subst, arith}
+use Rattle.std.proofs.Common.{◌≡◌, Some, None, length, sym, ap, ◌∙◌, subst}
 use Rattle.std.specs.Option.{option_copied}
-use Rattle.std.proofs.lemmas.Option.{slice_get_within}
 use Rattle.lt_registry.specs.Parts.{EntryParts}
 use Rattle.lt_rewrite.specs.Conditions.{next_value}
 use Rattle.lt_rewrite.specs.ChainEnds.{following}
 use Rattle.lt_rewrite.specs.Shortcuts.{IsOnward, ShortcutParts}
-use Rattle.lt_rewrite.proofs.ChainWalks.{next_by, entry_there, entry_next, onward_rest, onward_form, led_to, led_far, some_follows, none_follows}
+use Rattle.lt_rewrite.proofs.ChainWalks.{next_by, entry_next, onward_rest, onward_form, led_to, led_far, some_follows, none_follows}
 use Rattle.lt_rewrite.proofs.shortcuts.Shortcuts.further.Goals as goal
 
 pub returns-in_default-clause-onward : goal.returns-in_default-clause-onward
@@ -21,16 +20,6 @@ returns-then-is_none-clause-onward g c =
     let s = c.args.subtag.now in
     let e : EntryParts = c.in-Some.entry.now in
     onward_rest (next_value R k) (length R) s (entry_next R k s e (sym c.in-Some.ensures) ∙ none_follows c.following.result (following k e) c.following.ensures c.if-is_none.ensures)
-
-pub place_of-requires-clause-there : goal.place_of-requires-clause-there
-place_of-requires-clause-there g c =
-    subst (λ (es : List EntryParts). Contains es c.in-Some.entry.now) (sym c.entries-entries.ensures.value)
-    (entry_there (g.L.Lookup.listed c.args.table.now) c.args.kind c.args.subtag.now c.in-Some.entry.now (sym c.in-Some.ensures))
-
-pub index-requires : goal.index-requires
-index-requires g c =
-    let own = ap (λ (s : ShortcutParts). length s.places) c.self.view_is in
-    omega (arith, slice_get_within c.entries-entries.result.now c.place_of.result c.in-Some.entry.now c.place_of.ensures, ap (λ (xs : List EntryParts). length xs) c.entries-entries.ensures.value, own, c.requires.chains.one_each)
 
 pub bounds-entries-index : goal.bounds-entries-index
 bounds-entries-index g c =
