@@ -15,7 +15,7 @@ use Rattle.lt_rewrite.specs.Rewriting.{Star, done, then, IsNormalForm, Rests}
 use Rattle.lt_rewrite.specs.Extensions.{text_cmp, key_cmp, DropsTrue, UnicodeStep, on_attributes, on_keywords, on_types, separator_cmp, TransformStep, on_source, on_fields, singleton_cmp, ExtensionStep, in_unicode, in_transform, ExtensionsStep, inside, among}
 use Rattle.lt_rewrite.specs.ExtensionSettling.{without_true, untrue}
 use Rattle.lt_rewrite.proofs.Stars.{star_trans}
-use Rattle.lt_rewrite.proofs.NormalForms.{IsFormOf, formed_by, star_map, star_map_while, star_keeps, form_is_normal, normal_is_form}
+use Rattle.lt_rewrite.proofs.NormalForms.{IsFormOf, formed_by, pair_settles, star_map, star_map_while, star_keeps, form_is_normal, normal_is_form}
 use Rattle.lt_rewrite.proofs.Sorting.{sorted, list_step_keeps, sorted_reached, sorting_is_form, PartStep, on_part, on_order, parts_settle, parts_are_formed}
 use Rattle.lt_rewrite.proofs.PartLists.{all_step, list_all_step, all_middle, all_replaced, step_some, some_long, empty_middle, spelled_step, spelled_replaced, length_step, if_some_is, is_if_some, length_replaced, all_unmapped, all_both, round}
 use Rattle.lt_tag.specs.Spelling.{IsCore, IsExtension}
@@ -92,10 +92,10 @@ u_form p = record { attributes = sorted true text_cmp p.attributes; keywords = k
 abbrev pub with_parts : List (List ℕ) → List KeywordParts → UForm
 with_parts attributes keywords = record { attributes = attributes; keywords = keywords }
 
-keyword_step : (p q : UForm) → q.attributes ≡ p.attributes → PartStep LosesTrue true key_cmp p.keywords q.keywords → UnicodeStep p q
-keyword_step p q h (on_part before k l after e f s) =
-    on_types h before k after (record { there = e; sole = s.sole; result = f ∙ ap (λ x. before ++ x ∷ after) s.result })
-keyword_step p q h (on_order s) = on_keywords h s
+keyword_step : (as' : List (List ℕ)) (ks ls : List KeywordParts) → PartStep LosesTrue true key_cmp ks ls → UnicodeStep (with_parts as' ks) (with_parts as' ls)
+keyword_step as' ks ls (on_part before k l after e f s) =
+    on_types refl before k after (record { there = e; sole = s.sole; result = f ∙ ap (λ x. before ++ x ∷ after) s.result })
+keyword_step as' ks ls (on_order s) = on_keywords refl s
 
 as_part : (before : List KeywordParts) (k : KeywordParts) (after ks ls : List KeywordParts) → DropsTrue before k after ks ls → PartStep LosesTrue true key_cmp ks ls
 as_part before k after ks ls s = on_part before k (record k { types = [] }) after s.there s.result (record { sole = s.sole; result = refl })
@@ -108,21 +108,15 @@ u_kept p q (on_keywords h s) =
 u_kept p q (on_types h before k after s) =
     ap₂ with_parts (ap (sorted true text_cmp) (sym h)) (keywords_formed.kept p.keywords q.keywords (as_part before k after p.keywords q.keywords s))
 
-u_reached : (p : UForm) → Star UnicodeStep p (u_form p)
-u_reached p =
-    let attributes = sorted true text_cmp p.attributes in
-    star_trans (star_map (λ xs. with_parts xs p.keywords) (λ xs ys s. on_attributes s refl) (sorted_reached true text_cmp text_total p.attributes))
-    (star_map (with_parts attributes) (λ ks ls s. keyword_step (with_parts attributes ks) (with_parts attributes ls) refl s) (keywords_formed.reached p.keywords))
-
-u_rests : (p q : UForm) → UnicodeStep (u_form p) q → ⊥
-u_rests p q (on_attributes s h) = (sorting_is_form true text_cmp text_total).rests p.attributes q.attributes s
-u_rests p q (on_keywords h s) = keywords_formed.rests p.keywords q.keywords (on_order s)
-u_rests p q (on_types h before k after s) =
-    keywords_formed.rests p.keywords q.keywords (as_part before k after (u_form p).keywords q.keywords s)
+u_parts : (as' : List (List ℕ)) (ks : List KeywordParts) (q : UForm) → UnicodeStep (with_parts as' ks) q → ((bs : List (List ℕ)) × ListStep true text_cmp as' bs) ⊎ ((ls : List KeywordParts) × PartStep LosesTrue true key_cmp ks ls)
+u_parts as' ks q (on_attributes s h) = inl (q.attributes, s)
+u_parts as' ks q (on_keywords h s) = inr (q.keywords, on_order s)
+u_parts as' ks q (on_types h before k after s) = inr (q.keywords, as_part before k after ks q.keywords s)
 
 -- each step keeps it, steps reach it, none leads from it
 pub u_formed : IsFormOf UnicodeStep u_form
-u_formed = record { kept = u_kept; reached = u_reached; rests = u_rests }
+u_formed =
+    formed_by u_kept (λ p. pair_settles with_parts (λ as' bs ks s. on_attributes s refl) keyword_step u_parts (form_is_normal (sorting_is_form true text_cmp text_total) p.attributes) (form_is_normal keywords_formed p.keywords))
 
 -- the shapes of the parts
 
@@ -172,38 +166,27 @@ separator_total = on_total (λ (f : FieldParts). f.separator) text_total
 abbrev with_source : Option CoreParts → List FieldParts → TForm
 with_source source fields = record { source = source; fields = fields }
 
--- a source comes to its core normal form, or there is none
-abbrev pub SourceSettles : List EntryParts → Option CoreParts → Option CoreParts → Type 0
-SourceSettles R None None = Unit {0}
-SourceSettles R (Some c) (Some d) = IsCoreNormalForm (values_of R) c d
-SourceSettles R None (Some d) = ⊥
-SourceSettles R (Some c) None = ⊥
+-- a step on a source, if there is one
+abbrev pub OnSome : List EntryParts → Option CoreParts → Option CoreParts → Type 0
+OnSome R o r = (c d : CoreParts) × (o ≡ Some c) × (r ≡ Some d) × CoreStep (values_of R) c d
 
-source_settled : (R : List EntryParts) (o r : Option CoreParts) (fs : List FieldParts) → SourceSettles R o r → Star (TransformStep R) (with_source o fs) (with_source r fs)
-source_settled R None None fs h = done
-source_settled R (Some c) (Some d) fs h =
-    star_map (λ x. with_source (Some x) fs) (λ x y s. on_source x y refl refl s refl) h.reached
-source_settled s t u fs h = absurd h
+pub none_settles : (R : List EntryParts) → IsNormalForm (OnSome R) None None
+none_settles R = record { reached = done; at_rest = λ r s. cc (s.2) }
 
-source_at_rest : (R : List EntryParts) (o r : Option CoreParts) → SourceSettles R o r → (c d : CoreParts) → r ≡ Some c → CoreStep (values_of R) c d → ⊥
-source_at_rest R None None h c d e s = cc
-source_at_rest R (Some a) (Some b) h c d e s =
-    let same : c ≡ b = cc in
-    h.at_rest d (subst (λ x. CoreStep (values_of R) x d) same s)
-source_at_rest t u v h c d e s = absurd h
+pub source_settles : (R : List EntryParts) {c d : CoreParts} → IsCoreNormalForm (values_of R) c d → IsNormalForm (OnSome R) (Some c) (Some d)
+source_settles R {d = d} n = record {
+  reached = star_map Some (λ x y s. (x, y, refl, refl, s)) n.reached;
+  at_rest = λ r s. let same : s.0 ≡ d = cc (s.2) in n.at_rest s.1 (subst (λ x. CoreStep (values_of R) x s.1) same s.4);
+}
+
+t_parts : (R : List EntryParts) (o : Option CoreParts) (fs : List FieldParts) (q : TForm) → TransformStep R (with_source o fs) q → ((r : Option CoreParts) × OnSome R o r) ⊎ ((gs : List FieldParts) × ListStep false separator_cmp fs gs)
+t_parts R o fs q (on_source c d from to s h) = inl (q.source, (c, d, from, to, s))
+t_parts R o fs q (on_fields h s) = inr (q.fields, s)
 
 -- what the parts come to, from what the source and the fields come to
-pub transform_settles : (R : List EntryParts) (p q : TForm) → SourceSettles R p.source q.source → IsNormalForm (ListStep false separator_cmp) p.fields q.fields → IsNormalForm (TransformStep R) p q
-transform_settles R p q S n = record {
-  reached =
-      star_trans (star_map (with_source p.source) (λ fs gs s. on_fields refl s) n.reached)
-      (source_settled R p.source q.source q.fields S);
-  at_rest = rests;
-}
-  where
-    rests : (t : TForm) → TransformStep R q t → ⊥
-    rests t (on_source c d from _ s _) = source_at_rest R p.source q.source S c d from s
-    rests t (on_fields h s) = n.at_rest t.fields s
+pub transform_settles : (R : List EntryParts) (p q : TForm) → IsNormalForm (OnSome R) p.source q.source → IsNormalForm (ListStep false separator_cmp) p.fields q.fields → IsNormalForm (TransformStep R) p q
+transform_settles R p q =
+    pair_settles with_source (λ o r fs s. on_source s.0 s.1 s.2 s.3 s.4 refl) (λ o fs gs s. on_fields refl s) (t_parts R)
 
 module _ (R : List EntryParts) (C : MeetsCoreConditions R) where
   abbrev t_form : TForm → TForm
@@ -215,9 +198,9 @@ module _ (R : List EntryParts) (C : MeetsCoreConditions R) where
   t_kept p q (on_fields h s) =
       ap₂ with_source (ap (option_map (normal_core R C)) (sym h)) (list_step_keeps false separator_cmp separator_total p.fields q.fields s)
 
-  source_formed : (o : Option CoreParts) → SourceSettles R o (option_map (normal_core R C) o)
-  source_formed None = tt
-  source_formed (Some c) = form_is_normal (cores_formed R C) c
+  source_formed : (o : Option CoreParts) → IsNormalForm (OnSome R) o (option_map (normal_core R C) o)
+  source_formed None = none_settles R
+  source_formed (Some c) = source_settles R (form_is_normal (cores_formed R C) c)
 
   -- each step keeps it, steps reach it, none leads from it
   t_formed : IsFormOf (TransformStep R) t_form

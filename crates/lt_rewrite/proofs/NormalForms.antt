@@ -1,6 +1,7 @@
 -- A function that names the one normal form.
-use Rattle.std.proofs.Common.{◌≡◌, ℕ, ◌≤◌, refl, sym, ◌∙◌, arith}
+use Rattle.std.proofs.Common.{◌≡◌, ℕ, ◌≤◌, ◌⊎◌, inl, inr, refl, sym, ◌∙◌, arith}
 use Rattle.lt_rewrite.specs.Rewriting.{Star, done, then, Rests, IsNormalForm}
+use Rattle.lt_rewrite.proofs.Stars.{star_trans}
 
 -- each step keeps it, steps reach it, and none leads from it
 pub record IsFormOf {A : Type 0} (Step : A → A → Type 0) (form : A → A) : Type 0 where
@@ -51,3 +52,10 @@ star_no_more f h {a = p} r = star_keeps (λ x. f x ≤ f p) (λ a b s l. let m =
 pub star_map_while : {A B : Type 0} {Step : A → A → Type 0} {Other : B → B → Type 0} (P : A → Type 0) (g : A → B) → ((a b : A) → Step a b → P a → P b) → ((a b : A) → Step a b → P a → P b → Other (g a) (g b)) → {a b : A} → Star Step a b → P a → Star Other (g a) (g b)
 star_map_while P g k h done p = done
 star_map_while P g k h (then {a = a} {b = b} s r) p = let q = k a b s p in then (h a b s p q) (star_map_while P g k h r q)
+
+-- what has two parts comes to what they come to
+pub pair_settles : {A B C : Type 0} {One : A → A → Type 0} {Two : B → B → Type 0} {Step : C → C → Type 0} (make : A → B → C) → ((a b : A) (x : B) → One a b → Step (make a x) (make b x)) → ((a : A) (x y : B) → Two x y → Step (make a x) (make a y)) → ((a : A) (x : B) (c : C) → Step (make a x) c → ((b : A) × One a b) ⊎ ((y : B) × Two x y)) → {a b : A} {x y : B} → IsNormalForm One a b → IsNormalForm Two x y → IsNormalForm Step (make a x) (make b y)
+pair_settles make left right parts {b = b} {x = x} {y = y} n m = record {
+  reached = star_trans (star_map (λ a. make a x) (λ c d s. left c d x s) n.reached) (star_map (make b) (right b) m.reached);
+  at_rest = λ c s. elim (parts b y c s) [ inl t ↦ n.at_rest t.0 t.1 | inr t ↦ m.at_rest t.0 t.1 ];
+}

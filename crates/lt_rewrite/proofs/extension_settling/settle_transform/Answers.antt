@@ -7,7 +7,7 @@ use Rattle.lt_rewrite.specs.Extensions.{separator_cmp, TransformStep}
 use Rattle.lt_tag.specs.Extensions.{spell_t, IsT}
 use Rattle.lt_rewrite.proofs.CoreLaws.{step_shaped}
 use Rattle.lt_rewrite.proofs.NormalForms.{star_keeps, star_no_more}
-use Rattle.lt_rewrite.proofs.ExtensionLaws.{SourceSettles, transform_settles, t_shaped, t_step_length}
+use Rattle.lt_rewrite.proofs.ExtensionLaws.{OnSome, none_settles, source_settles, transform_settles, t_shaped, t_step_length}
 use Rattle.lt_rewrite.proofs.extension_settling.settle_transform.Goals as goal
 use Rattle.lt_rewrite.proofs.extension_settling.settle_transform.Goals.{in-Some, in_default}
 
@@ -22,11 +22,11 @@ returns-clause-settled g c =
       | in-Some w ↦
           subst (IsNormalForm (TransformStep R) p) (sym (ap the_view w.parts-inside-is))
           (transform_settles R p (record { source = Some w.settle_along.new.core; fields = c.put_in_order.new.parts.items })
-          (subst (λ (o : Option CoreParts). SourceSettles R o (Some w.settle_along.new.core)) (sym w.in-Some.is ∙ source) w.settle_along.ensures) fields)
+          (subst (λ (o : Option CoreParts). IsNormalForm (OnSome R) o (Some w.settle_along.new.core)) (sym w.in-Some.is ∙ source) (source_settles R w.settle_along.ensures)) fields)
       | in_default w ↦
           subst (IsNormalForm (TransformStep R) p) (sym (ap the_view w.parts-inside-is))
           (transform_settles R p (record { source = c.parts.inside.source; fields = c.put_in_order.new.parts.items })
-          (subst (λ (o : Option CoreParts). SourceSettles R o c.parts.inside.source) source (subst (λ (o : Option CoreParts). SourceSettles R o o) (sym w.in_default.is) tt)) fields)
+          (subst (λ (o : Option CoreParts). IsNormalForm (OnSome R) o c.parts.inside.source) source (subst (λ (o : Option CoreParts). IsNormalForm (OnSome R) o o) (sym w.in_default.is) (none_settles R))) fields)
     ]
 
 pub returns-clause-shaped : goal.returns-clause-shaped
