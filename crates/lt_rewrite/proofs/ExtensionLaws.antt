@@ -39,7 +39,7 @@ use Rattle.lt_tag.proofs.TagLemmas.{AllByRecursion-weaker}
 use Rattle.std.proofs.lemmas.List.Quantifiers.{position-Some}
 use Rattle.std.proofs.Math.Seq.{map-set_same}
 use Rattle.lt_registry.specs.Validity.{Distinct}
-use Rattle.lt_rewrite.specs.ExtensionsSettling.{Settles, placed}
+use Rattle.lt_rewrite.specs.ExtensionsSettling.{SettlesAt, Settles, placed}
 
 -- The normal form of the parts of a u extension.
 
@@ -154,9 +154,7 @@ u_step_length p q (on_attributes s h) =
 u_step_length p q (on_keywords h s) =
     omega (arith, length-append {A = List ℕ}, ap length h, spelled_step spell_keyword p.keywords q.keywords s)
 u_step_length p q (on_types h before k after s) =
-    let e = ap (λ ks. length (flat_map spell_keyword ks)) s.there in
-    let f = ap (λ ks. length (flat_map spell_keyword ks)) s.result in
-    omega (arith, length-append {A = List ℕ}, ap length h, e, f, spelled_replaced spell_keyword before k (record k { types = [] }) after (omega arith))
+    omega (arith, length-append {A = List ℕ}, ap length h, ap (λ ks. length (flat_map spell_keyword ks)) s.there, ap (λ ks. length (flat_map spell_keyword ks)) s.result, spelled_replaced spell_keyword before k (record k { types = [] }) after (omega arith))
 
 -- The normal form of the parts of a t extension, where each core has one.
 
@@ -228,9 +226,7 @@ module _ (R : List EntryParts) (S : (c d : CoreParts) → IsCore c → CoreStep 
 -- a step makes the subtags no more
 pub t_step_length : (R : List EntryParts) (p q : TForm) → TransformStep R p q → length (spell_t q) ≤ length (spell_t p)
 t_step_length R p q (on_source c d from to s same_fields) =
-    let a = ap (λ o. length (spell_source o)) from in
-    let b = ap (λ o. length (spell_source o)) to in
-    omega (arith, length-append {A = List ℕ}, spelled_no_longer c d (core_step_no_longer (values_of R) c d s), a, b, ap (λ fs. length (flat_map spell_field fs)) same_fields)
+    omega (arith, length-append {A = List ℕ}, spelled_no_longer c d (core_step_no_longer (values_of R) c d s), ap (λ o. length (spell_source o)) from, ap (λ o. length (spell_source o)) to, ap (λ fs. length (flat_map spell_field fs)) same_fields)
 t_step_length R p q (on_fields h s) =
     omega (arith, length-append {A = List ℕ}, ap (λ o. length (spell_source o)) h, spelled_step spell_field p.fields q.fields s)
 
@@ -461,8 +457,8 @@ extensions_have_one_form R G C = record {
 
 pub unicode_settles : (p q : UForm) → IsNormalForm (ListStep true text_cmp) p.attributes q.attributes → IsNormalForm (ListStep true key_cmp) (map untrue p.keywords) q.keywords → IsNormalForm UnicodeStep p q
 unicode_settles p q a k =
-    let ks = normal_is_form (sorting_is_form true key_cmp key_total) (map untrue p.keywords) q.keywords k in
-    subst (IsNormalForm UnicodeStep p) (ap₂ with_parts (normal_is_form (sorting_is_form true text_cmp text_total) p.attributes q.attributes a) ks) (form_is_normal u_formed p)
+    subst (IsNormalForm UnicodeStep p)
+    (ap₂ with_parts (normal_is_form (sorting_is_form true text_cmp text_total) p.attributes q.attributes a) (normal_is_form (sorting_is_form true key_cmp key_total) (map untrue p.keywords) q.keywords k)) (form_is_normal u_formed p)
 
 -- where the first extension of a singleton is
 
@@ -484,6 +480,12 @@ pub found_there : (es : List ExtensionParts) (n place : ℕ) (e : ExtensionParts
 found_there es n place e h is =
     let found = position-Some (λ (e : ExtensionParts). e.singleton == n) es place e h in
     record { within = found.0; of_singleton = ap (λ (x : ExtensionParts). x.singleton) is ∙ eqb-true (get_or es place e).singleton n found.1 }
+
+-- and what it comes to
+pub found_settles : (R : List EntryParts) (n : ℕ) (es : List ExtensionParts) (place : ℕ) (e f : ExtensionParts) → position (λ (e : ExtensionParts). e.singleton == n) es ≡ Some place → e ≡ get_or es place e → (e.singleton ≡ n → IsNormalForm (ExtensionStep R) e f) → SettlesAt R n es place f
+found_settles R n es place e f h is normal =
+    let found = found_there es n place e h is in
+    record { within = found.within; from = e; there = is; of_singleton = found.of_singleton; normal = normal found.of_singleton }
 
 -- one extension among others
 
@@ -509,9 +511,8 @@ pub placed_reached : (R : List EntryParts) (n : ℕ) (es : List ExtensionParts) 
 placed_reached R n es None s = done
 placed_reached R n es (Some p) s =
     let i : ℕ = p.0 in
-    let at : ExtensionParts → List ExtensionParts = λ x. take i es ++ x ∷ drop (suc i) es in
-    let walk : Star (ExtensionsStep R) (at s.from) (at p.1) = star_map at (λ x y t. inside (take i es) x y (drop (suc i) es) (record { there = refl; result = refl }) t) s.normal.reached in
-    subst₂ (Star (ExtensionsStep R)) (sym (round es i s.from s.within s.there)) (sym (set_split es i p.1 s.within)) walk
+    subst₂ (Star (ExtensionsStep R)) (sym (round es i s.from s.within s.there)) (sym (set_split es i p.1 s.within))
+    (star_map (λ x. take i es ++ x ∷ drop (suc i) es) (λ x y t. inside (take i es) x y (drop (suc i) es) (record { there = refl; result = refl }) t) s.normal.reached)
 
 pub placed_distinct : (R : List EntryParts) (n : ℕ) (es : List ExtensionParts) (o : Option (ℕ × ExtensionParts)) → Settles R n es o → Distinct (map singleton_of es) → Distinct (map singleton_of (placed o es))
 placed_distinct R n es None s d = d

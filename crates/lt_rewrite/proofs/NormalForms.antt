@@ -12,13 +12,17 @@ pub record IsFormOf {A : Type 0} (Step : A → A → Type 0) (form : A → A) : 
 pub formed_by : {A : Type 0} {Step : A → A → Type 0} {form : A → A} → ((a b : A) → Step a b → form a ≡ form b) → ((a : A) → IsNormalForm Step a (form a)) → IsFormOf Step form
 formed_by k n = record { kept = k; reached = λ a. (n a).reached; rests = λ a. (n a).at_rest }
 
+-- what each step keeps, many steps keep
+pub star_keeps : {A : Type 0} {Step : A → A → Type 0} (P : A → Type 0) → ((a b : A) → Step a b → P a → P b) → {a b : A} → Star Step a b → P a → P b
+star_keeps P h done p = p
+star_keeps P h (then {a = a} {b = b} s r) p = star_keeps P h r (h a b s p)
+
 pub star_rests : {A : Type 0} {Step : A → A → Type 0} {a b : A} → Star Step a b → Rests Step a → a ≡ b
 star_rests done h = refl
 star_rests (then {b = b} s r) h = absurd (h b s)
 
 pub star_form : {A : Type 0} {Step : A → A → Type 0} {form : A → A} → IsFormOf Step form → {a b : A} → Star Step a b → form a ≡ form b
-star_form F done = refl
-star_form F (then {a = a} {b = b} s r) = F.kept a b s ∙ star_form F r
+star_form {form = form} F {a = a} r = star_keeps (λ x. form a ≡ form x) (λ b c s e. e ∙ F.kept b c s) r refl
 
 -- from which no step leads is its own form
 pub rest_is_form : {A : Type 0} {Step : A → A → Type 0} {form : A → A} → IsFormOf Step form → (a : A) → Rests Step a → form a ≡ a
@@ -38,11 +42,6 @@ form_again {form = form} F a = rest_is_form F (form a) (F.rests a)
 pub star_map : {A B : Type 0} {Step : A → A → Type 0} {Other : B → B → Type 0} (g : A → B) → ((a b : A) → Step a b → Other (g a) (g b)) → {a b : A} → Star Step a b → Star Other (g a) (g b)
 star_map g h done = done
 star_map g h (then {a = a} {b = b} s r) = then (h a b s) (star_map g h r)
-
--- what each step keeps, many steps keep
-pub star_keeps : {A : Type 0} {Step : A → A → Type 0} (P : A → Type 0) → ((a b : A) → Step a b → P a → P b) → {a b : A} → Star Step a b → P a → P b
-star_keeps P h done p = p
-star_keeps P h (then {a = a} {b = b} s r) p = star_keeps P h r (h a b s p)
 
 -- what no step makes more, many steps make no more
 pub star_no_more : {A : Type 0} {Step : A → A → Type 0} (f : A → ℕ) → ((a b : A) → Step a b → f b ≤ f a) → {a b : A} → Star Step a b → f b ≤ f a

@@ -84,7 +84,7 @@ impl Shortcuts {
 
     /// The subtag as many values on from a subtag as there are records: the end of its chain, if it
     /// has one.
-    #[tactic(auto, using(std::proofs::lemmas::Option::slice_get_within, crate::proofs::ChainWalks::entry_there, crate::proofs::ChainWalks::onward_form))]
+    #[tactic(auto, using(std::proofs::lemmas::Option::slice_get_within, crate::proofs::ChainWalks::entry_there, crate::proofs::ChainWalks::onward_rest, crate::proofs::ChainWalks::entry_next, crate::proofs::ChainWalks::none_follows, crate::proofs::ChainWalks::next_by, crate::proofs::ChainWalks::led_to, crate::proofs::ChainWalks::led_far, crate::proofs::ChainWalks::some_follows))]
     fn further<'a, L: Lookup>(&self, table: &'a L, kind: Kind, subtag: &'a Subtag) -> &'a Subtag
         requires { AreShortcuts (L.listed table.now) self.now }
         ensures onward { IsOnward (conditions.next_value (L.listed table.now) kind) (length (L.listed table.now)) subtag.now result.now }

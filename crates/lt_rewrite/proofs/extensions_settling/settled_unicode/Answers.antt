@@ -3,7 +3,7 @@ use Rattle.lt_tag.specs.Parts.{ExtensionParts}
 use Rattle.lt_tag.specs.Extensions.{unicode}
 use Rattle.lt_rewrite.specs.Rewriting.{IsNormalForm}
 use Rattle.lt_rewrite.specs.Extensions.{ExtensionStep}
-use Rattle.lt_rewrite.proofs.ExtensionLaws.{unicode_settled, FoundAt, found_there}
+use Rattle.lt_rewrite.proofs.ExtensionLaws.{unicode_settled, found_there, found_settles}
 use Rattle.lt_rewrite.proofs.extensions_settling.settled_unicode.Goals as goal
 
 pub split_u-requires : goal.split_u-requires
@@ -12,11 +12,5 @@ split_u-requires c = (found_there c.args.extensions.now unicode c.in-Some.place 
 pub returns : goal.returns
 returns c = λ R.
     let e : ExtensionParts = c.index-extensions-place.result in
-    let found : FoundAt unicode c.args.extensions.now c.in-Some.place e = found_there c.args.extensions.now unicode c.in-Some.place e (sym c.place_of.ensures ∙ c.in-Some.is) c.index-extensions-place.is in
-    record {
-      within = found.within;
-      from = e;
-      there = c.index-extensions-place.is;
-      of_singleton = found.of_singleton;
-      normal = subst (IsNormalForm (ExtensionStep R) e) (sym c.in_ok-join_u.ensures) (unicode_settled R e c.in_ok-parts.parts c.settle_u.new.parts found.of_singleton c.in_ok-parts.ensures.parts c.settle_u.ensures.settled);
-    }
+    found_settles R unicode c.args.extensions.now c.in-Some.place e _ (sym c.place_of.ensures ∙ c.in-Some.is) c.index-extensions-place.is
+    (λ u. subst (IsNormalForm (ExtensionStep R) e) (sym c.in_ok-join_u.ensures) (unicode_settled R e c.in_ok-parts.parts c.settle_u.new.parts u c.in_ok-parts.ensures.parts c.settle_u.ensures.settled))

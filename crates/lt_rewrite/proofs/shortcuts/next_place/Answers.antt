@@ -1,4 +1,4 @@
-use Rattle.std.proofs.Common.{◌≡◌, ℕ, List, Some, None, sym, ap, ◌∙◌}
+use Rattle.std.proofs.Common.{ℕ, List, sym, ap, ◌∙◌}
 use Rattle.lt_registry.specs.Parts.{EntryParts}
 use Rattle.lt_registry.specs.Entries.{entry}
 use Rattle.lt_rewrite.specs.ChainEnds.{following}
@@ -11,7 +11,5 @@ returns-in-None-clause-shortcut g c =
     let e : EntryParts = c.args.entry.now in
     let next : EntryParts = c.in-Some-entry.next.now in
     let w : List ℕ = c.in-Some.value.now in
-    let follows : following e.kind e ≡ Some w = ap (λ k. following k e) (sym c.kind.ensures.value) ∙ sym c.in-Some.ensures in
-    let found : entry R e.kind w ≡ Some next = ap (λ k. entry R k w) (sym c.kind-2.ensures.value) ∙ sym c.in-Some-entry.ensures in
-    let then : following next.kind next ≡ None = ap (λ k. following k next) (sym c.kind-3.ensures.value) ∙ sym c.in-None.ensures in
-    to_itself R c.args.place e w c.requires follows (none_after R e.kind w next found then)
+    to_itself R c.args.place e w c.requires (ap (λ k. following k e) (sym c.kind.ensures.value) ∙ sym c.in-Some.ensures)
+    (none_after R e.kind w next (ap (λ k. entry R k w) (sym c.kind-2.ensures.value) ∙ sym c.in-Some-entry.ensures) (ap (λ k. following k next) (sym c.kind-3.ensures.value) ∙ sym c.in-None.ensures))

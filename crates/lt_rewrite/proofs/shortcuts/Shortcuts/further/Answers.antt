@@ -1,41 +1,10 @@
-use Rattle.std.proofs.Common.{◌≡◌, Some, None, length, sym, ap, ◌∙◌, subst}
-use Rattle.std.specs.Option.{option_copied}
+use Rattle.std.proofs.Common.{◌≡◌, Some, length, sym, ap, subst}
 use Rattle.lt_registry.specs.Parts.{EntryParts}
 use Rattle.lt_rewrite.specs.Conditions.{next_value}
 use Rattle.lt_rewrite.specs.ChainEnds.{following}
 use Rattle.lt_rewrite.specs.Shortcuts.{IsOnward, ShortcutParts}
-use Rattle.lt_rewrite.proofs.ChainWalks.{next_by, entry_next, onward_rest, onward_form, led_to, led_far, some_follows, none_follows}
+use Rattle.lt_rewrite.proofs.ChainWalks.{onward_form, led_far, some_follows}
 use Rattle.lt_rewrite.proofs.shortcuts.Shortcuts.further.Goals as goal
-
-pub returns-in_default-clause-onward : goal.returns-in_default-clause-onward
-returns-in_default-clause-onward g c =
-    let R = g.L.Lookup.listed c.args.table.now in
-    let s = c.args.subtag.now in
-    onward_rest (next_value R c.args.kind) (length R) s (next_by R c.args.kind s None (sym (ap option_copied c.in_default.is) ∙ c.entry.ensures))
-
-pub returns-then-is_none-clause-onward : goal.returns-then-is_none-clause-onward
-returns-then-is_none-clause-onward g c =
-    let R = g.L.Lookup.listed c.args.table.now in
-    let k = c.args.kind in
-    let s = c.args.subtag.now in
-    let e : EntryParts = c.in-Some.entry.now in
-    onward_rest (next_value R k) (length R) s (entry_next R k s e (sym c.in-Some.ensures) ∙ none_follows c.following.result (following k e) c.following.ensures c.if-is_none.ensures)
-
-pub bounds-entries-index : goal.bounds-entries-index
-bounds-entries-index g c =
-    (led_to (g.L.Lookup.listed c.args.table.now) c.entries-entries.result.now c.self.inside.places.items c.args.self.now.places c.place_of.result c.index.result.now c.in-Some.entry.now c.requires.chains c.entries-entries.ensures.value (ap (λ (s : ShortcutParts). s.places) c.self.view_is) c.place_of.ensures c.index.ensures).2
-
-pub unreachable-requires : goal.unreachable-requires
-unreachable-requires g c =
-    let R = g.L.Lookup.listed c.args.table.now in
-    let k = c.args.kind in
-    let e : EntryParts = c.in-Some.entry.now in
-    let last : EntryParts = c.index-entries-index.result in
-    let v = some_follows c.following.result (following k e) c.following.ensures c.if-is_none.ensures in
-    let far = led_far R c.entries-entries.result.now k c.args.subtag.now v.0 c.self.inside.places.items c.args.self.now.places c.place_of.result c.index.result.now e last c.requires.chains c.entries-entries.ensures.value (ap (λ (s : ShortcutParts). s.places) c.self.view_is) (sym c.in-Some.ensures) v.1 c.place_of.ensures c.index.ensures c.index-entries-index.is in
-    let gives : following k last ≡ Some far.0 = far.1 in
-    let none : following k last ≡ None = sym c.in-None.ensures in
-    cc
 
 pub returns-clause-onward : goal.returns-clause-onward
 returns-clause-onward g c =
