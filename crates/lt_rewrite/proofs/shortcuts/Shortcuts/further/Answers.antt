@@ -1,4 +1,4 @@
-use Rattle.std.proofs.Common.{◌≡◌, Some, length, sym, ap, subst}
+use Rattle.std.proofs.Common.{◌≡◌, length, sym, ap, subst}
 use Rattle.lt_registry.specs.Parts.{EntryParts}
 use Rattle.lt_rewrite.specs.Conditions.{next_value}
 use Rattle.lt_rewrite.specs.ChainEnds.{following}
@@ -15,9 +15,7 @@ returns-clause-onward g c =
     let last : EntryParts = c.index-entries-index.result in
     let v = some_follows c.following.result (following k e) c.following.ensures c.if-is_none.ensures in
     let far = led_far R c.entries-entries.result.now k s v.0 c.self.inside.places.items c.args.self.now.places c.place_of.result c.index.result.now e last c.requires.chains c.entries-entries.ensures.value (ap (λ (s : ShortcutParts). s.places) c.self.view_is) (sym c.in-Some.ensures) v.1 c.place_of.ensures c.index.ensures c.index-entries-index.is in
-    let gives : following k last ≡ Some far.0 = far.1 in
-    let its : following k last ≡ Some c.in-Some-following.value.now = sym c.in-Some-following.ensures in
-    let same : far.0 ≡ c.in-Some-following.value.now = cc in
+    let same : far.0 ≡ c.in-Some-following.value.now = cc (far.1, c.in-Some-following.ensures) in
     subst (IsOnward (next_value R k) (length R) s) same far.2
 
 pub returns-clause-form : goal.returns-clause-form
