@@ -5,31 +5,32 @@ use Rattle.std.proofs.lemmas.Option.{same_Some, slice_get_within, none-some, get
 use Rattle.lt_tag.specs.Parts.{CoreParts, ExtensionParts, UForm, TForm, TagForm, LangTag, KeywordParts, FieldParts}
 use Rattle.lt_tag.specs.Spelling.{spell_core, spell_extension, spell_extensions}
 use Rattle.lt_registry.specs.Parts.{EntryParts}
-use Rattle.lt_registry.specs.Entries.{entry, number_of, preferred_value, variant_value, is_short, whole_value, IsRegistry}
+use Rattle.lt_registry.specs.Entries.{entry, number_of, preferred_value, variant_value, is_short, IsRegistry}
 use Rattle.lt_registry.specs.Faults.{before_variants}
 use Rattle.lt_rewrite.specs.CoreSteps.{values_of, Spot, at_extlang, at_language, at_script, at_region, at_variant, at_variant_language, subtag_at, value_at, replaced, CoreStep}
-use Rattle.lt_rewrite.specs.Labels.{step_at, kind_at, subtag_kind_at, place_at, core_label, list_label, unicode_label, transform_label, extension_label, extensions_label, tag_label, LeadsBy}
+use Rattle.lt_rewrite.specs.Labels.{step_at, kind_at, subtag_kind_at, place_at, core_label, list_label, unicode_label, LeadsBy}
 use Rattle.lt_rewrite.specs.Runs.{rank_of, kind_rank, extension_rank, IsFirst, NoneLeads, NoneOnCore, IsLeftmostOnCore, IsFirstOnCore, SwapsBy, DropsBy, DropsTrueBy}
 use Rattle.lt_rewrite.specs.declared.steps.Step.{Step}
 use Rattle.lt_rewrite.proofs.CoreLaws.{alone, one_extlang, some_if, get_at, none_before, there_alone, has_leftmost, step_shaped}
 use Rattle.std.specs.List.{AllByRecursion, list_all}
 use Rattle.std.proofs.lemmas.List.{length-take-le, set_split, take_at, get_or_default}
 use Rattle.lt_rewrite.specs.CoreSettling.{IsFirstVariantLanguage, HasNoVariantLanguage}
-use Rattle.lt_rewrite.specs.Applying.{IsValueBy, CoreLeads, Answers, IsPlaceOf, SwapLeads, DropLeads, TrueLeads, UnicodeLeads, TransformLeads, ExtensionLeads, ExtensionsLeads, LeadsAt, Changes, IsWholeValueBy, TagLeads}
+use Rattle.lt_rewrite.specs.Applying.{IsValueBy, CoreLeads, Answers, IsPlaceOf, SwapLeads, TrueLeads, UnicodeLeads, TransformLeads, ExtensionLeads, ExtensionsLeads, LeadsAt, Changes, IsWholeValueBy, TagLeads}
 use Rattle.lt_rewrite.specs.declared.steps.StepKind.{StepKind}
 use Rattle.lt_rewrite.proofs.Entries.{variant_value_is}
 use Rattle.std.proofs.lemmas.List.Elements.{recursion_from_All}
-use Rattle.lt_rewrite.proofs.FirstSteps.{compared, is_first, same_front}
+use Rattle.lt_rewrite.proofs.FirstSteps.{is_first, same_front, drop_there}
+use Rattle.std.proofs.lemmas.Bool.{cases_eq}
 use Rattle.lt_tag.specs.Extensions.{spell_keyword, spell_u, spell_field, spell_t, transform, unicode, IsUnicode, IsTransform}
 use Rattle.lt_tag.proofs.PartsLaws.{u_unique, t_unique}
 use Rattle.lt_registry.specs.Validity.{Distinct, IsProperLangTag, HasProperParts, IsProper}
 use Rattle.lt_rewrite.specs.Orderings.{ListStep, by_swap, by_drop}
-use Rattle.lt_rewrite.specs.Extensions.{text_cmp, key_cmp, separator_cmp, singleton_cmp, UnicodeStep, on_attributes, on_keywords, on_types, TransformStep, on_source, on_fields, ExtensionStep, in_unicode, in_transform, ExtensionsStep, inside, among}
-use Rattle.lt_rewrite.specs.TagSteps.{TagChange, on_core, on_extensions, on_whole, CanBeReplacedWhole}
+use Rattle.lt_rewrite.specs.Extensions.{text_cmp, key_cmp, separator_cmp, singleton_cmp, UnicodeStep, on_attributes, on_keywords, on_types, on_source, on_fields, in_unicode, in_transform, ExtensionsStep, inside, among}
+use Rattle.lt_rewrite.specs.TagSteps.{on_core, on_extensions, on_whole, CanBeReplacedWhole}
 use Rattle.lt_rewrite.specs.Laws.{StepsAreDetermined}
 use Rattle.lt_rewrite.proofs.PartLists.{SameCut, same_flat, flat_length, distinct_cut, cut_at, cut_within, round, length_step, length_replaced}
 use Rattle.lt_tag.specs.Splitting.{spell_source}
-use Rattle.lt_rewrite.proofs.ExtensionLaws.{one_unicode, one_transform, t_shaped, u_shaped}
+use Rattle.lt_rewrite.proofs.ExtensionLaws.{t_shaped, u_shaped}
 use Rattle.lt_tag.specs.Values.{IsTagValue, FitsCounts, core_of, extensions_of, private_of}
 use Rattle.lt_tag.specs.Lists.{longest_text}
 use Rattle.lt_registry.specs.declared.entries.Kind.TheVariants as kinds
@@ -105,23 +106,6 @@ variant_spot s r = absurd (omega (arith, r))
 pub variant_language_spot : (s : Spot) → rank_of (kind_at s) ≡ 6 → (i : ℕ) × (s ≡ at_variant_language i)
 variant_language_spot (at_variant_language i) r = (i, refl)
 variant_language_spot s r = absurd (omega (arith, r))
-
--- two core steps of one spot use one record and lead to one core
-pub record SameStep (R : List EntryParts) (start : ℕ) (c d e : CoreParts) (s : CoreStep (values_of R) c d) (u : CoreStep (values_of R) c e) : Type 0 where
-  pub spot : s.spot ≡ u.spot
-  pub number : (core_label R start s).number ≡ (core_label R start u).number
-  pub result : d ≡ e
-
-pub one_step : (R : List EntryParts) (start : ℕ) (c d e : CoreParts) (s : CoreStep (values_of R) c d) (u : CoreStep (values_of R) c e) → kind_at s.spot ≡ kind_at u.spot → place_at c s.spot ≡ place_at c u.spot → SameStep R start c d e s u
-one_step R start c d e s u k p =
-    let m : s.spot ≡ u.spot = one_spot c s.spot u.spot k p in
-    let a : s.subtag ≡ u.subtag = same_Some s.subtag u.subtag (sym s.there ∙ ap (subtag_at c) m ∙ u.there) in
-    let b : s.value ≡ u.value = same_Some s.value u.value (sym s.has ∙ (λ i. value_at (values_of R) c (m i) (a i)) ∙ u.has) in
-    record {
-      spot = m;
-      number = λ i. number_of (entry R (subtag_kind_at (m i)) (a i));
-      result = s.result ∙ (λ i. replaced c (m i) (b i)) ∙ sym u.result;
-    }
 
 pub same_step : (kind : StepKind) (place number : ℕ) (step : Step) → step.kind ≡ kind → step.place ≡ place → step.number ≡ number → step_at kind place number ≡ step
 same_step kind place number step k p n = λ i. record { kind = (sym k) i; place = (sym p) i; number = (sym n) i }
@@ -277,12 +261,8 @@ module _ (R : List EntryParts) (start : ℕ) (c : CoreParts) where
 
   none_of : (n : ℕ) → NoneUpTo n → (m : ℕ) → m < suc n → NoneOnCore R start c m
   none_of zero h m l step b k r = omega (arith, (core_rank R start c b k.0).some, ap kind_rank k.1, r, l)
-  none_of (suc n) h m l step b k r = at (none_of n h.0 m) (compared m (suc n))
-    where
-      at : (m < suc n → NoneOnCore R start c m) → (m < suc n) ⊎ ((m ≡ suc n) ⊎ (suc n < m)) → ⊥
-      at below (inl less) = below less step b k r
-      at below (inr (inl same)) = h.1 step b k (r ∙ same)
-      at below (inr (inr more)) = omega (arith, more, l)
+  none_of (suc n) h m l step b k r =
+      elim (cases_eq m (suc n)) [ inl same ↦ h.1 step b k (r ∙ same) | inr other ↦ none_of n h.0 m (omega (arith, l, other)) step b k r ]
 
   -- the leftmost of the next rank is the first
   pub first_after : (n : ℕ) (step : Step) → NoneUpTo n → IsLeftmostOnCore R start c (suc n) step → IsFirstOnCore R start c step
@@ -302,309 +282,103 @@ pub applied : (R : List EntryParts) (start : ℕ) (c d : CoreParts) (step : Step
 applied R start c d step true f a = record { leads = a; first = f.is_first.first }
 applied R start c d step false f a = absurd (a f.to f.is_first.leads)
 
--- The kind and the place of a step determine its record and its result.
+-- What a step on lists is of which no part is dropped.
+module _ {A : Type 0} (cmp : A → A → Ordering) (swap : StepKind) (spell : A → List (List ℕ)) (start : ℕ) (xs ys : List A) (step : Step) where
+  pub to_swap : SwapsBy cmp spell swap start xs step ys → (s : ListStep false cmp xs ys) × (list_label swap swap spell start s ≡ step)
+  to_swap s = (by_swap s.leads.before s.leads.first s.leads.second s.leads.after s.leads.swaps, same_step _ _ _ step s.of_kind s.leads.at s.unnumbered)
 
--- two steps of one kind at one place
-record SameSpot (step other : Step) : Type 0 where
-  pub kind : step.kind ≡ other.kind
-  pub place : step.place ≡ other.place
+  pub as_swap : (s : ListStep false cmp xs ys) → list_label swap swap spell start s ≡ step → SwapsBy cmp spell swap start xs step ys
+  as_swap (by_swap before a b after s) h =
+      subst (λ x. SwapsBy cmp spell swap start xs x ys) h (record { of_kind = refl; unnumbered = refl; leads = record { before = before; first = a; second = b; after = after; swaps = s; at = refl } })
+  as_swap (by_drop before a between b after o s) h = absurd cc
 
--- they use one record and lead to one result
-record SameEnd {A : Type 0} (step other : Step) (a b : A) : Type 0 where
-  pub number : step.number ≡ other.number
-  pub result : a ≡ b
+-- What a step is on the parts of a u extension.
 
-same_some : {A : Type 0} (o : Option A) (a b : A) → o ≡ Some a → o ≡ Some b → a ≡ b
-same_some o a b e f = cc
+abbrev pub one_subtag : List ℕ → List (List ℕ)
+one_subtag a = a ∷ []
 
-one_core_result : (R : List EntryParts) (start : ℕ) (c d e : CoreParts) (s : CoreStep (values_of R) c d) (u : CoreStep (values_of R) c e) → SameSpot (core_label R start s) (core_label R start u) → SameEnd (core_label R start s) (core_label R start u) d e
-one_core_result R start c d e s u h =
-    let k = one_step R start c d e s u h.kind (omega (arith, h.place)) in
-    record { number = k.number; result = k.result }
+abbrev pub u_parts : List (List ℕ) → List KeywordParts → UForm
+u_parts attributes keywords = record { attributes = attributes; keywords = keywords }
 
-one_core_any : (R : List EntryParts) (start : ℕ) (c c' d d' : CoreParts) → c ≡ c' → (s : CoreStep (values_of R) c d) (u : CoreStep (values_of R) c' d') → SameSpot (core_label R start s) (core_label R start u) → SameEnd (core_label R start s) (core_label R start u) d d'
-one_core_any R start c c' d d' e s u h =
-    let P : CoreParts → Type 0 = λ x. (u : CoreStep (values_of R) x d') → SameSpot (core_label R start s) (core_label R start u) → SameEnd (core_label R start s) (core_label R start u) d d' in
-    subst P e (λ u h. one_core_result R start c d d' s u h) u h
+-- the kinds of step there, in their order
+pub data UnicodeKind : Type 0 where
+  drop_attribute swap_attributes drop_keyword swap_keywords drop_true : UnicodeKind
 
-one_list_result : {A : Type 0} (once : Bool) (cmp : A → A → Ordering) (swap drop : StepKind) → (once ≡ true → swap ≢ drop) → (spell : A → List (List ℕ)) → ((a : A) → spell a ≢ []) → (start : ℕ) (xs ys zs : List A) (s : ListStep once cmp xs ys) (u : ListStep once cmp xs zs) → SameSpot (list_label swap drop spell start s) (list_label swap drop spell start u) → ys ≡ zs
-one_list_result once cmp swap drop differ spell n start xs ys zs (by_swap before a b after s) (by_swap before' a' b' after' u) h =
-    let k : SameCut before before' a a' (b ∷ after) (b' ∷ after') = same_flat spell n before before' a a' (b ∷ after) (b' ∷ after') (sym s.there ∙ u.there) (omega (arith, h.place)) in
-    let r : b ∷ after ≡ b' ∷ after' = k.rest in
-    let eb : b ≡ b' = cc in
-    let ea : after ≡ after' = cc in
-    s.result ∙ (λ i. k.front i ++ eb i ∷ k.at i ∷ ea i) ∙ sym u.result
-one_list_result once cmp swap drop differ spell n start xs ys zs (by_drop before a between b after o s) (by_drop before' a' between' b' after' o' u) h =
-    let l : length (flat_map spell (before ++ a ∷ between)) ≡ length (flat_map spell (before' ++ a' ∷ between')) = omega (arith, h.place, flat_length spell before a between, flat_length spell before' a' between') in
-    let there : (before ++ a ∷ between) ++ b ∷ after ≡ (before' ++ a' ∷ between') ++ b' ∷ after' =
-    append_assoc before (a ∷ between) (b ∷ after) ∙ sym s.there ∙ u.there ∙ sym (append_assoc before' (a' ∷ between') (b' ∷ after')) in
-    let k : SameCut (before ++ a ∷ between) (before' ++ a' ∷ between') b b' after after' = same_flat spell n (before ++ a ∷ between) (before' ++ a' ∷ between') b b' after after' there l in
-    s.result ∙ sym (append_assoc before (a ∷ between) after) ∙ (λ i. k.front i ++ k.rest i) ∙ append_assoc before' (a' ∷ between') after' ∙ sym u.result
-one_list_result once cmp swap drop differ spell n start xs ys zs (by_swap before a b after s) (by_drop before' a' between' b' after' o u) h = absurd (differ o h.kind)
-one_list_result once cmp swap drop differ spell n start xs ys zs (by_drop before a between b after o s) (by_swap before' a' b' after' u) h = absurd (differ o (sym h.kind))
+abbrev pub u_rank : UnicodeKind → ℕ
+u_rank drop_attribute = 9
+u_rank swap_attributes = 10
+u_rank drop_keyword = 11
+u_rank swap_keywords = 12
+u_rank drop_true = 13
 
-list_number : {A : Type 0} {once : Bool} {cmp : A → A → Ordering} {xs ys : List A} (swap drop : StepKind) (spell : A → List (List ℕ)) (start : ℕ) (s : ListStep once cmp xs ys) → (list_label swap drop spell start s).number ≡ 0
-list_number swap drop spell start (by_swap before x y after s) = refl
-list_number swap drop spell start (by_drop before x between y after o s) = refl
+same_kind : (j k : UnicodeKind) → u_rank j ≡ u_rank k → j ≡ k
+same_kind drop_attribute drop_attribute h = refl
+same_kind swap_attributes swap_attributes h = refl
+same_kind drop_keyword drop_keyword h = refl
+same_kind swap_keywords swap_keywords h = refl
+same_kind drop_true drop_true h = refl
+same_kind j k h = absurd (omega (arith, h))
 
--- a class of each kind: 0 on a core, 1 to 3 in u, 4 in t, 5 on extensions, 6 on whole tags
-class : StepKind → ℕ
-class steps.SwapAttributes = 1
-class steps.DropAttribute = 1
-class steps.SwapKeywords = 2
-class steps.DropKeyword = 2
-class steps.DropTrue = 3
-class steps.SwapFields = 4
-class steps.SwapExtensions = 5
-class steps.Whole = 6
-class _ = 0
+-- what a step of a kind is
+abbrev pub Says : UnicodeKind → ℕ → UForm → Step → UForm → Type 0
+Says drop_attribute start p step q = DropsBy text_cmp one_subtag steps.DropAttribute start p.attributes step q.attributes × (q.keywords ≡ p.keywords)
+Says swap_attributes start p step q = SwapsBy text_cmp one_subtag steps.SwapAttributes start p.attributes step q.attributes × (q.keywords ≡ p.keywords)
+Says drop_keyword start p step q = DropsBy key_cmp spell_keyword steps.DropKeyword (start + length p.attributes) p.keywords step q.keywords × (q.attributes ≡ p.attributes)
+Says swap_keywords start p step q = SwapsBy key_cmp spell_keyword steps.SwapKeywords (start + length p.attributes) p.keywords step q.keywords × (q.attributes ≡ p.attributes)
+Says drop_true start p step q = DropsTrueBy (start + length p.attributes) p.keywords step q.keywords × (q.attributes ≡ p.attributes)
 
-spot_class : (spot : Spot) → class (kind_at spot) ≡ 0
-unfolding class
-spot_class at_extlang = refl
-spot_class s = refl
+says : (start : ℕ) (p q : UForm) (s : UnicodeStep p q) → (k : UnicodeKind) × Says k start p (unicode_label start s) q
+says start p q (on_attributes (by_drop before a between b after o s) e) =
+    (drop_attribute, (record { of_kind = refl; unnumbered = refl; leads = record { before = before; first = a; between = between; second = b; after = after; drops = s; at = refl } }, e))
+says start p q (on_attributes (by_swap before a b after s) e) =
+    (swap_attributes, (record { of_kind = refl; unnumbered = refl; leads = record { before = before; first = a; second = b; after = after; swaps = s; at = refl } }, e))
+says start p q (on_keywords e (by_drop before a between b after o s)) =
+    (drop_keyword, (record { of_kind = refl; unnumbered = refl; leads = record { before = before; first = a; between = between; second = b; after = after; drops = s; at = refl } }, e))
+says start p q (on_keywords e (by_swap before a b after s)) =
+    (swap_keywords, (record { of_kind = refl; unnumbered = refl; leads = record { before = before; first = a; second = b; after = after; swaps = s; at = refl } }, e))
+says start p q (on_types e before a after s) =
+    (drop_true, (record { of_kind = refl; unnumbered = refl; leads = record { before = before; keyword = a; after = after; drops = s; at = refl } }, e))
 
-core_class : (R : List EntryParts) (start : ℕ) (c d : CoreParts) (s : CoreStep (values_of R) c d) → class (core_label R start s).kind ≡ 0
-core_class R start c d s = spot_class s.spot
+-- the ranks of the steps in u, and of those in t
+abbrev pub RanksU : Step → Type 0
+RanksU step = (9 ≤ kind_rank step) × (kind_rank step ≤ 13) × (extension_rank step ≡ kind_rank step)
 
-list_class : {A : Type 0} {once : Bool} {cmp : A → A → Ordering} {xs ys : List A} (swap drop : StepKind) (k : ℕ) → class swap ≡ k → class drop ≡ k → (spell : A → List (List ℕ)) (start : ℕ) (s : ListStep once cmp xs ys) → class (list_label swap drop spell start s).kind ≡ k
-list_class swap drop k a b spell start (by_swap before x y after s) = a
-list_class swap drop k a b spell start (by_drop before x between y after o s) = b
+abbrev pub RanksT : Step → Type 0
+RanksT step = ((kind_rank step ≤ 6) × (13 < extension_rank step) × (extension_rank step ≡ kind_rank step + 13)) ⊎ ((kind_rank step ≡ 20) × (extension_rank step ≡ 20))
 
--- which step of u it is
-unicode_part : {p q : UForm} → UnicodeStep p q → ℕ
-unicode_part (on_attributes s k) = 1
-unicode_part (on_keywords a s) = 2
-unicode_part (on_types a before k after s) = 3
+abbrev pub order : StepKind → ℕ
+order kind = extension_rank (step_at kind 0 0)
 
-unicode_class : (start : ℕ) (p q : UForm) (s : UnicodeStep p q) → class (unicode_label start s).kind ≡ unicode_part s
-unfolding class unicode_part
-unicode_class start p q (on_attributes s k) = list_class steps.SwapAttributes steps.DropAttribute 1 refl refl (λ a. a ∷ []) start s
-unicode_class start p q (on_keywords a s) = list_class steps.SwapKeywords steps.DropKeyword 2 refl refl spell_keyword (start + length p.attributes) s
-unicode_class start p q (on_types a before k after s) = refl
+module _ (start : ℕ) (p : UForm) (step : Step) (q : UForm) where
+  pub said : UnicodeLeads start p step q → (k : UnicodeKind) × Says k start p step q
+  said (s, h) = subst (λ x. (k : UnicodeKind) × Says k start p x q) h (says start p q s)
 
-unicode_range : (p q : UForm) (s : UnicodeStep p q) → (1 ≤ unicode_part s) × (unicode_part s ≤ 3)
-unfolding unicode_part
-unicode_range p q (on_attributes s k) = (omega arith, omega arith)
-unicode_range p q s = (omega arith, omega arith)
+  pub led : (k : UnicodeKind) → Says k start p step q → UnicodeLeads start p step q
+  led drop_attribute (s, e) = (on_attributes (by_drop s.leads.before s.leads.first s.leads.between s.leads.second s.leads.after refl s.leads.drops) e, same_step _ _ _ step s.of_kind s.leads.at s.unnumbered)
+  led swap_attributes (s, e) = (on_attributes (by_swap s.leads.before s.leads.first s.leads.second s.leads.after s.leads.swaps) e, same_step _ _ _ step s.of_kind s.leads.at s.unnumbered)
+  led drop_keyword (s, e) = (on_keywords e (by_drop s.leads.before s.leads.first s.leads.between s.leads.second s.leads.after refl s.leads.drops), same_step _ _ _ step s.of_kind s.leads.at s.unnumbered)
+  led swap_keywords (s, e) = (on_keywords e (by_swap s.leads.before s.leads.first s.leads.second s.leads.after s.leads.swaps), same_step _ _ _ step s.of_kind s.leads.at s.unnumbered)
+  led drop_true (s, e) = (on_types e s.leads.before s.leads.keyword s.leads.after s.leads.drops, same_step _ _ _ step s.of_kind s.leads.at s.unnumbered)
 
-parts_differ : (start : ℕ) (p q r : UForm) (s : UnicodeStep p q) (u : UnicodeStep p r) → SameSpot (unicode_label start s) (unicode_label start u) → unicode_part s ≡ unicode_part u
-parts_differ start p q r s u h = sym (unicode_class start p q s) ∙ ap class h.kind ∙ unicode_class start p r u
+  pub in_u : (k : UnicodeKind) → Says k start p step q → (kind_rank step ≡ u_rank k) × ((start < step.place) × RanksU step)
+  in_u drop_attribute (s, e) = omega (arith, ap rank_of s.of_kind, ap order s.of_kind, s.leads.at)
+  in_u k (s, e) = omega (arith, ap rank_of s.of_kind, ap order s.of_kind, s.leads.at)
 
-same_parts : (p q : UForm) → p.attributes ≡ q.attributes → p.keywords ≡ q.keywords → p ≡ q
-same_parts p q a b = λ i. record { attributes = a i; keywords = b i }
+  pub u_ranks : UnicodeLeads start p step q → (start < step.place) × RanksU step
+  u_ranks l = let s = said l in (in_u s.0 s.1).1
 
-one_unicode_at : (start : ℕ) (p q r : UForm) (s : UnicodeStep p q) (u : UnicodeStep p r) → unicode_part s ≡ unicode_part u → SameSpot (unicode_label start s) (unicode_label start u) → q ≡ r
-unfolding unicode_part
-one_unicode_at start p q r (on_attributes s k) (on_attributes u l) e h =
-    same_parts q r
-    (one_list_result true text_cmp steps.SwapAttributes steps.DropAttribute (λ _ e. cc) (λ a. a ∷ []) (λ a e. cc) start p.attributes q.attributes r.attributes s u h)
-    (k ∙ sym l)
-one_unicode_at start p q r (on_keywords a s) (on_keywords b u) e h =
-    same_parts q r (a ∙ sym b)
-    (one_list_result true key_cmp steps.SwapKeywords steps.DropKeyword (λ _ e. cc) spell_keyword (λ k e. cc) (start + length p.attributes) p.keywords q.keywords r.keywords s u h)
-one_unicode_at start p q r (on_types a before k after s) (on_types b before' k' after' u) e h =
-    let l : length (flat_map spell_keyword before) ≡ length (flat_map spell_keyword before') = omega (arith, h.place) in
-    let cut : SameCut before before' k k' after after' = same_flat spell_keyword (λ k e. cc) before before' k k' after after' (sym s.there ∙ u.there) l in
-    same_parts q r (a ∙ sym b) (s.result ∙ (λ i. cut.front i ++ record (cut.at i) { types = [] } ∷ cut.rest i) ∙ sym u.result)
-one_unicode_at start p q r s u e h = absurd (omega (arith, e))
-
-unicode_determined : (start : ℕ) (p q r : UForm) (s : UnicodeStep p q) (u : UnicodeStep p r) → SameSpot (unicode_label start s) (unicode_label start u) → q ≡ r
-unicode_determined start p q r s u h = one_unicode_at start p q r s u (parts_differ start p q r s u h) h
-
-unicode_number : (start : ℕ) (p q : UForm) (s : UnicodeStep p q) → (unicode_label start s).number ≡ 0
-unicode_number start p q (on_attributes s k) = list_number steps.SwapAttributes steps.DropAttribute (λ a. a ∷ []) start s
-unicode_number start p q (on_keywords a s) = list_number steps.SwapKeywords steps.DropKeyword spell_keyword (start + length p.attributes) s
-unicode_number start p q (on_types a before k after s) = refl
-
-fields_class : (start : ℕ) (p q : TForm) (h : ListStep false separator_cmp p.fields q.fields) → class (list_label steps.SwapFields steps.SwapFields spell_field start h).kind ≡ 4
-unfolding class
-fields_class start p q h = list_class steps.SwapFields steps.SwapFields 4 refl refl spell_field start h
-
-transform_determined : (R : List EntryParts) (start : ℕ) (p q r : TForm) (s : TransformStep R p q) (u : TransformStep R p r) → SameSpot (transform_label R start s) (transform_label R start u) → SameEnd (transform_label R start s) (transform_label R start u) q r
-transform_determined R start p q r (on_source c d from to s same_fields) (on_source c' d' begins ends u kept_fields) h =
-    let e : c ≡ c' = same_some p.source c c' from begins in
-    let k : SameEnd (core_label R start s) (core_label R start u) d d' = one_core_any R start c c' d d' e s u h in
-    let a : q.source ≡ r.source = to ∙ ap Some k.result ∙ sym ends in
-    let b : q.fields ≡ r.fields = same_fields ∙ sym kept_fields in
-    record { number = k.number; result = λ i. record { source = a i; fields = b i } }
-transform_determined R start p q r (on_fields x s) (on_fields y u) h =
-    let a : q.source ≡ r.source = x ∙ sym y in
-    let b : q.fields ≡ r.fields = one_list_result false separator_cmp steps.SwapFields steps.SwapFields (λ x _. cc) spell_field (λ f e. cc) (start + length (spell_source p.source)) p.fields q.fields r.fields s u h in
-    let n = spell_field in
-    let l : ℕ = start + length (spell_source p.source) in
-    record {
-      number = list_number steps.SwapFields steps.SwapFields n l s ∙ sym (list_number steps.SwapFields steps.SwapFields n l u);
-      result = λ i. record { source = a i; fields = b i };
-    }
-transform_determined R start p q r (on_source c d _ _ s _) (on_fields y u) h =
-    let a = core_class R start c d s in
-    let b = fields_class (start + length (spell_source p.source)) p r u in
-    let c = ap class h.kind in
-    absurd (omega (arith, a, b, c))
-transform_determined R start p q r (on_fields x s) (on_source c d _ _ u _) h =
-    let a = fields_class (start + length (spell_source p.source)) p q s in
-    let b = core_class R start c d u in
-    let c = ap class h.kind in
-    absurd (omega (arith, a, b, c))
-
-same_extension : (f g : ExtensionParts) → f.singleton ≡ g.singleton → f.subtags ≡ g.subtags → f ≡ g
-same_extension f g a b = λ i. record { singleton = a i; subtags = b i }
-
--- on one extension
-one_extension_result : (R : List EntryParts) (start : ℕ) (e f g : ExtensionParts) (s : ExtensionStep R e f) (u : ExtensionStep R e g) → SameSpot (extension_label R start s) (extension_label R start u) → SameEnd (extension_label R start s) (extension_label R start u) f g
-one_extension_result R start e f g (in_unicode p q _ kept from to s) (in_unicode p' q' _ same_singleton begins ends u) h =
-    let P : UForm → Type 0 = λ x. (k : UnicodeStep x q') → SameSpot (unicode_label start s) (unicode_label start k) → q ≡ q' in
-    let k : q ≡ q' = subst P (u_unique e.subtags p p' from begins) (λ k h. unicode_determined start p q q' s k h) u h in
-    record {
-      number = unicode_number start p q s ∙ sym (unicode_number start p' q' u);
-      result = same_extension f g (kept ∙ sym same_singleton) (sym to.spelled ∙ ap spell_u k ∙ ends.spelled);
-    }
-one_extension_result R start e f g (in_transform p q _ kept from to s) (in_transform p' q' _ same_singleton begins ends u) h =
-    let P : TForm → Type 0 = λ x. (k : TransformStep R x q') → SameSpot (transform_label R start s) (transform_label R start k) → SameEnd (transform_label R start s) (transform_label R start k) q q' in
-    let k : SameEnd (transform_label R start s) (transform_label R start u) q q' = subst P (t_unique e.subtags p p' from begins) (λ k h. transform_determined R start p q q' s k h) u h in
-    record {
-      number = k.number;
-      result = same_extension f g (kept ∙ sym same_singleton) (sym to.spelled ∙ ap spell_t k.result ∙ ends.spelled);
-    }
-one_extension_result R start e f g (in_unicode p q is_u _ _ _ _) (in_transform p' q' is_t _ _ _ _) h = absurd (omega (arith, is_u, is_t))
-one_extension_result R start e f g (in_transform p q is_t _ _ _ _) (in_unicode p' q' is_u _ _ _ _) h = absurd (omega (arith, is_t, is_u))
-
-one_extension_any : (R : List EntryParts) (start start' : ℕ) (e e' f g : ExtensionParts) → start ≡ start' → e ≡ e' → (s : ExtensionStep R e f) (u : ExtensionStep R e' g) → SameSpot (extension_label R start s) (extension_label R start' u) → SameEnd (extension_label R start s) (extension_label R start' u) f g
-one_extension_any R start start' e e' f g n k s u h =
-    let P : ExtensionParts → Type 0 = λ x. (u : ExtensionStep R x g) → SameSpot (extension_label R start s) (extension_label R start' u) → SameEnd (extension_label R start s) (extension_label R start' u) f g in
-    let Q : ℕ → Type 0 = λ m. (u : ExtensionStep R e g) → SameSpot (extension_label R start s) (extension_label R m u) → SameEnd (extension_label R start s) (extension_label R m u) f g in
-    subst P k (subst Q n (λ u h. one_extension_result R start e f g s u h)) u h
-
--- what the label of a step on an extension tells
-data Tells (start : ℕ) (e : ExtensionParts) (kind : ℕ) (place : ℕ) : Type 0 where
-  of_unicode : e.singleton ≡ unicode → 1 ≤ kind → kind ≤ 3 → Tells start e kind place
-  of_fields : e.singleton ≡ transform → kind ≡ 4 → Tells start e kind place
-  of_source : e.singleton ≡ transform → kind ≡ 0 → start < place → Tells start e kind place
-
-extension_tells : (R : List EntryParts) (start : ℕ) (e f : ExtensionParts) (s : ExtensionStep R e f) → Tells start e (class (extension_label R start s).kind) (extension_label R start s).place
-extension_tells R start e f (in_unicode p q is_u _ _ _ s) =
-    let k = unicode_class start p q s in
-    let r = unicode_range p q s in
-    of_unicode is_u (omega (arith, k, r.0)) (omega (arith, k, r.1))
-extension_tells R start e f (in_transform p q is_t _ _ _ s) = by s
-  where
-    by : (k : TransformStep R p q) → Tells start e (class (transform_label R start k).kind) (transform_label R start k).place
-    by (on_source c d _ _ k _) = of_source is_t (core_class R start c d k) (core_low R start c d k)
-    by (on_fields a k) = of_fields is_t (fields_class (start + length (spell_source p.source)) p q k)
-
-tells_low : (start : ℕ) (e : ExtensionParts) (kind place : ℕ) → Tells start e kind place → (kind ≤ 4) × (kind ≡ 0 → start < place)
-tells_low start e kind place (of_unicode s a b) = (omega arith, λ z. absurd (omega (arith, z, a)))
-tells_low start e kind place (of_fields s a) = (omega arith, λ z. absurd (omega (arith, z, a)))
-tells_low start e kind place (of_source s a l) = (omega arith, λ z. l)
-
-tells_singleton : (start start' : ℕ) (e e' : ExtensionParts) (kind kind' place place' : ℕ) → kind ≡ kind' → Tells start e kind place → Tells start' e' kind' place' → e.singleton ≡ e'.singleton
-tells_singleton start start' e e' kind kind' place place' h (of_unicode s a b) (of_unicode s' a' b') = s ∙ sym s'
-tells_singleton start start' e e' kind kind' place place' h (of_unicode s a b) (of_fields s' a') = absurd (omega (arith, h, a, b, a'))
-tells_singleton start start' e e' kind kind' place place' h (of_unicode s a b) (of_source s' a' l) = absurd (omega (arith, h, a, b, a'))
-tells_singleton start start' e e' kind kind' place place' h (of_fields s a) (of_unicode s' a' b') = absurd (omega (arith, h, a, a', b'))
-tells_singleton start start' e e' kind kind' place place' h (of_source s a l) (of_unicode s' a' b') = absurd (omega (arith, h, a, a', b'))
-tells_singleton start start' e e' kind kind' place place' h (of_fields s a) (of_fields s' a') = s ∙ sym s'
-tells_singleton start start' e e' kind kind' place place' h (of_fields s a) (of_source s' a' l) = s ∙ sym s'
-tells_singleton start start' e e' kind kind' place place' h (of_source s a l) (of_fields s' a') = s ∙ sym s'
-tells_singleton start start' e e' kind kind' place place' h (of_source s a l) (of_source s' a' l') = s ∙ sym s'
-
-among_class : (start : ℕ) (es fs : List ExtensionParts) (s : ListStep false singleton_cmp es fs) → class (list_label steps.SwapExtensions steps.SwapExtensions spell_extension start s).kind ≡ 5
-unfolding class
-among_class start es fs s = list_class steps.SwapExtensions steps.SwapExtensions 5 refl refl spell_extension start s
-
-whole_class : class steps.Whole ≡ 6
-unfolding class
-whole_class = refl
-
--- on a list of extensions whose singletons differ
-one_extensions_result : (R : List EntryParts) (start : ℕ) (es fs gs : List ExtensionParts) → Distinct (map (λ (e : ExtensionParts). e.singleton) es) → (s : ExtensionsStep R es fs) (u : ExtensionsStep R es gs) → SameSpot (extensions_label R start s) (extensions_label R start u) → SameEnd (extensions_label R start s) (extensions_label R start u) fs gs
-one_extensions_result R start es fs gs D (inside before e f after w s) (inside before' e' f' after' w' s') h =
-    let k : ℕ = start + length (spell_extensions before) + 1 in
-    let k' : ℕ = start + length (spell_extensions before') + 1 in
-    let one : e.singleton ≡ e'.singleton = tells_singleton k k' e e' (class (extension_label R k s).kind) (class (extension_label R k' s').kind) (extension_label R k s).place (extension_label R k' s').place (ap class h.kind) (extension_tells R k e f s) (extension_tells R k' e' f' s') in
-    let D' = subst (λ l. Distinct (map (λ (e : ExtensionParts). e.singleton) l)) w.there D in
-    let cut : SameCut before before' e e' after after' = distinct_cut before before' e e' after after' (sym w.there ∙ w'.there) D' one in
-    let n : start + length (spell_extensions before) + 1 ≡ start + length (spell_extensions before') + 1 = ap (λ l. start + length (spell_extensions l) + 1) cut.front in
-    let ef : SameEnd (extension_label R k s) (extension_label R k' s') f f' = one_extension_any R k k' e e' f f' n cut.at s s' h in
-    record { number = ef.number; result = w.result ∙ (λ i. cut.front i ++ ef.result i ∷ cut.rest i) ∙ sym w'.result }
-one_extensions_result R start es fs gs D (among s) (among u) h =
-    record {
-      number = list_number steps.SwapExtensions steps.SwapExtensions spell_extension start s ∙ sym (list_number steps.SwapExtensions steps.SwapExtensions spell_extension start u);
-      result = one_list_result false singleton_cmp steps.SwapExtensions steps.SwapExtensions (λ x _. cc) spell_extension (λ e k. cc) start es fs gs s u h;
-    }
-one_extensions_result R start es fs gs D (inside before e f after w s) (among u) h =
-    let k : ℕ = start + length (spell_extensions before) + 1 in
-    absurd (omega (arith, (tells_low k e (class (extension_label R k s).kind) (extension_label R k s).place (extension_tells R k e f s)).0, among_class start es gs u, ap class h.kind))
-one_extensions_result R start es fs gs D (among u) (inside before e f after w s) h =
-    let k : ℕ = start + length (spell_extensions before) + 1 in
-    absurd (omega (arith, (tells_low k e (class (extension_label R k s).kind) (extension_label R k s).place (extension_tells R k e f s)).0, among_class start es fs u, ap class h.kind))
-
-one_extensions_any : (R : List EntryParts) (start start' : ℕ) (es es' fs gs : List ExtensionParts) → start ≡ start' → es ≡ es' → Distinct (map (λ (e : ExtensionParts). e.singleton) es) → (s : ExtensionsStep R es fs) (u : ExtensionsStep R es' gs) → SameSpot (extensions_label R start s) (extensions_label R start' u) → SameEnd (extensions_label R start s) (extensions_label R start' u) fs gs
-one_extensions_any R start start' es es' fs gs n k D s u h =
-    let P : List ExtensionParts → Type 0 = λ x. (u : ExtensionsStep R x gs) → SameSpot (extensions_label R start s) (extensions_label R start' u) → SameEnd (extensions_label R start s) (extensions_label R start' u) fs gs in
-    let Q : ℕ → Type 0 = λ m. (u : ExtensionsStep R es gs) → SameSpot (extensions_label R start s) (extensions_label R m u) → SameEnd (extensions_label R start s) (extensions_label R m u) fs gs in
-    subst P k (subst Q n (λ u h. one_extensions_result R start es fs gs D s u h)) u h
-
--- the class and the place of a step on extensions
-extensions_low : (R : List EntryParts) (start : ℕ) (es fs : List ExtensionParts) (s : ExtensionsStep R es fs) → (class (extensions_label R start s).kind ≤ 5) × (class (extensions_label R start s).kind ≡ 0 → start < (extensions_label R start s).place)
-extensions_low R start es fs (inside before e f after w s) =
-    let k : ℕ = start + length (spell_extensions before) + 1 in
-    let t = tells_low k e (class (extension_label R k s).kind) (extension_label R k s).place (extension_tells R k e f s) in
-    (omega (arith, t.0), λ z. let l = t.1 z in omega (arith, l))
-extensions_low R start es fs (among s) =
-    let a = among_class start es fs s in
-    (omega (arith, a), λ z. absurd (omega (arith, a, z)))
-
--- the kind and the place determine the record of a step on a tag, and what it leads to
-one_result : (R : List EntryParts) (t u v : TagForm) → HasProperParts R t → (s : TagChange R t u) (r : TagChange R t v) → SameSpot (tag_label R s) (tag_label R r) → SameEnd (tag_label R s) (tag_label R r) u v
-one_result R t u v P (on_core c d es ps from to s) (on_core c' d' es' ps' begins ends r) h =
-    let e : LangTag c es ps ≡ LangTag c' es' ps' = sym from ∙ begins in
-    let ec : c ≡ c' = cc in
-    let ee : es ≡ es' = cc in
-    let ep : ps ≡ ps' = cc in
-    let k : SameEnd (core_label R 0 s) (core_label R 0 r) d d' = one_core_any R 0 c c' d d' ec s r h in
-    record { number = k.number; result = to ∙ (λ i. LangTag (k.result i) (ee i) (ep i)) ∙ sym ends }
-one_result R t u v P (on_extensions c es fs ps from to s) (on_extensions c' es' fs' ps' begins ends r) h =
-    let e : LangTag c es ps ≡ LangTag c' es' ps' = sym from ∙ begins in
-    let ec : c ≡ c' = cc in
-    let ee : es ≡ es' = cc in
-    let ep : ps ≡ ps' = cc in
-    let L : IsProperLangTag R c es = subst (HasProperParts R) from P in
-    let n : length (spell_core c) ≡ length (spell_core c') = ap (λ x. length (spell_core x)) ec in
-    let k : SameEnd (extensions_label R (length (spell_core c)) s) (extensions_label R (length (spell_core c')) r) fs fs' = one_extensions_any R (length (spell_core c)) (length (spell_core c')) es es' fs fs' n ee L.singletons s r h in
-    record { number = k.number; result = to ∙ (λ i. LangTag (ec i) (k.result i) (ep i)) ∙ sym ends }
-one_result R t u v P (on_whole _ has) (on_whole _ valued) h = record { number = refl; result = same_some (whole_value R t) u v has valued }
-one_result R t u v P (on_core c d es ps _ _ s) (on_whole _ _) h = absurd (omega (arith, core_class R 0 c d s, whole_class, ap class h.kind))
-one_result R t u v P (on_whole _ _) (on_core c d es ps _ _ s) h = absurd (omega (arith, core_class R 0 c d s, whole_class, ap class h.kind))
-one_result R t u v P (on_extensions c es fs ps _ _ s) (on_whole _ _) h = absurd (omega (arith, (extensions_low R (length (spell_core c)) es fs s).0, whole_class, ap class h.kind))
-one_result R t u v P (on_whole _ _) (on_extensions c es fs ps _ _ s) h = absurd (omega (arith, (extensions_low R (length (spell_core c)) es fs s).0, whole_class, ap class h.kind))
-one_result R t u v P (on_core c d es ps from _ s) (on_extensions c' es' fs ps' begins _ r) h =
-    let same : LangTag c es ps ≡ LangTag c' es' ps' = sym from ∙ begins in
-    let ec : c ≡ c' = cc in
-    absurd (omega (arith, core_high R 0 c d s, ap (λ x. length (spell_core x)) ec, (extensions_low R (length (spell_core c')) es' fs r).1 (sym (ap class h.kind) ∙ (core_class R 0 c d s)), h.place))
-one_result R t u v P (on_extensions c' es' fs ps' from _ r) (on_core c d es ps begins _ s) h =
-    let same : LangTag c es ps ≡ LangTag c' es' ps' = sym begins ∙ from in
-    let ec : c ≡ c' = cc in
-    absurd (omega (arith, core_high R 0 c d s, ap (λ x. length (spell_core x)) ec, (extensions_low R (length (spell_core c')) es' fs r).1 ((ap class h.kind) ∙ (core_class R 0 c d s)), h.place))
-
-pub steps_determined : (R : List EntryParts) → StepsAreDetermined R
-steps_determined R t u v step other a b k p =
-    let h : SameSpot (tag_label R a.0.change) (tag_label R b.0.change) = record { kind = ap (λ (x : Step). x.kind) a.1 ∙ k ∙ sym (ap (λ (x : Step). x.kind) b.1); place = ap (λ (x : Step). x.place) a.1 ∙ p ∙ sym (ap (λ (x : Step). x.place) b.1) } in
-    let e : SameEnd (tag_label R a.0.change) (tag_label R b.0.change) u v = one_result R t u v a.0.from.parts a.0.change b.0.change h in
-    let n : step.number ≡ other.number = sym (ap (λ (x : Step). x.number) a.1) ∙ e.number ∙ ap (λ (x : Step). x.number) b.1 in
-    record { same = λ i. record { kind = k i; place = p i; number = n i }; result = e.result }
-
--- so does the label
-pub one_labelled : (R : List EntryParts) (t u v : TagForm) → HasProperParts R t → (s : TagChange R t u) (r : TagChange R t v) → tag_label R s ≡ tag_label R r → u ≡ v
-one_labelled R t u v P s r e = (one_result R t u v P s r (record { kind = ap (λ (x : Step). x.kind) e; place = ap (λ (x : Step). x.place) e })).result
-
--- What a step of a kind is on the parts of a u extension.
+  -- a step of a rank is one of that kind
+  pub as_kind : (k : UnicodeKind) → kind_rank step ≡ u_rank k → UnicodeLeads start p step q → Says k start p step q
+  as_kind k r l = let s = said l in subst (λ j. Says j start p step q) (same_kind s.0 k (sym (in_u s.0 s.1).0 ∙ r)) s.1
 
 -- one answer from another
 pub answers_by : {A B : Type 0} (L : A → Type 0) (M : B → Type 0) (x : A) (y : B) → (L x → M y) → ((z : B) → M z → (w : A) × L w) → (r : Bool) → Answers L x r → Answers M y r
 answers_by L M x y forth back true h = forth h
 answers_by L M x y forth back false h = λ z m. h (back z m).0 (back z m).1
+
+pub u_answers : {A : Type 0} (start : ℕ) (p : UForm) (step : Step) (k : UnicodeKind) (L : A → Type 0) (g : A → UForm) → kind_rank step ≡ u_rank k → ((a : A) → L a → Says k start p step (g a)) → ((q : UForm) → Says k start p step q → (a : A) × L a) → (a : A) (r : Bool) → Answers L a r → Answers (UnicodeLeads start p step) (g a) r
+u_answers start p step k L g rank on off a r h =
+    answers_by L (UnicodeLeads start p step) a (g a) (λ s. led start p step (g a) k (on a s)) (λ q l. off q (as_kind start p step q k rank l)) r h
 
 -- keywords without a type true at a place
 module _ (start place : ℕ) (ks : List KeywordParts) where
@@ -632,201 +406,72 @@ module _ (start place : ℕ) (ks : List KeywordParts) where
         at = omega (arith, p);
       }
 
--- steps on lists of parts by their labels
-module _ {A : Type 0} {once : Bool} (cmp : A → A → Ordering) (swap drop : StepKind) (spell : A → List (List ℕ)) (start : ℕ) (step : Step) (xs ys : List A) where
-  pub from_swap : step.kind ≡ swap → step.number ≡ 0 → SwapLeads cmp spell start step.place xs ys → (s : ListStep once cmp xs ys) × (list_label swap drop spell start s ≡ step)
-  from_swap k n s = (by_swap s.before s.first s.second s.after s.swaps, same_step _ _ _ step k s.at n)
+-- What a step is on the parts of a t extension.
 
-  pub from_drop : once ≡ true → step.kind ≡ drop → step.number ≡ 0 → DropLeads cmp spell start step.place xs ys → (s : ListStep once cmp xs ys) × (list_label swap drop spell start s ≡ step)
-  from_drop o k n s = (by_drop s.before s.first s.between s.second s.after o s.drops, same_step _ _ _ step k s.at n)
+module _ (R : List EntryParts) (start : ℕ) (p : TForm) (step : Step) (q : TForm) where
+  pub to_fields : step.kind ≡ steps.SwapFields → TransformLeads R start p step q → SwapsBy separator_cmp spell_field steps.SwapFields (start + length (spell_source p.source)) p.fields step q.fields × (q.source ≡ p.source)
+  to_fields k (on_source c d _ _ s _, h) = absurd (omega (arith, (core_rank R start c d s).most, ap kind_rank h, ap rank_of k))
+  to_fields k (on_fields e s, h) = (as_swap separator_cmp steps.SwapFields spell_field (start + length (spell_source p.source)) p.fields q.fields step s h, e)
 
-abbrev pub one_subtag : List ℕ → List (List ℕ)
-one_subtag a = a ∷ []
+  to_source : step.kind ≢ steps.SwapFields → (c : CoreParts) → p.source ≡ Some c → TransformLeads R start p step q → (d : CoreParts) × CoreLeads R start c step d
+  to_source k c e (on_source b d from _ s _, h) = (d, subst (λ x. CoreLeads R start x step d) (same_Some b c (sym from ∙ e)) (s, h))
+  to_source k c e (on_fields f s, h) = absurd (k (as_swap separator_cmp steps.SwapFields spell_field _ p.fields q.fields step s h).of_kind)
 
-abbrev pub u_parts : List (List ℕ) → List KeywordParts → UForm
-u_parts attributes keywords = record { attributes = attributes; keywords = keywords }
+  pub no_source : step.kind ≢ steps.SwapFields → p.source ≡ None → TransformLeads R start p step q → ⊥
+  no_source k e (on_source b d from _ _ _, h) = none-some b (sym e ∙ from)
+  no_source k e (on_fields f s, h) = k (as_swap separator_cmp steps.SwapFields spell_field _ p.fields q.fields step s h).of_kind
 
--- what a step on the parts is
-pub data Says (start : ℕ) (p : UForm) (step : Step) (q : UForm) : Type 0 where
-  drops_attribute : DropsBy text_cmp one_subtag steps.DropAttribute start p.attributes step q.attributes → Says start p step q
-  swaps_attributes : SwapsBy text_cmp one_subtag steps.SwapAttributes start p.attributes step q.attributes → Says start p step q
-  drops_keyword : DropsBy key_cmp spell_keyword steps.DropKeyword (start + length p.attributes) p.keywords step q.keywords → Says start p step q
-  swaps_keywords : SwapsBy key_cmp spell_keyword steps.SwapKeywords (start + length p.attributes) p.keywords step q.keywords → Says start p step q
-  drops_true : DropsTrueBy (start + length p.attributes) p.keywords step q.keywords → Says start p step q
-
-abbrev pub said_rank : {start : ℕ} {p : UForm} {step : Step} {q : UForm} → Says start p step q → ℕ
-said_rank (drops_attribute s) = 9
-said_rank (swaps_attributes s) = 10
-said_rank (drops_keyword s) = 11
-said_rank (swaps_keywords s) = 12
-said_rank (drops_true s) = 13
-
-pub rank_said : (start : ℕ) (p : UForm) (step : Step) (q : UForm) (u : Says start p step q) → kind_rank step ≡ said_rank u
-rank_said start p step q (drops_attribute s) = ap rank_of s.of_kind
-rank_said start p step q (swaps_attributes s) = ap rank_of s.of_kind
-rank_said start p step q (drops_keyword s) = ap rank_of s.of_kind
-rank_said start p step q (swaps_keywords s) = ap rank_of s.of_kind
-rank_said start p step q (drops_true s) = ap rank_of s.of_kind
-
-module _ (start : ℕ) (p : UForm) where
-  pub said : (step : Step) (q : UForm) (s : UnicodeStep p q) → unicode_label start s ≡ step → Says start p step q
-  said step q (on_attributes (by_drop before a between b after o s) k) h =
-      drops_attribute (record { of_kind = sym (kind_of _ step h); unnumbered = sym (number_at _ step h); leads = record { before = before; first = a; between = between; second = b; after = after; drops = s; at = place_of _ step h } })
-  said step q (on_attributes (by_swap before a b after s) k) h =
-      swaps_attributes (record { of_kind = sym (kind_of _ step h); unnumbered = sym (number_at _ step h); leads = record { before = before; first = a; second = b; after = after; swaps = s; at = place_of _ step h } })
-  said step q (on_keywords e (by_drop before a between b after o s)) h =
-      drops_keyword (record { of_kind = sym (kind_of _ step h); unnumbered = sym (number_at _ step h); leads = record { before = before; first = a; between = between; second = b; after = after; drops = s; at = place_of _ step h } })
-  said step q (on_keywords e (by_swap before a b after s)) h =
-      swaps_keywords (record { of_kind = sym (kind_of _ step h); unnumbered = sym (number_at _ step h); leads = record { before = before; first = a; second = b; after = after; swaps = s; at = place_of _ step h } })
-  said step q (on_types e before k after s) h =
-      drops_true (record { of_kind = sym (kind_of _ step h); unnumbered = sym (number_at _ step h); leads = record { before = before; keyword = k; after = after; drops = s; at = place_of _ step h } })
-
-  -- a step of a rank is one of that kind
-  pub as_drop_attribute : (step : Step) (q : UForm) (u : Says start p step q) → kind_rank step ≡ 9 → DropsBy text_cmp one_subtag steps.DropAttribute start p.attributes step q.attributes
-  as_drop_attribute step q (drops_attribute s) r = s
-  as_drop_attribute step q u r = absurd (omega (arith, r, rank_said start p step q u))
-
-  pub as_swap_attributes : (step : Step) (q : UForm) (u : Says start p step q) → kind_rank step ≡ 10 → SwapsBy text_cmp one_subtag steps.SwapAttributes start p.attributes step q.attributes
-  as_swap_attributes step q (swaps_attributes s) r = s
-  as_swap_attributes step q u r = absurd (omega (arith, r, rank_said start p step q u))
-
-  pub as_drop_keyword : (step : Step) (q : UForm) (u : Says start p step q) → kind_rank step ≡ 11 → DropsBy key_cmp spell_keyword steps.DropKeyword (start + length p.attributes) p.keywords step q.keywords
-  as_drop_keyword step q (drops_keyword s) r = s
-  as_drop_keyword step q u r = absurd (omega (arith, r, rank_said start p step q u))
-
-  pub as_swap_keywords : (step : Step) (q : UForm) (u : Says start p step q) → kind_rank step ≡ 12 → SwapsBy key_cmp spell_keyword steps.SwapKeywords (start + length p.attributes) p.keywords step q.keywords
-  as_swap_keywords step q (swaps_keywords s) r = s
-  as_swap_keywords step q u r = absurd (omega (arith, r, rank_said start p step q u))
-
-  pub as_drop_true : (step : Step) (q : UForm) (u : Says start p step q) → kind_rank step ≡ 13 → DropsTrueBy (start + length p.attributes) p.keywords step q.keywords
-  as_drop_true step q (drops_true s) r = s
-  as_drop_true step q u r = absurd (omega (arith, r, rank_said start p step q u))
-
-module _ (start : ℕ) (p : UForm) (step : Step) where
-  pub swaps_attributes_answers : step.kind ≡ steps.SwapAttributes → step.number ≡ 0 → (xs : List (List ℕ)) (r : Bool) → Answers (SwapLeads text_cmp (λ a. a ∷ []) start step.place p.attributes) xs r → Answers (UnicodeLeads start p step) (record { attributes = xs; keywords = p.keywords }) r
-  swaps_attributes_answers k n xs r h =
-      answers_by (SwapLeads text_cmp (λ a. a ∷ []) start step.place p.attributes) (UnicodeLeads start p step) xs (record { attributes = xs; keywords = p.keywords })
-      (λ s. let l = from_swap {once = true} text_cmp steps.SwapAttributes steps.DropAttribute (λ a. a ∷ []) start step p.attributes xs k n s in (on_attributes l.0 refl, l.1))
-      (λ q l. (q.attributes, (as_swap_attributes start p step q (said start p step q l.0 l.1) (ap rank_of k)).leads)) r h
-
-  pub drops_attribute_answers : step.kind ≡ steps.DropAttribute → step.number ≡ 0 → (xs : List (List ℕ)) (r : Bool) → Answers (DropLeads text_cmp (λ a. a ∷ []) start step.place p.attributes) xs r → Answers (UnicodeLeads start p step) (record { attributes = xs; keywords = p.keywords }) r
-  drops_attribute_answers k n xs r h =
-      answers_by (DropLeads text_cmp (λ a. a ∷ []) start step.place p.attributes) (UnicodeLeads start p step) xs (record { attributes = xs; keywords = p.keywords })
-      (λ s. let l = from_drop {once = true} text_cmp steps.SwapAttributes steps.DropAttribute (λ a. a ∷ []) start step p.attributes xs refl k n s in (on_attributes l.0 refl, l.1))
-      (λ q l. (q.attributes, (as_drop_attribute start p step q (said start p step q l.0 l.1) (ap rank_of k)).leads)) r h
-
-  pub swaps_keywords_answers : step.kind ≡ steps.SwapKeywords → step.number ≡ 0 → (xs : List KeywordParts) (r : Bool) → Answers (SwapLeads key_cmp spell_keyword (start + length p.attributes) step.place p.keywords) xs r → Answers (UnicodeLeads start p step) (record { attributes = p.attributes; keywords = xs }) r
-  swaps_keywords_answers k n xs r h =
-      answers_by (SwapLeads key_cmp spell_keyword (start + length p.attributes) step.place p.keywords) (UnicodeLeads start p step) xs (record { attributes = p.attributes; keywords = xs })
-      (λ s. let l = from_swap {once = true} key_cmp steps.SwapKeywords steps.DropKeyword spell_keyword (start + length p.attributes) step p.keywords xs k n s in (on_keywords refl l.0, l.1))
-      (λ q l. (q.keywords, (as_swap_keywords start p step q (said start p step q l.0 l.1) (ap rank_of k)).leads)) r h
-
-  pub drops_keyword_answers : step.kind ≡ steps.DropKeyword → step.number ≡ 0 → (xs : List KeywordParts) (r : Bool) → Answers (DropLeads key_cmp spell_keyword (start + length p.attributes) step.place p.keywords) xs r → Answers (UnicodeLeads start p step) (record { attributes = p.attributes; keywords = xs }) r
-  drops_keyword_answers k n xs r h =
-      answers_by (DropLeads key_cmp spell_keyword (start + length p.attributes) step.place p.keywords) (UnicodeLeads start p step) xs (record { attributes = p.attributes; keywords = xs })
-      (λ s. let l = from_drop {once = true} key_cmp steps.SwapKeywords steps.DropKeyword spell_keyword (start + length p.attributes) step p.keywords xs refl k n s in (on_keywords refl l.0, l.1))
-      (λ q l. (q.keywords, (as_drop_keyword start p step q (said start p step q l.0 l.1) (ap rank_of k)).leads)) r h
-
-  pub drops_true_answers : step.kind ≡ steps.DropTrue → step.number ≡ 0 → (xs : List KeywordParts) (r : Bool) → Answers (TrueLeads (start + length p.attributes) step.place p.keywords) xs r → Answers (UnicodeLeads start p step) (record { attributes = p.attributes; keywords = xs }) r
-  drops_true_answers k n xs r h =
-      answers_by (TrueLeads (start + length p.attributes) step.place p.keywords) (UnicodeLeads start p step) xs (record { attributes = p.attributes; keywords = xs })
-      (λ s. (on_types refl s.before s.keyword s.after s.drops, same_step _ _ _ step k s.at n))
-      (λ q l. (q.keywords, (as_drop_true start p step q (said start p step q l.0 l.1) (ap rank_of k)).leads)) r h
-
-  by_kind : (q : UForm) → step.kind ≢ steps.SwapAttributes → step.kind ≢ steps.DropAttribute → step.kind ≢ steps.SwapKeywords → step.kind ≢ steps.DropKeyword → step.kind ≢ steps.DropTrue → Says start p step q → ⊥
-  by_kind q a b c d e (swaps_attributes s) = a s.of_kind
-  by_kind q a b c d e (drops_attribute s) = b s.of_kind
-  by_kind q a b c d e (swaps_keywords s) = c s.of_kind
-  by_kind q a b c d e (drops_keyword s) = d s.of_kind
-  by_kind q a b c d e (drops_true s) = e s.of_kind
-
-  -- the kind is none of these
-  pub unicode_other : step.kind ≢ steps.SwapAttributes → step.kind ≢ steps.DropAttribute → step.kind ≢ steps.SwapKeywords → step.kind ≢ steps.DropKeyword → step.kind ≢ steps.DropTrue → (q : UForm) → UnicodeLeads start p step q → ⊥
-  unicode_other a b c d e q l = by_kind q a b c d e (said start p step q l.0 l.1)
-
--- What a step of a kind is on the parts of a t extension.
+  pub in_t : TransformLeads R start p step q → (start < step.place) × RanksT step
+  in_t (on_source c d _ _ s _, h) = (omega (arith, core_low R start c d s, place_of _ step h), inl (omega (arith, core_rank R start c d s, ap kind_rank h, ap extension_rank h)))
+  in_t (on_fields e s, h) =
+      let a = as_swap separator_cmp steps.SwapFields spell_field (start + length (spell_source p.source)) p.fields q.fields step s h in
+      (omega (arith, a.leads.at), inr (ap rank_of a.of_kind, ap order a.of_kind))
 
 module _ (R : List EntryParts) (start : ℕ) (p : TForm) (step : Step) where
-  no_core : step.kind ≡ steps.SwapFields → (c d : CoreParts) (s : CoreStep (values_of R) c d) → core_label R start s ≡ step → ⊥
-  no_core k c d s h = omega (arith, (core_rank R start c d s).most, ap kind_rank h, ap rank_of k)
-
-  abbrev FieldsLead : List FieldParts → Type 0
-  FieldsLead = SwapLeads separator_cmp spell_field (start + length (spell_source p.source)) step.place p.fields
-
-  to_fields : step.kind ≡ steps.SwapFields → (q : TForm) (s : TransformStep R p q) → transform_label R start s ≡ step → FieldsLead q.fields
-  to_fields k q (on_source c d _ _ s _) h = absurd (no_core k c d s h)
-  to_fields k q (on_fields e (by_swap before a b after s)) h = record { before = before; first = a; second = b; after = after; swaps = s; at = place_of _ step h }
-  to_fields k q (on_fields e (by_drop before a between b after o s)) h = cc
-
   pub fields_answers : step.kind ≡ steps.SwapFields → step.number ≡ 0 → (xs : List FieldParts) (r : Bool) → Answers (SwapLeads separator_cmp spell_field (start + length (spell_source p.source)) step.place p.fields) xs r → Answers (TransformLeads R start p step) (record { source = p.source; fields = xs }) r
   fields_answers k n xs r h =
-      answers_by FieldsLead (TransformLeads R start p step) xs (record { source = p.source; fields = xs })
-      (λ s. let l = from_swap {once = false} separator_cmp steps.SwapFields steps.SwapFields spell_field (start + length (spell_source p.source)) step p.fields xs k n s in (on_fields refl l.0, l.1))
-      (λ q l. (q.fields, to_fields k q l.0 l.1)) r h
-
-  number_of_fields : step.kind ≡ steps.SwapFields → (q : TForm) (s : TransformStep R p q) → transform_label R start s ≡ step → step.number ≡ 0
-  number_of_fields k q (on_source c d _ _ s _) h = absurd (no_core k c d s h)
-  number_of_fields k q (on_fields e (by_swap before a b after s)) h = sym (number_at _ step h)
-  number_of_fields k q (on_fields e (by_drop before a between b after o s)) h = cc
-
-  pub fields_numbered : step.kind ≡ steps.SwapFields → (step.number ≡ 0 → ⊥) → (q : TForm) → TransformLeads R start p step q → ⊥
-  fields_numbered k n q l = n (number_of_fields k q l.0 l.1)
-
-  to_source : step.kind ≢ steps.SwapFields → (c : CoreParts) → p.source ≡ Some c → (q : TForm) (s : TransformStep R p q) → transform_label R start s ≡ step → (d : CoreParts) × CoreLeads R start c step d
-  to_source k c e q (on_source b d from _ s _) h =
-      let same : b ≡ c = let f = from in cc in
-      (d, subst (λ x. CoreLeads R start x step d) same (s, h))
-  to_source k c e q (on_fields f (by_swap before a b after s)) h = absurd (k (sym (kind_of _ step h)))
-  to_source k c e q (on_fields f (by_drop before a between b after o s)) h = cc
+      answers_by (SwapLeads separator_cmp spell_field (start + length (spell_source p.source)) step.place p.fields) (TransformLeads R start p step) xs (record { source = p.source; fields = xs })
+      (λ s. let l = to_swap separator_cmp steps.SwapFields spell_field (start + length (spell_source p.source)) p.fields xs step (record { of_kind = k; unnumbered = n; leads = s }) in (on_fields refl l.0, l.1))
+      (λ q l. (q.fields, (to_fields R start p step q k l).0.leads)) r h
 
   pub source_answers : step.kind ≢ steps.SwapFields → (c : CoreParts) → p.source ≡ Some c → (d : CoreParts) (r : Bool) → Answers (CoreLeads R start c step) d r → Answers (TransformLeads R start p step) (record { source = Some d; fields = p.fields }) r
   source_answers k c e d r h =
       answers_by (CoreLeads R start c step) (TransformLeads R start p step) d (record { source = Some d; fields = p.fields })
       (λ l. (on_source c d e refl l.0 refl, l.1))
-      (λ q l. to_source k c e q l.0 l.1) r h
+      (λ q l. to_source R start p step q k c e l) r h
 
-  without_source : step.kind ≢ steps.SwapFields → p.source ≡ None → (q : TForm) (s : TransformStep R p q) → transform_label R start s ≡ step → ⊥
-  without_source k e q (on_source b d from _ _ _) h = let f = from in cc
-  without_source k e q (on_fields f (by_swap before a b after s)) h = k (sym (kind_of _ step h))
-  without_source k e q (on_fields f (by_drop before a between b after o s)) h = cc
+-- What a step is on extensions.
 
-  pub no_source : step.kind ≢ steps.SwapFields → p.source ≡ None → (q : TForm) → TransformLeads R start p step q → ⊥
-  no_source k e q l = without_source k e q l.0 l.1
+abbrev pub of_u : UForm → ExtensionParts
+of_u p = record { singleton = unicode; subtags = spell_u p }
 
--- What a step of a kind is on extensions.
+abbrev pub of_t : TForm → ExtensionParts
+of_t p = record { singleton = transform; subtags = spell_t p }
 
 module _ (R : List EntryParts) (start : ℕ) (e : ExtensionParts) (step : Step) where
-  pub unicode_changed : (p q : UForm) → e.singleton ≡ unicode → IsUnicode e.subtags p → UnicodeLeads start p step q → ExtensionLeads R start e step (record { singleton = unicode; subtags = spell_u q })
+  pub unicode_changed : (p q : UForm) → e.singleton ≡ unicode → IsUnicode e.subtags p → UnicodeLeads start p step q → ExtensionLeads R start e step (of_u q)
   unicode_changed p q u from l =
       (in_unicode p q u (sym u) from (record { shaped = u_shaped p q l.0 from.shaped; spelled = refl }) l.0, l.1)
 
-  unicode_kept_by : (p : UForm) → e.singleton ≡ unicode → IsUnicode e.subtags p → ((q : UForm) → UnicodeLeads start p step q → ⊥) → (f : ExtensionParts) (s : ExtensionStep R e f) → extension_label R start s ≡ step → ⊥
-  unicode_kept_by p u from none f (in_unicode b q _ _ begins _ s) h = none q (subst (λ x. UnicodeLeads start x step q) (one_unicode e.subtags b p begins from) (s, h))
-  unicode_kept_by p u from none f (in_transform b q is_t _ _ _ _) h = omega (arith, u, is_t)
-
-  pub unicode_kept : (p : UForm) → e.singleton ≡ unicode → IsUnicode e.subtags p → ((q : UForm) → UnicodeLeads start p step q → ⊥) → (f : ExtensionParts) → ExtensionLeads R start e step f → ⊥
-  unicode_kept p u from none f l = unicode_kept_by p u from none f l.0 l.1
-
-  pub transform_changed : IsRegistry R → (p q : TForm) → e.singleton ≡ transform → IsTransform e.subtags p → TransformLeads R start p step q → ExtensionLeads R start e step (record { singleton = transform; subtags = spell_t q })
+  pub transform_changed : IsRegistry R → (p q : TForm) → e.singleton ≡ transform → IsTransform e.subtags p → TransformLeads R start p step q → ExtensionLeads R start e step (of_t q)
   transform_changed G p q t from l =
       (in_transform p q t (sym t) from (record { shaped = t_shaped R (step_shaped R G) p q l.0 from.shaped; spelled = refl }) l.0, l.1)
 
-  transform_kept_by : (p : TForm) → e.singleton ≡ transform → IsTransform e.subtags p → ((q : TForm) → TransformLeads R start p step q → ⊥) → (f : ExtensionParts) (s : ExtensionStep R e f) → extension_label R start s ≡ step → ⊥
-  transform_kept_by p t from none f (in_transform b q _ _ begins _ s) h = none q (subst (λ x. TransformLeads R start x step q) (one_transform e.subtags b p begins from) (s, h))
-  transform_kept_by p t from none f (in_unicode b q is_u _ _ _ _) h = omega (arith, t, is_u)
+  module _ (f : ExtensionParts) where
+    pub inside_u : (p : UForm) → e.singleton ≡ unicode → IsUnicode e.subtags p → ExtensionLeads R start e step f → (q : UForm) × UnicodeLeads start p step q × (f ≡ of_u q)
+    inside_u p u from (in_unicode b q is_u kept begins to s, h) =
+        (q, subst (λ x. UnicodeLeads start x step q) (u_unique e.subtags b p begins from) (s, h), (λ i. record { singleton = (kept ∙ is_u) i; subtags = sym to.spelled i }))
+    inside_u p u from (in_transform b q is_t _ _ _ _, h) = absurd (omega (arith, u, is_t))
 
-  pub transform_kept : (p : TForm) → e.singleton ≡ transform → IsTransform e.subtags p → ((q : TForm) → TransformLeads R start p step q → ⊥) → (f : ExtensionParts) → ExtensionLeads R start e step f → ⊥
-  transform_kept p t from none f l = transform_kept_by p t from none f l.0 l.1
+    pub inside_t : (p : TForm) → e.singleton ≡ transform → IsTransform e.subtags p → ExtensionLeads R start e step f → (q : TForm) × TransformLeads R start p step q × (f ≡ of_t q)
+    inside_t p t from (in_transform b q is_t kept begins to s, h) =
+        (q, subst (λ x. TransformLeads R start x step q) (t_unique e.subtags b p begins from) (s, h), (λ i. record { singleton = (kept ∙ is_t) i; subtags = sym to.spelled i }))
+    inside_t p t from (in_unicode b q is_u _ _ _ _, h) = absurd (omega (arith, t, is_u))
 
-  -- inside an extension no extensions change places
-  swaps_inside : step.kind ≡ steps.SwapExtensions → (f : ExtensionParts) (s : ExtensionStep R e f) → extension_label R start s ≡ step → ⊥
-  swaps_inside k f (in_unicode p q _ _ _ _ s) h = unicode_other start p step (λ m. cc) (λ m. cc) (λ m. cc) (λ m. cc) (λ m. cc) q (s, h)
-  swaps_inside k f (in_transform p q _ _ _ _ s) h = by p q s h
-    where
-      by : (p q : TForm) (s : TransformStep R p q) → transform_label R start s ≡ step → ⊥
-      by p q (on_source c d _ _ s _) h = omega (arith, (core_rank R start c d s).most, ap kind_rank h, ap rank_of k)
-      by p q (on_fields a (by_swap before x y after s)) h = let m = kind_of _ step h ∙ k in cc
-      by p q (on_fields a (by_drop before x between y after o s)) h = cc
+    -- it is behind the singleton, which its rank tells
+    pub told : ExtensionLeads R start e step f → (start < step.place) × (((e.singleton ≡ unicode) × RanksU step) ⊎ ((e.singleton ≡ transform) × RanksT step))
+    told (in_unicode p q is_u _ _ _ s, h) = let r = u_ranks start p step q (s, h) in (r.0, inl (is_u, r.1))
+    told (in_transform p q is_t _ _ _ s, h) = let r = in_t R start p step q (s, h) in (r.0, inr (is_t, r.1))
 
 module _ (R : List EntryParts) (start : ℕ) (es : List ExtensionParts) (step : Step) where
   pub leads_inside : (i : ℕ) (f : ExtensionParts) → i < length es → LeadsAt R start es step i f → ExtensionsLeads R start es step (set es i f)
@@ -835,35 +480,177 @@ module _ (R : List EntryParts) (start : ℕ) (es : List ExtensionParts) (step : 
       let s : ExtensionLeads R (start + length (spell_extensions (take i es)) + 1) e step f = l f in
       (inside (take i es) e f (drop (suc i) es) (record { there = round es i e h (get_or_default es i f e h); result = set_split es i f h }) s.0, s.1)
 
-  abbrev NoneInside : Type 0
-  NoneInside = (i : ℕ) (f : ExtensionParts) → i < length es → LeadsAt R start es step i f → ⊥
-
-  none_by : step.kind ≢ steps.SwapExtensions → NoneInside → (fs : List ExtensionParts) (s : ExtensionsStep R es fs) → extensions_label R start s ≡ step → ⊥
-  none_by k none fs (inside before e f after w s) h =
+  pub none_inside : step.kind ≢ steps.SwapExtensions → ((i : ℕ) (f : ExtensionParts) → i < length es → LeadsAt R start es step i f → ⊥) → (fs : List ExtensionParts) → ExtensionsLeads R start es step fs → ⊥
+  none_inside k none fs (inside before e f after w s, h) =
       let i : ℕ = length before in
       none i f (cut_within before e after es w.there)
       (λ d.
       subst (λ (b : List ExtensionParts). ExtensionLeads R (start + length (spell_extensions b) + 1) (get_or es i d) step f) (sym (ap (take i) w.there ∙ take_at before (e ∷ after) i refl))
       (subst (λ (x : ExtensionParts). ExtensionLeads R (start + length (spell_extensions before) + 1) x step f) (sym (cut_at before e after es d w.there)) (s, h)))
-  none_by k none fs (among (by_swap before x y after s)) h = k (sym (kind_of _ step h))
-  none_by k none fs (among (by_drop before x between y after o s)) h = cc
+  none_inside k none fs (among s, h) = k (as_swap singleton_cmp steps.SwapExtensions spell_extension start es fs step s h).of_kind
 
-  pub none_inside : step.kind ≢ steps.SwapExtensions → ((i : ℕ) (f : ExtensionParts) → i < length es → LeadsAt R start es step i f → ⊥) → (fs : List ExtensionParts) → ExtensionsLeads R start es step fs → ⊥
-  none_inside k none fs l = none_by k none fs l.0 l.1
-
-  abbrev Swaps : List ExtensionParts → Type 0
-  Swaps = SwapLeads singleton_cmp spell_extension start step.place es
-
-  to_swaps : step.kind ≡ steps.SwapExtensions → (fs : List ExtensionParts) (s : ExtensionsStep R es fs) → extensions_label R start s ≡ step → Swaps fs
-  to_swaps k fs (inside before e f after w s) h = absurd (swaps_inside R (start + length (spell_extensions before) + 1) e step k f s h)
-  to_swaps k fs (among (by_swap before x y after s)) h = record { before = before; first = x; second = y; after = after; swaps = s; at = place_of _ step h }
-  to_swaps k fs (among (by_drop before x between y after o s)) h = cc
+  -- inside an extension no extensions change places
+  to_swaps : step.kind ≡ steps.SwapExtensions → (fs : List ExtensionParts) → ExtensionsLeads R start es step fs → SwapsBy singleton_cmp spell_extension steps.SwapExtensions start es step fs
+  to_swaps k fs (inside before e f after w s, h) = absurd (omega (arith, told R (start + length (spell_extensions before) + 1) e step f (s, h), ap rank_of k))
+  to_swaps k fs (among s, h) = as_swap singleton_cmp steps.SwapExtensions spell_extension start es fs step s h
 
   pub swaps_answers : step.kind ≡ steps.SwapExtensions → step.number ≡ 0 → (fs : List ExtensionParts) (r : Bool) → Answers (SwapLeads singleton_cmp spell_extension start step.place es) fs r → Answers (ExtensionsLeads R start es step) fs r
   swaps_answers k n fs r h =
-      answers_by Swaps (ExtensionsLeads R start es step) fs fs
-      (λ s. let l = from_swap {once = false} singleton_cmp steps.SwapExtensions steps.SwapExtensions spell_extension start step es fs k n s in (among l.0, l.1))
-      (λ gs l. (gs, to_swaps k gs l.0 l.1)) r h
+      answers_by (SwapLeads singleton_cmp spell_extension start step.place es) (ExtensionsLeads R start es step) fs fs
+      (λ s. let l = to_swap singleton_cmp steps.SwapExtensions spell_extension start es fs step (record { of_kind = k; unnumbered = n; leads = s }) in (among l.0, l.1))
+      (λ gs l. (gs, (to_swaps k gs l).leads)) r h
+
+  -- none is of a whole tag
+  behind : (fs : List ExtensionParts) → ExtensionsLeads R start es step fs → (start < step.place) × (kind_rank step ≢ 7)
+  behind fs (inside before e f after w s, h) = omega (arith, told R (start + length (spell_extensions before) + 1) e step f (s, h))
+  behind fs (among s, h) =
+      let a = as_swap singleton_cmp steps.SwapExtensions spell_extension start es fs step s h in
+      omega (arith, a.leads.at, ap rank_of a.of_kind)
+
+-- a step on what is cut out at one place
+pub moved : (R : List EntryParts) (start : ℕ) {before before' after after' : List ExtensionParts} {e e' f : ExtensionParts} {step : Step} → SameCut before before' e e' after after' → ExtensionLeads R (start + length (spell_extensions before') + 1) e' step f → ExtensionLeads R (start + length (spell_extensions before) + 1) e step f
+moved R start {before = before} {e' = e'} {f = f} {step = step} cut l =
+    subst (λ x. ExtensionLeads R (start + length (spell_extensions before) + 1) x step f) (sym cut.at)
+    (subst (λ b. ExtensionLeads R (start + length (spell_extensions b) + 1) e' step f) (sym cut.front) l)
+
+-- The kind and the place of a step determine its record and its result.
+
+-- two steps of one kind at one place
+record SameSpot (step other : Step) : Type 0 where
+  pub kind : step.kind ≡ other.kind
+  pub place : step.place ≡ other.place
+
+-- they use one record and lead to one result
+record SameEnd {A : Type 0} (step other : Step) (a b : A) : Type 0 where
+  pub number : step.number ≡ other.number
+  pub result : a ≡ b
+
+module _ (R : List EntryParts) (step other : Step) (w : SameSpot step other) where
+  core_end : (start : ℕ) (c d e : CoreParts) → CoreLeads R start c step d → CoreLeads R start c other e → SameEnd step other d e
+  core_end start c d e (s, h) (u, k) =
+      let m : s.spot ≡ u.spot = one_spot c s.spot u.spot (kind_of _ step h ∙ w.kind ∙ sym (kind_of _ other k)) (omega (arith, w.place, place_of _ step h, place_of _ other k)) in
+      let a : s.subtag ≡ u.subtag = same_Some s.subtag u.subtag (sym s.there ∙ ap (subtag_at c) m ∙ u.there) in
+      let b : s.value ≡ u.value = same_Some s.value u.value (sym s.has ∙ (λ i. value_at (values_of R) c (m i) (a i)) ∙ u.has) in
+      record {
+        number = sym (number_at _ step h) ∙ (λ i. number_of (entry R (subtag_kind_at (m i)) (a i))) ∙ number_at _ other k;
+        result = s.result ∙ (λ i. replaced c (m i) (b i)) ∙ sym u.result;
+      }
+
+  swap_end : {A : Type 0} {cmp : A → A → Ordering} {spell : A → List (List ℕ)} {kind : StepKind} {start : ℕ} {xs ys zs : List A} → ((a : A) → spell a ≢ []) → SwapsBy cmp spell kind start xs step ys → SwapsBy cmp spell kind start xs other zs → SameEnd step other ys zs
+  swap_end some s t =
+      let a = s.leads in
+      let b = t.leads in
+      let k = same_flat _ some a.before b.before a.first b.first (a.second ∷ a.after) (b.second ∷ b.after) (sym a.swaps.there ∙ b.swaps.there) (omega (arith, w.place, a.at, b.at)) in
+      record { number = s.unnumbered ∙ sym t.unnumbered; result = cc }
+
+  drop_end : {A : Type 0} {cmp : A → A → Ordering} {spell : A → List (List ℕ)} {kind : StepKind} {start : ℕ} {xs ys zs : List A} → ((a : A) → spell a ≢ []) → DropsBy cmp spell kind start xs step ys → DropsBy cmp spell kind start xs other zs → SameEnd step other ys zs
+  drop_end {spell = spell} some s t =
+      let a = s.leads in
+      let b = t.leads in
+      let k =
+      same_flat _ some (a.before ++ a.first ∷ a.between) (b.before ++ b.first ∷ b.between) a.second b.second a.after b.after (sym (drop_there _ _ _ _ _ _ a) ∙ drop_there _ _ _ _ _ _ b)
+      (omega (arith, w.place, a.at, b.at, flat_length spell a.before a.first a.between, flat_length spell b.before b.first b.between)) in
+      record {
+        number = s.unnumbered ∙ sym t.unnumbered;
+        result =
+            a.drops.result ∙ sym (append_assoc a.before (a.first ∷ a.between) a.after) ∙ (λ i. k.front i ++ k.rest i) ∙ append_assoc b.before (b.first ∷ b.between) b.after ∙ sym b.drops.result;
+      }
+
+  true_end : {start : ℕ} {ks ls ms : List KeywordParts} → DropsTrueBy start ks step ls → DropsTrueBy start ks other ms → SameEnd step other ls ms
+  true_end s t =
+      let a = s.leads in
+      let b = t.leads in
+      let k = same_flat spell_keyword (λ k e. cc) a.before b.before a.keyword b.keyword a.after b.after (sym a.drops.there ∙ b.drops.there) (omega (arith, w.place, a.at, b.at)) in
+      record { number = s.unnumbered ∙ sym t.unnumbered; result = a.drops.result ∙ (λ i. k.front i ++ record (k.at i) { types = [] } ∷ k.rest i) ∙ sym b.drops.result }
+
+  unicode_end : (start : ℕ) (p q r : UForm) → UnicodeLeads start p step q → UnicodeLeads start p other r → SameEnd step other q r
+  unicode_end start p q r l m =
+      let s = said start p step q l in
+      by s.0 s.1 (as_kind start p other r s.0 (sym (ap rank_of w.kind) ∙ (in_u start p step q s.0 s.1).0) m)
+    where
+      attributes_end : SameEnd step other q.attributes r.attributes → q.keywords ≡ r.keywords → SameEnd step other q r
+      attributes_end e k = record { number = e.number; result = λ i. record { attributes = e.result i; keywords = k i } }
+
+      keywords_end : SameEnd step other q.keywords r.keywords → q.attributes ≡ r.attributes → SameEnd step other q r
+      keywords_end e k = record { number = e.number; result = λ i. record { attributes = k i; keywords = e.result i } }
+
+      by : (k : UnicodeKind) → Says k start p step q → Says k start p other r → SameEnd step other q r
+      by drop_attribute (s, a) (t, b) = attributes_end (drop_end (λ a e. cc) s t) (a ∙ sym b)
+      by swap_attributes (s, a) (t, b) = attributes_end (swap_end (λ a e. cc) s t) (a ∙ sym b)
+      by drop_keyword (s, a) (t, b) = keywords_end (drop_end (λ a e. cc) s t) (a ∙ sym b)
+      by swap_keywords (s, a) (t, b) = keywords_end (swap_end (λ a e. cc) s t) (a ∙ sym b)
+      by drop_true (s, a) (t, b) = keywords_end (true_end s t) (a ∙ sym b)
+
+  transform_end : (start : ℕ) (p q r : TForm) → TransformLeads R start p step q → TransformLeads R start p other r → SameEnd step other q r
+  transform_end start p q r (on_source c d from to s kept, h) (on_source c' d' begins ends u same, k) =
+      let n = core_end start c d d' (s, h) (subst (λ x. CoreLeads R start x other d') (same_Some c' c (sym begins ∙ from)) (u, k)) in
+      record { number = n.number; result = λ i. record { source = (to ∙ ap Some n.result ∙ sym ends) i; fields = (kept ∙ sym same) i } }
+  transform_end start p q r (on_source c d _ _ s _, h) (on_fields y u, k) =
+      absurd (omega (arith, core_rank R start c d s, ap kind_rank h, ap rank_of w.kind, ap rank_of (as_swap separator_cmp steps.SwapFields spell_field _ p.fields r.fields other u k).of_kind))
+  transform_end start p q r (on_fields x s, h) l =
+      let a = as_swap separator_cmp steps.SwapFields spell_field (start + length (spell_source p.source)) p.fields q.fields step s h in
+      let b = to_fields R start p other r (sym w.kind ∙ a.of_kind) l in
+      let n = swap_end (λ f e. cc) a b.0 in
+      record { number = n.number; result = λ i. record { source = (x ∙ sym b.1) i; fields = n.result i } }
+
+  -- on one extension
+  extension_end : (start : ℕ) (e f g : ExtensionParts) → ExtensionLeads R start e step f → ExtensionLeads R start e other g → SameEnd step other f g
+  extension_end start e f g (in_unicode p q is_u kept from to s, h) l =
+      let a = inside_u R start e step f p is_u from (in_unicode p q is_u kept from to s, h) in
+      let b = inside_u R start e other g p is_u from l in
+      let n = unicode_end start p a.0 b.0 a.1 b.1 in
+      record { number = n.number; result = a.2 ∙ ap of_u n.result ∙ sym b.2 }
+  extension_end start e f g (in_transform p q is_t kept from to s, h) l =
+      let a = inside_t R start e step f p is_t from (in_transform p q is_t kept from to s, h) in
+      let b = inside_t R start e other g p is_t from l in
+      let n = transform_end start p a.0 b.0 a.1 b.1 in
+      record { number = n.number; result = a.2 ∙ ap of_t n.result ∙ sym b.2 }
+
+  -- on a list of extensions whose singletons differ
+  extensions_end : (start : ℕ) (es fs gs : List ExtensionParts) → Distinct (map (λ (e : ExtensionParts). e.singleton) es) → ExtensionsLeads R start es step fs → ExtensionsLeads R start es other gs → SameEnd step other fs gs
+  extensions_end start es fs gs D (inside before e f after v s, h) (inside before' e' f' after' v' s', h') =
+      let k : ℕ = start + length (spell_extensions before) + 1 in
+      let k' : ℕ = start + length (spell_extensions before') + 1 in
+      let one : e.singleton ≡ e'.singleton = omega (arith, told R k e step f (s, h), told R k' e' other f' (s', h'), ap rank_of w.kind, ap order w.kind) in
+      let cut = distinct_cut before before' e e' after after' (sym v.there ∙ v'.there) (subst (λ l. Distinct (map (λ (e : ExtensionParts). e.singleton) l)) v.there D) one in
+      let n = extension_end k e f f' (s, h) (moved R start cut (s', h')) in
+      record { number = n.number; result = v.result ∙ (λ i. cut.front i ++ n.result i ∷ cut.rest i) ∙ sym v'.result }
+  extensions_end start es fs gs D (inside before e f after v s, h) (among u, k) =
+      absurd (omega (arith, told R (start + length (spell_extensions before) + 1) e step f (s, h), ap rank_of w.kind, ap rank_of (as_swap singleton_cmp steps.SwapExtensions spell_extension start es gs other u k).of_kind))
+  extensions_end start es fs gs D (among s, h) l =
+      let a = as_swap singleton_cmp steps.SwapExtensions spell_extension start es fs step s h in
+      swap_end (λ e k. cc) a (to_swaps R start es other (sym w.kind ∙ a.of_kind) gs l)
+
+  -- the kind and the place determine the record of a step on a tag, and what it leads to
+  tag_end : (t u v : TagForm) → HasProperParts R t → TagLeads R t step u → TagLeads R t other v → SameEnd step other u v
+  tag_end t u v P (on_core c d es ps from to s, h) (on_core c' d' es' ps' begins ends r, k) =
+      let same : c' ≡ c = cc in
+      let n = core_end 0 c d d' (s, h) (subst (λ x. CoreLeads R 0 x other d') same (r, k)) in
+      record { number = n.number; result = cc }
+  tag_end t u v P (on_extensions c es fs ps from to s, h) (on_extensions c' es' fs' ps' begins ends r, k) =
+      let same : c' ≡ c = cc in
+      let kept : es' ≡ es = cc in
+      let L : IsProperLangTag R c es = subst (HasProperParts R) from P in
+      let n =
+      extensions_end (length (spell_core c)) es fs fs' L.singletons (s, h)
+      (subst (λ x. ExtensionsLeads R (length (spell_core x)) es other fs') same (subst (λ x. ExtensionsLeads R (length (spell_core c')) x other fs') kept (r, k))) in
+      record { number = n.number; result = cc }
+  tag_end t u v P (on_whole _ has, h) (on_whole _ valued, k) = record { number = sym (number_at _ step h) ∙ number_at _ other k; result = same_Some u v (sym has ∙ valued) }
+  tag_end t u v P (on_core c d _ _ _ _ s, h) (on_whole _ _, k) = absurd (omega (arith, core_rank R 0 c d s, ap kind_rank h, ap kind_rank k, ap rank_of w.kind))
+  tag_end t u v P (on_whole _ _, h) (on_core c d _ _ _ _ s, k) = absurd (omega (arith, core_rank R 0 c d s, ap kind_rank h, ap kind_rank k, ap rank_of w.kind))
+  tag_end t u v P (on_extensions c es fs _ _ _ s, h) (on_whole _ _, k) = absurd (omega (arith, behind R (length (spell_core c)) es step fs (s, h), ap kind_rank k, ap rank_of w.kind))
+  tag_end t u v P (on_whole _ _, h) (on_extensions c es fs _ _ _ s, k) = absurd (omega (arith, behind R (length (spell_core c)) es other fs (s, k), ap kind_rank h, ap rank_of w.kind))
+  tag_end t u v P (on_core c d es ps from _ s, h) (on_extensions c' es' fs ps' begins _ r, k) =
+      let same : length (spell_core c) ≡ length (spell_core c') = cc in
+      absurd (omega (arith, same, core_high R 0 c d s, place_of _ step h, behind R (length (spell_core c')) es' other fs (r, k), w.place))
+  tag_end t u v P (on_extensions c' es' fs ps' begins _ r, k) (on_core c d es ps from _ s, h) =
+      let same : length (spell_core c) ≡ length (spell_core c') = cc in
+      absurd (omega (arith, same, core_high R 0 c d s, place_of _ other h, behind R (length (spell_core c')) es' step fs (r, k), w.place))
+
+pub steps_determined : (R : List EntryParts) → StepsAreDetermined R
+steps_determined R t u v step other a b k p =
+    let e = tag_end R step other (record { kind = k; place = p }) t u v a.0.from.parts (a.0.change, a.1) (b.0.change, b.1) in
+    record { same = λ i. record { kind = k i; place = p i; number = e.number i }; result = e.result }
 
 -- a langtag of its parts
 pub langtag_is : (t : TagForm) (c : CoreParts) → core_of t ≡ Some c → t ≡ LangTag c (extensions_of t) (private_of t)
@@ -896,17 +683,12 @@ module _ (R : List EntryParts) (t : TagForm) (step : Step) where
   pub extensions_few : (start : ℕ) (es fs : List ExtensionParts) → length es ≤ longest_text → ExtensionsLeads R start es step fs → length fs ≤ longest_text
   extensions_few start es fs h l = let n = no_more R es fs l.0 in omega (arith, n, h)
 
-  kept_by : (c : CoreParts) → core_of t ≡ Some c → step.kind ≢ steps.Whole → ((d : CoreParts) → CoreLeads R 0 c step d → ⊥) → ((fs : List ExtensionParts) → ExtensionsLeads R (length (spell_core c)) (extensions_of t) step fs → ⊥) → (u : TagForm) (s : TagChange R t u) → tag_label R s ≡ step → ⊥
-  kept_by c e k none nowhere u (on_core b d es ps from _ s) h =
-      let same : b ≡ c = let a = ap core_of from in cc in
-      none d (subst (λ x. CoreLeads R 0 x step d) same (s, h))
-  kept_by c e k none nowhere u (on_extensions b es fs ps from _ s) h =
-      let same : b ≡ c = let a = ap core_of from in cc in
-      nowhere fs (subst (λ x. ExtensionsLeads R (length (spell_core x)) (extensions_of t) step fs) same (subst (λ x. ExtensionsLeads R (length (spell_core b)) x step fs) (sym (ap extensions_of from)) (s, h)))
-  kept_by c e k none nowhere u (on_whole _ _) h = k (sym (kind_of _ step h))
-
   pub kept : (c : CoreParts) → core_of t ≡ Some c → step.kind ≢ steps.Whole → ((d : CoreParts) → CoreLeads R 0 c step d → ⊥) → ((fs : List ExtensionParts) → ExtensionsLeads R (length (spell_core c)) (extensions_of t) step fs → ⊥) → (u : TagForm) → TagLeads R t step u → ⊥
-  kept c e k none nowhere u l = kept_by c e k none nowhere u l.0 l.1
+  kept c e k none nowhere u (on_core b d es ps from _ s, h) =
+      none d (subst (λ x. CoreLeads R 0 x step d) (same_Some b c (sym (ap core_of from) ∙ e)) (s, h))
+  kept c e k none nowhere u (on_extensions b es fs ps from _ s, h) =
+      nowhere fs (subst (λ x. ExtensionsLeads R (length (spell_core x)) (extensions_of t) step fs) (same_Some b c (sym (ap core_of from) ∙ e)) (subst (λ x. ExtensionsLeads R (length (spell_core b)) x step fs) (sym (ap extensions_of from)) (s, h)))
+  kept c e k none nowhere u (on_whole _ _, h) = k (sym (kind_of _ step h))
 
   pub record WholeLeads (u : TagForm) : Type 0 where
     pub place : step.place ≡ 1
@@ -917,18 +699,15 @@ module _ (R : List EntryParts) (t : TagForm) (step : Step) where
   from_whole k u w = (on_whole w.plain w.value.has, same_step _ _ _ step k w.place (sym w.value.by))
 
   module _ (P : IsProper R t) where
+    same_end : (u v : TagForm) → TagLeads R t step u → TagLeads R t step v → u ≡ v
+    same_end u v l m = (tag_end R step step (record { kind = refl; place = refl }) t u v P.parts l m).result
+
     -- what it leads to is no tag, so it leads to none
-    pub valueless : (v : TagForm) → TagLeads R t step v → (IsTagValue v → ⊥) → (u : TagForm) → IsTagValue u → TagLeads R t step u → ⊥
-    valueless v l n u V m = n (subst IsTagValue (one_labelled R t u v P.parts m.0 l.0 (m.1 ∙ sym l.1)) V)
+    valueless : (v : TagForm) → TagLeads R t step v → (IsTagValue v → ⊥) → (u : TagForm) → IsTagValue u → TagLeads R t step u → ⊥
+    valueless v l n u V m = n (subst IsTagValue (same_end u v m l) V)
 
     pub not_proper : (v : TagForm) → TagLeads R t step v → (IsProper R v → ⊥) → (u : TagForm) → LeadsBy R t step u → ⊥
-    not_proper v l n u m = n (subst (IsProper R) (one_labelled R t u v P.parts m.0.change l.0 (m.1 ∙ sym l.1)) m.0.to)
-
-    pub is_led : (v : TagForm) → TagLeads R t step v → IsProper R v → LeadsBy R t step v
-    is_led v l Q = (record { from = P; to = Q; change = l.0 }, l.1)
-
-    pub no_change : ((u : TagForm) → IsTagValue u → TagLeads R t step u → ⊥) → (u : TagForm) → LeadsBy R t step u → ⊥
-    no_change none u m = none u m.0.to.tag (m.0.change, m.1)
+    not_proper v l n u m = n (subst (IsProper R) (same_end u v (m.0.change, m.1) l) m.0.to)
 
     -- the langtag of the parts, unless it is none
     pub made : (v : TagForm) (o : Option TagForm) → TagLeads R t step v → MatchOption o (IsTagValue v → ⊥) (λ u. u ≡ v) → MatchOption o ((u : TagForm) → IsTagValue u → TagLeads R t step u → ⊥) (TagLeads R t step)

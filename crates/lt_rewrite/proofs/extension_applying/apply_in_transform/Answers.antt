@@ -4,12 +4,13 @@ use Rattle.lt_rewrite.specs.Applying.{ExtensionLeads}
 use Rattle.lt_registry.specs.Entries.{IsRegistry}
 use Rattle.lt_rewrite.proofs.CoreLaws.{step_shaped}
 use Rattle.lt_rewrite.proofs.ExtensionLaws.{t_shaped, t_step_length}
-use Rattle.lt_rewrite.proofs.TagLeading.{transform_changed, transform_kept}
+use Rattle.lt_rewrite.proofs.TagLeading.{transform_changed, inside_t}
 use Rattle.lt_rewrite.proofs.extension_applying.apply_in_transform.Goals as goal
 
 pub returns-then-not-apply_to_transform : goal.returns-then-not-apply_to_transform
-returns-then-not-apply_to_transform g c =
-    transform_kept (g.L.Lookup.listed c.args.table.now) c.args.start c.args.extension.now c.args.step c.in-Ok.parts c.requires.transform c.in-Ok.ensures.parts c.if-not-apply_to_transform.ensures
+returns-then-not-apply_to_transform g c = λ f l.
+    let m = inside_t (g.L.Lookup.listed c.args.table.now) c.args.start c.args.extension.now c.args.step f c.in-Ok.parts c.requires.transform c.in-Ok.ensures.parts l in
+    c.if-not-apply_to_transform.ensures m.0 m.1
 
 pub join_t-requires-clause-shaped : goal.join_t-requires-clause-shaped
 join_t-requires-clause-shaped g c =

@@ -2,12 +2,13 @@ use Rattle.std.proofs.Common.{sym, subst}
 use Rattle.lt_tag.specs.Parts.{ExtensionParts}
 use Rattle.lt_rewrite.specs.Applying.{ExtensionLeads}
 use Rattle.lt_rewrite.proofs.ExtensionLaws.{u_shaped}
-use Rattle.lt_rewrite.proofs.TagLeading.{unicode_changed, unicode_kept}
+use Rattle.lt_rewrite.proofs.TagLeading.{unicode_changed, inside_u}
 use Rattle.lt_rewrite.proofs.extension_applying.apply_in_unicode.Goals as goal
 
 pub returns-then-not-apply_to_unicode : goal.returns-then-not-apply_to_unicode
-returns-then-not-apply_to_unicode c =
-    λ R. unicode_kept R c.args.start c.args.extension.now c.args.step c.in_ok-parts.parts c.requires.unicode c.in_ok-parts.ensures.parts c.if-not-apply_to_unicode.ensures
+returns-then-not-apply_to_unicode c = λ R f l.
+    let m = inside_u R c.args.start c.args.extension.now c.args.step f c.in_ok-parts.parts c.requires.unicode c.in_ok-parts.ensures.parts l in
+    c.if-not-apply_to_unicode.ensures m.0 m.1
 
 pub join_u-requires-clause-shaped : goal.join_u-requires-clause-shaped
 join_u-requires-clause-shaped c =

@@ -1,12 +1,14 @@
-use Rattle.std.proofs.Common.{ℕ, ◌+◌, List, refl, sym, ◌∙◌, subst}
+use Rattle.std.proofs.Common.{ℕ, ◌+◌, ◌≤◌, length, arith, List, refl, sym, ◌∙◌, subst}
 use Rattle.lt_tag.specs.Parts.{ExtensionParts, TForm}
-use Rattle.lt_tag.specs.Extensions.{transform}
+use Rattle.lt_tag.specs.Extensions.{transform, spell_t}
 use Rattle.lt_rewrite.specs.Applying.{TransformLeads}
-use Rattle.lt_rewrite.specs.Runs.{NoneLeads, AddsOnTransform}
+use Rattle.lt_rewrite.specs.Runs.{NoneLeads, AddsOnTransform, kind_rank}
 use Rattle.lt_rewrite.specs.ExtensionsExplaining.{ExplainsAt}
 use Rattle.lt_rewrite.specs.declared.steps.Step.{Step}
-use Rattle.lt_rewrite.proofs.ExtensionLaws.{none_there, FoundAt, found_there, form_of_transform as transform_form}
-use Rattle.lt_rewrite.proofs.ExtensionRuns.{t_few, t_explained}
+use Rattle.lt_rewrite.proofs.ExtensionLaws.{none_there, FoundAt, found_there, form_of_transform as transform_form, t_step_length}
+use Rattle.lt_rewrite.proofs.ExtensionRuns.{t_explained}
+use Rattle.lt_rewrite.proofs.FirstSteps.{adds_keeps}
+use Rattle.lt_tag.specs.Lists.{longest_text}
 use Rattle.lt_rewrite.proofs.extensions_explaining.explained_transform.Goals as goal
 
 pub returns-in_default : goal.returns-in_default
@@ -25,7 +27,7 @@ unreachable-requires g c =
 
 pub join_t-requires-clause-few : goal.join_t-requires-clause-few
 join_t-requires-clause-few g c =
-    t_few (g.L.Lookup.listed c.args.table.now) (c.args.start + c.subtags_before.result + 1) c.in-Ok.parts c.explain_t.new.parts c.args.steps.now.items c.explain_t.new.steps.items c.in_ok-explain_t.ensures.adds c.in-Ok.ensures.few
+    adds_keeps (TransformLeads (g.L.Lookup.listed c.args.table.now) (c.args.start + c.subtags_before.result + 1)) (λ _ step. kind_rank step) (λ u. length (spell_t u) ≤ longest_text) (λ a b step l h. omega (arith, h, t_step_length (g.L.Lookup.listed c.args.table.now) a b l.0)) c.in-Ok.parts c.explain_t.new.parts c.args.steps.now.items c.explain_t.new.steps.items c.in_ok-explain_t.ensures.adds c.in-Ok.ensures.few
 
 pub returns : goal.returns
 returns g c =

@@ -1,12 +1,14 @@
-use Rattle.std.proofs.Common.{ℕ, ◌+◌, List, refl, sym, ◌∙◌, subst}
+use Rattle.std.proofs.Common.{ℕ, ◌+◌, ◌≤◌, length, arith, List, refl, sym, ◌∙◌, subst}
 use Rattle.lt_tag.specs.Parts.{ExtensionParts, UForm}
-use Rattle.lt_tag.specs.Extensions.{unicode}
+use Rattle.lt_tag.specs.Extensions.{unicode, spell_u}
 use Rattle.lt_rewrite.specs.Applying.{UnicodeLeads}
-use Rattle.lt_rewrite.specs.Runs.{NoneLeads, AddsOnUnicode}
+use Rattle.lt_rewrite.specs.Runs.{NoneLeads, AddsOnUnicode, kind_rank}
 use Rattle.lt_rewrite.specs.ExtensionsExplaining.{ExplainsAt}
 use Rattle.lt_rewrite.specs.declared.steps.Step.{Step}
-use Rattle.lt_rewrite.proofs.ExtensionLaws.{none_there, found_there}
-use Rattle.lt_rewrite.proofs.ExtensionRuns.{u_few, u_explained}
+use Rattle.lt_rewrite.proofs.ExtensionLaws.{none_there, found_there, u_step_length}
+use Rattle.lt_rewrite.proofs.ExtensionRuns.{u_explained}
+use Rattle.lt_rewrite.proofs.FirstSteps.{adds_keeps}
+use Rattle.lt_tag.specs.Lists.{longest_text}
 use Rattle.lt_rewrite.proofs.extensions_explaining.explained_unicode.Goals as goal
 
 pub returns-in_default : goal.returns-in_default
@@ -17,7 +19,7 @@ split_u-requires c = (found_there c.args.extensions.now unicode c.in-Some.index 
 
 pub join_u-requires-clause-few : goal.join_u-requires-clause-few
 join_u-requires-clause-few c =
-    u_few (c.args.start + c.subtags_before.result + 1) c.in_ok-parts.parts c.explain_u.new.parts c.args.steps.now.items c.explain_u.new.steps.items c.in_ok-explain_u.ensures.adds c.in_ok-parts.ensures.few
+    adds_keeps (UnicodeLeads (c.args.start + c.subtags_before.result + 1)) (λ _ step. kind_rank step) (λ u. length (spell_u u) ≤ longest_text) (λ a b step l h. omega (arith, h, u_step_length a b l.0)) c.in_ok-parts.parts c.explain_u.new.parts c.args.steps.now.items c.explain_u.new.steps.items c.in_ok-explain_u.ensures.adds c.in_ok-parts.ensures.few
 
 pub returns : goal.returns
 returns c = λ R.

@@ -22,5 +22,5 @@ returns g c =
       | in-None w ↦
           subst (λ (r : Bool). Answers (TransformLeads R c.args.start c.args.parts.now c.args.step) (the_view c.match-parts.parts-inside) r) (sym w.result-is)
           (subst (λ (u : TForm). (other : TForm) → TransformLeads R c.args.start u c.args.step other → ⊥) c.parts.view_is
-          (no_source R c.args.start p c.args.step c.in_default.not-SwapFields w.in-None.is))
+          (λ q. no_source R c.args.start p c.args.step q c.in_default.not-SwapFields w.in-None.is))
     ]

@@ -3,11 +3,11 @@ use Rattle.lt_tag.specs.Parts.{TForm}
 use Rattle.lt_tag.specs.Extensions.{spell_field}
 use Rattle.lt_rewrite.specs.Extensions.{separator_cmp}
 use Rattle.lt_rewrite.specs.Applying.{Answers, SwapLeads, TransformLeads}
-use Rattle.lt_rewrite.proofs.TagLeading.{fields_numbered, fields_answers}
+use Rattle.lt_rewrite.proofs.TagLeading.{to_fields, fields_answers}
 use Rattle.lt_rewrite.proofs.field_applying.swap_fields.Goals as goal
 
 pub returns-then-step-ne0 : goal.returns-then-step-ne0
-returns-then-step-ne0 c = λ R. fields_numbered R c.args.start c.args.parts.now c.args.step c.requires.kind c.if-step-ne0.true
+returns-then-step-ne0 c = λ R q l. c.if-step-ne0.true (to_fields R c.args.start c.args.parts.now c.args.step q c.requires.kind l).0.unnumbered
 
 pub returns : goal.returns
 returns c = λ R.

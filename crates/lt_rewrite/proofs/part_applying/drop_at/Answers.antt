@@ -1,20 +1,20 @@
 use Rattle.std.proofs.Common.{◌<◌, ℕ, length, subst}
 use Rattle.lt_rewrite.specs.Applying.{IsPlaceOf, HasLike}
-use Rattle.lt_rewrite.proofs.FirstSteps.{drop_nowhere, drop_alone, drop_led}
+use Rattle.lt_rewrite.proofs.FirstSteps.{drop_step, drop_led, holds_at}
 use Rattle.lt_rewrite.proofs.part_applying.drop_at.Goals as goal
 
 pub returns-in_default : goal.returns-in_default
-returns-in_default g c =
+returns-in_default g c = λ ys s.
     let P = g.P.Spelled.spell in
-    drop_nowhere P g.P.Part.order c.args.start c.args.place c.args.parts.now.items
-    (subst (λ xs. (index : ℕ) → index < length xs → IsPlaceOf P c.args.start xs index c.args.place → ⊥) c.deref.ensures.value c.in_default.ensures)
+    let at = drop_step P g.P.Part.order c.args.start c.args.place c.args.parts.now.items ys s in
+    subst (λ xs. (index : ℕ) → index < length xs → IsPlaceOf P c.args.start xs index c.args.place → ⊥) c.deref.ensures.value c.in_default.ensures at.index at.within at.is_place
 
 pub returns-then-not-has_like : goal.returns-then-not-has_like
-returns-then-not-has_like g c =
+returns-then-not-has_like g c = λ ys s.
     let P = g.P.Spelled.spell in
     let at = subst (λ xs. (c.in-Some.index < length xs) × IsPlaceOf P c.args.start xs c.in-Some.index c.args.place) c.deref.ensures.value c.in-Some.ensures in
-    drop_alone P g.P.Part.order c.args.start c.args.place g.met.P.Spelled.some c.args.parts.now.items c.in-Some.index at.0 at.1
-    (subst (λ xs. HasLike g.P.Part.order xs c.in-Some.index → ⊥) c.deref-2.ensures.value c.if-not-has_like.ensures)
+    subst (λ xs. HasLike g.P.Part.order xs c.in-Some.index → ⊥) c.deref-2.ensures.value c.if-not-has_like.ensures
+    (holds_at P g.P.Part.order c.args.start c.args.place g.met.P.Spelled.some (drop_step P g.P.Part.order c.args.start c.args.place c.args.parts.now.items ys s) c.in-Some.index at.0 at.1)
 
 pub returns : goal.returns
 returns g c =

@@ -1,15 +1,16 @@
 use Rattle.std.proofs.Common.{◌≡◌, ◌≤◌, ◌+◌, ℕ, List, length, ap, subst, length-append, arith}
 use Rattle.std.specs.Prelude.{flat_map}
 use Rattle.lt_tag.specs.Parts.{KeywordParts, UForm}
-use Rattle.lt_tag.specs.Extensions.{spell_keyword, spell_u}
+use Rattle.lt_tag.specs.Extensions.{spell_keyword, spell_u, IsU}
 use Rattle.lt_rewrite.specs.Extensions.{text_cmp, key_cmp}
-use Rattle.lt_rewrite.specs.Runs.{SwapsBy, DropsBy, Adds}
+use Rattle.lt_rewrite.specs.Runs.{SwapsBy, DropsBy, Adds, kind_rank}
+use Rattle.lt_rewrite.specs.Applying.{UnicodeLeads}
 use Rattle.lt_rewrite.specs.declared.steps.Step.{Step}
 use Rattle.lt_rewrite.specs.declared.steps.StepKind.TheVariants as steps
-use Rattle.lt_rewrite.proofs.ExtensionLaws.{attributes_count}
-use Rattle.lt_rewrite.proofs.FirstSteps.{drops_few, swaps_few}
+use Rattle.lt_rewrite.proofs.ExtensionLaws.{attributes_count, u_shaped}
+use Rattle.lt_rewrite.proofs.FirstSteps.{drops_few, swaps_few, adds_keeps}
 use Rattle.lt_rewrite.proofs.TagLeading.{one_subtag, u_parts}
-use Rattle.lt_rewrite.proofs.ExtensionRuns.{IsExplainedUnicode, unicode_explained, unicode_run_shaped}
+use Rattle.lt_rewrite.proofs.ExtensionRuns.{IsExplainedUnicode, unicode_explained}
 use Rattle.lt_rewrite.proofs.unicode_explaining.explain_u.Goals as goal
 
 -- the subtags of the attributes and of the keywords are no more than all
@@ -64,9 +65,9 @@ returns c =
     let q : UForm = u_parts c.explain_swaps.new.parts.items c.drop_trues.new.keywords.items in
     let explained : IsExplainedUnicode c.args.start c.args.parts.now q c.args.steps.now.items c.drop_trues.new.steps.items =
     subst (λ (p : UForm). IsExplainedUnicode c.args.start p q c.args.steps.now.items c.drop_trues.new.steps.items) c.parts.view_is
-    (unicode_explained c.args.start (c.args.start + c.len.result) c.parts.inside.attributes.items c.explain_drops.new.parts.items c.explain_swaps.new.parts.items c.parts.inside.keywords.items c.explain_drops-2.new.parts.items c.explain_swaps-2.new.parts.items c.drop_trues.new.keywords.items
+    (unicode_explained c.args.start c.parts.inside.attributes.items c.explain_drops.new.parts.items c.explain_swaps.new.parts.items c.parts.inside.keywords.items c.explain_drops-2.new.parts.items c.explain_swaps-2.new.parts.items c.drop_trues.new.keywords.items
     c.args.steps.now.items c.explain_drops.new.steps.items c.explain_swaps.new.steps.items c.explain_drops-2.new.steps.items c.explain_swaps-2.new.steps.items c.drop_trues.new.steps.items
-    (omega (arith, c.len.ensures, c.explain_swaps.new.parts.ok.0))
+    (c.args.start + c.len.result) (omega (arith, c.len.ensures, c.explain_swaps.new.parts.ok.0))
     (record { adds = c.in_ok-explain_drops.ensures.adds; at_rest = c.in_ok-explain_drops.ensures.at_rest })
     (record { adds = c.in_ok-explain_swaps.ensures.adds; at_rest = c.in_ok-explain_swaps.ensures.at_rest })
     (record { adds = c.in_ok-explain_drops-2.ensures.adds; at_rest = c.in_ok-explain_drops-2.ensures.at_rest })
@@ -75,5 +76,5 @@ returns c =
     record {
       adds = explained.adds;
       at_rest = explained.at_rest;
-      shaped = unicode_run_shaped c.args.start c.args.parts.now q c.args.steps.now.items c.drop_trues.new.steps.items explained.adds;
+      shaped = adds_keeps (UnicodeLeads c.args.start) (λ _ step. kind_rank step) IsU (λ a b step l i. u_shaped a b l.0 i) c.args.parts.now q c.args.steps.now.items c.drop_trues.new.steps.items explained.adds;
     }
