@@ -1,15 +1,15 @@
 -- Runs of first steps in an extension, among others.
 use Rattle.std.proofs.Common.{◌≡◌, ◌≢◌, ℕ, suc, ◌+◌, ◌<◌, ◌≤◌, inr, List, [], ◌∷◌, ◌++◌, refl, sym, ap, ◌∙◌, subst, length, get_or, set, take, drop, below_more, arith, Equal, inl, false, Option, Some, map, None}
 use Rattle.std.specs.Prelude.{flat_map, codes}
-use Rattle.std.proofs.lemmas.List.{map-append, take_at, take-set, set_split, get_or-set_same, get_or-set_other, get_or_read, length-set}
+use Rattle.std.proofs.lemmas.List.{map-append, take-set, set_split, get_or-set_same, get_or-set_other, length-set}
 use Rattle.lt_tag.specs.Parts.{KeywordParts, UForm, CoreParts, FieldParts, TForm, ExtensionParts}
 use Rattle.lt_tag.specs.Extensions.{spell_keyword, IsU, spell_field, IsT, unicode, transform, IsUnicode, IsTransform}
-use Rattle.lt_rewrite.specs.Applying.{TrueLeads, UnicodeLeads, CoreLeads, TransformLeads, ExtensionLeads, ExtensionsLeads}
+use Rattle.lt_rewrite.specs.Applying.{UnicodeLeads, CoreLeads, TransformLeads, ExtensionLeads, ExtensionsLeads}
 use Rattle.lt_rewrite.specs.Runs.{NoneLeads, DropsTrueBy, Adds, rank_of, kind_rank, IsFirst, SwapsBy, DropsBy, AddsOnUnicode, IsNoLater, AddsOnCore, AddsOnTransform, extension_rank, IsRun, AddsOnExtensions}
 use Rattle.lt_rewrite.specs.declared.steps.Step.{Step}
-use Rattle.lt_rewrite.proofs.PartLists.{spelled_replaced, cut_at, cut_within, round, all_middle, all_replaced, others_same, distinct_cut, all_swapped, all_step, all_both, spelled_step}
-use Rattle.lt_rewrite.proofs.FirstSteps.{front_below, front_few, flat_more, leftmost_first, IsUnlike, IsRising, unlike_drops, rising_swaps, adds_lift, unlike_at_rest, rising_at_rest, swaps_keep_unlike, adds_none, adds_more, is_first, adds_all}
-use Rattle.lt_rewrite.proofs.TagLeading.{one_subtag, u_parts, UnicodeKind, drop_attribute, swap_attributes, drop_keyword, swap_keywords, drop_true, u_rank, Says, said, led, in_u, u_ranks, as_kind, in_t, order, true_led, to_swap, as_swap, of_u, of_t, unicode_changed, transform_changed, inside_u, inside_t, told, moved, core_rank}
+use Rattle.lt_rewrite.proofs.PartLists.{spelled_replaced, round, all_middle, all_replaced, others_same, distinct_cut, all_swapped, all_step, all_both, spelled_step}
+use Rattle.lt_rewrite.proofs.FirstSteps.{no_further, front_few, flat_more, leftmost_first, IsUnlike, IsRising, unlike_drops, rising_swaps, adds_lift, unlike_at_rest, rising_at_rest, swaps_keep_unlike, adds_none, adds_more, is_first, adds_all}
+use Rattle.lt_rewrite.proofs.TagLeading.{one_subtag, u_parts, UnicodeKind, drop_attribute, swap_attributes, drop_keyword, swap_keywords, drop_true, u_rank, Says, said, led, in_u, u_ranks, as_kind, in_t, order, true_step, true_led, to_swap, as_swap, of_u, of_t, unicode_changed, transform_changed, inside_u, inside_t, told, moved, core_rank}
 use Rattle.std.proofs.lemmas.Bool.{cases_eq}
 use Rattle.std.proofs.lemmas.Option.{same_Some}
 use Rattle.lt_rewrite.specs.Orderings.{by_swap, by_drop, ListStep}
@@ -48,18 +48,10 @@ pub record IsBareSoFar (start : ℕ) (from ks : List KeywordParts) (old new : Li
   pub count : length ks ≡ length from
   pub few : length (flat_map spell_keyword ks) ≤ length (flat_map spell_keyword from)
   pub here_is : here ≡ start + length (flat_map spell_keyword (take index ks)) + 1
-  pub none : (k : ℕ) (d : KeywordParts) → k < index → IsSoleTrue (get_or ks k d) → ⊥
+  pub none : (k : ℕ) → k < index → ((d : KeywordParts) → IsSoleTrue (get_or ks k d)) → ⊥
   pub adds : Adds (DropsTrueBy start) (λ _ _. 0) from ks old new
 
 module _ (start : ℕ) where
-  -- the first that is left is no further left than the first index that was not yet looked at
-  true_behind : (ks ls : List KeywordParts) (place index : ℕ) → ((k : ℕ) (d : KeywordParts) → k < index → IsSoleTrue (get_or ks k d) → ⊥) → TrueLeads start place ks ls → start + length (flat_map spell_keyword (take index ks)) + 2 ≤ place
-  true_behind ks ls place index none t =
-      let passed : length t.before < index → ⊥ = λ l. none (length t.before) t.keyword l (ap (λ (k : KeywordParts). k.types) (cut_at t.before t.keyword t.after ks t.keyword t.drops.there) ∙ t.drops.sole) in
-      let behind : index ≤ length t.before = omega (arith, passed) in
-      let same = ap (λ l. length (flat_map spell_keyword l)) (ap (take (length t.before)) t.drops.there ∙ take_at t.before (t.keyword ∷ t.after) (length t.before) refl) in
-      omega (arith, front_below spell_keyword index (length t.before) ks behind, same, t.at)
-
   module _ (from ks : List KeywordParts) (old new : List Step) (i here : ℕ) (h : IsBareSoFar start from ks old new i here) (k : KeywordParts) (within : i < length ks) (is : k ≡ get_or ks i k) where
     -- it stays as it is
     pub bare_kept : (IsSoleTrue k → ⊥) → IsBareSoFar start from ks old new (i + 1) (here + length (spell_keyword k))
@@ -67,7 +59,7 @@ module _ (start : ℕ) where
       count = h.count;
       few = h.few;
       here_is = omega (arith, h.here_is, flat_more spell_keyword ks i k within is);
-      none = λ j d l t. below_more (λ j. (d : KeywordParts) → IsSoleTrue (get_or ks j d) → ⊥) i (λ j l d. h.none j d l) (λ d t. n (subst IsSoleTrue (sym (get_or_read ks i k within is d)) t)) j l d t;
+      none = below_more _ _ h.none (λ t. n (subst IsSoleTrue (sym is) (t k)));
       adds = h.adds;
     }
 
@@ -83,30 +75,27 @@ module _ (start : ℕ) where
           count = length-set ks i (bare k) ∙ h.count;
           few = omega (arith, fewer, whole, changed, h.few);
           here_is = omega (arith, h.here_is, flat_more spell_keyword (set ks i (bare k)) i (bare k) less (sym (get_or-set_same ks i (bare k) (bare k) within)), front);
-          none = λ j d l t. below_more (λ j. (d : KeywordParts) → IsSoleTrue (get_or (set ks i (bare k)) j d) → ⊥) i
-              (λ j l d t. let ne : j ≢ i = omega (arith, l) in h.none j d l (subst IsSoleTrue (get_or-set_other ks i j (bare k) d ne) t))
-              (λ d t. let none : IsSoleTrue (bare k) = subst IsSoleTrue (get_or-set_same ks i (bare k) d within) t in cc) j l d t;
+          none = below_more _ _ (λ j l t. let ne : j ≢ i = omega (arith, l) in h.none j l (λ d. subst IsSoleTrue (get_or-set_other ks i j (bare k) d ne) (t d)))
+              (λ t. let none : IsSoleTrue (bare k) = subst IsSoleTrue (get_or-set_same ks i (bare k) k within) (t k) in cc);
           adds = adds_more (DropsTrueBy start) (λ _ _. 0) from ks (set ks i (bare k)) old new newer step h.adds
               (record {
                 leads = record { of_kind = kind; unnumbered = number; leads = true_led start step.place ks i k within (omega (arith, place, h.here_is)) is sole };
-                first = λ other ls s. inr (refl, omega (arith, place, h.here_is, true_behind ks ls other.place i h.none s.leads));
+                first = λ other ls s. inr (refl, no_further i step.place h.none (omega (arith, place, h.here_is)) (true_step start other.place ks ls s.leads));
               }) e;
         }
 
   -- none is left
   pub bare_all : (from ks : List KeywordParts) (old new : List Step) (i here : ℕ) → IsBareSoFar start from ks old new i here → length ks ≤ i → NoneLeads (DropsTrueBy start ks)
   bare_all from ks old new i here h all step ls s =
-      let t = s.leads in
-      h.none (length t.before) t.keyword (omega (arith, cut_within t.before t.keyword t.after ks t.drops.there, all))
-      (ap (λ (k : KeywordParts). k.types) (cut_at t.before t.keyword t.after ks t.keyword t.drops.there) ∙ t.drops.sole)
+      let t = true_step start step.place ks ls s.leads in
+      h.none t.index (omega (arith, t.within, all)) t.holds
 
   -- no more subtags are passed than there are
   pub bare_few : (from ks : List KeywordParts) (old new : List Step) (i here : ℕ) → IsBareSoFar start from ks old new i here → here ≤ start + length (flat_map spell_keyword from) + 1
   bare_few from ks old new i here h = omega (arith, h.here_is, h.few, front_few spell_keyword ks i)
 
   pub bare_same : (from ks ls : List KeywordParts) (old new newer : List Step) (i here there : ℕ) → IsBareSoFar start from ks old new i here → ls ≡ ks → newer ≡ new → there ≡ here → IsBareSoFar start from ls old newer i there
-  bare_same from ks ls old new newer i here there h a b c =
-      subst (λ n. IsBareSoFar start from ls old newer i n) (sym c) (subst (λ s. IsBareSoFar start from ls old s i here) (sym b) (subst (λ l. IsBareSoFar start from l old new i here) (sym a) h))
+  bare_same from ks ls old new newer i here there h a b c = rw (a, b, c) h
 
 -- no step of a rank below this one leads on
 record IsSettledBelow (start n : ℕ) (p : UForm) : Type 0 where
@@ -125,8 +114,8 @@ refuted start n p h step q drop_true l (s, e) = h.true_nowhere l step q.keywords
 
 -- steps of a kind on one of the lists that are added are added on the parts, where no step of a kind before it leads on
 module _ {A : Type 0} (start : ℕ) (k : UnicodeKind) (Leads : A → Step → A → Type 0) (P : A → Type 0) (g : A → UForm) where
-  lifted : ((a b : A) (step : Step) → Leads a step b → Says k start (g a) step (g b)) → ((a : A) (step : Step) (q : UForm) → Says k start (g a) step q → (b : A) × Leads a step b) → ((a b : A) (step : Step) → Leads a step b → P a → P b) → ((a : A) → P a → IsSettledBelow start (u_rank k) (g a)) → (a b : A) (old new : List Step) → P a → Adds Leads (λ _ _. 0) a b old new → P b × AddsOnUnicode start (g a) (g b) old new
-  lifted on off keeps rest =
+  lifted : ((a b : A) (step : Step) → Leads a step b → Says k start (g a) step (g b)) → ((a : A) (step : Step) (q : UForm) → Says k start (g a) step q → (b : A) × Leads a step b) → ((a b : A) (step : Step) → Leads a step b → P a → P b) → ((a : A) → P a → IsSettledBelow start (u_rank k) (g a)) → {a b : A} {old new : List Step} → P a → Adds Leads (λ _ _. 0) a b old new → P b × AddsOnUnicode start (g a) (g b) old new
+  lifted on off keeps rest {a = from} {b = to} {old = old} {new = new} first h =
       adds_lift Leads (λ _ _. 0) (UnicodeLeads start) (λ _ step. kind_rank step) P g (λ a c step p f.
       let s = on a c step f.leads in (
         keeps a c step f.leads p,
@@ -137,7 +126,7 @@ module _ {A : Type 0} (start : ℕ) (k : UnicodeKind) (Leads : A → Step → A 
               leads = led start (g a) step (g c) k s;
               leftmost = λ other q u r. let t = off a other q (as_kind start (g a) other q k r u) in leftmost_first 0 step.place other.place (f.first other t.0 t.1);
             }),
-      ))
+      )) from to old new first h
 
 -- a keyword without its types is as it did
 unlike_bare : (before : List KeywordParts) (k : KeywordParts) (after : List KeywordParts) → IsUnlike key_cmp (before ++ k ∷ after) → IsUnlike key_cmp (before ++ record k { types = [] } ∷ after)
@@ -166,29 +155,32 @@ chained : (start : ℕ) {p q r : UForm} {old new newer : List Step} → AddsOnUn
 chained start h k = adds_all (UnicodeLeads start) (λ _ step. kind_rank step) _ _ _ _ _ _ h k
 
 module _ (start : ℕ) (xs0 xs1 xs2 : List (List ℕ)) (ks0 ks1 ks2 ks3 : List KeywordParts) (s0 s1 s2 s3 s4 s5 : List Step) where
-  explained_at : AddsToRest (DropsBy text_cmp one_subtag steps.DropAttribute start) xs0 xs1 s0 s1 → AddsToRest (SwapsBy text_cmp one_subtag steps.SwapAttributes start) xs1 xs2 s1 s2 → AddsToRest (DropsBy key_cmp spell_keyword steps.DropKeyword (start + length xs2)) ks0 ks1 s2 s3 → AddsToRest (SwapsBy key_cmp spell_keyword steps.SwapKeywords (start + length xs2)) ks1 ks2 s3 s4 → AddsToRest (DropsTrueBy (start + length xs2)) ks2 ks3 s4 s5 → IsExplainedUnicode start (u_parts xs0 ks0) (u_parts xs2 ks3) s0 s5
-  explained_at a b c d e =
+  pub unicode_explained : (key : ℕ) → key ≡ start + length xs2 → AddsToRest (DropsBy text_cmp one_subtag steps.DropAttribute start) xs0 xs1 s0 s1 → AddsToRest (SwapsBy text_cmp one_subtag steps.SwapAttributes start) xs1 xs2 s1 s2 → AddsToRest (DropsBy key_cmp spell_keyword steps.DropKeyword key) ks0 ks1 s2 s3 → AddsToRest (SwapsBy key_cmp spell_keyword steps.SwapKeywords key) ks1 ks2 s3 s4 → AddsToRest (DropsTrueBy key) ks2 ks3 s4 s5 → IsExplainedUnicode start (u_parts xs0 ks0) (u_parts xs2 ks3) s0 s5
+  unicode_explained key k a b c' d' e' =
+      let c = rw k at c' in
+      let d = rw k at d' in
+      let e = rw k at e' in
       let first =
       lifted start drop_attribute (DropsBy text_cmp one_subtag steps.DropAttribute start) (λ _. Unit {0}) (λ xs. u_parts xs ks0) (λ a b step s. (s, refl)) (λ a step q s. (q.attributes, s.0))
-      (λ a b step s p. tt) (λ a p. grind arith) xs0 xs1 s0 s1 tt a.adds in
+      (λ a b step s p. tt) (λ a p. grind arith) tt a.adds in
       let second =
       lifted start swap_attributes (SwapsBy text_cmp one_subtag steps.SwapAttributes start) (IsUnlike text_cmp) (λ xs. u_parts xs ks0) (λ a b step s. (s, refl)) (λ a step q s. (q.attributes, s.0))
-      (λ a b step s p. swaps_keep_unlike text_cmp one_subtag steps.SwapAttributes start text_total a step b s p) (λ a p. grind arith) xs1 xs2 s1 s2 (unlike_at_rest text_cmp one_subtag steps.DropAttribute start xs1 a.at_rest) b.adds in
+      (λ a b step s p. swaps_keep_unlike text_total s p) (λ a p. grind arith) (unlike_at_rest a.at_rest) b.adds in
       let unlike = second.0 in
-      let rising = rising_at_rest text_cmp one_subtag steps.SwapAttributes start xs2 b.at_rest in
+      let rising = rising_at_rest b.at_rest in
       let third =
       lifted start drop_keyword (DropsBy key_cmp spell_keyword steps.DropKeyword (start + length xs2)) (λ _. Unit {0}) (u_parts xs2) (λ a b step s. (s, refl)) (λ a step q s. (q.keywords, s.0))
-      (λ a b step s p. tt) (λ a p. grind arith) ks0 ks1 s2 s3 tt c.adds in
+      (λ a b step s p. tt) (λ a p. grind arith) tt c.adds in
       let fourth =
       lifted start swap_keywords (SwapsBy key_cmp spell_keyword steps.SwapKeywords (start + length xs2)) (IsUnlike key_cmp) (u_parts xs2) (λ a b step s. (s, refl)) (λ a step q s. (q.keywords, s.0))
-      (λ a b step s p. swaps_keep_unlike key_cmp spell_keyword steps.SwapKeywords (start + length xs2) key_total a step b s p) (λ a p. grind arith) ks1 ks2 s3 s4 (unlike_at_rest key_cmp spell_keyword steps.DropKeyword (start + length xs2) ks1 c.at_rest) d.adds in
+      (λ a b step s p. swaps_keep_unlike key_total s p) (λ a p. grind arith) (unlike_at_rest c.at_rest) d.adds in
       let fifth =
       lifted start drop_true (DropsTrueBy (start + length xs2)) (λ ks. IsUnlike key_cmp ks × IsRising key_cmp ks) (u_parts xs2) (λ a b step s. (s, refl)) (λ a step q s. (q.keywords, s.0))
       (λ a b step s p.
       let l = s.leads in
       let p = subst (λ ks. IsUnlike key_cmp ks × IsRising key_cmp ks) l.drops.there p in
       subst (λ ks. IsUnlike key_cmp ks × IsRising key_cmp ks) (sym l.drops.result) (unlike_bare l.before l.keyword l.after p.0, rising_bare l.before l.keyword l.after p.1))
-      (λ a p. grind arith) ks2 ks3 s4 s5 (fourth.0, rising_at_rest key_cmp spell_keyword steps.SwapKeywords (start + length xs2) ks2 d.at_rest) e.adds in
+      (λ a p. grind arith) (fourth.0, rising_at_rest d.at_rest) e.adds in
       record {
         adds = chained start (chained start (chained start (chained start first.1 second.1) third.1) fourth.1) fifth.1;
         at_rest = λ step q l.
@@ -197,9 +189,6 @@ module _ (start : ℕ) (xs0 xs1 xs2 : List (List ℕ)) (ks0 ks1 ks2 ks3 : List K
             (record { attributes_unlike = λ _. unlike; attributes_rising = λ _. rising; keywords_unlike = λ _. fifth.0.0; keywords_rising = λ _. fifth.0.1; true_nowhere = λ _. e.at_rest })
             step q s.0 (omega (arith, in_u start (u_parts xs2 ks3) step q s.0 s.1)) s.1;
       }
-
-  pub unicode_explained : (key : ℕ) → key ≡ start + length xs2 → AddsToRest (DropsBy text_cmp one_subtag steps.DropAttribute start) xs0 xs1 s0 s1 → AddsToRest (SwapsBy text_cmp one_subtag steps.SwapAttributes start) xs1 xs2 s1 s2 → AddsToRest (DropsBy key_cmp spell_keyword steps.DropKeyword key) ks0 ks1 s2 s3 → AddsToRest (SwapsBy key_cmp spell_keyword steps.SwapKeywords key) ks1 ks2 s3 s4 → AddsToRest (DropsTrueBy key) ks2 ks3 s4 s5 → IsExplainedUnicode start (u_parts xs0 ks0) (u_parts xs2 ks3) s0 s5
-  unicode_explained key k a b c d e = explained_at a b (rw k at c) (rw k at d) (rw k at e)
 
 -- A step that is the first on the source of a t extension is the first on its parts, and so is one that is the first on
 -- its fields, where the source is at rest.
@@ -225,8 +214,8 @@ module _ (R : List EntryParts) (start : ℕ) (source : Option CoreParts) where
   transform_rests fs rest none step q l = none step q.fields (as_fields rest fs step q l)
 
   -- steps that are added on the fields are added on the parts, where the source is at rest
-  pub fields_explained : (fs gs : List FieldParts) (old new : List Step) → IsSourceAtRest R start source → Adds (SwapsBy separator_cmp spell_field steps.SwapFields (start + length (spell_source source))) (λ _ _. 0) fs gs old new → AddsOnTransform R start (t_parts source fs) (t_parts source gs) old new
-  fields_explained fs gs old new rest h =
+  pub fields_explained : {fs gs : List FieldParts} {old new : List Step} → IsSourceAtRest R start source → Adds (SwapsBy separator_cmp spell_field steps.SwapFields (start + length (spell_source source))) (λ _ _. 0) fs gs old new → AddsOnTransform R start (t_parts source fs) (t_parts source gs) old new
+  fields_explained {fs = fs} {gs = gs} {old = old} {new = new} rest h =
       (adds_lift FieldSwaps (λ _ _. 0) (TransformLeads R start) (λ _ step. kind_rank step) (λ _. Unit {0}) (t_parts source)
       (λ a b step p f.
       let d = to_swap separator_cmp steps.SwapFields spell_field (start + length (spell_source source)) a b step f.leads in (
@@ -281,8 +270,8 @@ module _ {F : Type 0} (R : List EntryParts) (k : ℕ) (Leads : F → Step → F 
         l.1,
       )
 
-pub u_explained : (R : List EntryParts) (start : ℕ) (es : List ExtensionParts) (i : ℕ) (e : ExtensionParts) (p q : UForm) (old new : List Step) → FoundAt unicode es i e → e ≡ get_or es i e → IsUnicode e.subtags p → AddsOnUnicode (start + length (spell_extensions (take i es)) + 1) p q old new → NoneLeads (UnicodeLeads (start + length (spell_extensions (take i es)) + 1) q) → ExplainsAt R unicode start es i (of_u q) old new
-u_explained R start es i e p q old new found is from a none =
+pub u_explained : (R : List EntryParts) (start : ℕ) {es : List ExtensionParts} {i : ℕ} {e : ExtensionParts} {p q : UForm} {old new : List Step} → FoundAt unicode es i e → e ≡ get_or es i e → IsUnicode e.subtags p → AddsOnUnicode (start + length (spell_extensions (take i es)) + 1) p q old new → NoneLeads (UnicodeLeads (start + length (spell_extensions (take i es)) + 1) q) → ExplainsAt R unicode start es i (of_u q) old new
+u_explained R start {es = es} {i = i} {e = e} {p = p} {q = q} {old = old} {new = new} found is from a none =
     let k : ℕ = start + length (spell_extensions (take i es)) + 1 in
     let l =
     lifted_in R k (UnicodeLeads k) of_u IsU (λ p q step i l. u_shaped p q l.0 i)
@@ -292,8 +281,8 @@ u_explained R start es i e p q old new found is from a none =
     p q e old new (λ j. record { singleton = sym found.of_singleton j; subtags = from.spelled j }) from.shaped a none in
     record { settles = record { within = found.within; from = e; there = is; of_singleton = found.of_singleton; normal = l.0 }; adds = l.1 }
 
-pub t_explained : (R : List EntryParts) → IsRegistry R → (start : ℕ) (es : List ExtensionParts) (i : ℕ) (e : ExtensionParts) (p q : TForm) (old new : List Step) → FoundAt transform es i e → e ≡ get_or es i e → IsTransform e.subtags p → AddsOnTransform R (start + length (spell_extensions (take i es)) + 1) p q old new → NoneLeads (TransformLeads R (start + length (spell_extensions (take i es)) + 1) q) → ExplainsAt R transform start es i (of_t q) old new
-t_explained R G start es i e p q old new found is from a none =
+pub t_explained : (R : List EntryParts) → IsRegistry R → (start : ℕ) {es : List ExtensionParts} {i : ℕ} {e : ExtensionParts} {p q : TForm} {old new : List Step} → FoundAt transform es i e → e ≡ get_or es i e → IsTransform e.subtags p → AddsOnTransform R (start + length (spell_extensions (take i es)) + 1) p q old new → NoneLeads (TransformLeads R (start + length (spell_extensions (take i es)) + 1) q) → ExplainsAt R transform start es i (of_t q) old new
+t_explained R G start {es = es} {i = i} {e = e} {p = p} {q = q} {old = old} {new = new} found is from a none =
     let k : ℕ = start + length (spell_extensions (take i es)) + 1 in
     let l =
     lifted_in R k (TransformLeads R k) of_t IsT (λ p q step i l. t_shaped R (step_shaped R G) p q l.0 i)
@@ -412,8 +401,8 @@ module _ (R : List EntryParts) (start : ℕ) where
       let l = as_swap singleton_cmp steps.SwapExtensions spell_extension start es gs other s x in
       inr (ap order h.leads.of_kind ∙ sym (ap order l.of_kind), leftmost_first 0 step.place other.place (h.first other gs l))
 
-  pub swapped : (es fs : List ExtensionParts) (old new : List Step) → IsKept start es → Adds (Swapping start) (λ _ _. 0) es fs old new → NoneLeads (Swapping start fs) → Swapped R start es fs old new
-  swapped es fs old new k a none =
+  pub swapped : {es fs : List ExtensionParts} {old new : List Step} → IsKept start es → Adds (Swapping start) (λ _ _. 0) es fs old new → NoneLeads (Swapping start fs) → Swapped R start es fs old new
+  swapped {es = es} {fs = fs} {old = old} {new = new} k a none =
       let lift =
       adds_lift (Swapping start) (λ _ _. 0) (ExtensionsLeads R start) (λ _ step. extension_rank step) (IsKept start) (λ l. l)
       (λ x y step k h.
@@ -425,7 +414,7 @@ module _ (R : List EntryParts) (start : ℕ) where
         },
         record { leads = (among s.0, s.1); first = none_earlier x y step h },
       )) es fs old new k a in
-      record { kept = lift.0; ordered = rising_at_rest singleton_cmp spell_extension steps.SwapExtensions start fs none; adds = lift.1 }
+      record { kept = lift.0; ordered = rising_at_rest none; adds = lift.1 }
 
 -- an extension in its place
 
@@ -478,7 +467,7 @@ pub record TPlaced (R : List EntryParts) (start : ℕ) (es fs : List ExtensionPa
 
 -- one phase after another
 
-module _ (R : List EntryParts) (start : ℕ) (es fs gs hs : List ExtensionParts) (o : Option (ℕ × ExtensionParts)) (old new newer : List Step) where
+module _ (R : List EntryParts) (start : ℕ) {es fs gs hs : List ExtensionParts} (o : Option (ℕ × ExtensionParts)) {old new : List Step} (newer : List Step) where
   pub after_u : Swapped R start es fs old new → gs ≡ fs → Explains R unicode start gs o new newer → hs ≡ placed o fs → UPlaced R start es hs old newer
   after_u m same h is =
       let x = subst (λ l. Explains R unicode start l o new newer) same h in

@@ -19,7 +19,7 @@ use Rattle.lt_rewrite.specs.Applying.{IsValueBy, CoreLeads, Answers, IsPlaceOf, 
 use Rattle.lt_rewrite.specs.declared.steps.StepKind.{StepKind}
 use Rattle.lt_rewrite.proofs.Entries.{variant_value_is}
 use Rattle.std.proofs.lemmas.List.Elements.{recursion_from_All}
-use Rattle.lt_rewrite.proofs.FirstSteps.{is_first, same_front, drop_there}
+use Rattle.lt_rewrite.proofs.FirstSteps.{is_first, StepAt, drop_there}
 use Rattle.std.proofs.lemmas.Bool.{cases_eq}
 use Rattle.lt_tag.specs.Extensions.{spell_keyword, spell_u, spell_field, spell_t, transform, unicode, IsUnicode, IsTransform}
 use Rattle.lt_tag.proofs.PartsLaws.{u_unique, t_unique}
@@ -382,19 +382,15 @@ u_answers start p step k L g rank on off a r h =
 
 -- keywords without a type true at a place
 module _ (start place : ℕ) (ks : List KeywordParts) where
-  true_place : (ls : List KeywordParts) (t : TrueLeads start place ks ls) → IsPlaceOf spell_keyword (start + 1) ks (length t.before) place
-  true_place ls t =
+  pub true_step : (ls : List KeywordParts) → TrueLeads start place ks ls → StepAt spell_keyword (start + 1) place ks (λ i. (d : KeywordParts) → (get_or ks i d).types ≡ codes "true" ∷ [])
+  true_step ls t =
       let f = ap (λ l. length (flat_map spell_keyword l)) (ap (take (length t.before)) t.drops.there ∙ take_at t.before (t.keyword ∷ t.after) (length t.before) refl) in
-      omega (arith, f, t.at)
-
-  pub true_nowhere : ((index : ℕ) → index < length ks → IsPlaceOf spell_keyword (start + 1) ks index place → ⊥) → (ls : List KeywordParts) → TrueLeads start place ks ls → ⊥
-  true_nowhere none ls t = none (length t.before) (cut_within t.before t.keyword t.after ks t.drops.there) (true_place ls t)
-
-  pub true_other : (i : ℕ) (k : KeywordParts) → i < length ks → IsPlaceOf spell_keyword (start + 1) ks i place → k ≡ get_or ks i k → (k.types ≡ codes "true" ∷ [] → ⊥) → (ls : List KeywordParts) → TrueLeads start place ks ls → ⊥
-  true_other i k h p e n ls t =
-      let same : length t.before ≡ i = same_front spell_keyword (λ k. omega arith) (length t.before) i ks (cut_within t.before t.keyword t.after ks t.drops.there) h (omega (arith, true_place ls t, p)) in
-      let is : k ≡ t.keyword = e ∙ ap (λ m. get_or ks m k) (sym same) ∙ cut_at t.before t.keyword t.after ks k t.drops.there in
-      n (ap (λ (z : KeywordParts). z.types) is ∙ t.drops.sole)
+      record {
+        index = length t.before;
+        within = cut_within t.before t.keyword t.after ks t.drops.there;
+        is_place = omega (arith, f, t.at);
+        holds = λ d. ap (λ (z : KeywordParts). z.types) (cut_at t.before t.keyword t.after ks d t.drops.there) ∙ t.drops.sole;
+      }
 
   pub true_led : (i : ℕ) (k : KeywordParts) → i < length ks → IsPlaceOf spell_keyword (start + 1) ks i place → k ≡ get_or ks i k → k.types ≡ codes "true" ∷ [] → TrueLeads start place ks (set ks i (record k { types = [] }))
   true_led i k h p e sole =
@@ -548,7 +544,7 @@ module _ (R : List EntryParts) (step other : Step) (w : SameSpot step other) whe
       let a = s.leads in
       let b = t.leads in
       let k =
-      same_flat _ some (a.before ++ a.first ∷ a.between) (b.before ++ b.first ∷ b.between) a.second b.second a.after b.after (sym (drop_there _ _ _ _ _ _ a) ∙ drop_there _ _ _ _ _ _ b)
+      same_flat _ some (a.before ++ a.first ∷ a.between) (b.before ++ b.first ∷ b.between) a.second b.second a.after b.after (sym (drop_there a) ∙ drop_there b)
       (omega (arith, w.place, a.at, b.at, flat_length spell a.before a.first a.between, flat_length spell b.before b.first b.between)) in
       record {
         number = s.unnumbered ∙ sym t.unnumbered;

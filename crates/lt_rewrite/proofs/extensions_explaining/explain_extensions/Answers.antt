@@ -1,22 +1,19 @@
-use Rattle.std.proofs.Common.{ℕ, ◌+◌, ◌≤◌, List, Option, length, sym, subst, rules}
+use Rattle.std.proofs.Common.{ℕ, ◌+◌, ◌≤◌, List, Option, length, sym, subst}
 use Rattle.std.specs.List.{AllByRecursion}
 use Rattle.lt_tag.specs.Parts.{ExtensionParts}
 use Rattle.lt_tag.specs.Spelling.{spell_extensions}
 use Rattle.lt_tag.specs.Extensions.{unicode}
 use Rattle.lt_registry.specs.Parts.{EntryParts}
 use Rattle.lt_rewrite.specs.ExtensionsExplaining.{Explains}
-use Rattle.lt_rewrite.specs.declared.steps.Step.{Step}
 use Rattle.lt_rewrite.proofs.ExtensionLaws.{settled_within}
-use Rattle.lt_rewrite.proofs.ExtensionRuns.{HasForm, IsKept, Swapped, swapped, settles_of, UPlaced, after_u, TPlaced, after_t}
+use Rattle.lt_rewrite.proofs.ExtensionRuns.{HasForm, IsKept, swapped, settles_of, after_u, after_t}
 use Rattle.lt_rewrite.proofs.extensions_explaining.explain_extensions.Goals as goal
 
 pub explained_unicode-requires : goal.explained_unicode-requires
 explained_unicode-requires g c =
     let R : List EntryParts = g.L.Lookup.listed c.args.table.now in
-    let es : List ExtensionParts = c.args.extensions.items in
-    let k : IsKept c.args.start es = record { singletons = c.requires.singletons; transforms = c.requires.transforms; few = c.requires.few } in
-    let s : Swapped R c.args.start es c.explain_swaps.new.parts.items c.args.steps.items c.explain_swaps.new.steps.items =
-    swapped R c.args.start es c.explain_swaps.new.parts.items c.args.steps.items c.explain_swaps.new.steps.items k c.in_ok-explain_swaps.ensures.adds c.in_ok-explain_swaps.ensures.at_rest in
+    let k : IsKept c.args.start c.args.extensions.items = record { singletons = c.requires.singletons; transforms = c.requires.transforms; few = c.requires.few } in
+    let s = swapped R c.args.start k c.in_ok-explain_swaps.ensures.adds c.in_ok-explain_swaps.ensures.at_rest in
     record { few = subst (λ (l : List ExtensionParts). c.args.start + length (spell_extensions l) ≤ 1100000) (sym c.deref.ensures.value) s.kept.few }
 
 pub put_back-requires : goal.put_back-requires
@@ -30,36 +27,20 @@ put_back-requires g c =
 pub explained_transform-requires : goal.explained_transform-requires
 explained_transform-requires g c =
     let R : List EntryParts = g.L.Lookup.listed c.args.table.now in
-    let start : ℕ = c.args.start in
-    let es : List ExtensionParts = c.args.extensions.items in
-    let fs : List ExtensionParts = c.explain_swaps.new.parts.items in
-    let old : List Step = c.args.steps.items in
-    let new : List Step = c.explain_swaps.new.steps.items in
-    let newer : List Step = c.explained_unicode.new.steps.items in
-    let u : Option (ℕ × ExtensionParts) = c.in_ok-unicode.unicode in
-    let k : IsKept start es = search rules in
-    let s : Swapped R start es fs old new = swapped R start es fs old new k c.in_ok-explain_swaps.ensures.adds c.in_ok-explain_swaps.ensures.at_rest in
-    let p : UPlaced R start es c.put_back.new.extensions.items old newer = after_u R start es fs c.deref.result.now c.put_back.new.extensions.items u old new newer s c.deref.ensures.value (c.in_ok-unicode.ensures R) c.put_back.ensures in
+    let k : IsKept c.args.start c.args.extensions.items = record { singletons = c.requires.singletons; transforms = c.requires.transforms; few = c.requires.few } in
+    let s = swapped R c.args.start k c.in_ok-explain_swaps.ensures.adds c.in_ok-explain_swaps.ensures.at_rest in
+    let p = after_u R c.args.start c.in_ok-unicode.unicode c.explained_unicode.new.steps.items s c.deref.ensures.value (c.in_ok-unicode.ensures R) c.put_back.ensures in
     record {
-      chains = search rules;
+      chains = c.requires.chains;
       transforms = subst (AllByRecursion HasForm) (sym c.deref-2.ensures.value) p.kept.transforms;
-      few = subst (λ (l : List ExtensionParts). start + length (spell_extensions l) ≤ 1100000) (sym c.deref-2.ensures.value) p.kept.few;
+      few = subst (λ (l : List ExtensionParts). c.args.start + length (spell_extensions l) ≤ 1100000) (sym c.deref-2.ensures.value) p.kept.few;
     }
 
 pub returns : goal.returns
 returns g c =
     let R : List EntryParts = g.L.Lookup.listed c.args.table.now in
-    let start : ℕ = c.args.start in
-    let es : List ExtensionParts = c.args.extensions.items in
-    let fs : List ExtensionParts = c.explain_swaps.new.parts.items in
-    let gs : List ExtensionParts = c.put_back.new.extensions.items in
-    let hs : List ExtensionParts = c.put_back-2.new.extensions.items in
-    let old : List Step = c.args.steps.items in
-    let new : List Step = c.explain_swaps.new.steps.items in
-    let newer : List Step = c.explained_unicode.new.steps.items in
-    let last : List Step = c.explained_transform.new.steps.items in
-    let k : IsKept start es = record { singletons = c.requires.singletons; transforms = c.requires.transforms; few = c.requires.few } in
-    let s : Swapped R start es fs old new = swapped R start es fs old new k c.in_ok-explain_swaps.ensures.adds c.in_ok-explain_swaps.ensures.at_rest in
-    let p : UPlaced R start es gs old newer = after_u R start es fs c.deref.result.now gs c.in_ok-unicode.unicode old new newer s c.deref.ensures.value (c.in_ok-unicode.ensures R) c.put_back.ensures in
-    let t : TPlaced R start es hs old last = after_t R start es gs c.deref-2.result.now hs c.in_ok-transform.transform old newer last p c.deref-2.ensures.value c.in_ok-transform.ensures c.put_back-2.ensures in
+    let k : IsKept c.args.start c.args.extensions.items = record { singletons = c.requires.singletons; transforms = c.requires.transforms; few = c.requires.few } in
+    let s = swapped R c.args.start k c.in_ok-explain_swaps.ensures.adds c.in_ok-explain_swaps.ensures.at_rest in
+    let p = after_u R c.args.start c.in_ok-unicode.unicode c.explained_unicode.new.steps.items s c.deref.ensures.value (c.in_ok-unicode.ensures R) c.put_back.ensures in
+    let t = after_t R c.args.start c.in_ok-transform.transform c.explained_transform.new.steps.items p c.deref-2.ensures.value c.in_ok-transform.ensures c.put_back-2.ensures in
     record { adds = t.adds; at_rest = t.at_rest }

@@ -1,10 +1,8 @@
-use Rattle.std.proofs.Common.{ℕ, ◌+◌, ◌≤◌, length, arith, List, refl, sym, ◌∙◌, subst}
-use Rattle.lt_tag.specs.Parts.{ExtensionParts, TForm}
+use Rattle.std.proofs.Common.{◌+◌, ◌≤◌, length, arith, refl, sym, ◌∙◌}
+use Rattle.lt_tag.specs.Parts.{ExtensionParts}
 use Rattle.lt_tag.specs.Extensions.{transform, spell_t}
 use Rattle.lt_rewrite.specs.Applying.{TransformLeads}
-use Rattle.lt_rewrite.specs.Runs.{NoneLeads, AddsOnTransform, kind_rank}
-use Rattle.lt_rewrite.specs.ExtensionsExplaining.{ExplainsAt}
-use Rattle.lt_rewrite.specs.declared.steps.Step.{Step}
+use Rattle.lt_rewrite.specs.Runs.{kind_rank}
 use Rattle.lt_rewrite.proofs.ExtensionLaws.{none_there, FoundAt, found_there, form_of_transform as transform_form, t_step_length}
 use Rattle.lt_rewrite.proofs.ExtensionRuns.{t_explained}
 use Rattle.lt_rewrite.proofs.FirstSteps.{adds_keeps}
@@ -31,16 +29,8 @@ join_t-requires-clause-few g c =
 
 pub returns : goal.returns
 returns g c =
-    let R = g.L.Lookup.listed c.args.table.now in
-    let es : List ExtensionParts = c.args.extensions.now in
-    let i : ℕ = c.in-Some.index in
     let e : ExtensionParts = c.index-extensions-index.result in
-    let p : TForm = c.in-Ok.parts in
-    let q : TForm = c.explain_t.new.parts in
-    let old : List Step = c.args.steps.now.items in
-    let new : List Step = c.explain_t.new.steps.items in
-    let found : FoundAt transform es i e = found_there es transform i e (sym c.place_of.ensures ∙ c.in-Some.is) c.index-extensions-index.is in
-    let adds = subst (λ n. AddsOnTransform R (c.args.start + n + 1) p q old new) c.subtags_before.ensures c.in_ok-explain_t.ensures.adds in
-    let none = subst (λ n. NoneLeads (TransformLeads R (c.args.start + n + 1) q)) c.subtags_before.ensures c.in_ok-explain_t.ensures.at_rest in
-    subst (λ f. ExplainsAt R transform c.args.start es i f old new) (sym c.in_ok-join_t.ensures)
-    (t_explained R c.recall_forms.ensures c.args.start es i e p q old new found c.index-extensions-index.is c.in-Ok.ensures.parts adds none)
+    let found : FoundAt transform c.args.extensions.now c.in-Some.index e = found_there c.args.extensions.now transform c.in-Some.index e (sym c.place_of.ensures ∙ c.in-Some.is) c.index-extensions-index.is in
+    let adds = rw c.subtags_before.ensures at c.in_ok-explain_t.ensures.adds in
+    let none = rw c.subtags_before.ensures at c.in_ok-explain_t.ensures.at_rest in
+    rw c.in_ok-join_t.ensures (t_explained (g.L.Lookup.listed c.args.table.now) c.recall_forms.ensures c.args.start found c.index-extensions-index.is c.in-Ok.ensures.parts adds none)

@@ -1,20 +1,22 @@
-use Rattle.std.proofs.Common.{◌<◌, ◌+◌, ℕ, [], length, set, sym, ap, ◌∙◌, subst}
+use Rattle.std.proofs.Common.{◌<◌, ◌+◌, ℕ, [], length, set, sym, ap, ◌∙◌, subst, arith}
 use Rattle.std.proofs.lemmas.List.{get_or_read}
 use Rattle.lt_tag.specs.Parts.{KeywordParts}
 use Rattle.lt_tag.specs.Extensions.{spell_keyword}
 use Rattle.lt_rewrite.specs.Applying.{IsPlaceOf, TrueLeads}
-use Rattle.lt_rewrite.proofs.TagLeading.{true_nowhere, true_other, true_led}
+use Rattle.lt_rewrite.proofs.TagLeading.{true_step, true_led}
+use Rattle.lt_rewrite.proofs.FirstSteps.{holds_at}
 use Rattle.lt_rewrite.proofs.keyword_applying.drop_true_at.Goals as goal
 
 pub returns-in_default : goal.returns-in_default
-returns-in_default c =
-    true_nowhere c.args.start c.args.place c.args.keywords.now.items
-    (subst (λ xs. (index : ℕ) → index < length xs → IsPlaceOf spell_keyword (c.args.start + 1) xs index c.args.place → ⊥) c.deref.ensures.value c.in_default.ensures)
+returns-in_default c = λ ls s.
+    let at = true_step c.args.start c.args.place c.args.keywords.now.items ls s in
+    subst (λ xs. (index : ℕ) → index < length xs → IsPlaceOf spell_keyword (c.args.start + 1) xs index c.args.place → ⊥) c.deref.ensures.value c.in_default.ensures at.index at.within at.is_place
 
 pub returns-then-not-has_sole_true : goal.returns-then-not-has_sole_true
-returns-then-not-has_sole_true c =
+returns-then-not-has_sole_true c = λ ls s.
     let at = subst (λ xs. (c.in-Some.index < length xs) × IsPlaceOf spell_keyword (c.args.start + 1) xs c.in-Some.index c.args.place) c.deref.ensures.value c.in-Some.ensures in
-    true_other c.args.start c.args.place c.args.keywords.now.items c.in-Some.index c.index.result.now at.0 at.1 c.index.ensures c.if-not-has_sole_true.ensures
+    let sole = holds_at (λ k. omega arith) (true_step c.args.start c.args.place c.args.keywords.now.items ls s) c.in-Some.index at.0 at.1 c.index.result.now in
+    c.if-not-has_sole_true.ensures (ap (λ (k : KeywordParts). k.types) c.index.ensures ∙ sole)
 
 pub returns : goal.returns
 returns c =

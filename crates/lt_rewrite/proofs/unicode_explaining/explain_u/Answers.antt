@@ -2,11 +2,8 @@ use Rattle.std.proofs.Common.{◌≡◌, ◌≤◌, ◌+◌, ℕ, List, length, 
 use Rattle.std.specs.Prelude.{flat_map}
 use Rattle.lt_tag.specs.Parts.{KeywordParts, UForm}
 use Rattle.lt_tag.specs.Extensions.{spell_keyword, spell_u, IsU}
-use Rattle.lt_rewrite.specs.Extensions.{text_cmp, key_cmp}
-use Rattle.lt_rewrite.specs.Runs.{SwapsBy, DropsBy, Adds, kind_rank}
+use Rattle.lt_rewrite.specs.Runs.{kind_rank}
 use Rattle.lt_rewrite.specs.Applying.{UnicodeLeads}
-use Rattle.lt_rewrite.specs.declared.steps.Step.{Step}
-use Rattle.lt_rewrite.specs.declared.steps.StepKind.TheVariants as steps
 use Rattle.lt_rewrite.proofs.ExtensionLaws.{attributes_count, u_shaped}
 use Rattle.lt_rewrite.proofs.FirstSteps.{drops_few, swaps_few, adds_keeps}
 use Rattle.lt_rewrite.proofs.TagLeading.{one_subtag, u_parts}
@@ -25,40 +22,19 @@ explain_drops-requires c =
 
 pub explain_swaps-requires : goal.explain_swaps-requires
 explain_swaps-requires c =
-    let dropped = drops_few text_cmp one_subtag steps.DropAttribute c.args.start c.parts.inside.attributes.items c.explain_drops.new.parts.items c.args.steps.now.items c.explain_drops.new.steps.items c.in_ok-explain_drops.ensures.adds in
-    omega (arith, all_few c.args.start c.args.parts.now c.parts.inside.attributes.items c.parts.inside.keywords.items c.parts.view_is c.requires.few, dropped)
-
--- so are those before a part of the keywords, and of these
-module _ (start : ℕ) (p : UForm) (xs0 xs1 xs2 : List (List ℕ)) (ks0 : List KeywordParts) (s0 s1 s2 : List Step) (h : u_parts xs0 ks0 ≡ p) (few : start + length (spell_u p) ≤ 1200000) (dropped : Adds (DropsBy text_cmp one_subtag steps.DropAttribute start) (λ _ _. 0) xs0 xs1 s0 s1) (swapped : Adds (SwapsBy text_cmp one_subtag steps.SwapAttributes start) (λ _ _. 0) xs1 xs2 s1 s2) (count : ℕ) (len : count ≡ length xs2) where
-  key_few : start + count + length (flat_map spell_keyword ks0) ≤ 1200000
-  key_few =
-      let n = attributes_count xs2 in
-      omega (arith, all_few start p xs0 ks0 h few, drops_few text_cmp one_subtag steps.DropAttribute start xs0 xs1 s0 s1 dropped, swaps_few text_cmp one_subtag steps.SwapAttributes start xs1 xs2 s1 s2 swapped, n, len)
-
-  key_few_dropped : (ks1 : List KeywordParts) (s3 : List Step) → Adds (DropsBy key_cmp spell_keyword steps.DropKeyword (start + count)) (λ _ _. 0) ks0 ks1 s2 s3 → start + count + length (flat_map spell_keyword ks1) ≤ 1200000
-  key_few_dropped ks1 s3 a = omega (arith, key_few, drops_few key_cmp spell_keyword steps.DropKeyword (start + count) ks0 ks1 s2 s3 a)
-
-  key_few_swapped : (ks1 ks2 : List KeywordParts) (s3 s4 : List Step) → Adds (DropsBy key_cmp spell_keyword steps.DropKeyword (start + count)) (λ _ _. 0) ks0 ks1 s2 s3 → Adds (SwapsBy key_cmp spell_keyword steps.SwapKeywords (start + count)) (λ _ _. 0) ks1 ks2 s3 s4 → start + count + length (flat_map spell_keyword ks2) ≤ 1200000
-  key_few_swapped ks1 ks2 s3 s4 a b = omega (arith, key_few_dropped ks1 s3 a, swaps_few key_cmp spell_keyword steps.SwapKeywords (start + count) ks1 ks2 s3 s4 b)
+    omega (arith, all_few c.args.start c.args.parts.now c.parts.inside.attributes.items c.parts.inside.keywords.items c.parts.view_is c.requires.few, drops_few c.in_ok-explain_drops.ensures.adds)
 
 pub explain_drops-requires-2 : goal.explain_drops-requires-2
 explain_drops-requires-2 c =
-    let few = key_few c.args.start c.args.parts.now c.parts.inside.attributes.items c.explain_drops.new.parts.items c.explain_swaps.new.parts.items c.parts.inside.keywords.items
-    c.args.steps.now.items c.explain_drops.new.steps.items c.explain_swaps.new.steps.items c.parts.view_is c.requires.few c.in_ok-explain_drops.ensures.adds c.in_ok-explain_swaps.ensures.adds c.len.result (omega (arith, c.len.ensures, c.explain_swaps.new.parts.ok.0)) in
-    omega (arith, few)
+    omega (arith, all_few c.args.start c.args.parts.now c.parts.inside.attributes.items c.parts.inside.keywords.items c.parts.view_is c.requires.few, drops_few c.in_ok-explain_drops.ensures.adds, swaps_few c.in_ok-explain_swaps.ensures.adds, attributes_count c.explain_swaps.new.parts.items, c.len.ensures, c.explain_swaps.new.parts.ok.0)
 
 pub explain_swaps-requires-2 : goal.explain_swaps-requires-2
 explain_swaps-requires-2 c =
-    let few = key_few_dropped c.args.start c.args.parts.now c.parts.inside.attributes.items c.explain_drops.new.parts.items c.explain_swaps.new.parts.items c.parts.inside.keywords.items
-    c.args.steps.now.items c.explain_drops.new.steps.items c.explain_swaps.new.steps.items c.parts.view_is c.requires.few c.in_ok-explain_drops.ensures.adds c.in_ok-explain_swaps.ensures.adds c.len.result (omega (arith, c.len.ensures, c.explain_swaps.new.parts.ok.0))
-    c.explain_drops-2.new.parts.items c.explain_drops-2.new.steps.items c.in_ok-explain_drops-2.ensures.adds in
-    omega (arith, few)
+    omega (arith, all_few c.args.start c.args.parts.now c.parts.inside.attributes.items c.parts.inside.keywords.items c.parts.view_is c.requires.few, drops_few c.in_ok-explain_drops.ensures.adds, swaps_few c.in_ok-explain_swaps.ensures.adds, attributes_count c.explain_swaps.new.parts.items, c.len.ensures, c.explain_swaps.new.parts.ok.0, drops_few c.in_ok-explain_drops-2.ensures.adds)
 
 pub drop_trues-requires : goal.drop_trues-requires
 drop_trues-requires c =
-    key_few_swapped c.args.start c.args.parts.now c.parts.inside.attributes.items c.explain_drops.new.parts.items c.explain_swaps.new.parts.items c.parts.inside.keywords.items
-    c.args.steps.now.items c.explain_drops.new.steps.items c.explain_swaps.new.steps.items c.parts.view_is c.requires.few c.in_ok-explain_drops.ensures.adds c.in_ok-explain_swaps.ensures.adds c.len.result (omega (arith, c.len.ensures, c.explain_swaps.new.parts.ok.0))
-    c.explain_drops-2.new.parts.items c.explain_swaps-2.new.parts.items c.explain_drops-2.new.steps.items c.explain_swaps-2.new.steps.items c.in_ok-explain_drops-2.ensures.adds c.in_ok-explain_swaps-2.ensures.adds
+    omega (arith, all_few c.args.start c.args.parts.now c.parts.inside.attributes.items c.parts.inside.keywords.items c.parts.view_is c.requires.few, drops_few c.in_ok-explain_drops.ensures.adds, swaps_few c.in_ok-explain_swaps.ensures.adds, attributes_count c.explain_swaps.new.parts.items, c.len.ensures, c.explain_swaps.new.parts.ok.0, drops_few c.in_ok-explain_drops-2.ensures.adds, swaps_few c.in_ok-explain_swaps-2.ensures.adds)
 
 pub returns : goal.returns
 returns c =
