@@ -90,14 +90,10 @@ IsPart (at_variant i) = ⊥
 IsPart (at_variant_language i) = ⊥
 IsPart spot = Unit {0}
 
-pub part_spot : (s t : Spot) → IsPart t → rank_of (kind_at s) ≡ rank_of (kind_at t) → s ≡ t
-part_spot at_extlang at_extlang p r = refl
-part_spot at_language at_language p r = refl
-part_spot at_script at_script p r = refl
-part_spot at_region at_region p r = refl
-part_spot s (at_variant i) p r = absurd p
-part_spot s (at_variant_language i) p r = absurd p
-part_spot s t p r = absurd (omega (arith, r))
+part_place : (c : CoreParts) (s t : Spot) → IsPart t → rank_of (kind_at s) ≡ rank_of (kind_at t) → place_at c s ≡ place_at c t
+part_place c at_extlang at_extlang p r = refl
+part_place c s at_extlang p r = omega arith
+part_place c s t p r = omega arith
 
 pub variant_spot : (s : Spot) → rank_of (kind_at s) ≡ 5 → (i : ℕ) × (s ≡ at_variant i)
 variant_spot (at_variant i) r = (i, refl)
@@ -135,10 +131,6 @@ module _ (R : List EntryParts) (start : ℕ) (c : CoreParts) (step : Step) where
 
   pub needs : (d : CoreParts) → (l : CoreLeads R start c step d) → Needs l.0.spot
   needs d l = record { subtag = l.0.subtag; there = l.0.there; value = l.0.value; has = l.0.has; number = number_at _ step l.1 }
-
-  pub needs_at : (spot : Spot) → step.kind ≡ kind_at spot → step.place ≡ start + place_at c spot → (d : CoreParts) → CoreLeads R start c step d → Needs spot
-  needs_at spot k p d l =
-      subst Needs (one_spot c l.0.spot spot (kind_of _ step l.1 ∙ k) (omega (arith, p, place_of _ step l.1))) (needs d l)
 
   -- the variant of a step of either kind that leads on
   pub record NeedsVariant (spot : ℕ → Spot) : Type 0 where
@@ -185,7 +177,7 @@ module _ (R : List EntryParts) (start : ℕ) (c : CoreParts) (step : Step) where
   -- the variant at the place of the step has no such value
   pub variant_without : step.kind ≡ steps.Variant → (i : ℕ) (v : List ℕ) → slice_get c.variants i ≡ Some v → step.place ≡ start + before_variants c + i + 1 → ((w : List ℕ) → IsValueBy R kinds.Variant v step.number w → is_short w ≡ false → ⊥) → (d : CoreParts) → CoreLeads R start c step d → ⊥
   variant_without k i v there p none d l =
-      let n = needs_at R start c step (at_variant i) k (omega (arith, p)) d l in
+      let n = subst (Needs R start c step) (one_spot c l.0.spot (at_variant i) (kind_of _ step l.1 ∙ k) (omega (arith, p, place_of _ step l.1))) (needs R start c step d l) in
       let has = variant_value_is R n.subtag n.value n.has in
       none n.value (subst (λ u. IsValueBy R kinds.Variant u step.number n.value) (same_Some n.subtag v (sym n.there ∙ there)) (record { has = has.0; by = n.number })) has.1
 
@@ -206,12 +198,6 @@ module _ (R : List EntryParts) (start : ℕ) (c : CoreParts) (step : Step) where
       let h = has_language R start c step o in
       n (omega (arith, o.place, not_before f c.variants i o.index o.needs.subtag o.needs.value t.leftmost (variant_there R start c step o) h.1, not_before f c.variants o.index i t.variant m h.0 (first_there i m t) t.has))
 
-  -- no variant has a VariantLanguage step
-  pub none_has_variant_language : kind_rank step ≡ 6 → HasNoVariantLanguage (values_of R) c → (d : CoreParts) → CoreLeads R start c step d → ⊥
-  none_has_variant_language k none d l =
-      let o = needs_variant_language R start c step k d l in
-      no_value ((values_of R).variant_language c.language) c.variants o.index o.needs.subtag o.needs.value none (variant_there R start c step o) (has_language R start c step o).1
-
 -- The leftmost step of each kind on a core, and the first of them.
 
 module _ (R : List EntryParts) (start : ℕ) (c : CoreParts) (step : Step) where
@@ -227,7 +213,7 @@ module _ (R : List EntryParts) (start : ℕ) (c : CoreParts) (step : Step) where
   pub first_part : (spot : Spot) (x v : List ℕ) → IsPart spot → step.kind ≡ kind_at spot → step.place ≡ start + place_at c spot → step.number ≡ number_of (entry R (subtag_kind_at spot) x) → subtag_at c spot ≡ Some x → value_at (values_of R) c spot x ≡ Some v → IsLeftmostOnCore R start c (rank_of (kind_at spot)) step
   first_part spot x v part k p n there has =
       first_at spot x v k p n there has (λ other b l r.
-      omega (arith, place_of _ other l.1, ap (place_at c) (part_spot l.0.spot spot part (ap rank_of (kind_of _ other l.1) ∙ r))))
+      omega (arith, place_of _ other l.1, part_place c l.0.spot spot part (ap rank_of (kind_of _ other l.1) ∙ r)))
 
   pub first_variant : (i : ℕ) (v w : List ℕ) → step.kind ≡ steps.Variant → step.place ≡ start + (before_variants c + i + 1) → step.number ≡ number_of (entry R kinds.Variant v) → slice_get c.variants i ≡ Some v → variant_value R v ≡ Some w → All (λ u. variant_value R u ≡ None) (take i c.variants) → IsLeftmostOnCore R start c 5 step
   first_variant i v w k p n there has none =
@@ -251,7 +237,9 @@ none_varies R start c none step b l r =
 
 -- no variant has a VariantLanguage step
 pub none_variant_language : (R : List EntryParts) (start : ℕ) (c : CoreParts) → HasNoVariantLanguage (values_of R) c → NoneOnCore R start c 6
-none_variant_language R start c none step b l r = none_has_variant_language R start c step r none b l
+none_variant_language R start c none step b l r =
+    let o = needs_variant_language R start c step r b l in
+    no_value ((values_of R).variant_language c.language) c.variants o.index o.needs.subtag o.needs.value none (variant_there R start c step o) (has_language R start c step o).1
 
 module _ (R : List EntryParts) (start : ℕ) (c : CoreParts) where
   -- no step of the first ranks leads on

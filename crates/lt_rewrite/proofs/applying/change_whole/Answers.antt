@@ -1,11 +1,7 @@
-use Rattle.std.proofs.Common.{sym, subst}
-use Rattle.lt_tag.specs.Parts.{TagForm}
-use Rattle.lt_rewrite.specs.Applying.{TagLeads}
 use Rattle.lt_rewrite.proofs.TagLeading.{from_whole}
 use Rattle.lt_rewrite.proofs.applying.change_whole.Goals as goal
 
 pub returns-in_ok-copy-in-Some : goal.returns-in_ok-copy-in-Some
 returns-in_ok-copy-in-Some g c =
-    let R = g.L.Lookup.listed c.args.table.now in
-    subst (λ (u : TagForm). TagLeads R c.args.tag.now c.args.step u) (sym c.in_ok-copy-in-Some.ensures)
-    (from_whole R c.args.tag.now c.args.step c.requires c.in-Some.value.now (record { place = c.if-step-ne1.false; plain = c.if-not-can_be_replaced_whole.ensures; value = c.in-Some.ensures }))
+    rw c.in_ok-copy-in-Some.ensures
+    (from_whole (g.L.Lookup.listed c.args.table.now) c.args.tag.now c.args.step c.requires c.in-Some.value.now (record { place = c.if-step-ne1.false; plain = c.if-not-can_be_replaced_whole.ensures; value = c.in-Some.ensures }))

@@ -1,6 +1,4 @@
-use Rattle.std.proofs.Common.{sym, subst, arith}
-use Rattle.lt_tag.specs.Parts.{ExtensionParts}
-use Rattle.lt_rewrite.specs.Applying.{ExtensionLeads}
+use Rattle.std.proofs.Common.{arith}
 use Rattle.lt_registry.specs.Entries.{IsRegistry}
 use Rattle.lt_rewrite.proofs.CoreLaws.{step_shaped}
 use Rattle.lt_rewrite.proofs.ExtensionLaws.{t_shaped, t_step_length}
@@ -26,5 +24,5 @@ pub returns : goal.returns
 returns g c =
     let R = g.L.Lookup.listed c.args.table.now in
     let G : IsRegistry R = record { rising = c.entries.ensures.rising; forms = c.entries.ensures.forms } in
-    subst (λ (f : ExtensionParts). ExtensionLeads R c.args.start c.args.extension.now c.args.step f) (sym c.in_ok-join_t.ensures)
+    rw c.in_ok-join_t.ensures
     (transform_changed R c.args.start c.args.extension.now c.args.step G c.in-Ok.parts c.apply_to_transform.new.parts c.requires.transform c.in-Ok.ensures.parts c.if-not-apply_to_transform.ensures)

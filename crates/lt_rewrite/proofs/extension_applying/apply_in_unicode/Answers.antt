@@ -1,6 +1,3 @@
-use Rattle.std.proofs.Common.{sym, subst}
-use Rattle.lt_tag.specs.Parts.{ExtensionParts}
-use Rattle.lt_rewrite.specs.Applying.{ExtensionLeads}
 use Rattle.lt_rewrite.proofs.ExtensionLaws.{u_shaped}
 use Rattle.lt_rewrite.proofs.TagLeading.{unicode_changed, inside_u}
 use Rattle.lt_rewrite.proofs.extension_applying.apply_in_unicode.Goals as goal
@@ -15,6 +12,6 @@ join_u-requires-clause-shaped c =
     u_shaped c.in_ok-parts.parts c.apply_to_unicode.new.parts c.if-not-apply_to_unicode.ensures.0 c.in_ok-parts.ensures.parts.shaped
 
 pub returns : goal.returns
-returns c =
-    λ R. subst (λ (f : ExtensionParts). ExtensionLeads R c.args.start c.args.extension.now c.args.step f) (sym c.in_ok-join_u.ensures)
+returns c = λ R.
+    rw c.in_ok-join_u.ensures
     (unicode_changed R c.args.start c.args.extension.now c.args.step c.in_ok-parts.parts c.apply_to_unicode.new.parts c.requires.unicode c.in_ok-parts.ensures.parts c.if-not-apply_to_unicode.ensures)

@@ -1,9 +1,9 @@
-use Rattle.std.proofs.Common.{◌+◌, length, take, sym, ap, subst, below_more, arith}
+use Rattle.std.proofs.Common.{length, ap, below_more, arith}
 use Rattle.std.proofs.lemmas.List.{get_or_read}
 use Rattle.std.proofs.lemmas.List.Folds.{length-flat_map-take}
 use Rattle.lt_tag.specs.Parts.{ExtensionParts}
-use Rattle.lt_tag.specs.Spelling.{spell_extension, spell_extensions}
-use Rattle.lt_rewrite.specs.Applying.{Changes, ExtensionLeads, LeadsAt}
+use Rattle.lt_tag.specs.Spelling.{spell_extension}
+use Rattle.lt_rewrite.specs.Applying.{LeadsAt}
 use Rattle.lt_rewrite.proofs.FirstSteps.{flat_more}
 use Rattle.lt_rewrite.proofs.extension_applying.find_change.Goals as goal
 
@@ -14,16 +14,9 @@ apply_to_extension-requires g c =
 
 pub returns-in-Some : goal.returns-in-Some
 returns-in-Some g c =
-    let R = g.L.Lookup.listed c.args.table.now in
-    let es = c.args.extensions.now in
-    let i = c.loop-index.index in
     let e : ExtensionParts = c.index-extensions-index.result in
-    let f : ExtensionParts = c.in-Some.changed in
-    let leads = subst (λ o. Changes (ExtensionLeads R c.loop-index.place e c.args.step) o) c.in-Some.is c.in_ok-changed.ensures in (
-      c.loop-index-test.true,
-      λ d. subst (λ (x : ExtensionParts). ExtensionLeads R (c.args.start + length (spell_extensions (take i es)) + 1) x c.args.step f) (get_or_read es i e c.loop-index-test.true c.index-extensions-index.is d)
-          (subst (λ n. ExtensionLeads R n e c.args.step f) c.loop-index.invariant.here leads),
-    )
+    let leads = rw (c.in-Some.is, c.loop-index.invariant.here) at c.in_ok-changed.ensures in
+    (c.loop-index-test.true, (λ d. rw (get_or_read c.args.extensions.now c.loop-index.index e c.loop-index-test.true c.index-extensions-index.is d) at leads))
 
 pub overflow_add-place-in-loop-index : goal.overflow_add-place-in-loop-index
 overflow_add-place-in-loop-index g c =
@@ -37,10 +30,8 @@ loop-index-preserved g c =
     let es = c.args.extensions.now in
     let i = c.loop-index.index in
     let e : ExtensionParts = c.index-extensions-index.result in
-    let none = subst (λ o. Changes (ExtensionLeads R c.loop-index.place e c.args.step) o) c.in_default.is c.in_ok-changed.ensures in
-    let here : (f : ExtensionParts) → LeadsAt R c.args.start es c.args.step i f → ⊥ = λ f l.
-    none f (subst (λ n. ExtensionLeads R n e c.args.step f) (sym c.loop-index.invariant.here)
-    (subst (λ (x : ExtensionParts). ExtensionLeads R (c.args.start + length (spell_extensions (take i es)) + 1) x c.args.step f) (sym c.index-extensions-index.is) (l e))) in
+    let none = rw c.in_default.is at c.in_ok-changed.ensures in
+    let here : (f : ExtensionParts) → LeadsAt R c.args.start es c.args.step i f → ⊥ = λ f l. none f (rw (← c.loop-index.invariant.here, ← c.index-extensions-index.is) at (l e)) in
     record {
       here = omega (arith, flat_more spell_extension es i e c.loop-index-test.true c.index-extensions-index.is, c.subtag_count-place.ensures, c.loop-index.invariant.here);
       elsewhere = λ k f h l. below_more (λ k. (f : ExtensionParts) → LeadsAt R c.args.start es c.args.step k f → ⊥) i (λ k h f l. c.loop-index.invariant.elsewhere k f h l) here k h f l;

@@ -1,6 +1,5 @@
-use Rattle.std.proofs.Common.{◌<◌, ◌+◌, ℕ, length, sym, ap, ◌∙◌, subst, arith}
+use Rattle.std.proofs.Common.{◌+◌, sym, ap, ◌∙◌, arith}
 use Rattle.std.proofs.lemmas.List.{get_or_read}
-use Rattle.lt_rewrite.specs.Applying.{IsPlaceOf}
 use Rattle.lt_rewrite.proofs.FirstSteps.{swap_step, swap_led, holds_at}
 use Rattle.lt_rewrite.proofs.part_applying.swap_at.Goals as goal
 
@@ -8,13 +7,13 @@ pub returns-in_default : goal.returns-in_default
 returns-in_default g c = λ ys s.
     let P = g.P.Spelled.spell in
     let at = swap_step s in
-    subst (λ xs. (index : ℕ) → index < length xs → IsPlaceOf P c.args.start xs index c.args.place → ⊥) c.deref.ensures.value c.in_default.ensures at.index at.within at.is_place
+    (rw c.deref.ensures.value at c.in_default.ensures) at.index at.within at.is_place
 
 pub returns-then-len-index : goal.returns-then-len-index
 returns-then-len-index g c = λ ys s.
     let P = g.P.Spelled.spell in
     let xs = c.args.parts.now.items in
-    let at = subst (λ xs. (c.in-Some.index < length xs) × IsPlaceOf P c.args.start xs c.in-Some.index c.args.place) c.deref.ensures.value c.in-Some.ensures in
+    let at = rw c.deref.ensures.value at c.in-Some.ensures in
     let more = (holds_at g.met.P.Spelled.some (swap_step s) c.in-Some.index at.0 at.1).0 in
     omega (arith, more, c.if-len-index.true, c.len.ensures)
 
@@ -23,7 +22,7 @@ returns-in-Less g c =
     let P = g.P.Spelled.spell in
     let xs = c.args.parts.now.items in
     let i = c.in-Some.index in
-    let at = subst (λ xs. (i < length xs) × IsPlaceOf P c.args.start xs i c.args.place) c.deref.ensures.value c.in-Some.ensures in
+    let at = rw c.deref.ensures.value at c.in-Some.ensures in
     swap_led i (omega (arith, c.if-len-index.false, c.len.ensures))
     (λ d.
     ap (g.P.Part.order _) (sym (get_or_read xs i c.index-2.result.now at.0 c.index-2.ensures d))
@@ -36,7 +35,7 @@ returns-in_default-compare g c = λ ys s.
     let xs = c.args.parts.now.items in
     let i = c.in-Some.index in
     let x = c.index-2.result.now in
-    let at = subst (λ xs. (i < length xs) × IsPlaceOf P c.args.start xs i c.args.place) c.deref.ensures.value c.in-Some.ensures in
+    let at = rw c.deref.ensures.value at c.in-Some.ensures in
     let falls = (holds_at g.met.P.Spelled.some (swap_step s) i at.0 at.1).1 in
     c.in_default-compare.not-Less
     (c.compare.ensures ∙ ap (λ y. g.P.Part.order y x) (get_or_read xs (i + 1) c.index.result.now (omega (arith, c.if-len-index.false, c.len.ensures)) c.index.ensures x) ∙ ap (g.P.Part.order _) c.index-2.ensures ∙ falls x)

@@ -41,9 +41,7 @@ returns c =
     let q : UForm = u_parts c.explain_swaps.new.parts.items c.drop_trues.new.keywords.items in
     let explained : IsExplainedUnicode c.args.start c.args.parts.now q c.args.steps.now.items c.drop_trues.new.steps.items =
     subst (λ (p : UForm). IsExplainedUnicode c.args.start p q c.args.steps.now.items c.drop_trues.new.steps.items) c.parts.view_is
-    (unicode_explained c.args.start c.parts.inside.attributes.items c.explain_drops.new.parts.items c.explain_swaps.new.parts.items c.parts.inside.keywords.items c.explain_drops-2.new.parts.items c.explain_swaps-2.new.parts.items c.drop_trues.new.keywords.items
-    c.args.steps.now.items c.explain_drops.new.steps.items c.explain_swaps.new.steps.items c.explain_drops-2.new.steps.items c.explain_swaps-2.new.steps.items c.drop_trues.new.steps.items
-    (c.args.start + c.len.result) (omega (arith, c.len.ensures, c.explain_swaps.new.parts.ok.0))
+    (unicode_explained c.args.start (c.args.start + c.len.result) (omega (arith, c.len.ensures, c.explain_swaps.new.parts.ok.0))
     (record { adds = c.in_ok-explain_drops.ensures.adds; at_rest = c.in_ok-explain_drops.ensures.at_rest })
     (record { adds = c.in_ok-explain_swaps.ensures.adds; at_rest = c.in_ok-explain_swaps.ensures.at_rest })
     (record { adds = c.in_ok-explain_drops-2.ensures.adds; at_rest = c.in_ok-explain_drops-2.ensures.at_rest })
@@ -52,5 +50,5 @@ returns c =
     record {
       adds = explained.adds;
       at_rest = explained.at_rest;
-      shaped = adds_keeps (UnicodeLeads c.args.start) (λ _ step. kind_rank step) IsU (λ a b step l i. u_shaped a b l.0 i) c.args.parts.now q c.args.steps.now.items c.drop_trues.new.steps.items explained.adds;
+      shaped = adds_keeps (UnicodeLeads c.args.start) (λ _ step. kind_rank step) IsU (λ a b step l i. u_shaped a b l.0 i) _ _ _ _ explained.adds;
     }
