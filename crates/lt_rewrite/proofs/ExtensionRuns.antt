@@ -8,7 +8,7 @@ use Rattle.lt_rewrite.specs.Applying.{UnicodeLeads, CoreLeads, TransformLeads, E
 use Rattle.lt_rewrite.specs.Runs.{NoneLeads, DropsTrueBy, Adds, rank_of, kind_rank, IsFirst, SwapsBy, DropsBy, AddsOnUnicode, IsNoLater, AddsOnCore, AddsOnTransform, extension_rank, IsRun, AddsOnExtensions}
 use Rattle.lt_rewrite.specs.declared.steps.Step.{Step}
 use Rattle.lt_rewrite.proofs.PartLists.{spelled_replaced, round, all_middle, all_replaced, others_same, distinct_cut, all_swapped, all_step, all_both, spelled_step}
-use Rattle.lt_rewrite.proofs.FirstSteps.{no_further, front_few, flat_more, leftmost_first, IsUnlike, IsRising, unlike_drops, rising_swaps, adds_lift, unlike_at_rest, rising_at_rest, swaps_keep_unlike, adds_none, adds_more, is_first, adds_all}
+use Rattle.lt_rewrite.proofs.FirstSteps.{no_further, front_few, flat_more, IsUnlike, IsRising, unlike_drops, rising_swaps, adds_lift, unlike_at_rest, rising_at_rest, swaps_keep_unlike, adds_none, adds_more, is_first, adds_all}
 use Rattle.lt_rewrite.proofs.TagLeading.{one_subtag, u_parts, UnicodeKind, drop_attribute, swap_attributes, drop_keyword, swap_keywords, drop_true, u_rank, Says, said, led, in_u, u_ranks, as_kind, in_t, order, true_step, true_led, to_swap, as_swap, of_u, of_t, unicode_changed, transform_changed, inside_u, inside_t, told, moved, core_rank}
 use Rattle.std.proofs.lemmas.Bool.{cases_eq}
 use Rattle.std.proofs.lemmas.Option.{same_Some}
@@ -52,7 +52,7 @@ pub record IsBareSoFar (start : ℕ) (from ks : List KeywordParts) (old new : Li
   pub adds : Adds (DropsTrueBy start) (λ _ _. 0) from ks old new
 
 module _ (start : ℕ) where
-  module _ (from ks : List KeywordParts) (old new : List Step) (i here : ℕ) (h : IsBareSoFar start from ks old new i here) (k : KeywordParts) (within : i < length ks) (is : k ≡ get_or ks i k) where
+  module _ {from ks : List KeywordParts} {old new : List Step} {i here : ℕ} (h : IsBareSoFar start from ks old new i here) (k : KeywordParts) (within : i < length ks) (is : k ≡ get_or ks i k) where
     -- it stays as it is
     pub bare_kept : (IsSoleTrue k → ⊥) → IsBareSoFar start from ks old new (i + 1) (here + length (spell_keyword k))
     bare_kept n = record {
@@ -64,8 +64,8 @@ module _ (start : ℕ) where
     }
 
     -- it loses its type
-    pub bare_more : (step : Step) (newer : List Step) → IsSoleTrue k → step.kind ≡ steps.DropTrue → step.place ≡ here + 1 → step.number ≡ 0 → newer ≡ new ++ step ∷ [] → IsBareSoFar start from (set ks i (bare k)) old newer (i + 1) (here + length (spell_keyword (bare k)))
-    bare_more step newer sole kind place number e =
+    pub bare_more : (step : Step) {newer : List Step} → IsSoleTrue k → step.kind ≡ steps.DropTrue → step.place ≡ here + 1 → step.number ≡ 0 → newer ≡ new ++ step ∷ [] → IsBareSoFar start from (set ks i (bare k)) old newer (i + 1) (here + length (spell_keyword (bare k)))
+    bare_more step {newer = newer} sole kind place number e =
         let less : i < length (set ks i (bare k)) = omega (arith, within, length-set ks i (bare k)) in
         let front = ap (λ l. length (flat_map spell_keyword l)) (take-set ks i (bare k)) in
         let fewer = spelled_replaced spell_keyword (take i ks) k (bare k) (drop (suc i) ks) (omega arith) in
@@ -85,17 +85,14 @@ module _ (start : ℕ) where
         }
 
   -- none is left
-  pub bare_all : (from ks : List KeywordParts) (old new : List Step) (i here : ℕ) → IsBareSoFar start from ks old new i here → length ks ≤ i → NoneLeads (DropsTrueBy start ks)
-  bare_all from ks old new i here h all step ls s =
+  pub bare_all : {from ks : List KeywordParts} {old new : List Step} {i here : ℕ} → IsBareSoFar start from ks old new i here → length ks ≤ i → NoneLeads (DropsTrueBy start ks)
+  bare_all {ks = ks} h all step ls s =
       let t = true_step start step.place ks ls s.leads in
       h.none t.index (omega (arith, t.within, all)) t.holds
 
   -- no more subtags are passed than there are
-  pub bare_few : (from ks : List KeywordParts) (old new : List Step) (i here : ℕ) → IsBareSoFar start from ks old new i here → here ≤ start + length (flat_map spell_keyword from) + 1
-  bare_few from ks old new i here h = omega (arith, h.here_is, h.few, front_few spell_keyword ks i)
-
-  pub bare_same : (from ks ls : List KeywordParts) (old new newer : List Step) (i here there : ℕ) → IsBareSoFar start from ks old new i here → ls ≡ ks → newer ≡ new → there ≡ here → IsBareSoFar start from ls old newer i there
-  bare_same from ks ls old new newer i here there h a b c = rw (a, b, c) h
+  pub bare_few : {from ks : List KeywordParts} {old new : List Step} {i here : ℕ} → IsBareSoFar start from ks old new i here → here ≤ start + length (flat_map spell_keyword from) + 1
+  bare_few {ks = ks} {i = i} h = omega (arith, h.here_is, h.few, front_few spell_keyword ks i)
 
 -- no step of a rank below this one leads on
 record IsSettledBelow (start n : ℕ) (p : UForm) : Type 0 where
@@ -124,7 +121,7 @@ module _ {A : Type 0} (start : ℕ) (k : UnicodeKind) (Leads : A → Step → A 
               of_rank = (in_u start (g a) step (g c) k s).0;
               to = g c;
               leads = led start (g a) step (g c) k s;
-              leftmost = λ other q u r. let t = off a other q (as_kind start (g a) other q k r u) in leftmost_first 0 step.place other.place (f.first other t.0 t.1);
+              leftmost = λ other q u r. let t = off a other q (as_kind start (g a) other q k r u) in omega (arith, f.first other t.0 t.1);
             }),
       )) from to old new first h
 
@@ -224,7 +221,7 @@ module _ (R : List EntryParts) (start : ℕ) (source : Option CoreParts) where
           leads = (on_fields refl d.0, d.1);
           first = λ other q m.
               let s = as_fields rest a other q m in
-              inr (ap rank_of f.leads.of_kind ∙ sym (ap rank_of s.of_kind), leftmost_first 0 step.place other.place (f.first other q.fields s));
+              inr (ap rank_of f.leads.of_kind ∙ sym (ap rank_of s.of_kind), omega (arith, f.first other q.fields s));
         },
       )) fs gs old new tt h).1
 
@@ -399,7 +396,7 @@ module _ (R : List EntryParts) (start : ℕ) where
       inl (omega (arith, ap order h.leads.of_kind, told R (start + length (spell_extensions before) + 1) e other f (s, x)))
   none_earlier es fs step h other gs (among s, x) =
       let l = as_swap singleton_cmp steps.SwapExtensions spell_extension start es gs other s x in
-      inr (ap order h.leads.of_kind ∙ sym (ap order l.of_kind), leftmost_first 0 step.place other.place (h.first other gs l))
+      inr (ap order h.leads.of_kind ∙ sym (ap order l.of_kind), omega (arith, h.first other gs l))
 
   pub swapped : {es fs : List ExtensionParts} {old new : List Step} → IsKept start es → Adds (Swapping start) (λ _ _. 0) es fs old new → NoneLeads (Swapping start fs) → Swapped R start es fs old new
   swapped {es = es} {fs = fs} {old = old} {new = new} k a none =
@@ -443,10 +440,6 @@ adds_placed R start n most own es (Some p) old new h d r b =
     (subst (λ l. AddsOnExtensions R start (take i es ++ e ∷ drop (suc i) es) l old new) (sym (set_split es i p.1 h.settles.within))
     (adds_among R start n most own (take i es) (drop (suc i) es) e p.1 old new leading h.adds))
 
-all_any : {A : Type 0} (P : A → Type 0) → ((a : A) → P a) → (xs : List A) → AllByRecursion P xs
-all_any P f [] = tt
-all_any P f (x ∷ xs) = (f x, all_any P f xs)
-
 few_step : (R : List EntryParts) (es fs : List ExtensionParts) → ExtensionsStep R es fs → length (spell_extensions fs) ≤ length (spell_extensions es)
 few_step R es fs (inside before e f after w s) =
     let l = spelled_replaced spell_extension before e f after (omega (arith, extension_step_length R e f s)) in
@@ -459,11 +452,6 @@ pub record UPlaced (R : List EntryParts) (start : ℕ) (es fs : List ExtensionPa
   pub ordered : IsRising singleton_cmp fs
   pub u_rests : AllByRecursion (λ x. x.singleton ≡ unicode → Rests (ExtensionStep R) x) fs
   pub adds : AddsOnExtensions R start es fs old new
-
--- the steps in t, where those in u are at rest too
-pub record TPlaced (R : List EntryParts) (start : ℕ) (es fs : List ExtensionParts) (old new : List Step) : Type 0 where
-  pub adds : AddsOnExtensions R start es fs old new
-  pub at_rest : NoneLeads (ExtensionsLeads R start fs)
 
 -- one phase after another
 
@@ -485,10 +473,10 @@ module _ (R : List EntryParts) (start : ℕ) {es fs gs hs : List ExtensionParts}
         adds =
             adds_all (ExtensionsLeads R start) (λ _ step. extension_rank step) es fs (placed o fs) old new newer m.adds
             (adds_placed R start unicode 13 (λ k e step f l h. omega (arith, told R k e step f l, h)) fs o new newer x k.singletons m.ordered
-            (all_any (λ x. x.singleton ≢ unicode → IsBehind R 13 x) (λ e ne k step f l. omega (arith, told R k e step f l, ne)) fs));
+            (all_both HasForm HasForm (λ x. x.singleton ≢ unicode → IsBehind R 13 x) (λ e _ _ ne k step f l. omega (arith, told R k e step f l, ne)) fs k.transforms k.transforms));
       })
 
-  pub after_t : UPlaced R start es fs old new → gs ≡ fs → Explains R transform start gs o new newer → hs ≡ placed o fs → TPlaced R start es hs old newer
+  pub after_t : UPlaced R start es fs old new → gs ≡ fs → Explains R transform start gs o new newer → hs ≡ placed o fs → AddsOnExtensions R start es hs old newer × NoneLeads (ExtensionsLeads R start hs)
   after_t m same h is =
       let x = subst (λ l. Explains R transform start l o new newer) same h in
       let s = settles_of R transform start fs o new newer x in
@@ -498,14 +486,12 @@ module _ (R : List EntryParts) (start : ℕ) {es fs gs hs : List ExtensionParts}
       all_both U (λ (x : ExtensionParts). x.singleton ≡ transform → Rests (ExtensionStep R) x) (Rests (ExtensionStep R)) (each_rests R) (placed o fs)
       (placed_keeps R U transform fs o s (λ x q t. absurd (omega (arith, q, t))) m.u_rests)
       (placed_rests R transform fs o s k.singletons) in
-      subst (λ l. TPlaced R start es l old newer) (sym is)
-      (record {
-        adds =
-            adds_all (ExtensionsLeads R start) (λ _ step. extension_rank step) es fs (placed o fs) old new newer m.adds
+      subst (λ l. AddsOnExtensions R start es l old newer × NoneLeads (ExtensionsLeads R start l)) (sym is) (
+        adds_all (ExtensionsLeads R start) (λ _ step. extension_rank step) es fs (placed o fs) old new newer m.adds
             (adds_placed R start transform 20 (λ k e step f l h. omega (arith, told R k e step f l, h)) fs o new newer x k.singletons m.ordered
-            (all_both U U (λ x. x.singleton ≢ transform → IsBehind R 20 x) (λ x a _ ne. behind_t x a ne) fs m.u_rests m.u_rests));
-        at_rest = λ step gs l. none all_rest (rising_same fs (placed o fs) (placed_singletons R transform fs o s) m.ordered) gs l.0;
-      })
+            (all_both U U (λ x. x.singleton ≢ transform → IsBehind R 20 x) (λ x a _ ne. behind_t x a ne) fs m.u_rests m.u_rests)),
+        λ step gs l. none all_rest (rising_same fs (placed o fs) (placed_singletons R transform fs o s) m.ordered) gs l.0,
+      )
     where
       behind_t : (e : ExtensionParts) → (e.singleton ≡ unicode → Rests (ExtensionStep R) e) → e.singleton ≢ transform → IsBehind R 20 e
       behind_t e u ne k step f (in_unicode p q is_u kept from to s, h) = absurd (u is_u f (in_unicode p q is_u kept from to s))

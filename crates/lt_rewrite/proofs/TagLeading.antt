@@ -25,10 +25,10 @@ use Rattle.lt_tag.specs.Extensions.{spell_keyword, spell_u, spell_field, spell_t
 use Rattle.lt_tag.proofs.PartsLaws.{u_unique, t_unique}
 use Rattle.lt_registry.specs.Validity.{Distinct, IsProperLangTag, HasProperParts, IsProper}
 use Rattle.lt_rewrite.specs.Orderings.{ListStep, by_swap, by_drop}
-use Rattle.lt_rewrite.specs.Extensions.{text_cmp, key_cmp, separator_cmp, singleton_cmp, UnicodeStep, on_attributes, on_keywords, on_types, on_source, on_fields, in_unicode, in_transform, ExtensionsStep, inside, among}
+use Rattle.lt_rewrite.specs.Extensions.{text_cmp, key_cmp, separator_cmp, singleton_cmp, UnicodeStep, on_attributes, on_keywords, on_types, on_source, on_fields, in_unicode, in_transform, inside, among}
 use Rattle.lt_rewrite.specs.TagSteps.{on_core, on_extensions, on_whole, CanBeReplacedWhole}
 use Rattle.lt_rewrite.specs.Laws.{StepsAreDetermined}
-use Rattle.lt_rewrite.proofs.PartLists.{SameCut, same_flat, flat_length, distinct_cut, cut_at, cut_within, round, length_step, length_replaced}
+use Rattle.lt_rewrite.proofs.PartLists.{SameCut, same_flat, flat_length, distinct_cut, cut_at, cut_within, round}
 use Rattle.lt_tag.specs.Splitting.{spell_source}
 use Rattle.lt_rewrite.proofs.ExtensionLaws.{t_shaped, u_shaped}
 use Rattle.lt_tag.specs.Values.{IsTagValue, FitsCounts, core_of, extensions_of, private_of}
@@ -106,15 +106,6 @@ variant_language_spot s r = absurd (omega (arith, r))
 pub same_step : (kind : StepKind) (place number : ℕ) (step : Step) → step.kind ≡ kind → step.place ≡ place → step.number ≡ number → step_at kind place number ≡ step
 same_step kind place number step k p n = λ i. record { kind = (sym k) i; place = (sym p) i; number = (sym n) i }
 
-pub kind_of : (a b : Step) → a ≡ b → a.kind ≡ b.kind
-kind_of a b h = ap (λ (x : Step). x.kind) h
-
-pub place_of : (a b : Step) → a ≡ b → b.place ≡ a.place
-place_of a b h = ap (λ (x : Step). x.place) (sym h)
-
-pub number_at : (a b : Step) → a ≡ b → a.number ≡ b.number
-number_at a b h = ap (λ (x : Step). x.number) h
-
 module _ (R : List EntryParts) (start : ℕ) (c : CoreParts) (step : Step) where
   -- the step of a spot's kind, at its place, by the record of its subtag
   pub leads_at : (spot : Spot) (x v : List ℕ) → step.kind ≡ kind_at spot → step.place ≡ start + place_at c spot → step.number ≡ number_of (entry R (subtag_kind_at spot) x) → subtag_at c spot ≡ Some x → value_at (values_of R) c spot x ≡ Some v → CoreLeads R start c step (replaced c spot v)
@@ -130,7 +121,7 @@ module _ (R : List EntryParts) (start : ℕ) (c : CoreParts) (step : Step) where
     pub number : number_of (entry R (subtag_kind_at spot) subtag) ≡ step.number
 
   pub needs : (d : CoreParts) → (l : CoreLeads R start c step d) → Needs l.0.spot
-  needs d l = record { subtag = l.0.subtag; there = l.0.there; value = l.0.value; has = l.0.has; number = number_at _ step l.1 }
+  needs d l = record { subtag = l.0.subtag; there = l.0.there; value = l.0.value; has = l.0.has; number = ap (λ (x : Step). x.number) l.1 }
 
   -- the variant of a step of either kind that leads on
   pub record NeedsVariant (spot : ℕ → Spot) : Type 0 where
@@ -141,12 +132,12 @@ module _ (R : List EntryParts) (start : ℕ) (c : CoreParts) (step : Step) where
   pub needs_variant : kind_rank step ≡ 5 → (d : CoreParts) → CoreLeads R start c step d → NeedsVariant at_variant
   needs_variant k d l =
       let s = variant_spot l.0.spot (ap kind_rank l.1 ∙ k) in
-      record { index = s.0; needs = subst Needs s.1 (needs d l); place = omega (arith, place_of _ step l.1, ap (place_at c) s.1) }
+      record { index = s.0; needs = subst Needs s.1 (needs d l); place = omega (arith, ap (λ (x : Step). x.place) l.1, ap (place_at c) s.1) }
 
   pub needs_variant_language : kind_rank step ≡ 6 → (d : CoreParts) → CoreLeads R start c step d → NeedsVariant at_variant_language
   needs_variant_language k d l =
       let s = variant_language_spot l.0.spot (ap kind_rank l.1 ∙ k) in
-      record { index = s.0; needs = subst Needs s.1 (needs d l); place = omega (arith, place_of _ step l.1, ap (place_at c) s.1) }
+      record { index = s.0; needs = subst Needs s.1 (needs d l); place = omega (arith, ap (λ (x : Step). x.place) l.1, ap (place_at c) s.1) }
 
   -- the variant of a VariantLanguage step has a language, and none before it has one
   pub has_language : (n : NeedsVariant at_variant_language) → AllByRecursion (λ u. (values_of R).variant_language c.language u ≡ None) (take n.index c.variants) × ((values_of R).variant_language c.language n.needs.subtag ≡ Some n.needs.value)
@@ -177,7 +168,7 @@ module _ (R : List EntryParts) (start : ℕ) (c : CoreParts) (step : Step) where
   -- the variant at the place of the step has no such value
   pub variant_without : step.kind ≡ steps.Variant → (i : ℕ) (v : List ℕ) → slice_get c.variants i ≡ Some v → step.place ≡ start + before_variants c + i + 1 → ((w : List ℕ) → IsValueBy R kinds.Variant v step.number w → is_short w ≡ false → ⊥) → (d : CoreParts) → CoreLeads R start c step d → ⊥
   variant_without k i v there p none d l =
-      let n = subst (Needs R start c step) (one_spot c l.0.spot (at_variant i) (kind_of _ step l.1 ∙ k) (omega (arith, p, place_of _ step l.1))) (needs R start c step d l) in
+      let n = subst (Needs R start c step) (one_spot c l.0.spot (at_variant i) (ap (λ (x : Step). x.kind) l.1 ∙ k) (omega (arith, p, ap (λ (x : Step). x.place) l.1))) (needs R start c step d l) in
       let has = variant_value_is R n.subtag n.value n.has in
       none n.value (subst (λ u. IsValueBy R kinds.Variant u step.number n.value) (same_Some n.subtag v (sym n.there ∙ there)) (record { has = has.0; by = n.number })) has.1
 
@@ -213,7 +204,7 @@ module _ (R : List EntryParts) (start : ℕ) (c : CoreParts) (step : Step) where
   pub first_part : (spot : Spot) (x v : List ℕ) → IsPart spot → step.kind ≡ kind_at spot → step.place ≡ start + place_at c spot → step.number ≡ number_of (entry R (subtag_kind_at spot) x) → subtag_at c spot ≡ Some x → value_at (values_of R) c spot x ≡ Some v → IsLeftmostOnCore R start c (rank_of (kind_at spot)) step
   first_part spot x v part k p n there has =
       first_at spot x v k p n there has (λ other b l r.
-      omega (arith, place_of _ other l.1, part_place c l.0.spot spot part (ap rank_of (kind_of _ other l.1) ∙ r)))
+      omega (arith, ap (λ (x : Step). x.place) l.1, part_place c l.0.spot spot part (ap rank_of (ap (λ (x : Step). x.kind) l.1) ∙ r)))
 
   pub first_variant : (i : ℕ) (v w : List ℕ) → step.kind ≡ steps.Variant → step.place ≡ start + (before_variants c + i + 1) → step.number ≡ number_of (entry R kinds.Variant v) → slice_get c.variants i ≡ Some v → variant_value R v ≡ Some w → All (λ u. variant_value R u ≡ None) (take i c.variants) → IsLeftmostOnCore R start c 5 step
   first_variant i v w k p n there has none =
@@ -406,7 +397,7 @@ module _ (R : List EntryParts) (start : ℕ) (p : TForm) (step : Step) (q : TFor
   no_source k e (on_fields f s, h) = k (as_swap separator_cmp steps.SwapFields spell_field _ p.fields q.fields step s h).of_kind
 
   pub in_t : TransformLeads R start p step q → (start < step.place) × RanksT step
-  in_t (on_source c d _ _ s _, h) = (omega (arith, core_low R start c d s, place_of _ step h), inl (omega (arith, core_rank R start c d s, ap kind_rank h, ap extension_rank h)))
+  in_t (on_source c d _ _ s _, h) = (omega (arith, core_low R start c d s, ap (λ (x : Step). x.place) h), inl (omega (arith, core_rank R start c d s, ap kind_rank h, ap extension_rank h)))
   in_t (on_fields e s, h) =
       let a = as_swap separator_cmp steps.SwapFields spell_field (start + length (spell_source p.source)) p.fields q.fields step s h in
       (omega (arith, a.leads.at), inr (ap rank_of a.of_kind, ap order a.of_kind))
@@ -512,11 +503,11 @@ record SameEnd {A : Type 0} (step other : Step) (a b : A) : Type 0 where
 module _ (R : List EntryParts) (step other : Step) (w : SameSpot step other) where
   core_end : (start : ℕ) (c d e : CoreParts) → CoreLeads R start c step d → CoreLeads R start c other e → SameEnd step other d e
   core_end start c d e (s, h) (u, k) =
-      let m : s.spot ≡ u.spot = one_spot c s.spot u.spot (kind_of _ step h ∙ w.kind ∙ sym (kind_of _ other k)) (omega (arith, w.place, place_of _ step h, place_of _ other k)) in
+      let m : s.spot ≡ u.spot = one_spot c s.spot u.spot (ap (λ (x : Step). x.kind) h ∙ w.kind ∙ sym (ap (λ (x : Step). x.kind) k)) (omega (arith, w.place, ap (λ (x : Step). x.place) h, ap (λ (x : Step). x.place) k)) in
       let a : s.subtag ≡ u.subtag = same_Some s.subtag u.subtag (sym s.there ∙ ap (subtag_at c) m ∙ u.there) in
       let b : s.value ≡ u.value = same_Some s.value u.value (sym s.has ∙ (λ i. value_at (values_of R) c (m i) (a i)) ∙ u.has) in
       record {
-        number = sym (number_at _ step h) ∙ (λ i. number_of (entry R (subtag_kind_at (m i)) (a i))) ∙ number_at _ other k;
+        number = sym (ap (λ (x : Step). x.number) h) ∙ (λ i. number_of (entry R (subtag_kind_at (m i)) (a i))) ∙ ap (λ (x : Step). x.number) k;
         result = s.result ∙ (λ i. replaced c (m i) (b i)) ∙ sym u.result;
       }
 
@@ -619,17 +610,17 @@ module _ (R : List EntryParts) (step other : Step) (w : SameSpot step other) whe
       extensions_end (length (spell_core c)) es fs fs' L.singletons (s, h)
       (subst (λ x. ExtensionsLeads R (length (spell_core x)) es other fs') same (subst (λ x. ExtensionsLeads R (length (spell_core c')) x other fs') kept (r, k))) in
       record { number = n.number; result = cc }
-  tag_end t u v P (on_whole _ has, h) (on_whole _ valued, k) = record { number = sym (number_at _ step h) ∙ number_at _ other k; result = same_Some u v (sym has ∙ valued) }
+  tag_end t u v P (on_whole _ has, h) (on_whole _ valued, k) = record { number = sym (ap (λ (x : Step). x.number) h) ∙ ap (λ (x : Step). x.number) k; result = same_Some u v (sym has ∙ valued) }
   tag_end t u v P (on_core c d _ _ _ _ s, h) (on_whole _ _, k) = absurd (omega (arith, core_rank R 0 c d s, ap kind_rank h, ap kind_rank k, ap rank_of w.kind))
   tag_end t u v P (on_whole _ _, h) (on_core c d _ _ _ _ s, k) = absurd (omega (arith, core_rank R 0 c d s, ap kind_rank h, ap kind_rank k, ap rank_of w.kind))
   tag_end t u v P (on_extensions c es fs _ _ _ s, h) (on_whole _ _, k) = absurd (omega (arith, behind R (length (spell_core c)) es step fs (s, h), ap kind_rank k, ap rank_of w.kind))
   tag_end t u v P (on_whole _ _, h) (on_extensions c es fs _ _ _ s, k) = absurd (omega (arith, behind R (length (spell_core c)) es other fs (s, k), ap kind_rank h, ap rank_of w.kind))
   tag_end t u v P (on_core c d es ps from _ s, h) (on_extensions c' es' fs ps' begins _ r, k) =
       let same : length (spell_core c) ≡ length (spell_core c') = cc in
-      absurd (omega (arith, same, core_high R 0 c d s, place_of _ step h, behind R (length (spell_core c')) es' other fs (r, k), w.place))
+      absurd (omega (arith, same, core_high R 0 c d s, ap (λ (x : Step). x.place) h, behind R (length (spell_core c')) es' other fs (r, k), w.place))
   tag_end t u v P (on_extensions c' es' fs ps' begins _ r, k) (on_core c d es ps from _ s, h) =
       let same : length (spell_core c) ≡ length (spell_core c') = cc in
-      absurd (omega (arith, same, core_high R 0 c d s, place_of _ other h, behind R (length (spell_core c')) es' step fs (r, k), w.place))
+      absurd (omega (arith, same, core_high R 0 c d s, ap (λ (x : Step). x.place) h, behind R (length (spell_core c')) es' step fs (r, k), w.place))
 
 pub steps_determined : (R : List EntryParts) → StepsAreDetermined R
 steps_determined R t u v step other a b k p =
@@ -652,11 +643,6 @@ pub fits : (t : TagForm) → FitsCounts t → (length (extensions_of t) ≤ 1024
 fits (LangTag c es ps) h = (h.1, h.2)
 fits s h = (omega arith, tt)
 
--- a step makes the extensions no more
-no_more : (R : List EntryParts) (es fs : List ExtensionParts) → ExtensionsStep R es fs → length fs ≤ length es
-no_more R es fs (inside before e f after w s) = omega (arith, ap length w.there, ap length w.result, length_replaced before e f after)
-no_more R es fs (among s) = length_step es fs s
-
 module _ (R : List EntryParts) (t : TagForm) (step : Step) where
   pub core_changed : (c d : CoreParts) → core_of t ≡ Some c → CoreLeads R 0 c step d → TagLeads R t step (LangTag d (extensions_of t) (private_of t))
   core_changed c d h l = (on_core c d (extensions_of t) (private_of t) (langtag_is t c h) refl l.0, l.1)
@@ -664,15 +650,12 @@ module _ (R : List EntryParts) (t : TagForm) (step : Step) where
   pub extensions_changed : (c : CoreParts) (fs : List ExtensionParts) → core_of t ≡ Some c → ExtensionsLeads R (length (spell_core c)) (extensions_of t) step fs → TagLeads R t step (LangTag c fs (private_of t))
   extensions_changed c fs h l = (on_extensions c (extensions_of t) fs (private_of t) (langtag_is t c h) refl l.0, l.1)
 
-  pub extensions_few : (start : ℕ) (es fs : List ExtensionParts) → length es ≤ longest_text → ExtensionsLeads R start es step fs → length fs ≤ longest_text
-  extensions_few start es fs h l = let n = no_more R es fs l.0 in omega (arith, n, h)
-
   pub kept : (c : CoreParts) → core_of t ≡ Some c → step.kind ≢ steps.Whole → ((d : CoreParts) → CoreLeads R 0 c step d → ⊥) → ((fs : List ExtensionParts) → ExtensionsLeads R (length (spell_core c)) (extensions_of t) step fs → ⊥) → (u : TagForm) → TagLeads R t step u → ⊥
   kept c e k none nowhere u (on_core b d es ps from _ s, h) =
       none d (subst (λ x. CoreLeads R 0 x step d) (same_Some b c (sym (ap core_of from) ∙ e)) (s, h))
   kept c e k none nowhere u (on_extensions b es fs ps from _ s, h) =
       nowhere fs (subst (λ x. ExtensionsLeads R (length (spell_core x)) (extensions_of t) step fs) (same_Some b c (sym (ap core_of from) ∙ e)) (subst (λ x. ExtensionsLeads R (length (spell_core b)) x step fs) (sym (ap extensions_of from)) (s, h)))
-  kept c e k none nowhere u (on_whole _ _, h) = k (sym (kind_of _ step h))
+  kept c e k none nowhere u (on_whole _ _, h) = k (sym (ap (λ (x : Step). x.kind) h))
 
   pub record WholeLeads (u : TagForm) : Type 0 where
     pub place : step.place ≡ 1

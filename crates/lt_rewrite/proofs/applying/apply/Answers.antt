@@ -1,5 +1,3 @@
-use Rattle.std.proofs.Common.{◌≡◌, true, false}
-use Rattle.lt_registry.specs.Validity.{IsProper}
 use Rattle.lt_registry.proofs.ValidityLaws.{proper_law}
 use Rattle.lt_rewrite.proofs.TagLeading.{not_proper}
 use Rattle.lt_rewrite.proofs.applying.apply.Goals as goal
@@ -20,7 +18,7 @@ returns-else-branch-clause-err g c =
     let R = g.L.Lookup.listed c.args.table.now in
     let leads = rw c.in-Some.is at c.in_ok-changed.ensures in
     not_proper R c.args.tag.now c.args.step.now c.requires c.in-Some.changed leads
-    (λ (h : IsProper R c.in-Some.changed).
-    let yes : c.in_ok-proper.field-0 ≡ true = c.in_ok-proper.ensures.answer.1 ((proper_law R c.in-Some.changed c.extensions.ensures.tag).0 h) in
-    let no : c.in_ok-proper.field-0 ≡ false = c.if-branch.false in
+    (λ h.
+    let yes = c.in_ok-proper.ensures.answer.1 ((proper_law R c.in-Some.changed c.extensions.ensures.tag).0 h) in
+    let no = c.if-branch.false in
     cc)

@@ -1,8 +1,9 @@
 use Rattle.std.proofs.Common.{◌≡◌, List, length, ap, ◌∙◌, arith}
 use Rattle.lt_tag.specs.Parts.{CoreParts, ExtensionParts}
-use Rattle.lt_tag.specs.Spelling.{spell_core, spell_extensions}
+use Rattle.lt_tag.specs.Spelling.{spell_extensions}
 use Rattle.lt_tag.specs.Values.{extensions_of}
-use Rattle.lt_rewrite.proofs.TagLeading.{fits, few_subtags, core_changed, extensions_changed, extensions_few, kept}
+use Rattle.lt_rewrite.proofs.TagLeading.{fits, few_subtags, core_changed, extensions_changed, kept}
+use Rattle.lt_rewrite.proofs.ExtensionLaws.{extensions_step_count}
 use Rattle.lt_rewrite.proofs.applying.change_parts.Goals as goal
 
 pub returns-in-Some : goal.returns-in-Some
@@ -27,7 +28,7 @@ returns-in_ok-copy-in-Some-2 g c =
     let fs : List ExtensionParts = c.in-Some-2.changed.items in
     let leads = rw (c.in-Some-2.is, c.extensions-2.ensures.value, c.core_length.ensures.value) at c.in_ok-changed-2.ensures in (
       rw c.in_ok-copy-in-Some-2.ensures (extensions_changed R t c.args.step core fs c.requires.core leads),
-      extensions_few R t c.args.step (length (spell_core core)) (extensions_of t) fs (fits t c.extensions-2.ensures.tag.counts).0 leads,
+      omega (arith, extensions_step_count R (extensions_of t) fs leads.0, (fits t c.extensions-2.ensures.tag.counts).0),
     )
 
 pub returns-in-None : goal.returns-in-None

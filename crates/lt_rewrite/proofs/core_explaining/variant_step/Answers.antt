@@ -29,7 +29,5 @@ loop-index-preserved g c =
 
 pub returns : goal.returns
 returns g c =
-    let core = c.args.core.now in
-    let P : List ℕ → Type 0 = λ v. variant_value (g.L.Lookup.listed c.args.table.now) v ≡ None in
-    let all = take_all c.loop-index.index core.variants (omega (arith, c.loop-index-test.false, ap length c.variants-variant-items.ensures.value)) in
-    none_varies (g.L.Lookup.listed c.args.table.now) c.args.start core (subst (All P) all c.loop-index.invariant)
+    let all = take_all c.loop-index.index c.args.core.now.variants (omega (arith, c.loop-index-test.false, ap length c.variants-variant-items.ensures.value)) in
+    none_varies (g.L.Lookup.listed c.args.table.now) c.args.start c.args.core.now (rw all at c.loop-index.invariant)

@@ -43,4 +43,4 @@ returns g c =
     let s = swapped R c.args.start k c.in_ok-explain_swaps.ensures.adds c.in_ok-explain_swaps.ensures.at_rest in
     let p = after_u R c.args.start c.in_ok-unicode.unicode c.explained_unicode.new.steps.items s c.deref.ensures.value (c.in_ok-unicode.ensures R) c.put_back.ensures in
     let t = after_t R c.args.start c.in_ok-transform.transform c.explained_transform.new.steps.items p c.deref-2.ensures.value c.in_ok-transform.ensures c.put_back-2.ensures in
-    record { adds = t.adds; at_rest = t.at_rest }
+    record { adds = t.0; at_rest = t.1 }

@@ -4,17 +4,17 @@ use Rattle.lt_tag.specs.Parts.{KeywordParts}
 use Rattle.lt_tag.specs.Extensions.{spell_keyword}
 use Rattle.lt_rewrite.specs.declared.steps.Step.{Step}
 use Rattle.lt_rewrite.specs.declared.steps.StepKind.TheVariants as steps
-use Rattle.lt_rewrite.proofs.ExtensionRuns.{bare, bare_kept, bare_more, bare_all, bare_few, bare_same}
+use Rattle.lt_rewrite.proofs.ExtensionRuns.{bare, bare_kept, bare_more, bare_all, bare_few}
 use Rattle.lt_rewrite.proofs.unicode_explaining.drop_trues.Goals as goal
 use Rattle.lt_rewrite.proofs.unicode_explaining.drop_trues.Goals.{then-has_sole_true+in_ok-push, else-has_sole_true}
 
 pub overflow_add-here-then-has_sole_true : goal.overflow_add-here-then-has_sole_true
 overflow_add-here-then-has_sole_true c =
-    omega (arith, c.requires, bare_few c.args.start c.args.keywords.now.items c.loop-index.keywords.items c.args.steps.now.items c.loop-index.steps.items c.loop-index.index c.loop-index.here c.loop-index.invariant)
+    omega (arith, c.requires, bare_few c.args.start c.loop-index.invariant)
 
 pub overflow_cast-here : goal.overflow_cast-here
 overflow_cast-here c =
-    omega (arith, c.requires, bare_few c.args.start c.args.keywords.now.items c.loop-index.keywords.items c.args.steps.now.items c.loop-index.steps.items c.loop-index.index c.loop-index.here c.loop-index.invariant)
+    omega (arith, c.requires, bare_few c.args.start c.loop-index.invariant)
 
 -- the part at an index that was set
 set_count : (ks ls : List KeywordParts) (i : ℕ) (k l : KeywordParts) (n : ℕ) → i < length ks → ls ≡ set ks i k → l ≡ get_or ls i l → n ≡ length (spell_keyword l) → n ≡ length (spell_keyword k)
@@ -25,37 +25,30 @@ same_count ks ls i k l n h e was is count = count ∙ ap (λ x. length (spell_ke
 
 pub loop-index-preserved : goal.loop-index-preserved
 loop-index-preserved c =
-    let start = c.args.start in
-    let from = c.args.keywords.now.items in
-    let old = c.args.steps.now.items in
     let ks = c.loop-index.keywords.items in
     let ls = c.if-has_sole_true.keywords.items in
     let i = c.loop-index.index in
-    let here = c.loop-index.here in
     let k : KeywordParts = c.index.result.now in
     let l : KeywordParts = c.index-in-loop-index.result.now in
     let within : i < length ks = omega (arith, c.loop-index.invariant.count, c.loop-index-test.true, c.len-index-end.ensures) in
     elim c.if-has_sole_true.branch [
       | then-has_sole_true+in_ok-push w ↦
           let now : ls ≡ set ks i (bare k) = ap (λ v. v.items) w.keywords-is ∙ ap (set ks i) (w.drop_types.ensures ∙ ap bare (get_or_read ks i w.index_mut.result.now within w.index_mut.ensures.value k ∙ sym c.index.ensures)) in
-          let step : Step = record { kind = steps.DropTrue; place = here + 1; number = 0 } in
-          let added = ap (λ v. v.items) w.steps-is ∙ w.in_ok-push.ensures.items in
+          let step : Step = record { kind = steps.DropTrue; place = c.loop-index.here + 1; number = 0 } in
           let count = set_count ks ls i (bare k) l c.subtag_count-here.result within now c.index-in-loop-index.ensures c.subtag_count-here.ensures in
-          bare_same start from (set ks i (bare k)) ls old c.if-has_sole_true.steps.items c.if-has_sole_true.steps.items (i + 1) (here + length (spell_keyword (bare k))) (here + c.subtag_count-here.result)
-          (bare_more start from ks old c.loop-index.steps.items i here c.loop-index.invariant k within c.index.ensures step c.if-has_sole_true.steps.items w.if-has_sole_true.ensures refl refl refl added) now refl (ap (λ n. here + n) count)
+          rw (now, count) (bare_more c.args.start c.loop-index.invariant k within c.index.ensures step w.if-has_sole_true.ensures refl refl refl (ap (λ v. v.items) w.steps-is ∙ w.in_ok-push.ensures.items))
       | else-has_sole_true w ↦
           let now : ls ≡ ks = ap (λ v. v.items) w.keywords-is in
+          let stay : c.if-has_sole_true.steps.items ≡ c.loop-index.steps.items = ap (λ v. v.items) w.steps-is in
           let count = same_count ks ls i k l c.subtag_count-here.result within now c.index.ensures c.index-in-loop-index.ensures c.subtag_count-here.ensures in
-          bare_same start from ks ls old c.loop-index.steps.items c.if-has_sole_true.steps.items (i + 1) (here + length (spell_keyword k)) (here + c.subtag_count-here.result)
-          (bare_kept start from ks old c.loop-index.steps.items i here c.loop-index.invariant k within c.index.ensures w.if-has_sole_true.ensures) now (ap (λ v. v.items) w.steps-is) (ap (λ n. here + n) count)
+          rw (now, stay, count) (bare_kept c.args.start c.loop-index.invariant k within c.index.ensures w.if-has_sole_true.ensures)
     ]
 
 pub overflow_add-here-in-loop-index : goal.overflow_add-here-in-loop-index
 overflow_add-here-in-loop-index c =
-    let few = bare_few c.args.start c.args.keywords.now.items c.if-has_sole_true.keywords.items c.args.steps.now.items c.if-has_sole_true.steps.items (c.loop-index.index + 1) (c.loop-index.here + c.subtag_count-here.result) (loop-index-preserved c) in
-    omega (arith, c.requires, few)
+    omega (arith, c.requires, bare_few c.args.start (loop-index-preserved c))
 
 pub returns-clause-at_rest : goal.returns-clause-at_rest
 returns-clause-at_rest c =
-    bare_all c.args.start c.args.keywords.now.items c.loop-index.keywords.items c.args.steps.now.items c.loop-index.steps.items c.loop-index.index c.loop-index.here c.loop-index.invariant
+    bare_all c.args.start c.loop-index.invariant
     (omega (arith, c.loop-index.invariant.count, c.loop-index-test.false, c.len-index-end.ensures))
