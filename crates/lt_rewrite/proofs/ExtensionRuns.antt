@@ -144,12 +144,8 @@ pub record AddsToRest {A : Type 0} (Leads : A → Step → A → Type 0) (a b : 
   pub at_rest : NoneLeads (Leads b)
 
 -- the attributes, and then the keywords
-pub record IsExplainedUnicode (start : ℕ) (p q : UForm) (old new : List Step) : Type 0 where
-  pub adds : AddsOnUnicode start p q old new
-  pub at_rest : NoneLeads (UnicodeLeads start q)
-
 module _ (start : ℕ) {xs0 xs1 xs2 : List (List ℕ)} {ks0 ks1 ks2 ks3 : List KeywordParts} {s0 s1 s2 s3 s4 s5 : List Step} where
-  pub unicode_explained : (key : ℕ) → key ≡ start + length xs2 → AddsToRest (DropsBy text_cmp one_subtag steps.DropAttribute start) xs0 xs1 s0 s1 → AddsToRest (SwapsBy text_cmp one_subtag steps.SwapAttributes start) xs1 xs2 s1 s2 → AddsToRest (DropsBy key_cmp spell_keyword steps.DropKeyword key) ks0 ks1 s2 s3 → AddsToRest (SwapsBy key_cmp spell_keyword steps.SwapKeywords key) ks1 ks2 s3 s4 → AddsToRest (DropsTrueBy key) ks2 ks3 s4 s5 → IsExplainedUnicode start (u_parts xs0 ks0) (u_parts xs2 ks3) s0 s5
+  pub unicode_explained : (key : ℕ) → key ≡ start + length xs2 → AddsToRest (DropsBy text_cmp one_subtag steps.DropAttribute start) xs0 xs1 s0 s1 → AddsToRest (SwapsBy text_cmp one_subtag steps.SwapAttributes start) xs1 xs2 s1 s2 → AddsToRest (DropsBy key_cmp spell_keyword steps.DropKeyword key) ks0 ks1 s2 s3 → AddsToRest (SwapsBy key_cmp spell_keyword steps.SwapKeywords key) ks1 ks2 s3 s4 → AddsToRest (DropsTrueBy key) ks2 ks3 s4 s5 → AddsOnUnicode start (u_parts xs0 ks0) (u_parts xs2 ks3) s0 s5 × NoneLeads (UnicodeLeads start (u_parts xs2 ks3))
   unicode_explained key k a b c' d' e' =
       let c = rw k at c' in
       let d = rw k at d' in
@@ -175,15 +171,14 @@ module _ (start : ℕ) {xs0 xs1 xs2 : List (List ℕ)} {ks0 ks1 ks2 ks3 : List K
       let p = subst (λ ks. IsUnlike key_cmp ks × IsRising key_cmp ks) l.drops.there p in
       subst (λ ks. IsUnlike key_cmp ks × IsRising key_cmp ks) (sym l.drops.result) (unlike_bare l.before l.keyword l.after p.0, rising_bare l.before l.keyword l.after p.1))
       (λ a p. grind arith) (fourth.0, rising_at_rest d.at_rest) e.adds in
-      let all = adds_all (UnicodeLeads start) (λ _ step. kind_rank step) in
-      record {
-        adds = all _ _ _ _ _ _ (all _ _ _ _ _ _ (all _ _ _ _ _ _ (all _ _ _ _ _ _ first.1 second.1) third.1) fourth.1) fifth.1;
-        at_rest = λ step q l.
+      let all = adds_all (UnicodeLeads start) (λ _ step. kind_rank step) in (
+        all _ _ _ _ _ _ (all _ _ _ _ _ _ (all _ _ _ _ _ _ (all _ _ _ _ _ _ first.1 second.1) third.1) fourth.1) fifth.1,
+        λ step q l.
             let s = said start (u_parts xs2 ks3) step q l in
             refuted start 14 (u_parts xs2 ks3)
             (record { attributes_unlike = λ _. unlike; attributes_rising = λ _. rising; keywords_unlike = λ _. fifth.0.0; keywords_rising = λ _. fifth.0.1; true_nowhere = λ _. e.at_rest })
-            step q s.0 (omega (arith, in_u start (u_parts xs2 ks3) step q s.0 s.1)) s.1;
-      }
+            step q s.0 (omega (arith, in_u start (u_parts xs2 ks3) step q s.0 s.1)) s.1,
+      )
 
 -- A step that is the first on the source of a t extension is the first on its parts, and so is one that is the first on
 -- its fields, where the source is at rest.

@@ -1,4 +1,4 @@
-use Rattle.std.proofs.Common.{◌≡◌, ◌≤◌, ◌+◌, ℕ, List, length, ap, subst, length-append, arith}
+use Rattle.std.proofs.Common.{◌≡◌, ◌≤◌, ◌+◌, ℕ, List, length, ap, length-append, arith}
 use Rattle.std.specs.Prelude.{flat_map}
 use Rattle.lt_tag.specs.Parts.{KeywordParts, UForm}
 use Rattle.lt_tag.specs.Extensions.{spell_keyword, spell_u, IsU}
@@ -7,7 +7,7 @@ use Rattle.lt_rewrite.specs.Applying.{UnicodeLeads}
 use Rattle.lt_rewrite.proofs.ExtensionLaws.{attributes_count, u_shaped}
 use Rattle.lt_rewrite.proofs.FirstSteps.{drops_few, swaps_few, adds_keeps}
 use Rattle.lt_rewrite.proofs.TagLeading.{one_subtag, u_parts}
-use Rattle.lt_rewrite.proofs.ExtensionRuns.{IsExplainedUnicode, unicode_explained}
+use Rattle.lt_rewrite.proofs.ExtensionRuns.{unicode_explained}
 use Rattle.lt_rewrite.proofs.unicode_explaining.explain_u.Goals as goal
 
 -- the subtags of the attributes and of the keywords are no more than all
@@ -38,9 +38,7 @@ drop_trues-requires c =
 
 pub returns : goal.returns
 returns c =
-    let q : UForm = u_parts c.explain_swaps.new.parts.items c.drop_trues.new.keywords.items in
-    let explained : IsExplainedUnicode c.args.start c.args.parts.now q c.args.steps.now.items c.drop_trues.new.steps.items =
-    subst (λ (p : UForm). IsExplainedUnicode c.args.start p q c.args.steps.now.items c.drop_trues.new.steps.items) c.parts.view_is
+    let explained = rw c.parts.view_is at
     (unicode_explained c.args.start (c.args.start + c.len.result) (omega (arith, c.len.ensures, c.explain_swaps.new.parts.ok.0))
     (record { adds = c.in_ok-explain_drops.ensures.adds; at_rest = c.in_ok-explain_drops.ensures.at_rest })
     (record { adds = c.in_ok-explain_swaps.ensures.adds; at_rest = c.in_ok-explain_swaps.ensures.at_rest })
@@ -48,7 +46,7 @@ returns c =
     (record { adds = c.in_ok-explain_swaps-2.ensures.adds; at_rest = c.in_ok-explain_swaps-2.ensures.at_rest })
     (record { adds = c.in_ok-drop_trues.ensures.adds; at_rest = c.in_ok-drop_trues.ensures.at_rest })) in
     record {
-      adds = explained.adds;
-      at_rest = explained.at_rest;
-      shaped = adds_keeps (UnicodeLeads c.args.start) (λ _ step. kind_rank step) IsU (λ a b step l i. u_shaped a b l.0 i) _ _ _ _ explained.adds;
+      adds = explained.0;
+      at_rest = explained.1;
+      shaped = adds_keeps (UnicodeLeads c.args.start) (λ _ step. kind_rank step) IsU (λ a b step l i. u_shaped a b l.0 i) _ _ _ _ explained.0;
     }
