@@ -1,26 +1,24 @@
 -- A walk along a chain of values, value by value.
-use Rattle.std.proofs.Common.{◌≡◌, ◌≢◌, ℕ, zero, suc, ◌≤◌, ◌<◌, ◌⊎◌, inl, inr, Bool, true, false, cond, ◌&&◌, eqb, List, [], ◌∷◌, Option, Some, None, refl, sym, ap, ◌∙◌, subst, length, find, slice_get, arith, ◌+◌, add-one, Result, IfOk, OnErr, not, get_or, take, All, MatchBool, Bor, is_some, ◌-◌, set, Contains, ltb, ltb-true, ltb-false}
+use Rattle.std.proofs.Common.{◌≡◌, ◌≢◌, ℕ, zero, suc, ◌≤◌, ◌<◌, inl, inr, Bool, true, false, cond, eqb, List, [], ◌∷◌, Option, Some, None, refl, sym, ap, ◌∙◌, subst, length, slice_get, arith, ◌+◌, Result, IfOk, OnErr, not, get_or, take, All, MatchBool, Bor, is_some, set, Contains, ltb, ltb-true, ltb-false, length-take}
 use Rattle.std.specs.List.{AllByRecursion, list_any, IsDistinct, AllWithin}
 use Rattle.std.proofs.lemmas.Map.Steps.{length-le_from_distinct_below}
-use Rattle.std.proofs.lemmas.Bool.{or_cases, eqb-true, ne_eqb}
-use Rattle.std.specs.Option.{option_or, option_and_then, option_copied}
+use Rattle.std.proofs.lemmas.Bool.{or_cases, eqb-true, ne_eqb, cases_lt}
+use Rattle.std.specs.Option.{option_and_then, option_copied}
 use Rattle.lt_registry.specs.Parts.{EntryParts}
-use Rattle.lt_registry.specs.Same.{same_kind}
-use Rattle.lt_registry.specs.Entries.{is_named, holds, one_of, entry, has_form, IsRegistry, NumbersRise, is_short}
+use Rattle.lt_registry.specs.Entries.{one_of, entry, has_form, IsRegistry, NumbersRise, is_short}
 use Rattle.lt_registry.specs.declared.entries.Kind.{Kind}
 use Rattle.lt_rewrite.specs.CoreSteps.{chase, Ends, EndsIn}
 use Rattle.lt_rewrite.specs.Conditions.{next_value, HasEndingChain}
-use Rattle.lt_rewrite.proofs.Chains.{chase_rests, chase_next, chase_keeps}
+use Rattle.lt_rewrite.proofs.Chains.{chase_rests, chase_next, chase_keeps, chase_plus, chase_past, by_next, ends_first}
 use Rattle.lt_rewrite.proofs.Entries.{ValuedEntry, valued, next_is_value, entry_has, entry_of}
 use Rattle.lt_rewrite.specs.ChainEnds.{ChainEnds, ChainEndsIn, following}
 use Rattle.lt_rewrite.specs.declared.chain_ends.Cycle.{Cycle}
 use Rattle.lt_rewrite.proofs.Forms.{value_form, variant_value_form}
-use Rattle.std.proofs.lemmas.List.Elements.{recursion_from_All, All-from_recursion, All-contains_itself}
+use Rattle.std.proofs.lemmas.List.Elements.{All-from_recursion, All-contains_itself}
 use Rattle.lt_rewrite.specs.Cycles.{place, EarlierEnd, EndsAfterEarlier, IsFirstCycle}
 use Rattle.lt_rewrite.specs.declared.cycles.Order.{Order}
-use Rattle.lt_rewrite.proofs.PartLists.{all_both}
-use Rattle.std.proofs.lemmas.List.{length-set}
-use Rattle.std.proofs.lemmas.Option.{slice_get_within, slice_get_read, slice_get-get_or, get_or_from_slice_get}
+use Rattle.std.proofs.lemmas.List.{length-set, get_or-take, get_or_default}
+use Rattle.std.proofs.lemmas.Option.{slice_get_within, slice_get_read, slice_get-get_or, get_or_from_slice_get, same_Some}
 use Rattle.lt_rewrite.specs.Shortcuts.{IsOnward, LeadsTo, IsShortcut, LeadOn}
 use Rattle.std.specs.List.Sorted.{IsNonDecreasingBy}
 use Rattle.lt_registry.specs.declared.entries.Kind.TheVariants as kinds
@@ -28,18 +26,37 @@ use Rattle.lt_rewrite.specs.declared.cycles.Order.TheVariants as orders
 
 -- A chain that ends takes at most as many values as there are records.
 
--- each value is one of N rules'
-pub record Rules (f : List ℕ → Option (List ℕ)) (N : ℕ) : Type 0 where
-  pub key : List ℕ → ℕ
-  pub below : (s t : List ℕ) → f s ≡ Some t → key s < N
-  pub decides : (s t u v : List ℕ) → f s ≡ Some u → f t ≡ Some v → key s ≡ key t → u ≡ v
+-- the entry of a subtag is one of the entries
+pub entry_there : (R : List EntryParts) (k : Kind) (s : List ℕ) (e : EntryParts) → entry R k s ≡ Some e → Contains R e
+entry_there R k s e h = (entry_has R k s (Contains R) (All-contains_itself R) e h).0
+
+abbrev some : EntryParts → Option EntryParts
+some e = Some e
+
+-- a record that gives a value, by its place
+record Rule (R : List EntryParts) (v : List ℕ) : Type 0 where
+  at : ℕ
+  entry : EntryParts
+  there : slice_get R at ≡ Some entry
+  gives : one_of entry.value ≡ Some v
+
+rule : (R : List EntryParts) (k : Kind) (s v : List ℕ) → next_value R k s ≡ Some v → Rule R v
+rule R k s v e =
+    let en : ValuedEntry R k s v = valued R k s v (next_is_value R k s v e) in
+    let c = entry_there R k s en.at en.found in
+    record { at = c.0; entry = en.at; there = slice_get-get_or R c.0 en.at c.1 ∙ ap some c.2; gives = en.gives }
+
+one_value : (R : List EntryParts) (v w : List ℕ) (a : Rule R v) (b : Rule R w) → a.at ≡ b.at → v ≡ w
+one_value R v w a b e =
+    let same : a.entry ≡ b.entry = same_Some a.entry b.entry (sym a.there ∙ ap (slice_get R) e ∙ b.there) in
+    same_Some v w (sym a.gives ∙ ap (λ (x : EntryParts). one_of x.value) same ∙ b.gives)
 
 -- the chain from s takes n values
-abbrev Takes : (List ℕ → Option (List ℕ)) → ℕ → List ℕ → Type 0
+abbrev pub Takes : (List ℕ → Option (List ℕ)) → ℕ → List ℕ → Type 0
 Takes f zero s = f s ≡ None
 Takes f (suc n) s = (t : List ℕ) × (f s ≡ Some t) × Takes f n t
 
-takes_unique : (f : List ℕ → Option (List ℕ)) (n m : ℕ) (s : List ℕ) → Takes f n s → Takes f m s → n ≡ m
+pub takes_unique : (f : List ℕ → Option (List ℕ)) (n m : ℕ) (s : List ℕ) → Takes f n s → Takes f m s → n ≡ m
 takes_unique f zero zero s a b = refl
 takes_unique f zero (suc m) s a b = let c = b.1 in cc
 takes_unique f (suc n) zero s a b = let c = a.1 in cc
@@ -47,133 +64,71 @@ takes_unique f (suc n) (suc m) s a b =
     let same : a.0 ≡ b.0 = let x = a.1 in let y = b.1 in cc in
     ap suc (takes_unique f n m b.0 (subst (Takes f n) same a.2) b.2)
 
-takes_at : (f : List ℕ → Option (List ℕ)) (n : ℕ) (s : List ℕ) → ((t : List ℕ) → f (chase f n t) ≡ None → (m : ℕ) × Takes f m t) → (o : Option (List ℕ)) → f s ≡ o → f (chase f (suc n) s) ≡ None → (m : ℕ) × Takes f m s
-takes_at f n s ih None e h = (0, e)
-takes_at f n s ih (Some t) e h = let r = ih t (ap f (sym (chase_next f n s t e)) ∙ h) in (suc r.0, (t, e, r.1))
-
 takes : (f : List ℕ → Option (List ℕ)) (n : ℕ) (s : List ℕ) → f (chase f n s) ≡ None → (m : ℕ) × Takes f m s
 takes f zero s h = (0, h)
-takes f (suc n) s h = takes_at f n s (takes f n) (f s) refl h
+takes f (suc n) s h =
+    by_next (f s) (λ e. (0, e)) (λ t e. let r = takes f n t (ap f (sym (chase_next f n s t e)) ∙ h) in (suc r.0, (t, e, r.1)))
 
-takes_ends : (f : List ℕ → Option (List ℕ)) (n k : ℕ) (s : List ℕ) → Takes f n s → n ≤ k → f (chase f k s) ≡ None
-takes_ends f zero k s a h = ap f (chase_rests f k s a) ∙ a
-takes_ends f (suc n) zero s a h = absurd (omega arith)
-takes_ends f (suc n) (suc k) s a h = ap f (chase_next f k s a.0 a.1) ∙ takes_ends f n k a.0 a.2 (omega arith)
+takes_ends : (f : List ℕ → Option (List ℕ)) (n : ℕ) (s : List ℕ) → Takes f n s → f (chase f n s) ≡ None
+takes_ends f zero s a = a
+takes_ends f (suc n) s a = ap f (chase_next f n s a.0 a.1) ∙ takes_ends f n a.0 a.2
 
-module _ (f : List ℕ → Option (List ℕ)) (N : ℕ) (K : Rules f N) where
-  keys : (n : ℕ) (s : List ℕ) → Takes f n s → List ℕ
+module _ (R : List EntryParts) (k : Kind) where
+  abbrev next : List ℕ → Option (List ℕ)
+  next = next_value R k
+
+  abbrev key : (s t : List ℕ) → next s ≡ Some t → ℕ
+  key s t e = (rule R k s t e).at
+
+  abbrev keys : (n : ℕ) (s : List ℕ) → Takes next n s → List ℕ
   keys zero s a = []
-  keys (suc n) s a = K.key s ∷ keys n a.0 a.2
+  keys (suc n) s a = key s a.0 a.1 ∷ keys n a.0 a.2
 
-  keys_length : (n : ℕ) (s : List ℕ) (a : Takes f n s) → length (keys n s a) ≡ n
-  unfolding keys
+  keys_length : (n : ℕ) (s : List ℕ) (a : Takes next n s) → length (keys n s a) ≡ n
   keys_length zero s a = refl
   keys_length (suc n) s a = ap suc (keys_length n a.0 a.2)
 
-  keys_below : (n : ℕ) (s : List ℕ) (a : Takes f n s) (q : ℕ) → list_any (eqb q) (keys n s a) ≡ true → q < N
-  unfolding keys
+  keys_below : (n : ℕ) (s : List ℕ) (a : Takes next n s) (q : ℕ) → list_any (eqb q) (keys n s a) ≡ true → q < length R
   keys_below zero s a q h = cc
-  keys_below (suc n) s a q h = by (keys_below n a.0 a.2 q) (or_cases (eqb q (K.key s)) (list_any (eqb q) (keys n a.0 a.2)) h)
-    where
-      by : (list_any (eqb q) (keys n a.0 a.2) ≡ true → q < N) → (eqb q (K.key s) ≡ true) ⊎ (list_any (eqb q) (keys n a.0 a.2) ≡ true) → q < N
-      by rest (inl e) = let b = K.below s a.0 a.1 in let c = eqb-true q (K.key s) e in omega arith
-      by rest (inr e) = rest e
+  keys_below (suc n) s a q h =
+      let r : Rule R a.0 = rule R k s a.0 a.1 in
+      elim (or_cases (eqb q r.at) (list_any (eqb q) (keys n a.0 a.2)) h) [
+        | inl e ↦ omega (arith, eqb-true q r.at e, slice_get_within R r.at r.entry r.there)
+        | inr e ↦ keys_below n a.0 a.2 q e
+      ]
 
-  keys_differ : (n : ℕ) (s : List ℕ) → Takes f (suc n) s → (m : ℕ) (t : List ℕ) (b : Takes f m t) → m ≤ n → AllByRecursion (λ y. eqb (K.key s) y ≡ false) (keys m t b)
-  unfolding keys
+  keys_differ : (n : ℕ) (s : List ℕ) (a : Takes next (suc n) s) (m : ℕ) (t : List ℕ) (b : Takes next m t) → m ≤ n → AllByRecursion (λ y. eqb (key s a.0 a.1) y ≡ false) (keys m t b)
   keys_differ n s a zero t b h = tt
   keys_differ n s a (suc m) t b h =
-      let ne : K.key s ≢ K.key t = λ e.
-      let k : n ≡ m = takes_unique f n m b.0 (subst (Takes f n) (K.decides s t a.0 b.0 a.1 b.1 e) a.2) b.2 in
+      let ne : key s a.0 a.1 ≢ key t b.0 b.1 = λ e.
+      let same = one_value R a.0 b.0 (rule R k s a.0 a.1) (rule R k t b.0 b.1) e in
+      let k : n ≡ m = takes_unique next n m b.0 (subst (Takes next n) same a.2) b.2 in
       omega arith in
-      (ne_eqb (K.key s) (K.key t) ne, keys_differ n s a m b.0 b.2 (omega arith))
+      (ne_eqb (key s a.0 a.1) (key t b.0 b.1) ne, keys_differ n s a m b.0 b.2 (omega arith))
 
-  keys_distinct : (n : ℕ) (s : List ℕ) (a : Takes f n s) → IsDistinct eqb (keys n s a)
-  unfolding keys IsDistinct
+  keys_distinct : (n : ℕ) (s : List ℕ) (a : Takes next n s) → IsDistinct eqb (keys n s a)
+  unfolding IsDistinct
   keys_distinct zero s a = tt
   keys_distinct (suc n) s a = (keys_differ n s a n a.0 a.2 (omega arith), keys_distinct n a.0 a.2)
 
-  -- a chain that ends has ended after N values
-  pub ends_within : (s : List ℕ) → Ends f s → f (chase f N s) ≡ None
-  ends_within s h =
-      let r = takes f h.0 s h.1 in
-      takes_ends f r.0 N s r.1 (omega (arith, keys_length r.0 s r.1, length-le_from_distinct_below (keys r.0 s r.1) N (keys_distinct r.0 s r.1) (keys_below r.0 s r.1)))
+  -- a chain of values that ends takes at most as many as there are records
+  pub takes_within : (s : List ℕ) → Ends next s → (n : ℕ) × (n ≤ length R) × Takes next n s
+  takes_within s h =
+      let r = takes next h.0 s h.1 in
+      (r.0, omega (arith, keys_length r.0 s r.1, length-le_from_distinct_below (keys r.0 s r.1) (length R) (keys_distinct r.0 s r.1) (keys_below r.0 s r.1)), r.1)
 
--- the place of the entry of a subtag
-
-find_place : {A : Type 0} → (A → Bool) → List A → ℕ
-find_place test [] = 0
-find_place test (x ∷ xs) = cond (test x) 0 (suc (find_place test xs))
-
-found_at : {A : Type 0} (test : A → Bool) (x : A) (xs : List A) (a : A) → (find test xs ≡ Some a → slice_get xs (find_place test xs) ≡ Some a) → (b : Bool) → cond b (Some x) (find test xs) ≡ Some a → slice_get (x ∷ xs) (cond b 0 (suc (find_place test xs))) ≡ Some a
-found_at test x xs a ih true e = e
-found_at test x xs a ih false e = ih e
-
-found : {A : Type 0} (test : A → Bool) (xs : List A) (a : A) → find test xs ≡ Some a → slice_get xs (find_place test xs) ≡ Some a
-unfolding find_place
-found test [] a e = cc
-found test (x ∷ xs) a e = found_at test x xs a (found test xs a) (test x) e
-
-unnamed_place : Option EntryParts → List EntryParts → Kind → List ℕ → ℕ
-unnamed_place (Some e) R k s = find_place (λ (e : EntryParts). same_kind e.kind k && is_named s e.name) R
-unnamed_place None R k s = find_place (λ (e : EntryParts). same_kind e.kind k && holds s e.name) R
-
-entry_place : List EntryParts → Kind → List ℕ → ℕ
-entry_place R k s = unnamed_place (find (λ (e : EntryParts). same_kind e.kind k && is_named s e.name) R) R k s
-
-entry_found_at : (R : List EntryParts) (k : Kind) (s : List ℕ) (e : EntryParts) (o : Option EntryParts) → find (λ (e : EntryParts). same_kind e.kind k && is_named s e.name) R ≡ o
-    → option_or o (find (λ (e : EntryParts). same_kind e.kind k && holds s e.name) R) ≡ Some e
-    → slice_get R (unnamed_place o R k s) ≡ Some e
-unfolding unnamed_place
-entry_found_at R k s e (Some g) p q = found (λ (e : EntryParts). same_kind e.kind k && is_named s e.name) R g p ∙ q
-entry_found_at R k s e None p q = found (λ (e : EntryParts). same_kind e.kind k && holds s e.name) R e q
-
-entry_found : (R : List EntryParts) (k : Kind) (s : List ℕ) (e : EntryParts) → entry R k s ≡ Some e → slice_get R (entry_place R k s) ≡ Some e
-unfolding entry_place
-entry_found R k s e h = entry_found_at R k s e (find (λ (e : EntryParts). same_kind e.kind k && is_named s e.name) R) refl h
-
-get_below : {A : Type 0} (xs : List A) (i : ℕ) (a : A) → slice_get xs i ≡ Some a → i < length xs
-get_below [] i a h = cc
-get_below (x ∷ xs) zero a h = omega arith
-get_below (x ∷ xs) (suc i) a h = let r = get_below xs i a h in omega arith
-
-value_rules : (R : List EntryParts) (k : Kind) → Rules (next_value R k) (length R)
-value_rules R k = record {
-  key = entry_place R k;
-  below = λ s t e.
-      let en : ValuedEntry R k s t = valued R k s t (next_is_value R k s t e) in
-      get_below R (entry_place R k s) en.at (entry_found R k s en.at en.found);
-  decides = λ s t u v e f same.
-      let en : ValuedEntry R k s u = valued R k s u (next_is_value R k s u e) in
-      let fn : ValuedEntry R k t v = valued R k t v (next_is_value R k t v f) in
-      let a : slice_get R (entry_place R k s) ≡ Some en.at = entry_found R k s en.at en.found in
-      let b : slice_get R (entry_place R k t) ≡ Some fn.at = entry_found R k t fn.at fn.found in
-      let c : slice_get R (entry_place R k s) ≡ slice_get R (entry_place R k t) = ap (slice_get R) same in
-      let d : en.at ≡ fn.at = cc in
-      let g : one_of en.at.value ≡ one_of fn.at.value = ap (λ (x : EntryParts). one_of x.value) d in
-      let x = en.gives in
-      let y = fn.gives in
-      cc;
-}
-
--- a chain of values that ends has ended after as many values as there are records
+-- so it has ended after as many
 pub chain_ends_within : (R : List EntryParts) (k : Kind) (s : List ℕ) → Ends (next_value R k) s → next_value R k (chase (next_value R k) (length R) s) ≡ None
-chain_ends_within R k s h = ends_within (next_value R k) (length R) (value_rules R k) s h
-
-chase_last_at : (f : List ℕ → Option (List ℕ)) (n : ℕ) (s t : List ℕ) → ((u : List ℕ) → f (chase f n u) ≡ Some t → chase f (suc n) u ≡ t) → (o : Option (List ℕ)) → f s ≡ o → f (chase f (suc n) s) ≡ Some t → chase f (suc (suc n)) s ≡ t
-chase_last_at f n s t ih None e h =
-    let a : f (chase f (suc n) s) ≡ None = ap f (chase_rests f (suc n) s e) ∙ e in cc
-chase_last_at f n s t ih (Some u) e h =
-    chase_next f (suc n) s u e ∙ ih u (ap f (sym (chase_next f n s u e)) ∙ h)
-
--- one value more, at the end
-pub chase_last : (f : List ℕ → Option (List ℕ)) (n : ℕ) (s t : List ℕ) → f (chase f n s) ≡ Some t → chase f (suc n) s ≡ t
-chase_last f zero s t h = chase_next f zero s t h
-chase_last f (suc n) s t h = chase_last_at f n s t (λ u. chase_last f n u t) (f s) refl h
+chain_ends_within R k s h =
+    let f : List ℕ → Option (List ℕ) = next_value R k in
+    let t = takes_within R k s h in
+    let end : f (chase f t.0 s) ≡ None = takes_ends f t.0 s t.2 in
+    ap f (chase_past f t.0 (length R) s t.1 end) ∙ end
 
 -- what a walk of this many values gives
 pub chase_more : (f : List ℕ → Option (List ℕ)) (n : ℕ) (s u t : List ℕ) → u ≡ chase f n s → f u ≡ Some t → t ≡ chase f (n + 1) s
-chase_more f n s u t e h = sym (ap (λ k. chase f k s) (add-one n) ∙ chase_last f n s t (ap f (sym e) ∙ h))
+chase_more f n s u t e h =
+    sym (ap (λ k. chase f k s) (omega arith) ∙ chase_plus f 1 n s ∙ ap (chase f 1) (sym e) ∙ chase_next f 0 u t h)
 
 -- a walk that comes to an end
 pub walk_ends : (f : List ℕ → Option (List ℕ)) (n : ℕ) (s d : List ℕ) → d ≡ chase f n s → f d ≡ None → EndsIn f s d
@@ -192,9 +147,12 @@ next_form R G kinds.Variant s t e = variant_value_form R G s t e
 next_form u v w s t e = cc
 
 -- the values of a chain have the form of their kind
+walk_form : (R : List EntryParts) → IsRegistry R → (k : Kind) (n : ℕ) (s t : List ℕ) → chase (next_value R k) n s ≡ t → has_form k s ≡ true → has_form k t ≡ true
+walk_form R G k n s t e h =
+    subst (λ x. has_form k x ≡ true) e (chase_keeps (next_value R k) (λ x. has_form k x ≡ true) (λ a b f p. next_form R G k a b f) n s h)
+
 pub end_form : (R : List EntryParts) → IsRegistry R → (k : Kind) (s d : List ℕ) → EndsIn (next_value R k) s d → has_form k s ≡ true → has_form k d ≡ true
-end_form R G k s d e h =
-    subst (λ x. has_form k x ≡ true) e.1 (chase_keeps (next_value R k) (λ x. has_form k x ≡ true) (λ a b f p. next_form R G k a b f) e.0 s h)
+end_form R G k s d e h = walk_form R G k e.0 s d e.1 h
 
 -- but for extlangs a chain is one of values of its kind
 pub own_end : (R : List EntryParts) (k : Kind) (s : List ℕ) → (k ≡ kinds.Extlang → ⊥) → (r : Result (List ℕ) Cycle) → IfOk r (EndsIn (next_value R k) s) → IfOk r (ChainEndsIn R k s)
@@ -209,10 +167,7 @@ own_cycle t u s n r h = h
 
 -- what follows a subtag in a chain is what follows by its entry
 
-abbrev nothing : EntryParts → Option (List ℕ)
-nothing e = None
-
-nothing_follows : (o : Option EntryParts) → None ≡ option_and_then nothing o
+nothing_follows : (o : Option EntryParts) → None ≡ option_and_then {U = List ℕ} (λ (e : EntryParts). None) o
 nothing_follows None = refl
 nothing_follows (Some e) = refl
 
@@ -230,22 +185,6 @@ next_follows t u s = refl
 pub next_by : (R : List EntryParts) (k : Kind) (s : List ℕ) (o : Option EntryParts) → o ≡ entry R k s → next_value R k s ≡ option_and_then (following k) o
 next_by R k s o e = next_follows R k s ∙ ap (option_and_then (following k)) (sym e)
 
--- the end of a chain, from further on
-
-back_at : (f : List ℕ → Option (List ℕ)) (n : ℕ) (v : List ℕ) → ((t : List ℕ) → Ends f (chase f n t) → Ends f t) → (o : Option (List ℕ)) → f v ≡ o → Ends f (chase f (suc n) v) → Ends f v
-back_at f n v ih None e h = (0, e)
-back_at f n v ih (Some t) e h =
-    let later : Ends f t = ih t (subst (Ends f) (chase_next f n v t e) h) in
-    (suc later.0, ap f (chase_next f later.0 v t e) ∙ later.1)
-
-pub ends_back : (f : List ℕ → Option (List ℕ)) (n : ℕ) (v : List ℕ) → Ends f (chase f n v) → Ends f v
-ends_back f zero v h = h
-ends_back f (suc n) v h = back_at f n v (ends_back f n) (f v) refl h
-
-ends_from_at : (f : List ℕ → Option (List ℕ)) (s : List ℕ) → ((w : List ℕ) → f s ≡ Some w → Ends f w) → (o : Option (List ℕ)) → f s ≡ o → Ends f s
-ends_from_at f s h None e = (0, e)
-ends_from_at f s h (Some w) e = let later = h w e in (suc later.0, ap f (chase_next f later.0 s w e) ∙ later.1)
-
 -- a walk of n values along the chain from a record's value
 pub record IsWalk (R : List EntryParts) (e : EntryParts) (k : Kind) (v s : List ℕ) (n : ℕ) : Type 0 where
   pub of_kind : k ≡ e.kind
@@ -254,30 +193,24 @@ pub record IsWalk (R : List EntryParts) (e : EntryParts) (k : Kind) (v s : List 
 
 chain_from : (R : List EntryParts) (e : EntryParts) (k : Kind) (v s : List ℕ) (n : ℕ) → IsWalk R e k v s n → Ends (next_value R k) s → HasEndingChain R e
 chain_from R e k v s n W ends w h =
-    let from : one_of e.value ≡ Some v = W.from in
-    let same : v ≡ w = cc in
     let f : List ℕ → Option (List ℕ) = next_value R k in
-    subst (λ (d : Kind). Ends (next_value R d) w) W.of_kind (subst (Ends f) same (ends_back f n v (subst (Ends f) W.walked ends)))
+    let same : v ≡ w = same_Some v w (sym W.from ∙ h) in
+    let rest : Ends f (chase f n v) = subst (Ends f) W.walked ends in
+    subst (λ (d : Kind). Ends (next_value R d) w) W.of_kind (subst (Ends f) same (rest.0 + n, ap f (chase_plus f rest.0 n v) ∙ rest.1))
 
 -- a walk that has come to the end
 pub ends_there : (R : List EntryParts) (e : EntryParts) (k : Kind) (v s : List ℕ) (n : ℕ) → IsWalk R e k v s n → next_value R k s ≡ None → HasEndingChain R e
 ends_there R e k v s n W end = chain_from R e k v s n W (0, end)
 
--- a walk that has come to a record whose chain ends
-pub ends_from : (R : List EntryParts) (e met : EntryParts) (k : Kind) (v s : List ℕ) (n : ℕ) → IsWalk R e k v s n → entry R k s ≡ Some met → HasEndingChain R met → HasEndingChain R e
-ends_from R e met k v s n W found h =
-    chain_from R e k v s n W
-    (ends_from_at (next_value R k) s
-    (λ t g.
-    let gives : one_of met.value ≡ Some t = sym (ap (option_and_then (λ (x : EntryParts). one_of x.value)) found) ∙ next_is_value R k s t g in
-    subst (λ (d : Kind). Ends (next_value R d) t) (entry_of R k s met found).of_kind (h t gives))
-    (next_value R k s) refl)
-
--- and to one before it in an order
+-- a walk that has come to a record before it in an order
 pub ends_after : (R : List EntryParts) (order : Order) (e met : EntryParts) (k : Kind) (v s : List ℕ) (n : ℕ) → IsWalk R e k v s n → entry R k s ≡ Some met → place order met.number < place order e.number → EndsAfterEarlier R order e
 ends_after R order e met k v s n W found below earlier =
     let each = entry_has R k s (λ (f : EntryParts). place order f.number < place order e.number → HasEndingChain R f) earlier met found in
-    ends_from R e met k v s n W found (each.0 below)
+    chain_from R e k v s n W
+    (ends_first (next_value R k) s
+    (λ t g.
+    let gives : one_of met.value ≡ Some t = sym (ap (option_and_then (λ (x : EntryParts). one_of x.value)) found) ∙ next_is_value R k s t g in
+    subst (λ (d : Kind). Ends (next_value R d) t) each.1.of_kind (each.0 below t gives)))
 
 -- a walk of as many values as there are records
 pub at_limit : (R : List EntryParts) (order : Order) (e : EntryParts) (k : Kind) (v s : List ℕ) (n : ℕ) → IsWalk R e k v s n → n ≡ length R → (next : Option (Bor (List ℕ))) → option_copied next ≡ next_value R k s → (none : Bool) → is_some next ≡ not none → MatchBool none (EndsAfterEarlier R order e) (HasEndingChain R e → ⊥)
@@ -296,49 +229,14 @@ earlier_end R order h (suc n) = λ k d i below. h k d i (λ j c l less. earlier_
 pub all_end_in_order : (R : List EntryParts) (order : Order) → All (EndsAfterEarlier R order) R → All (HasEndingChain R) R
 all_end_in_order R order h = λ k d i. h k d i (earlier_end R order h (place order (get_or R k d).number))
 
-rest_above : (P : EntryParts → Type 0) (R : List EntryParts) (i : ℕ) (e : EntryParts) → NumbersRise R → i < length R → e ≡ get_or R i e → AllByRecursion P (take i R) → AllByRecursion (λ (f : EntryParts). f.number < e.number → P f) R
-rest_above P [] i e rise h is all = tt
-rest_above P (x ∷ xs) zero e rise h is all =
-    let same : e.number ≡ x.number = ap (λ (y : EntryParts). y.number) is in (
-      λ below. absurd (omega (arith, below, same)),
-      all_both (λ (f : EntryParts). x.number < f.number) (λ (f : EntryParts). x.number < f.number) (λ (f : EntryParts). f.number < e.number → P f) (λ f a b below. absurd (omega (arith, a, below, same))) xs rise.0 rise.0,
-    )
-rest_above P (x ∷ xs) (suc i) e rise h is all = (λ below. all.0, rest_above P xs i e rise.1 (omega arith) is all.1)
-
--- the records before one in the file are those of lower numbers
-pub lower_are_before : (P : EntryParts → Type 0) (R : List EntryParts) (i : ℕ) (e : EntryParts) → NumbersRise R → i < length R → e ≡ get_or R i e → All P (take i R) → All (λ (f : EntryParts). f.number < e.number → P f) R
-lower_are_before P R i e rise h is all =
-    All-from_recursion (λ (f : EntryParts). f.number < e.number → P f) R (rest_above P R i e rise h is (recursion_from_All P (take i R) all))
-
 pub file_order : (R : List EntryParts) (e : EntryParts) → All (λ (f : EntryParts). f.number < e.number → HasEndingChain R f) R → EarlierEnd R orders.File (place orders.File e.number)
 unfolding place
 file_order R e h = h
 
-pub first_there : (R : List EntryParts) (i : ℕ) (e : EntryParts) → NumbersRise R → i < length R → e ≡ get_or R i e → All (HasEndingChain R) (take i R) → (HasEndingChain R e → ⊥) → IsFirstCycle R e.number
-first_there R i e rise h is all endless = record {
-  entry = e;
-  there = (i, h, sym is);
-  numbered = refl;
-  endless = endless;
-  lower = lower_are_before (HasEndingChain R) R i e rise h is all;
-}
-
 -- Walks along a chain of values that pass over a part of it.
 
--- one part of a chain after another
-
-chase_plus_at : (f : List ℕ → Option (List ℕ)) (n m : ℕ) (s : List ℕ) → ((t : List ℕ) → chase f (n + m) t ≡ chase f m (chase f n t)) → (o : Option (List ℕ)) → f s ≡ o → chase f (suc (n + m)) s ≡ chase f m (chase f (suc n) s)
-chase_plus_at f n m s ih None e = chase_rests f (suc (n + m)) s e ∙ sym (ap (chase f m) (chase_rests f (suc n) s e) ∙ chase_rests f m s e)
-chase_plus_at f n m s ih (Some t) e = chase_next f (n + m) s t e ∙ ih t ∙ ap (chase f m) (sym (chase_next f n s t e))
-
-chase_plus : (f : List ℕ → Option (List ℕ)) (n m : ℕ) (s : List ℕ) → chase f (n + m) s ≡ chase f m (chase f n s)
-chase_plus f zero m s = let none : 0 + m ≡ m = omega arith in ap (λ k. chase f k s) none
-chase_plus f (suc n) m s =
-    let one : suc n + m ≡ suc (n + m) = omega arith in
-    ap (λ k. chase f k s) one ∙ chase_plus_at f n m s (chase_plus f n m) (f s) refl
-
 onward_trans : (f : List ℕ → Option (List ℕ)) (n m : ℕ) (s t u : List ℕ) → IsOnward f n s t → IsOnward f m t u → IsOnward f (n + m) s u
-onward_trans f n m s t u a b = (a.0 + b.0, omega (arith, a.1, b.1), chase_plus f a.0 b.0 s ∙ ap (chase f b.0) a.2 ∙ b.2)
+onward_trans f n m s t u a b = (b.0 + a.0, omega (arith, a.1, b.1), chase_plus f b.0 a.0 s ∙ ap (chase f b.0) a.2 ∙ b.2)
 
 onward_less : (f : List ℕ → Option (List ℕ)) (n m : ℕ) (s t : List ℕ) → m ≤ n → IsOnward f n s t → IsOnward f m s t
 onward_less f n m s t le a = (a.0, omega (arith, le, a.1), a.2)
@@ -353,23 +251,15 @@ onward_rest f n s e = (n, omega arith, chase_rests f n s e)
 -- the chain has an end only if no value follows after as many as there are records
 pub onward_end : (R : List EntryParts) (k : Kind) (s t : List ℕ) → IsOnward (next_value R k) (length R) s t → Ends (next_value R k) s → next_value R k t ≡ None
 onward_end R k s t a ends =
-    let f : List ℕ → Option (List ℕ) = next_value R k in
-    let rest : ℕ = a.0 - length R in
-    let all : a.0 ≡ length R + rest = omega (arith, a.1) in
-    let done : f (chase f (length R) s) ≡ None = chain_ends_within R k s ends in
-    ap f (sym a.2 ∙ ap (λ n. chase f n s) all ∙ chase_plus f (length R) rest s ∙ chase_rests f rest (chase f (length R) s) done) ∙ done
+    let done = chain_ends_within R k s ends in
+    ap (next_value R k) (sym a.2 ∙ chase_past (next_value R k) (length R) a.0 s a.1 done) ∙ done
 
 pub onward_endless : (R : List EntryParts) (k : Kind) (s t u : List ℕ) → IsOnward (next_value R k) (length R) s t → next_value R k t ≡ Some u → Ends (next_value R k) s → ⊥
 onward_endless R k s t u a e ends = let none : next_value R k t ≡ None = onward_end R k s t a ends in cc
 
 -- it has the form of the first
 pub onward_form : (R : List EntryParts) → IsRegistry R → (k : Kind) (n : ℕ) (s t : List ℕ) → IsOnward (next_value R k) n s t → has_form k s ≡ true → has_form k t ≡ true
-onward_form R G k n s t a h =
-    subst (λ x. has_form k x ≡ true) a.2 (chase_keeps (next_value R k) (λ x. has_form k x ≡ true) (λ b c f p. next_form R G k b c f) a.0 s h)
-
--- the entry of a subtag is one of the entries
-pub entry_there : (R : List EntryParts) (k : Kind) (s : List ℕ) (e : EntryParts) → entry R k s ≡ Some e → Contains R e
-entry_there R k s e h = (entry_has R k s (Contains R) (All-contains_itself R) e h).0
+onward_form R G k n s t a h = walk_form R G k a.0 s t a.2 h
 
 -- each place and its shortcut
 
@@ -519,9 +409,6 @@ led_far R es k s v items places i j e last h same own found follows at read ther
 
 -- The places of records whose numbers rise.
 
-abbrev some : EntryParts → Option EntryParts
-some e = Some e
-
 -- a later record has a higher number
 rising_at : (R : List EntryParts) → NumbersRise R → (i k : ℕ) (c d : EntryParts) → i < k → k < length R → (get_or R i c).number < (get_or R k d).number
 rising_at [] rise i k c d h b = absurd (omega (arith, b))
@@ -530,36 +417,45 @@ rising_at (x ∷ xs) rise zero (suc k) c d h b = All-from_recursion (λ (f : Ent
 rising_at (x ∷ xs) rise (suc i) (suc k) c d h b = rising_at xs rise.1 i k c d (omega (arith, h)) (omega (arith, b))
 
 pub not_falling : (R : List EntryParts) → NumbersRise R → IsNonDecreasingBy (λ (e : EntryParts). e.number) R
-not_falling [] rise i k d h b = absurd (omega (arith, b))
-not_falling (x ∷ xs) rise zero zero d h b = omega arith
-not_falling (x ∷ xs) rise zero (suc k) d h b = let above = rising_at (x ∷ xs) rise zero (suc k) d d (omega arith) b in omega (arith, above)
-not_falling (x ∷ xs) rise (suc i) zero d h b = absurd (omega (arith, h))
-not_falling (x ∷ xs) rise (suc i) (suc k) d h b = not_falling xs rise.1 i k d (omega (arith, h)) (omega (arith, b))
+not_falling R rise i k d h b = elim (cases_lt i k) [
+  | inl l ↦ omega (arith, rising_at R rise i k d d l b)
+  | inr g ↦ let same : i ≡ k = omega (arith, h, g) in omega (arith, ap (λ j. (get_or R j d).number) same)
+]
 
--- a number is that of one record
-pub one_at : (R : List EntryParts) → NumbersRise R → (j k : ℕ) (c d : EntryParts) → j < length R → k < length R → (get_or R j c).number ≡ (get_or R k d).number → get_or R j c ≡ get_or R k d
-one_at [] rise j k c d a b e = absurd (omega (arith, a))
-one_at (x ∷ xs) rise zero zero c d a b e = refl
-one_at (x ∷ xs) rise zero (suc k) c d a b e =
-    let above = All-from_recursion (λ (f : EntryParts). x.number < f.number) xs rise.0 k d (omega (arith, b)) in absurd (omega (arith, e, above))
-one_at (x ∷ xs) rise (suc j) zero c d a b e =
-    let above = All-from_recursion (λ (f : EntryParts). x.number < f.number) xs rise.0 j c (omega (arith, a)) in absurd (omega (arith, e, above))
-one_at (x ∷ xs) rise (suc j) (suc k) c d a b e = one_at xs rise.1 j k c d (omega (arith, a)) (omega (arith, b)) e
+-- a record is where no record before it and none after it is
+there_at : (R : List EntryParts) (i : ℕ) (e : EntryParts) (c : Contains R e) → (i < c.0 → ⊥) → (c.0 < i → ⊥) → slice_get R i ≡ Some e
+there_at R i e c not_before not_after =
+    ap (slice_get R) (omega (arith, not_before, not_after)) ∙ slice_get-get_or R c.0 e c.1 ∙ ap some c.2
 
 -- a record is where one of its number does
 pub numbered_there : (R : List EntryParts) → NumbersRise R → (i : ℕ) (e f : EntryParts) → slice_get R i ≡ Some e → Contains R f → e.number ≡ f.number → slice_get R i ≡ Some f
 numbered_there R rise i e f there c same =
-    let at : get_or R i e ≡ e = get_or_from_slice_get R i e e there in
-    let numbers : (get_or R i e).number ≡ (get_or R c.0 f).number = ap (λ (x : EntryParts). x.number) at ∙ same ∙ ap (λ (x : EntryParts). x.number) (sym c.2) in
-    there ∙ ap some (sym at ∙ (one_at R rise i c.0 e f (slice_get_within R i e there) c.1 numbers) ∙ c.2)
+    let numbers : (get_or R i e).number ≡ (get_or R c.0 f).number =
+    ap (λ (x : EntryParts). x.number) (get_or_from_slice_get R i e e there) ∙ same ∙ ap (λ (x : EntryParts). x.number) (sym c.2) in
+    there_at R i f c (λ h. omega (arith, numbers, rising_at R rise i c.0 e f h c.1)) (λ h. omega (arith, numbers, rising_at R rise c.0 i f e h (slice_get_within R i e there)))
 
 -- and after all of lower numbers
 pub first_not_lower : (R : List EntryParts) → NumbersRise R → (i : ℕ) (e : EntryParts) → Contains R e → i ≤ length R → AllWithin (λ (x : EntryParts). ltb x.number e.number ≡ true) R 0 i → AllWithin (λ (x : EntryParts). ltb x.number e.number ≡ false) R i (length R) → slice_get R i ≡ Some e
 first_not_lower R rise i e c within before after =
-    let k : ℕ = c.0 in
-    let its : (get_or R k e).number ≡ e.number = ap (λ (x : EntryParts). x.number) c.2 in
-    let not_before : k < i → ⊥ = λ h. (let lower = ltb-true _ _ (before k e (omega arith) h) in omega (arith, lower, its)) in
-    let not_after : i < k → ⊥ = λ h. (
-    let higher = ltb-false _ _ (after i e (omega arith) (omega (arith, h, c.1))) in
-    omega (arith, higher, rising_at R rise i k e e h c.1, its)) in
-    ap (slice_get R) (sym (omega (arith, not_before, not_after))) ∙ slice_get-get_or R k e c.1 ∙ ap some c.2
+    let its : (get_or R c.0 e).number ≡ e.number = ap (λ (x : EntryParts). x.number) c.2 in
+    there_at R i e c
+    (λ h. let higher = ltb-false _ _ (after i e (omega arith) (omega (arith, h, c.1))) in omega (arith, higher, rising_at R rise i c.0 e e h c.1, its))
+    (λ h. let lower = ltb-true _ _ (before c.0 e (omega arith) h) in omega (arith, lower, its))
+
+-- the records before one in the file are those of lower numbers
+pub lower_are_before : (P : EntryParts → Type 0) (R : List EntryParts) (i : ℕ) (e : EntryParts) → NumbersRise R → i < length R → e ≡ get_or R i e → All P (take i R) → All (λ (f : EntryParts). f.number < e.number → P f) R
+lower_are_before P R i e rise h is all k d within below =
+    let its : e.number ≡ (get_or R i d).number = ap (λ (x : EntryParts). x.number) (is ∙ get_or_default R i e d h) in
+    elim (cases_lt k i) [
+      | inl l ↦ subst P (get_or-take i R k d l) (all k d (omega (arith, l, within, length-take i R)))
+      | inr g ↦ absurd (omega (arith, below, its, not_falling R rise i k d g within))
+    ]
+
+pub first_there : (R : List EntryParts) (i : ℕ) (e : EntryParts) → NumbersRise R → i < length R → e ≡ get_or R i e → All (HasEndingChain R) (take i R) → (HasEndingChain R e → ⊥) → IsFirstCycle R e.number
+first_there R i e rise h is all endless = record {
+  entry = e;
+  there = (i, h, sym is);
+  numbered = refl;
+  endless = endless;
+  lower = lower_are_before (HasEndingChain R) R i e rise h is all;
+}

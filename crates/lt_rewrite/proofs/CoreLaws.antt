@@ -1,57 +1,56 @@
 -- The core normal form of each core, as a function, and its laws.
-use Rattle.std.proofs.Common.{◌≡◌, ℕ, suc, Bool, true, false, eqb, List, [], ◌∷◌, ◌++◌, Option, Some, None, refl, sym, ap, ◌∙◌, subst, length, take, drop, is_none, arith, ◌≤◌, ◌+◌, zero, map, append_assoc, cond, ◌≢◌, not, is_some, filter, ◌<◌, get_or, set, All, IfSome, ◌-◌, ◌&&◌, ◌||◌, bytes_eq}
+use Rattle.std.proofs.Common.{◌≡◌, ℕ, zero, suc, Bool, true, false, eqb, List, [], ◌∷◌, ◌++◌, Option, Some, None, refl, sym, ap, ◌∙◌, subst, length, take, drop, is_none, arith, ◌≤◌, ◌+◌, map, append_assoc, cond, ◌≢◌, not, is_some, filter, ◌<◌, get_or, set, All, ◌-◌, ◌&&◌, ◌||◌, bytes_eq, ◌⊎◌, inl, inr}
 use Rattle.std.specs.Prelude.{slice_get, if◌then◌else◌, option_to_list}
-use Rattle.std.specs.List.{AllByRecursion, list_all, remove}
-use Rattle.std.proofs.lemmas.Bool.{eqb-true, cond-true, cond-false, and_parts, and_from, not-true}
-use Rattle.std.proofs.lemmas.List.{map-append, set_split, length-take-le, length-append, take_more_set}
-use Rattle.std.proofs.lemmas.Option.{same_Some, slice_get_within, slice_get-get_or, get_or_from_slice_get, none-some}
-use Rattle.lt_tag.specs.Parts.{CoreParts}
-use Rattle.lt_tag.proofs.TagLemmas.{AllByRecursion-weaker, table_length, list_all-at}
-use Rattle.lt_rewrite.specs.CoreSteps.{Values, Spot, at_extlang, at_language, at_script, at_region, at_variant, at_variant_language, subtag_at, value_at, replaced, CoreStep, chase, values_of, IsCoreNormalForm, EndsIn}
-use Rattle.lt_rewrite.proofs.PartLists.{cut_at, cut_within, round, facts_of_tests, tests_of_facts, SameCut, same_cut, all_middle, all_without, all_unmapped, if_some_is, all_replaced}
-use Rattle.lt_tag.specs.Spelling.{spell_core, IsCore}
+use Rattle.std.specs.List.{AllByRecursion, list_all, remove, sum_by}
 use Rattle.std.specs.Option.{option_map, option_map_or}
-use Rattle.lt_rewrite.proofs.Chains.{IsEnd, end_same, end_next, end_keeps, chase_rests, chase_next, end_at, end_at-is_end}
-use Rattle.lt_rewrite.specs.Rewriting.{Star, done, then as onward, Rests}
-use Rattle.lt_rewrite.proofs.Stars.{star_trans, star_path}
-use Rattle.lt_registry.specs.Parts.{EntryParts}
-use Rattle.lt_registry.specs.Entries.{preferred_value, prefixes, has_prefix, variant_value, language_value, replacement, is_registered, IsRegistry}
-use Rattle.lt_rewrite.specs.Conditions.{MeetsCoreConditions, next_value, HasEndingChain, HasFittingGrandfathered, second_entry}
-use Rattle.lt_rewrite.proofs.Entries.{chains_end, variant_languages_final, no_language, variant_language_is, entry_has, variant_value_fits, language_value_fits}
-use Rattle.std.proofs.lemmas.List.Elements.{filter-append, All-same, All-more, All-push, All-append, All-take, All-drop, recursion_from_All}
-use Rattle.lt_registry.specs.Validity.{Distinct, ExtlangsFit, IsProperCore}
-use Rattle.lt_rewrite.specs.Laws.{HasOneNormalForm, StepsKeepNormalForm, StepsKeepProper, ProperCoresSpellNone}
-use Rattle.lt_rewrite.proofs.NormalForms.{IsFormOf, star_form, form_is_normal, normal_is_form}
-use Rattle.lt_rewrite.specs.CoreSettling.{HasFinalLanguage, HasFinalScript, HasFinalRegion, HasFinalVariants, HasNoVariantLanguage, IsFirstVariantLanguage}
-use Rattle.lt_registry.specs.declared.entries.Kind.{Kind}
-use Rattle.lt_rewrite.proofs.ChainWalks.{chain_ends_within}
+use Rattle.std.proofs.lemmas.Bool.{eqb-true, cond-true, cond-false, cond_both, cases_Bool, and_parts, and_from, not-true, both_ways, or_right}
+use Rattle.std.proofs.lemmas.List.{map-append, set_split, set_at, take_at, drop_at, length-append, take_more_set, nil_from_length}
+use Rattle.std.proofs.lemmas.List.Sums.{sum_by-cons, sum_by-append}
+use Rattle.std.proofs.lemmas.Option.{same_Some, slice_get_within, slice_get-get_or, get_or_from_slice_get, none-some}
+use Rattle.std.proofs.lemmas.List.Elements.{filter-append, All-same, All-more, All-push, All-append, All-take, All-drop, All-map, All-filter, All-from_recursion, recursion_from_All}
 use Rattle.std.proofs.lemmas.Slice.Eq.{bytes_eq-Decides}
 use Rattle.lt_subtag.specs.Shapes.{is_extlang, is_script, is_region, is_variant}
 use Rattle.lt_tag.specs.Lists.{pieces}
 use Rattle.lt_tag.specs.Grandfathered.{grandfathered_texts, grandfathered_list, IsGrandfathered}
 use Rattle.lt_tag.specs.WellFormed.{IsNotGrandfathered}
-use Rattle.lt_rewrite.proofs.Forms.{registered_entry, value_form, value_registered, replacement_form, replacement_registered, language_value_form, variant_value_form}
+use Rattle.lt_tag.specs.Parts.{CoreParts}
+use Rattle.lt_tag.specs.Spelling.{spell_core, IsCore}
+use Rattle.lt_tag.proofs.TagLemmas.{AllByRecursion-weaker, table_length, list_all-at}
+use Rattle.lt_registry.specs.Parts.{EntryParts}
+use Rattle.lt_registry.specs.Entries.{prefixes, has_prefix, variant_value, language_value, replacement, is_registered, IsRegistry}
+use Rattle.lt_registry.specs.Validity.{Distinct, ExtlangsFit, IsProperCore}
+use Rattle.lt_registry.specs.declared.entries.Kind.{Kind}
 use Rattle.lt_registry.specs.declared.entries.Kind.TheVariants as kinds
-
+use Rattle.lt_rewrite.specs.CoreSteps.{Values, Spot, at_extlang, at_language, at_script, at_region, at_variant, at_variant_language, subtag_at, value_at, replaced, CoreStep, values_of, IsCoreNormalForm, EndsIn}
+use Rattle.lt_rewrite.specs.Rewriting.{Star, done, then as onward}
+use Rattle.lt_rewrite.specs.Conditions.{MeetsCoreConditions, next_value, HasEndingChain, HasFittingGrandfathered, second_entry}
+use Rattle.lt_rewrite.specs.Laws.{HasOneNormalForm, StepsKeepNormalForm, StepsKeepProper, ProperCoresSpellNone}
+use Rattle.lt_rewrite.specs.CoreSettling.{HasFinalLanguage, HasFinalScript, HasFinalRegion, HasFinalVariants, HasNoVariantLanguage, IsFirstVariantLanguage}
+use Rattle.lt_rewrite.proofs.PartLists.{cut_at, cut_within, round, facts_of_tests, tests_of_facts, all_middle, all_without, all_mapped, all_unmapped, if_some_is, all_replaced, others_same}
+use Rattle.lt_rewrite.proofs.Chains.{by_next, chase_keeps, IsEnd, end_same, end_next, end_keeps, end_at, end_at-is_end}
+use Rattle.lt_rewrite.proofs.Stars.{star_trans, star_path}
+use Rattle.lt_rewrite.proofs.Entries.{chains_end, variant_languages_final, no_language, variant_language_is, entry_has, variant_value_fits, language_value_fits}
+use Rattle.lt_rewrite.proofs.NormalForms.{IsFormOf, star_form, form_is_normal, normal_is_form}
+use Rattle.lt_rewrite.proofs.ChainWalks.{Takes, takes_unique, takes_within}
+use Rattle.lt_rewrite.proofs.Forms.{registered_entry, value_form, value_registered, replacement_form, replacement_registered, language_value_form, variant_value_form}
 -- A core step by the part that it replaces, the lists of variants cut at the variant: what each leads to, and each from
 -- what it needs.
 
-pub some_if : {A : Type 0} (b : Bool) (o : Option A) (v : A) → (if b then o else None) ≡ Some v → (b ≡ true) × (o ≡ Some v)
-some_if true o v h = (refl, h)
-some_if false o v h = cc
+pub use Rattle.lt_rewrite.proofs.Entries.{some_if}
 
 pub none_of : (xs : List (List ℕ)) → eqb (length xs) 0 ≡ true → xs ≡ []
-none_of [] h = refl
-none_of (x ∷ xs) h = let e = eqb-true (length (x ∷ xs)) 0 h in absurd (omega arith)
+none_of xs h = nil_from_length xs (eqb-true (length xs) 0 h)
 
-one_of : (xs : List (List ℕ)) (x : List ℕ) → eqb (length xs) 1 ≡ true → slice_get xs 0 ≡ Some x → xs ≡ x ∷ []
-one_of [] x h e = cc
-one_of (y ∷ []) x h e = ap (λ z. z ∷ []) (same_Some y x e)
-one_of (y ∷ z ∷ zs) x h e = let l = eqb-true (length (y ∷ z ∷ zs)) 1 h in absurd (omega arith)
+-- a list of one
+pub sole : (xs : List (List ℕ)) (x : List ℕ) → x ≡ get_or xs 0 x → length xs ≡ 1 → xs ≡ x ∷ []
+sole (y ∷ []) x e h = ap (λ z. z ∷ []) (sym e)
+sole s x e h = absurd (omega arith)
 
 -- the one extlang
 pub one_extlang : (c : CoreParts) (x : List ℕ) → subtag_at c at_extlang ≡ Some x → c.extlangs ≡ x ∷ []
-one_extlang c x t = let a = some_if (eqb (length c.extlangs) 1) (slice_get c.extlangs 0) x t in one_of c.extlangs x a.0 a.1
+one_extlang c x t =
+    let a = some_if (eqb (length c.extlangs) 1) (slice_get c.extlangs 0) x t in
+    sole c.extlangs x (sym (get_or_from_slice_get c.extlangs 0 x x a.1)) (eqb-true (length c.extlangs) 1 a.0)
 
 -- what is looked at only where there are no extlangs
 pub alone : (c : CoreParts) (o : Option (List ℕ)) (x : List ℕ) → (if eqb (length c.extlangs) 0 then o else None) ≡ Some x → (c.extlangs ≡ []) × (o ≡ Some x)
@@ -117,60 +116,33 @@ module _ (V : Values) (c : CoreParts) where
           let l = some_if (list_all (λ u. is_none (f u)) (take i c.variants)) (f x) v h in
           E.variant_language (take i c.variants) x v (drop (suc i) c.variants) a.0 (got_at c.variants i x a.1) l.1 (none_before f (take i c.variants) l.0)
 
-  cut : (before : List (List ℕ)) (v : List ℕ) (after : List (List ℕ)) → c.variants ≡ before ++ v ∷ after → SameCut (take (length before) c.variants) before v v (drop (suc (length before)) c.variants) after
-  cut before v after e =
-      same_cut (take (length before) c.variants) before v v (drop (suc (length before)) c.variants) after
-      (sym (got_at c.variants (length before) v (get_at before v after c.variants e)) ∙ e) (length-take-le (length before) c.variants (omega (arith, cut_within before v after c.variants e)))
+  step : (spot : Spot) (s v : List ℕ) → subtag_at c spot ≡ Some s → value_at V c spot s ≡ Some v → CoreStep V c (replaced c spot v)
+  step spot s v there has = record { spot = spot; subtag = s; there = there; value = v; has = has; result = refl }
 
   pub by_extlang : (x : List ℕ) → c.extlangs ≡ x ∷ [] → CoreStep V c (record c { language = V.replacement x; extlangs = [] })
-  by_extlang x one = record {
-    spot = at_extlang;
-    subtag = x;
-    there = extlang_there c x one;
-    value = V.replacement x;
-    has = refl;
-    result = refl;
-  }
+  by_extlang x one = step at_extlang x (V.replacement x) (extlang_there c x one) refl
 
   pub by_language : (v : List ℕ) → c.extlangs ≡ [] → V.language c.language ≡ Some v → CoreStep V c (record c { language = v })
-  by_language v none has = record {
-    spot = at_language;
-    subtag = c.language;
-    there = there_alone c (Some c.language) c.language none refl;
-    value = v;
-    has = has;
-    result = refl;
-  }
+  by_language v none has = step at_language c.language v (there_alone c (Some c.language) c.language none refl) has
 
   pub by_script : (s v : List ℕ) → c.script ≡ Some s → V.script s ≡ Some v → CoreStep V c (record c { script = Some v })
-  by_script s v there has = record { spot = at_script; subtag = s; there = there; value = v; has = has; result = refl }
+  by_script s v there has = step at_script s v there has
 
   pub by_region : (s v : List ℕ) → c.region ≡ Some s → V.region s ≡ Some v → CoreStep V c (record c { region = Some v })
-  by_region s v there has = record { spot = at_region; subtag = s; there = there; value = v; has = has; result = refl }
+  by_region s v there has = step at_region s v there has
 
   pub by_variant : (before : List (List ℕ)) (v w : List ℕ) (after : List (List ℕ)) → c.variants ≡ before ++ v ∷ after → V.variant v ≡ Some w → CoreStep V c (record c { variants = before ++ w ∷ after })
   by_variant before v w after there has =
-      let k = cut before v after there in
-      record {
-        spot = at_variant (length before);
-        subtag = v;
-        there = get_at before v after c.variants there;
-        value = w;
-        has = has;
-        result = ap (λ vs. record c { variants = vs }) (sym (set_split c.variants (length before) w (cut_within before v after c.variants there) ∙ (λ i. k.front i ++ w ∷ k.rest i)));
-      }
+      subst (λ vs. CoreStep V c (record c { variants = vs })) (ap (λ vs. set vs (length before) w) there ∙ set_at before v after w (length before) refl)
+      (step (at_variant (length before)) v w (get_at before v after c.variants there) has)
 
   pub by_variant_language : (before : List (List ℕ)) (v m : List ℕ) (after : List (List ℕ)) → c.extlangs ≡ [] → c.variants ≡ before ++ v ∷ after → V.variant_language c.language v ≡ Some m → AllByRecursion (λ u. V.variant_language c.language u ≡ None) before → CoreStep V c (record c { language = m; variants = before ++ after })
   by_variant_language before v m after none there has leftmost =
-      let k = cut before v after there in
-      record {
-        spot = at_variant_language (length before);
-        subtag = v;
-        there = there_alone c (slice_get c.variants (length before)) v none (get_at before v after c.variants there);
-        value = m;
-        has = has_leftmost V c (length before) v m has (subst (AllByRecursion (λ u. V.variant_language c.language u ≡ None)) (sym k.front) leftmost);
-        result = ap (λ vs. record c { language = m; variants = vs }) (sym (λ i. k.front i ++ k.rest i));
-      }
+      let n : ℕ = length before in
+      let front : take n c.variants ≡ before = ap (take n) there ∙ take_at before (v ∷ after) n refl in
+      let rest : drop (suc n) c.variants ≡ after = ap (drop (suc n)) (there ∙ sym (append_assoc before (v ∷ []) after)) ∙ drop_at (before ++ v ∷ []) after (suc n) (omega (arith, length-append before (v ∷ []))) in
+      subst (λ vs. CoreStep V c (record c { language = m; variants = vs })) (λ i. front i ++ rest i)
+      (step (at_variant_language n) v m (there_alone c (slice_get c.variants n) v none (get_at before v after c.variants there)) (has_leftmost V c n v m has (subst (AllByRecursion (λ u. V.variant_language c.language u ≡ None)) (sym front) leftmost)))
 
 -- A core step makes the subtags of a core no more.
 
@@ -205,225 +177,28 @@ core_length c =
 pub spelled_no_longer : (c d : CoreParts) → IsNoLonger d c → length (spell_core d) ≤ length (spell_core c)
 spelled_no_longer c d h = omega (arith, core_length c, core_length d, h.extlangs, h.script, h.region, h.variants)
 
--- The one core normal form.
-
--- the ends of the chains, and what the conditions on a registry say of them
-pub record Settles (V : Values) : Type 0 where
-  pub language : List ℕ → List ℕ
-  pub script : List ℕ → List ℕ
-  pub region : List ℕ → List ℕ
-  pub variant : List ℕ → List ℕ
-  pub language_end : IsEnd V.language language
-  pub script_end : IsEnd V.script script
-  pub region_end : IsEnd V.region region
-  pub variant_end : IsEnd V.variant variant
-  -- a language beside which a variant has a VariantLanguage step has no value
-  pub variant_languages_at_rest : (l v m : List ℕ) → V.variant_language l v ≡ Some m → V.language l ≡ None
-  -- a variant with a variant value has no VariantLanguage step, and nor has its value
-  pub replaced : (v w : List ℕ) → V.variant v ≡ Some w → (l : List ℕ) → (V.variant_language l v ≡ None) × (V.variant_language l w ≡ None)
-
--- the leftmost variant with a VariantLanguage step: its language, and the others
-abbrev pub pick_at : Option (List ℕ) → List ℕ → List (List ℕ) → Option (List ℕ × List (List ℕ)) → Option (List ℕ × List (List ℕ))
-pick_at (Some m) v vs r = Some (m, vs)
-pick_at None v vs r = option_map (λ (p : List ℕ × List (List ℕ)). (p.0, v ∷ p.1)) r
-
-abbrev pub pick : Values → List ℕ → List (List ℕ) → Option (List ℕ × List (List ℕ))
-pick V l [] = None
-pick V l (v ∷ vs) = pick_at (V.variant_language l v) v vs (pick V l vs)
-
--- VariantLanguage steps taken, at most n, from a language that has no value
-abbrev pub settled : (V : Values) → Settles V → ℕ → List ℕ → List (List ℕ) → List ℕ × List (List ℕ)
-settled V S zero x vs = (x, vs)
-settled V S (suc n) x vs = elim (pick V x vs) [ None ↦ (x, vs) | Some p ↦ settled V S n (S.language p.0) p.1 ]
-
-abbrev pub core : List ℕ → List (List ℕ) → Option (List ℕ) → Option (List ℕ) → List (List ℕ) → CoreParts
-core l xs sc re vs = record { language = l; extlangs = xs; script = sc; region = re; variants = vs }
-
-abbrev pub form_on : (V : Values) → Settles V → List (List ℕ) → List ℕ → Option (List ℕ) → Option (List ℕ) → List (List ℕ) → CoreParts
-form_on V S [] l sc re vs = let p = settled V S (length vs) (S.language l) vs in core p.0 [] sc re p.1
-form_on V S (x ∷ []) l sc re vs = let p = settled V S (length vs) (S.language (V.replacement x)) vs in core p.0 [] sc re p.1
-form_on V S (x ∷ y ∷ r) l sc re vs = core l (x ∷ y ∷ r) sc re vs
-
--- the core normal form
-abbrev pub form : (V : Values) → Settles V → CoreParts → CoreParts
-form V S c = form_on V S c.extlangs c.language (option_map S.script c.script) (option_map S.region c.region) (map S.variant c.variants)
-
-variant_language_end_at : (V : Values) (S : Settles V) (l v : List ℕ) → (o : Option (List ℕ)) → V.variant v ≡ o → V.variant_language l (S.variant v) ≡ V.variant_language l v
-variant_language_end_at V S l v None e = ap (V.variant_language l) (end_same S.variant_end v e)
-variant_language_end_at V S l v (Some w) e =
-    let here : V.variant_language l v ≡ None = (S.replaced v w e l).0 in
-    let P : List ℕ → Type 0 = λ s. V.variant_language l s ≡ None in
-    end_keeps S.variant_end P (λ s t h p. (S.replaced s t h l).1) v here ∙ sym here
-
-pub variant_language_end : (V : Values) (S : Settles V) (l v : List ℕ) → V.variant_language l (S.variant v) ≡ V.variant_language l v
-variant_language_end V S l v = variant_language_end_at V S l v (V.variant v) refl
-
-abbrev mapped : (List ℕ → List ℕ) → List ℕ × List (List ℕ) → List ℕ × List (List ℕ)
-mapped g p = (p.0, map g p.1)
-
-pick_at_map : (g : List ℕ → List ℕ) (o : Option (List ℕ)) (v : List ℕ) (vs : List (List ℕ)) (r : Option (List ℕ × List (List ℕ))) → pick_at o (g v) (map g vs) (option_map (mapped g) r) ≡ option_map (mapped g) (pick_at o v vs r)
-pick_at_map g (Some m) v vs r = refl
-pick_at_map g None v vs None = refl
-pick_at_map g None v vs (Some p) = refl
-
-pub pick_map : (V : Values) (S : Settles V) (l : List ℕ) (vs : List (List ℕ)) → pick V l (map S.variant vs) ≡ option_map (mapped S.variant) (pick V l vs)
-pick_map V S l [] = refl
-pick_map V S l (v ∷ vs) =
-    ap (λ o. pick_at o (S.variant v) (map S.variant vs) (pick V l (map S.variant vs))) (variant_language_end V S l v)
-    ∙ ap (pick_at (V.variant_language l v) (S.variant v) (map S.variant vs)) (pick_map V S l vs)
-    ∙ pick_at_map S.variant (V.variant_language l v) v vs (pick V l vs)
-
-pub pick_leftmost : (V : Values) (l : List ℕ) (before : List (List ℕ)) (v m : List ℕ) (after : List (List ℕ)) → AllByRecursion (λ u. V.variant_language l u ≡ None) before → V.variant_language l v ≡ Some m → pick V l (before ++ v ∷ after) ≡ Some (m, before ++ after)
-pick_leftmost V l [] v m after h e = ap (λ o. pick_at o v after (pick V l after)) e
-pick_leftmost V l (u ∷ us) v m after h e =
-    ap (λ o. pick_at o u (us ++ v ∷ after) (pick V l (us ++ v ∷ after))) h.0
-    ∙ ap (pick_at None u (us ++ v ∷ after)) (pick_leftmost V l us v m after h.1 e)
-
-pick_at_length : (o : Option (List ℕ)) (v : List ℕ) (vs : List (List ℕ)) (r : Option (List ℕ × List (List ℕ))) (p : List ℕ × List (List ℕ)) → ((q : List ℕ × List (List ℕ)) → r ≡ Some q → length vs ≡ suc (length q.1)) → pick_at o v vs r ≡ Some p → length (v ∷ vs) ≡ suc (length p.1)
-pick_at_length None v vs (Some q) p ih e =
-    let same : p ≡ (q.0, v ∷ q.1) = cc in
-    ap suc (ih q refl) ∙ sym (ap (λ (z : List ℕ × List (List ℕ)). suc (length z.1)) same)
-pick_at_length s v vs r p ih e = cc
-
-pub pick_length : (V : Values) (l : List ℕ) (vs : List (List ℕ)) (p : List ℕ × List (List ℕ)) → pick V l vs ≡ Some p → length vs ≡ suc (length p.1)
-pick_length V l [] p e = cc
-pick_length V l (v ∷ vs) p e = pick_at_length (V.variant_language l v) v vs (pick V l vs) p (pick_length V l vs) e
-
-pub settled_some : (V : Values) (S : Settles V) (x : List ℕ) (vs : List (List ℕ)) (p : List ℕ × List (List ℕ)) → pick V x vs ≡ Some p → settled V S (length vs) x vs ≡ settled V S (length p.1) (S.language p.0) p.1
-settled_some V S x vs p e =
-    ap (λ n. settled V S n x vs) (pick_length V x vs p e)
-    ∙ ap (λ (o : Option (List ℕ × List (List ℕ))). elim o as (λ _. List ℕ × List (List ℕ)) [ None ↦ (x, vs) | Some q ↦ settled V S (length p.1) (S.language q.0) q.1 ]) e
-
--- every core step keeps the form
-pub step_keeps : (V : Values) (S : Settles V) (c d : CoreParts) → CoreStep V c d → form V S c ≡ form V S d
-step_keeps V S c =
-    let sc = option_map S.script c.script in
-    let re = option_map S.region c.region in
-    let vs = map S.variant c.variants in
-    let at : List (List ℕ) → CoreParts = λ xs. form_on V S xs c.language sc re vs in
-    each_step V c (λ d. form V S c ≡ form V S d) (record {
-      extlang = λ x one. ap at one;
-      language = λ v none has.
-          ap at none
-          ∙ ap (λ x. let p = settled V S (length vs) x vs in core p.0 [] sc re p.1) (end_next S.language_end c.language v has)
-          ∙ ap (λ xs. form_on V S xs v sc re vs) (sym none);
-      script = λ s v there has.
-          ap (λ o. form_on V S c.extlangs c.language o re vs) (ap (option_map S.script) there ∙ ap Some (end_next S.script_end s v has));
-      region = λ s v there has.
-          ap (λ o. form_on V S c.extlangs c.language sc o vs) (ap (option_map S.region) there ∙ ap Some (end_next S.region_end s v has));
-      variant = λ before v w after there has.
-          ap (form_on V S c.extlangs c.language sc re)
-          (ap (map S.variant) there ∙ map-append S.variant before (v ∷ after) ∙ ap (λ u. map S.variant before ++ u ∷ map S.variant after) (end_next S.variant_end v w has) ∙ sym (map-append S.variant before (w ∷ after)));
-      variant_language = λ before v m after none there has leftmost.
-          let found : pick V c.language vs ≡ Some (m, map S.variant (before ++ after)) =
-          pick_map V S c.language c.variants
-          ∙ ap (λ us. option_map (mapped S.variant) (pick V c.language us)) there
-          ∙ ap (option_map (mapped S.variant)) (pick_leftmost V c.language before v m after leftmost has) in
-          ap at none
-          ∙ ap (λ x. let p = settled V S (length vs) x vs in core p.0 [] sc re p.1) (end_same S.language_end c.language (S.variant_languages_at_rest c.language v m has))
-          ∙ ap (λ (p : List ℕ × List (List ℕ)). core p.0 [] sc re p.1) (settled_some V S c.language vs (m, map S.variant (before ++ after)) found)
-          ∙ ap (λ xs. form_on V S xs m sc re (map S.variant (before ++ after))) (sym none);
-    })
-
--- Core steps reach the form.
-
-chain_at : (V : Values) (f : List ℕ → Option (List ℕ)) (at : List ℕ → CoreParts) → ((s t : List ℕ) → f s ≡ Some t → CoreStep V (at s) (at t)) → (n : ℕ) → ((t : List ℕ) → Star (CoreStep V) (at t) (at (chase f n t))) → (s : List ℕ) (o : Option (List ℕ)) → f s ≡ o → Star (CoreStep V) (at s) (at (chase f (suc n) s))
-chain_at V f at step n ih s None e = star_path (at s) (at (chase f (suc n) s)) (ap at (sym (chase_rests f (suc n) s e)))
-chain_at V f at step n ih s (Some t) e = onward (step s t e) (subst (λ u. Star (CoreStep V) (at t) (at u)) (sym (chase_next f n s t e)) (ih t))
-
-pub chain : (V : Values) (f : List ℕ → Option (List ℕ)) (at : List ℕ → CoreParts) → ((s t : List ℕ) → f s ≡ Some t → CoreStep V (at s) (at t)) → (n : ℕ) (s : List ℕ) → Star (CoreStep V) (at s) (at (chase f n s))
-chain V f at step zero s = done
-chain V f at step (suc n) s = chain_at V f at step n (chain V f at step n) s (f s) refl
+-- What single steps reach, one after another.
 
 -- one subtag is led to the end of its chain
-to_end : (V : Values) (f : List ℕ → Option (List ℕ)) (g : List ℕ → List ℕ) → IsEnd f g → (at : List ℕ → CoreParts) → ((s t : List ℕ) → f s ≡ Some t → CoreStep V (at s) (at t)) → (s : List ℕ) → Star (CoreStep V) (at s) (at (g s))
-to_end V f g E at step s = subst (λ u. Star (CoreStep V) (at s) (at u)) (E.reaches s).1 (chain V f at step (E.reaches s).0 s)
+along : (V : Values) (f : List ℕ → Option (List ℕ)) (at : List ℕ → CoreParts) → ((s t : List ℕ) → f s ≡ Some t → CoreStep V (at s) (at t)) → (s e : List ℕ) → EndsIn f s e → Star (CoreStep V) (at s) (at e)
+along V f at step s e h =
+    subst (λ u. Star (CoreStep V) (at s) (at u)) h.1 (chase_keeps f (λ u. Star (CoreStep V) (at s) (at u)) (λ u t g r. star_trans r (onward (step u t g) done)) h.0 s done)
 
-language_to_end : (V : Values) (S : Settles V) (l : List ℕ) (sc re : Option (List ℕ)) (vs : List (List ℕ)) → Star (CoreStep V) (core l [] sc re vs) (core (S.language l) [] sc re vs)
-language_to_end V S l sc re vs =
-    to_end V V.language S.language S.language_end (λ u. core u [] sc re vs)
-    (λ s t e. by_language V (core s [] sc re vs) t refl e) l
+pub script_reached : (R : List EntryParts) (c : CoreParts) (s e : List ℕ) → c.script ≡ Some s → EndsIn (next_value R kinds.Script) s e → Star (CoreStep (values_of R)) c (record c { script = Some e })
+script_reached R c s e h ends =
+    let at : Option (List ℕ) → CoreParts = λ o. record c { script = o } in
+    subst (λ o. Star (CoreStep (values_of R)) (at o) (record c { script = Some e })) (sym h)
+    (along (values_of R) (next_value R kinds.Script) (λ u. at (Some u)) (λ u t f. by_script (values_of R) (at (Some u)) u t refl f) s e ends)
 
-script_to_end : (V : Values) (S : Settles V) (l : List ℕ) (xs : List (List ℕ)) (sc re : Option (List ℕ)) (vs : List (List ℕ)) → Star (CoreStep V) (core l xs sc re vs) (core l xs (option_map S.script sc) re vs)
-script_to_end V S l xs None re vs = done
-script_to_end V S l xs (Some a) re vs =
-    to_end V V.script S.script S.script_end (λ u. core l xs (Some u) re vs)
-    (λ s t e. by_script V (core l xs (Some s) re vs) s t refl e) a
+pub region_reached : (R : List EntryParts) (c : CoreParts) (s e : List ℕ) → c.region ≡ Some s → EndsIn (next_value R kinds.Region) s e → Star (CoreStep (values_of R)) c (record c { region = Some e })
+region_reached R c s e h ends =
+    let at : Option (List ℕ) → CoreParts = λ o. record c { region = o } in
+    subst (λ o. Star (CoreStep (values_of R)) (at o) (record c { region = Some e })) (sym h)
+    (along (values_of R) (next_value R kinds.Region) (λ u. at (Some u)) (λ u t f. by_region (values_of R) (at (Some u)) u t refl f) s e ends)
 
-region_to_end : (V : Values) (S : Settles V) (l : List ℕ) (xs : List (List ℕ)) (sc re : Option (List ℕ)) (vs : List (List ℕ)) → Star (CoreStep V) (core l xs sc re vs) (core l xs sc (option_map S.region re) vs)
-region_to_end V S l xs sc None vs = done
-region_to_end V S l xs sc (Some a) vs =
-    to_end V V.region S.region S.region_end (λ u. core l xs sc (Some u) vs)
-    (λ s t e. by_region V (core l xs sc (Some s) vs) s t refl e) a
-
-variants_to_end : (V : Values) (S : Settles V) (l : List ℕ) (xs : List (List ℕ)) (sc re : Option (List ℕ)) (before after : List (List ℕ)) → Star (CoreStep V) (core l xs sc re (before ++ after)) (core l xs sc re (before ++ map S.variant after))
-variants_to_end V S l xs sc re before [] = done
-variants_to_end V S l xs sc re before (v ∷ vs) =
-    let one : Star (CoreStep V) (core l xs sc re (before ++ v ∷ vs)) (core l xs sc re (before ++ S.variant v ∷ vs)) =
-    to_end V V.variant S.variant S.variant_end (λ u. core l xs sc re (before ++ u ∷ vs))
-    (λ s t e. by_variant V (core l xs sc re (before ++ s ∷ vs)) before s t vs refl e) v in
-    let from : (before ++ S.variant v ∷ []) ++ vs ≡ before ++ S.variant v ∷ vs = append_assoc before (S.variant v ∷ []) vs in
-    let more' = subst (λ us. Star (CoreStep V) (core l xs sc re us) (core l xs sc re ((before ++ S.variant v ∷ []) ++ map S.variant vs))) from (variants_to_end V S l xs sc re (before ++ S.variant v ∷ []) vs) in
-    let more'' = subst (λ us. Star (CoreStep V) (core l xs sc re (before ++ S.variant v ∷ vs)) (core l xs sc re us)) (append_assoc before (S.variant v ∷ []) (map S.variant vs)) more' in
-    star_trans one more''
-
--- the picked variant, and what is round it
-pub record Picked (V : Values) (l : List ℕ) (vs : List (List ℕ)) (p : List ℕ × List (List ℕ)) : Type 0 where
-  pub before : List (List ℕ)
-  pub variant : List ℕ
-  pub after : List (List ℕ)
-  pub there : vs ≡ before ++ variant ∷ after
-  pub has : V.variant_language l variant ≡ Some p.0
-  pub leftmost : AllByRecursion (λ u. V.variant_language l u ≡ None) before
-  pub left : before ++ after ≡ p.1
-
-picked_at : (V : Values) (l v : List ℕ) (vs : List (List ℕ)) (p : List ℕ × List (List ℕ)) → ((q : List ℕ × List (List ℕ)) → pick V l vs ≡ Some q → Picked V l vs q) → (o : Option (List ℕ)) → V.variant_language l v ≡ o → (r : Option (List ℕ × List (List ℕ))) → pick V l vs ≡ r → pick_at o v vs r ≡ Some p → Picked V l (v ∷ vs) p
-picked_at V l v vs p ih (Some m) t r q e =
-    let a : m ≡ p.0 = cc in
-    let b : vs ≡ p.1 = cc in
-    record { before = []; variant = v; after = vs; there = refl; has = t ∙ ap Some a; leftmost = tt; left = b }
-picked_at V l v vs p ih None t None q e = cc
-picked_at V l v vs p ih None t (Some r) q e =
-    let k : Picked V l vs r = ih r q in
-    let a : r.0 ≡ p.0 = cc in
-    let b : v ∷ r.1 ≡ p.1 = cc in
-    record { before = v ∷ k.before; variant = k.variant; after = k.after; there = ap (λ us. v ∷ us) k.there; has = k.has ∙ ap Some a; leftmost = (t, k.leftmost); left = ap (λ us. v ∷ us) k.left ∙ b }
-
-pub picked : (V : Values) (l : List ℕ) (vs : List (List ℕ)) (p : List ℕ × List (List ℕ)) → pick V l vs ≡ Some p → Picked V l vs p
-picked V l [] p e = cc
-picked V l (v ∷ vs) p e = picked_at V l v vs p (picked V l vs) (V.variant_language l v) refl (pick V l vs) refl e
-
-variant_languages_at : (V : Values) (S : Settles V) (sc re : Option (List ℕ)) (n : ℕ) → ((x : List ℕ) (vs : List (List ℕ)) → (let p = settled V S n x vs in Star (CoreStep V) (core x [] sc re vs) (core p.0 [] sc re p.1))) → (x : List ℕ) (vs : List (List ℕ)) (o : Option (List ℕ × List (List ℕ))) → pick V x vs ≡ o → (let p : List ℕ × List (List ℕ) = elim o as (λ _. List ℕ × List (List ℕ)) [ None ↦ (x, vs) | Some p ↦ settled V S n (S.language p.0) p.1 ] in Star (CoreStep V) (core x [] sc re vs) (core p.0 [] sc re p.1))
-variant_languages_at V S sc re n ih x vs None e = done
-variant_languages_at V S sc re n ih x vs (Some p) e =
-    let k : Picked V x vs p = picked V x vs p e in
-    let s : CoreStep V (core x [] sc re vs) (core p.0 [] sc re p.1) =
-    subst (λ us. CoreStep V (core x [] sc re vs) (core p.0 [] sc re us)) k.left
-    (by_variant_language V (core x [] sc re vs) k.before k.variant p.0 k.after refl k.there k.has k.leftmost) in
-    onward s (star_trans (language_to_end V S p.0 sc re p.1) (ih (S.language p.0) p.1))
-
-variant_languages : (V : Values) (S : Settles V) (sc re : Option (List ℕ)) (n : ℕ) (x : List ℕ) (vs : List (List ℕ)) → (let p = settled V S n x vs in Star (CoreStep V) (core x [] sc re vs) (core p.0 [] sc re p.1))
-variant_languages V S sc re zero x vs = done
-variant_languages V S sc re (suc n) x vs = variant_languages_at V S sc re n (variant_languages V S sc re n) x vs (pick V x vs) refl
-
-on_reached : (V : Values) (S : Settles V) (xs : List (List ℕ)) (l : List ℕ) (sc re : Option (List ℕ)) (vs : List (List ℕ)) → Star (CoreStep V) (core l xs sc re vs) (form_on V S xs l sc re vs)
-on_reached V S [] l sc re vs = star_trans (language_to_end V S l sc re vs) (variant_languages V S sc re (length vs) (S.language l) vs)
-on_reached V S (x ∷ []) l sc re vs =
-    let r = V.replacement x in
-    onward (by_extlang V (core l (x ∷ []) sc re vs) x refl) (star_trans (language_to_end V S r sc re vs) (variant_languages V S sc re (length vs) (S.language r) vs))
-on_reached V S (x ∷ y ∷ r) l sc re vs = done
-
--- core steps reach the form
-pub form_reached : (V : Values) (S : Settles V) (c : CoreParts) → Star (CoreStep V) c (form V S c)
-form_reached V S c =
-    let sc = option_map S.script c.script in
-    let re = option_map S.region c.region in
-    star_trans (script_to_end V S c.language c.extlangs c.script c.region c.variants)
-    (star_trans (region_to_end V S c.language c.extlangs sc c.region c.variants)
-    (star_trans (variants_to_end V S c.language c.extlangs sc re [] c.variants)
-    (on_reached V S c.extlangs c.language sc re (map S.variant c.variants))))
-
--- No core step leads from the form.
+pub language_reached : (R : List EntryParts) (c : CoreParts) (e : List ℕ) → c.extlangs ≡ [] → EndsIn (next_value R kinds.Language) c.language e → Star (CoreStep (values_of R)) c (record c { language = e })
+language_reached R c e h ends =
+    along (values_of R) (next_value R kinds.Language) (λ u. record c { language = u }) (λ u t f. by_language (values_of R) (record c { language = u }) t h f) c.language e ends
 
 -- nothing is left to replace
 pub record AtRest (V : Values) (d : CoreParts) : Type 0 where
@@ -449,135 +224,29 @@ rests V d e R = each_step V d (λ _. ⊥) (record {
       none-some m (sym (all_middle P before v after (subst (AllByRecursion P) there (R.variant_language none))) ∙ has);
 }) e
 
-pick_none_at : (V : Values) (l v : List ℕ) (vs : List (List ℕ)) → ((pick V l vs ≡ None) → AllByRecursion (λ u. V.variant_language l u ≡ None) vs) → (o : Option (List ℕ)) → V.variant_language l v ≡ o → (r : Option (List ℕ × List (List ℕ))) → pick V l vs ≡ r → pick_at o v vs r ≡ None → AllByRecursion (λ u. V.variant_language l u ≡ None) (v ∷ vs)
-pick_none_at V l v vs ih None t None q e = (t, ih q)
-pick_none_at s l v vs ih u t r q e = cc
-
--- none is picked only where none has a VariantLanguage step
-pub pick_none : (V : Values) (l : List ℕ) (vs : List (List ℕ)) → pick V l vs ≡ None → AllByRecursion (λ v. V.variant_language l v ≡ None) vs
-pick_none V l [] e = tt
-pick_none V l (v ∷ vs) e = pick_none_at V l v vs (pick_none V l vs) (V.variant_language l v) refl (pick V l vs) refl e
-
-pick_kept_at : (P : List ℕ → Type 0) (o : Option (List ℕ)) (v : List ℕ) (vs : List (List ℕ)) (r : Option (List ℕ × List (List ℕ))) (p : List ℕ × List (List ℕ)) → P v → AllByRecursion P vs → ((q : List ℕ × List (List ℕ)) → r ≡ Some q → AllByRecursion P q.1) → pick_at o v vs r ≡ Some p → AllByRecursion P p.1
-pick_kept_at P (Some m) v vs r p h hs ih e =
-    let same : vs ≡ p.1 = cc in subst (AllByRecursion P) same hs
-pick_kept_at P None v vs None p h hs ih e = cc
-pick_kept_at P None v vs (Some q) p h hs ih e =
-    let same : v ∷ q.1 ≡ p.1 = cc in
-    subst (AllByRecursion P) same ((h, ih q refl))
-
--- what holds of all variants holds of those that are left
-pub pick_kept : (V : Values) (P : List ℕ → Type 0) (l : List ℕ) (vs : List (List ℕ)) (p : List ℕ × List (List ℕ)) → AllByRecursion P vs → pick V l vs ≡ Some p → AllByRecursion P p.1
-pick_kept V P l [] p h e = cc
-pick_kept V P l (v ∷ vs) p h e = pick_kept_at P (V.variant_language l v) v vs (pick V l vs) p h.0 h.1 (λ q f. pick_kept V P l vs q h.1 f) e
-
--- where the VariantLanguage steps end
-record Settled (V : Values) (P : List ℕ → Type 0) (p : List ℕ × List (List ℕ)) : Type 0 where
-  language : V.language p.0 ≡ None
-  variant_language : AllByRecursion (λ v. V.variant_language p.0 v ≡ None) p.1
-  kept : AllByRecursion P p.1
-
-settled_rests_at : (V : Values) (S : Settles V) (P : List ℕ → Type 0) (n : ℕ) → ((x : List ℕ) (vs : List (List ℕ)) → length vs ≡ n → V.language x ≡ None → AllByRecursion P vs → Settled V P (settled V S n x vs)) → (x : List ℕ) (vs : List (List ℕ)) → length vs ≡ suc n → V.language x ≡ None → AllByRecursion P vs → (o : Option (List ℕ × List (List ℕ))) → pick V x vs ≡ o → Settled V P (elim o as (λ _. List ℕ × List (List ℕ)) [ None ↦ (x, vs) | Some p ↦ settled V S n (S.language p.0) p.1 ])
-settled_rests_at V S P n ih x vs l h k None e = record { language = h; variant_language = pick_none V x vs e; kept = k }
-settled_rests_at V S P n ih x vs l h k (Some p) e =
-    let shorter : length p.1 ≡ n = cc (pick_length V x vs p e) in
-    ih (S.language p.0) p.1 shorter (S.language_end.done p.0) (pick_kept V P x vs p k e)
-
-settled_rests : (V : Values) (S : Settles V) (P : List ℕ → Type 0) (n : ℕ) (x : List ℕ) (vs : List (List ℕ)) → length vs ≡ n → V.language x ≡ None → AllByRecursion P vs → Settled V P (settled V S n x vs)
-settled_rests V S P zero x [] l h k = record { language = h; variant_language = tt; kept = k }
-settled_rests V S P zero x (v ∷ vs) l h k = cc
-settled_rests V S P (suc n) x vs l h k = settled_rests_at V S P n (settled_rests V S P n) x vs l h k (pick V x vs) refl
-
-all_map : {A : Type 0} (P : A → Type 0) (g : A → A) → ((a : A) → P (g a)) → (xs : List A) → AllByRecursion P (map g xs)
-all_map P g h [] = tt
-all_map P g h (x ∷ xs) = (h x, all_map P g h xs)
-
-end_of_some : (f : List ℕ → Option (List ℕ)) (g : List ℕ → List ℕ) → IsEnd f g → (o : Option (List ℕ)) (s : List ℕ) → option_map g o ≡ Some s → f s ≡ None
-end_of_some f g E None s e = cc
-end_of_some f g E (Some t) s e = let same : g t ≡ s = cc in subst (λ u. f u ≡ None) same (E.done t)
-
-form_on_rests : (V : Values) (S : Settles V) (xs : List (List ℕ)) (l : List ℕ) (sc re : Option (List ℕ)) (vs : List (List ℕ)) → ((s : List ℕ) → sc ≡ Some s → V.script s ≡ None) → ((s : List ℕ) → re ≡ Some s → V.region s ≡ None) → AllByRecursion (λ v. V.variant v ≡ None) vs → AtRest V (form_on V S xs l sc re vs)
-form_on_rests V S [] l sc re vs a b k =
-    let r = settled_rests V S (λ v. V.variant v ≡ None) (length vs) (S.language l) vs refl (S.language_end.done l) k in
-    record { extlang = λ x e. cc; language = λ _. r.language; script = a; region = b; variant = r.kept; variant_language = λ _. r.variant_language }
-form_on_rests V S (x ∷ []) l sc re vs a b k =
-    let r = settled_rests V S (λ v. V.variant v ≡ None) (length vs) (S.language (V.replacement x)) vs refl (S.language_end.done (V.replacement x)) k in
-    record { extlang = λ x e. cc; language = λ _. r.language; script = a; region = b; variant = r.kept; variant_language = λ _. r.variant_language }
-form_on_rests V S (x ∷ y ∷ r) l sc re vs a b k =
-    record { extlang = λ z e. cc; language = λ e. absurd (cc); script = a; region = b; variant = k; variant_language = λ e. absurd (cc) }
-
--- nothing is left to replace in the form
-pub form_rests : (V : Values) (S : Settles V) (c : CoreParts) → AtRest V (form V S c)
-form_rests V S c =
-    form_on_rests V S c.extlangs c.language (option_map S.script c.script) (option_map S.region c.region) (map S.variant c.variants)
-    (end_of_some V.script S.script S.script_end c.script) (end_of_some V.region S.region S.region_end c.region)
-    (all_map (λ v. V.variant v ≡ None) S.variant S.variant_end.done c.variants)
-
--- The ends of the chains of values, where each comes to an end.
-
-cond_none : {A : Type 0} (b : Bool) (o : Option A) → o ≡ None → cond b o None ≡ None
-cond_none true o e = e
-cond_none false o e = refl
-
-no_variant_language : (R : List EntryParts) → MeetsCoreConditions R → (v w : List ℕ) → variant_value R v ≡ Some w → (l : List ℕ) → ((values_of R).variant_language l v ≡ None) × ((values_of R).variant_language l w ≡ None)
-no_variant_language R C v w e l =
-    let p = no_language R C v w e in
-    (cond_none (has_prefix (prefixes R kinds.Variant v) l) (language_value R v) p.0, cond_none (has_prefix (prefixes R kinds.Variant w) l) (language_value R w) p.1)
-
--- the ends of the chains under the conditions
-pub settles : (R : List EntryParts) → MeetsCoreConditions R → Settles (values_of R)
-settles R C =
-    let E = chains_end R C.chains in
-    record {
-      language = end_at (preferred_value R kinds.Language) (E kinds.Language);
-      script = end_at (preferred_value R kinds.Script) (E kinds.Script);
-      region = end_at (preferred_value R kinds.Region) (E kinds.Region);
-      variant = end_at (variant_value R) (E kinds.Variant);
-      language_end = end_at-is_end (preferred_value R kinds.Language) (E kinds.Language);
-      script_end = end_at-is_end (preferred_value R kinds.Script) (E kinds.Script);
-      region_end = end_at-is_end (preferred_value R kinds.Region) (E kinds.Region);
-      variant_end = end_at-is_end (variant_value R) (E kinds.Variant);
-      variant_languages_at_rest = λ l v m e. (variant_languages_final R C l v m e).final;
-      replaced = no_variant_language R C;
-    }
-
--- A repeat that steps on a core without repeats can reach is in the core normal form too.
-
--- lists
+-- Lists that a test divides.
 
 distinct_without : {A : Type 0} (before : List A) (v : A) (after : List A) → Distinct (before ++ v ∷ after) → Distinct (before ++ after)
 distinct_without [] v after h = h.1
 distinct_without (u ∷ us) v after h = (all_without (λ y. y ≢ u) us v after h.0, distinct_without us v after h.1)
 
-filter_in : {A : Type 0} (T : A → Bool) (x : A) (xs : List A) → T x ≡ true → filter T (x ∷ xs) ≡ x ∷ filter T xs
-filter_in T x xs e = cond-true (T x) (x ∷ filter T xs) (filter T xs) e
+filter_without : (T : List ℕ → Bool) (before : List (List ℕ)) (v : List ℕ) (after : List (List ℕ)) → T v ≡ false → filter T (before ++ v ∷ after) ≡ filter T (before ++ after)
+filter_without T before v after e =
+    filter-append T before (v ∷ after) ∙ ap (λ l. filter T before ++ l) (cond-false (T v) (v ∷ filter T after) (filter T after) e) ∙ sym (filter-append T before after)
 
-filter_out : {A : Type 0} (T : A → Bool) (x : A) (xs : List A) → T x ≡ false → filter T (x ∷ xs) ≡ filter T xs
-filter_out T x xs e = cond-false (T x) (x ∷ filter T xs) (filter T xs) e
-
-all_filter_at : {A : Type 0} (P : A → Type 0) (x : A) (ys : List A) → P x → AllByRecursion P ys → (b : Bool) → AllByRecursion P (cond b (x ∷ ys) ys)
-all_filter_at P x ys a h true = (a, h)
-all_filter_at P x ys a h false = h
-
-all_filter : {A : Type 0} (P : A → Type 0) (T : A → Bool) (xs : List A) → AllByRecursion P xs → AllByRecursion P (filter T xs)
-all_filter P T [] h = tt
-all_filter P T (x ∷ xs) h = all_filter_at P x (filter T xs) h.0 (all_filter P T xs h.1) (T x)
-
-distinct_filter_at : {A : Type 0} (x : A) (ys : List A) → AllByRecursion (λ y. y ≢ x) ys → Distinct ys → (b : Bool) → Distinct (cond b (x ∷ ys) ys)
-distinct_filter_at x ys a h true = (a, h)
-distinct_filter_at x ys a h false = h
-
-pub distinct_filter : {A : Type 0} (T : A → Bool) (xs : List A) → Distinct xs → Distinct (filter T xs)
+distinct_filter : {A : Type 0} (T : A → Bool) (xs : List A) → Distinct xs → Distinct (filter T xs)
 distinct_filter T [] h = tt
-distinct_filter T (x ∷ xs) h = distinct_filter_at x (filter T xs) (all_filter (λ y. y ≢ x) T xs h.0) (distinct_filter T xs h.1) (T x)
+distinct_filter T (x ∷ xs) h =
+    let apart = recursion_from_All (λ y. y ≢ x) (filter T xs) (All-filter T (λ y. y ≢ x) xs (All-from_recursion (λ y. y ≢ x) xs h.0)) in
+    elim (T x) as (λ b. Distinct (cond b (x ∷ filter T xs) (filter T xs))) [ true ↦ (apart, distinct_filter T xs h.1) | false ↦ distinct_filter T xs h.1 ]
 
-all_unfilter_at : {A : Type 0} (P : A → Type 0) (T : A → Bool) (x : A) (xs : List A) → (T x ≡ false → P x) → (AllByRecursion P (filter T xs) → AllByRecursion P xs) → (b : Bool) → T x ≡ b → AllByRecursion P (cond b (x ∷ filter T xs) (filter T xs)) → AllByRecursion P (x ∷ xs)
-all_unfilter_at P T x xs f ih true e h = (h.0, ih h.1)
-all_unfilter_at P T x xs f ih false e h = (f e, ih h)
-
+-- what holds of those that pass, and of each that does not, holds of all
 all_unfilter : {A : Type 0} (P : A → Type 0) (T : A → Bool) (xs : List A) → ((x : A) → T x ≡ false → P x) → AllByRecursion P (filter T xs) → AllByRecursion P xs
 all_unfilter P T [] f h = tt
-all_unfilter P T (x ∷ xs) f h = all_unfilter_at P T x xs (f x) (all_unfilter P T xs f) (T x) refl h
+all_unfilter P T (x ∷ xs) f h = elim (cases_Bool (T x)) [
+  | inl e ↦ let k = subst (AllByRecursion P) (cond-true (T x) (x ∷ filter T xs) (filter T xs) e) h in (k.0, all_unfilter P T xs f k.1)
+  | inr e ↦ (f x e, all_unfilter P T xs f (subst (AllByRecursion P) (cond-false (T x) (x ∷ filter T xs) (filter T xs) e) h))
+]
 
 merge_at : {A : Type 0} (T : A → Bool) (x : A) (xs : List A) → (Distinct (filter T xs) → Distinct (filter (λ y. not (T y)) xs) → Distinct xs) → (b : Bool) → T x ≡ b → Distinct (cond b (x ∷ filter T xs) (filter T xs)) → Distinct (cond (not b) (x ∷ filter (λ y. not (T y)) xs) (filter (λ y. not (T y)) xs)) → Distinct (x ∷ xs)
 merge_at T x xs ih true e h k =
@@ -595,7 +264,40 @@ distinct_unmap g [] h = tt
 distinct_unmap g (x ∷ xs) h =
     (AllByRecursion-weaker (λ y. g y ≢ g x) (λ y. y ≢ x) (λ y f e. f (ap g e)) xs (all_unmapped (λ z. z ≢ g x) g xs h.0), distinct_unmap g xs h.1)
 
--- cores
+-- The leftmost of a list that has a value, and what is round it.
+record Picked (f : List ℕ → Option (List ℕ)) (vs : List (List ℕ)) : Type 0 where
+  before : List (List ℕ)
+  variant : List ℕ
+  after : List (List ℕ)
+  value : List ℕ
+  there : vs ≡ before ++ variant ∷ after
+  has : f variant ≡ Some value
+  leftmost : AllByRecursion (λ u. f u ≡ None) before
+
+-- there is one, or none has a value
+abbrev Pick : (List ℕ → Option (List ℕ)) → List (List ℕ) → Type 0
+Pick f vs = Picked f vs ⊎ AllByRecursion (λ u. f u ≡ None) vs
+
+pick : (f : List ℕ → Option (List ℕ)) (vs : List (List ℕ)) → Pick f vs
+pick f [] = inr tt
+pick f (v ∷ vs) =
+    by_next (f v) (λ e. later e (pick f vs))
+    (λ m e. inl (record { before = []; variant = v; after = vs; value = m; there = refl; has = e; leftmost = tt }))
+  where
+    later : f v ≡ None → Pick f vs → Pick f (v ∷ vs)
+    later e (inl p) = inl (record { before = v ∷ p.before; variant = p.variant; after = p.after; value = p.value; there = ap (λ us. v ∷ us) p.there; has = p.has; leftmost = (e, p.leftmost) })
+    later e (inr none) = inr (e, none)
+
+one_leftmost : (f : List ℕ → Option (List ℕ)) (b c : List (List ℕ)) (v w m n : List ℕ) (x y : List (List ℕ)) → b ++ v ∷ x ≡ c ++ w ∷ y → f v ≡ Some m → f w ≡ Some n → AllByRecursion (λ u. f u ≡ None) b → AllByRecursion (λ u. f u ≡ None) c → (m ≡ n) × (b ++ x ≡ c ++ y)
+one_leftmost f [] [] v w m n x y e g h p q = let k : v ≡ w = cc in let l = ap f k in (cc, cc)
+one_leftmost f [] (d ∷ c) v w m n x y e g h p q = let k : v ≡ d = cc in let l = ap f k in let z = q.0 in cc
+one_leftmost f (a ∷ b) [] v w m n x y e g h p q = let k : a ≡ w = cc in let l = ap f k in let z = p.0 in cc
+one_leftmost f (a ∷ b) (d ∷ c) v w m n x y e g h p q =
+    let r = one_leftmost f b c v w m n x y (others_same a d (b ++ v ∷ x) (c ++ w ∷ y) e) g h p.1 q.1 in
+    let k : a ≡ d = cc in
+    (r.0, λ i. k i ∷ r.1 i)
+
+-- The core normal form: each subtag at the end of its chain, and VariantLanguage steps taken.
 
 -- the variant has a language value
 pub has_variant_language : List EntryParts → List ℕ → Bool
@@ -608,152 +310,244 @@ staying R v = not (has_variant_language R v)
 abbrev pub VariantLanguagesOnce : List EntryParts → CoreParts → Type 0
 VariantLanguagesOnce R c = Distinct (filter (has_variant_language R) c.variants)
 
+abbrev core : List ℕ → List (List ℕ) → Option (List ℕ) → Option (List ℕ) → List (List ℕ) → CoreParts
+core l xs sc re vs = record { language = l; extlangs = xs; script = sc; region = re; variants = vs }
+
+-- the script and the region, if there are some, have no value
+record AtEnds (V : Values) (sc re : Option (List ℕ)) : Type 0 where
+  script : (s : List ℕ) → sc ≡ Some s → V.script s ≡ None
+  region : (s : List ℕ) → re ≡ Some s → V.region s ≡ None
+
+-- steps lead from one core to the other, which is at rest, and keep each variant that has no language value
+record Led (R : List EntryParts) (c d : CoreParts) : Type 0 where
+  reached : Star (CoreStep (values_of R)) c d
+  rest : AtRest (values_of R) d
+  kept : filter (staying R) d.variants ≡ filter (staying R) c.variants
+
+end_of_some : (f : List ℕ → Option (List ℕ)) (g : List ℕ → List ℕ) → IsEnd f g → (o : Option (List ℕ)) (s : List ℕ) → option_map g o ≡ Some s → f s ≡ None
+end_of_some f g E None s e = cc
+end_of_some f g E (Some t) s e = subst (λ u. f u ≡ None) (same_Some (g t) s e) (E.ends t).2
+
 module _ (R : List EntryParts) (C : MeetsCoreConditions R) where
+  abbrev V : Values
+  V = values_of R
+
+  -- the end of the chain of a kind
+  abbrev last : Kind → List ℕ → List ℕ
+  last k = end_at (next_value R k) (chains_end R C.chains k)
+
+  at_last : (k : Kind) → IsEnd (next_value R k) (last k)
+  at_last k = end_at-is_end (next_value R k) (chains_end R C.chains k)
+
+  abbrev Final : List ℕ → Type 0
+  Final v = variant_value R v ≡ None
+
+  abbrev taken : (List ℕ → List (List ℕ) → List ℕ × List (List ℕ)) → (x : List ℕ) (vs : List (List ℕ)) → Pick (V.variant_language x) vs → List ℕ × List (List ℕ)
+  taken go x vs (inl p) = go (last kinds.Language p.value) (p.before ++ p.after)
+  taken go x vs (inr none) = (x, vs)
+
+  -- VariantLanguage steps taken, at most n, from a language that has no value
+  abbrev settled : ℕ → List ℕ → List (List ℕ) → List ℕ × List (List ℕ)
+  settled zero x vs = (x, vs)
+  settled (suc n) x vs = taken (settled n) x vs (pick (V.variant_language x) vs)
+
+  abbrev form_on : List (List ℕ) → List ℕ → Option (List ℕ) → Option (List ℕ) → List (List ℕ) → CoreParts
+  form_on [] l sc re vs = let p = settled (length vs) (last kinds.Language l) vs in core p.0 [] sc re p.1
+  form_on (x ∷ []) l sc re vs = form_on [] (replacement R x) sc re vs
+  form_on (x ∷ y ∷ r) l sc re vs = core l (x ∷ y ∷ r) sc re vs
+
+  -- the core normal form under the conditions
+  pub normal_core : CoreParts → CoreParts
+  normal_core c = form_on c.extlangs c.language (option_map (last kinds.Script) c.script) (option_map (last kinds.Region) c.region) (map (last kinds.Variant) c.variants)
+
+  none_beside : (l v : List ℕ) → language_value R v ≡ None → V.variant_language l v ≡ None
+  none_beside l v e = cond_both (has_prefix (prefixes R kinds.Variant v) l) (language_value R v) None (λ x. x ≡ None) (λ _. e) (λ _. refl)
+
+  variant_language_last : (l v : List ℕ) → V.variant_language l (last kinds.Variant v) ≡ V.variant_language l v
+  variant_language_last l v =
+      end_keeps (at_last kinds.Variant) (λ s. V.variant_language l s ≡ V.variant_language l v)
+      (λ s t h p. let n = no_language R C s t h in none_beside l t n.1 ∙ sym (none_beside l s n.0) ∙ p) v refl
+
+  settled_some : (n : ℕ) (x : List ℕ) (vs : List (List ℕ)) (q : Picked (V.variant_language x) vs) → settled (suc n) x vs ≡ settled n (last kinds.Language q.value) (q.before ++ q.after)
+  settled_some n x vs q =
+      elim (pick (V.variant_language x) vs) as (λ o. taken (settled n) x vs o ≡ settled n (last kinds.Language q.value) (q.before ++ q.after)) [
+        | inl p ↦
+            let one = one_leftmost (V.variant_language x) p.before q.before p.variant q.variant p.value q.value p.after q.after (sym p.there ∙ q.there) p.has q.has p.leftmost q.leftmost in
+            λ i. settled n (last kinds.Language (one.0 i)) (one.1 i)
+        | inr none ↦
+            let P : List ℕ → Type 0 = λ u. V.variant_language x u ≡ None in
+            absurd (none-some q.value (sym (all_middle P q.before q.variant q.after (subst (AllByRecursion P) q.there none)) ∙ q.has))
+      ]
+
+  -- every core step keeps the form
+  step_keeps : (c d : CoreParts) → CoreStep V c d → normal_core c ≡ normal_core d
+  unfolding normal_core
+  step_keeps c =
+      let sc = option_map (last kinds.Script) c.script in
+      let re = option_map (last kinds.Region) c.region in
+      let g : List ℕ → List ℕ = last kinds.Variant in
+      let vs = map g c.variants in
+      let settle : List ℕ → CoreParts = λ x. let p = settled (length vs) x vs in core p.0 [] sc re p.1 in
+      let at : List (List ℕ) → CoreParts = λ xs. form_on xs c.language sc re vs in
+      each_step V c (λ d. normal_core c ≡ normal_core d) (record {
+        extlang = λ x one. ap at one;
+        language = λ v none has.
+            ap at none ∙ ap settle (end_next (at_last kinds.Language) c.language v has) ∙ ap (λ xs. form_on xs v sc re vs) (sym none);
+        script = λ s v there has.
+            ap (λ o. form_on c.extlangs c.language o re vs) (ap (option_map (last kinds.Script)) there ∙ ap Some (end_next (at_last kinds.Script) s v has));
+        region = λ s v there has.
+            ap (λ o. form_on c.extlangs c.language sc o vs) (ap (option_map (last kinds.Region)) there ∙ ap Some (end_next (at_last kinds.Region) s v has));
+        variant = λ before v w after there has.
+            ap (form_on c.extlangs c.language sc re)
+            (ap (map g) there ∙ map-append g before (v ∷ after) ∙ ap (λ u. map g before ++ u ∷ map g after) (end_next (at_last kinds.Variant) v w has) ∙ sym (map-append g before (w ∷ after)));
+        variant_language = λ before v m after none there has leftmost.
+            let P : List ℕ → Type 0 = λ u. V.variant_language c.language u ≡ None in
+            let b = map g before in
+            let a = map g after in
+            let same : vs ≡ b ++ g v ∷ a = ap (map g) there ∙ map-append g before (v ∷ after) in
+            let n : length vs ≡ suc (length (b ++ a)) = omega (arith, ap length same, length-append b (g v ∷ a), length-append b a) in
+            let picked : Picked (V.variant_language c.language) vs = record { before = b; variant = g v; after = a; value = m; there = same; has = variant_language_last c.language v ∙ has; leftmost = all_mapped P P g (λ u h. variant_language_last c.language u ∙ h) before leftmost } in
+            ap at none
+            ∙ ap settle (end_same (at_last kinds.Language) c.language (variant_languages_final R C c.language v m has).final)
+            ∙ ap (λ (p : List ℕ × List (List ℕ)). core p.0 [] sc re p.1) (ap (λ k. settled k c.language vs) n ∙ settled_some (length (b ++ a)) c.language vs picked)
+            ∙ ap (form_on [] m sc re) (sym (map-append g before after))
+            ∙ ap (λ xs. form_on xs m sc re (map g (before ++ after))) (sym none);
+      })
+
+  some_variant_language : (l v m : List ℕ) → V.variant_language l v ≡ Some m → has_variant_language R v ≡ true
+  unfolding has_variant_language
+  some_variant_language l v m e = ap is_some (variant_language_is R l v m e).1
+
   stays : (v : List ℕ) → language_value R v ≡ None → has_variant_language R v ≡ false
   unfolding has_variant_language
   stays v e = ap is_some e
 
-  some_variant_language : (l v m : List ℕ) → (values_of R).variant_language l v ≡ Some m → has_variant_language R v ≡ true
-  unfolding has_variant_language
-  some_variant_language l v m e = ap is_some (variant_language_is R l v m e).1
+  settled_led : (sc re : Option (List ℕ)) → AtEnds V sc re → (n : ℕ) (x : List ℕ) (vs : List (List ℕ)) → length vs ≡ n → V.language x ≡ None → AllByRecursion Final vs → (let p = settled n x vs in Led R (core x [] sc re vs) (core p.0 [] sc re p.1))
+  settled_led sc re E zero x [] l h k =
+      record { reached = done; rest = record { extlang = λ y e. cc; language = λ _. h; script = E.script; region = E.region; variant = tt; variant_language = λ _. tt }; kept = refl }
+  settled_led sc re E zero x (v ∷ vs) l h k = cc
+  settled_led sc re E (suc n) x vs l h k =
+      elim (pick (V.variant_language x) vs) as (λ o. let p = taken (settled n) x vs o in Led R (core x [] sc re vs) (core p.0 [] sc re p.1)) [
+        | inl p ↦
+            let m = p.value in
+            let us = p.before ++ p.after in
+            let shorter : length us ≡ n = omega (arith, l, ap length p.there, length-append p.before (p.variant ∷ p.after), length-append p.before p.after) in
+            let led : (let q = settled n (last kinds.Language m) us in Led R (core (last kinds.Language m) [] sc re us) (core q.0 [] sc re q.1)) =
+            settled_led sc re E n (last kinds.Language m) us shorter ((at_last kinds.Language).ends m).2 (all_without Final p.before p.variant p.after (subst (AllByRecursion Final) p.there k)) in
+            record {
+              reached = onward (by_variant_language V (core x [] sc re vs) p.before p.variant m p.after refl p.there p.has p.leftmost)
+                  (star_trans (language_reached R (core m [] sc re us) (last kinds.Language m) refl ((at_last kinds.Language).ends m)) led.reached);
+              rest = led.rest;
+              kept = led.kept ∙ sym (ap (filter (staying R)) p.there ∙ filter_without (staying R) p.before p.variant p.after (ap not (some_variant_language x p.variant m p.has)));
+            }
+        | inr none ↦
+            record { reached = done; rest = record { extlang = λ y e. cc; language = λ _. h; script = E.script; region = E.region; variant = k; variant_language = λ _. none }; kept = refl }
+      ]
 
-  filter_middle_out : (T : List ℕ → Bool) (before : List (List ℕ)) (v : List ℕ) (after : List (List ℕ)) → T v ≡ false → filter T (before ++ v ∷ after) ≡ filter T (before ++ after)
-  filter_middle_out T before v after e =
-      filter-append T before (v ∷ after) ∙ ap (λ l. filter T before ++ l) (filter_out T v after e) ∙ sym (filter-append T before after)
+  form_led : (xs : List (List ℕ)) (l : List ℕ) (sc re : Option (List ℕ)) (vs : List (List ℕ)) → AtEnds V sc re → AllByRecursion Final vs → Led R (core l xs sc re vs) (form_on xs l sc re vs)
+  form_led [] l sc re vs E k =
+      let end = (at_last kinds.Language).ends l in
+      let led : (let p = settled (length vs) (last kinds.Language l) vs in Led R (core (last kinds.Language l) [] sc re vs) (core p.0 [] sc re p.1)) =
+      settled_led sc re E (length vs) (last kinds.Language l) vs refl end.2 k in
+      record { reached = star_trans (language_reached R (core l [] sc re vs) (last kinds.Language l) refl end) led.reached; rest = led.rest; kept = led.kept }
+  form_led (x ∷ []) l sc re vs E k =
+      let led : Led R (core (replacement R x) [] sc re vs) (form_on [] (replacement R x) sc re vs) = form_led [] (replacement R x) sc re vs E k in
+      record { reached = onward (by_extlang V (core l (x ∷ []) sc re vs) x refl) led.reached; rest = led.rest; kept = led.kept }
+  form_led (x ∷ y ∷ r) l sc re vs E k =
+      record { reached = done; rest = record { extlang = λ z e. cc; language = λ e. absurd (cc); script = E.script; region = E.region; variant = k; variant_language = λ e. absurd (cc) }; kept = refl }
 
-  filter_middle_in : (T : List ℕ → Bool) (before : List (List ℕ)) (v : List ℕ) (after : List (List ℕ)) → T v ≡ true → filter T (before ++ v ∷ after) ≡ filter T before ++ v ∷ filter T after
-  filter_middle_in T before v after e =
-      filter-append T before (v ∷ after) ∙ ap (λ l. filter T before ++ l) (filter_in T v after e)
-
-  -- core steps make no second variant with a language value
-  pub variant_languages_once_kept : (c d : CoreParts) → CoreStep (values_of R) c d → VariantLanguagesOnce R c → VariantLanguagesOnce R d
-  variant_languages_once_kept c = each_step (values_of R) c (λ d. VariantLanguagesOnce R c → VariantLanguagesOnce R d) (record {
-    extlang = λ x one h. h;
-    language = λ v none has h. h;
-    script = λ a v there has h. h;
-    region = λ a v there has h. h;
-    variant = λ before v w after there has h.
-        let n = no_language R C v w has in
-        let e : filter (has_variant_language R) c.variants ≡ filter (has_variant_language R) (before ++ w ∷ after) =
-        ap (filter (has_variant_language R)) there
-        ∙ filter_middle_out (has_variant_language R) before v after (stays v n.0)
-        ∙ sym (filter_middle_out (has_variant_language R) before w after (stays w n.1)) in
-        subst Distinct e h;
-    variant_language = λ before v m after none there has leftmost h.
-        let e : filter (has_variant_language R) c.variants ≡ filter (has_variant_language R) before ++ v ∷ filter (has_variant_language R) after =
-        ap (filter (has_variant_language R)) there ∙ filter_middle_in (has_variant_language R) before v after (some_variant_language c.language v m has) in
-        subst Distinct (sym (filter-append (has_variant_language R) before after))
-        (distinct_without (filter (has_variant_language R) before) v (filter (has_variant_language R) after) (subst Distinct e h));
-  })
-
-  end_has_variant_language_at : (v : List ℕ) (o : Option (List ℕ)) → variant_value R v ≡ o → has_variant_language R ((settles R C).variant v) ≡ has_variant_language R v
-  end_has_variant_language_at v None e = ap (has_variant_language R) (end_same (settles R C).variant_end v e)
-  end_has_variant_language_at v (Some w) e =
-      let here : has_variant_language R v ≡ false = stays v (no_language R C v w e).0 in
-      let P : List ℕ → Type 0 = λ s. has_variant_language R s ≡ false in
-      end_keeps (settles R C).variant_end P (λ s t h p. stays t (no_language R C s t h).1) v here ∙ sym here
-
-  end_has_variant_language : (v : List ℕ) → has_variant_language R ((settles R C).variant v) ≡ has_variant_language R v
-  end_has_variant_language v = end_has_variant_language_at v (variant_value R v) refl
-
-  filter_map_at : (g : List ℕ → List ℕ) (x : List ℕ) (ys : List (List ℕ)) (b : Bool) → cond b (g x ∷ map g ys) (map g ys) ≡ map g (cond b (x ∷ ys) ys)
-  filter_map_at g x ys true = refl
-  filter_map_at g x ys false = refl
-
-  filter_map_end : (xs : List (List ℕ)) → filter (staying R) (map (settles R C).variant xs) ≡ map (settles R C).variant (filter (staying R) xs)
-  filter_map_end [] = refl
-  filter_map_end (x ∷ xs) =
-      let g : List ℕ → List ℕ = (settles R C).variant in
-      ap (λ b. cond (not b) (g x ∷ filter (staying R) (map g xs)) (filter (staying R) (map g xs))) (end_has_variant_language x)
-      ∙ ap (λ l. cond (staying R x) (g x ∷ l) l) (filter_map_end xs)
-      ∙ filter_map_at g x (filter (staying R) xs) (staying R x)
-
-  picked_stays : (l : List ℕ) (vs : List (List ℕ)) (p : List ℕ × List (List ℕ)) → pick (values_of R) l vs ≡ Some p → filter (staying R) p.1 ≡ filter (staying R) vs
-  picked_stays l vs p e =
-      let k : Picked (values_of R) l vs p = picked (values_of R) l vs p e in
-      sym (ap (filter (staying R)) k.there ∙ filter_middle_out (staying R) k.before k.variant k.after (ap not (some_variant_language l k.variant p.0 k.has)) ∙ ap (filter (staying R)) k.left)
-
-  settled_stays_at : (n : ℕ) → ((x : List ℕ) (vs : List (List ℕ)) → filter (staying R) (settled (values_of R) (settles R C) n x vs).1 ≡ filter (staying R) vs) → (x : List ℕ) (vs : List (List ℕ)) (o : Option (List ℕ × List (List ℕ))) → pick (values_of R) x vs ≡ o → (let p : List ℕ × List (List ℕ) = elim o as (λ _. List ℕ × List (List ℕ)) [ None ↦ (x, vs) | Some p ↦ settled (values_of R) (settles R C) n ((settles R C).language p.0) p.1 ] in filter (staying R) p.1 ≡ filter (staying R) vs)
-  settled_stays_at n ih x vs None e = refl
-  settled_stays_at n ih x vs (Some p) e = ih ((settles R C).language p.0) p.1 ∙ picked_stays x vs p e
-
-  settled_stays : (n : ℕ) (x : List ℕ) (vs : List (List ℕ)) → filter (staying R) (settled (values_of R) (settles R C) n x vs).1 ≡ filter (staying R) vs
-  settled_stays zero x vs = refl
-  settled_stays (suc n) x vs = settled_stays_at n (settled_stays n) x vs (pick (values_of R) x vs) refl
-
-  form_on_stays : (xs : List (List ℕ)) (l : List ℕ) (sc re : Option (List ℕ)) (vs : List (List ℕ)) → filter (staying R) (form_on (values_of R) (settles R C) xs l sc re vs).variants ≡ filter (staying R) vs
-  form_on_stays [] l sc re vs = settled_stays (length vs) ((settles R C).language l) vs
-  form_on_stays (x ∷ []) l sc re vs = settled_stays (length vs) ((settles R C).language (replacement R x)) vs
-  form_on_stays (x ∷ y ∷ r) l sc re vs = refl
-
-  -- where the form repeats no variant, the core repeats none
-  pub distinct_by_form : (c : CoreParts) → VariantLanguagesOnce R c → Distinct (form (values_of R) (settles R C) c).variants → Distinct c.variants
-  distinct_by_form c h k =
-      let g : List ℕ → List ℕ = (settles R C).variant in
-      let e : filter (staying R) (form (values_of R) (settles R C) c).variants ≡ map g (filter (staying R) c.variants) =
-      form_on_stays c.extlangs c.language (option_map (settles R C).script c.script) (option_map (settles R C).region c.region) (map g c.variants) ∙ filter_map_end c.variants in
-      let a : Distinct (filter (staying R) c.variants) = distinct_unmap g (filter (staying R) c.variants) (subst Distinct e (distinct_filter (staying R) (form (values_of R) (settles R C) c).variants k)) in
-      merge (has_variant_language R) c.variants h a
-
--- the core normal form under the conditions
-pub normal_core : (R : List EntryParts) → MeetsCoreConditions R → CoreParts → CoreParts
-normal_core R C = form (values_of R) (settles R C)
-
-module _ (R : List EntryParts) (C : MeetsCoreConditions R) where
-  -- each step keeps it, steps reach it, none leads from it
-  pub cores_formed : IsFormOf (CoreStep (values_of R)) (normal_core R C)
+  -- the form of a core whose subtags are at the ends of their chains
+  led : (c : CoreParts) → Led R (core c.language c.extlangs (option_map (last kinds.Script) c.script) (option_map (last kinds.Region) c.region) (map (last kinds.Variant) c.variants)) (normal_core c)
   unfolding normal_core
+  led c =
+      form_led c.extlangs c.language (option_map (last kinds.Script) c.script) (option_map (last kinds.Region) c.region) (map (last kinds.Variant) c.variants)
+      (record { script = end_of_some V.script (last kinds.Script) (at_last kinds.Script) c.script; region = end_of_some V.region (last kinds.Region) (at_last kinds.Region) c.region })
+      (recursion_from_All Final (map (last kinds.Variant) c.variants) (All-map Final (last kinds.Variant) c.variants (λ k d h. ((at_last kinds.Variant).ends (get_or c.variants k d)).2)))
+
+  script_to_end : (c : CoreParts) (o : Option (List ℕ)) → c.script ≡ o → Star (CoreStep V) c (record c { script = option_map (last kinds.Script) o })
+  script_to_end c None e = star_path c (record c { script = None }) (ap (λ o. record c { script = o }) e)
+  script_to_end c (Some s) e = script_reached R c s (last kinds.Script s) e ((at_last kinds.Script).ends s)
+
+  region_to_end : (c : CoreParts) (o : Option (List ℕ)) → c.region ≡ o → Star (CoreStep V) c (record c { region = option_map (last kinds.Region) o })
+  region_to_end c None e = star_path c (record c { region = None }) (ap (λ o. record c { region = o }) e)
+  region_to_end c (Some s) e = region_reached R c s (last kinds.Region s) e ((at_last kinds.Region).ends s)
+
+  variants_to_end : (at : List (List ℕ) → CoreParts) → ((before : List (List ℕ)) (v w : List ℕ) (after : List (List ℕ)) → V.variant v ≡ Some w → CoreStep V (at (before ++ v ∷ after)) (at (before ++ w ∷ after))) → (vs : List (List ℕ)) → Star (CoreStep V) (at vs) (at (map (last kinds.Variant) vs))
+  variants_to_end at step [] = done
+  variants_to_end at step (v ∷ vs) =
+      star_trans (along V V.variant (λ u. at (u ∷ vs)) (λ s t e. step [] s t vs e) v (last kinds.Variant v) ((at_last kinds.Variant).ends v))
+      (variants_to_end (λ us. at (last kinds.Variant v ∷ us)) (λ before s t after e. step (last kinds.Variant v ∷ before) s t after e) vs)
+
+  -- each step keeps it, steps reach it, none leads from it
+  pub cores_formed : IsFormOf (CoreStep V) normal_core
   cores_formed = record {
-    kept = step_keeps (values_of R) (settles R C);
-    reached = form_reached (values_of R) (settles R C);
-    rests = λ c e s. rests (values_of R) (form (values_of R) (settles R C) c) e (form_rests (values_of R) (settles R C) c) s;
+    kept = step_keeps;
+    reached = λ c.
+        let d : CoreParts = record c { script = option_map (last kinds.Script) c.script } in
+        let e : CoreParts = record d { region = option_map (last kinds.Region) c.region } in
+        star_trans (script_to_end c c.script refl)
+        (star_trans (region_to_end d c.region refl)
+        (star_trans (variants_to_end (λ vs. record e { variants = vs }) (λ b v w a h. by_variant V (record e { variants = b ++ v ∷ a }) b v w a refl h) c.variants) (led c).reached));
+    rests = λ c e. rests V (normal_core c) e (led c).rest;
   }
 
   pub one_normal_form : HasOneNormalForm R
   one_normal_form c =
-      (normal_core R C c, record { normal = form_is_normal cores_formed c; alone = λ d n. sym (normal_is_form cores_formed c d n) })
+      (normal_core c, record { normal = form_is_normal cores_formed c; alone = λ d n. sym (normal_is_form cores_formed c d n) })
 
   pub steps_keep_normal_form : StepsKeepNormalForm R
   steps_keep_normal_form c d e s n =
-      subst (λ x. IsCoreNormalForm (values_of R) d x) (sym (cores_formed.kept c d s) ∙ normal_is_form cores_formed c e n) (form_is_normal cores_formed d)
+      subst (λ x. IsCoreNormalForm V d x) (sym (cores_formed.kept c d s) ∙ normal_is_form cores_formed c e n) (form_is_normal cores_formed d)
 
   -- cores that differ in subtags whose chains end alike have one normal form
-  pub one_end_one_form : (f : List ℕ → Option (List ℕ)) (at : List ℕ → CoreParts) → ((s t : List ℕ) → f s ≡ Some t → CoreStep (values_of R) (at s) (at t)) → (s t e : List ℕ) → EndsIn f s e → EndsIn f t e → normal_core R C (at s) ≡ normal_core R C (at t)
+  pub one_end_one_form : (f : List ℕ → Option (List ℕ)) (at : List ℕ → CoreParts) → ((s t : List ℕ) → f s ≡ Some t → CoreStep V (at s) (at t)) → (s t e : List ℕ) → EndsIn f s e → EndsIn f t e → normal_core (at s) ≡ normal_core (at t)
   one_end_one_form f at step s t e h k =
-      let to : (u : List ℕ) → EndsIn f u e → normal_core R C (at u) ≡ normal_core R C (at e) =
-      λ u n. star_form cores_formed (subst (λ z. Star (CoreStep (values_of R)) (at u) (at z)) n.1 (chain (values_of R) f at step n.0 u)) in
-      to s h ∙ sym (to t k)
+      star_form cores_formed (along V f at step s e h) ∙ sym (star_form cores_formed (along V f at step t e k))
+
+  -- A repeat that steps on a core without repeats can reach is in the core normal form too.
 
   -- a core that repeats no variant repeats none with a language value
   pub variant_languages_once : (c : CoreParts) → Distinct c.variants → VariantLanguagesOnce R c
   variant_languages_once c h = distinct_filter (has_variant_language R) c.variants h
 
+  -- core steps make no second variant with a language value
+  pub variant_languages_once_kept : (c d : CoreParts) → CoreStep V c d → VariantLanguagesOnce R c → VariantLanguagesOnce R d
+  variant_languages_once_kept c =
+      let T : List ℕ → Bool = has_variant_language R in
+      each_step V c (λ d. VariantLanguagesOnce R c → VariantLanguagesOnce R d) (record {
+        extlang = λ x one h. h;
+        language = λ v none has h. h;
+        script = λ a v there has h. h;
+        region = λ a v there has h. h;
+        variant = λ before v w after there has h.
+            let n = no_language R C v w has in
+            subst Distinct (ap (filter T) there ∙ filter_without T before v after (stays v n.0) ∙ sym (filter_without T before w after (stays w n.1))) h;
+        variant_language = λ before v m after none there has leftmost h.
+            let e = ap (filter T) there ∙ filter-append T before (v ∷ after) ∙ ap (λ l. filter T before ++ l) (cond-true (T v) (v ∷ filter T after) (filter T after) (some_variant_language c.language v m has)) in
+            subst Distinct (sym (filter-append T before after)) (distinct_without (filter T before) v (filter T after) (subst Distinct e h));
+      })
+
+  has_variant_language_last : (v : List ℕ) → has_variant_language R (last kinds.Variant v) ≡ has_variant_language R v
+  has_variant_language_last v =
+      end_keeps (at_last kinds.Variant) (λ s. has_variant_language R s ≡ has_variant_language R v)
+      (λ s t h p. let n = no_language R C s t h in stays t n.1 ∙ sym (stays s n.0) ∙ p) v refl
+
+  filter_last : (xs : List (List ℕ)) → filter (staying R) (map (last kinds.Variant) xs) ≡ map (last kinds.Variant) (filter (staying R) xs)
+  filter_last [] = refl
+  filter_last (x ∷ xs) =
+      let g : List ℕ → List ℕ = last kinds.Variant in
+      ap (λ b. cond (not b) (g x ∷ filter (staying R) (map g xs)) (filter (staying R) (map g xs))) (has_variant_language_last x)
+      ∙ ap (λ l. cond (staying R x) (g x ∷ l) l) (filter_last xs)
+      ∙ elim (staying R x) as (λ b. cond b (g x ∷ map g (filter (staying R) xs)) (map g (filter (staying R) xs)) ≡ map g (cond b (x ∷ filter (staying R) xs) (filter (staying R) xs))) [ true ↦ refl | false ↦ refl ]
+
   -- where the normal form repeats no variant, such a core repeats none
-  pub form_distinct : (c : CoreParts) → VariantLanguagesOnce R c → Distinct (normal_core R C c).variants → Distinct c.variants
-  unfolding normal_core
-  form_distinct c h k = distinct_by_form R C c h k
+  pub form_distinct : (c : CoreParts) → VariantLanguagesOnce R c → Distinct (normal_core c).variants → Distinct c.variants
+  form_distinct c h k =
+      merge (has_variant_language R) c.variants h
+      (distinct_unmap (last kinds.Variant) (filter (staying R) c.variants)
+      (subst Distinct ((led c).kept ∙ filter_last c.variants) (distinct_filter (staying R) (normal_core c).variants k)))
 
 -- What the parts of the code that settle a core reach, and where they rest. Only the chains' ends are used.
-
--- one subtag is led to the end of its chain
-along : (V : Values) (f : List ℕ → Option (List ℕ)) (at : List ℕ → CoreParts) → ((s t : List ℕ) → f s ≡ Some t → CoreStep V (at s) (at t)) → (s e : List ℕ) → EndsIn f s e → Star (CoreStep V) (at s) (at e)
-along V f at step s e h = subst (λ u. Star (CoreStep V) (at s) (at u)) h.1 (chain V f at step h.0 s)
-
-pub script_reached : (R : List EntryParts) (c : CoreParts) (s e : List ℕ) → c.script ≡ Some s → EndsIn (next_value R kinds.Script) s e → Star (CoreStep (values_of R)) c (record c { script = Some e })
-script_reached R c s e h ends =
-    let at : Option (List ℕ) → CoreParts = λ o. record c { script = o } in
-    subst (λ o. Star (CoreStep (values_of R)) (at o) (record c { script = Some e })) (sym h)
-    (along (values_of R) (next_value R kinds.Script) (λ u. at (Some u)) (λ u t f. by_script (values_of R) (at (Some u)) u t refl f) s e ends)
-
-pub region_reached : (R : List EntryParts) (c : CoreParts) (s e : List ℕ) → c.region ≡ Some s → EndsIn (next_value R kinds.Region) s e → Star (CoreStep (values_of R)) c (record c { region = Some e })
-region_reached R c s e h ends =
-    let at : Option (List ℕ) → CoreParts = λ o. record c { region = o } in
-    subst (λ o. Star (CoreStep (values_of R)) (at o) (record c { region = Some e })) (sym h)
-    (along (values_of R) (next_value R kinds.Region) (λ u. at (Some u)) (λ u t f. by_region (values_of R) (at (Some u)) u t refl f) s e ends)
-
-pub language_reached : (R : List EntryParts) (c : CoreParts) (e : List ℕ) → c.extlangs ≡ [] → EndsIn (next_value R kinds.Language) c.language e → Star (CoreStep (values_of R)) c (record c { language = e })
-language_reached R c e h ends =
-    along (values_of R) (next_value R kinds.Language) (λ u. record c { language = u }) (λ u t f. by_language (values_of R) (record c { language = u }) t h f) c.language e ends
 
 pub variant_reached : (R : List EntryParts) (c : CoreParts) (i : ℕ) (s e : List ℕ) → i < length c.variants → s ≡ get_or c.variants i s → EndsIn (next_value R kinds.Variant) s e → Star (CoreStep (values_of R)) c (record c { variants = set c.variants i e })
 variant_reached R c i s e h is ends =
@@ -778,25 +572,6 @@ variant_language_step R c i m h t = by_variant_language (values_of R) c (take i 
 -- what all variants have, those that are left have
 pub final_without : {X : Type 0} (P : X → Type 0) (xs : List X) (i : ℕ) → All P xs → All P (remove xs i)
 final_without P xs i all = All-append P (take i xs) (drop (suc i) xs) (All-take P i xs all) (All-drop P (suc i) xs all)
-
--- a core at rest
-pub at_rest : (V : Values) (d : CoreParts) → ((x : List ℕ) → d.extlangs ≡ x ∷ [] → ⊥) → HasFinalScript V d → HasFinalRegion V d → HasFinalVariants V d → (d.extlangs ≡ [] → HasFinalLanguage V d × HasNoVariantLanguage V d) → Rests (CoreStep V) d
-at_rest V d none script region variants language e s =
-    rests V d e
-    (record {
-      extlang = none;
-      language = λ a. (language a).0;
-      script = λ u h. if_some_is (λ s. V.script s ≡ None) d.script u h script;
-      region = λ u h. if_some_is (λ s. V.region s ≡ None) d.region u h region;
-      variant = recursion_from_All (λ v. V.variant v ≡ None) d.variants variants;
-      variant_language = λ a. recursion_from_All (λ v. V.variant_language d.language v ≡ None) d.variants (language a).1;
-    })
-    s
-
--- a list of one
-pub sole : (xs : List (List ℕ)) (x : List ℕ) → x ≡ get_or xs 0 x → length xs ≡ 1 → xs ≡ x ∷ []
-sole (y ∷ []) x e h = ap (λ z. z ∷ []) (sym e)
-sole s x e h = absurd (omega arith)
 
 -- the variant at an index is the first with a VariantLanguage step, where none before it has one
 pub first_variant_language_at : (V : Values) (c : CoreParts) (i : ℕ) (v m : List ℕ) (vs : List (List ℕ)) → vs ≡ c.variants → i < length vs → v ≡ get_or vs i v → V.variant_language c.language v ≡ Some m → All (λ (u : List ℕ). V.variant_language c.language u ≡ None) (take i vs) → IsFirstVariantLanguage V c i m
@@ -834,22 +609,23 @@ pub record Settlings (V : Values) (c c1 c2 c3 : CoreParts) : Type 0 where
 
 -- and the language and the variants at last, where no VariantLanguage step is left or extlangs stay
 pub rests_settled : (V : Values) (c c1 c2 c3 d : CoreParts) → Settlings V c c1 c2 c3 → Star (CoreStep V) c3 d → HasFinalVariants V d → (c3.extlangs ≡ [] → HasFinalLanguage V d × HasNoVariantLanguage V d) → d ≡ record c3 { language = d.language; variants = d.variants } → IsCoreNormalForm V c d
-rests_settled V c c1 c2 c3 d S last variants language other = record {
-  reached = star_trans S.script (star_trans S.region (star_trans S.extlang last));
-  at_rest =
-      at_rest V d
-      (λ x e. S.none_alone x (sym (ap (λ (k : CoreParts). k.extlangs) other) ∙ e))
-      (subst P (sym (ap (λ (k : CoreParts). k.script) other ∙ ap (λ (k : CoreParts). k.script) S.other_than_extlang ∙ ap (λ (k : CoreParts). k.script) S.other_than_region)) S.final_script)
-      (subst Q (sym (ap (λ (k : CoreParts). k.region) other ∙ ap (λ (k : CoreParts). k.region) S.other_than_extlang)) S.final_region)
-      variants
-      (λ e. language (sym (ap (λ (k : CoreParts). k.extlangs) other) ∙ e));
-}
-  where
-    P : Option (List ℕ) → Type 0
-    P o = IfSome o (λ s. V.script s ≡ None)
-
-    Q : Option (List ℕ) → Type 0
-    Q o = IfSome o (λ s. V.region s ≡ None)
+rests_settled V c c1 c2 c3 d S last variants language other =
+    let none : c3.extlangs ≡ d.extlangs = sym (ap (λ (k : CoreParts). k.extlangs) other) in
+    let script = ap (λ (k : CoreParts). k.script) other ∙ ap (λ (k : CoreParts). k.script) S.other_than_extlang ∙ ap (λ (k : CoreParts). k.script) S.other_than_region in
+    let region = ap (λ (k : CoreParts). k.region) other ∙ ap (λ (k : CoreParts). k.region) S.other_than_extlang in
+    record {
+      reached = star_trans S.script (star_trans S.region (star_trans S.extlang last));
+      at_rest = λ e.
+          rests V d e
+          (record {
+            extlang = λ x h. S.none_alone x (none ∙ h);
+            language = λ h. (language (none ∙ h)).0;
+            script = λ s h. if_some_is (λ s. V.script s ≡ None) c1.script s (sym script ∙ h) S.final_script;
+            region = λ s h. if_some_is (λ s. V.region s ≡ None) c2.region s (sym region ∙ h) S.final_region;
+            variant = recursion_from_All (λ v. V.variant v ≡ None) d.variants variants;
+            variant_language = λ h. recursion_from_All (λ v. V.variant_language d.language v ≡ None) d.variants (language (none ∙ h)).1;
+          });
+    }
 
 -- Core steps come to an end: each makes a number lower.
 
@@ -858,57 +634,12 @@ pub left : (List ℕ → Option (List ℕ)) → ℕ → List ℕ → ℕ
 left f zero s = 0
 left f (suc n) s = option_map_or (λ t. suc (left f n t)) (f s) 0
 
-left_next : (f : List ℕ → Option (List ℕ)) (n : ℕ) (s t : List ℕ) → f s ≡ Some t → left f (suc n) s ≡ suc (left f n t)
+left_takes : (f : List ℕ → Option (List ℕ)) (n m : ℕ) (s : List ℕ) → Takes f m s → m ≤ n → left f n s ≡ m
 unfolding left
-left_next f n s t h = rw (h, left)
-
-left_last : (f : List ℕ → Option (List ℕ)) (n : ℕ) (s : List ℕ) → f s ≡ None → left f n s ≡ 0
-unfolding left
-left_last f zero s h = refl
-left_last f (suc n) s h = rw (h, left)
-
-left_zero : (f : List ℕ → Option (List ℕ)) (s : List ℕ) → left f zero s ≡ 0
-unfolding left
-left_zero f s = refl
-
-left_most_at : (f : List ℕ → Option (List ℕ)) (n : ℕ) (s : List ℕ) (o : Option (List ℕ)) → f s ≡ o → ((t : List ℕ) → left f n t ≤ n) → left f (suc n) s ≤ suc n
-left_most_at f n s None e ih = omega (arith, left_last f (suc n) s e)
-left_most_at f n s (Some t) e ih = omega (arith, left_next f n s t e, ih t)
-
-left_most : (f : List ℕ → Option (List ℕ)) (n : ℕ) (s : List ℕ) → left f n s ≤ n
-left_most f zero s = omega (arith, left_zero f s)
-left_most f (suc n) s = left_most_at f n s (f s) refl (left_most f n)
-
-left_more_at : (f : List ℕ → Option (List ℕ)) (n : ℕ) (s : List ℕ) (o : Option (List ℕ)) → f s ≡ o → ((t : List ℕ) → f (chase f n t) ≡ None → left f n t ≡ left f (suc n) t) → f (chase f (suc n) s) ≡ None → left f (suc n) s ≡ left f (suc (suc n)) s
-left_more_at f n s None e ih h = left_last f (suc n) s e ∙ sym (left_last f (suc (suc n)) s e)
-left_more_at f n s (Some t) e ih h =
-    left_next f n s t e ∙ ap suc (ih t (ap f (sym (chase_next f n s t e)) ∙ h)) ∙ sym (left_next f (suc n) s t e)
-
--- it is the same with more to spare
-left_more : (f : List ℕ → Option (List ℕ)) (n : ℕ) (s : List ℕ) → f (chase f n s) ≡ None → left f n s ≡ left f (suc n) s
-left_more f zero s h = left_last f zero s h ∙ sym (left_last f (suc zero) s h)
-left_more f (suc n) s h = left_more_at f n s (f s) refl (left_more f n) h
-
-falls_at : (f : List ℕ → Option (List ℕ)) (n : ℕ) (s t : List ℕ) → f s ≡ Some t → f (chase f n s) ≡ None → left f n s ≡ suc (left f n t)
-falls_at f zero s t e h = let a : f s ≡ None = h in cc
-falls_at f (suc n) s t e h =
-    left_next f n s t e ∙ ap suc (left_more f n t (ap f (sym (chase_next f n s t e)) ∙ h))
-
-pub total : (List ℕ → ℕ) → List (List ℕ) → ℕ
-total w [] = 0
-total w (x ∷ xs) = w x + total w xs
-
-total_cons : (w : List ℕ → ℕ) (x : List ℕ) (xs : List (List ℕ)) → total w (x ∷ xs) ≡ w x + total w xs
-unfolding total
-total_cons w x xs = refl
-
-total_none : (w : List ℕ → ℕ) → total w [] ≡ 0
-unfolding total
-total_none w = refl
-
-total_append : (w : List ℕ → ℕ) (xs ys : List (List ℕ)) → total w (xs ++ ys) ≡ total w xs + total w ys
-total_append w [] ys = omega (arith, total_none w)
-total_append w (x ∷ xs) ys = omega (arith, total_append w xs ys, total_cons w x xs, total_cons w x (xs ++ ys))
+left_takes f zero zero s a h = refl
+left_takes f (suc n) zero s a h = rw (a, left)
+left_takes f zero (suc m) s a h = absurd (omega arith)
+left_takes f (suc n) (suc m) s a h = let rest : left f n a.0 ≡ m = left_takes f n m a.0 a.2 (omega arith) in rw (a.1, left) (ap suc rest)
 
 module _ (R : List EntryParts) where
   -- how many values follow a subtag of a kind
@@ -925,18 +656,28 @@ module _ (R : List EntryParts) where
 
   pub weight : CoreParts → ℕ
   weight c =
-      total (λ _. spare) c.extlangs + (after kinds.Language c.language + (weight_of_option kinds.Script c.script + (weight_of_option kinds.Region c.region + total (λ v. after kinds.Variant v + spare) c.variants)))
+      sum_by (λ _. spare) c.extlangs + (after kinds.Language c.language + (weight_of_option kinds.Script c.script + (weight_of_option kinds.Region c.region + sum_by (λ v. after kinds.Variant v + spare) c.variants)))
 
-  after_most : (k : Kind) (s : List ℕ) → after k s < spare
+  -- on a chain that ends no more follow than there are records, and one less after one
+  after_most : All (HasEndingChain R) R → (k : Kind) (s : List ℕ) → after k s < spare
   unfolding after spare
-  after_most k s = omega (arith, left_most (next_value R k) (length R) s)
+  after_most C k s =
+      let t = takes_within R k s (chains_end R C k s) in
+      omega (arith, t.1, left_takes (next_value R k) (length R) t.0 s t.2 t.1)
 
   after_next : All (HasEndingChain R) R → (k : Kind) (s t : List ℕ) → next_value R k s ≡ Some t → after k s ≡ suc (after k t)
   unfolding after
-  after_next C k s t e = falls_at (next_value R k) (length R) s t e (chain_ends_within R k s (chains_end R C k s))
+  after_next C k s t e =
+      let a = takes_within R k t (chains_end R C k t) in
+      let b = takes_within R k s (chains_end R C k s) in
+      let same : suc a.0 ≡ b.0 = takes_unique (next_value R k) (suc a.0) b.0 s (t, e, a.2) b.2 in
+      omega (arith, same, left_takes (next_value R k) (length R) a.0 t a.2 a.1, left_takes (next_value R k) (length R) b.0 s b.2 b.1)
 
-  variants_with : (before : List (List ℕ)) (v : List ℕ) (vs : List (List ℕ)) → total (λ u. after kinds.Variant u + spare) (before ++ v ∷ vs) ≡ total (λ u. after kinds.Variant u + spare) before + ((after kinds.Variant v + spare) + total (λ u. after kinds.Variant u + spare) vs)
-  variants_with before v vs = total_append (λ u. after kinds.Variant u + spare) before (v ∷ vs) ∙ ap (λ n. total (λ u. after kinds.Variant u + spare) before + n) (total_cons (λ u. after kinds.Variant u + spare) v vs)
+  abbrev variant_weight : List ℕ → ℕ
+  variant_weight v = after kinds.Variant v + spare
+
+  variants_with : (before : List (List ℕ)) (v : List ℕ) (vs : List (List ℕ)) → sum_by variant_weight (before ++ v ∷ vs) ≡ sum_by variant_weight before + (variant_weight v + sum_by variant_weight vs)
+  variants_with before v vs = sum_by-append variant_weight before (v ∷ vs) ∙ ap (λ n. sum_by variant_weight before + n) (sum_by-cons variant_weight v vs)
 
   of_some : (k : Kind) (o : Option (List ℕ)) (s : List ℕ) → o ≡ Some s → weight_of_option k o ≡ after k s
   unfolding weight_of_option
@@ -946,38 +687,27 @@ module _ (R : List EntryParts) where
   unfolding weight
   weight_falls C c = each_step (values_of R) c (λ d. weight d < weight c) (record {
     extlang = λ x one.
-        omega (arith, ap (total (λ _. spare)) one, total_cons (λ _. spare) x [], total_none (λ _. spare), after_most kinds.Language (replacement R x));
+        omega (arith, ap (sum_by (λ _. spare)) one, sum_by-cons (λ _. spare) x [], after_most C kinds.Language (replacement R x));
     language = λ v none has. omega (arith, after_next C kinds.Language c.language v has);
     script = λ a v there has.
         omega (arith, of_some kinds.Script c.script a there, of_some kinds.Script (Some v) v refl, after_next C kinds.Script a v has);
     region = λ a v there has.
         omega (arith, of_some kinds.Region c.region a there, of_some kinds.Region (Some v) v refl, after_next C kinds.Region a v has);
     variant = λ before v w vs there has.
-        omega (arith, ap (total (λ u. after kinds.Variant u + spare)) there, variants_with before v vs, variants_with before w vs, after_next C kinds.Variant v w has);
+        omega (arith, ap (sum_by variant_weight) there, variants_with before v vs, variants_with before w vs, after_next C kinds.Variant v w has);
     variant_language = λ before v m vs none there has leftmost.
-        omega (arith, ap (total (λ u. after kinds.Variant u + spare)) there, variants_with before v vs, total_append (λ u. after kinds.Variant u + spare) before vs, after_most kinds.Language m);
+        omega (arith, ap (sum_by variant_weight) there, variants_with before v vs, sum_by-append variant_weight before vs, after_most C kinds.Language m);
   })
 
 -- A core step on a proper core gives a proper core, and no proper core spells a grandfathered tag.
 
 test_replaced : {A : Type 0} (test : A → Bool) (before : List A) (v w : A) (after : List A) → list_all test (before ++ v ∷ after) ≡ true → test w ≡ true → list_all test (before ++ w ∷ after) ≡ true
-test_replaced test [] v w after h p = and_from (test w) (list_all test after) p (and_parts (test v) (list_all test after) h).1
-test_replaced test (u ∷ us) v w after h p =
-    let q = and_parts (test u) (list_all test (us ++ v ∷ after)) h in
-    and_from (test u) (list_all test (us ++ w ∷ after)) q.0 (test_replaced test us v w after q.1 p)
+test_replaced test before v w after h p =
+    tests_of_facts test (before ++ w ∷ after) (all_replaced (λ x. test x ≡ true) before v w after (facts_of_tests test (before ++ v ∷ after) h) p)
 
 test_without : {A : Type 0} (test : A → Bool) (before : List A) (v : A) (after : List A) → list_all test (before ++ v ∷ after) ≡ true → list_all test (before ++ after) ≡ true
-test_without test [] v after h = (and_parts (test v) (list_all test after) h).1
-test_without test (u ∷ us) v after h =
-    let q = and_parts (test u) (list_all test (us ++ v ∷ after)) h in
-    and_from (test u) (list_all test (us ++ after)) q.0 (test_without test us v after q.1)
-
-fit_none : (R : List EntryParts) (l : List ℕ) (xs : List (List ℕ)) → xs ≡ [] → ExtlangsFit R l xs
-fit_none R l [] e = tt
-fit_none R l (x ∷ xs) e = cc
-
-short_none : (l : List ℕ) (xs : List (List ℕ)) → xs ≡ [] → 0 < length xs → length l ≤ 3
-short_none l xs e n = let m = ap length e in absurd (omega (arith, m, n))
+test_without test before v after h =
+    tests_of_facts test (before ++ after) (all_without (λ x. test x ≡ true) before v after (facts_of_tests test (before ++ v ∷ after) h))
 
 -- a core step keeps the shape
 pub step_shaped : (R : List EntryParts) → IsRegistry R → (c d : CoreParts) → IsCore c → CoreStep (values_of R) c d → IsCore d
@@ -986,7 +716,7 @@ step_shaped R G c d S = each_step (values_of R) c IsCore (record {
       let shape : is_extlang x ≡ true = (and_parts (is_extlang x) true (ap (list_all is_extlang) (sym one) ∙ S.extlangs)).0 in
       record { language = replacement_form R G x shape; extlangs = refl; up_to_three = omega arith; after_short = λ n. absurd (omega (arith, n)); script = S.script; region = S.region; variants = S.variants };
   language = λ v none has.
-      record { language = value_form R G kinds.Language c.language v has; extlangs = S.extlangs; up_to_three = S.up_to_three; after_short = short_none v c.extlangs none; script = S.script; region = S.region; variants = S.variants };
+      record { language = value_form R G kinds.Language c.language v has; extlangs = S.extlangs; up_to_three = S.up_to_three; after_short = λ n. absurd (omega (arith, ap length none, n)); script = S.script; region = S.region; variants = S.variants };
   script = λ a v there has.
       record { language = S.language; extlangs = S.extlangs; up_to_three = S.up_to_three; after_short = S.after_short; script = value_form R G kinds.Script a v has; region = S.region; variants = S.variants };
   region = λ a v there has.
@@ -995,7 +725,7 @@ step_shaped R G c d S = each_step (values_of R) c IsCore (record {
       record { language = S.language; extlangs = S.extlangs; up_to_three = S.up_to_three; after_short = S.after_short; script = S.script; region = S.region; variants = test_replaced is_variant before v w after (ap (list_all is_variant) (sym there) ∙ S.variants) (variant_value_form R G v w has) };
   variant_language = λ before v m after none there has leftmost.
       let t = (variant_language_is R c.language v m has).1 in
-      record { language = language_value_form R G v m t; extlangs = S.extlangs; up_to_three = S.up_to_three; after_short = short_none m c.extlangs none; script = S.script; region = S.region; variants = test_without is_variant before v after (ap (list_all is_variant) (sym there) ∙ S.variants) };
+      record { language = language_value_form R G v m t; extlangs = S.extlangs; up_to_three = S.up_to_three; after_short = λ n. absurd (omega (arith, ap length none, n)); script = S.script; region = S.region; variants = test_without is_variant before v after (ap (list_all is_variant) (sym there) ∙ S.variants) };
 }) d
 
 abbrev RegisteredVariant : List EntryParts → List ℕ → Type 0
@@ -1008,7 +738,7 @@ step_proper R C c d P = each_step (values_of R) c (IsProperCore R) (record {
       let fit : ExtlangsFit R c.language (x ∷ []) = subst (ExtlangsFit R c.language) one P.extlangs in
       record { language = replacement_registered R C x fit.0; extlangs = tt; script = P.script; region = P.region; variants = P.variants };
   language = λ v none has.
-      record { language = value_registered R C kinds.Language c.language v refl has; extlangs = fit_none R v c.extlangs none; script = P.script; region = P.region; variants = P.variants };
+      record { language = value_registered R C kinds.Language c.language v refl has; extlangs = subst (ExtlangsFit R v) (sym none) tt; script = P.script; region = P.region; variants = P.variants };
   script = λ a v there has.
       record { language = P.language; extlangs = P.extlangs; script = value_registered R C kinds.Script a v refl has; region = P.region; variants = P.variants };
   region = λ a v there has.
@@ -1019,7 +749,7 @@ step_proper R C c d P = each_step (values_of R) c (IsProperCore R) (record {
   variant_language = λ before v m after none there has leftmost.
       let t = (variant_language_is R c.language v m has).1 in
       let all = subst (AllByRecursion (RegisteredVariant R)) there P.variants in
-      record { language = language_value_fits R C v m t; extlangs = fit_none R m c.extlangs none; script = P.script; region = P.region; variants = all_without (RegisteredVariant R) before v after all };
+      record { language = language_value_fits R C v m t; extlangs = subst (ExtlangsFit R m) (sym none) tt; script = P.script; region = P.region; variants = all_without (RegisteredVariant R) before v after all };
 }) d
 
 pub steps_keep_proper : (R : List EntryParts) → IsRegistry R → MeetsCoreConditions R → StepsKeepProper R
@@ -1037,18 +767,12 @@ unfoldable pub distinct_test : List (List ℕ) → Bool
 distinct_test [] = true
 distinct_test (x ∷ xs) = list_all (λ y. not (bytes_eq y x)) xs && distinct_test xs
 
-all_differ : (x : List ℕ) (xs : List (List ℕ)) → list_all (λ y. not (bytes_eq y x)) xs ≡ true → AllByRecursion (λ y. y ≢ x) xs
-all_differ x [] h = tt
-all_differ x (y ∷ ys) h =
-    let p = and_parts (not (bytes_eq y x)) (list_all (λ y. not (bytes_eq y x)) ys) h in
-    ((λ e. let t : bytes_eq y x ≡ true = (bytes_eq-Decides y x).1 e in let f : false ≡ true = ap not (sym t) ∙ p.0 in cc), all_differ x ys p.1)
-
 pub distinct_from_test : (xs : List (List ℕ)) → distinct_test xs ≡ true → Distinct xs
 unfolding distinct_test
 distinct_from_test [] h = tt
 distinct_from_test (x ∷ xs) h =
     let p = and_parts (list_all (λ y. not (bytes_eq y x)) xs) (distinct_test xs) h in
-    (all_differ x xs p.0, distinct_from_test xs p.1)
+    (AllByRecursion-weaker (λ y. not (bytes_eq y x) ≡ true) (λ y. y ≢ x) (λ y f e. both_ways (bytes_eq y x) (not-true (bytes_eq y x) f) ((bytes_eq-Decides y x).1 e)) xs (facts_of_tests (λ y. not (bytes_eq y x)) xs p.0), distinct_from_test xs p.1)
 
 distinct_rest : (before after : List (List ℕ)) → Distinct (before ++ after) → Distinct after
 distinct_rest [] after h = h
@@ -1068,15 +792,11 @@ tests_hold : list_all (λ (t : List ℕ). of_grandfathered (pieces t)) grandfath
 unfolding of_grandfathered distinct_test three_at_most grandfathered_texts is_script is_region
 tests_hold = refl
 
-grandfathered_test : (list : List (List ℕ)) (number : ℕ) → IsGrandfathered list number → of_grandfathered list ≡ true
-unfolding grandfathered_list
-grandfathered_test list number g =
-    ap of_grandfathered g.same ∙ list_all-at (λ (t : List ℕ). of_grandfathered (pieces t)) grandfathered_texts (number - 1) tests_hold (omega (arith, table_length, g.first, g.last))
-
 grandfathered_is : (list : List (List ℕ)) (number : ℕ) → IsGrandfathered list number → Distinct list × (three_at_most list ≡ false)
-unfolding of_grandfathered
+unfolding of_grandfathered grandfathered_list
 grandfathered_is list number g =
-    let p = and_parts (distinct_test list) (not (three_at_most list)) (grandfathered_test list number g) in
+    let test = ap of_grandfathered g.same ∙ list_all-at (λ (t : List ℕ). of_grandfathered (pieces t)) grandfathered_texts (number - 1) tests_hold (omega (arith, table_length, g.first, g.last)) in
+    let p = and_parts (distinct_test list) (not (three_at_most list)) test in
     (distinct_from_test list p.0, not-true (three_at_most list) p.1)
 
 -- what spells a grandfathered tag repeats no variant
@@ -1090,10 +810,6 @@ unfolding three_at_most
 bare_test l None None s r = refl
 bare_test l (Some a) None s r = rw s refl
 bare_test l None (Some b) s r = or_right (is_script b) (is_region b) r
-  where
-    or_right : (p q : Bool) → q ≡ true → (p || q) ≡ true
-    or_right true q e = refl
-    or_right false q e = e
 bare_test l (Some a) (Some b) s r = and_from (is_script a) (is_region b) s r
 
 second_registered : (R : List EntryParts) (c : CoreParts) (number : ℕ) (xs vs : List (List ℕ)) → IsCore c → c.extlangs ≡ xs → c.variants ≡ vs → ExtlangsFit R c.language xs → AllByRecursion (λ v. is_registered R kinds.Variant v ≡ true) vs → IsGrandfathered (spell_core c) number → (e : EntryParts) × (second_entry R xs vs ≡ Some e)

@@ -1,68 +1,59 @@
 -- What the conditions say of entries.
-use Rattle.std.proofs.Common.{◌≡◌, ℕ, suc, ◌⊎◌, inl, inr, Bool, true, false, cond, ◌&&◌, List, [], ◌∷◌, Option, Some, None, refl, sym, ap, ◌∙◌, subst, All, bytes_eq, find}
+use Rattle.std.proofs.Common.{◌≡◌, ℕ, ◌⊎◌, inl, inr, Bool, true, false, true≢false, cond, ◌&&◌, List, [], ◌∷◌, Option, Some, None, refl, sym, ap, ◌∙◌, subst, All, bytes_eq, find}
 use Rattle.std.specs.List.{AllByRecursion}
-use Rattle.std.specs.Option.{option_and_then, option_or, option_map_or}
+use Rattle.std.specs.Option.{option_map_or}
 use Rattle.std.specs.Cmp.Lexicographic.{pointwise}
 use Rattle.std.proofs.lemmas.List.Elements.{All-head, All-tail}
 use Rattle.std.proofs.lemmas.Slice.Eq.{bytes_eq-Decides, slice_eq-Decides}
-use Rattle.std.proofs.lemmas.Bool.{and_parts, or_cases}
+use Rattle.std.proofs.lemmas.Bool.{and_parts, or_cases, cases_Bool}
+use Rattle.std.proofs.lemmas.Option.{cond_some, option_and_then_some, same_Some}
 use Rattle.lt_registry.specs.Parts.{EntryParts}
 use Rattle.lt_registry.specs.Same.{same_kind}
 use Rattle.lt_registry.specs.Entries.{is_named, holds, one_of, entry, preferred_value, prefixes, has_prefix, is_short, variant_value, language_value, is_registered}
 use Rattle.lt_registry.specs.declared.entries.Kind.{Kind}
+use Rattle.lt_registry.specs.declared.entries.EntryName.{EntryName}
 use Rattle.lt_registry.specs.declared.entries.Kind.TheVariants as kinds
 use Rattle.lt_rewrite.specs.CoreSteps.{values_of, Ends}
 use Rattle.lt_rewrite.specs.Conditions.{next_value, HasEndingChain, HasFittingVariantValue, HasFinalPrefixes, IsFinalLanguage, MeetsCoreConditions}
-use Rattle.lt_rewrite.proofs.Chains.{chase_next}
+use Rattle.lt_rewrite.proofs.Chains.{by_next, ends_first}
 
 pub same_kind_is : (a b : Kind) → same_kind a b ≡ true → a ≡ b
 same_kind_is kinds.Language kinds.Language h = refl
-same_kind_is kinds.Extlang kinds.Extlang h = refl
-same_kind_is kinds.Script kinds.Script h = refl
-same_kind_is kinds.Region kinds.Region h = refl
-same_kind_is kinds.Variant kinds.Variant h = refl
-same_kind_is kinds.Grandfathered kinds.Grandfathered h = refl
-same_kind_is kinds.Redundant kinds.Redundant h = refl
-same_kind_is _ _ h = cc
+same_kind_is a kinds.Language h = cc
+same_kind_is a b h = cc
 
 pub same_kind_itself : (a : Kind) → same_kind a a ≡ true
 same_kind_itself kinds.Language = refl
 same_kind_itself s = refl
 
-find_at : {A : Type 0} (P : A → Type 0) (test : A → Bool) (x : A) (xs : List A) (a : A) → P x → (find test xs ≡ Some a → P a × (test a ≡ true)) → (b : Bool) → test x ≡ b → cond b (Some x) (find test xs) ≡ Some a → P a × (test a ≡ true)
-find_at P test x xs a h ih true t e = let same : x ≡ a = cc in (subst P same h, ap test (sym same) ∙ t)
-find_at P test x xs a h ih false t e = ih e
-
 -- what is found has what each element has, and passes the test
 pub find_has : {A : Type 0} (P : A → Type 0) (test : A → Bool) (xs : List A) (a : A) → All P xs → find test xs ≡ Some a → P a × (test a ≡ true)
 find_has P test [] a h e = cc
-find_has P test (x ∷ xs) a h e = find_at P test x xs a (All-head P x xs h) (find_has P test xs a (All-tail P x xs h)) (test x) refl e
+find_has P test (x ∷ xs) a h e = elim (cases_Bool (test x)) [
+  | inl t ↦ let same : x ≡ a = same_Some x a (rw t at e) in (subst P same (All-head P x xs h), ap test (sym same) ∙ t)
+  | inr t ↦ find_has P test xs a (All-tail P x xs h) (rw t at e)
+]
 
 -- the entry of a subtag is of the kind, and names the subtag or holds it
 pub record IsEntryOf (k : Kind) (s : List ℕ) (e : EntryParts) : Type 0 where
   pub of_kind : e.kind ≡ k
   pub names : (is_named s e.name ≡ true) ⊎ (holds s e.name ≡ true)
 
-entry_at : (R : List EntryParts) (k : Kind) (s : List ℕ) (P : EntryParts → Type 0) → All P R → (e : EntryParts) (o : Option EntryParts) → find (λ (e : EntryParts). same_kind e.kind k && is_named s e.name) R ≡ o → option_or o (find (λ (e : EntryParts). same_kind e.kind k && holds s e.name) R) ≡ Some e → P e × IsEntryOf k s e
-entry_at R k s P h e (Some f) p q =
-    let same : f ≡ e = cc in
-    let both = find_has P (λ (e : EntryParts). same_kind e.kind k && is_named s e.name) R f h p in
-    let parts = and_parts (same_kind f.kind k) (is_named s f.name) both.1 in
-    subst (λ x. P x × IsEntryOf k s x) same (both.0, record { of_kind = same_kind_is f.kind k parts.0; names = inl parts.1 })
-entry_at R k s P h e None p q =
-    let both = find_has P (λ (e : EntryParts). same_kind e.kind k && holds s e.name) R e h q in
-    let parts = and_parts (same_kind e.kind k) (holds s e.name) both.1 in
-    (both.0, record { of_kind = same_kind_is e.kind k parts.0; names = inr parts.1 })
+found_by : (R : List EntryParts) (k : Kind) (P : EntryParts → Type 0) → All P R → (test : EntryName → Bool) (e : EntryParts) → find (λ (e : EntryParts). same_kind e.kind k && test e.name) R ≡ Some e → P e × (e.kind ≡ k) × (test e.name ≡ true)
+found_by R k P h test e q =
+    let both = find_has P (λ (e : EntryParts). same_kind e.kind k && test e.name) R e h q in
+    let parts = and_parts (same_kind e.kind k) (test e.name) both.1 in
+    (both.0, same_kind_is e.kind k parts.0, parts.1)
 
 -- what each record has, the entry of a subtag has
 pub entry_has : (R : List EntryParts) (k : Kind) (s : List ℕ) (P : EntryParts → Type 0) → All P R → (e : EntryParts) → entry R k s ≡ Some e → P e × IsEntryOf k s e
-entry_has R k s P h e q = entry_at R k s P h e (find (λ (e : EntryParts). same_kind e.kind k && is_named s e.name) R) refl q
-
-all_trivial : {A : Type 0} (xs : List A) → All (λ (a : A). Unit {0}) xs
-all_trivial xs = λ k d h. tt
+entry_has R k s P h e q =
+    by_next (find (λ (e : EntryParts). same_kind e.kind k && is_named s e.name) R)
+    (λ n. let f = found_by R k P h (holds s) e (rw n at q) in (f.0, record { of_kind = f.1; names = inr f.2 }))
+    (λ g p. let f = found_by R k P h (is_named s) e (p ∙ (rw p at q)) in (f.0, record { of_kind = f.1; names = inl f.2 }))
 
 pub entry_of : (R : List EntryParts) (k : Kind) (s : List ℕ) (e : EntryParts) → entry R k s ≡ Some e → IsEntryOf k s e
-entry_of R k s e q = (entry_has R k s (λ (x : EntryParts). Unit {0}) (all_trivial R) e q).1
+entry_of R k s e q = (entry_has R k s (λ (x : EntryParts). Unit {0}) (λ k d h. tt) e q).1
 
 -- the entry behind a value
 pub record ValuedEntry (R : List EntryParts) (k : Kind) (s v : List ℕ) : Type 0 where
@@ -71,44 +62,33 @@ pub record ValuedEntry (R : List EntryParts) (k : Kind) (s v : List ℕ) : Type 
   pub of_kind : at.kind ≡ k
   pub gives : one_of at.value ≡ Some v
 
-valued_at : (R : List EntryParts) (k : Kind) (s v : List ℕ) (o : Option EntryParts) → entry R k s ≡ o → option_and_then (λ (e : EntryParts). one_of e.value) o ≡ Some v → ValuedEntry R k s v
-valued_at R k s v None p q = cc
-valued_at R k s v (Some e) p q = record { at = e; found = p; of_kind = (entry_of R k s e p).of_kind; gives = q }
-
 pub valued : (R : List EntryParts) (k : Kind) (s v : List ℕ) → preferred_value R k s ≡ Some v → ValuedEntry R k s v
-valued R k s v q = valued_at R k s v (entry R k s) refl q
+valued R k s v q =
+    option_and_then_some (λ (e : EntryParts). one_of e.value) (entry R k s) v q
+    (λ e p g. record { at = e; found = p; of_kind = (entry_of R k s e p).of_kind; gives = g })
 
 -- what each record has, the entry behind a value has
 pub valued_has : (R : List EntryParts) (k : Kind) (s v : List ℕ) (P : EntryParts → Type 0) → All P R → (en : ValuedEntry R k s v) → P en.at
 valued_has R k s v P h en = (entry_has R k s P h en.at en.found).0
 
-some_when : {A : Type 0} (b : Bool) (o : Option A) (a : A) → cond b o None ≡ Some a → (b ≡ true) × (o ≡ Some a)
-some_when true o a e = (refl, e)
-some_when false o a e = cc
+pub some_if : {A : Type 0} (b : Bool) (o : Option A) (a : A) → cond b o None ≡ Some a → (b ≡ true) × (o ≡ Some a)
+some_if true o a e = (refl, e)
+some_if false o a e = cc
 
 none_when : (b : Bool) (w v : List ℕ) → cond b None (Some w) ≡ Some v → (b ≡ false) × (w ≡ v)
 none_when true w v e = cc
 none_when false w v e = (refl, let s : w ≡ v = cc in s)
 
 -- a variant value is the value, and is not short
-variant_value_at : (o : Option (List ℕ)) (w : List ℕ) → option_and_then (λ u. cond (is_short u) None (Some u)) o ≡ Some w → (o ≡ Some w) × (is_short w ≡ false)
-variant_value_at None w e = cc
-variant_value_at (Some u) w e =
-    let p = none_when (is_short u) u w e in
-    (ap Some p.1, ap is_short (sym p.1) ∙ p.0)
-
 pub variant_value_is : (R : List EntryParts) (v w : List ℕ) → variant_value R v ≡ Some w → (preferred_value R kinds.Variant v ≡ Some w) × (is_short w ≡ false)
-variant_value_is R v w e = variant_value_at (preferred_value R kinds.Variant v) w e
-
-language_value_at : (o : Option (List ℕ)) (w : List ℕ) → option_and_then (λ u. cond (is_short u) (Some u) None) o ≡ Some w → (o ≡ Some w) × (is_short w ≡ true)
-language_value_at None w e = cc
-language_value_at (Some u) w e =
-    let p = some_when (is_short u) (Some u) w e in
-    let same : u ≡ w = cc (p.1) in
-    (ap Some same, ap is_short (sym same) ∙ p.0)
+variant_value_is R v w e =
+    option_and_then_some (λ u. cond (is_short u) None (Some u)) (preferred_value R kinds.Variant v) w e
+    (λ u p g. let q = none_when (is_short u) u w g in (p ∙ ap Some q.1, ap is_short (sym q.1) ∙ q.0))
 
 pub language_value_is : (R : List EntryParts) (v w : List ℕ) → language_value R v ≡ Some w → (preferred_value R kinds.Variant v ≡ Some w) × (is_short w ≡ true)
-language_value_is R v w e = language_value_at (preferred_value R kinds.Variant v) w e
+language_value_is R v w e =
+    option_and_then_some (λ u. cond (is_short u) (Some u) None) (preferred_value R kinds.Variant v) w e
+    (λ u p g. let q = cond_some (is_short u) u w g in (p ∙ ap Some q.1, ap is_short (sym q.1) ∙ q.0))
 
 -- what follows in a chain is the value
 pub next_is_value : (R : List EntryParts) (k : Kind) (s v : List ℕ) → next_value R k s ≡ Some v → preferred_value R k s ≡ Some v
@@ -119,35 +99,25 @@ next_is_value R kinds.Redundant s v e = cc
 next_is_value t u s v e = e
 
 -- a chain ends from each subtag, where it ends from each value
-ends_at : (f : List ℕ → Option (List ℕ)) (s : List ℕ) (o : Option (List ℕ)) → f s ≡ o → ((v : List ℕ) → f s ≡ Some v → Ends f v) → Ends f s
-ends_at f s None e h = (0, e)
-ends_at f s (Some v) e h = let n = (h v e).0 in (suc n, ap f (chase_next f n s v e) ∙ (h v e).1)
-
 pub chains_end : (R : List EntryParts) → All (HasEndingChain R) R → (k : Kind) (s : List ℕ) → Ends (next_value R k) s
 chains_end R h k s =
-    ends_at (next_value R k) s (next_value R k s) refl (λ v e.
+    ends_first (next_value R k) s (λ v e.
     let en : ValuedEntry R k s v = valued R k s v (next_is_value R k s v e) in
     subst (λ k. Ends (next_value R k) v) en.of_kind (valued_has R k s v (HasEndingChain R) h en v en.gives))
 
 -- what a VariantLanguage step rests on
 pub variant_language_is : (R : List EntryParts) (l v m : List ℕ) → (values_of R).variant_language l v ≡ Some m → (has_prefix (prefixes R kinds.Variant v) l ≡ true) × (language_value R v ≡ Some m)
-variant_language_is R l v m e = some_when (has_prefix (prefixes R kinds.Variant v) l) (language_value R v) m e
-
-language_none_at : (o : Option (List ℕ)) (w : List ℕ) → o ≡ Some w → is_short w ≡ false → option_and_then (λ u. cond (is_short u) (Some u) None) o ≡ None
-language_none_at o w e h = ap (option_and_then (λ (u : List ℕ). cond (is_short u) (Some u) None)) e ∙ ap (λ (b : Bool). cond b (Some w) None) h
+variant_language_is R l v m e = some_if (has_prefix (prefixes R kinds.Variant v) l) (language_value R v) m e
 
 listed_at : (l : List ℕ) (ps : List (List (List ℕ))) (Q : List ℕ → Type 0) → AllByRecursion (λ p. (k : List ℕ) × (p ≡ k ∷ []) × Q k) ps → has_prefix ps l ≡ true → Q l
 listed_at l [] Q h e = cc
-listed_at l (p ∷ ps) Q h e = by (listed_at l ps Q h.1) (or_cases (pointwise bytes_eq p (l ∷ [])) (has_prefix ps l) e)
-  where
-    by : (has_prefix ps l ≡ true → Q l) → (pointwise bytes_eq p (l ∷ []) ≡ true) ⊎ (has_prefix ps l ≡ true) → Q l
-    by rest (inl t) =
-        let same : p ≡ l ∷ [] = (slice_eq-Decides bytes_eq-Decides p (l ∷ []) (pointwise bytes_eq p (l ∷ [])) refl).0 t in
-        let k : List ℕ = h.0.0 in
-        let there : p ≡ k ∷ [] = h.0.1 in
-        let eq : k ≡ l = cc in
-        subst Q eq h.0.2
-    by rest (inr t) = rest t
+listed_at l (p ∷ ps) Q h e = elim (or_cases (pointwise bytes_eq p (l ∷ [])) (has_prefix ps l) e) [
+  | inl t ↦
+      let same : h.0.0 ∷ [] ≡ l ∷ [] = sym h.0.1 ∙ (slice_eq-Decides bytes_eq-Decides p (l ∷ []) (pointwise bytes_eq p (l ∷ [])) refl).0 t in
+      let eq : h.0.0 ≡ l = cc in
+      subst Q eq h.0.2
+  | inr t ↦ listed_at l ps Q h.1 t
+]
 
 pub prefixes_at : (R : List EntryParts) (k : Kind) (s : List ℕ) (e : EntryParts) → entry R k s ≡ Some e → prefixes R k s ≡ e.prefixes
 prefixes_at R k s e h = ap (λ (o : Option EntryParts). option_map_or (λ (e : EntryParts). e.prefixes) o []) h
@@ -161,30 +131,25 @@ variant_languages_final R C l v m e =
     let all = ((valued_has R kinds.Variant v m (HasFinalPrefixes R) C.variant_languages en) en.of_kind m en.gives w.1).1 in
     listed_at l en.at.prefixes (IsFinalLanguage R) all (ap (λ ps. has_prefix ps l) (sym (prefixes_at R kinds.Variant v en.at en.found)) ∙ t.0)
 
+value_fits : (R : List EntryParts) → MeetsCoreConditions R → (v w : List ℕ) → preferred_value R kinds.Variant v ≡ Some w → ((is_short w ≡ true) × (is_registered R kinds.Language w ≡ true)) ⊎ ((is_short w ≡ false) × (is_registered R kinds.Variant w ≡ true) × (language_value R w ≡ None))
+value_fits R C v w e =
+    let en : ValuedEntry R kinds.Variant v w = valued R kinds.Variant v w e in
+    valued_has R kinds.Variant v w (HasFittingVariantValue R) C.variants en en.of_kind w en.gives
+
 -- a variant value is registered, and has no language value
 pub variant_value_fits : (R : List EntryParts) → MeetsCoreConditions R → (v w : List ℕ) → variant_value R v ≡ Some w → (is_registered R kinds.Variant w ≡ true) × (language_value R w ≡ None)
 variant_value_fits R C v w e =
     let p = variant_value_is R v w e in
-    let en : ValuedEntry R kinds.Variant v w = valued R kinds.Variant v w p.0 in
-    by p.1 (valued_has R kinds.Variant v w (HasFittingVariantValue R) C.variants en en.of_kind w en.gives)
-  where
-    by : is_short w ≡ false → ((is_short w ≡ true) × (is_registered R kinds.Language w ≡ true)) ⊎ ((is_short w ≡ false) × (is_registered R kinds.Variant w ≡ true) × (language_value R w ≡ None)) → (is_registered R kinds.Variant w ≡ true) × (language_value R w ≡ None)
-    by f (inl t) = let g = t.0 in cc
-    by f (inr t) = (t.1, t.2)
+    elim (value_fits R C v w p.0) [ inl t ↦ absurd (true≢false (sym t.0 ∙ p.1)) | inr t ↦ (t.1, t.2) ]
 
 -- a language value is a registered language
 pub language_value_fits : (R : List EntryParts) → MeetsCoreConditions R → (v m : List ℕ) → language_value R v ≡ Some m → is_registered R kinds.Language m ≡ true
 language_value_fits R C v m e =
     let p = language_value_is R v m e in
-    let en : ValuedEntry R kinds.Variant v m = valued R kinds.Variant v m p.0 in
-    by p.1 (valued_has R kinds.Variant v m (HasFittingVariantValue R) C.variants en en.of_kind m en.gives)
-  where
-    by : is_short m ≡ true → ((is_short m ≡ true) × (is_registered R kinds.Language m ≡ true)) ⊎ ((is_short m ≡ false) × (is_registered R kinds.Variant m ≡ true) × (language_value R m ≡ None)) → is_registered R kinds.Language m ≡ true
-    by s (inl a) = a.1
-    by s (inr a) = let f = a.0 in cc
+    elim (value_fits R C v m p.0) [ inl t ↦ t.1 | inr t ↦ absurd (true≢false (sym p.1 ∙ t.0)) ]
 
 -- neither a variant with a variant value nor its value has a language value
 pub no_language : (R : List EntryParts) → MeetsCoreConditions R → (v w : List ℕ) → variant_value R v ≡ Some w → (language_value R v ≡ None) × (language_value R w ≡ None)
 no_language R C v w e =
     let p = variant_value_is R v w e in
-    (language_none_at (preferred_value R kinds.Variant v) w p.0 p.1, (variant_value_fits R C v w e).1)
+    (rw (p.0, p.1), (variant_value_fits R C v w e).1)
