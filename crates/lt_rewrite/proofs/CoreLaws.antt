@@ -1,10 +1,10 @@
 -- The core normal form of each core, as a function, and its laws.
-use Rattle.std.proofs.Common.{◌≡◌, ℕ, zero, suc, Bool, true, false, eqb, List, [], ◌∷◌, ◌++◌, Option, Some, None, refl, sym, ap, ◌∙◌, subst, length, take, drop, is_none, arith, ◌≤◌, ◌+◌, map, append_assoc, cond, ◌≢◌, not, is_some, filter, ◌<◌, get_or, set, All, ◌-◌, ◌&&◌, ◌||◌, bytes_eq, ◌⊎◌, inl, inr}
+use Rattle.std.proofs.Common.{◌≡◌, ℕ, zero, suc, Bool, true, false, eqb, List, [], ◌∷◌, ◌++◌, Option, Some, None, refl, sym, ap, ◌∙◌, subst, length, take, drop, is_none, arith, ◌≤◌, ◌+◌, map, append_assoc, cond, ◌≢◌, not, is_some, filter, ◌<◌, get_or, set, All, IfSome, Bor, ◌-◌, ◌&&◌, ◌||◌, bytes_eq, ◌⊎◌, inl, inr}
 use Rattle.std.specs.Prelude.{slice_get, if◌then◌else◌, option_to_list}
 use Rattle.std.specs.List.{AllByRecursion, list_all, remove, sum_by}
-use Rattle.std.specs.Option.{option_map, option_map_or}
+use Rattle.std.specs.Option.{option_map, option_map_or, option_copied}
 use Rattle.std.proofs.lemmas.Bool.{eqb-true, cond-true, cond-false, cond_both, cases_Bool, and_parts, and_from, not-true, both_ways, or_right}
-use Rattle.std.proofs.lemmas.List.{map-append, set_split, set_at, take_at, drop_at, length-append, take_more_set, nil_from_length}
+use Rattle.std.proofs.lemmas.List.{map-append, set_split, set_at, take_at, drop_at, length-append, length-set, take_all, take_more_set, nil_from_length}
 use Rattle.std.proofs.lemmas.List.Sums.{sum_by-cons, sum_by-append}
 use Rattle.std.proofs.lemmas.Option.{same_Some, slice_get_within, slice_get-get_or, get_or_from_slice_get, none-some}
 use Rattle.std.proofs.lemmas.List.Elements.{filter-append, All-same, All-more, All-push, All-append, All-take, All-drop, All-map, All-filter, All-from_recursion, recursion_from_All}
@@ -17,7 +17,7 @@ use Rattle.lt_tag.specs.Parts.{CoreParts}
 use Rattle.lt_tag.specs.Spelling.{spell_core, IsCore}
 use Rattle.lt_tag.proofs.TagLemmas.{AllByRecursion-weaker, table_length, list_all-at}
 use Rattle.lt_registry.specs.Parts.{EntryParts}
-use Rattle.lt_registry.specs.Entries.{prefixes, has_prefix, variant_value, language_value, replacement, is_registered, IsRegistry}
+use Rattle.lt_registry.specs.Entries.{preferred_value, prefixes, has_prefix, variant_value, language_value, replacement, is_registered, IsRegistry}
 use Rattle.lt_registry.specs.Validity.{Distinct, ExtlangsFit, IsProperCore}
 use Rattle.lt_registry.specs.declared.entries.Kind.{Kind}
 use Rattle.lt_registry.specs.declared.entries.Kind.TheVariants as kinds
@@ -28,7 +28,7 @@ use Rattle.lt_rewrite.specs.Laws.{HasOneNormalForm, StepsKeepNormalForm, StepsKe
 use Rattle.lt_rewrite.specs.CoreSettling.{HasFinalLanguage, HasFinalScript, HasFinalRegion, HasFinalVariants, HasNoVariantLanguage, IsFirstVariantLanguage}
 use Rattle.lt_rewrite.proofs.PartLists.{cut_at, cut_within, round, facts_of_tests, tests_of_facts, all_middle, all_without, all_mapped, all_unmapped, if_some_is, all_replaced, others_same}
 use Rattle.lt_rewrite.proofs.Chains.{by_next, chase_keeps, IsEnd, end_same, end_next, end_keeps, end_at, end_at-is_end}
-use Rattle.lt_rewrite.proofs.Stars.{star_trans, star_path}
+use Rattle.lt_rewrite.proofs.Stars.{star_trans}
 use Rattle.lt_rewrite.proofs.Entries.{chains_end, variant_languages_final, no_language, variant_language_is, entry_has, variant_value_fits, language_value_fits}
 use Rattle.lt_rewrite.proofs.NormalForms.{IsFormOf, star_form, form_is_normal, normal_is_form}
 use Rattle.lt_rewrite.proofs.ChainWalks.{Takes, takes_unique, takes_within}
@@ -184,21 +184,22 @@ along : (V : Values) (f : List ℕ → Option (List ℕ)) (at : List ℕ → Cor
 along V f at step s e h =
     subst (λ u. Star (CoreStep V) (at s) (at u)) h.1 (chase_keeps f (λ u. Star (CoreStep V) (at s) (at u)) (λ u t g r. star_trans r (onward (step u t g) done)) h.0 s done)
 
-pub script_reached : (R : List EntryParts) (c : CoreParts) (s e : List ℕ) → c.script ≡ Some s → EndsIn (next_value R kinds.Script) s e → Star (CoreStep (values_of R)) c (record c { script = Some e })
-script_reached R c s e h ends =
-    let at : Option (List ℕ) → CoreParts = λ o. record c { script = o } in
-    subst (λ o. Star (CoreStep (values_of R)) (at o) (record c { script = Some e })) (sym h)
-    (along (values_of R) (next_value R kinds.Script) (λ u. at (Some u)) (λ u t f. by_script (values_of R) (at (Some u)) u t refl f) s e ends)
+-- a part that may be missing
+part_reached : (V : Values) (f : List ℕ → Option (List ℕ)) (at : Option (List ℕ) → CoreParts) → ((s t : List ℕ) → f s ≡ Some t → CoreStep V (at (Some s)) (at (Some t))) → (part : Option (List ℕ)) (d : CoreParts) (o : Option (Bor (List ℕ))) (s : Bor (List ℕ)) (e : List ℕ) → option_copied o ≡ part → o ≡ Some s → EndsIn f s.now e → d ≡ at (Some e) → Star (CoreStep V) (at part) d
+part_reached V f at step part d o s e own some ends new =
+    subst (λ d. Star (CoreStep V) (at part) d) (sym new)
+    (subst (λ p. Star (CoreStep V) (at p) (at (Some e))) (ap option_copied (sym some) ∙ own) (along V f (λ u. at (Some u)) step s.now e ends))
 
-pub region_reached : (R : List EntryParts) (c : CoreParts) (s e : List ℕ) → c.region ≡ Some s → EndsIn (next_value R kinds.Region) s e → Star (CoreStep (values_of R)) c (record c { region = Some e })
-region_reached R c s e h ends =
-    let at : Option (List ℕ) → CoreParts = λ o. record c { region = o } in
-    subst (λ o. Star (CoreStep (values_of R)) (at o) (record c { region = Some e })) (sym h)
-    (along (values_of R) (next_value R kinds.Region) (λ u. at (Some u)) (λ u t f. by_region (values_of R) (at (Some u)) u t refl f) s e ends)
+pub script_reached : (R : List EntryParts) (c d : CoreParts) (o : Option (Bor (List ℕ))) (s : Bor (List ℕ)) (e : List ℕ) → option_copied o ≡ c.script → o ≡ Some s → EndsIn (next_value R kinds.Script) s.now e → d ≡ record c { script = Some e } → Star (CoreStep (values_of R)) c d
+script_reached R c d = part_reached (values_of R) (next_value R kinds.Script) (λ o. record c { script = o }) (λ u t f. by_script (values_of R) (record c { script = Some u }) u t refl f) c.script d
 
-pub language_reached : (R : List EntryParts) (c : CoreParts) (e : List ℕ) → c.extlangs ≡ [] → EndsIn (next_value R kinds.Language) c.language e → Star (CoreStep (values_of R)) c (record c { language = e })
-language_reached R c e h ends =
-    along (values_of R) (next_value R kinds.Language) (λ u. record c { language = u }) (λ u t f. by_language (values_of R) (record c { language = u }) t h f) c.language e ends
+pub region_reached : (R : List EntryParts) (c d : CoreParts) (o : Option (Bor (List ℕ))) (s : Bor (List ℕ)) (e : List ℕ) → option_copied o ≡ c.region → o ≡ Some s → EndsIn (next_value R kinds.Region) s.now e → d ≡ record c { region = Some e } → Star (CoreStep (values_of R)) c d
+region_reached R c d = part_reached (values_of R) (next_value R kinds.Region) (λ o. record c { region = o }) (λ u t f. by_region (values_of R) (record c { region = Some u }) u t refl f) c.region d
+
+pub language_reached : (R : List EntryParts) (c d : CoreParts) (l e : List ℕ) → c.extlangs ≡ [] → l ≡ c.language → EndsIn (next_value R kinds.Language) l e → d ≡ record c { language = e } → Star (CoreStep (values_of R)) c d
+language_reached R c d l e none own ends new =
+    subst (λ d. Star (CoreStep (values_of R)) c d) (sym new)
+    (along (values_of R) (next_value R kinds.Language) (λ u. record c { language = u }) (λ u t f. by_language (values_of R) (record c { language = u }) t none f) c.language e (subst (λ s. EndsIn (next_value R kinds.Language) s e) own ends))
 
 -- nothing is left to replace
 pub record AtRest (V : Values) (d : CoreParts) : Type 0 where
@@ -244,20 +245,21 @@ distinct_filter T (x ∷ xs) h =
 all_unfilter : {A : Type 0} (P : A → Type 0) (T : A → Bool) (xs : List A) → ((x : A) → T x ≡ false → P x) → AllByRecursion P (filter T xs) → AllByRecursion P xs
 all_unfilter P T [] f h = tt
 all_unfilter P T (x ∷ xs) f h = elim (cases_Bool (T x)) [
-  | inl e ↦ let k = subst (AllByRecursion P) (cond-true (T x) (x ∷ filter T xs) (filter T xs) e) h in (k.0, all_unfilter P T xs f k.1)
-  | inr e ↦ (f x e, all_unfilter P T xs f (subst (AllByRecursion P) (cond-false (T x) (x ∷ filter T xs) (filter T xs) e) h))
+  | inl e ↦ let k = rw e at h in (k.0, all_unfilter P T xs f k.1)
+  | inr e ↦ (f x e, all_unfilter P T xs f (rw e at h))
 ]
-
-merge_at : {A : Type 0} (T : A → Bool) (x : A) (xs : List A) → (Distinct (filter T xs) → Distinct (filter (λ y. not (T y)) xs) → Distinct xs) → (b : Bool) → T x ≡ b → Distinct (cond b (x ∷ filter T xs) (filter T xs)) → Distinct (cond (not b) (x ∷ filter (λ y. not (T y)) xs) (filter (λ y. not (T y)) xs)) → Distinct (x ∷ xs)
-merge_at T x xs ih true e h k =
-    (all_unfilter (λ y. y ≢ x) T xs (λ y f g. let a : T y ≡ T x = ap T g in cc) h.0, ih h.1 k)
-merge_at T x xs ih false e h k =
-    (all_unfilter (λ y. y ≢ x) (λ y. not (T y)) xs (λ y f g. let a : not (T y) ≡ not (T x) = ap (λ z. not (T z)) g in let b : not (T x) ≡ true = ap not e in cc) k.0, ih h k.1)
 
 -- where those that pass differ, and those that do not, all differ
 merge : {A : Type 0} (T : A → Bool) (xs : List A) → Distinct (filter T xs) → Distinct (filter (λ y. not (T y)) xs) → Distinct xs
 merge T [] h k = tt
-merge T (x ∷ xs) h k = merge_at T x xs (merge T xs) (T x) refl h k
+merge T (x ∷ xs) h k = elim (cases_Bool (T x)) [
+  | inl e ↦
+      let p = rw e at h in
+      (all_unfilter (λ y. y ≢ x) T xs (λ y f g. let a : T y ≡ T x = ap T g in cc) p.0, merge T xs p.1 (rw e at k))
+  | inr e ↦
+      let p = rw e at k in
+      (all_unfilter (λ y. y ≢ x) (λ y. not (T y)) xs (λ y f g. let a : not (T y) ≡ true = ap not (ap T g ∙ e) in cc) p.0, merge T xs (rw e at h) p.1)
+]
 
 distinct_unmap : {A B : Type 0} (g : A → B) (xs : List A) → Distinct (map g xs) → Distinct xs
 distinct_unmap g [] h = tt
@@ -436,7 +438,7 @@ module _ (R : List EntryParts) (C : MeetsCoreConditions R) where
             settled_led sc re E n (last kinds.Language m) us shorter ((at_last kinds.Language).ends m).2 (all_without Final p.before p.variant p.after (subst (AllByRecursion Final) p.there k)) in
             record {
               reached = onward (by_variant_language V (core x [] sc re vs) p.before p.variant m p.after refl p.there p.has p.leftmost)
-                  (star_trans (language_reached R (core m [] sc re us) (last kinds.Language m) refl ((at_last kinds.Language).ends m)) led.reached);
+                  (star_trans (language_reached R (core m [] sc re us) (core (last kinds.Language m) [] sc re us) m (last kinds.Language m) refl refl ((at_last kinds.Language).ends m) refl) led.reached);
               rest = led.rest;
               kept = led.kept ∙ sym (ap (filter (staying R)) p.there ∙ filter_without (staying R) p.before p.variant p.after (ap not (some_variant_language x p.variant m p.has)));
             }
@@ -449,7 +451,7 @@ module _ (R : List EntryParts) (C : MeetsCoreConditions R) where
       let end = (at_last kinds.Language).ends l in
       let led : (let p = settled (length vs) (last kinds.Language l) vs in Led R (core (last kinds.Language l) [] sc re vs) (core p.0 [] sc re p.1)) =
       settled_led sc re E (length vs) (last kinds.Language l) vs refl end.2 k in
-      record { reached = star_trans (language_reached R (core l [] sc re vs) (last kinds.Language l) refl end) led.reached; rest = led.rest; kept = led.kept }
+      record { reached = star_trans (language_reached R (core l [] sc re vs) (core (last kinds.Language l) [] sc re vs) l (last kinds.Language l) refl refl end refl) led.reached; rest = led.rest; kept = led.kept }
   form_led (x ∷ []) l sc re vs E k =
       let led : Led R (core (replacement R x) [] sc re vs) (form_on [] (replacement R x) sc re vs) = form_led [] (replacement R x) sc re vs E k in
       record { reached = onward (by_extlang V (core l (x ∷ []) sc re vs) x refl) led.reached; rest = led.rest; kept = led.kept }
@@ -464,13 +466,9 @@ module _ (R : List EntryParts) (C : MeetsCoreConditions R) where
       (record { script = end_of_some V.script (last kinds.Script) (at_last kinds.Script) c.script; region = end_of_some V.region (last kinds.Region) (at_last kinds.Region) c.region })
       (recursion_from_All Final (map (last kinds.Variant) c.variants) (All-map Final (last kinds.Variant) c.variants (λ k d h. ((at_last kinds.Variant).ends (get_or c.variants k d)).2)))
 
-  script_to_end : (c : CoreParts) (o : Option (List ℕ)) → c.script ≡ o → Star (CoreStep V) c (record c { script = option_map (last kinds.Script) o })
-  script_to_end c None e = star_path c (record c { script = None }) (ap (λ o. record c { script = o }) e)
-  script_to_end c (Some s) e = script_reached R c s (last kinds.Script s) e ((at_last kinds.Script).ends s)
-
-  region_to_end : (c : CoreParts) (o : Option (List ℕ)) → c.region ≡ o → Star (CoreStep V) c (record c { region = option_map (last kinds.Region) o })
-  region_to_end c None e = star_path c (record c { region = None }) (ap (λ o. record c { region = o }) e)
-  region_to_end c (Some s) e = region_reached R c s (last kinds.Region s) e ((at_last kinds.Region).ends s)
+  part_to_end : (k : Kind) (at : Option (List ℕ) → CoreParts) → ((s t : List ℕ) → next_value R k s ≡ Some t → CoreStep V (at (Some s)) (at (Some t))) → (o : Option (List ℕ)) → Star (CoreStep V) (at o) (at (option_map (last k) o))
+  part_to_end k at step None = done
+  part_to_end k at step (Some s) = along V (next_value R k) (λ u. at (Some u)) step s (last k s) ((at_last k).ends s)
 
   variants_to_end : (at : List (List ℕ) → CoreParts) → ((before : List (List ℕ)) (v w : List ℕ) (after : List (List ℕ)) → V.variant v ≡ Some w → CoreStep V (at (before ++ v ∷ after)) (at (before ++ w ∷ after))) → (vs : List (List ℕ)) → Star (CoreStep V) (at vs) (at (map (last kinds.Variant) vs))
   variants_to_end at step [] = done
@@ -485,8 +483,8 @@ module _ (R : List EntryParts) (C : MeetsCoreConditions R) where
     reached = λ c.
         let d : CoreParts = record c { script = option_map (last kinds.Script) c.script } in
         let e : CoreParts = record d { region = option_map (last kinds.Region) c.region } in
-        star_trans (script_to_end c c.script refl)
-        (star_trans (region_to_end d c.region refl)
+        star_trans (part_to_end kinds.Script (λ o. record c { script = o }) (λ s t f. by_script V (record c { script = Some s }) s t refl f) c.script)
+        (star_trans (part_to_end kinds.Region (λ o. record d { region = o }) (λ s t f. by_region V (record d { region = Some s }) s t refl f) c.region)
         (star_trans (variants_to_end (λ vs. record e { variants = vs }) (λ b v w a h. by_variant V (record e { variants = b ++ v ∷ a }) b v w a refl h) c.variants) (led c).reached));
     rests = λ c e. rests V (normal_core c) e (led c).rest;
   }
@@ -549,47 +547,88 @@ module _ (R : List EntryParts) (C : MeetsCoreConditions R) where
 
 -- What the parts of the code that settle a core reach, and where they rest. Only the chains' ends are used.
 
-pub variant_reached : (R : List EntryParts) (c : CoreParts) (i : ℕ) (s e : List ℕ) → i < length c.variants → s ≡ get_or c.variants i s → EndsIn (next_value R kinds.Variant) s e → Star (CoreStep (values_of R)) c (record c { variants = set c.variants i e })
-variant_reached R c i s e h is ends =
-    let vs = c.variants in
+-- steps lead from the one core to the other, and the variants before an index of it are at the ends of their chains
+pub record VariantsSettled (R : List EntryParts) (c d : CoreParts) (index end : ℕ) : Type 0 where
+  pub reached : Star (CoreStep (values_of R)) c d
+  pub others : d ≡ record c { variants = d.variants }
+  pub count : length d.variants ≡ end
+  pub final : All (λ (v : List ℕ). (values_of R).variant v ≡ None) (take index d.variants)
+
+pub none_settled : (R : List EntryParts) (c : CoreParts) (n : ℕ) → n ≡ length c.variants → VariantsSettled R c c 0 n
+none_settled R c n e = record { reached = done; others = refl; count = sym e; final = λ k d h. absurd (omega (arith, h)) }
+
+-- one variant more is led to the end of its chain
+pub one_settled : (R : List EntryParts) (c d e : CoreParts) (i n : ℕ) (s t : List ℕ) (us : List (List ℕ)) → VariantsSettled R c d i n → i < n → us ≡ d.variants → s ≡ get_or us i s → EndsIn (next_value R kinds.Variant) s t → e ≡ record d { variants = set d.variants i t } → VariantsSettled R c e (i + 1) n
+one_settled R c d e i n s t us S below own at ends new =
+    let vs = d.variants in
     let V = values_of R in
-    let at : List (List ℕ) → CoreParts = λ us. record c { variants = us } in
-    let walk : Star (CoreStep V) (at (take i vs ++ s ∷ drop (suc i) vs)) (at (take i vs ++ e ∷ drop (suc i) vs)) =
-    along V (next_value R kinds.Variant) (λ u. at (take i vs ++ u ∷ drop (suc i) vs))
-    (λ u t f. by_variant V (at (take i vs ++ u ∷ drop (suc i) vs)) (take i vs) u t (drop (suc i) vs) refl f) s e ends in
-    subst (λ us. Star (CoreStep V) c (at us)) (sym (set_split vs i e h))
-    (subst (λ us. Star (CoreStep V) (at us) (at (take i vs ++ e ∷ drop (suc i) vs))) (sym (round vs i s h is)) walk)
+    let P : List ℕ → Type 0 = λ v. V.variant v ≡ None in
+    let within : i < length vs = omega (arith, below, S.count) in
+    let is : s ≡ get_or vs i s = subst (λ us. s ≡ get_or us i s) own at in
+    let with : List ℕ → CoreParts = λ u. record d { variants = take i vs ++ u ∷ drop (suc i) vs } in
+    let walk : Star (CoreStep V) (with s) (with t) = along V V.variant with (λ u w f. by_variant V (with u) (take i vs) u w (drop (suc i) vs) refl f) s t ends in
+    subst (λ e. VariantsSettled R c e (i + 1) n) (sym new)
+    (record {
+      reached = star_trans S.reached (subst (λ us. Star (CoreStep V) d (record d { variants = us })) (sym (set_split vs i t within)) (subst (λ us. Star (CoreStep V) (record d { variants = us }) (with t)) (sym (round vs i s within is)) walk));
+      others = ap (λ (k : CoreParts). record k { variants = set vs i t }) S.others;
+      count = length-set vs i t ∙ S.count;
+      final = All-same P (take (i + 1) (set vs i t)) (take i vs ++ t ∷ []) (take_more_set vs i t within) (All-push P (take i vs) t S.final ends.2);
+    })
 
-pub final_more : (P : List ℕ → Type 0) (vs : List (List ℕ)) (i : ℕ) (e : List ℕ) → i < length vs → All P (take i vs) → P e → All P (take (i + 1) (set vs i e))
-final_more P vs i e h all p = All-same P (take (i + 1) (set vs i e)) (take i vs ++ e ∷ []) (take_more_set vs i e h) (All-push P (take i vs) e all p)
+pub all_settled : (R : List EntryParts) (c d : CoreParts) (i n : ℕ) → VariantsSettled R c d i n → n ≤ i → take i d.variants ≡ d.variants
+all_settled R c d i n S past = take_all i d.variants (omega (arith, past, S.count))
 
-pub extlang_step : (R : List EntryParts) (c : CoreParts) (x l : List ℕ) → c.extlangs ≡ x ∷ [] → l ≡ (values_of R).replacement x → CoreStep (values_of R) c (record c { language = l; extlangs = [] })
-extlang_step R c x l h e = subst (λ u. CoreStep (values_of R) c (record c { language = u; extlangs = [] })) (sym e) (by_extlang (values_of R) c x h)
+pub extlang_reached : (R : List EntryParts) (c d e : CoreParts) (x l : List ℕ) (xs : List (List ℕ)) → xs ≡ c.extlangs → x ≡ get_or xs 0 x → length xs ≡ 1 → l ≡ replacement R x → d ≡ record c { extlangs = [] } → e ≡ record d { language = l } → Star (CoreStep (values_of R)) c e
+extlang_reached R c d e x l xs own at one value dropped new =
+    subst (λ e. Star (CoreStep (values_of R)) c e) (sym (new ∙ (λ i. record (dropped i) { language = value i })))
+    (onward (by_extlang (values_of R) c x (sym own ∙ sole xs x at one)) done)
 
-pub variant_language_step : (R : List EntryParts) (c : CoreParts) (i : ℕ) (m : List ℕ) → c.extlangs ≡ [] → IsFirstVariantLanguage (values_of R) c i m → CoreStep (values_of R) c (record c { language = m; variants = remove c.variants i })
-variant_language_step R c i m h t = by_variant_language (values_of R) c (take i c.variants) t.variant m (drop (suc i) c.variants) h t.there t.has t.leftmost
+-- steps lead from the one core to the other, whose language and variants are at the ends of their chains
+pub record LanguageSettled (R : List EntryParts) (c d : CoreParts) : Type 0 where
+  pub reached : Star (CoreStep (values_of R)) c d
+  pub language : HasFinalLanguage (values_of R) d
+  pub variants : HasFinalVariants (values_of R) d
+  pub others : d ≡ record c { language = d.language; variants = d.variants }
 
--- what all variants have, those that are left have
-pub final_without : {X : Type 0} (P : X → Type 0) (xs : List X) (i : ℕ) → All P xs → All P (remove xs i)
-final_without P xs i all = All-append P (take i xs) (drop (suc i) xs) (All-take P i xs all) (All-drop P (suc i) xs all)
+-- what a VariantLanguage step leaves, and then the chain of the new language
+pub others_left : (d e f g : CoreParts) (i : ℕ) (m : List ℕ) → e ≡ record d { variants = remove d.variants i } → f ≡ record e { language = m } → g ≡ record f { language = g.language } → g ≡ record d { language = g.language; variants = remove d.variants i }
+others_left d e f g i m dropped new other =
+    other ∙ ap (λ (k : CoreParts). record k { language = g.language }) (new ∙ ap (λ (k : CoreParts). record k { language = m }) dropped)
+
+pub language_settled : (R : List EntryParts) (c d e f g : CoreParts) (i : ℕ) (m : List ℕ) → c.extlangs ≡ [] → LanguageSettled R c d → IsFirstVariantLanguage (values_of R) d i m → e ≡ record d { variants = remove d.variants i } → f ≡ record e { language = m } → Star (CoreStep (values_of R)) f g → HasFinalLanguage (values_of R) g → g ≡ record f { language = g.language } → LanguageSettled R c g
+language_settled R c d e f g i m none S t dropped new after final other =
+    let V = values_of R in
+    let P : List ℕ → Type 0 = λ v. V.variant v ≡ None in
+    let left = others_left d e f g i m dropped new other in
+    let vs : g.variants ≡ remove d.variants i = ap (λ (k : CoreParts). k.variants) left in
+    let alone : d.extlangs ≡ [] = ap (λ (k : CoreParts). k.extlangs) S.others ∙ none in
+    let step = by_variant_language V d (take i d.variants) t.variant m (drop (suc i) d.variants) alone t.there t.has t.leftmost in
+    record {
+      reached = star_trans S.reached (onward step (subst (λ (k : CoreParts). Star (CoreStep V) k g) (new ∙ ap (λ (k : CoreParts). record k { language = m }) dropped) after));
+      language = final;
+      variants = subst (All P) (sym vs) (All-append P (take i d.variants) (drop (suc i) d.variants) (All-take P i d.variants S.variants) (All-drop P (suc i) d.variants S.variants));
+      others =
+          left
+          ∙ ap (λ (k : CoreParts). record k { language = g.language; variants = remove d.variants i }) S.others
+          ∙ ap (λ us. record c { language = g.language; variants = us }) (sym vs);
+    }
 
 -- the variant at an index is the first with a VariantLanguage step, where none before it has one
-pub first_variant_language_at : (V : Values) (c : CoreParts) (i : ℕ) (v m : List ℕ) (vs : List (List ℕ)) → vs ≡ c.variants → i < length vs → v ≡ get_or vs i v → V.variant_language c.language v ≡ Some m → All (λ (u : List ℕ). V.variant_language c.language u ≡ None) (take i vs) → IsFirstVariantLanguage V c i m
-first_variant_language_at V c i v m vs same h e t none =
+pub first_variant_language_at : (V : Values) (c : CoreParts) (i : ℕ) (l v m : List ℕ) (vs : List (List ℕ)) (o : Option (Bor (List ℕ))) (b : Bor (List ℕ)) → vs ≡ c.variants → i < length vs → v ≡ get_or vs i v → l ≡ c.language → option_copied o ≡ V.variant_language l v → o ≡ Some b → m ≡ b.now → All (λ (u : List ℕ). V.variant_language c.language u ≡ None) (take i vs) → IsFirstVariantLanguage V c i m
+first_variant_language_at V c i l v m vs o b same h e its value found copy none =
     let P : List ℕ → Type 0 = λ u. V.variant_language c.language u ≡ None in
-    let at : c.variants ≡ take i c.variants ++ v ∷ drop (suc i) c.variants = subst (λ us. us ≡ take i us ++ v ∷ drop (suc i) us) same (round vs i v h e) in
     record {
       within = omega (arith, h, ap length same);
       variant = v;
-      there = at;
-      has = t;
+      there = subst (λ us. us ≡ take i us ++ v ∷ drop (suc i) us) same (round vs i v h e);
+      has = ap (λ l. V.variant_language l v) (sym its) ∙ sym value ∙ ap option_copied found ∙ ap Some (sym copy);
       leftmost = subst (λ us. AllByRecursion P (take i us)) same (recursion_from_All P (take i vs) none);
     }
 
-pub none_more : (V : Values) (c : CoreParts) (i : ℕ) (v : List ℕ) (vs : List (List ℕ)) → i < length vs → v ≡ get_or vs i v → V.variant_language c.language v ≡ None → All (λ (u : List ℕ). V.variant_language c.language u ≡ None) (take i vs) → All (λ (u : List ℕ). V.variant_language c.language u ≡ None) (take (i + 1) vs)
-none_more V c i v vs h e t none =
+pub none_more : (V : Values) (c : CoreParts) (i : ℕ) (l v : List ℕ) (vs : List (List ℕ)) (o : Option (Bor (List ℕ))) → i < length vs → v ≡ get_or vs i v → l ≡ c.language → option_copied o ≡ V.variant_language l v → o ≡ None → All (λ (u : List ℕ). V.variant_language c.language u ≡ None) (take i vs) → All (λ (u : List ℕ). V.variant_language c.language u ≡ None) (take (i + 1) vs)
+none_more V c i l v vs o h e its value found none =
     let P : List ℕ → Type 0 = λ u. V.variant_language c.language u ≡ None in
-    All-more P vs i v h none (subst P e t)
+    All-more P vs i v h none (subst P e (ap (λ l. V.variant_language l v) (sym its) ∙ sym value ∙ ap option_copied found))
 
 -- a list that is not empty
 pub not_empty : (xs : List (List ℕ)) → eqb (length xs) 0 ≡ false → xs ≡ [] → ⊥

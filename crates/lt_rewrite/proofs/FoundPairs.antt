@@ -1,13 +1,13 @@
 -- Variants are found by a language and a place.
 use Rattle.std.proofs.Common.{◌≡◌, ◌<◌, ℕ, zero, suc, List, [], ◌∷◌, Option, None, length, map, get_or, slice_get, refl, sym, ap, ◌∙◌, arith, ◌≤◌, ◌+◌, ◌*◌, ◌/◌, ◌%◌, ◌^◌, ◌==◌, Bool, true, false, set, take, bit_or, w64, inl, inr, ◌-◌, cond, ◌&&◌, ◌||◌, leb, ltb, ltb-true, leb-false, ◌++◌, All, Some, length-take, length-drop, drop, subst}
 use Rattle.std.specs.List.{remove, AllWithin, list_any, filter_map}
-use Rattle.std.proofs.lemmas.Option.{slice_get-get_or}
-use Rattle.std.proofs.lemmas.List.{length-set, map-append, take_more_set, length-map, get_or-map, get_or-set_same, get_or-take, get_or-drop, get_or_default}
+use Rattle.std.proofs.lemmas.Option.{slice_get-get_or, gets}
+use Rattle.std.proofs.lemmas.List.{length-set, map-append, take-map, drop-map, take_more_set, length-map, get_or-map, get_or-set_same, get_or-take, get_or-drop, get_or_default}
 use Rattle.lt_registry.specs.Parts.{EntryParts}
 use Rattle.lt_registry.specs.Entries.{entry, has_prefix, one_of, is_short}
 use Rattle.lt_rewrite.specs.VariantLanguages.{ArePlaces}
 use Rattle.std.specs.Int.{bit_at}
-use Rattle.std.proofs.lemmas.Bool.{cases_lt, cases_eq, eqb-true, or_left, or_right, or_cases, and_right, eq-eqb}
+use Rattle.std.proofs.lemmas.Bool.{cases_lt, cases_eq, cases_Bool, and_from, eqb-true, or_left, or_right, or_cases, and_right, eq-eqb}
 use Rattle.std.proofs.lemmas.List.Edits.{length-remove, get_or-remove_below, get_or-remove_above}
 use Rattle.std.proofs.lemmas.List.Folds.{list_any_none, Any-from_list_any, list_any-append, list_any_at, list_any_more}
 use Rattle.std.proofs.lemmas.Nat.Bits.{bit_at_or, bit_at-lt, bit_at_set_same}
@@ -20,7 +20,9 @@ use Rattle.std.proofs.lemmas.Slice.Eq.{bytes_eq-Decides}
 use Rattle.lt_registry.specs.Same.{same_kind}
 use Rattle.lt_registry.specs.declared.entries.Kind.{Kind}
 use Rattle.lt_rewrite.specs.CoreSteps.{values_of}
-use Rattle.lt_rewrite.proofs.Entries.{entry_of}
+use Rattle.lt_rewrite.proofs.Entries.{ValuedEntry, valued, variant_language_is, language_value_is, prefixes_at}
+use Rattle.lt_rewrite.proofs.Chains.{by_next}
+use Rattle.std.proofs.lemmas.Grind.{common_steps}
 use Rattle.lt_registry.specs.declared.entries.Kind.TheVariants as kinds
 
 -- Variants, and the places of their entries.
@@ -39,10 +41,8 @@ placed_at R vs ps i v h l e =
     ∙ ap (entry R kinds.Variant) (sym e)
 
 map_remove : {A B : Type 0} (f : A → B) (xs : List A) (i : ℕ) → map f (remove xs i) ≡ remove (map f xs) i
-map_remove f [] zero = refl
-map_remove f [] (suc i) = refl
-map_remove f (x ∷ xs) zero = refl
-map_remove f (x ∷ xs) (suc i) = ap (λ zs. f x ∷ zs) (map_remove f xs i)
+map_remove f xs i =
+    map-append f (take i xs) (drop (suc i) xs) ∙ (λ j. sym (take-map f i xs) j ++ sym (drop-map f (suc i) xs) j)
 
 -- one taken out of both
 pub placed_without : (R : List EntryParts) (vs : List (List ℕ)) (ps : List ℕ) (i : ℕ) → ArePlaces R vs ps → ArePlaces R (remove vs i) (remove ps i)
@@ -88,20 +88,14 @@ none_lower indices places pairs first bounds bound all n k d z below =
 
 -- ---- the pairs of records
 
-is_itself : (p : ℕ) → is_pair p p ≡ true
-is_itself p = eq-eqb p p refl
-
 -- a language that is a Prefix has a pair
-pair_at : (place : ℕ) (l s : List ℕ) (ps : List (List (List ℕ))) (rest : Bool) → (has_prefix ps l ≡ true → rest ≡ true) → (b : Bool) → bytes_eq s l ≡ b → ((b && true) || has_prefix ps l) ≡ true → (is_pair (pair (number l) place) (pair (number s) place) || rest) ≡ true
-pair_at place l s ps rest later true e h =
-    or_left _ rest (ap (λ x. is_pair (pair (number l) place) (pair (number x) place)) ((bytes_eq-Decides s l).0 e) ∙ is_itself (pair (number l) place))
-pair_at place l s ps rest later false e h = or_right _ rest (later h)
-
 pair_there : (place : ℕ) (l : List ℕ) (ps : List (List (List ℕ))) → has_prefix ps l ≡ true → list_any (is_pair (pair (number l) place)) (filter_map (prefix_pair place) ps) ≡ true
 pair_there place l [] h = cc
 pair_there place l ([] ∷ ps) h = pair_there place l ps h
-pair_there place l ((s ∷ []) ∷ ps) h =
-    pair_at place l s ps (list_any (is_pair (pair (number l) place)) (filter_map (prefix_pair place) ps)) (pair_there place l ps) (bytes_eq s l) refl h
+pair_there place l ((s ∷ []) ∷ ps) h = elim (cases_Bool (bytes_eq s l)) [
+  | inl e ↦ or_left _ _ (eq-eqb (pair (number s) place) (pair (number l) place) (ap (λ x. pair (number x) place) ((bytes_eq-Decides s l).0 e)))
+  | inr e ↦ or_right _ _ (pair_there place l ps (rw e at h))
+]
 pair_there place l ((s ∷ t ∷ r) ∷ ps) h = pair_there place l ps ((λ i. sym (and_right (bytes_eq s l) false refl) i || has_prefix ps l) ∙ h)
 
 -- so a record that becomes a language beside it has one, by its place
@@ -145,11 +139,7 @@ bit_kept a b i h = grind (arith, bit_at_or, bit_at-lt)
 
 -- another word stays
 get_set : (xs : List ℕ) (i j x : ℕ) → (i ≡ j → ⊥) → slice_get (set xs i x) j ≡ slice_get xs j
-get_set [] i j x n = refl
-get_set (y ∷ ys) zero zero x n = absurd (n refl)
-get_set (y ∷ ys) zero (suc j) x n = refl
-get_set (y ∷ ys) (suc i) zero x n = refl
-get_set (y ∷ ys) (suc i) (suc j) x n = get_set ys i j x (λ e. n (ap suc e))
+get_set xs i j x n = grind (arith, common_steps, gets)
 
 get_same : (xs : List ℕ) (i x : ℕ) → i < length xs → slice_get (set xs i x) i ≡ Some x
 get_same xs i x l = slice_get-get_or (set xs i x) i 0 (omega (arith, l, length-set xs i x)) ∙ ap (λ y. Some y) (get_or-set_same {A = ℕ} xs i x 0 l)
@@ -176,49 +166,16 @@ module _ (bits : List ℕ) (p : ℕ) (within : p % 4194304 / 64 < length bits) w
     | inr other ↦ ap (λ o. option_map_or (λ v. bit_at v (q % 64) == 1) o true) (get_set bits (p % 4194304 / 64) (q % 4194304 / 64) _ other) ∙ h
   ]
 
--- one pair more, whose bit is set
-pub set_more : (pairs bits more : List ℕ) (i : ℕ) (d : ℕ) → i < length pairs → ((p : ℕ) → has_pair p (take i pairs) ≡ true → is_set bits p ≡ true) → is_set more (get_or pairs i d) ≡ true → ((p : ℕ) → is_set bits p ≡ true → is_set more p ≡ true)
-    → (p : ℕ) → has_pair p (take (i + 1) pairs) ≡ true → is_set more p ≡ true
-set_more pairs bits more i d within all own others p h =
-    elim (or_cases (list_any (is_pair p) (take i pairs)) (is_pair p (get_or pairs i d)) (sym (list_any_more (is_pair p) pairs i d within) ∙ h)) [
-      | inl earlier ↦ others p (all p earlier)
-      | inr now ↦ subst (λ q. is_set more q ≡ true) (eqb-true (get_or pairs i d) p now) own
-    ]
-
--- each record that becomes a language beside this one has its pair
-pair_of_each : (R : List EntryParts) (pairs : List ℕ) (ls : List LanguageBits) (l : List ℕ) (place : ℕ) (e : EntryParts) → AreVariantPairs R pairs ls → slice_get R place ≡ Some e → becomes_language e ≡ true → has_prefix e.prefixes l ≡ true → has_pair (pair (number l) place) pairs ≡ true
-pair_of_each R pairs ls l place e are there b h =
-    are.all (pair (number l) place) (ap (λ i. list_any (is_pair (pair (number l) i)) (pairs_from 0 R)) (omega arith) ∙ pairs_there 0 place R e l there b h)
-
 -- a variant whose place is in no pair of a language becomes no language beside it
-module _ (R : List EntryParts) (l v : List ℕ) (pairs : List ℕ) (ls : List LanguageBits) (place : ℕ) (are : AreVariantPairs R pairs ls) (none : has_pair (pair (number l) place) pairs ≡ true → ⊥) where
-  abbrev language_of : Option EntryParts → Option (List ℕ)
-  language_of o =
-      cond (has_prefix (option_map_or (λ (e : EntryParts). e.prefixes) o []) l)
-      (option_and_then (λ w. cond (is_short w) (Some w) None) (option_and_then (λ (e : EntryParts). one_of e.value) o))
-      None
-
-  by_short : (e : EntryParts) (w : List ℕ) → slice_get R place ≡ Some e → same_kind e.kind kinds.Variant ≡ true → one_of e.value ≡ Some w → has_prefix e.prefixes l ≡ true → (b : Bool) → is_short w ≡ b → cond b (Some w) None ≡ None
-  by_short e w at kind value h true s =
-      absurd (none (pair_of_each R pairs ls l place e are at ((λ i. kind i && option_map_or is_short (value i) false) ∙ s) h))
-  by_short e w at kind value h false s = refl
-
-  by_value : (e : EntryParts) → slice_get R place ≡ Some e → same_kind e.kind kinds.Variant ≡ true → has_prefix e.prefixes l ≡ true → (o : Option (List ℕ)) → one_of e.value ≡ o → option_and_then (λ w. cond (is_short w) (Some w) None) o ≡ None
-  by_value e at kind h None value = refl
-  by_value e at kind h (Some w) value = by_short e w at kind value h (is_short w) refl
-
-  by_prefix : (e : EntryParts) → slice_get R place ≡ Some e → same_kind e.kind kinds.Variant ≡ true → (b : Bool) → has_prefix e.prefixes l ≡ b → cond b (option_and_then (λ w. cond (is_short w) (Some w) None) (one_of e.value)) None ≡ None
-  by_prefix e at kind true h = by_value e at kind h (one_of e.value) refl
-  by_prefix e at kind false h = refl
-
-  by_entry : (o : Option EntryParts) → slice_get R place ≡ o → entry R kinds.Variant v ≡ o → language_of o ≡ None
-  by_entry None at found = refl
-  by_entry (Some e) at found =
-      let kind : same_kind e.kind kinds.Variant ≡ true = ap (λ (k : Kind). same_kind k kinds.Variant) (entry_of R kinds.Variant v e found).of_kind in
-      by_prefix e at kind (has_prefix e.prefixes l) refl
-
-  none_beside : slice_get R place ≡ entry R kinds.Variant v → (values_of R).variant_language l v ≡ None
-  none_beside at = by_entry (entry R kinds.Variant v) at refl
+none_beside : (R : List EntryParts) (l v : List ℕ) (pairs : List ℕ) (ls : List LanguageBits) (place : ℕ) → AreVariantPairs R pairs ls → (has_pair (pair (number l) place) pairs ≡ true → ⊥) → slice_get R place ≡ entry R kinds.Variant v → (values_of R).variant_language l v ≡ None
+none_beside R l v pairs ls place are none at =
+    by_next ((values_of R).variant_language l v) (λ e. e) (λ m e.
+    let t = variant_language_is R l v m e in
+    let w = language_value_is R v m t.1 in
+    let en : ValuedEntry R kinds.Variant v m = valued R kinds.Variant v m w.0 in
+    let becomes = and_from _ _ (ap (λ (k : Kind). same_kind k kinds.Variant) en.of_kind) (ap (λ o. option_map_or is_short o false) en.gives ∙ w.1) in
+    let there = pairs_there 0 place R en.at l (at ∙ en.found) becomes (ap (λ ps. has_prefix ps l) (sym (prefixes_at R kinds.Variant v en.at en.found)) ∙ t.0) in
+    absurd (none (are.all (pair (number l) place) (ap (λ i. list_any (is_pair (pair (number l) i)) (pairs_from 0 R)) (omega arith) ∙ there))))
 
 -- so none of the variants before an index does, where none of their places is in one
 pub none_before : (R : List EntryParts) (l : List ℕ) (pairs : List ℕ) (ls : List LanguageBits) (vs : List (List ℕ)) (ps : List ℕ) (first : ℕ) → AreVariantPairs R pairs ls → ArePlaces R vs ps → ((k : ℕ) → k < first → has_pair (pair (number l) (get_or ps k 0)) pairs ≡ true → ⊥) → All (λ (v : List ℕ). (values_of R).variant_language l v ≡ None) (take first vs)

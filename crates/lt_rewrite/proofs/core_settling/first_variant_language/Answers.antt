@@ -7,20 +7,13 @@ use Rattle.lt_rewrite.proofs.core_settling.first_variant_language.Goals as goal
 
 pub returns-in-Some-clause-variant_language : goal.returns-in-Some-clause-variant_language
 returns-in-Some-clause-variant_language g c =
-    let V = values_of (g.L.Lookup.listed c.args.table.now) in
-    first_variant_language_at V c.args.core.now c.loop-index.index c.variant-item.result c.copy.result c.variants-variant-items.result.now c.variants-variant-items.ensures.value c.loop-index-test.true c.variant-item.is
-    (ap (λ l. V.variant_language l c.variant-item.result) (sym c.language.ensures.value) ∙ sym c.variant_language.ensures.value ∙ ap option_copied c.in-Some.is ∙ sym (ap some c.copy.ensures))
-    c.loop-index.invariant
-  where
-    some : List ℕ → Option (List ℕ)
-    some m = Some m
+    first_variant_language_at (values_of (g.L.Lookup.listed c.args.table.now)) c.args.core.now c.loop-index.index c.language.result.now c.variant-item.result c.copy.result c.variants-variant-items.result.now c.variant_language.result _
+    c.variants-variant-items.ensures.value c.loop-index-test.true c.variant-item.is c.language.ensures.value c.variant_language.ensures.value c.in-Some.is c.copy.ensures c.loop-index.invariant
 
 pub loop-index-preserved : goal.loop-index-preserved
 loop-index-preserved g c =
-    let V = values_of (g.L.Lookup.listed c.args.table.now) in
-    none_more V c.args.core.now c.loop-index.index c.variant-item.result c.variants-variant-items.result.now c.loop-index-test.true c.variant-item.is
-    (ap (λ l. V.variant_language l c.variant-item.result) (sym c.language.ensures.value) ∙ sym c.variant_language.ensures.value ∙ ap option_copied c.in_default.is)
-    c.loop-index.invariant
+    none_more (values_of (g.L.Lookup.listed c.args.table.now)) c.args.core.now c.loop-index.index c.language.result.now c.variant-item.result c.variants-variant-items.result.now c.variant_language.result
+    c.loop-index-test.true c.variant-item.is c.language.ensures.value c.variant_language.ensures.value c.in_default.is c.loop-index.invariant
 
 pub returns-clause-variant_language : goal.returns-clause-variant_language
 returns-clause-variant_language g c =

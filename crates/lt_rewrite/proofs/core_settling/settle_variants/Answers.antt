@@ -1,44 +1,17 @@
-use Rattle.std.proofs.Common.{◌≡◌, ℕ, ◌+◌, ◌<◌, List, None, All, length, get_or, set, take, sym, ap, ◌∙◌, subst, refl, arith}
-use Rattle.std.proofs.lemmas.List.{take_all, length-set}
-use Rattle.lt_tag.specs.Parts.{CoreParts}
-use Rattle.lt_rewrite.specs.Rewriting.{Star, done}
-use Rattle.lt_rewrite.specs.CoreSteps.{values_of, CoreStep}
-use Rattle.lt_rewrite.proofs.Stars.{star_trans}
-use Rattle.lt_rewrite.proofs.CoreLaws.{variant_reached, final_more}
+use Rattle.std.proofs.Common.{◌≡◌, List, None, All, length, ap, subst}
+use Rattle.lt_rewrite.specs.CoreSteps.{values_of}
+use Rattle.lt_rewrite.proofs.CoreLaws.{none_settled, one_settled, all_settled}
 use Rattle.lt_rewrite.proofs.core_settling.settle_variants.Goals as goal
 
 pub loop-index-init : goal.loop-index-init
-loop-index-init g c = record {
-  reached = done;
-  others = refl;
-  count = sym (ap length c.variants-index-end.ensures.value);
-  final = λ k d h. absurd (omega (arith, h));
-}
+loop-index-init g c = none_settled (g.L.Lookup.listed c.args.table.now) c.args.core.now _ (ap length c.variants-index-end.ensures.value)
 
 pub loop-index-preserved : goal.loop-index-preserved
 loop-index-preserved g c =
-    let R = g.L.Lookup.listed c.args.table.now in
-    let V = values_of R in
-    let core = c.loop-index.core in
-    let i = c.loop-index.index in
-    let s = c.index-variants-index.result in
-    let e = c.certain_end-end.result in
-    let P : List ℕ → Type 0 = λ v. V.variant v ≡ None in
-    let within : i < length core.variants = omega (arith, c.loop-index-test.true, c.loop-index.invariant.count) in
-    let is : s ≡ get_or core.variants i s = subst (λ vs. s ≡ get_or vs i s) c.variants.ensures.value c.index-variants-index.is in
-    let vs = ap (λ (d : CoreParts). d.variants) c.set_variant.ensures in
-    record {
-      reached = star_trans c.loop-index.invariant.reached (subst (λ (d : CoreParts). Star (CoreStep V) core d) (sym c.set_variant.ensures) (variant_reached R core i s e within is c.certain_end-end.ensures.end));
-      others =
-          c.set_variant.ensures
-          ∙ ap (λ (d : CoreParts). record d { variants = set core.variants i e }) c.loop-index.invariant.others
-          ∙ ap (λ us. record c.args.core.now { variants = us }) (sym vs);
-      count = ap length vs ∙ length-set core.variants i e ∙ c.loop-index.invariant.count;
-      final = subst (λ us. All P (take (i + 1) us)) (sym vs) (final_more P core.variants i e within c.loop-index.invariant.final c.certain_end-end.ensures.end.2);
-    }
+    one_settled (g.L.Lookup.listed c.args.table.now) c.args.core.now c.loop-index.core _ c.loop-index.index _ c.index-variants-index.result c.certain_end-end.result c.variants.result.now
+    c.loop-index.invariant c.loop-index-test.true c.variants.ensures.value c.index-variants-index.is c.certain_end-end.ensures.end c.set_variant.ensures
 
 pub returns-clause-at_rest : goal.returns-clause-at_rest
 returns-clause-at_rest g c =
-    let P : List ℕ → Type 0 = λ v. (values_of (g.L.Lookup.listed c.args.table.now)).variant v ≡ None in
-    let all : take c.loop-index.index c.loop-index.core.variants ≡ c.loop-index.core.variants = take_all c.loop-index.index c.loop-index.core.variants (omega (arith, c.loop-index-test.false, c.loop-index.invariant.count)) in
-    subst (All P) all c.loop-index.invariant.final
+    let R = g.L.Lookup.listed c.args.table.now in
+    subst (All (λ v. (values_of R).variant v ≡ None)) (all_settled R c.args.core.now c.loop-index.core c.loop-index.index _ c.loop-index.invariant c.loop-index-test.false) c.loop-index.invariant.final

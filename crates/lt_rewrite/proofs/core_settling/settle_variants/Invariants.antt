@@ -1,13 +1,5 @@
-use Rattle.std.proofs.Common.{◌≡◌, ℕ, List, None, All, take, length}
-use Rattle.lt_rewrite.specs.Rewriting.{Star}
-use Rattle.lt_rewrite.specs.CoreSteps.{values_of, CoreStep}
+use Rattle.lt_rewrite.proofs.CoreLaws.{VariantsSettled}
 use Rattle.lt_rewrite.proofs.core_settling.settle_variants.Given as goal
 
--- steps lead here, and the variants so far are at the ends of their chains
 abbrev pub invariant-loop-index : goal.invariant-loop-index
-invariant-loop-index g l = record {
-  reached : Star (CoreStep (values_of (g.L.Lookup.listed l.table))) l.fn.core l.core;
-  others : l.core ≡ record l.fn.core { variants = l.core.variants };
-  count : length l.core.variants ≡ l.index-end;
-  final : All (λ (v : List ℕ). (values_of (g.L.Lookup.listed l.table)).variant v ≡ None) (take l.index l.core.variants);
-}
+invariant-loop-index g l = VariantsSettled (g.L.Lookup.listed l.table) l.fn.core l.core l.index l.index-end

@@ -26,20 +26,13 @@ variant_language_at-requires g c =
 
 pub returns-in-Some-clause-variant_language : goal.returns-in-Some-clause-variant_language
 returns-in-Some-clause-variant_language g c =
-    let V = values_of (g.L.Lookup.listed c.args.table.now) in
-    first_variant_language_at V c.args.core.now c.loop-index.index c.index-variants-index.result c.copy.result c.variants-variants.result.now c.variants-variants.ensures.value c.loop-index-test.true c.index-variants-index.is
-    (ap (λ l. V.variant_language l c.index-variants-index.result) (sym c.language-in-loop-index.ensures.value) ∙ sym c.variant_language_at.ensures.value ∙ ap option_copied c.in-Some.is ∙ sym (ap some c.copy.ensures))
-    c.loop-index.invariant
-  where
-    some : List ℕ → Option (List ℕ)
-    some m = Some m
+    first_variant_language_at (values_of (g.L.Lookup.listed c.args.table.now)) c.args.core.now c.loop-index.index c.language-in-loop-index.result.now c.index-variants-index.result c.copy.result c.variants-variants.result.now c.variant_language_at.result _
+    c.variants-variants.ensures.value c.loop-index-test.true c.index-variants-index.is c.language-in-loop-index.ensures.value c.variant_language_at.ensures.value c.in-Some.is c.copy.ensures c.loop-index.invariant
 
 pub loop-index-preserved : goal.loop-index-preserved
 loop-index-preserved g c =
-    let V = values_of (g.L.Lookup.listed c.args.table.now) in
-    none_more V c.args.core.now c.loop-index.index c.index-variants-index.result c.variants-variants.result.now c.loop-index-test.true c.index-variants-index.is
-    (ap (λ l. V.variant_language l c.index-variants-index.result) (sym c.language-in-loop-index.ensures.value) ∙ sym c.variant_language_at.ensures.value ∙ ap option_copied c.in_default.is)
-    c.loop-index.invariant
+    none_more (values_of (g.L.Lookup.listed c.args.table.now)) c.args.core.now c.loop-index.index c.language-in-loop-index.result.now c.index-variants-index.result c.variants-variants.result.now c.variant_language_at.result
+    c.loop-index-test.true c.index-variants-index.is c.language-in-loop-index.ensures.value c.variant_language_at.ensures.value c.in_default.is c.loop-index.invariant
 
 pub returns-clause-variant_language : goal.returns-clause-variant_language
 returns-clause-variant_language g c =
