@@ -1,5 +1,5 @@
 -- A walk along a chain of values, value by value.
-use Rattle.std.proofs.Common.{◌≡◌, ◌≢◌, ℕ, zero, suc, ◌≤◌, ◌<◌, inl, inr, Bool, true, false, cond, eqb, List, [], ◌∷◌, Option, Some, None, refl, sym, ap, ◌∙◌, subst, length, slice_get, arith, ◌+◌, Result, IfOk, OnErr, not, get_or, take, All, MatchBool, Bor, is_some, set, Contains, ltb, ltb-true, ltb-false, length-take}
+use Rattle.std.proofs.Common.{rules, ◌≡◌, ◌≢◌, ℕ, zero, suc, ◌≤◌, ◌<◌, inl, inr, Bool, true, false, cond, eqb, List, [], ◌∷◌, Option, Some, None, refl, sym, ap, ◌∙◌, subst, length, slice_get, arith, ◌+◌, Result, IfOk, OnErr, not, get_or, take, All, MatchBool, Bor, is_some, set, Contains, ltb, ltb-true, ltb-false, length-take}
 use Rattle.std.specs.List.{AllByRecursion, list_any, IsDistinct, AllWithin}
 use Rattle.std.proofs.lemmas.Map.Steps.{length-le_from_distinct_below}
 use Rattle.std.proofs.lemmas.Bool.{or_cases, eqb-true, ne_eqb, cases_lt}
@@ -273,14 +273,8 @@ each_set P (x ∷ xs) (suc n) j h p (suc i) k e = each_set (λ m. P (suc m)) xs 
 shortcut_less : (R : List EntryParts) (n m i j : ℕ) → m ≤ n → IsShortcut R n i j → IsShortcut R m i j
 shortcut_less R n m i j le a e v there follows =
     let l : LeadsTo R e.kind n v j = a e v there follows in
-    record {
-      entry = l.entry;
-      there = l.there;
-      of_kind = l.of_kind;
-      value = l.value;
-      follows = l.follows;
-      onward = onward_less (next_value R e.kind) n m v l.value le l.onward;
-    }
+    let on = onward_less (next_value R e.kind) n m v l.value le l.onward in
+    search rules
 
 -- one shortcut after another
 shortcut_trans : (R : List EntryParts) (n m i j k : ℕ) → IsShortcut R n i j → IsShortcut R m j k → IsShortcut R (n + m) i k
@@ -288,22 +282,15 @@ shortcut_trans R n m i j k a b e v there follows =
     let w : LeadsTo R e.kind n v j = a e v there follows in
     let l : LeadsTo R w.entry.kind m w.value k = b w.entry w.value w.there w.follows in
     let on : IsOnward (next_value R e.kind) m w.value l.value = subst (λ (d : Kind). IsOnward (next_value R d) m w.value l.value) w.of_kind l.onward in
-    record {
-      entry = l.entry;
-      there = l.there;
-      of_kind = l.of_kind ∙ w.of_kind;
-      value = l.value;
-      follows = l.follows;
-      onward = onward_trans (next_value R e.kind) n m v w.value l.value w.onward on;
-    }
+    let both = onward_trans (next_value R e.kind) n m v w.value l.value w.onward on in
+    let kind = l.of_kind ∙ w.of_kind in
+    search rules
 
 -- shortcuts that lead further lead on as far as is asked
 pub lead_less : (R : List EntryParts) (n m : ℕ) (places : List ℕ) → m ≤ n → LeadOn R n places → LeadOn R m places
-lead_less R n m places le h = record {
-  one_each = h.one_each;
-  within = h.within;
-  shortcut = λ i j at. shortcut_less R n m i j le (h.shortcut i j at);
-}
+lead_less R n m places le h =
+    let each = λ (i j : ℕ) (at : slice_get places i ≡ Some j). shortcut_less R n m i j le (h.shortcut i j at) in
+    search rules
 
 -- shortcuts of which those below an index are twice as long
 pub record PartDoubled (R : List EntryParts) (n index : ℕ) (places : List ℕ) : Type 0 where
@@ -311,11 +298,9 @@ pub record PartDoubled (R : List EntryParts) (n index : ℕ) (places : List ℕ)
   pub doubled : (i j : ℕ) → i < index → slice_get places i ≡ Some j → IsShortcut R (n + n) i j
 
 pub all_doubled : (R : List EntryParts) (n index : ℕ) (places : List ℕ) → index ≡ length places → PartDoubled R n index places → LeadOn R (n + n) places
-all_doubled R n index places is h = record {
-  one_each = h.all.one_each;
-  within = h.all.within;
-  shortcut = λ i j at. h.doubled i j (omega (arith, is, slice_get_within places i j at)) at;
-}
+all_doubled R n index places is h =
+    let twice = λ (i j : ℕ) (at : slice_get places i ≡ Some j). h.doubled i j (omega (arith, is, slice_get_within places i j at)) at in
+    search rules
 
 -- one more leads on from where it led
 pub one_doubled : (R : List EntryParts) (n index j k : ℕ) (places : List ℕ) → slice_get places index ≡ Some j → slice_get places j ≡ Some k → PartDoubled R n index places → PartDoubled R n (index + 1) (set places index k)
@@ -347,15 +332,8 @@ shortcut_of R i j e w at next leads f v there follows =
 pub to_next : (R : List EntryParts) (i j : ℕ) (e next : EntryParts) (w u : List ℕ) → slice_get R i ≡ Some e → following e.kind e ≡ Some w → entry R e.kind w ≡ Some next → following next.kind next ≡ Some u → slice_get R j ≡ Some next → IsShortcut R 1 i j
 to_next R i j e next w u at follows found then there =
     let kind : next.kind ≡ e.kind = (entry_of R e.kind w next found).of_kind in
-    shortcut_of R i j e w at follows
-    (record {
-      entry = next;
-      there = there;
-      of_kind = kind;
-      value = u;
-      follows = then;
-      onward = onward_next (next_value R e.kind) w u (entry_next R e.kind w next found ∙ ap (λ (d : Kind). following d next) (sym kind) ∙ then);
-    })
+    let on = onward_next (next_value R e.kind) w u (entry_next R e.kind w next found ∙ ap (λ (d : Kind). following d next) (sym kind) ∙ then) in
+    shortcut_of R i j e w at follows (search rules)
 
 -- or to the entry itself, where that value is the last
 pub to_itself : (R : List EntryParts) (i : ℕ) (e : EntryParts) (w : List ℕ) → slice_get R i ≡ Some e → following e.kind e ≡ Some w → next_value R e.kind w ≡ None → IsShortcut R 1 i i
@@ -452,10 +430,7 @@ lower_are_before P R i e rise h is all k d within below =
     ]
 
 pub first_there : (R : List EntryParts) (i : ℕ) (e : EntryParts) → NumbersRise R → i < length R → e ≡ get_or R i e → All (HasEndingChain R) (take i R) → (HasEndingChain R e → ⊥) → IsFirstCycle R e.number
-first_there R i e rise h is all endless = record {
-  entry = e;
-  there = (i, h, sym is);
-  numbered = refl;
-  endless = endless;
-  lower = lower_are_before (HasEndingChain R) R i e rise h is all;
-}
+first_there R i e rise h is all endless =
+    let there : Contains R e = (i, h, sym is) in
+    let lower = lower_are_before (HasEndingChain R) R i e rise h is all in
+    search rules

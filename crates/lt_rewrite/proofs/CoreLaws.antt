@@ -1,5 +1,5 @@
 -- The core normal form of each core, as a function, and its laws.
-use Rattle.std.proofs.Common.{◌≡◌, ℕ, zero, suc, Bool, true, false, eqb, List, [], ◌∷◌, ◌++◌, Option, Some, None, refl, sym, ap, ◌∙◌, subst, length, take, drop, is_none, arith, ◌≤◌, ◌+◌, map, append_assoc, cond, ◌≢◌, not, is_some, filter, ◌<◌, get_or, set, All, IfSome, Bor, ◌-◌, ◌&&◌, ◌||◌, bytes_eq, ◌⊎◌, inl, inr}
+use Rattle.std.proofs.Common.{rules, ◌≡◌, ℕ, zero, suc, Bool, true, false, eqb, List, [], ◌∷◌, ◌++◌, Option, Some, None, refl, sym, ap, ◌∙◌, subst, length, take, drop, is_none, arith, ◌≤◌, ◌+◌, map, append_assoc, cond, ◌≢◌, not, is_some, filter, ◌<◌, get_or, set, All, Bor, ◌-◌, ◌&&◌, ◌||◌, bytes_eq, ◌⊎◌, inl, inr}
 use Rattle.std.specs.Prelude.{slice_get, if◌then◌else◌, option_to_list}
 use Rattle.std.specs.List.{AllByRecursion, list_all, remove, sum_by}
 use Rattle.std.specs.Option.{option_map, option_map_or, option_copied}
@@ -17,7 +17,7 @@ use Rattle.lt_tag.specs.Parts.{CoreParts}
 use Rattle.lt_tag.specs.Spelling.{spell_core, IsCore}
 use Rattle.lt_tag.proofs.TagLemmas.{AllByRecursion-weaker, table_length, list_all-at}
 use Rattle.lt_registry.specs.Parts.{EntryParts}
-use Rattle.lt_registry.specs.Entries.{preferred_value, prefixes, has_prefix, variant_value, language_value, replacement, is_registered, IsRegistry}
+use Rattle.lt_registry.specs.Entries.{prefixes, has_prefix, variant_value, language_value, replacement, is_registered, IsRegistry}
 use Rattle.lt_registry.specs.Validity.{Distinct, ExtlangsFit, IsProperCore}
 use Rattle.lt_registry.specs.declared.entries.Kind.{Kind}
 use Rattle.lt_registry.specs.declared.entries.Kind.TheVariants as kinds
@@ -155,27 +155,20 @@ pub record IsNoLonger (d c : CoreParts) : Type 0 where
 
 pub core_step_no_longer : (V : Values) (c d : CoreParts) → CoreStep V c d → IsNoLonger d c
 core_step_no_longer V c = each_step V c (λ d. IsNoLonger d c) (record {
-  extlang = λ x one. record { extlangs = omega arith; script = omega arith; region = omega arith; variants = omega arith };
-  language = λ v none has. record { extlangs = omega arith; script = omega arith; region = omega arith; variants = omega arith };
-  script = λ a v there has.
-      record { extlangs = omega arith; script = omega (arith, ap (λ o. length (option_to_list o)) there); region = omega arith; variants = omega arith };
-  region = λ a v there has.
-      record { extlangs = omega arith; script = omega arith; region = omega (arith, ap (λ o. length (option_to_list o)) there); variants = omega arith };
+  extlang = λ x one. search (rules, arith);
+  language = λ v none has. search (rules, arith);
+  script = λ a v there has. let n = ap (λ o. length (option_to_list o)) there in search (rules, arith);
+  region = λ a v there has. let n = ap (λ o. length (option_to_list o)) there in search (rules, arith);
   variant = λ before v w after there has.
       let n : length (before ++ w ∷ after) ≤ length c.variants = omega (arith, length-append before (w ∷ after), length-append before (v ∷ after), ap length there) in
-      record { extlangs = omega arith; script = omega arith; region = omega arith; variants = n };
+      search (rules, arith);
   variant_language = λ before v m after none there has leftmost.
       let n : length (before ++ after) ≤ length c.variants = omega (arith, length-append before after, length-append before (v ∷ after), ap length there) in
-      record { extlangs = omega arith; script = omega arith; region = omega arith; variants = n };
+      search (rules, arith);
 })
 
-core_length : (c : CoreParts) → length (spell_core c) ≡ 1 + (length c.extlangs + (length (option_to_list c.script) + (length (option_to_list c.region) + length c.variants)))
-core_length c =
-    let d = length-append (option_to_list c.region) c.variants in
-    omega (arith, length-append c.extlangs (option_to_list c.script ++ (option_to_list c.region ++ c.variants)), length-append (option_to_list c.script) (option_to_list c.region ++ c.variants), d)
-
 pub spelled_no_longer : (c d : CoreParts) → IsNoLonger d c → length (spell_core d) ≤ length (spell_core c)
-spelled_no_longer c d h = omega (arith, core_length c, core_length d, h.extlangs, h.script, h.region, h.variants)
+spelled_no_longer c d h = simp length-append (omega arith)
 
 -- What single steps reach, one after another.
 
@@ -578,6 +571,9 @@ one_settled R c d e i n s t us S below own at ends new =
 pub all_settled : (R : List EntryParts) (c d : CoreParts) (i n : ℕ) → VariantsSettled R c d i n → n ≤ i → take i d.variants ≡ d.variants
 all_settled R c d i n S past = take_all i d.variants (omega (arith, past, S.count))
 
+pub all_final : (R : List EntryParts) (c d : CoreParts) (i n : ℕ) → VariantsSettled R c d i n → n ≤ i → All (λ (v : List ℕ). (values_of R).variant v ≡ None) d.variants
+all_final R c d i n S past = subst (All (λ v. (values_of R).variant v ≡ None)) (all_settled R c d i n S past) S.final
+
 pub extlang_reached : (R : List EntryParts) (c d e : CoreParts) (x l : List ℕ) (xs : List (List ℕ)) → xs ≡ c.extlangs → x ≡ get_or xs 0 x → length xs ≡ 1 → l ≡ replacement R x → d ≡ record c { extlangs = [] } → e ≡ record d { language = l } → Star (CoreStep (values_of R)) c e
 extlang_reached R c d e x l xs own at one value dropped new =
     subst (λ e. Star (CoreStep (values_of R)) c e) (sym (new ∙ (λ i. record (dropped i) { language = value i })))
@@ -603,15 +599,10 @@ language_settled R c d e f g i m none S t dropped new after final other =
     let vs : g.variants ≡ remove d.variants i = ap (λ (k : CoreParts). k.variants) left in
     let alone : d.extlangs ≡ [] = ap (λ (k : CoreParts). k.extlangs) S.others ∙ none in
     let step = by_variant_language V d (take i d.variants) t.variant m (drop (suc i) d.variants) alone t.there t.has t.leftmost in
-    record {
-      reached = star_trans S.reached (onward step (subst (λ (k : CoreParts). Star (CoreStep V) k g) (new ∙ ap (λ (k : CoreParts). record k { language = m }) dropped) after));
-      language = final;
-      variants = subst (All P) (sym vs) (All-append P (take i d.variants) (drop (suc i) d.variants) (All-take P i d.variants S.variants) (All-drop P (suc i) d.variants S.variants));
-      others =
-          left
-          ∙ ap (λ (k : CoreParts). record k { language = g.language; variants = remove d.variants i }) S.others
-          ∙ ap (λ us. record c { language = g.language; variants = us }) (sym vs);
-    }
+    let reached = star_trans S.reached (onward step (subst (λ (k : CoreParts). Star (CoreStep V) k g) (new ∙ ap (λ (k : CoreParts). record k { language = m }) dropped) after)) in
+    let variants = subst (All P) (sym vs) (All-append P (take i d.variants) (drop (suc i) d.variants) (All-take P i d.variants S.variants) (All-drop P (suc i) d.variants S.variants)) in
+    let others : g ≡ record c { language = g.language; variants = g.variants } = let o = S.others in cc in
+    search rules
 
 -- the variant at an index is the first with a VariantLanguage step, where none before it has one
 pub first_variant_language_at : (V : Values) (c : CoreParts) (i : ℕ) (l v m : List ℕ) (vs : List (List ℕ)) (o : Option (Bor (List ℕ))) (b : Bor (List ℕ)) → vs ≡ c.variants → i < length vs → v ≡ get_or vs i v → l ≡ c.language → option_copied o ≡ V.variant_language l v → o ≡ Some b → m ≡ b.now → All (λ (u : List ℕ). V.variant_language c.language u ≡ None) (take i vs) → IsFirstVariantLanguage V c i m
@@ -669,7 +660,7 @@ rests_settled V c c1 c2 c3 d S last variants language other =
 -- Core steps come to an end: each makes a number lower.
 
 -- how many values follow a subtag, of at most n
-pub left : (List ℕ → Option (List ℕ)) → ℕ → List ℕ → ℕ
+left : (List ℕ → Option (List ℕ)) → ℕ → List ℕ → ℕ
 left f zero s = 0
 left f (suc n) s = option_map_or (λ t. suc (left f n t)) (f s) 0
 
@@ -682,45 +673,38 @@ left_takes f (suc n) (suc m) s a h = let rest : left f n a.0 ≡ m = left_takes 
 
 module _ (R : List EntryParts) where
   -- how many values follow a subtag of a kind
-  pub after : Kind → List ℕ → ℕ
+  abbrev after : Kind → List ℕ → ℕ
   after k s = left (next_value R k) (length R) s
 
   -- more than any language has
-  spare : ℕ
+  abbrev spare : ℕ
   spare = length R + 1
 
-  weight_of_option : Kind → Option (List ℕ) → ℕ
-  weight_of_option k None = 0
-  weight_of_option k (Some s) = after k s
+  abbrev of_part : Kind → Option (List ℕ) → ℕ
+  of_part k o = option_map_or (after k) o 0
+
+  abbrev of_variant : List ℕ → ℕ
+  of_variant v = after kinds.Variant v + spare
 
   pub weight : CoreParts → ℕ
   weight c =
-      sum_by (λ _. spare) c.extlangs + (after kinds.Language c.language + (weight_of_option kinds.Script c.script + (weight_of_option kinds.Region c.region + sum_by (λ v. after kinds.Variant v + spare) c.variants)))
+      sum_by (λ _. spare) c.extlangs + (after kinds.Language c.language + (of_part kinds.Script c.script + (of_part kinds.Region c.region + sum_by of_variant c.variants)))
 
   -- on a chain that ends no more follow than there are records, and one less after one
   after_most : All (HasEndingChain R) R → (k : Kind) (s : List ℕ) → after k s < spare
-  unfolding after spare
   after_most C k s =
       let t = takes_within R k s (chains_end R C k s) in
       omega (arith, t.1, left_takes (next_value R k) (length R) t.0 s t.2 t.1)
 
   after_next : All (HasEndingChain R) R → (k : Kind) (s t : List ℕ) → next_value R k s ≡ Some t → after k s ≡ suc (after k t)
-  unfolding after
   after_next C k s t e =
       let a = takes_within R k t (chains_end R C k t) in
       let b = takes_within R k s (chains_end R C k s) in
       let same : suc a.0 ≡ b.0 = takes_unique (next_value R k) (suc a.0) b.0 s (t, e, a.2) b.2 in
       omega (arith, same, left_takes (next_value R k) (length R) a.0 t a.2 a.1, left_takes (next_value R k) (length R) b.0 s b.2 b.1)
 
-  abbrev variant_weight : List ℕ → ℕ
-  variant_weight v = after kinds.Variant v + spare
-
-  variants_with : (before : List (List ℕ)) (v : List ℕ) (vs : List (List ℕ)) → sum_by variant_weight (before ++ v ∷ vs) ≡ sum_by variant_weight before + (variant_weight v + sum_by variant_weight vs)
-  variants_with before v vs = sum_by-append variant_weight before (v ∷ vs) ∙ ap (λ n. sum_by variant_weight before + n) (sum_by-cons variant_weight v vs)
-
-  of_some : (k : Kind) (o : Option (List ℕ)) (s : List ℕ) → o ≡ Some s → weight_of_option k o ≡ after k s
-  unfolding weight_of_option
-  of_some k o s e = ap (weight_of_option k) e
+  variants_with : (before : List (List ℕ)) (v : List ℕ) (vs : List (List ℕ)) → sum_by of_variant (before ++ v ∷ vs) ≡ sum_by of_variant before + (of_variant v + sum_by of_variant vs)
+  variants_with before v vs = sum_by-append of_variant before (v ∷ vs) ∙ ap (λ n. sum_by of_variant before + n) (sum_by-cons of_variant v vs)
 
   pub weight_falls : All (HasEndingChain R) R → (c d : CoreParts) → CoreStep (values_of R) c d → weight d < weight c
   unfolding weight
@@ -728,14 +712,12 @@ module _ (R : List EntryParts) where
     extlang = λ x one.
         omega (arith, ap (sum_by (λ _. spare)) one, sum_by-cons (λ _. spare) x [], after_most C kinds.Language (replacement R x));
     language = λ v none has. omega (arith, after_next C kinds.Language c.language v has);
-    script = λ a v there has.
-        omega (arith, of_some kinds.Script c.script a there, of_some kinds.Script (Some v) v refl, after_next C kinds.Script a v has);
-    region = λ a v there has.
-        omega (arith, of_some kinds.Region c.region a there, of_some kinds.Region (Some v) v refl, after_next C kinds.Region a v has);
+    script = λ a v there has. omega (arith, ap (of_part kinds.Script) there, after_next C kinds.Script a v has);
+    region = λ a v there has. omega (arith, ap (of_part kinds.Region) there, after_next C kinds.Region a v has);
     variant = λ before v w vs there has.
-        omega (arith, ap (sum_by variant_weight) there, variants_with before v vs, variants_with before w vs, after_next C kinds.Variant v w has);
+        omega (arith, ap (sum_by of_variant) there, variants_with before v vs, variants_with before w vs, after_next C kinds.Variant v w has);
     variant_language = λ before v m vs none there has leftmost.
-        omega (arith, ap (sum_by variant_weight) there, variants_with before v vs, sum_by-append variant_weight before vs, after_most C kinds.Language m);
+        omega (arith, ap (sum_by of_variant) there, variants_with before v vs, sum_by-append of_variant before vs, after_most C kinds.Language m);
   })
 
 -- A core step on a proper core gives a proper core, and no proper core spells a grandfathered tag.
@@ -756,10 +738,8 @@ step_shaped R G c d S = each_step (values_of R) c IsCore (record {
       record { language = replacement_form R G x shape; extlangs = refl; up_to_three = omega arith; after_short = λ n. absurd (omega (arith, n)); script = S.script; region = S.region; variants = S.variants };
   language = λ v none has.
       record { language = value_form R G kinds.Language c.language v has; extlangs = S.extlangs; up_to_three = S.up_to_three; after_short = λ n. absurd (omega (arith, ap length none, n)); script = S.script; region = S.region; variants = S.variants };
-  script = λ a v there has.
-      record { language = S.language; extlangs = S.extlangs; up_to_three = S.up_to_three; after_short = S.after_short; script = value_form R G kinds.Script a v has; region = S.region; variants = S.variants };
-  region = λ a v there has.
-      record { language = S.language; extlangs = S.extlangs; up_to_three = S.up_to_three; after_short = S.after_short; script = S.script; region = value_form R G kinds.Region a v has; variants = S.variants };
+  script = λ a v there has. search (rules, value_form R G kinds.Script a v has);
+  region = λ a v there has. search (rules, value_form R G kinds.Region a v has);
   variant = λ before v w after there has.
       record { language = S.language; extlangs = S.extlangs; up_to_three = S.up_to_three; after_short = S.after_short; script = S.script; region = S.region; variants = test_replaced is_variant before v w after (ap (list_all is_variant) (sym there) ∙ S.variants) (variant_value_form R G v w has) };
   variant_language = λ before v m after none there has leftmost.
@@ -778,10 +758,8 @@ step_proper R C c d P = each_step (values_of R) c (IsProperCore R) (record {
       record { language = replacement_registered R C x fit.0; extlangs = tt; script = P.script; region = P.region; variants = P.variants };
   language = λ v none has.
       record { language = value_registered R C kinds.Language c.language v refl has; extlangs = subst (ExtlangsFit R v) (sym none) tt; script = P.script; region = P.region; variants = P.variants };
-  script = λ a v there has.
-      record { language = P.language; extlangs = P.extlangs; script = value_registered R C kinds.Script a v refl has; region = P.region; variants = P.variants };
-  region = λ a v there has.
-      record { language = P.language; extlangs = P.extlangs; script = P.script; region = value_registered R C kinds.Region a v refl has; variants = P.variants };
+  script = λ a v there has. search (rules, value_registered R C kinds.Script a v refl has);
+  region = λ a v there has. search (rules, value_registered R C kinds.Region a v refl has);
   variant = λ before v w after there has.
       let all = subst (AllByRecursion (RegisteredVariant R)) there P.variants in
       record { language = P.language; extlangs = P.extlangs; script = P.script; region = P.region; variants = all_replaced (RegisteredVariant R) before v w after all (variant_value_fits R C v w has).0 };
@@ -792,13 +770,11 @@ step_proper R C c d P = each_step (values_of R) c (IsProperCore R) (record {
 }) d
 
 pub steps_keep_proper : (R : List EntryParts) → IsRegistry R → MeetsCoreConditions R → StepsKeepProper R
-steps_keep_proper R G C c d P s = record {
-  value = record {
-    shaped = step_shaped R G c d P.value.shaped s;
-    variants = let n = (core_step_no_longer (values_of R) c d s).variants in omega (arith, n, P.value.variants);
-  };
-  proper = step_proper R C c d P.proper s;
-}
+steps_keep_proper R G C c d P s =
+    let shaped = step_shaped R G c d P.value.shaped s in
+    let proper = step_proper R C c d P.proper s in
+    let n = (core_step_no_longer (values_of R) c d s).variants in
+    search (rules, arith)
 
 -- no proper core spells a grandfathered tag
 

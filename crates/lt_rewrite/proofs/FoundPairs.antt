@@ -1,21 +1,21 @@
 -- Variants are found by a language and a place.
-use Rattle.std.proofs.Common.{◌≡◌, ◌<◌, ℕ, zero, suc, List, [], ◌∷◌, Option, None, length, map, get_or, slice_get, refl, sym, ap, ◌∙◌, arith, ◌≤◌, ◌+◌, ◌*◌, ◌/◌, ◌%◌, ◌^◌, ◌==◌, Bool, true, false, set, take, bit_or, w64, inl, inr, ◌-◌, cond, ◌&&◌, ◌||◌, leb, ltb, ltb-true, leb-false, ◌++◌, All, Some, length-take, length-drop, drop, subst}
+use Rattle.std.proofs.Common.{◌≡◌, ◌<◌, ℕ, zero, suc, List, [], ◌∷◌, Option, None, length, map, get_or, slice_get, refl, sym, ap, ◌∙◌, arith, ◌≤◌, ◌+◌, ◌*◌, ◌/◌, ◌%◌, ◌^◌, ◌==◌, Bool, true, false, set, take, bit_or, w64, inl, inr, ◌-◌, cond, ◌||◌, leb, ltb, ltb-true, leb-false, ◌++◌, All, Some, length-take, length-drop, drop, subst}
 use Rattle.std.specs.List.{remove, AllWithin, list_any, filter_map}
 use Rattle.std.proofs.lemmas.Option.{slice_get-get_or, gets}
 use Rattle.std.proofs.lemmas.List.{length-set, map-append, take-map, drop-map, take_more_set, length-map, get_or-map, get_or-set_same, get_or-take, get_or-drop, get_or_default}
 use Rattle.lt_registry.specs.Parts.{EntryParts}
-use Rattle.lt_registry.specs.Entries.{entry, has_prefix, one_of, is_short}
+use Rattle.lt_registry.specs.Entries.{entry, has_prefix, is_short}
 use Rattle.lt_rewrite.specs.VariantLanguages.{ArePlaces}
 use Rattle.std.specs.Int.{bit_at}
-use Rattle.std.proofs.lemmas.Bool.{cases_lt, cases_eq, cases_Bool, and_from, eqb-true, or_left, or_right, or_cases, and_right, eq-eqb}
+use Rattle.std.proofs.lemmas.Bool.{cases_lt, cases_eq, cases_Bool, and_from, eqb-true, or_left, or_right, and_right, eq-eqb}
 use Rattle.std.proofs.lemmas.List.Edits.{length-remove, get_or-remove_below, get_or-remove_above}
-use Rattle.std.proofs.lemmas.List.Folds.{list_any_none, Any-from_list_any, list_any-append, list_any_at, list_any_more}
+use Rattle.std.proofs.lemmas.List.Folds.{list_any_none, Any-from_list_any, list_any-append, list_any_at}
 use Rattle.std.proofs.lemmas.Nat.Bits.{bit_at_or, bit_at-lt, bit_at_set_same}
 use Rattle.lt_rewrite.specs.declared.language_bits.LanguageBits.{LanguageBits}
 use Rattle.lt_rewrite.specs.VariantPairs.{pair, is_pair, has_pair, number, prefix_pair, becomes_language, pairs_of, pairs_from, number_in, is_set, AreVariantPairs}
 use Rattle.lt_rewrite.specs.CorePlaces.{index_at, AreBounds}
 use Rattle.std.specs.Prelude.{bytes_eq}
-use Rattle.std.specs.Option.{option_map_or, option_and_then}
+use Rattle.std.specs.Option.{option_map_or}
 use Rattle.std.proofs.lemmas.Slice.Eq.{bytes_eq-Decides}
 use Rattle.lt_registry.specs.Same.{same_kind}
 use Rattle.lt_registry.specs.declared.entries.Kind.{Kind}

@@ -16,6 +16,7 @@ pub(crate) struct LanguageBits {
 }
 
 /// Sets the bit of a pair, unless the bits end before it.
+#[tactic(auto, using(crate::proofs::FoundPairs::own_set, crate::proofs::FoundPairs::kept_set))]
 fn set_bit(bits: &mut [u64], pair: u64)
     ensures own { is_set bits.new pair ≡ true }
     ensures others { (p : ℕ) → is_set bits.old p ≡ true → is_set bits.new p ≡ true }

@@ -1,21 +1,17 @@
 use Rattle.std.proofs.Common.{sym, ap, ◌∙◌, rules}
 use Rattle.lt_tag.specs.Parts.{CoreParts}
 use Rattle.lt_rewrite.specs.CoreSteps.{values_of}
-use Rattle.lt_rewrite.proofs.CoreLaws.{not_empty as is_some, Settlings, rests_settled}
+use Rattle.lt_rewrite.proofs.CoreLaws.{not_empty as is_some, rests_settled}
 use Rattle.lt_rewrite.proofs.core_settling.settle_along.Goals as goal
 
 pub returns-then-is_empty : goal.returns-then-is_empty
 returns-then-is_empty g c =
-    let V = values_of (g.L.Lookup.listed c.args.table.now) in
-    let all : Settlings V c.args.core.now c.settle_script.new.core c.settle_region.new.core c.settle_extlang.new.core = search rules in
     let settled = c.settle_all_variant_languages.ensures in
-    rests_settled V c.args.core.now c.settle_script.new.core c.settle_region.new.core c.settle_extlang.new.core c.settle_all_variant_languages.new.core all settled.reached settled.variants (λ e. (settled.language, settled.variant_languages)) settled.others
+    rests_settled (values_of (g.L.Lookup.listed c.args.table.now)) c.args.core.now c.settle_script.new.core c.settle_region.new.core c.settle_extlang.new.core _ (search rules) settled.reached settled.variants (λ e. (settled.language, settled.variant_languages)) settled.others
 
 pub returns-else-is_empty : goal.returns-else-is_empty
 returns-else-is_empty g c =
-    let V = values_of (g.L.Lookup.listed c.args.table.now) in
-    let all : Settlings V c.args.core.now c.settle_script.new.core c.settle_region.new.core c.settle_extlang.new.core = search rules in
     let settled = c.settle_variants.ensures in
-    rests_settled V c.args.core.now c.settle_script.new.core c.settle_region.new.core c.settle_extlang.new.core c.settle_variants.new.core all settled.reached settled.at_rest
+    rests_settled (values_of (g.L.Lookup.listed c.args.table.now)) c.args.core.now c.settle_script.new.core c.settle_region.new.core c.settle_extlang.new.core c.settle_variants.new.core (search rules) settled.reached settled.at_rest
     (λ e. absurd (is_some c.extlangs.result.now (sym c.is_empty.ensures ∙ c.if-is_empty.false) (c.extlangs.ensures.value ∙ e)))
     (settled.others ∙ ap (λ l. record c.settle_extlang.new.core { language = l; variants = c.settle_variants.new.core.variants }) (sym (ap (λ (d : CoreParts). d.language) settled.others)))

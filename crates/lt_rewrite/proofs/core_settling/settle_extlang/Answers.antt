@@ -11,5 +11,4 @@ returns-else-this-lt2-clause-reached g c = done
 
 pub returns-in-len1-clause-reached : goal.returns-in-len1-clause-reached
 returns-in-len1-clause-reached g c =
-    extlang_reached (g.L.Lookup.listed c.args.table.now) c.args.core.now c.drop_extlangs.new.self c.set_language.new.self c.extlang-item.result c.replacement-language.result c.extlangs.result.now
-    c.extlangs.ensures.value c.extlang-item.is (omega arith) c.replacement-language.ensures.value c.drop_extlangs.ensures c.set_language.ensures
+    extlang_reached (g.L.Lookup.listed c.args.table.now) _ _ _ _ _ _ c.extlangs.ensures.value c.extlang-item.is (omega arith) c.replacement-language.ensures.value c.drop_extlangs.ensures c.set_language.ensures

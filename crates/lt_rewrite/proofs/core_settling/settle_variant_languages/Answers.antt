@@ -4,5 +4,4 @@ use Rattle.lt_rewrite.proofs.core_settling.settle_variant_languages.Goals as goa
 pub loop-index-preserved : goal.loop-index-preserved
 loop-index-preserved g c =
     let settled = c.settle_language-in-Some.ensures in
-    language_settled (g.L.Lookup.listed c.args.table.now) c.args.core.now c.loop-index.core c.remove_variant.new.self c.set_language.new.self c.settle_language-in-Some.new.core c.in-Some.index c.in-Some.language
-    c.requires.alone c.loop-index.invariant c.in-Some.ensures.variant_language c.remove_variant.ensures c.set_language.ensures settled.reached settled.at_rest settled.others
+    language_settled (g.L.Lookup.listed c.args.table.now) _ _ _ _ _ _ _ c.requires.alone c.loop-index.invariant c.in-Some.ensures.variant_language c.remove_variant.ensures c.set_language.ensures settled.reached settled.at_rest settled.others

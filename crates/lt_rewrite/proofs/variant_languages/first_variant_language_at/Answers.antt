@@ -1,5 +1,4 @@
-use Rattle.std.proofs.Common.{◌≡◌, ℕ, true, List, Option, Some, None, All, get_or, sym, ap, ◌∙◌, subst, true≢false, arith}
-use Rattle.std.specs.Option.{option_copied}
+use Rattle.std.proofs.Common.{rules, ◌≡◌, ℕ, true, List, None, All, get_or, sym, ap, ◌∙◌, subst, true≢false, arith}
 use Rattle.std.proofs.lemmas.List.{take_all}
 use Rattle.lt_rewrite.specs.CoreSteps.{values_of}
 use Rattle.lt_rewrite.specs.VariantLanguages.{ArePlaces}
@@ -25,14 +24,10 @@ variant_language_at-requires g c =
     c.loop-index-test.true c.index-variants-index.is
 
 pub returns-in-Some-clause-variant_language : goal.returns-in-Some-clause-variant_language
-returns-in-Some-clause-variant_language g c =
-    first_variant_language_at (values_of (g.L.Lookup.listed c.args.table.now)) c.args.core.now c.loop-index.index c.language-in-loop-index.result.now c.index-variants-index.result c.copy.result c.variants-variants.result.now c.variant_language_at.result _
-    c.variants-variants.ensures.value c.loop-index-test.true c.index-variants-index.is c.language-in-loop-index.ensures.value c.variant_language_at.ensures.value c.in-Some.is c.copy.ensures c.loop-index.invariant
+returns-in-Some-clause-variant_language g c = search (rules, first_variant_language_at)
 
 pub loop-index-preserved : goal.loop-index-preserved
-loop-index-preserved g c =
-    none_more (values_of (g.L.Lookup.listed c.args.table.now)) c.args.core.now c.loop-index.index c.language-in-loop-index.result.now c.index-variants-index.result c.variants-variants.result.now c.variant_language_at.result
-    c.loop-index-test.true c.index-variants-index.is c.language-in-loop-index.ensures.value c.variant_language_at.ensures.value c.in_default.is c.loop-index.invariant
+loop-index-preserved g c = search (rules, none_more (values_of (g.L.Lookup.listed c.args.table.now)) c.args.core.now)
 
 pub returns-clause-variant_language : goal.returns-clause-variant_language
 returns-clause-variant_language g c =
