@@ -44,6 +44,7 @@ fn certain_end<L: Lookup>(
 }
 
 /// Replaces the script by the end of its chain.
+#[tactic(auto, using(crate::specs::Rewriting::done))]
 fn settle_script<L: Lookup>(table: &L, shortcuts: Option<&Shortcuts>, core: &mut Core)
     requires chains { All (HasEndingChain (L.listed table.now)) (L.listed table.now) }
     requires shortcuts { IfSome shortcuts (λ s. AreShortcuts (L.listed table.now) s.now) }
@@ -58,6 +59,7 @@ fn settle_script<L: Lookup>(table: &L, shortcuts: Option<&Shortcuts>, core: &mut
 }
 
 /// Replaces the region by the end of its chain.
+#[tactic(auto, using(crate::specs::Rewriting::done))]
 fn settle_region<L: Lookup>(table: &L, shortcuts: Option<&Shortcuts>, core: &mut Core)
     requires chains { All (HasEndingChain (L.listed table.now)) (L.listed table.now) }
     requires shortcuts { IfSome shortcuts (λ s. AreShortcuts (L.listed table.now) s.now) }
@@ -72,6 +74,7 @@ fn settle_region<L: Lookup>(table: &L, shortcuts: Option<&Shortcuts>, core: &mut
 }
 
 /// Replaces each variant by the end of its chain of variants.
+#[tactic(auto, using(crate::proofs::CoreLaws::none_settled))]
 fn settle_variants<L: Lookup>(table: &L, shortcuts: Option<&Shortcuts>, core: &mut Core)
     requires chains { All (HasEndingChain (L.listed table.now)) (L.listed table.now) }
     requires shortcuts { IfSome shortcuts (λ s. AreShortcuts (L.listed table.now) s.now) }
@@ -86,6 +89,7 @@ fn settle_variants<L: Lookup>(table: &L, shortcuts: Option<&Shortcuts>, core: &m
 }
 
 /// Replaces the language and a sole extlang by the extlang's replacement.
+#[tactic(auto, using(crate::specs::Rewriting::done))]
 fn settle_extlang<L: Lookup>(table: &L, core: &mut Core)
     ensures reached { Star (CoreStep (values_of (L.listed table.now))) core.old core.new }
     ensures at_rest { (x : List ℕ) → core.new.extlangs ≡ x ∷ [] → ⊥ }
@@ -169,6 +173,7 @@ fn settle_variant_languages<L: Lookup>(table: &L, shortcuts: Option<&Shortcuts>,
 
 /// Replaces each of at most 256 variants by the end of its chain of variants, by shortcuts, and gives the places of
 /// their entries.
+#[tactic(auto, using(crate::proofs::CoreLaws::none_settled, crate::proofs::CoreLaws::all_final))]
 fn settle_few_variants<L: Lookup>(
     table: &L,
     shortcuts: &Shortcuts,
@@ -221,6 +226,7 @@ fn settle_few_variant_languages<L: Lookup>(table: &L, shortcuts: &Shortcuts, cor
 
 /// Replaces the language and any variants so. Without shortcuts, and of few or very many, each is looked up again for
 /// each language.
+#[tactic(auto, using(crate::proofs::Stars::star_trans))]
 fn settle_all_variant_languages<L: Lookup>(
     table: &L,
     shortcuts: Option<&Shortcuts>,

@@ -23,6 +23,7 @@ use lt_subtag::Subtag;
 use lt_tag::Core;
 
 /// The place of a variant's entry, or one after the last where it has none.
+#[tactic(auto, using(crate::proofs::ChainWalks::entry_there))]
 fn variant_place<L: Lookup>(table: &L, variant: &Subtag) -> usize
     ensures { slice_get (L.listed table.now) result ≡ entry (L.listed table.now) kinds.Variant variant.now }
 {
@@ -35,6 +36,7 @@ fn variant_place<L: Lookup>(table: &L, variant: &Subtag) -> usize
 
 /// The end of a variant's chain of variants, and the place of its entry, or one after the last where it has none;
 /// in a registry whose chains end.
+#[tactic(auto, using(crate::proofs::ChainWalks::entry_there))]
 pub(crate) fn settled_variant<L: Lookup>(
     table: &L,
     shortcuts: &Shortcuts,

@@ -1,13 +1,6 @@
 use Rattle.std.proofs.Common.{arith}
-use Rattle.lt_rewrite.specs.Rewriting.{done}
 use Rattle.lt_rewrite.proofs.CoreLaws.{extlang_reached}
 use Rattle.lt_rewrite.proofs.core_settling.settle_extlang.Goals as goal
-
-pub returns-then-extlangs-lt1-clause-reached : goal.returns-then-extlangs-lt1-clause-reached
-returns-then-extlangs-lt1-clause-reached g c = done
-
-pub returns-else-this-lt2-clause-reached : goal.returns-else-this-lt2-clause-reached
-returns-else-this-lt2-clause-reached g c = done
 
 pub returns-in-len1-clause-reached : goal.returns-in-len1-clause-reached
 returns-in-len1-clause-reached g c =

@@ -1,12 +1,9 @@
 use Rattle.std.proofs.Common.{◌+◌, ◌++◌, ◌∷◌, [], take, sym, ap, subst, arith, rules}
 use Rattle.lt_tag.specs.Parts.{CoreParts}
 use Rattle.lt_rewrite.specs.VariantLanguages.{ArePlaces}
-use Rattle.lt_rewrite.proofs.CoreLaws.{none_settled, one_settled, all_settled, all_final}
+use Rattle.lt_rewrite.proofs.CoreLaws.{one_settled, all_settled}
 use Rattle.lt_rewrite.proofs.FoundPairs.{placed_more}
 use Rattle.lt_rewrite.proofs.core_settling.settle_few_variants.Goals as goal
-
-pub loop-index-init : goal.loop-index-init
-loop-index-init g c = search (rules, none_settled)
 
 pub loop-index-preserved : goal.loop-index-preserved
 loop-index-preserved g c =
@@ -21,9 +18,6 @@ loop-index-preserved g c =
           (subst (λ us. ArePlaces R (take (i + 1) us) (c.loop-index.places.items ++ e.1 ∷ [])) (sym (ap (λ (d : CoreParts). d.variants) c.set_variant.ensures))
           (placed_more R core.variants c.loop-index.places.items i e.1 e.0 (omega (arith, c.loop-index-test.true, c.loop-index.invariant.settled.count)) c.settled_variant-end.ensures.place c.loop-index.invariant.places));
     }
-
-pub returns-clause-at_rest : goal.returns-clause-at_rest
-returns-clause-at_rest g c = search (rules, all_final)
 
 pub returns-clause-places : goal.returns-clause-places
 returns-clause-places g c =

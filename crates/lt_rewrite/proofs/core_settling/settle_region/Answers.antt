@@ -1,10 +1,6 @@
 use Rattle.std.proofs.Common.{rules}
-use Rattle.lt_rewrite.specs.Rewriting.{done}
 use Rattle.lt_rewrite.proofs.CoreLaws.{region_reached}
 use Rattle.lt_rewrite.proofs.core_settling.settle_region.Goals as goal
-
-pub returns-in_default-clause-reached : goal.returns-in_default-clause-reached
-returns-in_default-clause-reached g c = done
 
 pub returns-in-Some-clause-reached : goal.returns-in-Some-clause-reached
 returns-in-Some-clause-reached g c = search (rules, region_reached)

@@ -1,9 +1,6 @@
 use Rattle.std.proofs.Common.{rules}
-use Rattle.lt_rewrite.proofs.CoreLaws.{none_settled, one_settled, all_final}
+use Rattle.lt_rewrite.proofs.CoreLaws.{one_settled, all_final}
 use Rattle.lt_rewrite.proofs.core_settling.settle_variants.Goals as goal
-
-pub loop-index-init : goal.loop-index-init
-loop-index-init g c = search (rules, none_settled)
 
 pub loop-index-preserved : goal.loop-index-preserved
 loop-index-preserved g c = search (rules, one_settled)
