@@ -306,15 +306,12 @@ all_doubled R n index places is h =
 pub one_doubled : (R : List EntryParts) (n index j k : ℕ) (places : List ℕ) → slice_get places index ≡ Some j → slice_get places j ≡ Some k → PartDoubled R n index places → PartDoubled R n (index + 1) (set places index k)
 one_doubled R n index j k places at next h =
     let twice : IsShortcut R (n + n) index k = shortcut_trans R n n index j k (h.all.shortcut index j at) (h.all.shortcut j k next) in
-    record {
-      all = record {
-        one_each = length-set places index k ∙ h.all.one_each;
-        within = each_set (λ i l. l < length R) places index k (λ i l other. h.all.within i l) (h.all.within j k next);
-        shortcut = each_set (IsShortcut R n) places index k (λ i l other. h.all.shortcut i l) (shortcut_less R (n + n) n index k (omega arith) twice);
-      };
-      doubled = λ i l below there.
-          each_set (λ i l. i < index + 1 → IsShortcut R (n + n) i l) places index k (λ i l other there less. h.doubled i l (omega (arith, less, other)) there) (λ less. twice) i l there below;
-    }
+    let within = each_set (λ i l. l < length R) places index k (λ i l other. h.all.within i l) (h.all.within j k next) in
+    let shortcut = each_set (IsShortcut R n) places index k (λ i l other. h.all.shortcut i l) (shortcut_less R (n + n) n index k (omega arith) twice) in
+    let doubled = λ (i l : ℕ) (below : i < index + 1) (there : slice_get (set places index k) i ≡ Some l).
+    each_set (λ i l. i < index + 1 → IsShortcut R (n + n) i l) places index k (λ i l other there less. h.doubled i l (omega (arith, less, other)) there) (λ less. twice) i l there below in
+    let one_each = length-set places index k ∙ h.all.one_each in
+    search rules
 
 -- the value that follows the entry of a subtag is the next on the chain
 pub entry_next : (R : List EntryParts) (k : Kind) (s : List ℕ) (e : EntryParts) → entry R k s ≡ Some e → next_value R k s ≡ following k e

@@ -57,11 +57,3 @@ chase_keeps f P keeps (suc n) s p =
 -- what every value keeps, the end has if the start has it
 pub end_keeps : {f : List ℕ → Option (List ℕ)} {g : List ℕ → List ℕ} → IsEnd f g → (P : List ℕ → Type 0) → ((s t : List ℕ) → f s ≡ Some t → P s → P t) → (s : List ℕ) → P s → P (g s)
 end_keeps {f} {g} E P keeps s p = subst P (E.ends s).1 (chase_keeps f P keeps (E.ends s).0 s p)
-
--- the ends, where each chain ends
-pub end_at : (f : List ℕ → Option (List ℕ)) → ((s : List ℕ) → Ends f s) → List ℕ → List ℕ
-end_at f all s = chase f (all s).0 s
-
-pub end_at-is_end : (f : List ℕ → Option (List ℕ)) (all : (s : List ℕ) → Ends f s) → IsEnd f (end_at f all)
-unfolding end_at
-end_at-is_end f all = record { ends = λ s. ((all s).0, refl, (all s).1) }

@@ -21,13 +21,13 @@ use Rattle.lt_registry.specs.Entries.{prefixes, has_prefix, variant_value, langu
 use Rattle.lt_registry.specs.Validity.{Distinct, ExtlangsFit, IsProperCore}
 use Rattle.lt_registry.specs.declared.entries.Kind.{Kind}
 use Rattle.lt_registry.specs.declared.entries.Kind.TheVariants as kinds
-use Rattle.lt_rewrite.specs.CoreSteps.{Values, Spot, at_extlang, at_language, at_script, at_region, at_variant, at_variant_language, subtag_at, value_at, replaced, CoreStep, values_of, IsCoreNormalForm, EndsIn}
+use Rattle.lt_rewrite.specs.CoreSteps.{Values, Spot, at_extlang, at_language, at_script, at_region, at_variant, at_variant_language, subtag_at, value_at, replaced, CoreStep, values_of, IsCoreNormalForm, EndsIn, chase}
 use Rattle.lt_rewrite.specs.Rewriting.{Star, done, then as onward}
 use Rattle.lt_rewrite.specs.Conditions.{MeetsCoreConditions, next_value, HasEndingChain, HasFittingGrandfathered, second_entry}
 use Rattle.lt_rewrite.specs.Laws.{HasOneNormalForm, StepsKeepNormalForm, StepsKeepProper, ProperCoresSpellNone}
 use Rattle.lt_rewrite.specs.CoreSettling.{HasFinalLanguage, HasFinalScript, HasFinalRegion, HasFinalVariants, HasNoVariantLanguage, IsFirstVariantLanguage}
 use Rattle.lt_rewrite.proofs.PartLists.{cut_at, cut_within, round, facts_of_tests, tests_of_facts, all_middle, all_without, all_mapped, all_unmapped, if_some_is, all_replaced, others_same}
-use Rattle.lt_rewrite.proofs.Chains.{by_next, chase_keeps, IsEnd, end_same, end_next, end_keeps, end_at, end_at-is_end}
+use Rattle.lt_rewrite.proofs.Chains.{by_next, chase_keeps, IsEnd, end_same, end_next, end_keeps}
 use Rattle.lt_rewrite.proofs.Stars.{star_trans}
 use Rattle.lt_rewrite.proofs.Entries.{chains_end, variant_languages_final, no_language, variant_language_is, entry_has, variant_value_fits, language_value_fits}
 use Rattle.lt_rewrite.proofs.NormalForms.{IsFormOf, star_form, form_is_normal, normal_is_form}
@@ -328,11 +328,12 @@ module _ (R : List EntryParts) (C : MeetsCoreConditions R) where
   V = values_of R
 
   -- the end of the chain of a kind
-  abbrev last : Kind → List ℕ → List ℕ
-  last k = end_at (next_value R k) (chains_end R C.chains k)
+  last : Kind → List ℕ → List ℕ
+  last k s = chase (next_value R k) (chains_end R C.chains k s).0 s
 
   at_last : (k : Kind) → IsEnd (next_value R k) (last k)
-  at_last k = end_at-is_end (next_value R k) (chains_end R C.chains k)
+  unfolding last
+  at_last k = record { ends = λ s. let e = chains_end R C.chains k s in (e.0, refl, e.1) }
 
   abbrev Final : List ℕ → Type 0
   Final v = variant_value R v ≡ None
@@ -741,7 +742,7 @@ step_shaped R G c d S = each_step (values_of R) c IsCore (record {
   script = λ a v there has. search (rules, value_form R G kinds.Script a v has);
   region = λ a v there has. search (rules, value_form R G kinds.Region a v has);
   variant = λ before v w after there has.
-      record { language = S.language; extlangs = S.extlangs; up_to_three = S.up_to_three; after_short = S.after_short; script = S.script; region = S.region; variants = test_replaced is_variant before v w after (ap (list_all is_variant) (sym there) ∙ S.variants) (variant_value_form R G v w has) };
+      search (rules, test_replaced is_variant before v w after (ap (list_all is_variant) (sym there) ∙ S.variants) (variant_value_form R G v w has));
   variant_language = λ before v m after none there has leftmost.
       let t = (variant_language_is R c.language v m has).1 in
       record { language = language_value_form R G v m t; extlangs = S.extlangs; up_to_three = S.up_to_three; after_short = λ n. absurd (omega (arith, ap length none, n)); script = S.script; region = S.region; variants = test_without is_variant before v after (ap (list_all is_variant) (sym there) ∙ S.variants) };
@@ -761,8 +762,7 @@ step_proper R C c d P = each_step (values_of R) c (IsProperCore R) (record {
   script = λ a v there has. search (rules, value_registered R C kinds.Script a v refl has);
   region = λ a v there has. search (rules, value_registered R C kinds.Region a v refl has);
   variant = λ before v w after there has.
-      let all = subst (AllByRecursion (RegisteredVariant R)) there P.variants in
-      record { language = P.language; extlangs = P.extlangs; script = P.script; region = P.region; variants = all_replaced (RegisteredVariant R) before v w after all (variant_value_fits R C v w has).0 };
+      search (rules, all_replaced (RegisteredVariant R) before v w after (subst (AllByRecursion (RegisteredVariant R)) there P.variants) (variant_value_fits R C v w has).0);
   variant_language = λ before v m after none there has leftmost.
       let t = (variant_language_is R c.language v m has).1 in
       let all = subst (AllByRecursion (RegisteredVariant R)) there P.variants in

@@ -27,15 +27,10 @@ use Rattle.lt_registry.specs.declared.entries.Kind.TheVariants as kinds
 
 -- Variants, and the places of their entries.
 
--- as many places as variants
-pub placed_count : (R : List EntryParts) (vs : List (List ℕ)) (ps : List ℕ) → ArePlaces R vs ps → length ps ≡ length vs
-placed_count R vs ps h =
-    sym (length-map ps (slice_get R)) ∙ ap (λ (os : List (Option EntryParts)). length os) h ∙ length-map vs (entry R kinds.Variant)
-
 -- the entry of a variant stands at its place
 pub placed_at : (R : List EntryParts) (vs : List (List ℕ)) (ps : List ℕ) (i : ℕ) (v : List ℕ) → ArePlaces R vs ps → i < length vs → v ≡ get_or vs i v → slice_get R (get_or ps i 0) ≡ entry R kinds.Variant v
 placed_at R vs ps i v h l e =
-    sym (get_or-map (slice_get R) ps i 0 None (omega (arith, l, placed_count R vs ps h)))
+    sym (get_or-map (slice_get R) ps i 0 None (omega (arith, l, length-map ps (slice_get R), ap (λ (os : List (Option EntryParts)). length os) h, length-map vs (entry R kinds.Variant))))
     ∙ ap (λ (os : List (Option EntryParts)). get_or os i None) h
     ∙ get_or-map (entry R kinds.Variant) vs i v None l
     ∙ ap (entry R kinds.Variant) (sym e)
