@@ -342,21 +342,6 @@ to_itself R i e w at follows last =
 pub none_after : (R : List EntryParts) (k : Kind) (w : List ℕ) (next : EntryParts) → entry R k w ≡ Some next → following next.kind next ≡ None → next_value R k w ≡ None
 none_after R k w next found follows = entry_next R k w next found ∙ ap (λ (d : Kind). following d next) (sym (entry_of R k w next found).of_kind) ∙ follows
 
--- by the shortcut of its entry a subtag comes as far on its chain
-pub passed : (R : List EntryParts) (k : Kind) (n : ℕ) (s v : List ℕ) (e last : EntryParts) (i j : ℕ) → entry R k s ≡ Some e → following k e ≡ Some v → slice_get R i ≡ Some e → IsShortcut R n i j → slice_get R j ≡ Some last → (w : List ℕ) × (following k last ≡ Some w) × IsOnward (next_value R k) n s w
-passed R k n s v e last i j found follows at short there =
-    let kind : e.kind ≡ k = (entry_of R k s e found).of_kind in
-    let l : LeadsTo R e.kind n v j = short e v at (ap (λ (d : Kind). following d e) kind ∙ follows) in
-    let same : l.entry ≡ last = let a = l.there in cc in
-    let own : following last.kind last ≡ Some l.value = subst (λ (x : EntryParts). following x.kind x ≡ Some l.value) same l.follows in
-    let its : last.kind ≡ k = ap (λ (x : EntryParts). x.kind) (sym same) ∙ l.of_kind ∙ kind in
-    let on : IsOnward (next_value R k) n v l.value = subst (λ (d : Kind). IsOnward (next_value R d) n v l.value) kind l.onward in
-    let next : IsOnward (next_value R k) 1 s v = onward_next (next_value R k) s v (entry_next R k s e found ∙ follows) in (
-      l.value,
-      ap (λ (d : Kind). following d last) (sym its) ∙ own,
-      onward_less (next_value R k) (1 + n) n s l.value (omega arith) (onward_trans (next_value R k) 1 n s v l.value next on),
-    )
-
 -- a value that follows
 pub some_follows : (o : Option (Bor (List ℕ))) (r : Option (List ℕ)) → option_copied o ≡ r → is_some o ≡ true → (w : List ℕ) × (r ≡ Some w)
 some_follows None r e h = cc
@@ -366,7 +351,7 @@ pub none_follows : (o : Option (Bor (List ℕ))) (r : Option (List ℕ)) → opt
 none_follows None r e h = sym e
 none_follows (Some v) r e h = cc
 
--- the place to which the shortcut at an entry's place leads
+-- the place to which the shortcut at an entry's place leads, by which a subtag comes as far on its chain
 pub led_to : (R es : List EntryParts) (items places : List ℕ) (i j : ℕ) (e : EntryParts) → LeadOn R (length R) places → es ≡ R → items ≡ places → slice_get es i ≡ Some e → j ≡ get_or items i j → (slice_get R i ≡ Some e) × (slice_get places i ≡ Some j) × (j < length es)
 led_to R es items places i j e h same own at read =
     let here : i < length places = omega (arith, slice_get_within es i e at, ap (λ (xs : List EntryParts). length xs) same, h.one_each) in
@@ -379,8 +364,18 @@ led_to R es items places i j e h same own at read =
 pub led_far : (R es : List EntryParts) (k : Kind) (s v : List ℕ) (items places : List ℕ) (i j : ℕ) (e last : EntryParts) → LeadOn R (length R) places → es ≡ R → items ≡ places → entry R k s ≡ Some e → following k e ≡ Some v → slice_get es i ≡ Some e → j ≡ get_or items i j → last ≡ get_or es j last → (w : List ℕ) × (following k last ≡ Some w) × IsOnward (next_value R k) (length R) s w
 led_far R es k s v items places i j e last h same own found follows at read there =
     let led = led_to R es items places i j e h same own at read in
-    passed R k (length R) s v e last i j found follows led.0 (h.shortcut i j led.1)
-    (ap (λ xs. slice_get xs j) (sym same) ∙ slice_get_read es (length es) j last refl led.2 there)
+    let there : slice_get R j ≡ Some last = ap (λ xs. slice_get xs j) (sym same) ∙ slice_get_read es (length es) j last refl led.2 there in
+    let kind : e.kind ≡ k = (entry_of R k s e found).of_kind in
+    let l : LeadsTo R e.kind (length R) v j = h.shortcut i j led.1 e v led.0 (ap (λ (d : Kind). following d e) kind ∙ follows) in
+    let one : l.entry ≡ last = same_Some l.entry last (sym l.there ∙ there) in
+    let own : following last.kind last ≡ Some l.value = subst (λ (x : EntryParts). following x.kind x ≡ Some l.value) one l.follows in
+    let its : last.kind ≡ k = ap (λ (x : EntryParts). x.kind) (sym one) ∙ l.of_kind ∙ kind in
+    let on : IsOnward (next_value R k) (length R) v l.value = subst (λ (d : Kind). IsOnward (next_value R d) (length R) v l.value) kind l.onward in
+    let next : IsOnward (next_value R k) 1 s v = onward_next (next_value R k) s v (entry_next R k s e found ∙ follows) in (
+      l.value,
+      ap (λ (d : Kind). following d last) (sym its) ∙ own,
+      onward_less (next_value R k) (1 + length R) (length R) s l.value (omega arith) (onward_trans (next_value R k) 1 (length R) s v l.value next on),
+    )
 
 -- The places of records whose numbers rise.
 

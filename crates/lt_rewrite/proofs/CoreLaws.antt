@@ -622,11 +622,6 @@ none_more V c i l v vs o h e its value found none =
     let P : List ℕ → Type 0 = λ u. V.variant_language c.language u ≡ None in
     All-more P vs i v h none (subst P e (ap (λ l. V.variant_language l v) (sym its) ∙ sym value ∙ ap option_copied found))
 
--- a list that is not empty
-pub not_empty : (xs : List (List ℕ)) → eqb (length xs) 0 ≡ false → xs ≡ [] → ⊥
-not_empty [] h e = cc
-not_empty (x ∷ xs) h e = cc
-
 -- the core as the calls leave it one after another
 pub record Settlings (V : Values) (c c1 c2 c3 : CoreParts) : Type 0 where
   pub script : Star (CoreStep V) c c1

@@ -1,7 +1,6 @@
-use Rattle.std.proofs.Common.{◌≡◌, ℕ, true, false, Option, Some, List, get_or, set, refl, sym, ap, ◌∙◌, subst, slice_get, arith}
-use Rattle.std.proofs.lemmas.Option.{slice_get_read, slice_get_within}
-use Rattle.lt_registry.specs.Entries.{preferred_value, is_short}
-use Rattle.lt_registry.specs.declared.entries.Kind.TheVariants as kinds
+use Rattle.std.proofs.Common.{◌≡◌, ℕ, true≢false, Some, List, get_or, set, refl, sym, ap, ◌∙◌, subst, slice_get, arith}
+use Rattle.std.proofs.lemmas.Option.{slice_get_read, slice_get_within, same_Some}
+use Rattle.lt_registry.specs.Entries.{is_short}
 use Rattle.lt_rewrite.specs.Applying.{CoreLeads}
 use Rattle.lt_rewrite.specs.CoreSteps.{at_variant}
 use Rattle.lt_rewrite.specs.Runs.{rank_of}
@@ -24,10 +23,7 @@ returns-then-is_short g c =
     let v : List ℕ = c.index-variants-index.result in
     variant_without (g.L.Lookup.listed c.args.table.now) c.args.start c.args.core.now c.args.step c.requires.kind c.in-Some.index v
     (slice_get_read c.args.core.now.variants _ c.in-Some.index v refl c.in-Some.ensures.0 (subst (λ vs. v ≡ get_or vs c.in-Some.index v) c.variants.ensures.value c.index-variants-index.is)) c.in-Some.ensures.1
-    (λ w by long. short_value (preferred_value (g.L.Lookup.listed c.args.table.now) kinds.Variant v) w c.in-Some-value_by.value.now by.has c.in-Some-value_by.ensures.value.has long (sym c.is_short.ensures ∙ c.if-is_short.true))
-  where
-    short_value : (o : Option (List ℕ)) (w u : List ℕ) → o ≡ Some w → o ≡ Some u → is_short w ≡ false → is_short u ≡ true → ⊥
-    short_value o w u a b l s = let e : w ≡ u = cc in let k = ap is_short e in cc
+    (λ w by long. true≢false (sym c.if-is_short.true ∙ c.is_short.ensures ∙ ap is_short (same_Some c.in-Some-value_by.value.now w (sym c.in-Some-value_by.ensures.value.has ∙ by.has)) ∙ long))
 
 pub returns : goal.returns
 returns g c =

@@ -1,15 +1,11 @@
-use Rattle.std.proofs.Common.{◌≡◌, ◌-◌, ℕ, List, true, false, length, length-drop, ltb, leb, drop, take, rules, sym, subst, arith}
+use Rattle.std.proofs.Common.{◌≡◌, ◌-◌, ℕ, List, true, false, length, ltb, leb, drop, take, rules, sym, subst}
 use Rattle.std.specs.List.{AllWithin}
 use Rattle.std.specs.List.Sorted.{IsNonDecreasingBy}
-use Rattle.std.proofs.lemmas.List.{take_all}
+use Rattle.std.proofs.lemmas.List.{take_rest}
 use Rattle.std.proofs.lemmas.List.Sorted.{IsPartitionPoint-from_clause, IsPartitionedBy-ltb, IsPartitionedBy-leb, IsNonDecreasingBy-drop}
 use Rattle.lt_rewrite.specs.VariantPairs.{pair, has_pair, number_in}
 use Rattle.lt_rewrite.proofs.FoundPairs.{between}
 use Rattle.lt_rewrite.proofs.variant_pairs.pairs_beside.Goals as goal
-
--- what is left after some of the pairs
-left : (lower : ℕ) (pairs : List ℕ) → take (length pairs - lower) (drop lower pairs) ≡ drop lower pairs
-left lower pairs = take_all (length pairs - lower) (drop lower pairs) (omega (arith, length-drop lower pairs))
 
 pub returns : goal.returns
 returns c =
@@ -17,7 +13,7 @@ returns c =
     let n = c.args.number in
     let lower = c.partition_point-lower.result in
     let others : List ℕ = take (length pairs - lower) (drop lower pairs) in
-    let same : others ≡ drop lower pairs = left lower pairs in
+    let same : others ≡ drop lower pairs = take_rest pairs lower in
     let rise = subst (IsNonDecreasingBy number_in) (sym same) (IsNonDecreasingBy-drop number_in lower pairs c.requires) in
     let low = IsPartitionPoint-from_clause (λ r. ltb (number_in r) n) _ _ c.partition_point-lower.ensures.partitioned (IsPartitionedBy-ltb number_in pairs n c.requires) (λ a r f k. search rules) in
     let high = IsPartitionPoint-from_clause (λ r. leb (number_in r) n) _ _ c.partition_point.ensures.partitioned (IsPartitionedBy-leb number_in others n rise) (λ a r f k. search rules) in
