@@ -3,7 +3,7 @@ use Rattle.std.proofs.Common.{rules, ◌≡◌, ℕ, zero, suc, Bool, true, fals
 use Rattle.std.specs.Prelude.{slice_get, if◌then◌else◌, option_to_list}
 use Rattle.std.specs.List.{AllByRecursion, list_all, remove, sum_by}
 use Rattle.std.specs.Option.{option_map, option_map_or, option_copied}
-use Rattle.std.proofs.lemmas.Bool.{eqb-true, cond-true, cond-false, cond_both, cases_Bool, and_parts, and_from, not-true, both_ways, or_right}
+use Rattle.std.proofs.lemmas.Bool.{true≢false, eqb-true, cond-true, cond-false, cond_both, cases_Bool, and_parts, and_from, not-true, both_ways, or_right}
 use Rattle.std.proofs.lemmas.List.{map-append, set_split, set_at, take_at, drop_at, length-append, length-set, take_all, take_more_set, nil_from_length}
 use Rattle.std.proofs.lemmas.List.Sums.{sum_by-cons, sum_by-append}
 use Rattle.std.proofs.lemmas.Option.{same_Some, slice_get_within, slice_get-get_or, get_or_from_slice_get, none-some}
@@ -63,13 +63,9 @@ pub get_at : (before : List (List ℕ)) (v : List ℕ) (after vs : List (List �
 get_at before v after vs e =
     slice_get-get_or vs (length before) v (cut_within before v after vs e) ∙ ap Some (cut_at before v after vs v e)
 
-none_if : (o : Option (List ℕ)) → is_none o ≡ true → o ≡ None
-none_if None h = refl
-none_if (Some v) h = cc
-
 pub none_before : (f : List ℕ → Option (List ℕ)) (xs : List (List ℕ)) → list_all (λ u. is_none (f u)) xs ≡ true → AllByRecursion (λ u. f u ≡ None) xs
 none_before f xs h =
-    AllByRecursion-weaker (λ u. is_none (f u) ≡ true) (λ u. f u ≡ None) (λ u. none_if (f u)) xs (facts_of_tests (λ u. is_none (f u)) xs h)
+    AllByRecursion-weaker (λ u. is_none (f u) ≡ true) (λ u. f u ≡ None) (λ u e. by_next (f u) (λ n. n) (λ a s. absurd (true≢false (sym e ∙ ap is_none s)))) xs (facts_of_tests (λ u. is_none (f u)) xs h)
 
 none_test : (f : List ℕ → Option (List ℕ)) (xs : List (List ℕ)) → AllByRecursion (λ u. f u ≡ None) xs → list_all (λ u. is_none (f u)) xs ≡ true
 none_test f xs h =
@@ -718,10 +714,6 @@ module _ (R : List EntryParts) where
 
 -- A core step on a proper core gives a proper core, and no proper core spells a grandfathered tag.
 
-test_replaced : {A : Type 0} (test : A → Bool) (before : List A) (v w : A) (after : List A) → list_all test (before ++ v ∷ after) ≡ true → test w ≡ true → list_all test (before ++ w ∷ after) ≡ true
-test_replaced test before v w after h p =
-    tests_of_facts test (before ++ w ∷ after) (all_replaced (λ x. test x ≡ true) before v w after (facts_of_tests test (before ++ v ∷ after) h) p)
-
 test_without : {A : Type 0} (test : A → Bool) (before : List A) (v : A) (after : List A) → list_all test (before ++ v ∷ after) ≡ true → list_all test (before ++ after) ≡ true
 test_without test before v after h =
     tests_of_facts test (before ++ after) (all_without (λ x. test x ≡ true) before v after (facts_of_tests test (before ++ v ∷ after) h))
@@ -732,12 +724,12 @@ step_shaped R G c d S = each_step (values_of R) c IsCore (record {
   extlang = λ x one.
       let shape : is_extlang x ≡ true = (and_parts (is_extlang x) true (ap (list_all is_extlang) (sym one) ∙ S.extlangs)).0 in
       record { language = replacement_form R G x shape; extlangs = refl; up_to_three = omega arith; after_short = λ n. absurd (omega (arith, n)); script = S.script; region = S.region; variants = S.variants };
-  language = λ v none has.
-      record { language = value_form R G kinds.Language c.language v has; extlangs = S.extlangs; up_to_three = S.up_to_three; after_short = λ n. absurd (omega (arith, ap length none, n)); script = S.script; region = S.region; variants = S.variants };
+  language = λ v none has. let n = ap length none in search (rules, arith, value_form R G kinds.Language c.language v has);
   script = λ a v there has. search (rules, value_form R G kinds.Script a v has);
   region = λ a v there has. search (rules, value_form R G kinds.Region a v has);
   variant = λ before v w after there has.
-      search (rules, test_replaced is_variant before v w after (ap (list_all is_variant) (sym there) ∙ S.variants) (variant_value_form R G v w has));
+      let facts = facts_of_tests is_variant (before ++ v ∷ after) (ap (list_all is_variant) (sym there) ∙ S.variants) in
+      search (rules, tests_of_facts is_variant (before ++ w ∷ after) (all_replaced (λ x. is_variant x ≡ true) before v w after facts (variant_value_form R G v w has)));
   variant_language = λ before v m after none there has leftmost.
       let t = (variant_language_is R c.language v m has).1 in
       record { language = language_value_form R G v m t; extlangs = S.extlangs; up_to_three = S.up_to_three; after_short = λ n. absurd (omega (arith, ap length none, n)); script = S.script; region = S.region; variants = test_without is_variant before v after (ap (list_all is_variant) (sym there) ∙ S.variants) };
@@ -752,8 +744,7 @@ step_proper R C c d P = each_step (values_of R) c (IsProperCore R) (record {
   extlang = λ x one.
       let fit : ExtlangsFit R c.language (x ∷ []) = subst (ExtlangsFit R c.language) one P.extlangs in
       record { language = replacement_registered R C x fit.0; extlangs = tt; script = P.script; region = P.region; variants = P.variants };
-  language = λ v none has.
-      record { language = value_registered R C kinds.Language c.language v refl has; extlangs = subst (ExtlangsFit R v) (sym none) tt; script = P.script; region = P.region; variants = P.variants };
+  language = λ v none has. let fit = subst (ExtlangsFit R v) (sym none) tt in search (rules, value_registered R C kinds.Language c.language v refl has);
   script = λ a v there has. search (rules, value_registered R C kinds.Script a v refl has);
   region = λ a v there has. search (rules, value_registered R C kinds.Region a v refl has);
   variant = λ before v w after there has.
