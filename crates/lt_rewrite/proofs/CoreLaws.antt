@@ -467,7 +467,7 @@ module _ (R : List EntryParts) (C : MeetsCoreConditions R) where
       (variants_to_end (λ us. at (last kinds.Variant v ∷ us)) (λ before s t after e. step (last kinds.Variant v ∷ before) s t after e) vs)
 
   -- each step keeps it, steps reach it, none leads from it
-  pub cores_formed : IsFormOf (CoreStep V) normal_core
+  pub cores_formed : IsFormOf (CoreStep (values_of R)) normal_core
   cores_formed = record {
     kept = step_keeps;
     reached = λ c.
@@ -488,7 +488,7 @@ module _ (R : List EntryParts) (C : MeetsCoreConditions R) where
       subst (λ x. IsCoreNormalForm V d x) (sym (cores_formed.kept c d s) ∙ normal_is_form cores_formed c e n) (form_is_normal cores_formed d)
 
   -- cores that differ in subtags whose chains end alike have one normal form
-  pub one_end_one_form : (f : List ℕ → Option (List ℕ)) (at : List ℕ → CoreParts) → ((s t : List ℕ) → f s ≡ Some t → CoreStep V (at s) (at t)) → (s t e : List ℕ) → EndsIn f s e → EndsIn f t e → normal_core (at s) ≡ normal_core (at t)
+  pub one_end_one_form : (f : List ℕ → Option (List ℕ)) (at : List ℕ → CoreParts) → ((s t : List ℕ) → f s ≡ Some t → CoreStep (values_of R) (at s) (at t)) → (s t e : List ℕ) → EndsIn f s e → EndsIn f t e → normal_core (at s) ≡ normal_core (at t)
   one_end_one_form f at step s t e h k =
       star_form cores_formed (along V f at step s e h) ∙ sym (star_form cores_formed (along V f at step t e k))
 
@@ -499,7 +499,7 @@ module _ (R : List EntryParts) (C : MeetsCoreConditions R) where
   variant_languages_once c h = distinct_filter (has_variant_language R) c.variants h
 
   -- core steps make no second variant with a language value
-  pub variant_languages_once_kept : (c d : CoreParts) → CoreStep V c d → VariantLanguagesOnce R c → VariantLanguagesOnce R d
+  pub variant_languages_once_kept : (c d : CoreParts) → CoreStep (values_of R) c d → VariantLanguagesOnce R c → VariantLanguagesOnce R d
   variant_languages_once_kept c =
       let T : List ℕ → Bool = has_variant_language R in
       each_step V c (λ d. VariantLanguagesOnce R c → VariantLanguagesOnce R d) (record {

@@ -1,12 +1,11 @@
-use Rattle.std.proofs.Common.{◌≡◌, true, sym, ap, ◌∙◌}
+use Rattle.std.proofs.Common.{sym, ap, ◌∙◌}
 use Rattle.std.specs.Option.{option_copied}
-use Rattle.lt_registry.specs.Entries.{has_value_form}
 use Rattle.lt_registry.specs.declared.entries.Kind.TheVariants as kinds
 use Rattle.lt_rewrite.proofs.Forms.{form_under, short_value_form}
 use Rattle.lt_rewrite.proofs.core_settling.variant_language.Goals as goal
 
 pub returns-in-Some-one_value-clause-form : goal.returns-in-Some-one_value-clause-form
 returns-in-Some-one_value-clause-form g c =
-    let v = c.in-Some-one_value.value.now in
-    let f : has_value_form kinds.Variant v ≡ true = form_under (g.L.Lookup.listed c.args.table.now) kinds.Variant c.args.variant.now c.in-Some.entry.now v (sym c.entry.ensures ∙ ap option_copied c.in-Some.is) c.in-Some-one_value.ensures.form in
-    short_value_form v f (sym c.is_short.ensures ∙ c.if-is_short.true)
+    short_value_form c.in-Some-one_value.value.now
+    (form_under (g.L.Lookup.listed c.args.table.now) kinds.Variant c.args.variant.now c.in-Some.entry.now c.in-Some-one_value.value.now (sym c.entry.ensures ∙ ap option_copied c.in-Some.is) c.in-Some-one_value.ensures.form)
+    (sym c.is_short.ensures ∙ c.if-is_short.true)
