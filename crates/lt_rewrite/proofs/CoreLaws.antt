@@ -714,10 +714,6 @@ module _ (R : List EntryParts) where
 
 -- A core step on a proper core gives a proper core, and no proper core spells a grandfathered tag.
 
-test_without : {A : Type 0} (test : A → Bool) (before : List A) (v : A) (after : List A) → list_all test (before ++ v ∷ after) ≡ true → list_all test (before ++ after) ≡ true
-test_without test before v after h =
-    tests_of_facts test (before ++ after) (all_without (λ x. test x ≡ true) before v after (facts_of_tests test (before ++ v ∷ after) h))
-
 -- a core step keeps the shape
 pub step_shaped : (R : List EntryParts) → IsRegistry R → (c d : CoreParts) → IsCore c → CoreStep (values_of R) c d → IsCore d
 step_shaped R G c d S = each_step (values_of R) c IsCore (record {
@@ -732,7 +728,8 @@ step_shaped R G c d S = each_step (values_of R) c IsCore (record {
       search (rules, tests_of_facts is_variant (before ++ w ∷ after) (all_replaced (λ x. is_variant x ≡ true) before v w after facts (variant_value_form R G v w has)));
   variant_language = λ before v m after none there has leftmost.
       let t = (variant_language_is R c.language v m has).1 in
-      record { language = language_value_form R G v m t; extlangs = S.extlangs; up_to_three = S.up_to_three; after_short = λ n. absurd (omega (arith, ap length none, n)); script = S.script; region = S.region; variants = test_without is_variant before v after (ap (list_all is_variant) (sym there) ∙ S.variants) };
+      let facts = facts_of_tests is_variant (before ++ v ∷ after) (ap (list_all is_variant) (sym there) ∙ S.variants) in
+      record { language = language_value_form R G v m t; extlangs = S.extlangs; up_to_three = S.up_to_three; after_short = λ n. absurd (omega (arith, ap length none, n)); script = S.script; region = S.region; variants = tests_of_facts is_variant (before ++ after) (all_without (λ x. is_variant x ≡ true) before v after facts) };
 }) d
 
 abbrev RegisteredVariant : List EntryParts → List ℕ → Type 0
