@@ -187,7 +187,7 @@ transform_settles R p q =
     pair_settles with_source (λ o r fs s. on_source s.0 s.1 s.2 s.3 s.4 refl) (λ o fs gs s. on_fields refl s) (t_parts R)
 
 module _ (R : List EntryParts) (C : MeetsCoreConditions R) where
-  abbrev t_form : TForm → TForm
+  abbrev pub t_form : TForm → TForm
   t_form p = record { source = option_map (normal_core R C) p.source; fields = sorted false separator_cmp p.fields }
 
   t_kept : (p q : TForm) → TransformStep R p q → t_form p ≡ t_form q
@@ -201,7 +201,7 @@ module _ (R : List EntryParts) (C : MeetsCoreConditions R) where
   source_formed (Some c) = source_settles R (form_is_normal (cores_formed R C) c)
 
   -- each step keeps it, steps reach it, none leads from it
-  t_formed : IsFormOf (TransformStep R) t_form
+  pub t_formed : IsFormOf (TransformStep R) t_form
   t_formed =
       formed_by t_kept (λ p. transform_settles R p (t_form p) (source_formed p.source) (form_is_normal (sorting_is_form false separator_cmp separator_total) p.fields))
 
