@@ -3,7 +3,7 @@
 -- valid, and what rests; and those whose subtags stay as they are, which are their own canonical forms.
 use Rattle.std.proofs.Common.{◌≡◌, ℕ, ◌+◌, ◌<◌, ◌≤◌, inl, inr, false, is_some, List, [], ◌∷◌, Option, Some, None, Err, refl, sym, ap, ◌∙◌, subst, length, arith, IfErr, Bool, true, ◌&&◌, ◌||◌, get_or, not, ◌++◌, Ok, IfSome, is_none, All}
 use Rattle.std.specs.List.{AllByRecursion, list_any}
-use Rattle.lt_tag.specs.Parts.{CoreParts, ExtensionParts, TForm, TagForm, LangTag, PrivateUse, Grandfathered}
+use Rattle.lt_tag.specs.Parts.{CoreParts, ExtensionParts, TForm, TagForm, LangTag}
 use Rattle.lt_tag.specs.Spelling.{spell_core, IsCore}
 use Rattle.lt_tag.specs.Extensions.{transform, IsTransform}
 use Rattle.lt_registry.specs.Faults.{HasNoFault, HasFault, IsFirstOf, IsFirstFault, before_region}
@@ -20,19 +20,18 @@ use Rattle.lt_rewrite.specs.CoreSteps.{values_of, IsCoreNormalForm, CoreStep, En
 use Rattle.lt_rewrite.specs.Extensions.{ExtensionsStep}
 use Rattle.lt_rewrite.specs.TagSteps.{CanBeReplacedWhole, TagStep, IsReached, IsCanonical, on_core}
 use Rattle.lt_rewrite.proofs.PartLists.{some_long, empty_middle, if_some_is}
-use Rattle.lt_rewrite.proofs.NormalForms.{star_keeps, normal_is_form, rest_is_form}
+use Rattle.lt_rewrite.proofs.NormalForms.{star_keeps, normal_is_form}
 use Rattle.lt_check.specs.Conditions.{IsValidCoreAlone, IsChecked}
-use Rattle.lt_canon.specs.Answers.{IsCanonicalFormOf, IsRepeatOf, RefusesOnlyRepeats}
-use Rattle.lt_canon.specs.Settled.{IsCanonicalAnswer, IsDistinctForm, IsCoreRefusal, IsSecondInSources, IsSettledTag, IsSettledLangTag, IsSettledValue, IsReplacedWhole}
+use Rattle.lt_canon.specs.Answers.{IsCanonicalFormOf, RefusesOnlyRepeats}
+use Rattle.lt_canon.specs.Settled.{IsCanonicalAnswer, IsDistinctForm, IsCoreRefusal, IsSettledTag, IsSettledValue, IsReplacedWhole}
 use Rattle.lt_canon.specs.Equivalence.{IsSecondRefusal}
 use Rattle.lt_canon.specs.Refusals.{NamesFault, NamesRepeat, IsRefusedWith}
 use Rattle.lt_canon.specs.declared.refusals.Refusal.{Refusal}
 use Rattle.lt_canon.specs.declared.refusals.Refusal.TheVariants as refusals
-use Rattle.lt_canon.proofs.Distinctness.{second_repeats}
-use Rattle.lt_canon.proofs.EndForms.{star_proper, rest_is_end, reached_is_end}
+use Rattle.lt_canon.proofs.EndForms.{star_proper, rest_is_end}
 use Rattle.lt_rewrite.proofs.ProperTags.{proper_parts, proper_langtag}
-use Rattle.lt_canon.proofs.TagForm.{core_spells_none, core_end, cores_formed, cores_reached, cores_proper, extensions_end, extensions_end_formed, parts_reached, resting, value_end, value_end_is, whole_end, whole_end_at, whole_kept_at, tag_end, end_form, extensions_step_to, none_rests, some_end, step_of_change, lang_end, tag_reached}
-use Rattle.lt_canon.proofs.TagRepeats.{source_repeats, named_source, end_canonical, lang_distinct, value_distinct}
+use Rattle.lt_canon.proofs.TagForm.{core_spells_none, core_end, cores_formed, cores_proper, extensions_end_formed, parts_end, parts_reached, replaced, end_form, extensions_step_to, none_rests, step_of_change, lang_end, tag_reached}
+use Rattle.lt_canon.proofs.TagRepeats.{core_repeats, end_canonical, reached_canonical}
 use Rattle.lt_tag.specs.Lists.{longest_text, list_of}
 use Rattle.std.proofs.lemmas.Slice.Eq.{bytes_eq-Decides}
 use Rattle.std.proofs.lemmas.Bool.{and_from, leb-true, and_parts, not-true, false_from_ne_true, or_parts}
@@ -117,20 +116,8 @@ module _ (R : List EntryParts) (C : IsChecked R) where
   -- a core that repeats a variant in its core normal form
   pub core_refused : (c : CoreParts) (es : List ExtensionParts) (ps : List (List ℕ)) (refusal : Refusal) → IsValid R (LangTag c es ps) → IsCoreRefusal R c refusal → IsCanonicalAnswer R (LangTag c es ps) (Err refusal)
   core_refused c es ps (refusals.Invalid fault) V h = absurd h
-  core_refused c es ps (refusals.ReplacementRepeats v) V h = record {
-    valid = V;
-    repeats = record { tag = LangTag h.form es ps; reached = cores_reached R C h.normal.reached es ps V.proper; repeats = λ d. second_repeats h.form.variants v h.second d.0 };
-    named = inl h;
-  }
+  core_refused c es ps (refusals.ReplacementRepeats v) V h = core_repeats R C c es ps v V h
   core_refused c es ps refusals.OutOfMemory V h = tt
-
-  -- a source that repeats one
-  pub source_refused : (c d : CoreParts) (es fs : List ExtensionParts) (ps : List (List ℕ)) (v : List ℕ) → IsValid R (LangTag c es ps) → IsDistinctForm R c d → IsNormalForm (ExtensionsStep R) es fs → IsSecondInSources fs v → IsRepeatOf R (LangTag c es ps) v
-  source_refused c d es fs ps v V n m k = record {
-    valid = V;
-    repeats = record { tag = LangTag d fs ps; reached = parts_reached R C n.normal.reached m.reached ps V.proper; repeats = λ x. source_repeats fs v k x.1 };
-    named = inr (record { form = d; normal = n.normal; distinct = n.distinct }, named_source R C es fs v V.proper.parts.extensions m k);
-  }
 
   pub form_count : (c d : CoreParts) (es fs : List ExtensionParts) (ps : List (List ℕ)) → IsProper R (LangTag c es ps) → IsCoreNormalForm (values_of R) c d → IsNormalForm (ExtensionsStep R) es fs → length fs ≤ longest_text
   form_count c d es fs ps P n m = (star_proper (end_form R C) (parts_reached R C n.reached m.reached ps P) P).tag.counts.1
@@ -141,46 +128,17 @@ module _ (R : List EntryParts) (C : IsChecked R) where
   -- the value of a whole tag
   pub value_canonical : (t u r : TagForm) → CanBeReplacedWhole t → IsValid R t → whole_value R t ≡ Some u → IsSettledValue R u r → IsCanonicalFormOf R t r
   value_canonical t u r h V e s =
-      let k : whole_value R t ≡ Some (core_alone s.core) = e ∙ ap Some s.from in
-      let same : core_end R C s.core ≡ s.form = normal_is_form (cores_formed R C) s.core s.form s.normal in
-      end_canonical R C t r V (whole_kept_at R C t s.core h k ∙ value_end_is R C t s.core k ∙ ap core_alone same ∙ sym s.to) (rw (s.to, ← same) ((resting R C t s.core k).0, tt))
-
-  -- a tag that is replaced whole, or not, comes to its end
-  replaced_end : (s r : TagForm) → IsReplacedWhole R s r → CanBeReplacedWhole s → whole_end R C s ≡ r
-  replaced_end s r (inl v) h =
-      whole_end_at R C s (Some v.value) v.has ∙ ap (value_end R C) v.settled.from ∙ ap core_alone (normal_is_form (cores_formed R C) v.settled.core v.settled.form v.settled.normal) ∙ sym v.settled.to
-  replaced_end s r (inr y) h = whole_end_at R C s None (y.none h) ∙ sym y.same
-
-  unreplaced : (s r : TagForm) → IsReplacedWhole R s r → (CanBeReplacedWhole s → ⊥) → s ≡ r
-  unreplaced s r (inl v) n = absurd (n v.plain)
-  unreplaced s r (inr y) n = sym y.same
-
-  -- a langtag whose core and extensions are in their normal forms
-  parts_end : (c : CoreParts) (es : List ExtensionParts) (ps : List (List ℕ)) (s : TagForm) → IsSettledLangTag R c es ps s → s ≡ LangTag (core_end R C c) (extensions_end R C es) ps
-  parts_end c es ps s k = rw (normal_is_form (cores_formed R C) c k.core k.form.normal, normal_is_form (extensions_end_formed R C) es k.extensions k.normal) k.is
-
-  settled_end : (t s r : TagForm) → IsSettledTag R t s → IsReplacedWhole R s r → tag_end R C t ≡ r
-  settled_end (LangTag c [] []) s r k w =
-      let is : s ≡ core_alone (core_end R C c) = parts_end c [] [] s k ∙ ap (λ es. LangTag (core_end R C c) es []) (rest_is_form (extensions_end_formed R C) [] (none_rests R)) in
-      ap (whole_end R C) (sym is) ∙ replaced_end s r w (rw is (refl, refl))
-  settled_end (LangTag c [] (p ∷ ps)) s r k w =
-      let is : s ≡ LangTag (core_end R C c) [] (p ∷ ps) = parts_end c [] (p ∷ ps) s k ∙ ap (λ es. LangTag (core_end R C c) es (p ∷ ps)) (rest_is_form (extensions_end_formed R C) [] (none_rests R)) in
-      sym is ∙ unreplaced s r w (λ h. let plain : CanBeReplacedWhole (LangTag (core_end R C c) [] (p ∷ ps)) = rw is at h in let none = plain.1 in cc)
-  settled_end (LangTag c (e ∷ es) ps) s r k w =
-      let is = parts_end c (e ∷ es) ps s k in
-      sym is ∙ unreplaced s r w (λ h. let plain : CanBeReplacedWhole (LangTag (core_end R C c) (extensions_end R C (e ∷ es)) ps) = rw is at h in some_end R C (e ∷ es) (λ j. cc) plain.0)
-  settled_end (PrivateUse ps) s r k w = sym k ∙ unreplaced s r w (λ h. rw k at h)
-  settled_end (Grandfathered n) s r k w = ap (whole_end R C) (sym k) ∙ replaced_end s r w (rw k tt)
-
-  settled_distinct : (t s : TagForm) → IsSettledTag R t s → RepeatsNoVariant (tag_end R C t)
-  settled_distinct (LangTag c es ps) s k =
-      lang_distinct R C (core_end R C c) es ps (rw (normal_is_form (cores_formed R C) c k.core k.form.normal) k.form.distinct) (rw (normal_is_form (extensions_end_formed R C) es k.extensions k.normal) k.distinct)
-  settled_distinct (PrivateUse ps) s k = tt
-  settled_distinct (Grandfathered n) s k = value_distinct R C (Grandfathered n) tt (whole_value R (Grandfathered n)) refl
+      let w = replaced R C t r (inl (record { value = u; plain = h; has = e; settled = s })) in
+      reached_canonical R C t r V (w.reached V.proper) (λ a b. w.at_rest (λ n. let none = n h in cc) a b.change) (w.distinct V.distinct)
 
   -- a tag whose parts are in their normal forms, and then its value
+  settled_end : (t s : TagForm) → IsSettledTag R t s → (s ≡ parts_end R C t) × RepeatsNoVariant s
+  settled_end (LangTag c es ps) s k =
+      (rw (normal_is_form (cores_formed R C) c k.core k.form.normal, normal_is_form (extensions_end_formed R C) es k.extensions k.normal) k.is, rw k.is (k.form.distinct, k.distinct))
+  settled_end _ s k = (k, rw k tt)
+
   pub settled_canonical : (t s r : TagForm) → IsValid R t → IsSettledTag R t s → IsReplacedWhole R s r → IsCanonicalFormOf R t r
-  settled_canonical t s r V k w = let end = settled_end t s r k w in end_canonical R C t r V end (subst RepeatsNoVariant end (settled_distinct t s k))
+  settled_canonical t s r V k w = let e = settled_end t s k in end_canonical R C t r V (rw e.0 at e.1) (rw e.0 at w)
 
   -- a langtag of more than a core
   pub langtag_canonical : (c d : CoreParts) (es fs : List ExtensionParts) (ps : List (List ℕ)) → IsValid R (LangTag c es ps) → IsDistinctForm R c d → IsNormalForm (ExtensionsStep R) es fs → AllByRecursion HasDistinctSource fs → 0 < length es + length ps → IsCanonicalFormOf R (LangTag c es ps) (LangTag d fs ps)
@@ -301,7 +259,7 @@ module _ (R : List EntryParts) (C : IsChecked R) where
   pub extlang_answer : (t c form : TagForm) → IsCanonicalFormOf R t c → form ≡ extlang_form R c → IsExtlangFormOf R t form
   extlang_answer t c form h e =
       let L = forms_lead_back R C c h.canonical in
-      let back : IsCanonicalFormOf R (extlang_form R c) c = end_canonical R C (extlang_form R c) c L.valid (reached_is_end (end_form R C) (extlang_form R c) c L.valid.proper L.reached h.canonical.at_rest) h.canonical.valid.distinct in
+      let back : IsCanonicalFormOf R (extlang_form R c) c = reached_canonical R C (extlang_form R c) c L.valid L.reached h.canonical.at_rest h.canonical.valid.distinct in
       subst (IsExtlangFormOf R t) (sym e) (record { canonical = c; canonical_form = h; is = refl; valid = L.valid; back = back })
 
   pub no_extlang_there : (c : TagForm) (d : CoreParts) → IsCanonical R c → core_of c ≡ Some d → d.extlangs ≡ []

@@ -39,7 +39,7 @@ pub distinct_or_second : (vs : List (List ℕ)) → Distinct vs ⊎ ((v : List �
 distinct_or_second vs = second_from vs (length vs) 0 (omega arith) tt
 
 -- where two fronts of a list are the longest of which this holds, what is next is the same
-pub one_next : {A : Type 0} (P : List A → Type 0) (a : List A) (v : A) (r b : List A) (w : A) (s : List A) → P a → P b → ((t : List A) → P (a ++ v ∷ t) → ⊥) → ((t : List A) → P (b ++ w ∷ t) → ⊥) → a ++ v ∷ r ≡ b ++ w ∷ s → v ≡ w
+one_next : {A : Type 0} (P : List A → Type 0) (a : List A) (v : A) (r b : List A) (w : A) (s : List A) → P a → P b → ((t : List A) → P (a ++ v ∷ t) → ⊥) → ((t : List A) → P (b ++ w ∷ t) → ⊥) → a ++ v ∷ r ≡ b ++ w ∷ s → v ≡ w
 one_next P [] v r [] w s p q f g e = cc
 one_next P [] v r (y ∷ b) w s p q f g e = let k : y ≡ v = cc in absurd (f b (subst (λ z. P (z ∷ b)) k q))
 one_next P (x ∷ a) v r [] w s p q f g e = let k : x ≡ w = cc in absurd (g a (subst (λ z. P (z ∷ a)) k p))

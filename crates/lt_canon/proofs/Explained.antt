@@ -3,7 +3,7 @@
 -- of the steps that lead on is one alone.
 use Rattle.std.proofs.Common.{◌≡◌, ◌≢◌, ℕ, ◌+◌, ◌<◌, List, [], ◌∷◌, ◌++◌, refl, sym, ap, ◌∙◌, subst, length, take, drop, get_or, arith, ◌≤◌, append_assoc, inl, Bool, Ordering, inr, true, false, is_some, Option, Some, None}
 use Rattle.std.proofs.lemmas.List.{take_more, drop_more, take-append-drop, length-take-le, drop_all, append-nil}
-use Rattle.lt_tag.specs.Parts.{TagForm, CoreParts, ExtensionParts, TForm, LangTag, PrivateUse, Grandfathered}
+use Rattle.lt_tag.specs.Parts.{TagForm, CoreParts, ExtensionParts, TForm, LangTag, PrivateUse}
 use Rattle.lt_registry.specs.Parts.{EntryParts}
 use Rattle.lt_registry.specs.Validity.{IsValid, IsProper}
 use Rattle.lt_registry.specs.Faults.{IsRefusal}
@@ -37,14 +37,13 @@ use Rattle.lt_rewrite.specs.declared.steps.StepKind.{StepKind}
 use Rattle.lt_rewrite.specs.declared.steps.StepKind.TheVariants as steps
 use Rattle.lt_check.specs.Conditions.{IsChecked}
 use Rattle.lt_canon.specs.Explaining.{rank_in, is_of_source, HasOneExplanation, IsExplanation, RestsOnCore, LeadsToRest}
-use Rattle.lt_canon.proofs.TagForm.{steps_keep, extensions_step_from, core_end, cores_formed, value_rests, end_form, lang_at_end, grandfathered_rests, private_rests, none_rests}
+use Rattle.lt_canon.proofs.TagForm.{steps_keep, extensions_step_from, value_rests, end_form, at_end, lang_at_end, none_rests}
 use Rattle.lt_tag.specs.Splitting.{spell_source}
-use Rattle.std.specs.Prelude.{nat_le, if◌then◌else◌, MatchOption}
+use Rattle.std.specs.Prelude.{if◌then◌else◌, MatchOption}
 use Rattle.lt_rewrite.specs.Laws.{AreOneStep}
 use Rattle.std.specs.List.{AllByRecursion}
 use Rattle.lt_tag.specs.Values.{core_of, extensions_of, private_of, core_alone, number_of as tag_number}
 use Rattle.lt_registry.specs.Entries.{whole, whole_value, number_of}
-use Rattle.lt_rewrite.proofs.NormalForms.{normal_is_form}
 use Rattle.lt_rewrite.proofs.FirstSteps.{adds_none, adds_more, adds_all, run_lift}
 use Rattle.lt_canon.specs.Answers.{IsCanonicalFormOf}
 use Rattle.lt_check.proofs.CheckedRegistry.{value_plain}
@@ -253,21 +252,13 @@ kind_at n = get_or (
     steps.SwapExtensions ∷ steps.DropAttribute ∷ steps.SwapAttributes ∷ steps.DropKeyword ∷ steps.SwapKeywords ∷ steps.DropTrue ∷
     steps.Extlang ∷ steps.Language ∷ steps.Script ∷ steps.Region ∷ steps.Variant ∷ steps.VariantLanguage ∷ []) n steps.SwapFields
 
--- the rank of a kind, on a source or elsewhere
-rank_on : Bool → StepKind → ℕ
-rank_on source kind = if source then (if nat_le (rank_of kind) 6 then rank_of kind + 13 else rank_of kind) else rank_of kind
-
-kind_back : (source : Bool) (kind : StepKind) → kind_at (rank_on source kind) ≡ kind
-unfolding kind_at rank_on
+-- so the rank of a step, on a source or elsewhere, tells its kind
+kind_back : (source : Bool) (kind : StepKind) → kind_at (if source then extension_rank (step_at kind 0 0) else rank_of kind) ≡ kind
+unfolding kind_at
 kind_back true steps.Extlang = refl
 kind_back true _ = refl
 kind_back false steps.Extlang = refl
 kind_back false _ = refl
-
--- so the rank of a step among the steps on a tag tells its kind
-rank_tells : (t : TagForm) (step : Step) → kind_at (rank_in t step) ≡ step.kind
-unfolding rank_on
-rank_tells t step = kind_back (is_of_source t step) step.kind
 
 -- of two steps that each come no later than the other
 both_first : (rank : Step → ℕ) (a b : Step) → IsNoLater rank a b → IsNoLater rank b a → (rank a ≡ rank b) × (a.place ≡ b.place)
@@ -279,7 +270,7 @@ one_run R t a b [] (y ∷ ys) h k m n = absurd (m k.0 (subst (λ x. TagStep R x 
 one_run R t a b (x ∷ xs) [] h k m n = absurd (n h.0 (subst (λ x. TagStep R x h.0) k h.1.leads.0))
 one_run R t a b (x ∷ xs) (y ∷ ys) h k m n =
     let e = both_first (rank_in t) x y (h.1.first y k.0 k.1.leads) (k.1.first x h.0 h.1.leads) in
-    let one : AreOneStep x y h.0 k.0 = steps_determined R t h.0 k.0 x y h.1.leads k.1.leads (sym (rank_tells t x) ∙ ap kind_at e.0 ∙ rank_tells t y) e.1 in
+    let one : AreOneStep x y h.0 k.0 = steps_determined R t h.0 k.0 x y h.1.leads k.1.leads (sym (kind_back (is_of_source t x) x.kind) ∙ ap kind_at e.0 ∙ kind_back (is_of_source t y) y.kind) e.1 in
     let rest = one_run R h.0 a b xs ys h.2 (subst (λ c. IsRun (LeadsBy R) rank_in c ys b) (sym one.result) k.2) m n in
     (λ i. one.same i ∷ rest.0 i, rest.1)
 
@@ -336,26 +327,21 @@ module _ (R : List EntryParts) where
     pub first_adds : (t u : TagForm) (old mid new : List Step) → Adds (LeadsBy R) rank_in t u old mid → LeadsToRest R u mid new → LeadsToRest R t old new
     first_adds t u old mid new h k = record { end = k.end; adds = adds_all (LeadsBy R) rank_in t u k.end old mid new h k.adds; at_rest = k.at_rest }
 
-    -- none where none leads on
-    pub rests : (t : TagForm) (old : List Step) → Rests (TagStep R) t → LeadsToRest R t old old
-    rests t old h = record { end = t; adds = adds_none (LeadsBy R) rank_in t old; at_rest = h }
+    -- none leads on from a tag whose core and extensions are at rest, and that has no value
+    rests : (t : TagForm) (old : List Step) → RestsOnCore R t → Rests (ExtensionsStep R) (extensions_of t) → (CanBeReplacedWhole t → whole_value R t ≡ None) → LeadsToRest R t old old
+    rests t old k m w = record { end = t; adds = adds_none (LeadsBy R) rank_in t old; at_rest = λ u s. at_end R t (λ c e. core_rests c (k c e)) m w u s.change }
 
-    -- no step leads from a tag whose core is at rest and that has no value
     pub valueless_explained : (t : TagForm) (old : List Step) → CanBeReplacedWhole t → RestsOnCore R t → whole_value R t ≡ None → LeadsToRest R t old old
-    valueless_explained (LangTag c es ps) old h k e = rests (LangTag c es ps) old (λ u s.
-        lang_at_end R c es ps (core_rests c (k c refl)) (subst (Rests (ExtensionsStep R)) (sym h.0) (none_rests R)) (λ a b. ap (whole_value R) (λ i. LangTag c (sym a i) (sym b i)) ∙ e) u s.change)
-    valueless_explained (PrivateUse ps) old h k e = absurd h
-    valueless_explained (Grandfathered n) old h k e = rests (Grandfathered n) old (λ u s. grandfathered_rests R n e u s.change)
+    valueless_explained (LangTag c es ps) old h k e = rests (LangTag c es ps) old k (rw h.0 (none_rests R)) (λ _. e)
+    valueless_explained t old h k e = rests t old k (none_rests R) (λ _. e)
 
     -- the value of a whole tag, and the steps on its core
     pub value_rests_by : (t : TagForm) (core form : CoreParts) (step : Step) (old mid new : List Step) → IsProper R t → CanBeReplacedWhole t → RestsOnCore R t → whole_value R t ≡ Some (core_alone core) → step ≡ step_at steps.Whole 1 (number_of (whole R t)) → mid ≡ old ++ step ∷ [] → AddsOnCore R 0 core form mid new → NoneLeads (CoreLeads R 0 form) → LeadsToRest R t old new
     value_rests_by t core form step old mid new P h k v e m a none =
         let Q : IsProper R (core_alone core) = (value_plain R C t (core_alone core) v).valid.proper in
         let normal : IsCoreNormalForm (values_of R) core form = record { reached = run_star (CoreLeads R 0) (λ _ step. kind_rank step) (CoreStep (values_of R)) (λ a step b l. l.0) a.run core form a.is_run; at_rest = core_rests form none } in
-        let same : core_end R C core ≡ form = normal_is_form (cores_formed R C) core form normal in
-        let valueless : whole_value R (core_alone form) ≡ None = ap (λ c. whole_value R (core_alone c)) (sym same) ∙ value_rests R C t core v in
         let on : RestsOnCore R (core_alone form) = λ c i. let j : form ≡ c = cc in rw j at none in
-        let rest : LeadsToRest R (core_alone form) new new = valueless_explained (core_alone form) new (refl, refl) on valueless in
+        let rest : LeadsToRest R (core_alone form) new new = valueless_explained (core_alone form) new (refl, refl) on (value_rests R C t core form v normal) in
         let one : Adds (LeadsBy R) rank_in t (core_alone core) old mid = adds_more (LeadsBy R) rank_in t t (core_alone core) old old mid step (adds_none (LeadsBy R) rank_in t old) (whole_is_first t (core_alone core) step P h k v e) m in
         first_adds t (core_alone core) old mid new one (first_adds (core_alone core) (core_alone form) mid new new (adds_on_core core form [] [] mid new Q a).1 rest)
 
@@ -385,13 +371,13 @@ module _ (R : List EntryParts) where
         let rest : LeadsToRest R (LangTag d es ps) mid new = record {
           end = LangTag d fs ps;
           adds = record { run = b.run; added = b.added; is_run = lifted.1 };
-          at_rest = λ u s. lang_at_end R d fs ps (core_rests d none) normal.at_rest (λ x y. absurd (omega (arith, left, ap length x, ap length y))) u s.change;
+          at_rest = λ u s. lang_at_end R d fs ps (core_rests d none) normal.at_rest (λ h. absurd (omega (arith, left, ap length h.0, ap length h.1))) u s.change;
         } in
         rw same (first_adds (LangTag core es ps) (LangTag d es ps) old mid new on.1 rest)
 
     -- a tag that is neither a langtag nor grandfathered
     pub coreless_explained : (t : TagForm) (old : List Step) → core_of t ≡ None → tag_number t ≡ None → LeadsToRest R t old old
-    coreless_explained (PrivateUse ps) old h k = rests (PrivateUse ps) old (λ u s. private_rests R ps u s.change)
+    coreless_explained (PrivateUse ps) old h k = rests (PrivateUse ps) old (λ c e. cc) (none_rests R) (λ w. absurd w)
     coreless_explained _ old h k = cc
 
     pub transforms_of : (t : TagForm) → IsProper R t → AllByRecursion (λ (e : ExtensionParts). e.singleton ≡ transform → (p : TForm) × IsTransform e.subtags p) (extensions_of t)

@@ -1,12 +1,12 @@
 -- Each change of a proper tag leads to a proper one. The end form of a tag: each step keeps it, each proper tag
--- reaches it, and no step leads from it.
+-- reaches it, and no step leads from it. It is the tag with its parts in their normal forms, and then its value.
 use Rattle.std.proofs.Common.{◌≡◌, ◌≢◌, ℕ, inl, inr, true, List, [], ◌∷◌, ◌++◌, Option, Some, None, refl, sym, ap, ◌∙◌, subst, All}
 use Rattle.std.proofs.lemmas.Bool.{cases_Bool}
 use Rattle.lt_tag.specs.Parts.{CoreParts, ExtensionParts, TagForm, LangTag, PrivateUse, Grandfathered}
 use Rattle.lt_registry.specs.Parts.{EntryParts}
 use Rattle.lt_registry.specs.Entries.{tag_of, whole_value}
 use Rattle.lt_registry.specs.Same.{same_core}
-use Rattle.lt_registry.specs.Validity.{Distinct, IsProper}
+use Rattle.lt_registry.specs.Validity.{Distinct, IsProper, RepeatsNoVariant}
 use Rattle.lt_registry.specs.declared.entries.EntryName.TheVariants as names
 use Rattle.lt_rewrite.specs.Rewriting.{Star, done, then, Rests}
 use Rattle.lt_rewrite.specs.CoreSteps.{values_of, CoreStep, IsCoreNormalForm}
@@ -14,7 +14,7 @@ use Rattle.lt_rewrite.specs.Orderings.{by_swap, by_drop}
 use Rattle.lt_rewrite.specs.Extensions.{ExtensionsStep, inside, among}
 use Rattle.lt_rewrite.specs.TagSteps.{CanBeReplacedWhole, TagChange, on_core, on_extensions, on_whole, TagStep, IsReached}
 use Rattle.lt_rewrite.proofs.Stars.{star_trans}
-use Rattle.lt_rewrite.proofs.NormalForms.{IsFormOf, star_map_while, star_keeps, form_is_normal, normal_is_form}
+use Rattle.lt_rewrite.proofs.NormalForms.{IsFormOf, star_map_while, star_keeps, form_is_normal, normal_is_form, rest_is_form}
 use Rattle.lt_rewrite.proofs.Same.{same_core-Decides}
 use Rattle.lt_rewrite.proofs.CoreLaws.{normal_core, cores_formed as normal_cores}
 use Rattle.lt_rewrite.proofs.PartLists.{empty_middle, step_some}
@@ -28,9 +28,10 @@ use Rattle.lt_tag.specs.Spelling.{spell_core}
 use Rattle.lt_tag.specs.WellFormed.{IsNotGrandfathered}
 use Rattle.lt_rewrite.specs.Laws.{IsProperValue, StepsKeepTagsProper}
 use Rattle.lt_rewrite.proofs.ProperTags.{proper_spells_none, steps_keep_tags_proper}
-use Rattle.lt_tag.specs.Values.{core_alone}
+use Rattle.lt_tag.specs.Values.{core_of, extensions_of, core_alone}
 use Rattle.lt_canon.specs.Laws.{HasEndForms, StepsAreConfluent}
 use Rattle.lt_canon.specs.Corollaries.{OneCanonicalTag}
+use Rattle.lt_canon.specs.Settled.{IsReplacedWhole}
 
 -- the end of a tag that is no langtag with extensions or private use
 abbrev pub or_value : TagForm → (TagForm → TagForm) → Option TagForm → TagForm
@@ -47,6 +48,21 @@ pub extensions_step_to : (R : List EntryParts) (es fs : List ExtensionParts) →
 extensions_step_to R es fs (inside before e f after w s) h = empty_middle before f after (sym w.result ∙ h)
 extensions_step_to R es fs (among s) h = step_some es fs s h
 
+abbrev pub NoChange : List EntryParts → TagForm → Type 0
+NoChange R t = (u : TagForm) → TagChange R t u → ⊥
+
+pub none_rests : (R : List EntryParts) → Rests (ExtensionsStep R) []
+none_rests R fs s = extensions_step_from R [] fs s refl
+
+-- no change leads from a tag whose parts are at rest, and that has no value
+pub at_end : (R : List EntryParts) (t : TagForm) → ((c : CoreParts) → core_of t ≡ Some c → Rests (CoreStep (values_of R)) c) → Rests (ExtensionsStep R) (extensions_of t) → (CanBeReplacedWhole t → whole_value R t ≡ None) → NoChange R t
+at_end R t k m w u (on_core c d es ps from _ s) = k c (ap core_of from) d s
+at_end R t k m w u (on_extensions c es fs ps from _ s) = m fs (subst (λ x. ExtensionsStep R x fs) (sym (ap extensions_of from)) s)
+at_end R t k m w u (on_whole is_plain has) = let none = w is_plain in cc
+
+pub lang_at_end : (R : List EntryParts) (d : CoreParts) (es : List ExtensionParts) (ps : List (List ℕ)) → Rests (CoreStep (values_of R)) d → Rests (ExtensionsStep R) es → (CanBeReplacedWhole (LangTag d es ps) → whole_value R (LangTag d es ps) ≡ None) → NoChange R (LangTag d es ps)
+lang_at_end R d es ps k m w = at_end R (LangTag d es ps) (λ c e. let same : d ≡ c = cc in subst (Rests (CoreStep (values_of R))) same k) m w
+
 pub ending_chains : (R : List EntryParts) → IsChecked R → All (HasEndingChain R) R
 ending_chains R C = C.passes.ending_chain
 
@@ -58,7 +74,7 @@ module _ (R : List EntryParts) (C : IsChecked R) where
   steps_keep = steps_keep_tags_proper R C.registry (core_conditions R C.passes) (grandfathered_fit R C)
 
   -- each change
-  pub change_proper : (t u : TagForm) → TagChange R t u → IsProper R t → IsProper R u
+  change_proper : (t u : TagForm) → TagChange R t u → IsProper R t → IsProper R u
   change_proper t u (on_core c d es ps from to s) P = rw to (steps_keep.core c d es ps s (rw from at P))
   change_proper t u (on_extensions c es fs ps from to s) P = rw to (steps_keep.extensions c es fs ps s (rw from at P))
   change_proper t u (on_whole _ has) P = (value_plain R C t u has).valid.proper
@@ -102,7 +118,7 @@ module _ (R : List EntryParts) (C : IsChecked R) where
   tag_end (PrivateUse ps) = PrivateUse ps
   tag_end (Grandfathered n) = whole_end (Grandfathered n)
 
-  pub whole_end_at : (t : TagForm) (o : Option TagForm) → whole_value R t ≡ o → whole_end t ≡ or_value t value_end o
+  whole_end_at : (t : TagForm) (o : Option TagForm) → whole_value R t ≡ o → whole_end t ≡ or_value t value_end o
   whole_end_at t o e = ap (or_value t value_end) e
 
   pub lang_end_some : (d : CoreParts) (es : List ExtensionParts) (ps : List (List ℕ)) → es ≢ [] → lang_end d es ps ≡ LangTag d (extensions_end es) ps
@@ -113,17 +129,17 @@ module _ (R : List EntryParts) (C : IsChecked R) where
   core_normal c = form_is_normal cores_formed c
 
   -- of a whole record's value: what its core normal form has
-  pub resting : (t : TagForm) (c : CoreParts) → whole_value R t ≡ Some (core_alone c) → Distinct (core_end c).variants × All (λ (f : EntryParts). f.name ≡ names.Whole (core_alone (core_end c)) → tag_of f.value ≡ None) R
-  resting t c e =
+  resting : (t : TagForm) (c d : CoreParts) → whole_value R t ≡ Some (core_alone c) → IsCoreNormalForm (values_of R) c d → Distinct d.variants × All (λ (f : EntryParts). f.name ≡ names.Whole (core_alone d) → tag_of f.value ≡ None) R
+  resting t c d e n =
       let w = valued_whole R t (core_alone c) e in
-      whole_has R t (core_alone c) (HasRestingWhole R) (C.passes.resting_whole) w t (core_alone c) w.named w.gives c (core_end c) refl (core_normal c)
+      whole_has R t (core_alone c) (HasRestingWhole R) (C.passes.resting_whole) w t (core_alone c) w.named w.gives c d refl n
 
   -- the end of a value is its core normal form
-  pub value_rests : (t : TagForm) (c : CoreParts) → whole_value R t ≡ Some (core_alone c) → whole_value R (core_alone (core_end c)) ≡ None
-  value_rests t c e = no_value R (core_alone (core_end c)) (resting t c e).1
+  pub value_rests : (t : TagForm) (c d : CoreParts) → whole_value R t ≡ Some (core_alone c) → IsCoreNormalForm (values_of R) c d → whole_value R (core_alone d) ≡ None
+  value_rests t c d e n = no_value R (core_alone d) (resting t c d e n).1
 
-  pub value_end_is : (t : TagForm) (c : CoreParts) → whole_value R t ≡ Some (core_alone c) → tag_end (core_alone c) ≡ core_alone (core_end c)
-  value_end_is t c e = whole_end_at (core_alone (core_end c)) None (value_rests t c e)
+  value_end_is : (t : TagForm) (c : CoreParts) → whole_value R t ≡ Some (core_alone c) → tag_end (core_alone c) ≡ core_alone (core_end c)
+  value_end_is t c e = whole_end_at (core_alone (core_end c)) None (value_rests t c (core_end c) e (core_normal c))
 
   -- a core that is a whole record with a value: its own end is that of its value
   plain_kept : (c q : CoreParts) → whole_value R (core_alone c) ≡ Some (core_alone q) → whole_end (core_alone (core_end c)) ≡ core_alone (core_end q)
@@ -132,20 +148,20 @@ module _ (R : List EntryParts) (C : IsChecked R) where
     | inr f ↦ let w = valued_whole R (core_alone c) (core_alone q) e in
         elim (whole_has R (core_alone c) (core_alone q) (HasAgreeingWhole R) C.passes.agreeing_whole w (core_alone c) (core_alone q) w.named w.gives c (core_end c) q (core_end q) refl refl (core_normal c)
         (λ h. let t : same_core (core_end c) c ≡ true = (same_core-Decides (core_end c) c).1 h in cc) (core_normal q)) [
-          | inl s ↦ ap (λ d. whole_end (core_alone d)) s ∙ whole_end_at (core_alone (core_end q)) None (value_rests (core_alone c) q e)
+          | inl s ↦ ap (λ d. whole_end (core_alone d)) s ∙ value_end_is (core_alone c) q e
           | inr k ↦ whole_end_at (core_alone (core_end c)) (Some (core_alone k.0)) k.1 ∙ ap core_alone (normal_is_form cores_formed k.0 (core_end q) k.2)
         ]
   ]
 
-  pub whole_kept_at : (t : TagForm) (q : CoreParts) → CanBeReplacedWhole t → whole_value R t ≡ Some (core_alone q) → tag_end t ≡ tag_end (core_alone q)
+  whole_kept_at : (t : TagForm) (q : CoreParts) → CanBeReplacedWhole t → whole_value R t ≡ Some (core_alone q) → tag_end t ≡ tag_end (core_alone q)
   whole_kept_at (Grandfathered n) q h e = whole_end_at (Grandfathered n) (Some (core_alone q)) e ∙ sym (value_end_is (Grandfathered n) q e)
-  whole_kept_at (LangTag c [] []) q h e = plain_kept c q e ∙ sym (value_end_is (core_alone c) q e)
-  whole_kept_at (LangTag c (x ∷ es) ps) q h e = let a = h.0 in cc
-  whole_kept_at (LangTag c [] (p ∷ ps)) q h e = let a = h.1 in cc
+  whole_kept_at (LangTag c es ps) q h e =
+      let k : whole_value R (core_alone c) ≡ Some (core_alone q) = rw (h.0, h.1) at e in
+      rw (h.0, h.1) (plain_kept c q k ∙ sym (value_end_is (core_alone c) q k))
   whole_kept_at (PrivateUse ps) q h e = absurd h
 
   -- each step keeps the end form
-  pub change_kept : (t u : TagForm) → TagChange R t u → tag_end t ≡ tag_end u
+  change_kept : (t u : TagForm) → TagChange R t u → tag_end t ≡ tag_end u
   change_kept t u (on_core c d es ps from to s) = ap tag_end from ∙ ap (λ x. lang_end x es ps) (cores_formed.kept c d s) ∙ sym (ap tag_end to)
   change_kept t u (on_extensions c es fs ps from to s) =
       ap tag_end from ∙ lang_end_some (core_end c) es ps (extensions_step_from R es fs s) ∙ ap (λ l. LangTag (core_end c) l ps) (extensions_end_formed.kept es fs s)
@@ -167,73 +183,74 @@ module _ (R : List EntryParts) (C : IsChecked R) where
       star_trans (cores_reached r es ps P) (star_map_while (λ x. IsProper R (LangTag d x ps)) (λ x. LangTag d x ps) (λ x y k p. steps_keep.extensions d x y ps k p)
       (λ x y k p q. step_of_change (LangTag d x ps) (LangTag d y ps) (on_extensions d x y ps refl refl k) p) s (cores_proper r es ps P))
 
-  whole_reached_at : (t : TagForm) → CanBeReplacedWhole t → IsProper R t → (o : Option TagForm) → whole_value R t ≡ o → IsReached R t (or_value t value_end o)
-  whole_reached_at t h P None e = done
-  whole_reached_at t h P (Some u) e =
+  -- what follows of a tag for its value, whose core is in core normal form, or for the tag where it has none
+  pub record Replaced (s r : TagForm) : Type 0 where
+    pub reached : IsProper R s → IsReached R s r
+    pub at_rest : ((CanBeReplacedWhole s → whole_value R s ≡ None) → NoChange R s) → NoChange R r
+    pub distinct : RepeatsNoVariant s → RepeatsNoVariant r
+
+  pub replaced : (s r : TagForm) → IsReplacedWhole R s r → Replaced s r
+  replaced s r (inl v) =
+      let u = v.settled in
+      let k : whole_value R s ≡ Some (core_alone u.core) = v.has ∙ ap Some u.from in
+      rw u.to (record {
+        reached = λ P. let first : TagStep R s (core_alone u.core) = step_of_change s (core_alone u.core) (on_whole v.plain k) P in (then) first (cores_reached u.normal.reached [] [] first.to);
+        at_rest = λ _. lang_at_end R u.form [] [] u.normal.at_rest (none_rests R) (λ _. value_rests s u.core u.form k u.normal);
+        distinct = λ _. ((resting s u.core u.form k u.normal).0, tt);
+      })
+  replaced s r (inr y) = rw y.same (record { reached = λ P. done; at_rest = λ h. h y.none; distinct = λ d. d })
+
+  -- a tag with its parts in their normal forms
+  abbrev pub parts_end : TagForm → TagForm
+  parts_end (LangTag c es ps) = LangTag (core_end c) (extensions_end es) ps
+  parts_end t = t
+
+  parts_end_reached : (t : TagForm) → IsProper R t → IsReached R t (parts_end t)
+  parts_end_reached (LangTag c es ps) P = parts_reached (cores_formed.reached c) (extensions_end_formed.reached es) ps P
+  parts_end_reached _ P = done
+
+  parts_end_rests : (t : TagForm) → (CanBeReplacedWhole (parts_end t) → whole_value R (parts_end t) ≡ None) → NoChange R (parts_end t)
+  parts_end_rests (LangTag c es ps) w = lang_at_end R (core_end c) (extensions_end es) ps (cores_formed.rests c) (extensions_end_formed.rests es) w
+  parts_end_rests t w = at_end R t (λ c e. cc) (none_rests R) w
+
+  -- and then its value
+  pub settled_reached : (t r : TagForm) → IsReplacedWhole R (parts_end t) r → IsProper R t → IsReached R t r
+  settled_reached t r w P =
+      let to = parts_end_reached t P in
+      star_trans to ((replaced (parts_end t) r w).reached (star_keeps (IsProper R) (λ a b s _. s.to) to P))
+
+  pub settled_rests : (t r : TagForm) → IsReplacedWhole R (parts_end t) r → Rests (TagStep R) r
+  settled_rests t r w u s = (replaced (parts_end t) r w).at_rest (parts_end_rests t) u s.change
+
+  whole_replaced : (t : TagForm) → CanBeReplacedWhole t → (o : Option TagForm) → whole_value R t ≡ o → IsReplacedWhole R t (or_value t value_end o)
+  whole_replaced t h None e = inr (record { none = λ _. e; same = refl })
+  whole_replaced t h (Some u) e =
       let v = value_plain R C t u e in
-      rw v.is (then (step_of_change t (core_alone v.core) (on_whole h (e ∙ ap Some v.is)) P) (cores_reached (cores_formed.reached v.core) [] [] (rw v.is at v.valid.proper)))
+      inl (record { value = u; plain = h; has = e; settled = record { core = v.core; form = core_end v.core; from = v.is; to = ap value_end v.is; normal = core_normal v.core } })
+
+  no_extensions : extensions_end [] ≡ []
+  no_extensions = rest_is_form extensions_end_formed [] (none_rests R)
+
+  some_extensions : (es : List ExtensionParts) → es ≢ [] → extensions_end es ≢ []
+  some_extensions es n = star_keeps (λ l. l ≢ []) (λ a b s _. extensions_step_to R a b s) (extensions_end_formed.reached es) n
+
+  -- so the end form does
+  pub end_replaced : (t : TagForm) → IsReplacedWhole R (parts_end t) (tag_end t)
+  end_replaced (LangTag c [] []) = rw no_extensions (whole_replaced (core_alone (core_end c)) (refl, refl) (whole_value R (core_alone (core_end c))) refl)
+  end_replaced (LangTag c [] (p ∷ ps)) = rw no_extensions (inr (record { none = λ h. let none = h.1 in cc; same = refl }))
+  end_replaced (LangTag c (e ∷ es) ps) = inr (record { none = λ h. absurd (some_extensions (e ∷ es) (λ k. cc) h.0); same = refl })
+  end_replaced (PrivateUse ps) = inr (record { none = λ h. absurd h; same = refl })
+  end_replaced (Grandfathered n) = whole_replaced (Grandfathered n) tt (whole_value R (Grandfathered n)) refl
 
   pub tag_reached : (t : TagForm) → IsProper R t → IsReached R t (tag_end t)
-  tag_reached (LangTag c [] []) P =
-      let r = cores_formed.reached c in
-      star_trans (cores_reached r [] [] P) (whole_reached_at (core_alone (core_end c)) (refl, refl) (cores_proper r [] [] P) (whole_value R (core_alone (core_end c))) refl)
-  tag_reached (LangTag c [] (p ∷ ps)) P = cores_reached (cores_formed.reached c) [] (p ∷ ps) P
-  tag_reached (LangTag c (e ∷ es) ps) P = parts_reached (cores_formed.reached c) (extensions_end_formed.reached (e ∷ es)) ps P
-  tag_reached (PrivateUse ps) P = done
-  tag_reached (Grandfathered n) P = whole_reached_at (Grandfathered n) tt P (whole_value R (Grandfathered n)) refl
+  tag_reached t P = settled_reached t (tag_end t) (end_replaced t) P
+
+  pub tag_end_rests : (t : TagForm) → Rests (TagStep R) (tag_end t)
+  tag_end_rests t = settled_rests t (tag_end t) (end_replaced t)
 
   -- so the end form is one
   pub end_form : IsEndForm (IsProper R) (TagStep R) tag_end
   end_form = record { to = λ a b s. s.to; kept = λ a b s. change_kept a b s.change; reached = tag_reached }
-
-abbrev pub NoChange : List EntryParts → TagForm → Type 0
-NoChange R t = (u : TagForm) → TagChange R t u → ⊥
-
--- a langtag at its end
-pub lang_at_end : (R : List EntryParts) (d : CoreParts) (es : List ExtensionParts) (ps : List (List ℕ)) → Rests (CoreStep (values_of R)) d → Rests (ExtensionsStep R) es → (es ≡ [] → ps ≡ [] → whole_value R (core_alone d) ≡ None) → NoChange R (LangTag d es ps)
-lang_at_end R d es ps k m w u (on_core c c' fs qs from _ s) = let same : c ≡ d = cc in k c' (subst (λ x. CoreStep (values_of R) x c') same s)
-lang_at_end R d es ps k m w u (on_extensions c es' fs qs from _ s) = let same : es' ≡ es = cc in m fs (subst (λ x. ExtensionsStep R x fs) same s)
-lang_at_end R d es ps k m w u (on_whole is_plain has) =
-    let none : whole_value R (LangTag d es ps) ≡ None = ap (whole_value R) (λ i. LangTag d (is_plain.0 i) (is_plain.1 i)) ∙ w is_plain.0 is_plain.1 in
-    cc
-
-pub grandfathered_rests : (R : List EntryParts) (n : ℕ) → whole_value R (Grandfathered n) ≡ None → NoChange R (Grandfathered n)
-grandfathered_rests R n h u (on_core c c' es ps from _ _) = cc
-grandfathered_rests R n h u (on_extensions c es fs ps from _ _) = cc
-grandfathered_rests R n h u (on_whole _ has) = cc
-
-pub private_rests : (R : List EntryParts) (ps : List (List ℕ)) → NoChange R (PrivateUse ps)
-private_rests R ps u (on_core c c' es qs from _ _) = cc
-private_rests R ps u (on_extensions c es fs qs from _ _) = cc
-private_rests R ps u (on_whole is_plain _) = is_plain
-
-pub none_rests : (R : List EntryParts) → Rests (ExtensionsStep R) []
-none_rests R fs s = extensions_step_from R [] fs s refl
-
-module _ (R : List EntryParts) (C : IsChecked R) where
-  plain_end : (c : CoreParts) → whole_value R (core_alone (core_end R C c)) ≡ None → NoChange R (core_alone (core_end R C c))
-  plain_end c n = lang_at_end R (core_end R C c) [] [] ((cores_formed R C).rests c) (none_rests R) (λ _ _. n)
-
-  whole_rests_at : (t : TagForm) → (whole_value R t ≡ None → NoChange R t) → (o : Option TagForm) → whole_value R t ≡ o → NoChange R (or_value t (value_end R C) o)
-  whole_rests_at t h None e = h e
-  whole_rests_at t h (Some u) e =
-      let v = value_plain R C t u e in
-      rw v.is (plain_end v.core (value_rests R C t v.core (e ∙ ap Some v.is)))
-
-  pub some_end : (es : List ExtensionParts) → es ≢ [] → extensions_end R C es ≢ []
-  some_end es n = star_keeps (λ l. l ≢ []) (λ a b s _. extensions_step_to R a b s) ((extensions_end_formed R C).reached es) n
-
-  lang_rests : (c : CoreParts) (es : List ExtensionParts) (ps : List (List ℕ)) → NoChange R (lang_end R C (core_end R C c) es ps)
-  lang_rests c [] [] = whole_rests_at (core_alone (core_end R C c)) (plain_end c) (whole_value R (core_alone (core_end R C c))) refl
-  lang_rests c [] (p ∷ ps) = lang_at_end R (core_end R C c) [] (p ∷ ps) ((cores_formed R C).rests c) (none_rests R) (λ _ h. absurd (cc))
-  lang_rests c (e ∷ es) ps =
-      lang_at_end R (core_end R C c) (extensions_end R C (e ∷ es)) ps ((cores_formed R C).rests c) ((extensions_end_formed R C).rests (e ∷ es)) (λ h _. absurd (some_end (e ∷ es) (λ k. cc) h))
-
-  -- no change leads from the end form of a tag
-  pub tag_end_rests : (t : TagForm) → Rests (TagStep R) (tag_end R C t)
-  tag_end_rests (LangTag c es ps) u s = lang_rests c es ps u s.change
-  tag_end_rests (PrivateUse ps) u s = private_rests R ps u s.change
-  tag_end_rests (Grandfathered n) u s = whole_rests_at (Grandfathered n) (grandfathered_rests R n) (whole_value R (Grandfathered n)) refl u s.change
 
 pub has_end_forms : (R : List EntryParts) → IsChecked R → HasEndForms R
 has_end_forms R C = record { end = tag_end R C; kept = λ t u s. change_kept R C t u s.change; reached = tag_reached R C; at_rest = tag_end_rests R C }

@@ -1,40 +1,38 @@
 -- Variants that occur twice in sources of extensions and in whole tags, and the laws of canonical tags. Where a valid tag
 -- can repeat a variant, there is one that the refusal names, and only one. Canonical forms are their own, and equal texts
 -- tell equivalent tags.
-use Rattle.std.proofs.Common.{◌≡◌, ℕ, ◌+◌, ◌<◌, ◌⊎◌, inl, inr, List, [], ◌∷◌, ◌++◌, Option, Some, None, refl, sym, ap, ◌∙◌, subst, map, append_assoc, length, take, drop, get_or, IfSome, false, Ordering, arith, ◌≢◌, Bool, ◌↔◌, IsTrue}
+use Rattle.std.proofs.Common.{◌≡◌, ℕ, ◌+◌, ◌<◌, ◌⊎◌, inl, inr, List, [], ◌∷◌, ◌++◌, Option, Some, None, refl, sym, ap, ◌∙◌, subst, map, append_assoc, length, take, drop, get_or, IfSome, false, Ordering, arith, Bool, ◌↔◌, IsTrue}
 use Rattle.std.specs.Prelude.{option_map, flat_map, MatchOption}
 use Rattle.std.specs.Option.{option_to_list}
 use Rattle.std.specs.List.{AllByRecursion}
 use Rattle.std.proofs.lemmas.Bool.{cases_eq}
-use Rattle.lt_tag.specs.Parts.{CoreParts, ExtensionParts, TForm, TagForm, LangTag, PrivateUse, Grandfathered}
+use Rattle.lt_tag.specs.Parts.{CoreParts, ExtensionParts, TForm, TagForm, LangTag}
 use Rattle.lt_tag.specs.Extensions.{transform, IsTransform, spell_field}
 use Rattle.lt_tag.proofs.TagLemmas.{AllByRecursion-weaker}
 use Rattle.lt_registry.specs.Parts.{EntryParts}
 use Rattle.lt_registry.specs.Validity.{Distinct, IsProperExtension, HasDistinctSource, IsProper, RepeatsNoVariant, IsValid}
 use Rattle.lt_registry.specs.Faults.{HasSource}
 use Rattle.lt_registry.proofs.ListLemmas.{whole_turn, take_turn}
-use Rattle.lt_registry.proofs.SplitListLemmas.{all_at, distinct_at, distinct_from, all_from, distinct_map_at}
-use Rattle.lt_rewrite.specs.Rewriting.{IsNormalForm, Star, done, then}
+use Rattle.lt_registry.proofs.SplitListLemmas.{all_at, all_from, all_more, distinct_at, distinct_from}
+use Rattle.lt_rewrite.specs.Rewriting.{IsNormalForm, Rests, Star, done, then}
 use Rattle.lt_rewrite.specs.Extensions.{ExtensionsStep, singleton_cmp, on_source, on_fields, ExtensionStep, in_unicode, in_transform, inside, among}
 use Rattle.lt_rewrite.proofs.NormalForms.{star_keeps, normal_is_form, form_is_normal}
-use Rattle.lt_rewrite.proofs.PartLists.{all_step, if_some_is, all_both, all_swapped, all_middle, all_replaced, all_unmapped}
+use Rattle.lt_rewrite.proofs.PartLists.{all_step, if_some_is, all_both, all_swapped, all_middle, all_mapped, all_replaced, all_unmapped, distinct_cut}
 use Rattle.lt_rewrite.proofs.ExtensionLaws.{one_transform, extensions_ordered, normal_parts, normal_singleton}
 use Rattle.lt_check.specs.Conditions.{IsChecked}
-use Rattle.lt_canon.specs.Answers.{IsSecondOccurrence, IsRepeatOfCore, IsRepeatOfSource, IsCanonicalFormOf, HasDistinctForm, IsNamedRepeat}
-use Rattle.lt_canon.specs.Settled.{IsSecondInSource, IsSecondInSources}
-use Rattle.lt_canon.proofs.Distinctness.{distinct_or_second, second_repeats, one_next, one_second}
-use Rattle.lt_canon.proofs.TagForm.{core_end, core_normal, extension_end, extensions_end_formed, or_value, value_end, tag_end, tag_reached, end_form, tag_end_rests, cores_formed, extensions_end, lang_end, resting, parts_reached}
+use Rattle.lt_canon.specs.Answers.{IsSecondOccurrence, IsRepeatOfCore, IsRepeatOfSource, IsRepeatOf, IsCanonicalFormOf, HasDistinctForm, IsNamedRepeat}
+use Rattle.lt_canon.specs.Settled.{IsDistinctForm, IsReplacedWhole, IsSecondInSource, IsSecondInSources}
+use Rattle.lt_canon.proofs.Distinctness.{distinct_or_second, second_repeats, one_second}
+use Rattle.lt_canon.proofs.TagForm.{core_end, core_normal, cores_formed, cores_reached, extension_end, extensions_end, extensions_end_formed, parts_end, parts_reached, replaced, settled_reached, settled_rests, end_replaced, tag_end, tag_reached, end_form}
 use Rattle.lt_check.proofs.Checks.{core_conditions}
-use Rattle.lt_registry.specs.Entries.{whole_value}
 use Rattle.lt_rewrite.specs.Orderings.{ListStep, by_swap, by_drop}
 use Rattle.lt_rewrite.specs.Conditions.{MeetsCoreConditions}
-use Rattle.lt_rewrite.specs.TagSteps.{TagChange, on_core, on_extensions, on_whole, CanRepeat, IsCanonical}
+use Rattle.lt_rewrite.specs.TagSteps.{TagChange, on_core, on_extensions, on_whole, TagStep, IsReached, CanRepeat, IsCanonical}
 use Rattle.lt_rewrite.proofs.CoreLaws.{VariantLanguagesOnce, variant_languages_once, variant_languages_once_kept, form_distinct}
 use Rattle.lt_canon.specs.Laws.{CanonicalOrRepeats, EquivalenceIsEqualText, CanonicalTwiceIsOnce, CanonicalTextTwiceIsOnce}
 use Rattle.lt_canon.specs.Corollaries.{RepeatTogether, EquivalenceIsEquality}
 use Rattle.lt_check.proofs.CheckedRegistry.{value_plain, tag_plain}
 use Rattle.lt_canon.proofs.EndForms.{star_proper, star_end, star_equivalent, equivalent_end, equivalent_trans, equivalent_sym, rest_is_end, reached_is_end}
-use Rattle.lt_tag.specs.Values.{core_alone}
 use Rattle.lt_rewrite.specs.CoreSteps.{values_of, IsCoreNormalForm}
 use Rattle.lt_canon.specs.RepeatLaws.{RepeatsAreNamed}
 use Rattle.std.specs.Ordering.{eq_by_cmp}
@@ -69,11 +67,9 @@ one_source e c d h k =
     let both : Some c ≡ Some d = sym h.there ∙ ap (λ (p : TForm). p.source) (one_transform e.subtags h.parts k.parts h.formed k.formed) ∙ k.there in
     cc
 
--- one without a source repeats none
-pub no_source : (e : ExtensionParts) (p : TForm) → IsTransform e.subtags p → p.source ≡ None → HasDistinctSource e
-no_source e p k h = told_source e (λ c j.
-    let both : None ≡ Some c = sym h ∙ ap (λ (q : TForm). q.source) (one_transform e.subtags p j.parts k j.formed) ∙ j.there in
-    cc)
+-- one whose parts have a source that repeats none, or no source
+pub of_parts : (e : ExtensionParts) (p : TForm) → IsTransform e.subtags p → IfSome p.source HasDistinctVariants → HasDistinctSource e
+of_parts e p k h s q j = subst (λ (x : TForm). IfSome x.source HasDistinctVariants) (one_transform e.subtags p q k j) h
 
 distinct_within : (xs a b c : List (List ℕ)) → xs ≡ a ++ (b ++ c) → Distinct xs → Distinct b
 distinct_within xs a b c e d = distinct_from b (λ p v q r k. distinct_at xs (a ++ p) v q (r ++ c) (rw (e, k) (simp append_assoc)) d)
@@ -86,8 +82,7 @@ distinct_subtags e d = told_source e (λ c h.
 
 -- one with a source repeats what the source repeats
 pub of_source : (e : ExtensionParts) (p : TForm) (source : CoreParts) (vs : List (List ℕ)) (o : Option (List ℕ)) → e.singleton ≡ transform → IsTransform e.subtags p → p.source ≡ Some source → vs ≡ source.variants → MatchOption o (Distinct vs) (IsSecondOccurrence vs) → MatchOption o (HasDistinctSource e) (IsSecondInSource e)
-of_source e p source vs None s k h same d =
-    told_source e (λ c j. subst HasDistinctVariants (one_source e source c (record { transforms = s; parts = p; formed = k; there = h }) j) (subst Distinct same d))
+of_source e p source vs None s k h same d = of_parts e p k (rw h (rw same at d))
 of_source e p source vs (Some v) s k h same d =
     record { source = source; has_source = record { transforms = s; parts = p; formed = k; there = h }; second = subst (λ l. IsSecondOccurrence l v) same d }
 
@@ -96,11 +91,7 @@ pub sources_here : (es : List ExtensionParts) (i : ℕ) (e : ExtensionParts) (v 
 sources_here es i e v l h k = record { before = take i es; extension = e; after = drop (i + 1) es; there = whole_turn es i e l h; own = k }
 
 pub sources_more : (es : List ExtensionParts) (i : ℕ) (e : ExtensionParts) → i < length es → e ≡ get_or es i e → HasDistinctSource e → AllByRecursion HasDistinctSource (take i es) → AllByRecursion HasDistinctSource (take (i + 1) es)
-sources_more es i e l h d all = rw (take_turn es i e l h) (all_more (take i es) all)
-  where
-    all_more : (xs : List ExtensionParts) → AllByRecursion HasDistinctSource xs → AllByRecursion HasDistinctSource (xs ++ e ∷ [])
-    all_more [] a = (d, tt)
-    all_more (x ∷ xs) a = (a.0, all_more xs a.1)
+sources_more es i e l h d all = rw (take_turn es i e l h) (all_more HasDistinctSource (take i es) e all d)
 
 -- where one repeats a variant the sources are not distinct
 pub source_repeats : (es : List ExtensionParts) (v : List ℕ) → IsSecondInSources es v → AllByRecursion HasDistinctSource es → ⊥
@@ -113,7 +104,7 @@ module _ (R : List EntryParts) where
   source_or_second e P = elim (cases_eq e.singleton transform) [ inl s ↦ let m = P s in by m.0 s m.1 m.0.source refl | inr n ↦ inl (λ s. absurd (n s)) ]
     where
       by : (p : TForm) → e.singleton ≡ transform → IsTransform e.subtags p → (o : Option CoreParts) → p.source ≡ o → HasDistinctSource e ⊎ ((v : List ℕ) × IsSecondInSource e v)
-      by p s k None h = inl (no_source e p k h)
+      by p s k None h = inl (of_parts e p k (rw h tt))
       by p s k (Some c) h = elim (distinct_or_second c.variants) [
         | inl d ↦ inl (of_source e p c c.variants None s k h refl d)
         | inr w ↦ inr (w.0, of_source e p c c.variants (Some w.0) s k h refl w.1)
@@ -121,12 +112,13 @@ module _ (R : List EntryParts) where
 
   pub sources_or_second : (es : List ExtensionParts) → AllByRecursion (IsProperExtension R) es → AllByRecursion HasDistinctSource es ⊎ ((v : List ℕ) × IsSecondInSources es v)
   sources_or_second [] P = inl tt
-  sources_or_second (e ∷ es) P = by (source_or_second e P.0) (sources_or_second es P.1)
-    where
-      by : HasDistinctSource e ⊎ ((v : List ℕ) × IsSecondInSource e v) → AllByRecursion HasDistinctSource es ⊎ ((v : List ℕ) × IsSecondInSources es v) → AllByRecursion HasDistinctSource (e ∷ es) ⊎ ((v : List ℕ) × IsSecondInSources (e ∷ es) v)
-      by (inl a) (inl b) = inl (a, b)
-      by (inl a) (inr b) = inr (b.0, record { before = e ∷ b.1.before; extension = b.1.extension; after = b.1.after; there = ap (λ l. e ∷ l) b.1.there; own = b.1.own })
-      by (inr a) b = inr (a.0, record { before = []; extension = e; after = es; there = refl; own = a.1 })
+  sources_or_second (e ∷ es) P = elim (source_or_second e P.0) [
+    | inr a ↦ inr (a.0, record { before = []; extension = e; after = es; there = refl; own = a.1 })
+    | inl a ↦ elim (sources_or_second es P.1) [
+      | inl b ↦ inl (a, b)
+      | inr b ↦ inr (b.0, record { before = e ∷ b.1.before; extension = b.1.extension; after = b.1.after; there = ap (λ l. e ∷ l) b.1.there; own = b.1.own })
+    ]
+  ]
 
 some_of_map : {A B : Type 0} (f : A → B) (o : Option A) (b : B) → option_map f o ≡ Some b → (a : A) × (o ≡ Some a) × (f a ≡ b)
 some_of_map f None b h = cc
@@ -148,21 +140,15 @@ module _ (R : List EntryParts) (C : IsChecked R) where
       let at = some_of_map (core_end R C) m.0.source k.source (sym n.source ∙ ap (λ (p : TForm). p.source) (one_transform (extension_end R C e).subtags n.parts k.has_source.parts n.formed k.has_source.formed) ∙ k.has_source.there) in
       (at.0, record { transforms = s; parts = m.0; formed = m.1; there = at.1 }, record { form = core_end R C at.0; normal = core_normal R C at.0; second = subst (λ (x : CoreParts). IsSecondOccurrence x.variants v) (sym at.2) k.second })
 
-  later : (e : ExtensionParts) (es : List ExtensionParts) (v : List ℕ) → IsRepeatOfSource R es v → IsRepeatOfSource R (e ∷ es) v
-  later e es v h = record { before = e ∷ h.before; extension = h.extension; after = h.after; there = ap (λ l. e ∷ l) h.there; source = h.source; has_source = h.has_source; repeat = h.repeat }
-
-  each_repeat : (es : List ExtensionParts) → AllByRecursion (IsProperExtension R) es → AllByRecursion (λ f. (v : List ℕ) → IsSecondInSource f v → IsRepeatOfSource R es v) (map (extension_end R C) es)
-  each_repeat [] P = tt
-  each_repeat (e ∷ es) P = (
-    (λ v k. let r = own_repeat e v P.0 k in record { before = []; extension = e; after = es; there = refl; source = r.0; has_source = r.1; repeat = r.2 }),
-    AllByRecursion-weaker _ _ (λ f h v k. later e es v (h v k)) (map (extension_end R C) es) (each_repeat es P.1),
-  )
-
   -- the one that is named
   pub named_source : (es fs : List ExtensionParts) (v : List ℕ) → AllByRecursion (IsProperExtension R) es → IsNormalForm (ExtensionsStep R) es fs → IsSecondInSources fs v → IsRepeatOfSource R es v
   named_source es fs v P n k =
       let Q : ExtensionParts → Type 0 = λ f. (w : List ℕ) → IsSecondInSource f w → IsRepeatOfSource R es w in
-      let ends = star_keeps (AllByRecursion Q) (λ x y s. all_step Q x y s) (extensions_ordered R C.registry (core_conditions R C.passes) es) (each_repeat es P) in
+      let each : AllByRecursion (λ e. Q (extension_end R C e)) es = all_from (λ e. Q (extension_end R C e)) es (λ b e a there w j.
+      let r = own_repeat e w (all_at (IsProperExtension R) es b e a there P) j in
+      record { before = b; extension = e; after = a; there = there; source = r.0; has_source = r.1; repeat = r.2 }) in
+      let all = all_mapped (λ e. Q (extension_end R C e)) Q (extension_end R C) (λ e h. h) es each in
+      let ends = star_keeps (AllByRecursion Q) (λ x y s. all_step Q x y s) (extensions_ordered R C.registry (core_conditions R C.passes) es) all in
       all_at Q fs k.before k.extension k.after k.there (subst (AllByRecursion Q) (normal_is_form (extensions_end_formed R C) es fs n) ends) v k.own
 
 -- what each part has in another order, each part has
@@ -203,53 +189,79 @@ module _ (R : List EntryParts) (C : IsChecked R) where
   change_once t u (on_extensions c es fs ps from to s) h = let k = rw from at h in rw to (k.0, extensions_once es fs s k.1)
   change_once t u (on_whole _ has) h = distinct_once R (core_conditions R C.passes) u (value_plain R C t u has).valid.distinct
 
-  -- a plain core whose end repeats no variant
-  whole_distinct : (d : CoreParts) → (o : Option TagForm) → whole_value R (core_alone d) ≡ o → RepeatsNoVariant (or_value (core_alone d) (value_end R C) o) → Distinct d.variants
-  whole_distinct d None e h = h.0
-  whole_distinct d (Some u) e h = elim (tag_plain R C (core_alone d) u e) [ inl g ↦ let x = g.is in cc | inr g ↦ g.valid.distinct.0 ]
+  -- a tag whose value, or which itself repeats no variant
+  replaced_distinct : (s r : TagForm) → IsReplacedWhole R s r → RepeatsNoVariant r → RepeatsNoVariant s
+  replaced_distinct s r (inl v) d = elim (tag_plain R C s v.value v.has) [ inl g ↦ rw g.is tt | inr g ↦ g.valid.distinct ]
+  replaced_distinct s r (inr y) d = rw y.same at d
 
-  -- where the end form repeats no variant, the tag repeats none
-  end_distinct : (t : TagForm) → VariantLanguagesOnceTag R t → RepeatsNoVariant (tag_end R C t) → RepeatsNoVariant t
-  end_distinct (LangTag c [] []) h d = (form_distinct R (core_conditions R C.passes) c h.0 (whole_distinct (core_end R C c) (whole_value R (core_alone (core_end R C c))) refl d), tt)
-  end_distinct (LangTag c [] (p ∷ ps)) h d = (form_distinct R (core_conditions R C.passes) c h.0 d.0, tt)
-  end_distinct (LangTag c (e ∷ es) ps) h d = (
+  -- where the parts repeat no variant at their ends, the tag repeats none
+  parts_distinct : (t : TagForm) → VariantLanguagesOnceTag R t → RepeatsNoVariant (parts_end R C t) → RepeatsNoVariant t
+  parts_distinct (LangTag c es ps) h d = (
     form_distinct R (core_conditions R C.passes) c h.0 d.0,
     all_both Once (λ e. HasDistinctSource (extension_end R C e)) HasDistinctSource
-        (λ e h d. told_source e (λ c s. form_distinct R (core_conditions R C.passes) c (h c s) (source_told (extension_end R C e) d (core_end R C c) (source_end R C e c s)))) (e ∷ es) h.1
-        (all_unmapped HasDistinctSource (extension_end R C) (e ∷ es) (unordered HasDistinctSource singleton_cmp (extensions_ordered R C.registry (core_conditions R C.passes) (e ∷ es)) d.1)),
+        (λ e h d. told_source e (λ c s. form_distinct R (core_conditions R C.passes) c (h c s) (source_told (extension_end R C e) d (core_end R C c) (source_end R C e c s)))) es h.1
+        (all_unmapped HasDistinctSource (extension_end R C) es (unordered HasDistinctSource singleton_cmp (extensions_ordered R C.registry (core_conditions R C.passes) es) d.1)),
   )
-  end_distinct _ h d = tt
+  parts_distinct _ h d = tt
 
   -- from a valid tag a repeat is reached only if its end form has one
   pub repeats_at_end : (t : TagForm) → IsValid R t → CanRepeat R t → RepeatsNoVariant (tag_end R C t) → ⊥
   repeats_at_end t V r d =
       let once = star_keeps (VariantLanguagesOnceTag R) (λ a b s k. change_once a b s.change k) r.reached (distinct_once R (core_conditions R C.passes) t V.distinct) in
-      r.repeats (end_distinct r.tag once (subst RepeatsNoVariant (star_end (end_form R C) r.reached) d))
+      let there : RepeatsNoVariant (tag_end R C r.tag) = subst RepeatsNoVariant (star_end (end_form R C) r.reached) d in
+      r.repeats (parts_distinct r.tag once (replaced_distinct (parts_end R C r.tag) (tag_end R C r.tag) (end_replaced R C r.tag) there))
 
-  decide_tag : (t : TagForm) → IsProper R t → RepeatsNoVariant t ⊎ (RepeatsNoVariant t → ⊥)
-  decide_tag (LangTag c es ps) P = by (distinct_or_second c.variants) (sources_or_second R es P.parts.extensions)
-    where
-      by : Distinct c.variants ⊎ ((v : List ℕ) × IsSecondOccurrence c.variants v) → AllByRecursion HasDistinctSource es ⊎ ((v : List ℕ) × IsSecondInSources es v) → RepeatsNoVariant (LangTag c es ps) ⊎ (RepeatsNoVariant (LangTag c es ps) → ⊥)
-      by (inl a) (inl b) = inl (a, b)
-      by (inl a) (inr b) = inr (λ h. source_repeats es b.0 b.1 h.1)
-      by (inr a) b = inr (λ h. second_repeats c.variants a.0 a.1 h.0)
-  decide_tag _ P = inl tt
-
-  -- the end form of a valid tag that repeats no variant is its canonical form
-  pub end_canonical : (t r : TagForm) → IsValid R t → tag_end R C t ≡ r → RepeatsNoVariant r → IsCanonicalFormOf R t r
-  end_canonical t r V e d = subst (IsCanonicalFormOf R t) e (record {
+  -- a canonical tag that steps reach from a valid tag is its canonical form
+  pub reached_canonical : (t r : TagForm) → IsValid R t → IsReached R t r → Rests (TagStep R) r → RepeatsNoVariant r → IsCanonicalFormOf R t r
+  reached_canonical t r V to h d = record {
     valid = V;
-    canonical = record { valid = record { proper = star_proper (end_form R C) (tag_reached R C t V.proper) V.proper; distinct = rw e d }; at_rest = tag_end_rests R C t };
-    reached = tag_reached R C t V.proper;
-    repeats_none = λ k. repeats_at_end t V k (rw e d);
-  })
+    canonical = record { valid = record { proper = star_proper (end_form R C) to V.proper; distinct = d }; at_rest = h };
+    reached = to;
+    repeats_none = λ k. repeats_at_end t V k (rw (reached_is_end (end_form R C) t r V.proper to h) d);
+  }
+
+  -- the tag with its parts in their normal forms, which repeat no variant, and then its value
+  pub end_canonical : (t r : TagForm) → IsValid R t → RepeatsNoVariant (parts_end R C t) → IsReplacedWhole R (parts_end R C t) r → IsCanonicalFormOf R t r
+  end_canonical t r V d w =
+      reached_canonical t r V (settled_reached R C t r w V.proper) (settled_rests R C t r w) ((replaced R C (parts_end R C t) r w).distinct d)
+
+  -- a core that repeats a variant in its core normal form
+  pub core_repeats : (c : CoreParts) (es : List ExtensionParts) (ps : List (List ℕ)) (v : List ℕ) → IsValid R (LangTag c es ps) → IsRepeatOfCore R c v → IsRepeatOf R (LangTag c es ps) v
+  core_repeats c es ps v V h = record {
+    valid = V;
+    repeats = record { tag = LangTag h.form es ps; reached = cores_reached R C h.normal.reached es ps V.proper; repeats = λ d. second_repeats h.form.variants v h.second d.0 };
+    named = inl h;
+  }
+
+  -- a source that repeats one
+  pub source_refused : (c d : CoreParts) (es fs : List ExtensionParts) (ps : List (List ℕ)) (v : List ℕ) → IsValid R (LangTag c es ps) → IsDistinctForm R c d → IsNormalForm (ExtensionsStep R) es fs → IsSecondInSources fs v → IsRepeatOf R (LangTag c es ps) v
+  source_refused c d es fs ps v V n m k = record {
+    valid = V;
+    repeats = record { tag = LangTag d fs ps; reached = parts_reached R C n.normal.reached m.reached ps V.proper; repeats = λ x. source_repeats fs v k x.1 };
+    named = inr (record { form = d; normal = n.normal; distinct = n.distinct }, named_source R C es fs v V.proper.parts.extensions m k);
+  }
+
+  -- the end form of a valid tag is its canonical form, or steps can repeat a variant
+  form_or_repeat : (t : TagForm) → IsValid R t → IsCanonicalFormOf R t (tag_end R C t) ⊎ ((v : List ℕ) × IsRepeatOf R t v)
+  form_or_repeat (LangTag c es ps) V =
+      let n : IsCoreNormalForm (values_of R) c (core_end R C c) = core_normal R C c in
+      let m : IsNormalForm (ExtensionsStep R) es (extensions_end R C es) = form_is_normal (extensions_end_formed R C) es in
+      let P : IsProper R (parts_end R C (LangTag c es ps)) = star_proper (end_form R C) (parts_reached R C n.reached m.reached ps V.proper) V.proper in
+      elim (distinct_or_second (core_end R C c).variants) [
+        | inr v ↦ inr (v.0, core_repeats c es ps v.0 V (record { form = core_end R C c; normal = n; second = v.1 }))
+        | inl d ↦ elim (sources_or_second R (extensions_end R C es) P.parts.extensions) [
+          | inr v ↦ inr (v.0, source_refused c (core_end R C c) es (extensions_end R C es) ps v.0 V (record { normal = n; distinct = d }) m v.1)
+          | inl e ↦ inl (end_canonical (LangTag c es ps) (tag_end R C (LangTag c es ps)) V (d, e) (end_replaced R C (LangTag c es ps)))
+        ]
+      ]
+  form_or_repeat t V = inl (end_canonical t (tag_end R C t) V tt (end_replaced R C t))
 
   pub canonical_or_repeats : CanonicalOrRepeats R
-  canonical_or_repeats t V = elim (decide_tag (tag_end R C t) (star_proper (end_form R C) (tag_reached R C t V.proper) V.proper)) [
-    | inl d ↦ inl (tag_end R C t, end_canonical t (tag_end R C t) V refl d)
+  canonical_or_repeats t V = elim (form_or_repeat t V) [
+    | inl F ↦ inl (tag_end R C t, F)
     | inr n ↦ inr (record {
-      repeats = record { tag = tag_end R C t; reached = tag_reached R C t V.proper; repeats = n };
-      formless = λ c k e. n (subst RepeatsNoVariant (sym (equivalent_end (end_form R C) e ∙ rest_is_end (end_form R C) c k.valid.proper k.at_rest)) k.valid.distinct);
+      repeats = n.1.repeats;
+      formless = λ c k e. repeats_at_end t V n.1.repeats (subst RepeatsNoVariant (sym (equivalent_end (end_form R C) e ∙ rest_is_end (end_form R C) c k.valid.proper k.at_rest)) k.valid.distinct);
     })
   ]
 
@@ -268,44 +280,9 @@ module _ (R : List EntryParts) (C : IsChecked R) where
     equivalent = λ t u c h k. equivalent_trans (star_equivalent h.reached) (equivalent_sym (star_equivalent k.reached));
   }
 
--- extensions with different singletons: one that is at two places is one
-
-front_differs : (es b : List ExtensionParts) (e : ExtensionParts) (a : List ExtensionParts) → Distinct (map (λ (x : ExtensionParts). x.singleton) es) → es ≡ b ++ e ∷ a → AllByRecursion (λ (x : ExtensionParts). x.singleton ≢ e.singleton) b
-front_differs es b e a d p =
-    all_from _ b (λ c x r k. distinct_map_at (λ (x : ExtensionParts). x.singleton) es c x r e a (p ∙ ap (λ l. l ++ e ∷ a) k ∙ append_assoc c (x ∷ r) (e ∷ a)) d)
-
-one_extension : (es b1 : List ExtensionParts) (e : ExtensionParts) (a1 b2 : List ExtensionParts) (f : ExtensionParts) (a2 : List ExtensionParts) → Distinct (map (λ (x : ExtensionParts). x.singleton) es) → es ≡ b1 ++ e ∷ a1 → es ≡ b2 ++ f ∷ a2 → e.singleton ≡ f.singleton → e ≡ f
-one_extension es b1 e a1 b2 f a2 d p q s =
-    let P : List ExtensionParts → Type 0 = AllByRecursion (λ (x : ExtensionParts). x.singleton ≢ e.singleton) in
-    one_next P b1 e a1 b2 f a2 (front_differs es b1 e a1 d p) (rw s (front_differs es b2 f a2 d q))
-    (λ t k. all_middle (λ (x : ExtensionParts). x.singleton ≢ e.singleton) b1 e t k refl) (λ t k. all_middle (λ (x : ExtensionParts). x.singleton ≢ e.singleton) b2 f t k (sym s)) (sym p ∙ q)
-
 module _ (R : List EntryParts) (C : IsChecked R) where
-  -- the value of a whole record repeats none at its end
-  pub value_distinct : (t : TagForm) → RepeatsNoVariant t → (o : Option TagForm) → whole_value R t ≡ o → RepeatsNoVariant (or_value t (value_end R C) o)
-  value_distinct t d None e = d
-  value_distinct t d (Some u) e =
-      let v = value_plain R C t u e in
-      rw v.is ((resting R C t v.core (e ∙ ap Some v.is)).0, tt)
-
-  -- nor does a langtag whose parts repeat none at their ends
-  pub lang_distinct : (d : CoreParts) (es : List ExtensionParts) (ps : List (List ℕ)) → Distinct d.variants → AllByRecursion HasDistinctSource (extensions_end R C es) → RepeatsNoVariant (lang_end R C d es ps)
-  lang_distinct d [] [] h k = value_distinct (core_alone d) (h, tt) (whole_value R (core_alone d)) refl
-  lang_distinct d [] (p ∷ ps) h k = (h, tt)
-  lang_distinct d (e ∷ es) ps h k = (h, k)
-
   named : (t : TagForm) → IsValid R t → CanRepeat R t → (v : List ℕ) × IsNamedRepeat R t v
-  named (PrivateUse ps) V r = absurd (repeats_at_end R C (PrivateUse ps) V r tt)
-  named (Grandfathered n) V r = absurd (repeats_at_end R C (Grandfathered n) V r (value_distinct (Grandfathered n) tt (whole_value R (Grandfathered n)) refl))
-  named (LangTag c es ps) V r = by (distinct_or_second (core_end R C c).variants) (sources_or_second R (extensions_end R C es) proper)
-    where
-      proper : AllByRecursion (IsProperExtension R) (extensions_end R C es)
-      proper = (star_proper (end_form R C) (parts_reached R C (core_normal R C c).reached ((extensions_end_formed R C).reached es) ps V.proper) V.proper).parts.extensions
-
-      by : Distinct (core_end R C c).variants ⊎ ((v : List ℕ) × IsSecondOccurrence (core_end R C c).variants v) → AllByRecursion HasDistinctSource (extensions_end R C es) ⊎ ((v : List ℕ) × IsSecondInSources (extensions_end R C es) v) → (v : List ℕ) × IsNamedRepeat R (LangTag c es ps) v
-      by (inr s) k = (s.0, inl (record { form = core_end R C c; normal = core_normal R C c; second = s.1 }))
-      by (inl d) (inr s) = (s.0, inr (record { form = core_end R C c; normal = core_normal R C c; distinct = d }, named_source R C es (extensions_end R C es) s.0 V.proper.parts.extensions (form_is_normal (extensions_end_formed R C) es) s.1))
-      by (inl d) (inl k) = absurd (repeats_at_end R C (LangTag c es ps) V r (lang_distinct (core_end R C c) es ps d k))
+  named t V r = elim (form_or_repeat R C t V) [ inl F ↦ absurd (F.repeats_none r) | inr n ↦ (n.0, n.1.named) ]
 
   -- a core has one normal form, so it repeats one variant first
   one_form : (c d e : CoreParts) → IsCoreNormalForm (values_of R) c d → IsCoreNormalForm (values_of R) c e → d ≡ e
@@ -319,7 +296,7 @@ module _ (R : List EntryParts) (C : IsChecked R) where
 
   one_source_repeat : (es : List ExtensionParts) (v w : List ℕ) → Distinct (map (λ (x : ExtensionParts). x.singleton) es) → IsRepeatOfSource R es v → IsRepeatOfSource R es w → v ≡ w
   one_source_repeat es v w d h k =
-      let e : h.extension ≡ k.extension = one_extension es h.before h.extension h.after k.before k.extension k.after d h.there k.there (h.has_source.transforms ∙ sym k.has_source.transforms) in
+      let e : h.extension ≡ k.extension = (distinct_cut h.before k.before h.extension k.extension h.after k.after (sym h.there ∙ k.there) (rw h.there at d) (h.has_source.transforms ∙ sym k.has_source.transforms)).at in
       let s : h.source ≡ k.source = one_source k.extension h.source k.source (subst (λ x. HasSource x h.source) e h.has_source) k.has_source in
       one_core_repeat k.source v w (subst (λ x. IsRepeatOfCore R x v) s h.repeat) k.repeat
 
@@ -365,7 +342,7 @@ equivalence_answer R E t u c d answer h k e =
 
 module _ (R : List EntryParts) (C : IsChecked R) where
   own_form : (c : TagForm) → IsCanonical R c → IsCanonicalFormOf R c c
-  own_form c K = end_canonical R C c c K.valid (rest_is_end (end_form R C) c K.valid.proper K.at_rest) K.valid.distinct
+  own_form c K = reached_canonical R C c c K.valid done K.at_rest K.valid.distinct
 
   forms_equal : (t c d : TagForm) → IsCanonicalFormOf R t c → IsCanonicalFormOf R t d → c ≡ d
   forms_equal t c d h k = sym (form_is_end R C t c h) ∙ form_is_end R C t d k

@@ -1,7 +1,7 @@
 use Rattle.std.proofs.Common.{refl, sym, ap, ◌∙◌, arith}
 use Rattle.lt_tag.specs.Parts.{TForm}
 use Rattle.lt_canon.proofs.CanonicalForms.{none_of_test}
-use Rattle.lt_canon.proofs.TagRepeats.{no_source, of_source, distinct_subtags}
+use Rattle.lt_canon.proofs.TagRepeats.{of_parts, of_source, distinct_subtags}
 use Rattle.lt_canon.proofs.repeats.second_in_source.Goals as goal
 
 pub returns-in-Some : goal.returns-in-Some
@@ -11,7 +11,7 @@ returns-in-Some c =
 
 pub returns-in-Ok : goal.returns-in-Ok
 returns-in-Ok c =
-    no_source c.args.extension.now c.in-Ok.parts c.in-Ok.ensures.parts (sym (ap (λ (t : TForm). t.source) c.parts.view_is) ∙ c.in-None.is)
+    of_parts c.args.extension.now c.in-Ok.parts c.in-Ok.ensures.parts (rw (sym (ap (λ (t : TForm). t.source) c.parts.view_is) ∙ c.in-None.is) tt)
 
 pub returns-then-is_none : goal.returns-then-is_none
 returns-then-is_none c =
