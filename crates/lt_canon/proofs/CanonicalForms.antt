@@ -1,25 +1,25 @@
 -- From cores, extensions and values in their normal forms to the answer that is owed; the extlang form of a canonical tag,
 -- which is valid and leads back to it; and langtags of a language, and a script and a region where there is one: what is
 -- valid, and what rests; and those whose subtags stay as they are, which are their own canonical forms.
-use Rattle.std.proofs.Common.{◌≡◌, ℕ, ◌+◌, ◌<◌, ◌≤◌, inl, inr, false, is_some, List, [], ◌∷◌, Option, Some, None, Err, refl, sym, ap, ◌∙◌, subst, length, arith, IfErr, Bool, true, ◌&&◌, ◌||◌, get_or, not, ◌++◌, Ok, IfSome, is_none, All}
-use Rattle.std.specs.List.{AllByRecursion, list_any}
+use Rattle.std.proofs.Common.{◌≡◌, ℕ, ◌+◌, ◌<◌, ◌≤◌, inl, inr, false, is_some, List, [], ◌∷◌, Option, Some, None, Err, refl, sym, ap, ◌∙◌, subst, length, arith, IfErr, Bool, true, ◌&&◌, ◌||◌, ◌++◌, Ok, All}
+use Rattle.std.specs.List.{AllByRecursion}
 use Rattle.lt_tag.specs.Parts.{CoreParts, ExtensionParts, TForm, TagForm, LangTag}
 use Rattle.lt_tag.specs.Spelling.{spell_core, IsCore}
 use Rattle.lt_tag.specs.Extensions.{transform, IsTransform}
-use Rattle.lt_registry.specs.Faults.{HasNoFault, HasFault, IsFirstOf, IsFirstFault, before_region}
+use Rattle.lt_registry.specs.Faults.{HasNoFault, HasFault, IsFirstOf, IsFirstFault}
 use Rattle.lt_tag.specs.Values.{IsTagValue, core_of, extensions_of, private_of, core_alone}
 use Rattle.lt_tag.specs.WellFormed.{IsNotGrandfathered, spell}
 use Rattle.lt_tag.proofs.TagLemmas.{AllByRecursion-weaker}
 use Rattle.std.specs.Prelude.{Result, is_some, unwrap_or}
 use Rattle.lt_registry.proofs.ValidityLaws.{valid_law}
 use Rattle.lt_registry.specs.Parts.{EntryParts}
-use Rattle.lt_registry.specs.Entries.{whole_value, one_of, preferred_value, entry, prefixes, has_prefix, replacement, is_short, is_registered, is_whole, tag_of, whole}
+use Rattle.lt_registry.specs.Entries.{whole_value, one_of, preferred_value, entry, prefixes, has_prefix, replacement, is_registered, is_whole, tag_of, whole}
 use Rattle.lt_registry.specs.Validity.{IsProperExtension, HasDistinctSource, RepeatsNoVariant, IsProper, IsValid, ExtlangsFit, IsProperCore}
 use Rattle.lt_rewrite.specs.Rewriting.{IsNormalForm, Rests, done}
 use Rattle.lt_rewrite.specs.CoreSteps.{values_of, IsCoreNormalForm, CoreStep, EndsIn}
 use Rattle.lt_rewrite.specs.Extensions.{ExtensionsStep}
 use Rattle.lt_rewrite.specs.TagSteps.{CanBeReplacedWhole, TagStep, IsReached, IsCanonical, on_core}
-use Rattle.lt_rewrite.proofs.PartLists.{some_long, empty_middle, if_some_is}
+use Rattle.lt_rewrite.proofs.PartLists.{some_long, empty_middle}
 use Rattle.lt_rewrite.proofs.NormalForms.{star_keeps, normal_is_form}
 use Rattle.lt_check.specs.Conditions.{IsValidCoreAlone, IsChecked}
 use Rattle.lt_canon.specs.Answers.{IsCanonicalFormOf, RefusesOnlyRepeats}
@@ -34,9 +34,7 @@ use Rattle.lt_canon.proofs.TagForm.{core_spells_none, core_end, cores_formed, co
 use Rattle.lt_canon.proofs.TagRepeats.{core_repeats, end_canonical, reached_canonical}
 use Rattle.lt_tag.specs.Lists.{longest_text, list_of}
 use Rattle.std.proofs.lemmas.Slice.Eq.{bytes_eq-Decides}
-use Rattle.std.proofs.lemmas.Bool.{and_from, leb-true, and_parts, not-true, false_from_ne_true, or_parts}
-use Rattle.std.proofs.lemmas.Option.{cond_some}
-use Rattle.std.specs.Option.{option_map_or, option_and_then, option_to_list}
+use Rattle.std.proofs.lemmas.Bool.{and_from}
 use Rattle.lt_subtag.specs.Shapes.{is_language, is_extlang}
 use Rattle.lt_registry.specs.declared.entries.Kind.TheVariants as kinds
 use Rattle.lt_rewrite.specs.Laws.{IsProperValue}
@@ -47,46 +45,29 @@ use Rattle.lt_rewrite.proofs.CoreLaws.{one_end_one_form, by_extlang, by_language
 use Rattle.lt_canon.specs.ExtlangForm.{prefix_of, behind, extlang_form, IsExtlangFormOf}
 use Rattle.lt_canon.specs.ExtlangLaws.{ExtlangFormsLeadBack}
 use Rattle.lt_check.proofs.Checks.{core_conditions}
-use Rattle.std.proofs.Math.Bool.{and-true}
 use Rattle.std.proofs.lemmas.List.Folds.{list_any_at}
 use Rattle.lt_tag.specs.Conventional.{conventional}
 use Rattle.lt_tag.specs.Faults.{HasTag}
-use Rattle.lt_registry.specs.declared.entries.EntryValue.{EntryValue}
-use Rattle.lt_registry.specs.declared.entries.Kind.{Kind}
-use Rattle.lt_registry.specs.declared.faults.ValidFaultKind.{ValidFaultKind}
-use Rattle.lt_registry.specs.declared.faults.ValidFaultKind.TheVariants as faults
-use Rattle.lt_usual.specs.Staying.{has_no_value, names_plain_of, replaces_plain_of, stays, StaysAs, IsStaying}
-use Rattle.lt_usual.proofs.TextLemmas.{own_record}
+use Rattle.lt_usual.specs.Staying.{replaces_plain_of, StaysAs, IsStaying}
 use Rattle.lt_check.proofs.CheckedRegistry.{found_name}
 use Rattle.lt_canon.specs.Texts.{AppendsCanonicalText}
-use Rattle.lt_canon.specs.UsualTags.{IsUsual, one_valued, part_valued, core_valued, Test, on_test}
-use Rattle.lt_registry.specs.Checking.{Check, Counted, and_then, unless, part_check, core_check, variants_check}
+use Rattle.lt_canon.specs.UsualTags.{IsUsual, core_valued}
+use Rattle.lt_registry.specs.Checking.{Counted, core_check, variants_check}
 use Rattle.lt_registry.specs.declared.faults.ValidFault.{ValidFault}
 use Rattle.lt_registry.proofs.CoreFaultLemmas.{core_tells}
 use Rattle.lt_registry.proofs.TagFaultLemmas.{tag_core_first}
 
 -- a tag by what its readers show
 pub langtag_of : (t : TagForm) (c : CoreParts) → core_of t ≡ Some c → t ≡ LangTag c (extensions_of t) (private_of t)
-langtag_of (LangTag d es ps) c h = let same : d ≡ c = cc in ap (λ x. LangTag x es ps) same
-langtag_of _ c h = cc
+langtag_of t c h = grind arith
 
 -- a tag without a core has no parts to settle
 pub coreless_settled : (R : List EntryParts) (t s : TagForm) → core_of t ≡ None → s ≡ t → IsSettledTag R t s
 coreless_settled R (LangTag c es ps) s h e = cc
 coreless_settled R _ s h e = e
 
-pub none_of_test : {A : Type 0} (o r : Option A) → o ≡ r → is_some o ≡ false → r ≡ None
-none_of_test None r e h = sym e
-none_of_test (Some a) r e h = cc
-
 pub plain_of_core : (R : List EntryParts) (t : TagForm) (c : CoreParts) → IsValidCoreAlone R t → core_of t ≡ Some c → t ≡ core_alone c
-plain_of_core R t c v h =
-    let both : Some v.core ≡ Some c = sym (ap core_of v.is) ∙ h in
-    let same : v.core ≡ c = cc in
-    v.is ∙ ap core_alone same
-
-pub plain_has_core : (R : List EntryParts) (t : TagForm) → IsValidCoreAlone R t → core_of t ≡ None → ⊥
-plain_has_core R t v h = let both : Some v.core ≡ None = sym (ap core_of v.is) ∙ h in cc
+plain_of_core R t c v h = grind arith
 
 -- the refusal that is owed, by its three parts
 pub refused : (R : List EntryParts) (t : TagForm) (refusal : Refusal) → NamesFault R t refusal → RefusesOnlyRepeats R t refusal → NamesRepeat R t refusal → IsRefusedWith R t refusal
@@ -160,22 +141,18 @@ pub record IsFittingPrefix (R : List EntryParts) (l p : List ℕ) : Type 0 where
 
 module _ (R : List EntryParts) (C : IsChecked R) where
   pub fitting_prefix : (l p : List ℕ) → prefix_of (prefixes R kinds.Extlang l) ≡ Some p → IsFittingPrefix R l p
-  fitting_prefix l p e = by (entry R kinds.Extlang l) refl
-    where
-      by : (o : Option EntryParts) → entry R kinds.Extlang l ≡ o → IsFittingPrefix R l p
-      by None h = let none : prefix_of (prefixes R kinds.Extlang l) ≡ None = ap (λ o. prefix_of (option_map_or (λ (e : EntryParts). e.prefixes) o [])) h in cc
-      by (Some at) h =
-          let x : ExtlangEntry R l = extlang_entry R (core_conditions R C.passes) l (ap is_some h) in
-          let found : prefixes R kinds.Extlang l ≡ (x.fits.prefix ∷ []) ∷ [] = prefixes_at R kinds.Extlang l x.at x.found ∙ x.fits.one_prefix in
-          let is = cond_some (is_short x.fits.prefix) x.fits.prefix p (sym (ap prefix_of found) ∙ e) in
-          record {
-            entry = x;
-            one = rw is.1 at found;
-            registered = rw is.1 at x.fits.final_prefix.registered;
-            prefix = rw is.1 at (language_form R C.registry x.fits.prefix x.fits.final_prefix.registered);
-            short = rw is.1 at (leb-true (length x.fits.prefix) 3 is.0);
-            extlang = extlang_name_form R C.registry l x;
-          }
+  fitting_prefix l p e =
+      let x : ExtlangEntry R l = extlang_entry R (core_conditions R C.passes) l (grind arith) in
+      let found : prefixes R kinds.Extlang l ≡ (x.fits.prefix ∷ []) ∷ [] = prefixes_at R kinds.Extlang l x.at x.found ∙ x.fits.one_prefix in
+      let is : (x.fits.prefix ≡ p) × (length p ≤ 3) = grind arith in
+      record {
+        entry = x;
+        one = rw is.0 at found;
+        registered = rw is.0 at x.fits.final_prefix.registered;
+        prefix = rw is.0 at (language_form R C.registry x.fits.prefix x.fits.final_prefix.registered);
+        short = is.1;
+        extlang = extlang_name_form R C.registry l x;
+      }
 
   -- a canonical langtag has no extlang
   pub no_extlang : (d : CoreParts) (es : List ExtensionParts) (ps : List (List ℕ)) → IsProper R (LangTag d es ps) → Rests (TagStep R) (LangTag d es ps) → (xs : List (List ℕ)) → d.extlangs ≡ xs → xs ≡ []
@@ -243,8 +220,7 @@ module _ (R : List EntryParts) (C : IsChecked R) where
 
 -- a tag without a core is its own extlang form
 pub coreless_extlang : (R : List EntryParts) (c : TagForm) → core_of c ≡ None → c ≡ extlang_form R c
-coreless_extlang R (LangTag d es ps) h = cc
-coreless_extlang R _ h = refl
+coreless_extlang R c h = grind arith
 
 -- that of a langtag, by the Prefix of its language
 pub extlang_form_is : (R : List EntryParts) (c : TagForm) (d : CoreParts) (o : Option (List ℕ)) → core_of c ≡ Some d → prefix_of (prefixes R kinds.Extlang d.language) ≡ o → extlang_form R c ≡ LangTag (behind o d) (extensions_of c) (private_of c)
@@ -273,44 +249,20 @@ module _ (R : List EntryParts) (C : IsChecked R) where
       let P = subst (IsProper R) (extlang_form_is R c d (Some p) h k) (forms_lead_back R C c K).valid.proper in
       core_spells_none R C (behind (Some p) d) (proper_parts R (behind (Some p) d) (extensions_of c) (private_of c) P).core
 
--- a test tells what a check tells, and this, where it holds of nothing
-abbrev Told : Test → Check → Type 0 → Type 0
-Told (Ok holds) check Bare = (check ≡ Ok tt) × (holds ≡ false → Bare)
-Told (Err fault) check Bare = check ≡ Err fault
-
-one_told : (kind : ValidFaultKind) (place : ℕ) (o : Option EntryParts) → Told (one_valued kind place o) (unless (is_some o) kind place) (option_and_then (λ (e : EntryParts). one_of e.value) o ≡ None)
-one_told kind place (Some e) = (refl, none_of_test (one_of e.value) (one_of e.value) refl)
-one_told kind place None = refl
-
-part_told : (R : List EntryParts) (kind : Kind) (fault : ValidFaultKind) (place : ℕ) (o : Option (List ℕ)) → Told (part_valued R kind fault place o) (part_check R kind fault place o) (IfSome o (λ s. preferred_value R kind s ≡ None))
-part_told R kind fault place (Some s) = one_told fault place (entry R kind s)
-part_told R kind fault place None = (refl, λ _. tt)
-
-then_told : (a : Test) (f : Bool → Test) (k n : Check) (M N : Type 0) → Told a k M → ((b : Bool) → (b ≡ false → M) → Told (f b) n N) → Told (on_test a f) (and_then k n) N
-then_told (Ok b) f k n M N h g = subst (λ z. Told (f b) (and_then z n) N) (sym h.0) (g b h.1)
-then_told (Err fault) f k n M N h g = ap (λ z. and_then z n) h
-
--- no subtag has a value
-record AreValueless (R : List EntryParts) (l : List ℕ) (sc re : Option (List ℕ)) : Type 0 where
-  language : preferred_value R kinds.Language l ≡ None
-  script : IfSome sc (λ s. preferred_value R kinds.Script s ≡ None)
-  region : IfSome re (λ s. preferred_value R kinds.Region s ≡ None)
-
-usual_told : (R : List EntryParts) (c : CoreParts) → IsUsual c → Told (core_valued R c) (core_check R false 0 c) (AreValueless R c.language c.script c.region)
+-- the test of a usual core tells what the check of the core tells
+told_fault : (R : List EntryParts) (c : CoreParts) → IsUsual c → (fault : ValidFault) → core_valued R c ≡ Err fault → core_check R false 0 c ≡ Err fault
 unfolding core_valued core_check variants_check
-usual_told R c u =
-    let before : 0 + before_region c + 1 ≡ 2 + length (option_to_list c.script) = omega (arith, ap length u.extlangs) in
-    rw (before, u.extlangs, u.variants) (
-    then_told _ _ (unless (is_some (entry R kinds.Language c.language)) faults.UnknownLanguage 1) _ _ (AreValueless R c.language c.script c.region) (one_told faults.UnknownLanguage 1 (entry R kinds.Language c.language)) (λ a l.
-    then_told _ _ (part_check R kinds.Script faults.UnknownScript 2 c.script) _ _ (AreValueless R c.language c.script c.region) (part_told R kinds.Script faults.UnknownScript 2 c.script) (λ b s.
-    then_told _ _ (part_check R kinds.Region faults.UnknownRegion (2 + length (option_to_list c.script)) c.region) _ _ (AreValueless R c.language c.script c.region) (part_told R kinds.Region faults.UnknownRegion (2 + length (option_to_list c.script)) c.region) (λ d r.
-    (refl, λ none. let p = or_parts (a || b) d none in let q = or_parts a b p.0 in record { language = l q.0; script = s q.1; region = r p.1 })))))
+told_fault R c u fault h = grind arith
+
+told_none : (R : List EntryParts) (c : CoreParts) → IsUsual c → (b : Bool) → core_valued R c ≡ Ok b → core_check R false 0 c ≡ Ok tt
+unfolding core_valued core_check variants_check
+told_none R c u b h = grind arith
 
 module _ (R : List EntryParts) (t : TagForm) (c : CoreParts) (u : IsUsual c) (k : t ≡ core_alone c) where
   -- a subtag that is not registered
   pub usual_refused : (fault : ValidFault) → core_valued R c ≡ Err fault → IsFirstFault R t fault.kind fault.place
   usual_refused fault h =
-      let first : IsFirstOf (Counted false (HasFault R t)) fault.kind fault.place = tag_core_first R false t c fault (sym (ap core_of k)) (rw h at (usual_told R c u)) in
+      let first : IsFirstOf (Counted false (HasFault R t)) fault.kind fault.place = tag_core_first R false t c fault (sym (ap core_of k)) (told_fault R c u fault h) in
       record {
         there = first.there.0;
         leftmost = λ other place f. first.leftmost other place (f, λ e. cc);
@@ -324,17 +276,17 @@ module _ (R : List EntryParts) (t : TagForm) (c : CoreParts) (u : IsUsual c) (k 
 
   -- each subtag is registered
   pub usual_valid : (b : Bool) → IsTagValue t → core_valued R c ≡ Ok b → IsValid R t
-  usual_valid b v h = (valid_law R t v).1 (rw k (no_fault (rw h at (usual_told R c u)).0))
+  usual_valid b v h = (valid_law R t v).1 (rw k (no_fault (told_none R c u b h)))
 
   -- none has a value, so its parts are in their normal forms
   pub usual_settled : IsTagValue t → core_valued R c ≡ Ok false → IsSettledTag R t t
+  unfolding core_valued
   usual_settled v h =
-      let none = (rw h at (usual_told R c u)).1 refl in
       let rest : AtRest (values_of R) c = record {
         extlang = λ x e. let bad : [] ≡ x ∷ [] = sym u.extlangs ∙ e in cc;
-        language = λ _. none.language;
-        script = λ s e. if_some_is (λ s. preferred_value R kinds.Script s ≡ None) c.script s e none.script;
-        region = λ s e. if_some_is (λ s. preferred_value R kinds.Region s ≡ None) c.region s e none.region;
+        language = λ _. grind arith;
+        script = λ s e. grind arith;
+        region = λ s e. grind arith;
         variant = rw u.variants tt;
         variant_language = λ _. rw u.variants tt;
       } in
@@ -344,30 +296,13 @@ module _ (R : List EntryParts) (t : TagForm) (c : CoreParts) (u : IsUsual c) (k 
 
 -- ---- no subtag has a value
 
-valueless : (kind : ValidFaultKind) (place : ℕ) (e : EntryParts) (o : Option EntryValue) → e.value ≡ o → is_none o ≡ true → one_valued kind place (Some e) ≡ Ok false
-valueless kind place e None h n = rw h refl
-valueless kind place e (Some v) h n = cc
-
-one_stays : (R : List EntryParts) (k : Kind) (s : List ℕ) (kind : ValidFaultKind) (place : ℕ) → stays R k s ≡ true → one_valued kind place (entry R k s) ≡ Ok false
-one_stays R k s kind place h =
-    let own = own_record R k s h in
-    rw own.found (valueless kind place own.entry own.entry.value refl own.valueless)
-
-part_stays : (R : List EntryParts) (k : Kind) (kind : ValidFaultKind) (place : ℕ) (o : Option (List ℕ)) → IfSome o (λ s. stays R k s ≡ true) → part_valued R k kind place o ≡ Ok false
-part_stays R k kind place None h = refl
-part_stays R k kind place (Some s) h = one_stays R k s kind place h
-
 module _ (R : List EntryParts) (text : List ℕ) (c : CoreParts) (stay : StaysAs R text c) where
   usual : IsUsual c
   usual = record { extlangs = stay.extlangs; variants = stay.variants }
 
   valued : core_valued R c ≡ Ok false
   unfolding core_valued
-  valued =
-      let l = one_stays R kinds.Language c.language faults.UnknownLanguage 1 stay.language in
-      let s = part_stays R kinds.Script faults.UnknownScript 2 c.script stay.script in
-      let r = part_stays R kinds.Region faults.UnknownRegion (2 + length (option_to_list c.script)) c.region stay.region in
-      rw (l, s, r) refl
+  valued = grind arith
 
   value : IsTagValue (core_alone c)
   value = record { tag = stay.read.tag; counts = (rw stay.variants (omega arith), omega arith, tt, omega arith) }
@@ -375,21 +310,16 @@ module _ (R : List EntryParts) (text : List ℕ) (c : CoreParts) (stay : StaysAs
   -- ---- no whole record replaces it
 
   replaces_none : All (λ (e : EntryParts). replaces_plain_of c.language e ≡ false) R
-  replaces_none k d within =
-      let p = and_parts (has_no_value R kinds.Language c.language) (not (list_any (replaces_plain_of c.language) R)) stay.language in
-      false_from_ne_true (replaces_plain_of c.language (get_or R k d)) (λ h.
-      let both : true ≡ false = sym (list_any_at (replaces_plain_of c.language) R k d within h) ∙ not-true (list_any (replaces_plain_of c.language) R) p.1 in
-      cc)
+  replaces_none k d within = grind (arith, list_any_at)
 
-  no_value : (o : Option EntryParts) → whole R (core_alone c) ≡ o → option_and_then (λ (e : EntryParts). tag_of e.value) o ≡ None
-  no_value None h = refl
-  no_value (Some e) h =
+  no_value : (e : EntryParts) → whole R (core_alone c) ≡ Some e → tag_of e.value ≡ None
+  no_value e h =
       let other = (find_has (λ (e : EntryParts). replaces_plain_of c.language e ≡ false) (λ (e : EntryParts). is_whole (core_alone c) e.name) R e replaces_none h).0 in
-      let plain : names_plain_of c.language e.name ≡ true = rw (found_name R (core_alone c) e h, stay.extlangs, stay.variants, (bytes_eq-Decides c.language c.language).1 refl) refl in
-      none_of_test (tag_of e.value) (tag_of e.value) refl (rw (plain, and-true) at other)
+      let name = found_name R (core_alone c) e h in
+      grind (arith, bytes_eq-Decides)
 
   pub stays_canonical : IsChecked R → IsCanonicalFormOf R (core_alone c) (core_alone c)
-  stays_canonical C = settled_canonical R C (core_alone c) (core_alone c) (core_alone c) (usual_valid R (core_alone c) c usual refl false value valued) (usual_settled R (core_alone c) c usual refl value valued) (inr (record { none = λ _. no_value (whole R (core_alone c)) refl; same = refl }))
+  stays_canonical C = settled_canonical R C (core_alone c) (core_alone c) (core_alone c) (usual_valid R (core_alone c) c usual refl false value valued) (usual_settled R (core_alone c) c usual refl value valued) (inr (record { none = λ _. grind (arith, no_value); same = refl }))
 
 -- a canonical text that was appended is that of the form that was given
 pub appended : (R : List EntryParts) (text : List ℕ) (tag form : TagForm) (old new : List ℕ) → HasTag text tag → IsCanonicalFormOf R tag form

@@ -1,7 +1,7 @@
 -- Traces one step after another, and their lines; and the runs on the parts of a tag that explain its canonical form.
 -- The first step on a part is the first on the tag, where none comes before it, and a tag has one explanation: the first
 -- of the steps that lead on is one alone.
-use Rattle.std.proofs.Common.{◌≡◌, ◌≢◌, ℕ, ◌+◌, ◌<◌, List, [], ◌∷◌, ◌++◌, refl, sym, ap, ◌∙◌, subst, length, take, drop, get_or, arith, ◌≤◌, append_assoc, inl, Bool, Ordering, inr, true, false, is_some, Option, Some, None}
+use Rattle.std.proofs.Common.{◌≡◌, ◌≢◌, ℕ, ◌+◌, ◌<◌, List, [], ◌∷◌, ◌++◌, refl, sym, ap, ◌∙◌, subst, length, take, drop, get_or, arith, ◌≤◌, append_assoc, inl, Bool, Ordering, inr, Some, None}
 use Rattle.std.proofs.lemmas.List.{take_more, drop_more, take-append-drop, length-take-le, drop_all, append-nil}
 use Rattle.lt_tag.specs.Parts.{TagForm, CoreParts, ExtensionParts, TForm, LangTag, PrivateUse}
 use Rattle.lt_registry.specs.Parts.{EntryParts}
@@ -39,7 +39,7 @@ use Rattle.lt_check.specs.Conditions.{IsChecked}
 use Rattle.lt_canon.specs.Explaining.{rank_in, is_of_source, HasOneExplanation, IsExplanation, RestsOnCore, LeadsToRest}
 use Rattle.lt_canon.proofs.TagForm.{steps_keep, extensions_step_from, value_rests, end_form, at_end, lang_at_end, none_rests}
 use Rattle.lt_tag.specs.Splitting.{spell_source}
-use Rattle.std.specs.Prelude.{if◌then◌else◌, MatchOption}
+use Rattle.std.specs.Prelude.{if◌then◌else◌}
 use Rattle.lt_rewrite.specs.Laws.{AreOneStep}
 use Rattle.std.specs.List.{AllByRecursion}
 use Rattle.lt_tag.specs.Values.{core_of, extensions_of, private_of, core_alone, number_of as tag_number}
@@ -255,10 +255,7 @@ kind_at n = get_or (
 -- so the rank of a step, on a source or elsewhere, tells its kind
 kind_back : (source : Bool) (kind : StepKind) → kind_at (if source then extension_rank (step_at kind 0 0) else rank_of kind) ≡ kind
 unfolding kind_at
-kind_back true steps.Extlang = refl
-kind_back true _ = refl
-kind_back false steps.Extlang = refl
-kind_back false _ = refl
+kind_back source kind = grind arith
 
 -- of two steps that each come no later than the other
 both_first : (rank : Step → ℕ) (a b : Step) → IsNoLater rank a b → IsNoLater rank b a → (rank a ≡ rank b) × (a.place ≡ b.place)
@@ -276,15 +273,6 @@ one_run R t a b (x ∷ xs) (y ∷ ys) h k m n =
 
 pub one_explanation : (R : List EntryParts) → HasOneExplanation R
 one_explanation R t a b xs ys h k = one_run R t a b xs ys h.is_run k.is_run h.form.canonical.at_rest k.form.canonical.at_rest
-
--- what a reader shows where it has an answer, and where it has none
-pub some_by : {A : Type 0} (o : Option A) (N : Type 0) (S : A → Type 0) → MatchOption o N S → true ≡ is_some o → (a : A) × S a
-some_by None N S h e = cc
-some_by (Some a) N S h e = (a, h)
-
-pub none_by : {A : Type 0} (o : Option A) (N : Type 0) (S : A → Type 0) → MatchOption o N S → false ≡ is_some o → N
-none_by None N S h e = h
-none_by (Some a) N S h e = cc
 
 -- a langtag that is no core alone has more than its core
 more_than_core : (core : CoreParts) (es : List ExtensionParts) (ps : List (List ℕ)) → ((k : CoreParts) → LangTag core es ps ≡ core_alone k → ⊥) → 0 < length es + length ps

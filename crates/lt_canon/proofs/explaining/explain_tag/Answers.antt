@@ -1,23 +1,26 @@
-use Rattle.std.proofs.Common.{◌≡◌, inl, [], refl, ap, ◌∙◌, length, arith}
+use Rattle.std.proofs.Common.{◌≡◌, None, inl, [], refl, sym, ap, ◌∙◌, length, arith}
+use Rattle.std.proofs.lemmas.Option.{MatchOption-at_some, MatchOption-at_none}
 use Rattle.std.proofs.lemmas.Result.{IfOk-weaker}
 use Rattle.lt_tag.specs.Spelling.{spell_extensions}
 use Rattle.lt_tag.specs.Values.{extensions_of, core_alone}
 use Rattle.lt_registry.specs.Validity.{IsProper}
 use Rattle.lt_rewrite.specs.Labels.{LeadsBy}
 use Rattle.lt_rewrite.specs.Runs.{Adds}
+use Rattle.lt_rewrite.proofs.Forms.{some_at}
 use Rattle.lt_rewrite.proofs.StepLaws.{fits, few_subtags}
 use Rattle.lt_canon.specs.Explaining.{rank_in}
 use Rattle.lt_rewrite.proofs.ProperTags.{proper_parts}
 use Rattle.lt_canon.proofs.TagForm.{core_spells_none}
-use Rattle.lt_canon.proofs.Explained.{some_by, none_by, first_adds, plain_explained, langtag_explained}
+use Rattle.lt_canon.proofs.Explained.{first_adds, plain_explained, langtag_explained}
 use Rattle.lt_canon.proofs.explaining.explain_tag.Goals as goal
 use Rattle.lt_canon.proofs.explaining.explain_tag.Goals.{Then-is_some}
 
 -- of a core alone
 plain : (g : _) (c : Then-is_some g) → IsProper (g.L.Lookup.listed c.args.table.now) (core_alone c.in_ok-settled.settled) × Adds (LeadsBy (g.L.Lookup.listed c.args.table.now)) rank_in c.args.tag.now (core_alone c.in_ok-settled.settled) c.args.steps.items c.in_ok-settled.steps.items
 plain g c =
-    let alone = some_by c.core_alone.result _ _ c.core_alone.ensures.value (c.if-is_some.ensures {u = tt}) in
-    plain_explained (g.L.Lookup.listed c.args.table.now) c.requires.checked c.args.tag.now c.in-Some.core.now c.in_ok-settled.settled alone.0.now c.args.steps.items c.in_ok-settled.steps.items c.requires.proper (c.in-Some.ensures {u = tt}).value alone.1 (rw (← c.in_ok-copy.ensures {u = tt}) (c.in_ok-settled.ensures {u = tt}).adds)
+    let some = some_at c.core_alone.result (sym (c.if-is_some.ensures {u = tt})) in
+    let alone = MatchOption-at_some _ _ some.0 some.1 c.core_alone.ensures.value in
+    plain_explained (g.L.Lookup.listed c.args.table.now) c.requires.checked c.args.tag.now c.in-Some.core.now c.in_ok-settled.settled some.0.now c.args.steps.items c.in_ok-settled.steps.items c.requires.proper (c.in-Some.ensures {u = tt}).value alone (rw (← c.in_ok-copy.ensures {u = tt}) (c.in_ok-settled.ensures {u = tt}).adds)
 
 pub from_parts-settled-requires-clause-not_grandfathered :
     goal.from_parts-settled-requires-clause-not_grandfathered
@@ -46,6 +49,7 @@ explain_extensions-requires-clause-few g c =
 
 pub returns : goal.returns
 returns g c =
-    let more = none_by c.core_alone.result _ _ c.core_alone.ensures.value (c.if-is_some.ensures {u = tt}) in
+    let none : c.core_alone.result ≡ None = let told = c.if-is_some.ensures {u = tt} in grind arith in
+    let more = MatchOption-at_none _ _ none c.core_alone.ensures.value in
     let given = c.in_ok-steps.ensures {u = tt} in
     langtag_explained (g.L.Lookup.listed c.args.table.now) c.requires.checked c.args.tag.now c.in-Some.core.now c.in_ok-settled.settled c.in_ok-others.others.items _ c.core_length.result c.args.steps.items c.in_ok-settled.steps.items _ c.requires.proper (c.in-Some.ensures {u = tt}).value (c.in_ok-others.ensures {u = tt} ∙ c.extensions.ensures.value) more (rw (← c.in_ok-copy.ensures {u = tt}) (c.in_ok-settled.ensures {u = tt}).adds) (c.in_ok-settled.ensures {u = tt}).at_rest c.core_length.ensures.value given.adds given.at_rest

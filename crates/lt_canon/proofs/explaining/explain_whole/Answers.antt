@@ -1,11 +1,12 @@
-use Rattle.std.proofs.Common.{◌≡◌, Some, sym, ap, ◌∙◌}
+use Rattle.std.proofs.Common.{◌≡◌, None, Some, sym, ap, ◌∙◌}
 use Rattle.std.specs.Option.{option_and_then}
+use Rattle.lt_tag.specs.Values.{core_of}
 use Rattle.lt_registry.specs.Parts.{EntryParts}
 use Rattle.lt_registry.specs.Entries.{tag_of, whole_value, number_of}
 use Rattle.lt_rewrite.specs.Labels.{step_at}
 use Rattle.lt_rewrite.specs.declared.steps.StepKind.TheVariants as steps
 use Rattle.lt_check.proofs.CheckedRegistry.{value_plain}
-use Rattle.lt_canon.proofs.CanonicalForms.{plain_of_core, plain_has_core}
+use Rattle.lt_canon.proofs.CanonicalForms.{plain_of_core}
 use Rattle.lt_canon.proofs.Explained.{value_rests_by}
 use Rattle.lt_canon.proofs.explaining.explain_whole.Goals as goal
 use Rattle.lt_canon.proofs.explaining.explain_whole.Goals.{In-Some-tag_value}
@@ -17,7 +18,8 @@ pub returns-in_default-core : goal.returns-in_default-core
 returns-in_default-core g c =
     let R = g.L.Lookup.listed c.args.table.now in
     let plain = value_plain R c.requires.checked c.args.tag.now c.in-Some-tag_value.value.now (has g (goal.at.returns-in_default-core g c).In-Some-tag_value) in
-    absurd (plain_has_core R c.in-Some-tag_value.value.now plain (sym (c.in_default-core.ensures {u = tt}).value))
+    let none : None ≡ Some plain.core = (c.in_default-core.ensures {u = tt}).value ∙ ap core_of plain.is in
+    cc
 
 pub returns : goal.returns
 returns g c =

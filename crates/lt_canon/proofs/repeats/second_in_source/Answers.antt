@@ -1,6 +1,5 @@
-use Rattle.std.proofs.Common.{refl, sym, ap, ◌∙◌, arith}
+use Rattle.std.proofs.Common.{◌≡◌, None, sym, ap, ◌∙◌, arith}
 use Rattle.lt_tag.specs.Parts.{TForm}
-use Rattle.lt_canon.proofs.CanonicalForms.{none_of_test}
 use Rattle.lt_canon.proofs.TagRepeats.{of_parts, of_source, distinct_subtags}
 use Rattle.lt_canon.proofs.repeats.second_in_source.Goals as goal
 
@@ -15,5 +14,5 @@ returns-in-Ok c =
 
 pub returns-then-is_none : goal.returns-then-is_none
 returns-then-is_none c =
-    let none = none_of_test c.second_occurrence.result c.second_occurrence.result refl (c.if-is_none.ensures {u = tt}) in
+    let none : c.second_occurrence.result ≡ None = let told = c.if-is_none.ensures {u = tt} in grind arith in
     distinct_subtags c.args.extension.now (rw (none, c.subtags.ensures.value) at c.second_occurrence.ensures)
