@@ -1,7 +1,7 @@
 -- From cores, extensions and values in their normal forms to the answer that is owed; the extlang form of a canonical tag,
 -- which is valid and leads back to it; and langtags of a language, and a script and a region where there is one: what is
 -- valid, and what rests; and those whose subtags stay as they are, which are their own canonical forms.
-use Rattle.std.proofs.Common.{◌≡◌, ℕ, ◌+◌, ◌<◌, ◌≤◌, inl, inr, false, is_some, List, [], ◌∷◌, Option, Some, None, Err, refl, sym, ap, ◌∙◌, subst, length, arith, IfErr, Bool, true, ◌&&◌, ◌||◌, ◌++◌, Ok, All}
+use Rattle.std.proofs.Common.{◌≡◌, ℕ, ◌+◌, ◌<◌, ◌≤◌, inl, inr, false, List, [], ◌∷◌, Option, Some, None, Err, refl, sym, ap, ◌∙◌, subst, length, arith, IfErr, Bool, true, ◌++◌, Ok, All}
 use Rattle.std.specs.List.{AllByRecursion}
 use Rattle.lt_tag.specs.Parts.{CoreParts, ExtensionParts, TForm, TagForm, LangTag}
 use Rattle.lt_tag.specs.Spelling.{spell_core, IsCore}
@@ -10,15 +10,15 @@ use Rattle.lt_registry.specs.Faults.{HasNoFault, HasFault, IsFirstOf, IsFirstFau
 use Rattle.lt_tag.specs.Values.{IsTagValue, core_of, extensions_of, private_of, core_alone}
 use Rattle.lt_tag.specs.WellFormed.{IsNotGrandfathered, spell}
 use Rattle.lt_tag.proofs.TagLemmas.{AllByRecursion-weaker}
-use Rattle.std.specs.Prelude.{Result, is_some, unwrap_or}
+use Rattle.std.specs.Prelude.{Result, unwrap_or}
 use Rattle.lt_registry.proofs.ValidityLaws.{valid_law}
 use Rattle.lt_registry.specs.Parts.{EntryParts}
-use Rattle.lt_registry.specs.Entries.{whole_value, one_of, preferred_value, entry, prefixes, has_prefix, replacement, is_registered, is_whole, tag_of, whole}
+use Rattle.lt_registry.specs.Entries.{whole_value, one_of, preferred_value, entry, prefixes, replacement, is_registered, is_whole, tag_of, whole}
 use Rattle.lt_registry.specs.Validity.{IsProperExtension, HasDistinctSource, RepeatsNoVariant, IsProper, IsValid, ExtlangsFit, IsProperCore}
-use Rattle.lt_rewrite.specs.Rewriting.{IsNormalForm, Rests, done}
+use Rattle.lt_rewrite.specs.Rewriting.{IsNormalForm, done}
 use Rattle.lt_rewrite.specs.CoreSteps.{values_of, IsCoreNormalForm, CoreStep, EndsIn}
 use Rattle.lt_rewrite.specs.Extensions.{ExtensionsStep}
-use Rattle.lt_rewrite.specs.TagSteps.{CanBeReplacedWhole, TagStep, IsReached, IsCanonical, on_core}
+use Rattle.lt_rewrite.specs.TagSteps.{CanBeReplacedWhole, IsReached, IsCanonical, on_core}
 use Rattle.lt_rewrite.proofs.PartLists.{some_long, empty_middle}
 use Rattle.lt_rewrite.proofs.NormalForms.{star_keeps, normal_is_form}
 use Rattle.lt_check.specs.Conditions.{IsValidCoreAlone, IsChecked}
@@ -34,7 +34,6 @@ use Rattle.lt_canon.proofs.TagForm.{core_spells_none, core_end, cores_formed, co
 use Rattle.lt_canon.proofs.TagRepeats.{core_repeats, end_canonical, reached_canonical}
 use Rattle.lt_tag.specs.Lists.{longest_text, list_of}
 use Rattle.std.proofs.lemmas.Slice.Eq.{bytes_eq-Decides}
-use Rattle.std.proofs.lemmas.Bool.{and_from}
 use Rattle.lt_subtag.specs.Shapes.{is_language, is_extlang}
 use Rattle.lt_registry.specs.declared.entries.Kind.TheVariants as kinds
 use Rattle.lt_rewrite.specs.Laws.{IsProperValue}
@@ -94,6 +93,10 @@ module _ (R : List EntryParts) (C : IsChecked R) where
   pub form_spells_none : (c d : CoreParts) (es : List ExtensionParts) (ps : List (List ℕ)) → IsProper R (LangTag c es ps) → IsCoreNormalForm (values_of R) c d → IsNotGrandfathered (spell_core d)
   form_spells_none c d es ps P n = core_spells_none R C d (proper_parts R d es ps (cores_proper R C n.reached es ps P)).core
 
+  -- nor does that of the core of a whole record's value
+  pub value_spells_none : (t : TagForm) (c s d : CoreParts) → IsValidCoreAlone R t → Some c ≡ core_of t → s ≡ c → IsCoreNormalForm (values_of R) s d → IsNotGrandfathered (spell_core d)
+  value_spells_none t c s d v h e n = form_spells_none s d [] [] (rw e (subst (IsProper R) (plain_of_core R t c v (sym h)) v.valid.proper)) n
+
   -- a core that repeats a variant in its core normal form
   pub core_refused : (c : CoreParts) (es : List ExtensionParts) (ps : List (List ℕ)) (refusal : Refusal) → IsValid R (LangTag c es ps) → IsCoreRefusal R c refusal → IsCanonicalAnswer R (LangTag c es ps) (Err refusal)
   core_refused c es ps (refusals.Invalid fault) V h = absurd h
@@ -143,55 +146,33 @@ module _ (R : List EntryParts) (C : IsChecked R) where
   pub fitting_prefix : (l p : List ℕ) → prefix_of (prefixes R kinds.Extlang l) ≡ Some p → IsFittingPrefix R l p
   fitting_prefix l p e =
       let x : ExtlangEntry R l = extlang_entry R (core_conditions R C.passes) l (grind arith) in
-      let found : prefixes R kinds.Extlang l ≡ (x.fits.prefix ∷ []) ∷ [] = prefixes_at R kinds.Extlang l x.at x.found ∙ x.fits.one_prefix in
-      let is : (x.fits.prefix ≡ p) × (length p ≤ 3) = grind arith in
-      record {
-        entry = x;
-        one = rw is.0 at found;
-        registered = rw is.0 at x.fits.final_prefix.registered;
-        prefix = rw is.0 at (language_form R C.registry x.fits.prefix x.fits.final_prefix.registered);
-        short = is.1;
-        extlang = extlang_name_form R C.registry l x;
-      }
+      let found = prefixes_at R kinds.Extlang l x.at x.found in
+      let form = language_form R C.registry x.fits.prefix x.fits.final_prefix.registered in
+      let extlang = extlang_name_form R C.registry l x in
+      grind arith
 
   -- a canonical langtag has no extlang
-  pub no_extlang : (d : CoreParts) (es : List ExtensionParts) (ps : List (List ℕ)) → IsProper R (LangTag d es ps) → Rests (TagStep R) (LangTag d es ps) → (xs : List (List ℕ)) → d.extlangs ≡ xs → xs ≡ []
-  no_extlang d es ps P h [] e = refl
-  no_extlang d es ps P h (x ∷ []) e =
-      let d' : CoreParts = core (replacement R x) [] d.script d.region d.variants in
-      let s : CoreStep (values_of R) d d' = by_extlang (values_of R) d x e in
-      absurd (h (LangTag d' es ps) (step_of_change R C (LangTag d es ps) (LangTag d' es ps) (on_core d d' es ps refl refl s) P))
-  no_extlang d es ps P h (x ∷ y ∷ r) e = absurd (subst (ExtlangsFit R d.language) e P.parts.core.extlangs)
+  pub no_extlang : (c : TagForm) (d : CoreParts) → IsCanonical R c → core_of c ≡ Some d → d.extlangs ≡ []
+  no_extlang c d K h = by d.extlangs refl
+    where
+      is : c ≡ LangTag d (extensions_of c) (private_of c)
+      is = langtag_of c d h
+
+      by : (xs : List (List ℕ)) → d.extlangs ≡ xs → xs ≡ []
+      by [] e = refl
+      by (x ∷ []) e =
+          let d' : CoreParts = core (replacement R x) [] d.script d.region d.variants in
+          let s : CoreStep (values_of R) d d' = by_extlang (values_of R) d x e in
+          absurd (K.at_rest (LangTag d' (extensions_of c) (private_of c)) (step_of_change R C c (LangTag d' (extensions_of c) (private_of c)) (on_core d d' (extensions_of c) (private_of c) is refl s) K.valid.proper))
+      by (x ∷ y ∷ r) e = absurd (subst (ExtlangsFit R d.language) e (subst (IsProper R) is K.valid.proper).parts.core.extlangs)
 
   front_proper : (d : CoreParts) (es : List ExtensionParts) (ps : List (List ℕ)) (p : List ℕ) → IsProper R (LangTag d es ps) → IsFittingPrefix R d.language p → IsProper R (LangTag (behind (Some p) d) es ps)
   front_proper d es ps p P f =
       let parts = proper_parts R d es ps P in
-      let shaped : IsCore (behind (Some p) d) = record {
-        language = f.prefix;
-        extlangs = and_from (is_extlang d.language) true f.extlang refl;
-        up_to_three = omega arith;
-        after_short = λ _. f.short;
-        script = parts.core.value.shaped.script;
-        region = parts.core.value.shaped.region;
-        variants = parts.core.value.shaped.variants;
-      } in
-      let proper : IsProperCore R (behind (Some p) d) = record {
-        language = f.registered;
-        extlangs = (ap is_some f.entry.found, ap (λ ps. has_prefix ps p) f.one ∙ ap (λ (b : Bool). (b && true) || false) ((bytes_eq-Decides p p).1 refl));
-        script = parts.core.proper.script;
-        region = parts.core.proper.region;
-        variants = parts.core.proper.variants;
-      } in
+      let shaped : IsCore (behind (Some p) d) = grind arith in
+      let proper : IsProperCore R (behind (Some p) d) = grind (arith, bytes_eq-Decides) in
       let value : IsProperValue R (behind (Some p) d) = record { value = record { shaped = shaped; variants = parts.core.value.variants }; proper = proper } in
-      proper_langtag R (behind (Some p) d) es ps (core_spells_none R C (behind (Some p) d) value) (record {
-        core = value;
-        values = parts.values;
-        count = parts.count;
-        private = parts.private;
-        private_count = parts.private_count;
-        extensions = parts.extensions;
-        singletons = parts.singletons;
-      })
+      proper_langtag R (behind (Some p) d) es ps (core_spells_none R C (behind (Some p) d) value) assumption
 
   front_end : (d : CoreParts) (p : List ℕ) → d.extlangs ≡ [] → IsFittingPrefix R d.language p → core_end R C (behind (Some p) d) ≡ core_end R C d
   front_end d p none f =
@@ -210,7 +191,7 @@ module _ (R : List EntryParts) (C : IsChecked R) where
   lead_back_at d es ps K (Some p) h =
       let f = fitting_prefix d.language p h in
       let Q = front_proper d es ps p K.valid.proper f in
-      let none : d.extlangs ≡ [] = no_extlang d es ps K.valid.proper K.at_rest d.extlangs refl in
+      let none : d.extlangs ≡ [] = no_extlang (LangTag d es ps) d K refl in
       let ends = ap (λ y. lang_end R C y es ps) (front_end d p none f) ∙ rest_is_end (end_form R C) (LangTag d es ps) K.valid.proper K.at_rest in
       (record { proper = Q; distinct = K.valid.distinct }, rw ends at (tag_reached R C (LangTag (behind (Some p) d) es ps) Q))
 
@@ -237,11 +218,6 @@ module _ (R : List EntryParts) (C : IsChecked R) where
       let L = forms_lead_back R C c h.canonical in
       let back : IsCanonicalFormOf R (extlang_form R c) c = reached_canonical R C (extlang_form R c) c L.valid L.reached h.canonical.at_rest h.canonical.valid.distinct in
       subst (IsExtlangFormOf R t) (sym e) (record { canonical = c; canonical_form = h; is = refl; valid = L.valid; back = back })
-
-  pub no_extlang_there : (c : TagForm) (d : CoreParts) → IsCanonical R c → core_of c ≡ Some d → d.extlangs ≡ []
-  no_extlang_there c d K h =
-      let e = langtag_of c d h in
-      no_extlang R C d (extensions_of c) (private_of c) (subst (IsProper R) e K.valid.proper) (subst (Rests (TagStep R)) e K.at_rest) d.extlangs refl
 
   -- the Prefix in front spells no grandfathered tag
   pub front_spells_none : (c : TagForm) (d : CoreParts) (p : List ℕ) → IsCanonical R c → core_of c ≡ Some d → prefix_of (prefixes R kinds.Extlang d.language) ≡ Some p → IsNotGrandfathered (spell_core (behind (Some p) d))
@@ -270,9 +246,7 @@ module _ (R : List EntryParts) (t : TagForm) (c : CoreParts) (u : IsUsual c) (k 
       }
 
   no_fault : core_check R false 0 c ≡ Ok tt → HasNoFault R (core_alone c)
-  no_fault told kind place (inl f) = (rw told at (core_tells R false 0 c)) kind place (f, λ e. cc)
-  no_fault told kind place (inr (inl f)) = empty_middle f.before f.extension f.after (sym f.there)
-  no_fault told kind place (inr (inr f)) = empty_middle f.1.before f.1.first _ (sym f.1.there)
+  no_fault told kind place f = let tells = rw told at (core_tells R false 0 c) in grind (arith, empty_middle, tells)
 
   -- each subtag is registered
   pub usual_valid : (b : Bool) → IsTagValue t → core_valued R c ≡ Ok b → IsValid R t
@@ -282,14 +256,7 @@ module _ (R : List EntryParts) (t : TagForm) (c : CoreParts) (u : IsUsual c) (k 
   pub usual_settled : IsTagValue t → core_valued R c ≡ Ok false → IsSettledTag R t t
   unfolding core_valued
   usual_settled v h =
-      let rest : AtRest (values_of R) c = record {
-        extlang = λ x e. let bad : [] ≡ x ∷ [] = sym u.extlangs ∙ e in cc;
-        language = λ _. grind arith;
-        script = λ s e. grind arith;
-        region = λ s e. grind arith;
-        variant = rw u.variants tt;
-        variant_language = λ _. rw u.variants tt;
-      } in
+      let rest : AtRest (values_of R) c = grind arith in
       let form : IsDistinctForm R c c = record { normal = record { reached = done; at_rest = λ d s. rests (values_of R) c d rest s }; distinct = (rw k at (usual_valid false v h)).distinct.0 } in
       let settled : IsSettledTag R (core_alone c) t = record { core = c; extensions = []; is = k; form = form; normal = record { reached = done; at_rest = none_rests R }; distinct = tt } in
       subst (λ a. IsSettledTag R a t) (sym k) settled
@@ -297,15 +264,9 @@ module _ (R : List EntryParts) (t : TagForm) (c : CoreParts) (u : IsUsual c) (k 
 -- ---- no subtag has a value
 
 module _ (R : List EntryParts) (text : List ℕ) (c : CoreParts) (stay : StaysAs R text c) where
-  usual : IsUsual c
-  usual = record { extlangs = stay.extlangs; variants = stay.variants }
-
   valued : core_valued R c ≡ Ok false
   unfolding core_valued
   valued = grind arith
-
-  value : IsTagValue (core_alone c)
-  value = record { tag = stay.read.tag; counts = (rw stay.variants (omega arith), omega arith, tt, omega arith) }
 
   -- ---- no whole record replaces it
 
@@ -319,7 +280,11 @@ module _ (R : List EntryParts) (text : List ℕ) (c : CoreParts) (stay : StaysAs
       grind (arith, bytes_eq-Decides)
 
   pub stays_canonical : IsChecked R → IsCanonicalFormOf R (core_alone c) (core_alone c)
-  stays_canonical C = settled_canonical R C (core_alone c) (core_alone c) (core_alone c) (usual_valid R (core_alone c) c usual refl false value valued) (usual_settled R (core_alone c) c usual refl value valued) (inr (record { none = λ _. grind (arith, no_value); same = refl }))
+  stays_canonical C =
+      let usual : IsUsual c = record { extlangs = stay.extlangs; variants = stay.variants } in
+      let value : IsTagValue (core_alone c) = record { tag = stay.read.tag; counts = (rw stay.variants (omega arith), omega arith, tt, omega arith) } in
+      settled_canonical R C (core_alone c) (core_alone c) (core_alone c) (usual_valid R (core_alone c) c usual refl false value valued) (usual_settled R (core_alone c) c usual refl value valued)
+      (inr (record { none = λ _. grind (arith, no_value); same = refl }))
 
 -- a canonical text that was appended is that of the form that was given
 pub appended : (R : List EntryParts) (text : List ℕ) (tag form : TagForm) (old new : List ℕ) → HasTag text tag → IsCanonicalFormOf R tag form

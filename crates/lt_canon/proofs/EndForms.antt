@@ -12,27 +12,10 @@ pub record IsEndForm {A : Type 0} (P : A → Type 0) (Step : A → A → Type 0)
 pub star_proper : {A : Type 0} {P : A → Type 0} {Step : A → A → Type 0} {f : A → A} → IsEndForm P Step f → {a b : A} → Star Step a b → P a → P b
 star_proper {P = P} F r p = star_keeps P (λ a b s _. F.to a b s) r p
 
-pub star_end : {A : Type 0} {P : A → Type 0} {Step : A → A → Type 0} {f : A → A} → IsEndForm P Step f → {a b : A} → Star Step a b → f a ≡ f b
-star_end F done = refl
-star_end F (then {a = a} {b = b} s r) = F.kept a b s ∙ star_end F r
-
 pub equivalent_end : {A : Type 0} {P : A → Type 0} {Step : A → A → Type 0} {f : A → A} → IsEndForm P Step f → {a b : A} → Equivalent Step a b → f a ≡ f b
 equivalent_end F same = refl
 equivalent_end F (forth {a = a} {b = b} s r) = F.kept a b s ∙ equivalent_end F r
 equivalent_end F (back {a = a} {b = b} s r) = sym (F.kept b a s) ∙ equivalent_end F r
-
-pub confluent : {A : Type 0} {P : A → Type 0} {Step : A → A → Type 0} {f : A → A} → IsEndForm P Step f → IsConfluent P Step
-confluent {A} {P} {Step} {f} F a b c p r t =
-    let e : f b ≡ f c = sym (star_end F r) ∙ star_end F t in
-    (f b, F.reached b (star_proper F r p), subst (λ x. Star Step c x) (sym e) (F.reached c (star_proper F t p)))
-
--- from which no step leads is its own end
-pub rest_is_end : {A : Type 0} {P : A → Type 0} {Step : A → A → Type 0} {f : A → A} → IsEndForm P Step f → (a : A) → P a → Rests Step a → f a ≡ a
-rest_is_end F a p h = sym (star_rests (F.reached a p) h)
-
--- to which steps lead and no further is the end
-pub reached_is_end : {A : Type 0} {P : A → Type 0} {Step : A → A → Type 0} {f : A → A} → IsEndForm P Step f → (a b : A) → P a → Star Step a b → Rests Step b → f a ≡ b
-reached_is_end F a b p r h = star_end F r ∙ rest_is_end F b (star_proper F r p) h
 
 pub equivalent_trans : {A : Type 0} {Step : A → A → Type 0} {a b c : A} → Equivalent Step a b → Equivalent Step b c → Equivalent Step a c
 equivalent_trans same t = t
@@ -47,6 +30,22 @@ equivalent_sym (back s r) = equivalent_trans (equivalent_sym r) (forth s same)
 pub star_equivalent : {A : Type 0} {Step : A → A → Type 0} {a b : A} → Star Step a b → Equivalent Step a b
 star_equivalent done = same
 star_equivalent (then s r) = forth s (star_equivalent r)
+
+pub star_end : {A : Type 0} {P : A → Type 0} {Step : A → A → Type 0} {f : A → A} → IsEndForm P Step f → {a b : A} → Star Step a b → f a ≡ f b
+star_end F r = equivalent_end F (star_equivalent r)
+
+pub confluent : {A : Type 0} {P : A → Type 0} {Step : A → A → Type 0} {f : A → A} → IsEndForm P Step f → IsConfluent P Step
+confluent {A} {P} {Step} {f} F a b c p r t =
+    let e : f b ≡ f c = sym (star_end F r) ∙ star_end F t in
+    (f b, F.reached b (star_proper F r p), subst (λ x. Star Step c x) (sym e) (F.reached c (star_proper F t p)))
+
+-- from which no step leads is its own end
+pub rest_is_end : {A : Type 0} {P : A → Type 0} {Step : A → A → Type 0} {f : A → A} → IsEndForm P Step f → (a : A) → P a → Rests Step a → f a ≡ a
+rest_is_end F a p h = sym (star_rests (F.reached a p) h)
+
+-- to which steps lead and no further is the end
+pub reached_is_end : {A : Type 0} {P : A → Type 0} {Step : A → A → Type 0} {f : A → A} → IsEndForm P Step f → (a b : A) → P a → Star Step a b → Rests Step b → f a ≡ b
+reached_is_end F a b p r h = star_end F r ∙ rest_is_end F b (star_proper F r p) h
 
 -- equal ends are equivalent
 pub end_equivalent : {A : Type 0} {P : A → Type 0} {Step : A → A → Type 0} {f : A → A} → IsEndForm P Step f → (a b : A) → P a → P b → f a ≡ f b → Equivalent Step a b

@@ -29,7 +29,7 @@ use Rattle.std.proofs.lemmas.Bool.Decides.{nat_tests}
 use Rattle.lt_tag.specs.Spelling.{spell_core, spell_extension, spell_extensions}
 use Rattle.lt_tag.specs.Extensions.{spell_keyword, spell_field, transform, IsTransform}
 use Rattle.lt_rewrite.specs.CoreSteps.{values_of, CoreStep, IsCoreNormalForm}
-use Rattle.lt_rewrite.specs.Orderings.{ListStep, by_swap, by_drop}
+use Rattle.lt_rewrite.specs.Orderings.{ListStep}
 use Rattle.lt_rewrite.specs.Extensions.{on_attributes, on_keywords, on_types, on_source, on_fields, ExtensionStep, in_unicode, in_transform, ExtensionsStep, inside, among}
 use Rattle.lt_rewrite.specs.Applying.{CoreLeads, ExtensionsLeads}
 use Rattle.lt_rewrite.specs.Runs.{rank_of, kind_rank, extension_rank, IsNoLater, IsFirst, NoneLeads, IsRun, Adds, AddsOnCore, AddsOnExtensions}
@@ -43,7 +43,7 @@ use Rattle.std.specs.Prelude.{if◌then◌else◌}
 use Rattle.lt_rewrite.specs.Laws.{AreOneStep}
 use Rattle.std.specs.List.{AllByRecursion}
 use Rattle.lt_tag.specs.Values.{core_of, extensions_of, private_of, core_alone, number_of as tag_number}
-use Rattle.lt_registry.specs.Entries.{whole, whole_value, number_of}
+use Rattle.lt_registry.specs.Entries.{tag_of, whole, whole_value, number_of}
 use Rattle.lt_rewrite.proofs.FirstSteps.{adds_none, adds_more, adds_all, run_lift}
 use Rattle.lt_canon.specs.Answers.{IsCanonicalFormOf}
 use Rattle.lt_check.proofs.CheckedRegistry.{value_plain}
@@ -116,9 +116,7 @@ fault_excludes R t end steps faults.OutOfMemory h n v = n refl
 pub record LinesSoFar (R : List EntryParts) (t : TagForm) (steps : List Step) (end : TagForm) (old new : List ℕ) (i : ℕ) (here : TagForm) : Type 0 where
   pub proper : IsProper R here
   pub ahead : IsTrace R here (drop i steps) end
-  pub lines : List ℕ
-  pub grown : new ≡ old ++ lines
-  pub completes : (rest : List ℕ) → AreStepLines R (drop i steps) end here rest → AreStepLines R steps end t (lines ++ rest)
+  pub completes : (rest : List ℕ) → AreStepLines R (drop i steps) end here rest → AppendsSteps R t steps end old (new ++ rest)
 
 -- a step led on, and its line was appended
 pub explaining_more : (R : List EntryParts) (t : TagForm) (steps : List Step) (end : TagForm) (old new more : List ℕ) (i : ℕ) (default : Step) (here next : TagForm) → i < length steps
@@ -131,9 +129,7 @@ explaining_more R t steps end old new more i default here next h now on proper g
     record {
       proper = proper;
       ahead = rw same at ahead.2;
-      lines = now.lines ++ step_line step next;
-      grown = rw (grown, now.grown) (append_assoc old now.lines (step_line step next));
-      completes = λ rest printed. rw (append_assoc now.lines (step_line step next) rest)
+      completes = λ rest printed. rw (grown, append_assoc new (step_line step next) rest)
           (now.completes (step_line step next ++ rest) (rw (drop_more steps i default h) (record { after = next; leads = on; rest = rest; printed = printed; line_is = refl })));
     }
 
@@ -143,7 +139,7 @@ pub explaining_done : (R : List EntryParts) (t : TagForm) (steps : List Step) (e
 explaining_done R t steps end old new i here h now =
     let none : drop i steps ≡ [] = drop_all i steps h in
     let there : IsTrace R here [] end = rw none at now.ahead in
-    record { lines = now.lines; grown = now.grown; are_steps = rw (append-nil now.lines) at (now.completes [] (rw none (there, refl))) }
+    rw (append-nil new) at (now.completes [] (rw none (there, refl)))
 
 -- the step at an index leads on
 pub step_leads : (R : List EntryParts) (steps : List Step) (end : TagForm) (i : ℕ) (default : Step) (here : TagForm) (fault : ApplyFault) → i < length steps → IsTrace R here (drop i steps) end
@@ -164,8 +160,7 @@ by_kind : (start : ℕ) (step : Step) → 8 ≤ kind_rank step → IsBehind star
 by_kind start step h = record { late = grind (arith, nat_tests); behind = λ k. absurd (omega (arith, h, k)) }
 
 list_behind : {A : Type 0} {once : Bool} {cmp : A → A → Ordering} {xs ys : List A} (swap drop : StepKind) → 8 ≤ rank_of swap → 8 ≤ rank_of drop → (spell : A → List (List ℕ)) (start place : ℕ) (s : ListStep once cmp xs ys) → IsBehind start (list_label swap drop spell place s)
-list_behind swap drop h k spell start place (by_swap before a b after s) = by_kind start _ h
-list_behind swap drop h k spell start place (by_drop before a between b after o s) = by_kind start _ k
+list_behind swap drop h k spell start place s = grind (arith, nat_tests)
 
 extension_behind : (R : List EntryParts) (start place : ℕ) (e f : ExtensionParts) (s : ExtensionStep R e f) → start ≤ place → IsBehind start (extension_label R place s)
 extension_behind R start place e f (in_unicode p q _ _ _ _ (on_attributes s k)) h = list_behind steps.SwapAttributes steps.DropAttribute (omega arith) (omega arith) (λ a. a ∷ []) start place s
@@ -182,12 +177,6 @@ extensions_behind R start es fs (among s) = list_behind steps.SwapExtensions ste
 
 -- the ranks in a tag
 
-behind_rank : (c : CoreParts) (es : List ExtensionParts) (ps : List (List ℕ)) (step : Step) → IsBehind (length (spell_core c)) step → rank_in (LangTag c es ps) step ≡ extension_rank step
-behind_rank c es ps step h = grind (arith, nat_tests, h.behind)
-
-before_rank : (c : CoreParts) (es : List ExtensionParts) (ps : List (List ℕ)) (step : Step) → step.place ≤ length (spell_core c) → rank_in (LangTag c es ps) step ≡ kind_rank step
-before_rank c es ps step h = grind (arith, nat_tests)
-
 module _ (R : List EntryParts) (c : CoreParts) (es : List ExtensionParts) (ps : List (List ℕ)) where
   abbrev here : TagForm
   here = LangTag c es ps
@@ -195,13 +184,14 @@ module _ (R : List EntryParts) (c : CoreParts) (es : List ExtensionParts) (ps : 
   -- a step on the core
   core_leads_rank : (step : Step) (d : CoreParts) → CoreLeads R 0 c step d → (rank_in here step ≡ kind_rank step) × (kind_rank step ≤ 6)
   core_leads_rank step d l =
-      (before_rank c es ps step (subst (λ (x : Step). x.place ≤ length (spell_core c)) l.1 (omega (arith, core_high R 0 c d l.0))), subst (λ (x : Step). kind_rank x ≤ 6) l.1 (core_rank R 0 c d l.0).most)
+      let low : step.place ≤ length (spell_core c) = subst (λ (x : Step). x.place ≤ length (spell_core c)) l.1 (omega (arith, core_high R 0 c d l.0)) in
+      (grind (arith, nat_tests), subst (λ (x : Step). kind_rank x ≤ 6) l.1 (core_rank R 0 c d l.0).most)
 
   -- a step on the extensions
   extensions_lead_rank : (step : Step) (fs : List ExtensionParts) → ExtensionsLeads R (length (spell_core c)) es step fs → (rank_in here step ≡ extension_rank step) × (8 ≤ extension_rank step)
   extensions_lead_rank step fs l =
       let b = subst (IsBehind (length (spell_core c))) l.1 (extensions_behind R (length (spell_core c)) es fs l.0) in
-      (behind_rank c es ps step b, b.late)
+      (grind (arith, nat_tests, b.behind), b.late)
 
   -- what follows for a step on the tag from what it is
   leads_by : (Q : Type 0) (step : Step) (u : TagForm) → LeadsBy R here step u → ((d : CoreParts) → CoreLeads R 0 c step d → Q) → ((fs : List ExtensionParts) → ExtensionsLeads R (length (spell_core c)) es step fs → Q) → (CanBeReplacedWhole here → rank_in here step ≡ 7 → Q) → Q
@@ -324,14 +314,17 @@ module _ (R : List EntryParts) where
     valueless_explained t old h k e = rests t old k (none_rests R) (λ _. e)
 
     -- the value of a whole tag, and the steps on its core
-    pub value_rests_by : (t : TagForm) (core form : CoreParts) (step : Step) (old mid new : List Step) → IsProper R t → CanBeReplacedWhole t → RestsOnCore R t → whole_value R t ≡ Some (core_alone core) → step ≡ step_at steps.Whole 1 (number_of (whole R t)) → mid ≡ old ++ step ∷ [] → AddsOnCore R 0 core form mid new → NoneLeads (CoreLeads R 0 form) → LeadsToRest R t old new
-    value_rests_by t core form step old mid new P h k v e m a none =
-        let Q : IsProper R (core_alone core) = (value_plain R C t (core_alone core) v).valid.proper in
-        let normal : IsCoreNormalForm (values_of R) core form = record { reached = run_star (CoreLeads R 0) (λ _ step. kind_rank step) (CoreStep (values_of R)) (λ a step b l. l.0) a.run core form a.is_run; at_rest = core_rests form none } in
+    pub value_rests_by : (t value : TagForm) (entry : EntryParts) (core copied form : CoreParts) (number : ℕ) (old mid new : List Step) → IsProper R t → CanBeReplacedWhole t → RestsOnCore R t → Some entry ≡ whole R t → Some value ≡ tag_of entry.value → Some core ≡ core_of value → copied ≡ core → number ≡ entry.number → mid ≡ old ++ step_at steps.Whole 1 number ∷ [] → AddsOnCore R 0 copied form mid new → NoneLeads (CoreLeads R 0 form) → LeadsToRest R t old new
+    value_rests_by t value entry core copied form number old mid new P h k found gives there same numbered m a none =
+        let v = value_plain R C t value (grind arith) in
+        let is : whole_value R t ≡ Some (core_alone copied) = grind arith in
+        let Q : IsProper R (core_alone copied) = (value_plain R C t (core_alone copied) is).valid.proper in
+        let normal : IsCoreNormalForm (values_of R) copied form = record { reached = run_star (CoreLeads R 0) (λ _ step. kind_rank step) (CoreStep (values_of R)) (λ a step b l. l.0) a.run copied form a.is_run; at_rest = core_rests form none } in
         let on : RestsOnCore R (core_alone form) = λ c i. let j : form ≡ c = cc in rw j at none in
-        let rest : LeadsToRest R (core_alone form) new new = valueless_explained (core_alone form) new (refl, refl) on (value_rests R C t core form v normal) in
-        let one : Adds (LeadsBy R) rank_in t (core_alone core) old mid = adds_more (LeadsBy R) rank_in t t (core_alone core) old old mid step (adds_none (LeadsBy R) rank_in t old) (whole_is_first t (core_alone core) step P h k v e) m in
-        first_adds t (core_alone core) old mid new one (first_adds (core_alone core) (core_alone form) mid new new (adds_on_core core form [] [] mid new Q a).1 rest)
+        let rest : LeadsToRest R (core_alone form) new new = valueless_explained (core_alone form) new (refl, refl) on (value_rests R C t copied form is normal) in
+        let first = whole_is_first t (core_alone copied) (step_at steps.Whole 1 number) P h k is (ap (step_at steps.Whole 1) (numbered ∙ ap number_of found)) in
+        let one : Adds (LeadsBy R) rank_in t (core_alone copied) old mid = adds_more (LeadsBy R) rank_in t t (core_alone copied) old old mid (step_at steps.Whole 1 number) (adds_none (LeadsBy R) rank_in t old) first m in
+        first_adds t (core_alone copied) old mid new one (first_adds (core_alone copied) (core_alone form) mid new new (adds_on_core copied form [] [] mid new Q a).1 rest)
 
     -- a tag of a core alone, once its core is at rest
     pub plain_explained : (t : TagForm) (core d k : CoreParts) (old mid : List Step) → IsProper R t → Some core ≡ core_of t → t ≡ core_alone k → AddsOnCore R 0 core d old mid → IsProper R (core_alone d) × Adds (LeadsBy R) rank_in t (core_alone d) old mid

@@ -1,6 +1,6 @@
 -- Each change of a proper tag leads to a proper one. The end form of a tag: each step keeps it, each proper tag
 -- reaches it, and no step leads from it. It is the tag with its parts in their normal forms, and then its value.
-use Rattle.std.proofs.Common.{◌≡◌, ◌≢◌, ℕ, inl, inr, true, List, [], ◌∷◌, ◌++◌, Option, Some, None, refl, sym, ap, ◌∙◌, subst, All}
+use Rattle.std.proofs.Common.{◌≡◌, ◌≢◌, ℕ, inl, inr, true, List, [], ◌∷◌, Option, Some, None, refl, sym, ap, ◌∙◌, subst, All, arith}
 use Rattle.std.proofs.lemmas.Bool.{cases_Bool}
 use Rattle.lt_tag.specs.Parts.{CoreParts, ExtensionParts, TagForm, LangTag, PrivateUse, Grandfathered}
 use Rattle.lt_registry.specs.Parts.{EntryParts}
@@ -10,14 +10,13 @@ use Rattle.lt_registry.specs.Validity.{Distinct, IsProper, RepeatsNoVariant}
 use Rattle.lt_registry.specs.declared.entries.EntryName.TheVariants as names
 use Rattle.lt_rewrite.specs.Rewriting.{Star, done, then, Rests}
 use Rattle.lt_rewrite.specs.CoreSteps.{values_of, CoreStep, IsCoreNormalForm}
-use Rattle.lt_rewrite.specs.Orderings.{by_swap, by_drop}
-use Rattle.lt_rewrite.specs.Extensions.{ExtensionsStep, inside, among}
+use Rattle.lt_rewrite.specs.Extensions.{ExtensionsStep}
 use Rattle.lt_rewrite.specs.TagSteps.{CanBeReplacedWhole, TagChange, on_core, on_extensions, on_whole, TagStep, IsReached}
 use Rattle.lt_rewrite.proofs.Stars.{star_trans}
 use Rattle.lt_rewrite.proofs.NormalForms.{IsFormOf, star_map_while, star_keeps, form_is_normal, normal_is_form, rest_is_form}
 use Rattle.lt_rewrite.proofs.Same.{same_core-Decides}
 use Rattle.lt_rewrite.proofs.CoreLaws.{normal_core, cores_formed as normal_cores}
-use Rattle.lt_rewrite.proofs.PartLists.{empty_middle, step_some}
+use Rattle.lt_rewrite.proofs.PartLists.{empty_middle}
 use Rattle.lt_rewrite.proofs.ExtensionLaws.{normal_extension, normal_extensions, extensions_formed}
 use Rattle.lt_rewrite.specs.Conditions.{HasEndingChain}
 use Rattle.lt_check.specs.Conditions.{HasRestingWhole, HasAgreeingWhole, IsChecked}
@@ -40,13 +39,10 @@ or_value t end (Some u) = end u
 
 -- a step on extensions leads from some to some
 pub extensions_step_from : (R : List EntryParts) (es fs : List ExtensionParts) → ExtensionsStep R es fs → es ≢ []
-extensions_step_from R es fs (inside before e f after w s) h = empty_middle before e after (sym w.there ∙ h)
-extensions_step_from R es fs (among (by_swap before a b after s)) h = empty_middle before a (b ∷ after) (sym s.there ∙ h)
-extensions_step_from R es fs (among (by_drop before a between b after o s)) h = empty_middle before a (between ++ b ∷ after) (sym s.there ∙ h)
+extensions_step_from R es fs s h = grind (arith, empty_middle)
 
 pub extensions_step_to : (R : List EntryParts) (es fs : List ExtensionParts) → ExtensionsStep R es fs → fs ≢ []
-extensions_step_to R es fs (inside before e f after w s) h = empty_middle before f after (sym w.result ∙ h)
-extensions_step_to R es fs (among s) h = step_some es fs s h
+extensions_step_to R es fs s h = grind (arith, empty_middle)
 
 abbrev pub NoChange : List EntryParts → TagForm → Type 0
 NoChange R t = (u : TagForm) → TagChange R t u → ⊥
@@ -122,8 +118,7 @@ module _ (R : List EntryParts) (C : IsChecked R) where
   whole_end_at t o e = ap (or_value t value_end) e
 
   pub lang_end_some : (d : CoreParts) (es : List ExtensionParts) (ps : List (List ℕ)) → es ≢ [] → lang_end d es ps ≡ LangTag d (extensions_end es) ps
-  lang_end_some d [] ps h = absurd (h refl)
-  lang_end_some d (e ∷ es) ps h = refl
+  lang_end_some d es ps h = grind arith
 
   pub core_normal : (c : CoreParts) → IsCoreNormalForm (values_of R) c (core_end c)
   core_normal c = form_is_normal cores_formed c

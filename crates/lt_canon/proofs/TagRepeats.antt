@@ -54,18 +54,12 @@ OfSource P e = (c : CoreParts) → HasSource e c → P c
 pub source_told : (e : ExtensionParts) → HasDistinctSource e → OfSource HasDistinctVariants e
 source_told e d c h = if_some_is HasDistinctVariants h.parts.source c h.there (d h.transforms h.parts h.formed)
 
-pub told_source : (e : ExtensionParts) → OfSource HasDistinctVariants e → HasDistinctSource e
-told_source e h s p k = by p.source refl
-  where
-    by : (o : Option CoreParts) → p.source ≡ o → IfSome o HasDistinctVariants
-    by None j = tt
-    by (Some c) j = h c (record { transforms = s; parts = p; formed = k; there = j })
+told_source : (P : CoreParts → Type 0) (e : ExtensionParts) → OfSource P e → e.singleton ≡ transform → (p : TForm) → IsTransform e.subtags p → IfSome p.source P
+told_source P e h s p k = grind arith
 
 -- an extension has one source
 pub one_source : (e : ExtensionParts) (c d : CoreParts) → HasSource e c → HasSource e d → c ≡ d
-one_source e c d h k =
-    let both : Some c ≡ Some d = sym h.there ∙ ap (λ (p : TForm). p.source) (one_transform e.subtags h.parts k.parts h.formed k.formed) ∙ k.there in
-    cc
+one_source e c d h k = grind (arith, one_transform)
 
 -- one whose parts have a source that repeats none, or no source
 pub of_parts : (e : ExtensionParts) (p : TForm) → IsTransform e.subtags p → IfSome p.source HasDistinctVariants → HasDistinctSource e
@@ -76,7 +70,7 @@ distinct_within xs a b c e d = distinct_from b (λ p v q r k. distinct_at xs (a 
 
 -- one without a subtag twice repeats none
 pub distinct_subtags : (e : ExtensionParts) → Distinct e.subtags → HasDistinctSource e
-distinct_subtags e d = told_source e (λ c h.
+distinct_subtags e d = told_source HasDistinctVariants e (λ c h.
     distinct_within e.subtags (c.language ∷ (c.extlangs ++ (option_to_list c.script ++ option_to_list c.region))) c.variants (flat_map spell_field h.parts.fields)
     (rw (← h.formed.spelled, h.there) (simp append_assoc)) d)
 
@@ -121,8 +115,7 @@ module _ (R : List EntryParts) where
   ]
 
 some_of_map : {A B : Type 0} (f : A → B) (o : Option A) (b : B) → option_map f o ≡ Some b → (a : A) × (o ≡ Some a) × (f a ≡ b)
-some_of_map f None b h = cc
-some_of_map f (Some a) b h = (a, refl, cc)
+some_of_map f o b h = grind arith
 
 module _ (R : List EntryParts) (C : IsChecked R) where
   -- the source of an extension in its normal form
@@ -199,7 +192,7 @@ module _ (R : List EntryParts) (C : IsChecked R) where
   parts_distinct (LangTag c es ps) h d = (
     form_distinct R (core_conditions R C.passes) c h.0 d.0,
     all_both Once (λ e. HasDistinctSource (extension_end R C e)) HasDistinctSource
-        (λ e h d. told_source e (λ c s. form_distinct R (core_conditions R C.passes) c (h c s) (source_told (extension_end R C e) d (core_end R C c) (source_end R C e c s)))) es h.1
+        (λ e h d. told_source HasDistinctVariants e (λ c s. form_distinct R (core_conditions R C.passes) c (h c s) (source_told (extension_end R C e) d (core_end R C c) (source_end R C e c s)))) es h.1
         (all_unmapped HasDistinctSource (extension_end R C) es (unordered HasDistinctSource singleton_cmp (extensions_ordered R C.registry (core_conditions R C.passes) es) d.1)),
   )
   parts_distinct _ h d = tt
@@ -329,13 +322,12 @@ pub equivalence_answer : (R : List EntryParts) → EquivalenceIsEquality R → (
 equivalence_answer R E t u c d answer h k e =
     let same : IsTrue answer ↔ (c ≡ d) = same_exactly tag_total tags_apart c d answer e in
     let S = same_form_text R t u c d h k in
-    let T = text_equality R E t u c d h k in
     record {
       first = c;
       second = d;
       first_form = h;
       second_form = k;
-      equivalent = ((λ x. T.1 (S.1 (same.0 x))), (λ x. same.1 (S.0 (T.0 x))));
+      equivalent = ((λ x. E.equivalent t u c h (rw (same.0 x) k)), (λ x. same.1 (E.equal t u c d h k x)));
       equal = same;
       equal_texts = ((λ x. S.1 (same.0 x)), (λ x. same.1 (S.0 x)));
     }

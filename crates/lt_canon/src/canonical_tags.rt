@@ -144,7 +144,7 @@ fn replaced_whole<L: Lookup>(
 }
 
 /// The value of a whole record with its core in core normal form.
-#[tactic(auto, using(crate::proofs::TagForm::ending_chains))]
+#[tactic(auto, using(crate::proofs::TagForm::ending_chains, crate::proofs::CanonicalForms::value_spells_none))]
 fn settled_value<L: Lookup>(
     alloc: Global,
     table: &L,

@@ -2,7 +2,7 @@ use Rattle.std.proofs.Common.{◌≡◌, inl, [], ◌∷◌, Some, sym}
 use Rattle.lt_registry.specs.Entries.{prefixes}
 use Rattle.lt_registry.specs.declared.entries.Kind.TheVariants as kinds
 use Rattle.lt_canon.specs.ExtlangForm.{prefix_of}
-use Rattle.lt_canon.proofs.CanonicalForms.{extlang_answer, extlang_form_is, no_extlang_there, front_spells_none, IsFittingPrefix, fitting_prefix}
+use Rattle.lt_canon.proofs.CanonicalForms.{extlang_answer, extlang_form_is, no_extlang, front_spells_none, IsFittingPrefix, fitting_prefix}
 use Rattle.lt_canon.proofs.extlang_forms.extlang_form.Goals as goal
 use Rattle.lt_canon.proofs.extlang_forms.extlang_form.Goals.{In-Some-extlang_prefix, After-set_extlang}
 
@@ -26,7 +26,7 @@ set_extlang-requires g c =
     let f = fitting g (goal.at.set_extlang-requires g c).In-Some-extlang_prefix in
     record {
       extlang = rw (c.copy-3.ensures, c.language-2.ensures.value) f.extlang;
-      none_there = rw (c.set_language.ensures, c.in_ok-core.ensures {u = tt}) (no_extlang_there (g.L.Lookup.listed c.args.checked.now) c.table-table.ensures.checked c.in_ok-form.form c.in-Some.canonical_core.now (c.in_ok-form.ensures {u = tt}).ok.canonical (sym c.in-Some.ensures.value));
+      none_there = rw (c.set_language.ensures, c.in_ok-core.ensures {u = tt}) (no_extlang (g.L.Lookup.listed c.args.checked.now) c.table-table.ensures.checked c.in_ok-form.form c.in-Some.canonical_core.now (c.in_ok-form.ensures {u = tt}).ok.canonical (sym c.in-Some.ensures.value));
       short_before = rw (c.set_language.ensures, c.copy-2.ensures) f.short;
     }
 
