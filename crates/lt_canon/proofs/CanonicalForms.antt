@@ -6,7 +6,7 @@ use Rattle.std.specs.List.{AllByRecursion}
 use Rattle.lt_tag.specs.Parts.{CoreParts, ExtensionParts, TForm, TagForm, LangTag}
 use Rattle.lt_tag.specs.Spelling.{spell_core, IsCore}
 use Rattle.lt_tag.specs.Extensions.{transform, IsTransform}
-use Rattle.lt_registry.specs.Faults.{HasNoFault, HasFault, IsFirstOf, IsFirstFault}
+use Rattle.lt_registry.specs.Faults.{HasNoFault, HasFault, IsFirstFault}
 use Rattle.lt_tag.specs.Values.{IsTagValue, core_of, extensions_of, private_of, core_alone}
 use Rattle.lt_tag.specs.WellFormed.{IsNotGrandfathered, spell}
 use Rattle.lt_tag.proofs.TagLemmas.{AllByRecursion-weaker}
@@ -54,6 +54,7 @@ use Rattle.lt_canon.specs.UsualTags.{IsUsual, core_valued}
 use Rattle.lt_registry.specs.Checking.{Counted, core_check, variants_check}
 use Rattle.lt_registry.specs.declared.faults.ValidFault.{ValidFault}
 use Rattle.lt_registry.proofs.CoreFaultLemmas.{core_tells}
+use Rattle.lt_registry.proofs.VariantFaultLemmas.{first_same}
 use Rattle.lt_registry.proofs.TagFaultLemmas.{tag_core_first}
 
 -- a tag by what its readers show
@@ -62,17 +63,14 @@ langtag_of t c h = grind arith
 
 -- a tag without a core has no parts to settle
 pub coreless_settled : (R : List EntryParts) (t s : TagForm) → core_of t ≡ None → s ≡ t → IsSettledTag R t s
-coreless_settled R (LangTag c es ps) s h e = cc
-coreless_settled R _ s h e = e
+coreless_settled R t s h e = grind arith
 
 pub plain_of_core : (R : List EntryParts) (t : TagForm) (c : CoreParts) → IsValidCoreAlone R t → core_of t ≡ Some c → t ≡ core_alone c
 plain_of_core R t c v h = grind arith
 
 -- the refusal that is owed, by its three parts
 pub refused : (R : List EntryParts) (t : TagForm) (refusal : Refusal) → NamesFault R t refusal → RefusesOnlyRepeats R t refusal → NamesRepeat R t refusal → IsRefusedWith R t refusal
-refused R t (refusals.Invalid fault) h k n = h
-refused R t (refusals.ReplacementRepeats v) h k n = record { valid = k.0; repeats = k.1; named = n }
-refused R t refusals.OutOfMemory h k n = tt
+refused R t refusal h k n = grind arith
 
 -- the second tag's, where the first has a form
 pub second_refused : (R : List EntryParts) (t u c : TagForm) (refusal : Refusal) → IsCanonicalFormOf R t c → IsRefusedWith R u refusal → IsSecondRefusal R t u refusal
@@ -238,12 +236,7 @@ module _ (R : List EntryParts) (t : TagForm) (c : CoreParts) (u : IsUsual c) (k 
   -- a subtag that is not registered
   pub usual_refused : (fault : ValidFault) → core_valued R c ≡ Err fault → IsFirstFault R t fault.kind fault.place
   usual_refused fault h =
-      let first : IsFirstOf (Counted false (HasFault R t)) fault.kind fault.place = tag_core_first R false t c fault (sym (ap core_of k)) (told_fault R c u fault h) in
-      record {
-        there = first.there.0;
-        leftmost = λ other place f. first.leftmost other place (f, λ e. cc);
-        earliest = λ other f. first.earliest other (f, λ e. cc);
-      }
+      first_same (Counted false (HasFault R t)) (HasFault R t) fault.kind fault.place (record { there = λ kind place f. f.0; back = λ kind place f. (f, λ e. cc) }) (tag_core_first R false t c fault (sym (ap core_of k)) (told_fault R c u fault h))
 
   no_fault : core_check R false 0 c ≡ Ok tt → HasNoFault R (core_alone c)
   no_fault told kind place f = let tells = rw told at (core_tells R false 0 c) in grind (arith, empty_middle, tells)

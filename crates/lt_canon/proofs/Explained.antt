@@ -9,7 +9,6 @@ use Rattle.lt_registry.specs.Validity.{IsValid, IsProper}
 use Rattle.lt_registry.specs.Faults.{IsRefusal}
 use Rattle.lt_registry.proofs.ValidityLaws.{valid_law}
 use Rattle.lt_registry.specs.declared.faults.ValidRefusal.{ValidRefusal}
-use Rattle.lt_registry.specs.declared.faults.ValidRefusal.TheVariants as checks
 use Rattle.lt_rewrite.specs.Rewriting.{then, Rests, Star, IsNormalForm}
 use Rattle.lt_rewrite.specs.TagSteps.{IsReached, CanBeReplacedWhole, TagChange, on_core, on_extensions, on_whole, TagStep}
 use Rattle.lt_rewrite.proofs.Stars.{star_path}
@@ -74,8 +73,7 @@ trace_cut R (x ∷ xs) ys t v h = let rest = trace_cut R xs ys h.0 v h.2 in (res
 
 -- a tag that is not found valid
 pub invalid_trace : (R : List EntryParts) (t end : TagForm) (steps : List Step) (refused : ValidRefusal) → IsRefusal R t refused → IsTraceFault R t steps end (of_invalid refused)
-invalid_trace R t end steps (checks.Fault fault) h = h
-invalid_trace R t end steps checks.OutOfMemory h = tt
+invalid_trace R t end steps refused h = grind arith
 
 -- the step at an index does not lead on
 pub misstep_here : (R : List EntryParts) (t : TagForm) (steps : List Step) (i : ℕ) (default : Step) (here : TagForm) (fault : ApplyFault) → i < length steps → IsTrace R t (take i steps) here → IsApplyFault R here (get_or steps i default) fault → fault ≡ apply_faults.NoSuchStep → IsMisstep R t steps (i + 1)
@@ -97,10 +95,7 @@ trace_here R t steps i default here next h led on =
 
 -- steps from a valid tag that lead to no end
 pub follow_fault : (R : List EntryParts) (t end : TagForm) (steps : List Step) (fault : TraceFault) → IsValid R t → IsFollowFault R t steps fault → IsTraceFault R t steps end fault
-follow_fault R t end steps (faults.Invalid fault) V h = absurd h
-follow_fault R t end steps (faults.NoSuchStep n) V h = (V, h)
-follow_fault R t end steps faults.WrongEnd V h = absurd h
-follow_fault R t end steps faults.OutOfMemory V h = tt
+follow_fault R t end steps fault V h = grind arith
 
 -- where a fault is reported, there is no trace
 pub fault_excludes : (R : List EntryParts) (t end : TagForm) (steps : List Step) (fault : TraceFault) → IsTraceFault R t steps end fault → fault ≢ no_trace_memory → IsValidTrace R t steps end → ⊥

@@ -274,9 +274,6 @@ module _ (R : List EntryParts) (C : IsChecked R) where
   }
 
 module _ (R : List EntryParts) (C : IsChecked R) where
-  named : (t : TagForm) → IsValid R t → CanRepeat R t → (v : List ℕ) × IsNamedRepeat R t v
-  named t V r = elim (form_or_repeat R C t V) [ inl F ↦ absurd (F.repeats_none r) | inr n ↦ (n.0, n.1.named) ]
-
   -- a core has one normal form, so it repeats one variant first
   one_form : (c d e : CoreParts) → IsCoreNormalForm (values_of R) c d → IsCoreNormalForm (values_of R) c e → d ≡ e
   one_form c d e n m = sym (normal_is_form (cores_formed R C) c d n) ∙ normal_is_form (cores_formed R C) c e m
@@ -301,7 +298,10 @@ module _ (R : List EntryParts) (C : IsChecked R) where
   one _ v w V h k = absurd h
 
   pub repeats_are_named : RepeatsAreNamed R
-  repeats_are_named = record { some = named; one = one }
+  repeats_are_named = record {
+    some = λ t V r. elim (form_or_repeat R C t V) [ inl F ↦ absurd (F.repeats_none r) | inr n ↦ (n.0, n.1.named) ];
+    one = one;
+  }
 
 -- the text of a tag
 abbrev text_of : TagForm → List ℕ
