@@ -65,9 +65,6 @@ langtag_of t c h = grind arith
 pub coreless_settled : (R : List EntryParts) (t s : TagForm) → core_of t ≡ None → s ≡ t → IsSettledTag R t s
 coreless_settled R t s h e = grind arith
 
-pub plain_of_core : (R : List EntryParts) (t : TagForm) (c : CoreParts) → IsValidCoreAlone R t → core_of t ≡ Some c → t ≡ core_alone c
-plain_of_core R t c v h = grind arith
-
 -- the refusal that is owed, by its three parts
 pub refused : (R : List EntryParts) (t : TagForm) (refusal : Refusal) → NamesFault R t refusal → RefusesOnlyRepeats R t refusal → NamesRepeat R t refusal → IsRefusedWith R t refusal
 refused R t refusal h k n = grind arith
@@ -93,13 +90,13 @@ module _ (R : List EntryParts) (C : IsChecked R) where
 
   -- nor does that of the core of a whole record's value
   pub value_spells_none : (t : TagForm) (c s d : CoreParts) → IsValidCoreAlone R t → Some c ≡ core_of t → s ≡ c → IsCoreNormalForm (values_of R) s d → IsNotGrandfathered (spell_core d)
-  value_spells_none t c s d v h e n = form_spells_none s d [] [] (rw e (subst (IsProper R) (plain_of_core R t c v (sym h)) v.valid.proper)) n
+  value_spells_none t c s d v h e n =
+      let is : t ≡ core_alone s = grind arith in
+      form_spells_none s d [] [] (rw is at v.valid.proper) n
 
   -- a core that repeats a variant in its core normal form
   pub core_refused : (c : CoreParts) (es : List ExtensionParts) (ps : List (List ℕ)) (refusal : Refusal) → IsValid R (LangTag c es ps) → IsCoreRefusal R c refusal → IsCanonicalAnswer R (LangTag c es ps) (Err refusal)
-  core_refused c es ps (refusals.Invalid fault) V h = absurd h
-  core_refused c es ps (refusals.ReplacementRepeats v) V h = core_repeats R C c es ps v V h
-  core_refused c es ps refusals.OutOfMemory V h = tt
+  core_refused c es ps refusal V h = grind (arith, core_repeats R C)
 
   pub form_count : (c d : CoreParts) (es fs : List ExtensionParts) (ps : List (List ℕ)) → IsProper R (LangTag c es ps) → IsCoreNormalForm (values_of R) c d → IsNormalForm (ExtensionsStep R) es fs → length fs ≤ longest_text
   form_count c d es fs ps P n m = (star_proper (end_form R C) (parts_reached R C n.reached m.reached ps P) P).tag.counts.1

@@ -69,15 +69,14 @@ module _ (R : List EntryParts) (C : IsChecked R) where
   pub steps_keep : StepsKeepTagsProper R
   steps_keep = steps_keep_tags_proper R C.registry (core_conditions R C.passes) (grandfathered_fit R C)
 
-  -- each change
-  change_proper : (t u : TagForm) → TagChange R t u → IsProper R t → IsProper R u
-  change_proper t u (on_core c d es ps from to s) P = rw to (steps_keep.core c d es ps s (rw from at P))
-  change_proper t u (on_extensions c es fs ps from to s) P = rw to (steps_keep.extensions c es fs ps s (rw from at P))
-  change_proper t u (on_whole _ has) P = (value_plain R C t u has).valid.proper
-
-  -- so it is a step
+  -- each change is a step
   pub step_of_change : (t u : TagForm) → TagChange R t u → IsProper R t → TagStep R t u
-  step_of_change t u s P = record { from = P; to = change_proper t u s P; change = s }
+  step_of_change t u s P = record { from = P; to = led s; change = s }
+    where
+      led : TagChange R t u → IsProper R u
+      led (on_core c d es ps from to s) = rw to (steps_keep.core c d es ps s (rw from at P))
+      led (on_extensions c es fs ps from to s) = rw to (steps_keep.extensions c es fs ps s (rw from at P))
+      led (on_whole _ has) = (value_plain R C t u has).valid.proper
 
   abbrev pub core_end : CoreParts → CoreParts
   core_end = normal_core R (core_conditions R C.passes)
@@ -114,9 +113,6 @@ module _ (R : List EntryParts) (C : IsChecked R) where
   tag_end (PrivateUse ps) = PrivateUse ps
   tag_end (Grandfathered n) = whole_end (Grandfathered n)
 
-  whole_end_at : (t : TagForm) (o : Option TagForm) → whole_value R t ≡ o → whole_end t ≡ or_value t value_end o
-  whole_end_at t o e = ap (or_value t value_end) e
-
   pub lang_end_some : (d : CoreParts) (es : List ExtensionParts) (ps : List (List ℕ)) → es ≢ [] → lang_end d es ps ≡ LangTag d (extensions_end es) ps
   lang_end_some d es ps h = grind arith
 
@@ -134,22 +130,22 @@ module _ (R : List EntryParts) (C : IsChecked R) where
   value_rests t c d e n = no_value R (core_alone d) (resting t c d e n).1
 
   value_end_is : (t : TagForm) (c : CoreParts) → whole_value R t ≡ Some (core_alone c) → tag_end (core_alone c) ≡ core_alone (core_end c)
-  value_end_is t c e = whole_end_at (core_alone (core_end c)) None (value_rests t c (core_end c) e (core_normal c))
+  value_end_is t c e = ap (or_value (core_alone (core_end c)) value_end) (value_rests t c (core_end c) e (core_normal c))
 
   -- a core that is a whole record with a value: its own end is that of its value
   plain_kept : (c q : CoreParts) → whole_value R (core_alone c) ≡ Some (core_alone q) → whole_end (core_alone (core_end c)) ≡ core_alone (core_end q)
   plain_kept c q e = elim (cases_Bool (same_core (core_end c) c)) [
-    | inl t ↦ whole_end_at (core_alone (core_end c)) (Some (core_alone q)) (ap (λ d. whole_value R (core_alone d)) ((same_core-Decides (core_end c) c).0 t) ∙ e)
+    | inl t ↦ ap (or_value (core_alone (core_end c)) value_end) (ap (λ d. whole_value R (core_alone d)) ((same_core-Decides (core_end c) c).0 t) ∙ e)
     | inr f ↦ let w = valued_whole R (core_alone c) (core_alone q) e in
         elim (whole_has R (core_alone c) (core_alone q) (HasAgreeingWhole R) C.passes.agreeing_whole w (core_alone c) (core_alone q) w.named w.gives c (core_end c) q (core_end q) refl refl (core_normal c)
         (λ h. let t : same_core (core_end c) c ≡ true = (same_core-Decides (core_end c) c).1 h in cc) (core_normal q)) [
           | inl s ↦ ap (λ d. whole_end (core_alone d)) s ∙ value_end_is (core_alone c) q e
-          | inr k ↦ whole_end_at (core_alone (core_end c)) (Some (core_alone k.0)) k.1 ∙ ap core_alone (normal_is_form cores_formed k.0 (core_end q) k.2)
+          | inr k ↦ ap (or_value (core_alone (core_end c)) value_end) k.1 ∙ ap core_alone (normal_is_form cores_formed k.0 (core_end q) k.2)
         ]
   ]
 
   whole_kept_at : (t : TagForm) (q : CoreParts) → CanBeReplacedWhole t → whole_value R t ≡ Some (core_alone q) → tag_end t ≡ tag_end (core_alone q)
-  whole_kept_at (Grandfathered n) q h e = whole_end_at (Grandfathered n) (Some (core_alone q)) e ∙ sym (value_end_is (Grandfathered n) q e)
+  whole_kept_at (Grandfathered n) q h e = ap (or_value (Grandfathered n) value_end) e ∙ sym (value_end_is (Grandfathered n) q e)
   whole_kept_at (LangTag c es ps) q h e =
       let k : whole_value R (core_alone c) ≡ Some (core_alone q) = rw (h.0, h.1) at e in
       rw (h.0, h.1) (plain_kept c q k ∙ sym (value_end_is (core_alone c) q k))
@@ -223,16 +219,13 @@ module _ (R : List EntryParts) (C : IsChecked R) where
       let v = value_plain R C t u e in
       inl (record { value = u; plain = h; has = e; settled = record { core = v.core; form = core_end v.core; from = v.is; to = ap value_end v.is; normal = core_normal v.core } })
 
-  no_extensions : extensions_end [] ≡ []
-  no_extensions = rest_is_form extensions_end_formed [] (none_rests R)
-
   some_extensions : (es : List ExtensionParts) → es ≢ [] → extensions_end es ≢ []
   some_extensions es n = star_keeps (λ l. l ≢ []) (λ a b s _. extensions_step_to R a b s) (extensions_end_formed.reached es) n
 
   -- so the end form does
   pub end_replaced : (t : TagForm) → IsReplacedWhole R (parts_end t) (tag_end t)
-  end_replaced (LangTag c [] []) = rw no_extensions (whole_replaced (core_alone (core_end c)) (refl, refl) (whole_value R (core_alone (core_end c))) refl)
-  end_replaced (LangTag c [] (p ∷ ps)) = rw no_extensions (inr (record { none = λ h. let none = h.1 in cc; same = refl }))
+  end_replaced (LangTag c [] []) = rw (rest_is_form extensions_end_formed [] (none_rests R)) (whole_replaced (core_alone (core_end c)) (refl, refl) (whole_value R (core_alone (core_end c))) refl)
+  end_replaced (LangTag c [] (p ∷ ps)) = rw (rest_is_form extensions_end_formed [] (none_rests R)) (inr (record { none = λ h. let none = h.1 in cc; same = refl }))
   end_replaced (LangTag c (e ∷ es) ps) = inr (record { none = λ h. absurd (some_extensions (e ∷ es) (λ k. cc) h.0); same = refl })
   end_replaced (PrivateUse ps) = inr (record { none = λ h. absurd h; same = refl })
   end_replaced (Grandfathered n) = whole_replaced (Grandfathered n) tt (whole_value R (Grandfathered n)) refl

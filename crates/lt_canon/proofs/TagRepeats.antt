@@ -114,9 +114,6 @@ module _ (R : List EntryParts) where
     ]
   ]
 
-some_of_map : {A B : Type 0} (f : A → B) (o : Option A) (b : B) → option_map f o ≡ Some b → (a : A) × (o ≡ Some a) × (f a ≡ b)
-some_of_map f o b h = grind arith
-
 module _ (R : List EntryParts) (C : IsChecked R) where
   -- the source of an extension in its normal form
   pub source_end : (e : ExtensionParts) (c : CoreParts) → HasSource e c → HasSource (extension_end R C e) (core_end R C c)
@@ -130,7 +127,8 @@ module _ (R : List EntryParts) (C : IsChecked R) where
       let s : e.singleton ≡ transform = sym (normal_singleton R C.registry (core_conditions R C.passes) e) ∙ k.has_source.transforms in
       let m = P s in
       let n = normal_parts R C.registry (core_conditions R C.passes) e m.0 s m.1 in
-      let at = some_of_map (core_end R C) m.0.source k.source (sym n.source ∙ ap (λ (p : TForm). p.source) (one_transform (extension_end R C e).subtags n.parts k.has_source.parts n.formed k.has_source.formed) ∙ k.has_source.there) in
+      let there : option_map (core_end R C) m.0.source ≡ Some k.source = sym n.source ∙ ap (λ (p : TForm). p.source) (one_transform (extension_end R C e).subtags n.parts k.has_source.parts n.formed k.has_source.formed) ∙ k.has_source.there in
+      let at : (c : CoreParts) × (m.0.source ≡ Some c) × (core_end R C c ≡ k.source) = grind arith in
       (at.0, record { transforms = s; parts = m.0; formed = m.1; there = at.1 }, record { form = core_end R C at.0; normal = core_normal R C at.0; second = subst (λ (x : CoreParts). IsSecondOccurrence x.variants v) (sym at.2) k.second })
 
   -- the one that is named
