@@ -1,5 +1,5 @@
 -- What one canonical core, or a source of fields, says of an end holds with each; and ends that were made canonical lately.
-use Rattle.std.proofs.Common.{◌≡◌, ◌≢◌, ℕ, ◌≤◌, ◌<◌, ◌+◌, ◌==◌, Bool, true, not, List, [], ◌∷◌, ◌++◌, length, map, refl, sym, ap, ◌∙◌, subst, arith, inl, inr, false, Option, Some, IfSome, flat_map, ◌-◌, take, drop, slice_index_or, slice_set, IsTrue}
+use Rattle.std.proofs.Common.{◌≡◌, ◌≢◌, ℕ, ◌≤◌, ◌<◌, ◌+◌, ◌==◌, Bool, true, not, List, [], ◌∷◌, ◌++◌, length, map, refl, sym, ap, ◌∙◌, subst, arith, inl, inr, false, Option, Some, IfSome, flat_map, ◌-◌, take, drop, IsTrue, None}
 use Rattle.std.specs.List.{AllByRecursion, join_with_byte, list_all, onto_first, All, swap}
 use Rattle.std.proofs.lemmas.Bool.{and_parts, ne_eqb, not-true}
 use Rattle.std.proofs.lemmas.List.{append-nil, append_assoc, append_cancel_left, map-append, length-append, length-map, take_rest}
@@ -8,7 +8,7 @@ use Rattle.lt_tag.specs.Parts.{CoreParts, ExtensionParts, TagForm, LangTag, Priv
 use Rattle.lt_tag.specs.Values.{core_alone}
 use Rattle.lt_tag.specs.Lists.{pieces, list_of, longest_text}
 use Rattle.lt_tag.specs.Spelling.{x_subtag, spell_core, spell_extension, spell_extensions, spell_private, IsCore}
-use Rattle.lt_tag.specs.Splitting.{before, fields_of, spell_source}
+use Rattle.lt_tag.specs.Splitting.{before, fields_of}
 use Rattle.lt_tag.specs.WellFormed.{spell, IsNotGrandfathered, IsTag}
 use Rattle.lt_tag.specs.Conventional.{conventional, shown_after}
 use Rattle.lt_tag.specs.Faults.{HasTag}
@@ -21,16 +21,16 @@ use Rattle.lt_tag.proofs.TagLemmas.{not_grandfathered}
 use Rattle.lt_tag.proofs.TextLemmas.{some_pieces}
 use Rattle.lt_registry.specs.Parts.{EntryParts}
 use Rattle.lt_registry.specs.Validity.{HasDistinctSource, IsValid, RepeatsNoVariant, Distinct}
-use Rattle.lt_rewrite.specs.Rewriting.{done, then, Rests, Star}
+use Rattle.lt_rewrite.specs.Rewriting.{done, then, Rests}
 use Rattle.lt_rewrite.specs.CoreSteps.{values_of, CoreStep}
 use Rattle.lt_rewrite.specs.TagSteps.{on_core, IsCanonical}
 use Rattle.lt_rewrite.specs.Laws.{IsProperValue}
-use Rattle.lt_rewrite.proofs.NormalForms.{form_is_normal, star_rests, normal_is_form}
+use Rattle.lt_rewrite.proofs.NormalForms.{form_is_normal, star_rests, normal_is_form, star_keeps, rest_is_form}
 use Rattle.lt_rewrite.proofs.ProperTags.{ProperParts, proper_parts, proper_langtag}
 use Rattle.lt_check.specs.Conditions.{IsChecked}
 use Rattle.lt_canon.specs.Answers.{IsCanonicalFormOf}
 use Rattle.lt_canon.specs.Texts.{IsCanonicalTextOf, AppendsCanonicalText}
-use Rattle.lt_canon.proofs.TagForm.{core_end, cores_proper, extensions_end, extensions_end_formed, extensions_step_from, lang_end, tag_end, extension_end}
+use Rattle.lt_canon.proofs.TagForm.{core_end, cores_proper, extensions_end, extensions_end_formed, extensions_step_from, lang_end, tag_end, extension_end, cores_formed}
 use Rattle.lt_canon.proofs.TagRepeats.{form_is_end}
 use Rattle.lt_canon.proofs.CanonicalForms.{form_some, langtag_canonical}
 use Rattle.lt_ends.specs.Ends.{IsEnd, IsEndText, IsCanonicalCore, EndsAreShared, IsFields, IsFieldsText, IsTransformed, FieldsAreShared, IsKeptEnd, AreEnds}
@@ -42,9 +42,9 @@ use Rattle.lt_tag.proofs.ListedLemmas.{length-pieces}
 use Rattle.lt_tag.proofs.LetterLemmas.{join_pieces, list_of_is}
 use Rattle.lt_tag.proofs.PartsLemmas.{t_again, t_value}
 use Rattle.lt_rewrite.specs.Orderings.{ListStep, by_swap, by_drop}
-use Rattle.lt_rewrite.specs.Extensions.{separator_cmp, singleton_cmp, ExtensionStep, in_unicode, in_transform, on_source, on_fields}
+use Rattle.lt_rewrite.specs.Extensions.{singleton_cmp, on_source, on_fields, TransformStep}
 use Rattle.lt_rewrite.proofs.PartLists.{all_step, step_some}
-use Rattle.lt_rewrite.proofs.ExtensionLaws.{extension_formed, extensions_ordered, one_transform}
+use Rattle.lt_rewrite.proofs.ExtensionLaws.{extension_formed, extensions_ordered, one_transform, t_form, t_formed, transform_settled}
 use Rattle.lt_check.proofs.Checks.{core_conditions}
 use Rattle.std.proofs.lemmas.Bool.Decides.{nat_tests}
 use Rattle.lt_ends.specs.Appending.{FollowsSingleton, IsSeparated, AppendsEnd, AppendsFront, AppendsKept, AppendsTransformed, EndStands, EndsText}
@@ -54,6 +54,7 @@ use Rattle.lt_usual.specs.Staying.{IsStaying}
 use Rattle.lt_canon.proofs.StayingTags.{stays_canonical}
 use Rattle.lt_recent.specs.Recent.{PutsIn, kept}
 use Rattle.lt_recent.specs.declared.Kept.{Kept}
+use Rattle.std.proofs.lemmas.List.Sorted.{All-permutation}
 
 -- ---- lists
 
@@ -271,9 +272,6 @@ record AreFields (fs : List FieldParts) : Type 0 where
   each : AllByRecursion IsField fs
   some : fs ≢ []
 
-fields_next : (fs gs : List FieldParts) → AreFields fs → ListStep false separator_cmp fs gs → AreFields gs
-fields_next fs gs A s = record { each = all_step IsField fs gs s A.each; some = step_some fs gs s }
-
 fields_some : {fields : List ℕ} (K : IsFields fields) → fields_of (list_of K.rest) ≢ []
 fields_some K none = omega (arith, some_pieces K.rest, length-map (pieces K.rest) folded, ap length (fields_list K ∙ ap (flat_map spell_field) none))
 
@@ -289,64 +287,46 @@ module _ (R : List EntryParts) (C : IsChecked R) where
   formed : {source : List ℕ} (G : IsCanonicalCore R source) (fs : List FieldParts) → AreFields fs → IsTransform (spell_t (with_source G.core fs)) (with_source G.core fs)
   formed G fs A = record { shaped = record { source = G.read.tag.0.shaped_core; fields = A.each; some = omega arith }; spelled = refl }
 
-  -- ---- steps after a canonical source are steps on fields
+  -- ---- the end of fields after a canonical source
 
-  field_step : {source : List ℕ} (G : IsCanonicalCore R source) (fs gs : List FieldParts) → AreFields fs → ListStep false separator_cmp fs gs → ExtensionStep R (t_of G.core fs) (t_of G.core gs)
-  field_step G fs gs A s = in_transform _ _ refl refl (formed G fs A) (formed G gs (fields_next fs gs A s)) (on_fields refl s)
+  fields_kept : (p q : TForm) → TransformStep R p q → AreFields p.fields → AreFields q.fields
+  fields_kept p q (on_source _ _ _ _ _ same) A = subst AreFields (sym same) A
+  fields_kept p q (on_fields _ s) A = record { each = all_step IsField p.fields q.fields s A.each; some = step_some p.fields q.fields s }
 
-  step_fields : {source : List ℕ} (G : IsCanonicalCore R source) (fs : List FieldParts) (f : ExtensionParts) → AreFields fs → ExtensionStep R (t_of G.core fs) f
-      → (gs : List FieldParts) × ListStep false separator_cmp fs gs × (f ≡ t_of G.core gs)
-  step_fields G fs f A (in_unicode a b u same from to s) = absurd (omega (arith, u))
-  step_fields G fs f A (in_transform a b t same from to (on_source d g has gives s keeps)) =
-      let there : Some d ≡ Some G.core = sym has ∙ ap (λ (z : TForm). z.source) (one_transform _ a _ from (formed G fs A)) in
-      let core : d ≡ G.core = cc in
-      absurd (core_rests R C G.core G.canonical g (subst (λ (x : CoreParts). CoreStep (values_of R) x g) core s))
-  step_fields G fs f A (in_transform a b t same from to (on_fields keeps s)) =
-      let is = one_transform _ a _ from (formed G fs A) in
-      let subtags = sym to.spelled ∙ ap (λ (o : Option CoreParts). spell_source o ++ flat_map spell_field b.fields) (keeps ∙ ap (λ (z : TForm). z.source) is) in
-      (b.fields, subst (λ (z : TForm). ListStep false separator_cmp z.fields b.fields) is s, λ i. let e : ExtensionParts = record { singleton = same i; subtags = subtags i } in e)
+  abbrev parts_end : TForm → TForm
+  parts_end = t_form R (core_end R C) (cores_formed R C)
 
-  -- so they lead on after each
-  fields_reached : {source : List ℕ} (G : IsCanonicalCore R source) {a b : ExtensionParts} → Star (ExtensionStep R) a b → (fs : List FieldParts) → a ≡ t_of G.core fs → AreFields fs
-      → (gs : List FieldParts) × AreFields gs × (b ≡ t_of G.core gs) × ((other : List ℕ) (H : IsCanonicalCore R other) → Star (ExtensionStep R) (t_of H.core fs) (t_of H.core gs))
-  fields_reached G done fs is A = (fs, A, is, λ other H. done)
-  fields_reached G (then {b = b} s more) fs is A =
-      let one = step_fields G fs b A (subst (λ (e : ExtensionParts). ExtensionStep R e b) is s) in
-      let rest = fields_reached G more one.0 one.2 (fields_next fs one.0 A one.1) in
-      (rest.0, rest.1, rest.2, λ other H. then (field_step H fs one.0 A one.1) (rest.3 other H))
+  abbrev fields_end : List FieldParts → List FieldParts
+  fields_end fs = (parts_end (record { source = None; fields = fs })).fields
+
+  fields_ended : (fs : List FieldParts) → AreFields fs → AreFields (fields_end fs)
+  fields_ended fs A =
+      let none : TForm = record { source = None; fields = fs } in
+      star_keeps (λ (p : TForm). AreFields p.fields) fields_kept ((t_formed R (core_end R C) (cores_formed R C)).reached none) A
 
   -- one extension is in order
   no_step : (e : ExtensionParts) (fs : List ExtensionParts) → ListStep false singleton_cmp (e ∷ []) fs → ⊥
   no_step e fs (by_swap before a b after s) = omega (arith, ap length s.there, length-append before (a ∷ b ∷ after))
   no_step e fs (by_drop before a between b after o s) = let bad : false ≡ true = o in cc
 
-  -- fields in their normal form, after each source
-  fields_end : {source : List ℕ} (G : IsCanonicalCore R source) (fs : List FieldParts) → AreFields fs
-      → (gs : List FieldParts) × AreFields gs × ((other : List ℕ) (H : IsCanonicalCore R other) → extensions_end R C (t_of H.core fs ∷ []) ≡ t_of H.core gs ∷ [])
-  fields_end G fs A =
-      let form = extension_formed R C.registry (core_conditions R C.passes) in
-      let n = fields_reached G (form.reached (t_of G.core fs)) fs refl A in (
-        n.0,
-        n.1,
-        λ other H.
-            sym (star_rests (extensions_ordered R C.registry (core_conditions R C.passes) (t_of H.core fs ∷ [])) (no_step (extension_end R C (t_of H.core fs))))
-            ∙ ap (λ (e : ExtensionParts). e ∷ []) (normal_is_form form (t_of H.core fs) (t_of H.core n.0) (record {
-              reached = n.3 other H;
-              at_rest = λ f s.
-                  let one = step_fields H n.0 f n.1 s in
-                  form.rests (t_of G.core fs) (t_of G.core one.0) (subst (λ (e : ExtensionParts). ExtensionStep R e (t_of G.core one.0)) (sym n.2) (field_step G n.0 one.0 n.1 one.1));
-            })),
-      )
+  extension_ended : {source : List ℕ} (G : IsCanonicalCore R source) (fs : List FieldParts) → AreFields fs → extensions_end R C (t_of G.core fs ∷ []) ≡ t_of G.core (fields_end fs) ∷ []
+  extension_ended G fs A =
+      let p = with_source G.core fs in
+      let settled = transform_settled R C.registry (t_of G.core fs) p (parts_end p) refl (formed G fs A) (form_is_normal (t_formed R (core_end R C) (cores_formed R C)) p) in
+      sym (star_rests (extensions_ordered R C.registry (core_conditions R C.passes) (t_of G.core fs ∷ [])) (no_step (extension_end R C (t_of G.core fs))))
+      ∙ ap (λ (e : ExtensionParts). e ∷ []) (normal_is_form (extension_formed R C.registry (core_conditions R C.passes)) (t_of G.core fs) (t_of (core_end R C G.core) (fields_end fs)) settled)
+      ∙ ap (λ (c : CoreParts). t_of c (fields_end fs) ∷ []) (rest_is_form (cores_formed R C) G.core (core_rests R C G.core G.canonical))
 
   -- they can follow each canonical core
   distinct_source : {source : List ℕ} (G : IsCanonicalCore R source) (fs : List FieldParts) → AreFields fs → HasDistinctSource (t_of G.core fs)
   distinct_source G fs A = λ t q k.
       subst (λ (p : TForm). IfSome p.source (λ (c : CoreParts). Distinct c.variants)) (one_transform _ _ q (formed G fs A) k) G.canonical.valid.distinct.0
 
-  with_fields : (fields : List ℕ) (K : IsFields fields) (gs : List FieldParts) → AreFields (fields_of (list_of K.rest)) → AreFields gs
-      → ((source : List ℕ) (G : IsCanonicalCore R source) → extensions_end R C (t_of G.core (fields_of (list_of K.rest)) ∷ []) ≡ t_of G.core gs ∷ []) → IsFieldsText R fields (45 ∷ join_with_byte 45 (flat_map spell_field gs))
-  with_fields fields K gs A B reached front source end F G U short =
+  with_fields : (fields : List ℕ) (K : IsFields fields) → AreFields (fields_of (list_of K.rest)) → IsFieldsText R fields (45 ∷ join_with_byte 45 (flat_map spell_field (fields_end (fields_of (list_of K.rest)))))
+  with_fields fields K A front source end F G U short =
       let fs = fields_of (list_of K.rest) in
+      let B = fields_ended fs A in
+      let reached = extension_ended G fs A in
       let T : IsTransformed source fields end = record { singleton = U.singleton; is_t = U.is_t; whole = U.whole; is_fields = K } in
       let list = transformed_list source fields end G.core T G.read in
       let few : length (spell_t (with_source G.core fs)) ≤ longest_text =
@@ -363,12 +343,12 @@ module _ (R : List EntryParts) (C : IsChecked R) where
           singletons = (tt, tt);
         };
         distinct = (distinct_source G fs A, tt);
-        sources = subst (AllByRecursion HasDistinctSource) (sym (reached source G)) (distinct_source G gs B, tt);
+        sources = subst (AllByRecursion HasDistinctSource) (sym reached) (distinct_source G (fields_end fs) B, tt);
         some = omega arith;
       } in
       text_with R C front end _ F (t_of G.core fs ∷ []) [] follow
       (whole_list front end F.core (transformed_end source fields end T) F.read ∙ ap (λ (l : List (List ℕ)). spell_core F.core ++ l) (list ∙ sym (extension_alone (t_of G.core fs))))
-      (ap (λ (es : List ExtensionParts). join_with_byte 45 (spell_rest es [])) (reached source G) ∙ extension_text source G.core gs G.read B.some) short
+      (ap (λ (es : List ExtensionParts). join_with_byte 45 (spell_rest es [])) reached ∙ extension_text source G.core (fields_end fs) G.read B.some) short
 
   pub fields_shared : FieldsAreShared R
   fields_shared front source fields end canonical F G T a =
@@ -382,8 +362,7 @@ module _ (R : List EntryParts) (C : IsChecked R) where
       let parts = valid.proper.parts.extensions.0 refl in
       let found : parts.0.fields ≡ fs = sym (t_again parts.0 parts.1.shaped).fields ∙ ap fields_of parts.1.spelled ∙ fields_after G.core _ G.read.tag.0.shaped_core ∙ ap fields_of (sym (fields_list K)) in
       let A : AreFields fs = record { each = subst (AllByRecursion IsField) found parts.1.shaped.fields; some = fields_some K } in
-      let N = fields_end G fs A in
-      let shared = with_fields fields K N.0 A N.1 N.2 in
+      let shared = with_fields fields K A in
       record { rest = _; whole = one_text R C (front ++ end) _ _ a (shared front source end F G T a.read.short); shared = shared }
 
 -- a letter and a digit are a separator, in either case
@@ -411,19 +390,12 @@ transformed end rest source fields F whole S none = record {
   };
 }
 
--- what holds of each holds of each where two are exchanged
-all_swapped : {X : Type 0} (P : X → Type 0) (xs : List X) (i j : ℕ) → i < length xs → j < length xs → All P xs → All P (swap xs i j)
-all_swapped P [] i j below other all = all
-all_swapped P (x ∷ xs) i j below other all =
-    All-set P (slice_set (x ∷ xs) i (slice_index_or (x ∷ xs) j x)) j (slice_index_or (x ∷ xs) i x) (all i x below)
-    (All-set P (x ∷ xs) i (slice_index_or (x ∷ xs) j x) (all j x other) all)
-
 -- what holds of each place holds of each after a put of which it holds
 pub all_put : (P : Option Kept → Type 0) (old new : List (Option Kept)) (line answer : List ℕ) (refused : Bool) → PutsIn old new line answer refused → P (kept line answer refused) → All P old → All P new
 all_put P old new line answer refused (inl same) right all = subst (All P) (sym same) all
 all_put P old new line answer refused (inr put) right all =
     let i = put.0 in
-    let exchanged = all_swapped P old i (i + 1) (omega (arith, put.1)) put.1 all in
+    let exchanged = All-permutation P old (swap old i (i + 1)) (record { moves = (i, i + 1) ∷ []; below = (omega (arith, put.1), put.1, tt); is = refl }) all in
     subst (All P) (sym put.2) (All-set P (swap old i (i + 1)) i (kept line answer refused) right exchanged)
 
 -- fields are no end

@@ -198,6 +198,7 @@ impl RecentEnds {
     }
 
     /// Appends the canonical text of a text, and keeps what follows in it the first `count` bytes for an end.
+    #[tactic(auto, using(crate::proofs::KeptEnds::end_stands))]
     fn append_new<L: Lookup>(
         &mut self,
         alloc: Global,
