@@ -1,3 +1,2 @@
 -- What this crate alone uses.
 mod UpgradeChecks
-mod WidestRanges

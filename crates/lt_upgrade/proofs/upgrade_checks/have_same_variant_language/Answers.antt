@@ -1,12 +1,7 @@
-use Rattle.std.proofs.Common.{sym, ◌∙◌}
 use Rattle.lt_upgrade.proofs.UpgradeChecks.{variant_language_compared}
 use Rattle.lt_upgrade.proofs.upgrade_checks.have_same_variant_language.Goals as goal
 
 pub returns-then-same_languages : goal.returns-then-same_languages
 returns-then-same_languages g c =
-    let other = c.in-Some.other.now in
-    let language = c.in-Some-one_value.language.now in
-    variant_language_compared (g.L.Lookup.listed c.args.newer.now) c.args.entry.now other c.args.subtag.now c.args.value.now language c.have_same_end.result (sym c.in-Some.ensures) (sym c.in-Some-one_value.ensures.value)
-    (sym c.is_short.ensures ∙ c.if-is_short.true)
-    (c.same_languages.ensures.0 c.if-same_languages.true)
-    c.have_same_end.ensures
+    variant_language_compared (g.L.Lookup.listed c.args.newer.now) c.args.entry.now c.in-Some.other.now c.args.subtag.now c.args.value.now c.in-Some-one_value.language.now c.have_same_end.result
+    c.in-Some.ensures c.in-Some-one_value.ensures.value (cc (c.is_short.ensures, c.if-is_short.true)) (c.same_languages.ensures.0 c.if-same_languages.true) c.have_same_end.ensures

@@ -1,8 +1,6 @@
-use Rattle.std.proofs.Common.{sym, ◌∙◌}
 use Rattle.lt_upgrade.proofs.UpgradeChecks.{covered_compared}
 use Rattle.lt_upgrade.proofs.upgrade_checks.stays_registered.Goals as goal
 
 pub returns-in-Range : goal.returns-in-Range
 returns-in-Range g c =
-    let B = g.L.Lookup.listed c.args.newer.now in
-    covered_compared B c.args.entry.now c.kind-in-Range.result c.in-Range.first c.in-Range.last c.cover.result (sym c.name.ensures.value ∙ c.in-Range.is) c.kind-in-Range.ensures.value (c.cover.ensures B c.requires)
+    covered_compared (g.L.Lookup.listed c.args.newer.now) c.args.entry.now c.kind-in-Range.result c.in-Range.first c.in-Range.last c.cover.result (cc (c.name.ensures.value, c.in-Range.is)) c.kind-in-Range.ensures.value (c.cover.ensures _ c.requires)

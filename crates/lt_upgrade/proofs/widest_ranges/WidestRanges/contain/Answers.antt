@@ -1,26 +1,19 @@
-use Rattle.std.proofs.Common.{◌≡◌, ◌≤◌, true, false, suc, ◌-◌, length, List, sym, ap, ◌∙◌, subst, arith, rules}
+use Rattle.std.proofs.Common.{◌≡◌, suc, ◌-◌, List, sym, ap, ◌∙◌, arith, rules}
 use Rattle.std.specs.List.{list_any}
-use Rattle.std.specs.List.Sorted.{IsPartitionedBy, IsPartitionPoint}
 use Rattle.std.proofs.lemmas.Bool.{le-ltb}
 use Rattle.std.proofs.lemmas.List.Sorted.{IsPartitionPoint-from_clause}
 use Rattle.lt_upgrade.specs.WidestRanges.{is_up_to, contains}
 use Rattle.lt_upgrade.specs.declared.widest_ranges.RangeRow.{RangeRow}
-use Rattle.lt_upgrade.proofs.WidestRanges.{last_holds, held_at, parted}
+use Rattle.lt_upgrade.proofs.UpgradeChecks.{last_holds, search_finds}
 use Rattle.lt_upgrade.proofs.widest_ranges.WidestRanges.contain.Goals as goal
 use Rattle.lt_upgrade.proofs.widest_ranges.WidestRanges.contain.Goals.{After-partition_point-count}
 
 -- what the search finds
 held : (c : After-partition_point-count) (d : RangeRow) → list_any (contains c.args.first.now c.args.last.now) c.args.self.now ≡ last_holds c.args.last.now c.self.inside.rows.items c.partition_point-count.result d
 held c d =
-    let rows = c.self.inside.rows.items in
-    let i = c.partition_point-count.result in
-    let a = c.args.first.now in
-    let b = c.args.last.now in
-    let p = λ (v : RangeRow). is_up_to v.first a in
-    let point = IsPartitionPoint-from_clause p c.deref.result.now i c.partition_point-count.ensures.partitioned (subst (IsPartitionedBy p) (sym c.deref.ensures.value) (parted rows a c.self.invariant)) (λ x r f k. search rules) in
-    let here = subst (λ (found : List RangeRow). IsPartitionPoint (λ v. p v ≡ true) (λ v. p v ≡ false) found i) c.deref.ensures.value point in
-    let bound = subst (λ (found : List RangeRow). i ≤ length found) c.deref.ensures.value c.partition_point-count.ensures.bound in
-    ap (list_any (contains a b)) (sym c.self.view_is) ∙ held_at a b rows i d c.self.invariant bound here
+    ap (list_any (contains c.args.first.now c.args.last.now)) (sym c.self.view_is)
+    ∙ search_finds c.args.first.now c.args.last.now c.self.inside.rows.items c.deref.result.now c.partition_point-count.result d c.self.invariant c.deref.ensures.value c.partition_point-count.ensures.bound
+    (λ parted. IsPartitionPoint-from_clause (λ (v : RangeRow). is_up_to v.first c.args.first.now) c.deref.result.now c.partition_point-count.result c.partition_point-count.ensures.partitioned parted (λ x r f k. search rules))
 
 pub returns-then-count-gt0 : goal.returns-then-count-gt0
 returns-then-count-gt0 c =
