@@ -1,18 +1,17 @@
 -- Lemmas on judging an explanation: the words and the verdict of its lines, its printed lines, and lines that come in pieces.
-use Rattle.std.proofs.Common.{IsErrAnd, take, drop, take-append-drop, ◌≡◌, ◌≢◌, ◌<◌, ◌^◌, ◌++◌, ◌∷◌, ◌∙◌, ◌==◌, ℕ, List, [], Option, Some, Bool, true, sym, ap, refl, arith, not, map, get_or, find, ◌≤◌, ◌+◌, inl, inr, leb, length, append_assoc, length-append, bytes_eq, decimal, leb-true, None, subst, append-nil, false, Ordering, flat_map, option_to_list, codes, ◌*◌, Result, Ok, Err}
-use Rattle.std.specs.List.{list_all, AllByRecursion, join_with_byte}
-use Rattle.std.specs.Str.Parse.{AllDigits, digits_value}
-use Rattle.std.proofs.lemmas.Fmt.{decimal_is_IsNumeral, length-decimal-le}
-use Rattle.std.proofs.lemmas.Str.Parse.{digit_from_value}
+use Rattle.std.proofs.Common.{IsErrAnd, take, drop, take-append-drop, ◌≡◌, ◌≢◌, ◌<◌, ◌^◌, ◌++◌, ◌∷◌, ◌∙◌, ◌==◌, ℕ, List, [], Option, Some, Bool, true, sym, ap, refl, arith, not, map, get_or, find, ◌≤◌, ◌+◌, inl, inr, leb, length, append_assoc, length-append, bytes_eq, decimal, leb-true, None, subst, append-nil, false, Ordering, flat_map, option_to_list, codes, ◌*◌, Result, Ok, Err, min, ◌-◌}
+use Rattle.std.specs.List.{list_all, join_with_byte}
+use Rattle.std.proofs.lemmas.Fmt.{decimal_is_IsNumeral, length-decimal-le, decimal_injective}
+use Rattle.std.proofs.lemmas.Str.Parse.{digit_at}
 use Rattle.std.proofs.lemmas.Bool.Decides.{Decides-by_and, Decides-eqb, Decides-not}
-use Rattle.std.proofs.lemmas.List.{get_or-map, take-append-le}
+use Rattle.std.proofs.lemmas.List.{take-append-le}
 use Rattle.std.proofs.Math.Seq.{get_or-append_seam, take-append_seam}
-use Rattle.std.proofs.lemmas.List.Elements.{All-append, All-cons, All-head, All-nil, All-tail}
+use Rattle.std.proofs.lemmas.List.Elements.{All-append, All-cons, All-head, All-nil, All-tail, All-from_get_or}
 use Rattle.lt_lines.specs.Splitting.{IsFreeOf}
 use Rattle.lt_rewrite.specs.Names.{name_of}
 use Rattle.lt_rewrite.specs.declared.steps.Step.{Step}
 use Rattle.lt_rewrite.specs.declared.steps.StepKind.{StepKind}
-use Rattle.lt_verify.specs.StepLines.{HasFewWords, HasWords, IsStepLine, step_line, IsNoName, NamesNoEnd, text_of, end_line}
+use Rattle.lt_verify.specs.StepLines.{HasWords, IsStepLine, step_line, IsNoName, NamesNoEnd, text_of, end_line}
 use Rattle.lt_tag.specs.Parts.{TagForm, CoreParts, ExtensionParts, UForm, TForm, LangTag}
 use Rattle.lt_registry.specs.Parts.{EntryParts}
 use Rattle.lt_rewrite.specs.Labels.{LeadsBy, core_label, extension_label, extensions_label, list_label, tag_label, transform_label, unicode_label}
@@ -42,8 +41,7 @@ use Rattle.lt_tag.proofs.LetterLemmas.{from_HasList, join_pieces}
 use Rattle.lt_tag.proofs.OneTagLemmas.{one_tag_of_text, text_of_tag}
 use Rattle.lt_tag.specs.Lists.{pieces}
 use Rattle.lt_tag.specs.WellFormed.{IsTag}
-use Rattle.lt_canon.specs.ExplanationTexts.{AreLines, AreStepLines}
-use Rattle.lt_verify.specs.Verifying.{GoesOn, GoesTo, JudgesEnd, KeepsMore, SettlesKept, Takes, TakesPiece, Begins, EndsAs, IsVerdictOf, VerifiesLines}
+use Rattle.lt_verify.specs.Verifying.{GoesOn, GoesTo, JudgesEnd, KeepsMore, SettlesKept, Takes, TakesPiece, Begins, EndsAs, IsVerdictOf, VerifiesLines, JudgesKept}
 use Rattle.lt_verify.specs.declared.lines.Following.{Following}
 use Rattle.std.proofs.lemmas.Result.{err_from_is_err_and}
 use Rattle.std.specs.Io.KnownBytes.{Consumes, IsAtEnd, Keeps}
@@ -56,11 +54,14 @@ use Rattle.lt_lines.proofs.RunLemmas.{ReadsPiece, read_more}
 use Rattle.lt_lines.specs.declared.faults.ToolFault.{ToolFault}
 use Rattle.lt_lines.specs.Running.{HasRead}
 use Rattle.lt_registry.specs.Validity.{IsProper}
-use Rattle.lt_rewrite.proofs.PartLists.{some_long}
+use Rattle.lt_rewrite.proofs.PartLists.{some_long, flat_length}
 use Rattle.lt_rewrite.specs.declared.steps.StepKind.TheVariants as kinds
 use Rattle.lt_verify.specs.declared.verdicts.Verdict.TheVariants as verdicts
 use Rattle.lt_canon.specs.ExplanationTexts as printed
 use Rattle.lt_lines.specs.declared.faults.ToolFault.TheVariants as faults
+use Rattle.lt_rewrite.specs.Runs.{rank_of}
+use Rattle.lt_rewrite.proofs.ExtensionLaws.{attributes_count}
+use Rattle.lt_verify.specs.declared.labels.TheConstants.{KINDS}
 
 -- ---- words that are parted by a space
 
@@ -80,39 +81,20 @@ no_split byte line x r free e = free (length x) 0 (omega (arith, ap length e, le
 
 -- ---- the kinds
 
-abbrev all_kinds : List StepKind
-all_kinds =
-    kinds.Extlang ∷ kinds.Language ∷ kinds.Script ∷ kinds.Region ∷ kinds.Variant ∷ kinds.VariantLanguage ∷ kinds.Whole ∷ kinds.SwapExtensions ∷ kinds.DropAttribute
-    ∷ kinds.SwapAttributes ∷ kinds.DropKeyword ∷ kinds.SwapKeywords ∷ kinds.DropTrue ∷ kinds.SwapFields ∷ []
-
 -- each kind is among them
-pub kind_at : (kind : StepKind) → (k : ℕ) × (k < 14) × (get_or all_kinds k kinds.Extlang ≡ kind)
+pub kind_at : (kind : StepKind) → (k : ℕ) × (k < 14) × (get_or KINDS k kinds.Extlang ≡ kind)
 kind_at kinds.Extlang = (0, omega arith, refl)
-kind_at kinds.Language = (1, omega arith, refl)
-kind_at kinds.Script = (2, omega arith, refl)
-kind_at kinds.Region = (3, omega arith, refl)
-kind_at kinds.Variant = (4, omega arith, refl)
-kind_at kinds.VariantLanguage = (5, omega arith, refl)
-kind_at kinds.Whole = (6, omega arith, refl)
-kind_at kinds.SwapExtensions = (7, omega arith, refl)
-kind_at kinds.DropAttribute = (8, omega arith, refl)
-kind_at kinds.SwapAttributes = (9, omega arith, refl)
-kind_at kinds.DropKeyword = (10, omega arith, refl)
-kind_at kinds.SwapKeywords = (11, omega arith, refl)
-kind_at kinds.DropTrue = (12, omega arith, refl)
-kind_at kinds.SwapFields = (13, omega arith, refl)
+kind_at kind = (min (rank_of kind - 1) 13, omega arith, refl)
 
 -- what is the same of each of them is the same of each kind
-pub each_kind : {A : Type 0} (f g : StepKind → A) → map f all_kinds ≡ map g all_kinds → (kind : StepKind) → f kind ≡ g kind
-each_kind f g same kind =
-    let at = kind_at kind in
-    let d = f kinds.Extlang in
-    ap f (sym at.2) ∙ sym (get_or-map f all_kinds at.0 kinds.Extlang d at.1) ∙ ap (λ l. get_or l at.0 d) same ∙ get_or-map g all_kinds at.0 kinds.Extlang d at.1 ∙ ap g at.2
+pub each_kind : {A : Type 0} (f g : StepKind → A) → map f KINDS ≡ map g KINDS → (kind : StepKind) → f kind ≡ g kind
+each_kind f g same kinds.Extlang = ap (λ l. get_or l 0 (f kinds.Extlang)) same
+each_kind f g same kind = ap (λ l. get_or l (min (rank_of kind - 1) 13) (f kinds.Extlang)) same
 
 -- no two have one name
 pub same_kind : (a b : StepKind) → name_of a ≡ name_of b → a ≡ b
 same_kind a b e =
-    let by_name : List ℕ → Option StepKind = λ name. find (λ (k : StepKind). bytes_eq name (name_of k)) all_kinds in
+    let by_name : List ℕ → Option StepKind = λ name. find (λ (k : StepKind). bytes_eq name (name_of k)) KINDS in
     let same : Some a ≡ Some b = sym (each_kind (λ k. by_name (name_of k)) (λ k. Some k) refl a) ∙ ap by_name e ∙ each_kind (λ k. by_name (name_of k)) (λ k. Some k) refl b in
     cc
 
@@ -121,20 +103,14 @@ same_kind a b e =
 abbrev is_free : ℕ → List ℕ → Bool
 is_free byte bytes = list_all (λ b. not (b == byte)) bytes
 
-pub name_free : (byte : ℕ) → map (λ k. is_free byte (name_of k)) all_kinds ≡ map (λ _. true) all_kinds → (kind : StepKind) → IsFreeOf byte (name_of kind)
+pub name_free : (byte : ℕ) → map (λ k. is_free byte (name_of k)) KINDS ≡ map (λ _. true) KINDS → (kind : StepKind) → IsFreeOf byte (name_of kind)
 name_free byte free kind =
     (Decides-by_and (λ b. not (b == byte)) (λ b. b ≢ byte) (is_free byte) (λ b. Decides-not (b == byte) (Decides-eqb b byte)) refl (λ _ _. refl) (name_of kind)).0
     (each_kind (λ k. is_free byte (name_of k)) (λ _. true) free kind)
 
 -- digits are neither a space nor a line feed
-digits_free : (byte : ℕ) → byte < 48 → (ds : List ℕ) → AllDigits 10 ds → IsFreeOf byte ds
-digits_free byte low [] h = All-nil (λ other. other ≢ byte)
-digits_free byte low (d ∷ ds) h =
-    let range = digit_from_value d h.0 in
-    All-cons (λ other. other ≢ byte) d ds (λ same. absurd (omega (arith, range.0, same, low))) (digits_free byte low ds h.1)
-
 pub number_free : (byte n : ℕ) → byte < 48 → n < 2 ^ 32 → IsFreeOf byte (decimal n)
-number_free byte n low h = digits_free byte low (decimal n) (decimal_is_IsNumeral n (omega (arith, h))).0.1
+number_free byte n low h = All-from_get_or (λ other. other ≢ byte) (decimal n) 0 (λ i l e. absurd (omega (arith, low, e, digit_at (decimal n) i (decimal_is_IsNumeral n (omega (arith, h))).0.1 l)))
 
 -- so the line of a step is one line where its text is
 pub step_is_line : (step : Step) (text : List ℕ) → step.place < 2 ^ 32 → step.number < 2 ^ 32 → IsFreeOf 10 text → IsFreeOf 10 (step_line step text)
@@ -146,19 +122,6 @@ step_is_line step text place number one =
     word bytes more one two = All-append (λ other. other ≢ 10) bytes (32 ∷ more) one (All-cons (λ other. other ≢ 10) 32 more (λ e. absurd (omega (arith, e))) two)
 
 -- ---- the words of a line
-
--- no name, no place and no number
-pub no_name : (line : List ℕ) → IsFreeOf 32 line → HasFewWords line
-no_name line free = λ name place number text w. no_split 32 line name _ free w.line_is
-
-pub no_place : (line name places : List ℕ) → IsFreeOf 32 name × (line ≡ name ++ 32 ∷ places) → IsFreeOf 32 places → HasFewWords line
-no_place line name places first none = λ other place number text w.
-    no_split 32 places place _ none (one_split 32 name other places _ first.0 w.name_free (sym first.1 ∙ w.line_is)).1
-
-pub no_number : (line name places place numbers : List ℕ) → IsFreeOf 32 name × (line ≡ name ++ 32 ∷ places) → IsFreeOf 32 place × (places ≡ place ++ 32 ∷ numbers) → IsFreeOf 32 numbers → HasFewWords line
-no_number line name places place numbers first second none = λ other another number text w.
-    let behind = (one_split 32 name other places _ first.0 w.name_free (sym first.1 ∙ w.line_is)).1 in
-    no_split 32 numbers number _ none (one_split 32 place another numbers _ second.0 w.place_free (sym second.1 ∙ behind)).1
 
 -- a line has its words in one way
 pub one_words : {line a b c d x y z u : List ℕ} → HasWords line a b c d → HasWords line x y z u → (a ≡ x) × (b ≡ y) × (c ≡ z) × (d ≡ u)
@@ -180,16 +143,14 @@ longer_front a b c d e le =
     let n = length c in
     (drop n a, sym (take-append-drop n a) ∙ ap (λ l. l ++ drop n a) (sym (take-append-le n a b le) ∙ ap (take n) e ∙ take-append_seam c d))
 
-number_short : (n : ℕ) → n < 2 ^ 32 → length (decimal n) ≤ 10
-number_short n h = length-decimal-le 10 n (omega arith) (omega (arith, h)) (omega (arith, h))
-
 -- a step's line goes on as its text does
 pub step_line-append : (step : Step) (text more : List ℕ) → step_line step text ++ more ≡ step_line step (text ++ more)
 step_line-append step text more = simp append_assoc
 
 label_short : (step : Step) → step.place < 2 ^ 32 → step.number < 2 ^ 32 → length (step_line step []) ≤ 38
 label_short step place number =
-    omega (arith, leb-true (length (name_of step.kind)) 15 (each_kind (λ k. leb (length (name_of k)) 15) (λ _. true) refl step.kind), number_short step.place place, number_short step.number number, length-append {A = ℕ})
+    let few : (n : ℕ) → n < 2 ^ 32 → length (decimal n) ≤ 10 = λ n h. length-decimal-le 10 n (omega arith) (omega arith) (omega arith) in
+    omega (arith, leb-true (length (name_of step.kind)) 15 (each_kind (λ k. leb (length (name_of k)) 15) (λ _. true) refl step.kind), few step.place place, few step.number number, length-append {A = ℕ})
 
 -- a long front that names no step and no end names none however it goes on
 pub front_names_nothing : (front more : List ℕ) → 38 < length front → IsNoName front → NamesNoEnd front → NamesNothing (front ++ more)
@@ -224,14 +185,11 @@ front_other {u = u} {text = text} {step = step} more is leads longer = record {
 
 -- ---- a front that may be kept
 
-line_length : (step : Step) (text : List ℕ) → length (step_line step text) ≡ length (step_line step []) + length text
-line_length step text = ap length (sym (step_line-append step [] text)) ∙ length-append (step_line step []) text
-
 pub step_within : {R : List EntryParts} {t u : TagForm} {front text : List ℕ} {step : Step} → IsStepLine front step text → LeadsBy R t step u → length text ≤ length (text_of u) → KeepsFew R (Some t) (length front)
 step_within {u = u} {text = text} {step = step} is leads short = inr (record {
   line = step_line step (text_of u);
   right = inl (u, record { step = step; leads = leads; is_line = record { place = is.place; number = is.number; line_is = refl } });
-  long = omega (arith, short, line_length step text, line_length step (text_of u), ap length is.line_is);
+  long = omega (arith, short, length-append {A = ℕ}, ap length is.line_is);
 })
 
 -- one line more leads on
@@ -242,16 +200,16 @@ lead_more R (first ∷ before) t here u line lead leads = (lead.0, lead.1, lead_
 -- ---- what is judged is the verdict
 
 -- behind lines that lead to a tag
-module _ (R : List EntryParts) (t here : TagForm) (before : List (List ℕ)) (lead : Lead R t before here) where
-  stops : (line : List ℕ) (after : List (List ℕ)) (Holds : TagForm → List ℕ → Type 0) → Holds here line → StopsAt R t (before ++ line ∷ after) (length before + 1) Holds
-  stops line after Holds holds = record { before = before; line = line; after = after; there = refl; nth = refl; here = here; lead = lead; holds = holds }
+module _ (R : List EntryParts) (t here : TagForm) (before : List (List ℕ)) (n : ℕ) (nth : n ≡ length before + 1) (lead : Lead R t before here) where
+  stops : (line : List ℕ) (after : List (List ℕ)) (Holds : TagForm → List ℕ → Type 0) → Holds here line → StopsAt R t (before ++ line ∷ after) n Holds
+  stops line after Holds holds = record { before = before; line = line; after = after; there = refl; nth = nth; here = here; lead = lead; holds = holds }
 
-  settled : (line : List ℕ) (after : List (List ℕ)) (v : Verdict) → SettlesLine R (length before + 1) here line v → IsVerdict R t (before ++ line ∷ after) v
+  settled : (line : List ℕ) (after : List (List ℕ)) (v : Verdict) → SettlesLine R n here line v → IsVerdict R t (before ++ line ∷ after) v
   settled line after v (inl (stuck, is)) = rw is (stops line after _ stuck)
-  settled line after v (inr (inl (ends, is))) = rw is (length before + 1, stops line after EndsElsewhere ends)
+  settled line after v (inr (inl (ends, is))) = rw is (n, stops line after EndsElsewhere ends)
   settled line after v (inr (inr (bad, is))) = rw is (inl (stops line after _ bad))
 
-  ended : (line : List ℕ) (after : List (List ℕ)) (v : Verdict) → EndsHere here line → Judges R (length before + 1 + 1) None after v → IsVerdict R t (before ++ line ∷ after) v
+  ended : (line : List ℕ) (after : List (List ℕ)) (v : Verdict) → EndsHere here line → Judges R (n + 1) None after v → IsVerdict R t (before ++ line ∷ after) v
   ended line [] v ends is = rw is (record { steps = before; end = here; lead = lead; all = ap (λ (l : List ℕ). before ++ l ∷ []) ends })
   ended line (next ∷ after) v ends is =
       rw is (inr (inr (record {
@@ -264,57 +222,47 @@ module _ (R : List EntryParts) (t here : TagForm) (before : List (List ℕ)) (le
         nth = omega arith;
       })))
 
-verdict_behind : (R : List EntryParts) (t here : TagForm) (before lines : List (List ℕ)) (v : Verdict) → Lead R t before here → Judges R (length before + 1) (Some here) lines v
+verdict_behind : (R : List EntryParts) (t here : TagForm) (before lines : List (List ℕ)) (v : Verdict) (n : ℕ) → n ≡ length before + 1 → Lead R t before here → Judges R n (Some here) lines v
     → IsVerdict R t (before ++ lines) v
-verdict_behind R t here before [] v lead is = rw (append-nil before, is) (inr (inl (record { here = here; lead = lead; nth = refl })))
-verdict_behind R t here before (line ∷ lines) v lead (inl (u, leads, behind)) =
-    let one : length before + 1 + 1 ≡ length (before ++ line ∷ []) + 1 = omega (arith, length-append before (line ∷ [])) in
-    rw (← append_assoc before (line ∷ []) lines) (verdict_behind R t u (before ++ line ∷ []) lines v (lead_more R before t here u line lead leads) (rw one at behind))
-verdict_behind R t here before (line ∷ lines) v lead (inr (inl (ends, behind))) = ended R t here before lead line lines v ends behind
-verdict_behind R t here before (line ∷ lines) v lead (inr (inr settles)) = settled R t here before lead line lines v settles
+verdict_behind R t here before [] v n nth lead is = rw (append-nil before, is) (inr (inl (record { here = here; lead = lead; nth = nth })))
+verdict_behind R t here before (line ∷ lines) v n nth lead (inl (u, leads, behind)) =
+    rw (← append_assoc before (line ∷ []) lines) (verdict_behind R t u (before ++ line ∷ []) lines v (n + 1) (omega (arith, nth, length-append before (line ∷ []))) (lead_more R before t here u line lead leads) behind)
+verdict_behind R t here before (line ∷ lines) v n nth lead (inr (inl (ends, behind))) = ended R t here before n nth lead line lines v ends behind
+verdict_behind R t here before (line ∷ lines) v n nth lead (inr (inr settles)) = settled R t here before n nth lead line lines v settles
 
 -- ---- the verdict is judged
 
 -- what is judged behind lines that lead on
-judged_behind : (R : List EntryParts) (n : ℕ) (t here : TagForm) (before lines : List (List ℕ)) (v : Verdict) → Lead R t before here → Judges R (n + length before) (Some here) lines v
+judged_behind : (R : List EntryParts) (n m : ℕ) (t here : TagForm) (before lines : List (List ℕ)) (v : Verdict) → m ≡ n + length before → Lead R t before here → Judges R m (Some here) lines v
     → Judges R n (Some t) (before ++ lines) v
-judged_behind R n t here [] lines v lead judged =
-    let same : n + 0 ≡ n = omega arith in
-    rw (lead, ← same) judged
-judged_behind R n t here (line ∷ before) lines v lead judged =
-    let same : n + length (line ∷ before) ≡ n + 1 + length before = omega arith in
-    inl (lead.0, lead.1, judged_behind R (n + 1) lead.0 here before lines v lead.2 (subst (λ (m : ℕ). Judges R m (Some here) lines v) same judged))
+judged_behind R n m t here [] lines v nth lead judged =
+    let same : n ≡ m = omega arith in
+    rw (lead, same) judged
+judged_behind R n m t here (line ∷ before) lines v nth lead judged = inl (lead.0, lead.1, judged_behind R (n + 1) m lead.0 here before lines v (omega arith) lead.2 judged)
 
 judged_at : (R : List EntryParts) (t : TagForm) (lines : List (List ℕ)) (n : ℕ) (Holds : TagForm → List ℕ → Type 0) (v : Verdict) (s : StopsAt R t lines n Holds)
     → SettlesLine R n s.here s.line v → Judges R 1 (Some t) lines v
-judged_at R t lines n Holds v s settles =
-    let nth : n ≡ 1 + length s.before = omega (arith, s.nth) in
-    rw s.there (judged_behind R 1 t s.here s.before (s.line ∷ s.after) v s.lead (inr (inr (rw nth at settles))))
+judged_at R t lines n Holds v s settles = rw s.there (judged_behind R 1 n t s.here s.before (s.line ∷ s.after) v (omega (arith, s.nth)) s.lead (inr (inr settles)))
 
 pub judged_of : (R : List EntryParts) (t : TagForm) (lines : List (List ℕ)) (v : Verdict) → IsVerdict R t lines v → Judges R 1 (Some t) lines v
-judged_of R t lines verdicts.Right is = rw is.all (judged_behind R 1 t is.end is.steps (end_line (text_of is.end) ∷ []) verdicts.Right is.lead (inr (inl (refl, refl))))
+judged_of R t lines verdicts.Right is =
+    rw is.all (judged_behind R 1 (1 + length is.steps) t is.end is.steps (end_line (text_of is.end) ∷ []) verdicts.Right refl is.lead (inr (inl (refl, refl))))
 judged_of R t lines (verdicts.NoSuchStep n) is = judged_at R t lines n _ (verdicts.NoSuchStep n) is (inl (is.holds, refl))
 judged_of R t lines verdicts.WrongEnd is = judged_at R t lines is.0 EndsElsewhere verdicts.WrongEnd is.1 (inr (inl (is.1.holds, refl)))
 judged_of R t lines (verdicts.BadStep n) (inl is) = judged_at R t lines n _ (verdicts.BadStep n) is (inr (inr (is.holds, refl)))
-judged_of R t lines (verdicts.BadStep n) (inr (inl is)) =
-    let nth : n ≡ 1 + length lines = omega (arith, is.nth) in
-    rw (← append-nil lines) (judged_behind R 1 t is.here lines [] (verdicts.BadStep n) is.lead (ap (λ (m : ℕ). verdicts.BadStep m) nth))
+judged_of R t lines (verdicts.BadStep n) (inr (inl is)) = rw (← append-nil lines) (judged_behind R 1 n t is.here lines [] (verdicts.BadStep n) (omega (arith, is.nth)) is.lead refl)
 judged_of R t lines (verdicts.BadStep n) (inr (inr is)) =
     let nth : n ≡ 1 + length is.steps + 1 = omega (arith, is.nth) in
-    rw is.there (judged_behind R 1 t is.end is.steps (end_line (text_of is.end) ∷ is.line ∷ is.after) (verdicts.BadStep n) is.lead (inr (inl (refl, ap (λ (m : ℕ). verdicts.BadStep m) nth))))
+    rw is.there (judged_behind R 1 (1 + length is.steps) t is.end is.steps (end_line (text_of is.end) ∷ is.line ∷ is.after) (verdicts.BadStep n) refl is.lead (inr (inl (refl, ap (λ (m : ℕ). verdicts.BadStep m) nth))))
 
 -- ---- a line names one step
-
-same_number : (m n : ℕ) → m < 2 ^ 32 → n < 2 ^ 32 → decimal m ≡ decimal n → m ≡ n
-same_number m n small few e =
-    sym (decimal_is_IsNumeral m (omega (arith, small))).1 ∙ ap (digits_value 10) e ∙ (decimal_is_IsNumeral n (omega (arith, few))).1
 
 same_step : (line : List ℕ) (a b : Step) (x y : List ℕ) → IsStepLine line a x → IsStepLine line b y → (a ≡ b) × (x ≡ y)
 same_step line a b x y is are =
     let words = one_words (step_words is) (step_words are) in
     let kind = same_kind a.kind b.kind words.0 in
-    let place = same_number a.place b.place is.place are.place words.1 in
-    let number = same_number a.number b.number is.number are.number words.2 in
+    let place = decimal_injective a.place b.place (omega (arith, is.place)) (omega (arith, are.place)) words.1 in
+    let number = decimal_injective a.number b.number (omega (arith, is.number)) (omega (arith, are.number)) words.2 in
     ((λ i. let s : Step = record { kind = kind i; place = place i; number = number i } in s), words.3)
 
 -- a line that names a step is not that of an end: no name begins with `=`
@@ -394,27 +342,13 @@ record Fits (step : Step) (most : ℕ) : Type 0 where
   place : step.place ≤ most
   number : step.number < 2 ^ 32
 
-core_length : (c : CoreParts) → length (spell_core c) ≡ 1 + (length c.extlangs + (length (option_to_list c.script) + (length (option_to_list c.region) + length c.variants)))
-core_length c = simp length-append (omega arith)
-
-attributes_count : (xs : List (List ℕ)) → length (flat_map (λ a. a ∷ []) xs) ≡ length xs
-attributes_count [] = refl
-attributes_count (x ∷ xs) = omega (arith, attributes_count xs)
-
--- the subtags before a part, and those of the part
-part_count : {A : Type 0} (spell : A → List (List ℕ)) (before : List A) (a : A) (after : List A)
-    → length (flat_map spell (before ++ a ∷ after)) ≡ length (flat_map spell before) + (length (spell a) + length (flat_map spell after))
-part_count spell [] a after = omega (arith, length-append (spell a) (flat_map spell after))
-part_count spell (b ∷ before) a after =
-    omega (arith, part_count spell before a after, length-append (spell b) (flat_map spell (before ++ a ∷ after)), length-append (spell b) (flat_map spell before))
-
 -- a step on a list of parts, each of which has a subtag
 list_fits : {A : Type 0} {once : Bool} {cmp : A → A → Ordering} (xs ys : List A) (swap drop : StepKind) (spell : A → List (List ℕ)) (start : ℕ) → ((a : A) → 0 < length (spell a))
     → (s : ListStep once cmp xs ys) → Fits (list_label swap drop spell start s) (start + length (flat_map spell xs))
 list_fits xs ys swap drop spell start some (by_swap before a b after s) =
-    record { place = omega (arith, part_count spell before a (b ∷ after), some a, ap (λ l. length (flat_map spell l)) s.there); number = omega arith }
+    omega (arith, flat_length spell before a (b ∷ after), some a, ap (λ l. length (flat_map spell l)) s.there)
 list_fits xs ys swap drop spell start some (by_drop before a between b after o s) =
-    record { place = omega (arith, part_count spell before a (between ++ b ∷ after), part_count spell between b after, some b, ap (λ l. length (flat_map spell l)) s.there); number = omega arith }
+    omega (arith, flat_length spell before a (between ++ b ∷ after), flat_length spell between b after, some b, ap (λ l. length (flat_map spell l)) s.there)
 
 module _ (R : List EntryParts) (all : NumbersFit R) where
   entry_fits : (kind : Kind) (subtag : List ℕ) → number_of (entry R kind subtag) < 2 ^ 32
@@ -425,38 +359,30 @@ module _ (R : List EntryParts) (all : NumbersFit R) where
 
   unicode_fits : (start : ℕ) (p q : UForm) (s : UnicodeStep p q) → Fits (unicode_label start s) (start + length (spell_u p) + 1)
   unicode_fits start p q (on_attributes s k) =
-      let fits = list_fits p.attributes q.attributes _ _ (λ a. a ∷ []) start (λ a. omega arith) s in
-      record { place = omega (arith, fits.place, length-append p.attributes (flat_map spell_keyword p.keywords), attributes_count p.attributes); number = fits.number }
+      omega (arith, list_fits p.attributes q.attributes kinds.SwapAttributes kinds.DropAttribute (λ a. a ∷ []) start (λ a. omega arith) s, length-append p.attributes (flat_map spell_keyword p.keywords), attributes_count p.attributes)
   unicode_fits start p q (on_keywords a s) =
-      let fits = list_fits p.keywords q.keywords _ _ spell_keyword (start + length p.attributes) (λ a. omega arith) s in
-      record { place = omega (arith, fits.place, length-append p.attributes (flat_map spell_keyword p.keywords)); number = fits.number }
+      omega (arith, list_fits p.keywords q.keywords kinds.SwapKeywords kinds.DropKeyword spell_keyword (start + length p.attributes) (λ a. omega arith) s, length-append p.attributes (flat_map spell_keyword p.keywords))
   unicode_fits start p q (on_types a before k after s) =
-      record { place = omega (arith, part_count spell_keyword before k after, length-append p.attributes (flat_map spell_keyword p.keywords), ap (λ l. length (flat_map spell_keyword l)) s.there); number = omega arith }
+      omega (arith, flat_length spell_keyword before k after, length-append p.attributes (flat_map spell_keyword p.keywords), ap (λ l. length (flat_map spell_keyword l)) s.there)
 
   transform_fits : (start : ℕ) (p q : TForm) (s : TransformStep R p q) → Fits (transform_label R start s) (start + length (spell_t p))
   transform_fits start p q (on_source c d from _ s _) =
-      let fits = core_fits start c d s in
-      record { place = omega (arith, fits.place, length-append (spell_source p.source) (flat_map spell_field p.fields), ap (λ o. length (spell_source o)) from); number = fits.number }
+      omega (arith, core_fits start c d s, length-append (spell_source p.source) (flat_map spell_field p.fields), ap (λ o. length (spell_source o)) from)
   transform_fits start p q (on_fields a s) =
-      let fits = list_fits p.fields q.fields _ _ spell_field (start + length (spell_source p.source)) (λ a. omega arith) s in
-      record { place = omega (arith, fits.place, length-append (spell_source p.source) (flat_map spell_field p.fields)); number = fits.number }
+      omega (arith, list_fits p.fields q.fields kinds.SwapFields kinds.SwapFields spell_field (start + length (spell_source p.source)) (λ a. omega arith) s, length-append (spell_source p.source) (flat_map spell_field p.fields))
 
   extension_fits : (start : ℕ) (e f : ExtensionParts) (s : ExtensionStep R e f) → Fits (extension_label R start s) (start + length e.subtags + 1)
-  extension_fits start e f (in_unicode p q _ _ from _ s) =
-      let fits = unicode_fits start p q s in record { place = omega (arith, fits.place, ap length from.spelled); number = fits.number }
-  extension_fits start e f (in_transform p q _ _ from _ s) =
-      let fits = transform_fits start p q s in record { place = omega (arith, fits.place, ap length from.spelled); number = fits.number }
+  extension_fits start e f (in_unicode p q _ _ from _ s) = omega (arith, unicode_fits start p q s, ap length from.spelled)
+  extension_fits start e f (in_transform p q _ _ from _ s) = omega (arith, transform_fits start p q s, ap length from.spelled)
 
   extensions_fit : (start : ℕ) (es fs : List ExtensionParts) (s : ExtensionsStep R es fs) → Fits (extensions_label R start s) (start + length (spell_extensions es) + 1)
   extensions_fit start es fs (inside before e f after w s) =
-      let fits = extension_fits (start + length (spell_extensions before) + 1) e f s in
-      record { place = omega (arith, fits.place, part_count spell_extension before e after, ap (λ l. length (spell_extensions l)) w.there); number = fits.number }
-  extensions_fit start es fs (among s) =
-      let fits = list_fits es fs _ _ spell_extension start (λ a. omega arith) s in record { place = omega (arith, fits.place); number = fits.number }
+      omega (arith, extension_fits (start + length (spell_extensions before) + 1) e f s, flat_length spell_extension before e after, ap (λ l. length (spell_extensions l)) w.there)
+  extensions_fit start es fs (among s) = omega (arith, list_fits es fs kinds.SwapExtensions kinds.SwapExtensions spell_extension start (λ a. omega arith) s)
 
   -- what the parts of a tag have room for
   core_few : (c : CoreParts) → IsCore c → length c.variants ≤ 1024 → length (spell_core c) ≤ 1100
-  core_few c is few = omega (arith, core_length c, is.up_to_three, few, one c.script, one c.region)
+  core_few c is few = simp length-append (omega (arith, is.up_to_three, few, one c.script, one c.region))
     where
       one : (o : Option (List ℕ)) → length (option_to_list o) ≤ 1
       one None = omega arith
@@ -465,20 +391,16 @@ module _ (R : List EntryParts) (all : NumbersFit R) where
   change_fits : (t u : TagForm) → IsTagValue t → (s : TagChange R t u) → Fits (tag_label R s) 2000000
   change_fits t u value (on_core c d es ps from _ s) =
       let is = subst IsTagValue from value in
-      let fit = core_fits 0 c d s in
-      record { place = omega (arith, fit.place, core_few c is.tag.0.shaped_core is.counts.0); number = fit.number }
+      omega (arith, core_fits 0 c d s, core_few c is.tag.0.shaped_core is.counts.0)
   change_fits t u value (on_extensions c es fs ps from _ s) =
       let is = subst IsTagValue from value in
       let counts = fits (LangTag c es ps) is.counts in
-      let fit = extensions_fit (length (spell_core c)) es fs s in
-      record { place = omega (arith, fit.place, core_few c is.tag.0.shaped_core is.counts.0, few_subtags es counts.1, counts.0); number = fit.number }
+      omega (arith, extensions_fit (length (spell_core c)) es fs s, core_few c is.tag.0.shaped_core is.counts.0, few_subtags es counts.1, counts.0)
   change_fits t u value (on_whole _ _) = record { place = omega arith; number = few (whole R t) (λ e is. (find_has (λ (e : EntryParts). e.number < 2 ^ 32) (λ (e : EntryParts). is_whole t e.name) R e all is).0) }
 
   pub step_fits : (t u : TagForm) (step : Step) → LeadsBy R t step u → (step.place < 2 ^ 32) × (step.number < 2 ^ 32)
   step_fits t u step leads =
-      let fit = change_fits t u leads.0.from.tag leads.0.change in
-      let place : step.place ≤ 2000000 = subst (λ (s : Step). s.place ≤ 2000000) leads.1 fit.place in
-      (omega (arith, place), subst (λ (s : Step). s.number < 2 ^ 32) leads.1 fit.number)
+      subst (λ (s : Step). (s.place < 2 ^ 32) × (s.number < 2 ^ 32)) leads.1 (omega (arith, change_fits t u leads.0.from.tag leads.0.change))
 
 abbrev IsNoFeed : ℕ → Type 0
 IsNoFeed byte = byte ≢ 10
@@ -491,21 +413,16 @@ bytes_line (b ∷ piece) h =
     let k = and_parts (is_subtag_byte (to_ascii_lowercase b)) (list_all is_subtag_byte (folded piece)) h in
     All-cons IsNoFeed b piece (λ e. let bad = rw e at k.0 in cc) (bytes_line piece k.1)
 
-pieces_lines : (ps : List (List ℕ)) → list_all is_subtag (map folded ps) ≡ true → AllByRecursion IsOneLine ps
+pieces_line : (ps : List (List ℕ)) → list_all is_subtag (map folded ps) ≡ true → IsOneLine (join_with_byte 45 ps)
 unfolding is_subtag
-pieces_lines [] h = tt
-pieces_lines (p ∷ ps) h =
-    let k = and_parts (is_subtag (folded p)) (list_all is_subtag (map folded ps)) h in
-    (bytes_line p (and_parts (list_all is_subtag_byte (folded p)) _ k.0).0, pieces_lines ps k.1)
-
-join_line : (ps : List (List ℕ)) → AllByRecursion IsOneLine ps → IsOneLine (join_with_byte 45 ps)
-join_line [] h = All-nil IsNoFeed
-join_line (p ∷ []) h = h.0
-join_line (p ∷ q ∷ ps) h =
-    All-append IsNoFeed p (45 ∷ join_with_byte 45 (q ∷ ps)) h.0 (All-cons IsNoFeed 45 (join_with_byte 45 (q ∷ ps)) (λ e. absurd (omega (arith, e))) (join_line (q ∷ ps) h.1))
+pieces_line [] h = All-nil IsNoFeed
+pieces_line (p ∷ []) h = bytes_line p (and_parts (list_all is_subtag_byte (folded p)) _ (and_parts (is_subtag (folded p)) _ h).0).0
+pieces_line (p ∷ q ∷ ps) h =
+    let k = and_parts (is_subtag (folded p)) (list_all is_subtag (map folded (q ∷ ps))) h in
+    All-append IsNoFeed p (45 ∷ join_with_byte 45 (q ∷ ps)) (bytes_line p (and_parts (list_all is_subtag_byte (folded p)) _ k.0).0) (All-cons IsNoFeed 45 (join_with_byte 45 (q ∷ ps)) (λ e. absurd (omega arith)) (pieces_line (q ∷ ps) k.1))
 
 tag_line : (t : TagForm) → IsTag t → IsOneLine (text_of t)
-tag_line t is = subst IsOneLine (join_pieces (text_of t)) (join_line (pieces (text_of t)) (pieces_lines (pieces (text_of t)) (from_HasList (text_of t) (text_of_tag t is).0)))
+tag_line t is = subst IsOneLine (join_pieces (text_of t)) (pieces_line (pieces (text_of t)) (from_HasList (text_of t) (text_of_tag t is).0))
 
 -- ---- the lines
 
@@ -515,7 +432,7 @@ record AreLed (R : List EntryParts) (t end : TagForm) (text : List ℕ) : Type 0
   lead : Lead R t lines end
   split : (more : List ℕ) → lines_of (text ++ more) ≡ lines ++ lines_of more
 
-steps_led : (R : List EntryParts) → NumbersFit R → (steps : List Step) (end t : TagForm) (text : List ℕ) → AreStepLines R steps end t text → AreLed R t end text
+steps_led : (R : List EntryParts) → NumbersFit R → (steps : List Step) (end t : TagForm) (text : List ℕ) → printed.AreStepLines R steps end t text → AreLed R t end text
 steps_led R all [] end t text are = record { lines = []; lead = are.0; split = λ more. ap (λ (l : List ℕ). lines_of (l ++ more)) are.1 }
 steps_led R all (step ∷ steps) end t text are =
     let after = are.after in
@@ -523,17 +440,14 @@ steps_led R all (step ∷ steps) end t text are =
     let fit = step_fits R all t after step are.leads in
     let line = step_line step (text_of after) in
     let one : IsOneLine line = step_is_line step (text_of after) fit.0 fit.1 (tag_line after are.leads.0.to.tag.tag) in
-    let shown : printed.step_line step after ≡ line ++ 10 ∷ [] = simp append_assoc in
-    let whole : (more : List ℕ) → text ++ more ≡ line ++ 10 ∷ (are.rest ++ more) = λ more.
-    ap (λ (l : List ℕ). l ++ more) are.line_is ∙ ap (λ (l : List ℕ). (l ++ are.rest) ++ more) shown
-    ∙ append_assoc (line ++ 10 ∷ []) are.rest more ∙ append_assoc line (10 ∷ []) (are.rest ++ more) in
+    let whole : (more : List ℕ) → text ++ more ≡ line ++ 10 ∷ (are.rest ++ more) = λ more. rw are.line_is (simp append_assoc) in
     record {
       lines = line ∷ rest.lines;
       lead = (after, record { step = step; leads = are.leads; is_line = record { place = fit.0; number = fit.1; line_is = refl } }, rest.lead);
       split = λ more. ap lines_of (whole more) ∙ lines_of-ended line (are.rest ++ more) one ∙ ap (λ (l : List (List ℕ)). line ∷ l) (rest.split more);
     }
 
-lines_explain : (R : List EntryParts) → NumbersFit R → (t end : TagForm) (steps : List Step) (text : List ℕ) → IsTag end → AreLines R t steps end text → Explain R t (lines_of text)
+lines_explain : (R : List EntryParts) → NumbersFit R → (t end : TagForm) (steps : List Step) (text : List ℕ) → IsTag end → printed.AreLines R t steps end text → Explain R t (lines_of text)
 lines_explain R all t end steps text is are =
     let led = steps_led R all steps end t are.of_steps are.are_steps in
     let last = end_line (text_of end) in
@@ -616,11 +530,11 @@ module _ {R : List EntryParts} {piece rest : List ℕ} {old now mid : Following}
   cut_more : piece ≡ (t.front ++ part) ++ 10 ∷ after
   cut_more = t.cut ∙ ap (λ l. t.front ++ l) split.1 ∙ sym (append_assoc t.front part (10 ∷ after))
 
-  pub next_turn : {new : Following} → GoesOn R mid new → PieceTurn R piece after old new
-  next_turn {new = new} g = record {
+  pub next_turn : {new : Following} (judged : Option Verdict) → JudgesKept R mid new judged → judged ≡ None → PieceTurn R piece after old new
+  next_turn {new = new} judged g none = record {
     front = (t.front ++ part) ++ 10 ∷ [];
     cut = cut_more ∙ sym (append_assoc (t.front ++ part) (10 ∷ []) after);
-    takes = takes_trans R (t.front ++ part) (10 ∷ []) old mid new part_taken (takes_feed g);
+    takes = takes_trans R (t.front ++ part) (10 ∷ []) old mid new part_taken (takes_feed (rw none at g));
   }
 
   pub settled_turn : (new : Following) (v : Verdict) → ((lines : List (List ℕ)) → Judges R mid.number mid.here (mid.kept.items ∷ lines) v) → TakesPiece R piece old new (Some v)
@@ -720,7 +634,7 @@ module _ {I : Type 0} {R : List EntryParts} {t : TagForm} {remaining : I → Opt
   -- what is judged behind the lines that were taken is the verdict on all bytes
   judged_bytes : (more : List ℕ) (judged : Verdict) → Judges R state.number state.here (lines_of (state.kept.items ++ more)) judged → IsVerdictOf R t judged (v.read ++ more)
   judged_bytes more judged is =
-      verdict_behind R t t [] (lines_of (v.read ++ more)) judged refl (rw (v.begins.kept, v.begins.number, v.begins.here) at (v.takes.follows more judged began is))
+      verdict_behind R t t [] (lines_of (v.read ++ more)) judged 1 refl refl (rw (v.begins.kept, v.begins.number, v.begins.here) at (v.takes.follows more judged began is))
 
   pub run_next : {after : Device I} {new : Following} (piece : List ℕ) → ReadsPiece remaining before after piece → length piece ≤ 65536 → 0 < last_given_of after → TakesPiece R piece state new None
       → HasTurned R t remaining input after new (turn + 1)

@@ -105,6 +105,7 @@ impl Following {
     }
 
     /// Takes the next bytes, and judges the lines that they end.
+    #[tactic(auto, using(crate::proofs::JudgingLemmas::first_turn, crate::proofs::JudgingLemmas::turn_proper, crate::proofs::JudgingLemmas::next_turn))]
     fn take_piece<L: Lookup>(
         &mut self,
         alloc: Global,
