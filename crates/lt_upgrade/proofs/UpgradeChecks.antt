@@ -1,12 +1,11 @@
 -- What decides the conditions on an upgrade that speak of one record after another, and that the first record that does
 -- not meet a condition is the lowest at fault. Then what follows for tags: what the old registry registers the new one
 -- does, and old steps keep the new end form, and the variant that a refusal names.
-use Rattle.std.proofs.Common.{◌≡◌, ◌↔◌, ℕ, Bool, true, false, ◌&&◌, cond, List, [], ◌∷◌, length, Option, Some, None, refl, sym, ap, ◌∙◌, subst, ◌==◌, ◌<◌, IsTrue, is_some, bytes_eq, inl, inr, ◌+◌, ◌-◌, All, arith, ◌⊎◌, ◌||◌, find, ◌++◌, map, zero, suc, take, drop, ◌≤◌, get_or, eqb}
-use Rattle.std.specs.Prelude.{Contains, slice_index_or, unwrap_or, option_map}
+use Rattle.std.proofs.Common.{◌≡◌, ◌↔◌, ℕ, Bool, true, false, ◌&&◌, cond, List, [], ◌∷◌, length, Option, Some, None, refl, sym, ap, ◌∙◌, subst, ◌==◌, ◌<◌, IsTrue, is_some, bytes_eq, inl, inr, ◌+◌, ◌-◌, All, arith, ◌⊎◌, ◌||◌, find, ◌++◌, map, zero, suc, take, drop, ◌≤◌, get_or, eqb, not, Contains, slice_index_or, option_map}
 use Rattle.std.specs.Cmp.{both_ways, IsTotalOrder, unsigned_ties}
 use Rattle.std.specs.List.{list_all, list_any, AllByRecursion, dedup, dedup_from, cons_option, AllPairs}
-use Rattle.std.specs.Option.{option_and_then, option_map_or, option_or}
-use Rattle.std.proofs.lemmas.Bool.{and_parts, and_from, eqb-true, eq-eqb, true≢false, cond_both, cases_lt, true_from_ne_false, false_from_ne_true}
+use Rattle.std.specs.Option.{option_and_then, option_map_or, option_or, unwrap_or}
+use Rattle.std.proofs.lemmas.Bool.{and_parts, and_from, eqb-true, eq-eqb, true≢false, cond_both, cases_lt, true_from_ne_false, false_from_ne_true, not-false, and_right}
 use Rattle.std.proofs.lemmas.List.Folds.{Any-from_list_any, list_any-from_Any, list_any_at}
 use Rattle.std.proofs.lemmas.Slice.Eq.{bytes_eq-Decides}
 use Rattle.lt_registry.specs.Parts.{EntryParts}
@@ -69,7 +68,6 @@ use Rattle.lt_upgrade.specs.declared.widest_ranges.RangeEnd.{RangeEnd}
 use Rattle.lt_upgrade.specs.declared.widest_ranges.RangeRow.{RangeRow}
 use Rattle.std.specs.Cmp.Lexicographic.{slice_cmp}
 use Rattle.lt_registry.proofs.OrderLemmas.{at_most, letters_le_is}
-use Rattle.lt_registry.proofs.SortedLemmas.{and_false}
 use Rattle.lt_check.specs.NameChecks.{kind_number}
 use Rattle.lt_check.proofs.OwnNames.{kinds_same, least}
 use Rattle.lt_registry.specs.declared.entries.Kind.TheVariants as kinds
@@ -85,30 +83,18 @@ end_total =
     then_total (on_total (λ (e : RangeEnd). e.kind) nat_cmp_total)
     (then_total (on_total (λ (e : RangeEnd). e.length) nat_cmp_total) (on_total (λ (e : RangeEnd). e.subtag) nat_list_cmp_total))
 
-not_above : (o : Ordering) → is_gt o ≡ false → is_le o ≡ true
-not_above Greater h = cc
-not_above _ h = refl
+gt_is : (o : Ordering) → is_gt o ≡ not (is_le o)
+gt_is Less = refl
+gt_is _ = refl
 
-above_not : (o : Ordering) → is_le o ≡ true → is_gt o ≡ false
-above_not Greater h = cc
-above_not _ h = refl
-
-pub further : {K : Type 0} {R : K → K → Ordering} → IsTotalOrder R → (a b c : K) → is_le (R a b) ≡ true → is_le (R b c) ≡ true → is_le (R a c) ≡ true
-further {R = R} total a b c h k = not_above (R a c) (upto total a b c (above_not (R a b) h) (above_not (R b c) k))
+further : {K : Type 0} {R : K → K → Ordering} → IsTotalOrder R → (a b c : K) → is_le (R a b) ≡ true → is_le (R b c) ≡ true → is_le (R a c) ≡ true
+further {R = R} total a b c h k = not-false (is_le (R a c)) (sym (gt_is (R a c)) ∙ upto total a b c (gt_is (R a b) ∙ ap not h) (gt_is (R b c) ∙ ap not k))
 
 up_to_further : (a b c : RangeEnd) → is_up_to a b ≡ true → is_up_to b c ≡ true → is_up_to a c ≡ true
 up_to_further = further end_total
 
-turned : (o : Ordering) → is_le o ≡ false → is_le (ordering_reverse o) ≡ true
-turned Greater h = refl
-turned _ h = cc
-
 other_way : (a b : RangeEnd) → is_up_to a b ≡ false → is_up_to b a ≡ true
-other_way a b h = ap is_le (end_total.antisymm b a) ∙ turned (end_cmp a b) h
-
-not_before : (o : Ordering) → is_lt o ≡ false → is_le (ordering_reverse o) ≡ true
-not_before Less h = cc
-not_before _ h = refl
+other_way a b h = ap is_le (end_total.antisymm b a) ∙ (elim (end_cmp a b) as (λ o. is_le o ≡ false → is_le (ordering_reverse o) ≡ true) [ Greater ↦ λ h. refl | _ ↦ λ h. cc ]) h
 
 -- sorted ranges
 
@@ -167,7 +153,8 @@ widest_of rows [] kept moved up is = (rw is tt, λ a b. rw is (sym (list_any-IsP
 widest_of rows (v ∷ vs) kept moved up is =
     let far : AllPairs Precedes (v ∷ vs) = λ i j d below inside.
     ap is_le (end_total.antisymm (get_or (v ∷ vs) i d).first (get_or (v ∷ vs) j d).first)
-    ∙ not_before (end_cmp (get_or (v ∷ vs) j d).first (get_or (v ∷ vs) i d).first) (sorted_far begins_before (ranks_by end_total (λ (r : RangeRow). r.first)) (v ∷ vs) up i j d (omega arith) inside) in
+    ∙ (elim (end_cmp (get_or (v ∷ vs) j d).first (get_or (v ∷ vs) i d).first) as (λ o. is_lt o ≡ false → is_le (ordering_reverse o) ≡ true) [ Less ↦ λ h. cc | _ ↦ λ h. refl ])
+    (sorted_far begins_before (ranks_by end_total (λ (r : RangeRow). r.first)) (v ∷ vs) up i j d (omega arith) inside) in
     let k = widest v vs (λ k d l. far 0 (suc k) d (omega arith) (omega arith)) (λ i j d below inside. far (suc i) (suc j) d (omega arith) (omega arith)) in
     (rw is k.rise, λ a b. rw is (k.held a b ∙ sym (list_any-IsPermutation (contains a b) rows (v ∷ vs) moved)))
 
@@ -230,7 +217,7 @@ kinds_compared k l =
     both_ways (same_kind k l) (eqb (kind_number k) (kind_number l)) (λ h. eq-eqb (kind_number k) (kind_number l) (ap kind_number (same_kind_is k l h)))
     (λ h. ap (same_kind k) (sym (kinds_same k l (eqb-true (kind_number k) (kind_number l) h))) ∙ same_kind_itself k)
 
-pub letters_compared : (a b : List ℕ) → is_le (slice_cmp nat_cmp a b) ≡ letters_le a b
+letters_compared : (a b : List ℕ) → is_le (slice_cmp nat_cmp a b) ≡ letters_le a b
 letters_compared a b = sym (letters_le_is a b ∙ elim (slice_cmp nat_cmp a b) as (λ o. at_most o ≡ is_le o) [ Less ↦ refl | Equal ↦ refl | Greater ↦ refl ])
 
 range_agrees : (k l : Kind) (c d a b : List ℕ) → length c ≡ length d → length a ≡ length b
@@ -247,7 +234,7 @@ module _ (kind : Kind) (first last : List ℕ) (one : length first ≡ length la
   name_agrees : (k : Kind) (name : EntryName) (rows : List RangeRow) (rest : Bool) → FitsName k name → list_any asked rows ≡ rest
       → list_any asked (cons_option (range_row k name) rows) ≡ ((same_kind k kind && covers name first last) || rest)
   name_agrees k (names.Range a b) rows rest fits h = rw (range_agrees k kind a b first last fits.one_length one, h) refl
-  name_agrees k _ rows rest fits h = rw (and_false (same_kind k kind)) h
+  name_agrees k _ rows rest fits h = rw (and_right (same_kind k kind) false refl) h
 
   rows_agree : (R : List EntryParts) → AllByRecursion IsEntry R → list_any asked (range_rows R) ≡ some_covers R kind first last
   rows_agree [] forms = refl

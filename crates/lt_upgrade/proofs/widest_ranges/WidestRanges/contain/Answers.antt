@@ -1,4 +1,4 @@
-use Rattle.std.proofs.Common.{◌≡◌, suc, ◌-◌, List, sym, ap, ◌∙◌, arith, rules}
+use Rattle.std.proofs.Common.{◌≡◌, suc, ◌-◌, sym, ap, ◌∙◌, arith, rules}
 use Rattle.std.specs.List.{list_any}
 use Rattle.std.proofs.lemmas.Bool.{le-ltb}
 use Rattle.std.proofs.lemmas.List.Sorted.{IsPartitionPoint-from_clause}
@@ -17,12 +17,10 @@ held c d =
 
 pub returns-then-count-gt0 : goal.returns-then-count-gt0
 returns-then-count-gt0 c =
-    let at = (goal.at.returns-then-count-gt0 c).After-partition_point-count in
     let some : c.partition_point-count.result ≡ suc (c.partition_point-count.result - 1) = omega (arith, c.if-count-gt0.true) in
-    c.is_up_to.ensures ∙ ap (λ (v : RangeRow). is_up_to c.args.last.now v.last) c.index.ensures ∙ sym (rw some at (held at c.index.result.now))
+    c.is_up_to.ensures ∙ ap (λ (v : RangeRow). is_up_to c.args.last.now v.last) c.index.ensures ∙ sym (rw some at (held (goal.at.returns-then-count-gt0 c).After-partition_point-count c.index.result.now))
 
 pub returns-else-count-gt0 : goal.returns-else-count-gt0
 returns-else-count-gt0 c =
-    let at = (goal.at.returns-else-count-gt0 c).After-partition_point-count in
     let none : c.partition_point-count.result ≡ 0 = omega (arith, c.if-count-gt0.false) in
-    le-ltb 0 c.partition_point-count.result c.if-count-gt0.false ∙ sym (rw none at (held at (record { first = c.args.last.now; last = c.args.last.now })))
+    le-ltb 0 c.partition_point-count.result c.if-count-gt0.false ∙ sym (rw none at (held (goal.at.returns-else-count-gt0 c).After-partition_point-count (record { first = c.args.last.now; last = c.args.last.now })))
