@@ -25,7 +25,6 @@ use Rattle.lt_tag.specs.Extensions.{spell_field, spell_keyword, spell_t, spell_u
 use Rattle.lt_tag.specs.Spelling.{IsCore, spell_core, spell_extension, spell_extensions}
 use Rattle.lt_tag.specs.Values.{IsTagValue}
 use Rattle.lt_registry.specs.Entries.{entry, is_whole, number_of, whole}
-use Rattle.lt_registry.specs.declared.entries.Kind.{Kind}
 use Rattle.lt_rewrite.proofs.Entries.{entry_has, find_has}
 use Rattle.lt_rewrite.proofs.StepLaws.{core_high, few_subtags, fits}
 use Rattle.lt_rewrite.specs.CoreSteps.{CoreStep, values_of}
@@ -157,8 +156,7 @@ pub front_names_nothing : (front more : List ℕ) → 38 < length front → IsNo
 front_names_nothing front more long name end = record {
   no_step = λ step text is.
       let label = step_line step [] in
-      let short = label_short step is.place is.number in
-      let rest = longer_front front more label text (is.line_is ∙ sym (step_line-append step [] text)) (omega (arith, short, long)) in
+      let rest = longer_front front more label text (is.line_is ∙ sym (step_line-append step [] text)) (omega (arith, label_short step is.place is.number, long)) in
       name step rest.0 (record { place = is.place; number = is.number; line_is = rest.1 ∙ step_line-append step [] rest.0 });
   no_end = λ text e. let rest = longer_front front more (61 ∷ 32 ∷ []) text e (omega (arith, long)) in end rest.0 rest.1;
 }
@@ -351,11 +349,8 @@ list_fits xs ys swap drop spell start some (by_drop before a between b after o s
     omega (arith, flat_length spell before a (between ++ b ∷ after), flat_length spell between b after, some b, ap (λ l. length (flat_map spell l)) s.there)
 
 module _ (R : List EntryParts) (all : NumbersFit R) where
-  entry_fits : (kind : Kind) (subtag : List ℕ) → number_of (entry R kind subtag) < 2 ^ 32
-  entry_fits kind subtag = few (entry R kind subtag) (λ e is. (entry_has R kind subtag (λ (e : EntryParts). e.number < 2 ^ 32) all e is).0)
-
   core_fits : (start : ℕ) (c d : CoreParts) (s : CoreStep (values_of R) c d) → Fits (core_label R start s) (start + length (spell_core c))
-  core_fits start c d s = record { place = core_high R start c d s; number = entry_fits _ s.subtag }
+  core_fits start c d s = record { place = core_high R start c d s; number = few (entry R _ s.subtag) (λ e is. (entry_has R _ s.subtag (λ (e : EntryParts). e.number < 2 ^ 32) all e is).0) }
 
   unicode_fits : (start : ℕ) (p q : UForm) (s : UnicodeStep p q) → Fits (unicode_label start s) (start + length (spell_u p) + 1)
   unicode_fits start p q (on_attributes s k) =
@@ -427,25 +422,22 @@ tag_line t is = subst IsOneLine (join_pieces (text_of t)) (pieces_line (pieces (
 -- ---- the lines
 
 -- lines that lead to a tag, and what follows their text
-record AreLed (R : List EntryParts) (t end : TagForm) (text : List ℕ) : Type 0 where
-  lines : List (List ℕ)
-  lead : Lead R t lines end
-  split : (more : List ℕ) → lines_of (text ++ more) ≡ lines ++ lines_of more
+abbrev AreLed : List EntryParts → (t end : TagForm) (text : List ℕ) → Type 0
+AreLed R t end text = (lines : List (List ℕ)) × Lead R t lines end × ((more : List ℕ) → lines_of (text ++ more) ≡ lines ++ lines_of more)
 
 steps_led : (R : List EntryParts) → NumbersFit R → (steps : List Step) (end t : TagForm) (text : List ℕ) → printed.AreStepLines R steps end t text → AreLed R t end text
-steps_led R all [] end t text are = record { lines = []; lead = are.0; split = λ more. ap (λ (l : List ℕ). lines_of (l ++ more)) are.1 }
+steps_led R all [] end t text are = ([], are.0, λ more. ap (λ (l : List ℕ). lines_of (l ++ more)) are.1)
 steps_led R all (step ∷ steps) end t text are =
     let after = are.after in
     let rest = steps_led R all steps end after are.rest are.printed in
     let fit = step_fits R all t after step are.leads in
     let line = step_line step (text_of after) in
     let one : IsOneLine line = step_is_line step (text_of after) fit.0 fit.1 (tag_line after are.leads.0.to.tag.tag) in
-    let whole : (more : List ℕ) → text ++ more ≡ line ++ 10 ∷ (are.rest ++ more) = λ more. rw are.line_is (simp append_assoc) in
-    record {
-      lines = line ∷ rest.lines;
-      lead = (after, record { step = step; leads = are.leads; is_line = record { place = fit.0; number = fit.1; line_is = refl } }, rest.lead);
-      split = λ more. ap lines_of (whole more) ∙ lines_of-ended line (are.rest ++ more) one ∙ ap (λ (l : List (List ℕ)). line ∷ l) (rest.split more);
-    }
+    let whole : (more : List ℕ) → text ++ more ≡ line ++ 10 ∷ (are.rest ++ more) = λ more. rw are.line_is (simp append_assoc) in (
+      line ∷ rest.0,
+      (after, record { step = step; leads = are.leads; is_line = record { place = fit.0; number = fit.1; line_is = refl } }, rest.1),
+      λ more. ap lines_of (whole more) ∙ lines_of-ended line (are.rest ++ more) one ∙ ap (λ (l : List (List ℕ)). line ∷ l) (rest.2 more),
+    )
 
 lines_explain : (R : List EntryParts) → NumbersFit R → (t end : TagForm) (steps : List Step) (text : List ℕ) → IsTag end → printed.AreLines R t steps end text → Explain R t (lines_of text)
 lines_explain R all t end steps text is are =
@@ -453,16 +445,15 @@ lines_explain R all t end steps text is are =
     let last = end_line (text_of end) in
     let one : IsOneLine last = All-cons IsNoFeed 61 (32 ∷ text_of end) (λ e. absurd (omega (arith, e))) (All-cons IsNoFeed 32 (text_of end) (λ e. absurd (omega (arith, e))) (tag_line end is)) in
     record {
-      steps = led.lines;
+      steps = led.0;
       end = end;
-      lead = led.lead;
-      all = ap lines_of (are.all ∙ append_assoc are.of_steps (codes "= ") (printed.tag_line end)) ∙ led.split (last ++ 10 ∷ []) ∙ ap (λ (l : List (List ℕ)). led.lines ++ l) (lines_of-ended last [] one);
+      lead = led.1;
+      all = ap lines_of (are.all ∙ append_assoc are.of_steps (codes "= ") (printed.tag_line end)) ∙ led.2 (last ++ 10 ∷ []) ∙ ap (λ (l : List (List ℕ)). led.0 ++ l) (lines_of-ended last [] one);
     }
 
 pub explanations_right : (R : List EntryParts) → NumbersFit R → ExplanationsAreRight R
 explanations_right R all text printed t read is =
-    let same : is.tag ≡ t = one_tag_of_text text is.tag t is.read read in
-    subst (λ (u : TagForm). IsVerdict R u (lines_of printed) verdicts.Right) same
+    subst (λ (u : TagForm). IsVerdict R u (lines_of printed) verdicts.Right) (one_tag_of_text text is.tag t is.read read)
     (lines_explain R all is.tag is.end is.steps printed is.is_explanation.form.canonical.valid.proper.tag.tag is.are_lines)
 
 -- nothing was taken

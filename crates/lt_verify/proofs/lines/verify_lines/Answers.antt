@@ -1,4 +1,4 @@
-use Rattle.std.proofs.Common.{◌≡◌, ◌≤◌, ◌∙◌, ℕ, length, take, sym, ap, arith, length-take}
+use Rattle.std.proofs.Common.{◌≡◌, ◌∙◌, ℕ, length, take, sym, ap, arith, length-take}
 use Rattle.lt_lines.proofs.RunLemmas.{ReadsPiece, refilled}
 use Rattle.lt_verify.proofs.JudgingLemmas.{run_failed, run_finished, run_first, run_lacks, run_next, run_room, run_settled, run_stopped, run_turns}
 use Rattle.lt_verify.proofs.lines.verify_lines.Goals as goal
@@ -63,8 +63,7 @@ pub take_piece-requires : goal.take_piece-requires
 take_piece-requires g c =
     let turn = c.loop-read.invariant.turn in
     let full = (reads g (goal.at.take_piece-requires g c).After-deref).0 in
-    let short : length (take c.in-Ok.count c.deref.result.now) ≤ 65536 = omega (arith, length-take c.in-Ok.count c.deref.result.now, c.in-Ok.ensures.bound.0, full) in
-    record { proper = turn.takes.proper; room = omega (arith, run_room turn, short, c.loop-read-test.true) }
+    record { proper = turn.takes.proper; room = omega (arith, run_room turn, length-take c.in-Ok.count c.deref.result.now, c.in-Ok.ensures.bound.0, full, c.loop-read-test.true) }
 
 pub returns-in-Some : goal.returns-in-Some
 returns-in-Some g c =
@@ -76,8 +75,7 @@ loop-read-preserved g c =
     let buffer = c.read.new.buf in
     let held = c.loop-read.buffer in
     let read = reads g (goal.at.loop-read-preserved g c).After-deref in
-    let short : length (take c.in-Ok.count buffer) ≤ 65536 = omega (arith, length-take c.in-Ok.count buffer, c.in-Ok.ensures.bound.0, read.0) in
     record {
-      turn = run_next c.loop-read.invariant.turn (take c.in-Ok.count buffer) read.1 short (omega (arith, c.in-Ok.ensures.last, c.in-Ok.count-test)) (rw (c.in_default.is, read.2) at c.in_ok-verdict-in-Ok.ensures);
+      turn = run_next c.loop-read.invariant.turn (take c.in-Ok.count buffer) read.1 (omega (arith, length-take c.in-Ok.count buffer, c.in-Ok.ensures.bound.0, read.0)) (omega (arith, c.in-Ok.ensures.last, c.in-Ok.count-test)) (rw (c.in_default.is, read.2) at c.in_ok-verdict-in-Ok.ensures);
       buffer = ap length (refilled held.len held.items buffer held.ok.0 (read.0 ∙ sym c.loop-read.invariant.buffer)) ∙ read.0;
     }
