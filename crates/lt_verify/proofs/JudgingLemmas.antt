@@ -15,7 +15,7 @@ use Rattle.lt_verify.specs.StepLines.{HasWords, IsStepLine, step_line, IsNoName,
 use Rattle.lt_tag.specs.Parts.{TagForm, CoreParts, ExtensionParts, UForm, TForm, LangTag}
 use Rattle.lt_registry.specs.Parts.{EntryParts}
 use Rattle.lt_rewrite.specs.Labels.{LeadsBy, core_label, extension_label, extensions_label, list_label, tag_label, transform_label, unicode_label}
-use Rattle.lt_verify.specs.Judging.{KeepsFew, Judges, SettlesLine, IsProperIf, SettlesFront}
+use Rattle.lt_verify.specs.Judging.{KeepsFew, Judges, SettlesLine, IsProperIf, SettlesFront, FlowIs}
 use Rattle.lt_verify.specs.Verdicts.{HasOtherText, NamesNothing, EndsElsewhere, EndsHere, IsVerdict, Lead, LeadsOn, StopsAt, Explain}
 use Rattle.lt_verify.specs.declared.verdicts.Verdict.{Verdict}
 use Rattle.std.proofs.lemmas.Bool.{false≢true, and_parts}
@@ -55,12 +55,14 @@ use Rattle.lt_lines.specs.Running.{HasRead}
 use Rattle.lt_registry.specs.Validity.{IsProper}
 use Rattle.lt_rewrite.proofs.PartLists.{some_long, flat_length}
 use Rattle.lt_rewrite.specs.declared.steps.StepKind.TheVariants as kinds
+use Rattle.lt_verify.specs.declared.judging.Flow.TheVariants as flows
 use Rattle.lt_verify.specs.declared.verdicts.Verdict.TheVariants as verdicts
 use Rattle.lt_canon.specs.ExplanationTexts as printed
 use Rattle.lt_lines.specs.declared.faults.ToolFault.TheVariants as faults
 use Rattle.lt_rewrite.specs.Runs.{rank_of}
 use Rattle.lt_rewrite.proofs.ExtensionLaws.{attributes_count}
 use Rattle.lt_verify.specs.declared.labels.TheConstants.{KINDS}
+use Rattle.lt_verify.specs.declared.judging.Flow.{Flow}
 
 -- ---- words that are parted by a space
 
@@ -129,6 +131,10 @@ one_words {a = a} {b = b} {c = c} {x = x} {y = y} {z = z} v w =
     let second = one_split 32 b y _ _ v.place_free w.place_free first.1 in
     let third = one_split 32 c z _ _ v.number_free w.number_free second.1 in
     (first.0, second.0, third.0, third.1)
+
+pub three_words : {line name places place numbers number text : List ℕ} → IsFreeOf 32 name × (line ≡ name ++ 32 ∷ places) → IsFreeOf 32 place × (places ≡ place ++ 32 ∷ numbers) → IsFreeOf 32 number × (numbers ≡ number ++ 32 ∷ text)
+    → HasWords line name place number text
+three_words first second third = record { name_free = first.0; place_free = second.0; number_free = third.0; line_is = cc (first.1, second.1, third.1) }
 
 pub step_words : {line text : List ℕ} {step : Step} → IsStepLine line step text → HasWords line (name_of step.kind) (decimal step.place) (decimal step.number) text
 step_words {step = step} is =
@@ -512,8 +518,8 @@ turn_proper {R = R} t keeps = subst (IsProperIf R) (sym keeps.here) t.takes.prop
 -- a line more was ended, and kept
 module _ {R : List EntryParts} {piece rest : List ℕ} {old now mid : Following} (part after : List ℕ) (t : PieceTurn R piece rest old now) (split : IsOneLine part × (rest ≡ part ++ 10 ∷ after)) (keeps : KeepsMore part now mid) where
   -- the number of the next line is far from the greatest
-  pub turn_room : mid.number + 1 ≤ old.number + length piece
-  turn_room = omega (arith, keeps.number, t.takes.counted, ap length t.cut, length-append t.front rest, ap length split.1, length-append part (10 ∷ after))
+  pub turn_room : old.number + length piece + 1 < 2 ^ 64 → mid.number + 1 < 2 ^ 64
+  turn_room few = omega (arith, few, keeps.number, t.takes.counted, ap length t.cut, length-append t.front rest, ap length split.1, length-append part (10 ∷ after))
 
   part_taken : Takes R (t.front ++ part) old mid
   part_taken = takes_trans R t.front part old now mid t.takes (takes_part t.takes.proper split.0 keeps)
@@ -554,6 +560,12 @@ went_on {R = R} there to proper follows = record {
   counted = to.counted;
   follows = λ lines v judged. rw there (follows lines v (rw (to.counted, to.there) at judged));
 }
+
+pub ends_on : {R : List EntryParts} {t : TagForm} {line : List ℕ} {old new : Following} (flow : Flow) → old.here ≡ Some t → line ≡ old.kept.items → FlowIs R old.number t line flow → flow ≡ flows.Ends → GoesTo None old new → GoesOn R old new
+ends_on flow there same goes is to = went_on there to tt (λ lines v judged. inr (inl (rw (is, same) at goes, judged)))
+
+pub leads_on : {R : List EntryParts} {t u : TagForm} {line : List ℕ} {old new : Following} (flow : Flow) → old.here ≡ Some t → line ≡ old.kept.items → FlowIs R old.number t line flow → flow ≡ flows.Leads u → GoesTo (Some u) old new → GoesOn R old new
+leads_on {u = u} flow there same goes is to = let leads = rw (is, same) at goes in went_on there to leads.0 (λ lines v judged. inl (u, leads.1, judged))
 
 -- a line begins with its front
 begun_line : (front more : List ℕ) → IsOneLine front → (front ≡ [] → ⊥) → (rest : List ℕ) × (after : List (List ℕ)) × (lines_of (front ++ more) ≡ (front ++ rest) ∷ after)

@@ -61,6 +61,7 @@ impl Following {
     }
 
     /// Judges the line that is kept, and goes on after it.
+    #[tactic(auto, using(crate::proofs::JudgingLemmas::ends_on, crate::proofs::JudgingLemmas::leads_on))]
     fn judge_kept<L: Lookup>(
         &mut self,
         alloc: Global,
@@ -105,7 +106,7 @@ impl Following {
     }
 
     /// Takes the next bytes, and judges the lines that they end.
-    #[tactic(auto, using(crate::proofs::JudgingLemmas::first_turn, crate::proofs::JudgingLemmas::turn_proper, crate::proofs::JudgingLemmas::next_turn))]
+    #[tactic(auto, using(crate::proofs::JudgingLemmas::first_turn, crate::proofs::JudgingLemmas::turn_proper, crate::proofs::JudgingLemmas::next_turn, crate::proofs::JudgingLemmas::turn_room))]
     fn take_piece<L: Lookup>(
         &mut self,
         alloc: Global,

@@ -1,4 +1,4 @@
-use Rattle.std.proofs.Common.{◌∙◌, ◌++◌, ◌∷◌, sym, ap}
+use Rattle.std.proofs.Common.{◌∙◌, sym}
 use Rattle.lt_verify.proofs.JudgingLemmas.{no_split, one_split}
 use Rattle.lt_verify.proofs.labels.words_of.Goals as goal
 
@@ -13,11 +13,3 @@ pub returns-in_err-number : goal.returns-in_err-number
 returns-in_err-number c = rw c.from_residual-in_err-number.ensures (λ name place number text w.
     let behind = (one_split 32 c.in_ok-name.name.now name _ _ c.in_ok-name.ensures.0 w.name_free (sym c.in_ok-name.ensures.1 ∙ w.line_is)).1 in
     no_split 32 c.in_ok-place.numbers.now number _ c.in_err-number.ensures (one_split 32 c.in_ok-place.place.now place _ _ c.in_ok-place.ensures.0 w.place_free (sym c.in_ok-place.ensures.1 ∙ behind)).1)
-
-pub returns : goal.returns
-returns c =
-    let first = c.in_ok-name.ensures in
-    let second = c.in_ok-place.ensures in
-    let third = c.in_ok-number.ensures in
-    let words = ap (λ l. c.in_ok-name.name.now ++ 32 ∷ l) (second.1 ∙ ap (λ l. c.in_ok-place.place.now ++ 32 ∷ l) third.1) in
-    record { name_free = first.0; place_free = second.0; number_free = third.0; line_is = first.1 ∙ words }

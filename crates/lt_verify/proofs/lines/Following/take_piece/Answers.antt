@@ -1,13 +1,8 @@
-use Rattle.std.proofs.Common.{Option, arith}
+use Rattle.std.proofs.Common.{Option}
 use Rattle.std.proofs.lemmas.Result.{IfOk-weaker}
 use Rattle.lt_verify.specs.declared.verdicts.Verdict.{Verdict}
-use Rattle.lt_verify.proofs.JudgingLemmas.{last_turn, turn_proper, turn_room, settled_turn}
+use Rattle.lt_verify.proofs.JudgingLemmas.{last_turn, settled_turn}
 use Rattle.lt_verify.proofs.lines.Following.take_piece.Goals as goal
-
-pub judge_kept-requires : goal.judge_kept-requires
-judge_kept-requires g c =
-    let room = turn_room c.in-Some.part.now c.in-Some.after.now c.loop-part.invariant c.in-Some.ensures c.in_ok-keep.ensures in
-    record { proper = turn_proper c.loop-part.invariant c.in_ok-keep.ensures; room = omega (arith, room, c.requires.room) }
 
 pub returns-in-Some-2 : goal.returns-in-Some-2
 returns-in-Some-2 g c =
