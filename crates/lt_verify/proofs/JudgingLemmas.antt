@@ -16,7 +16,7 @@ use Rattle.lt_tag.specs.Parts.{TagForm, CoreParts, ExtensionParts, UForm, TForm,
 use Rattle.lt_registry.specs.Parts.{EntryParts}
 use Rattle.lt_rewrite.specs.Labels.{LeadsBy, core_label, extension_label, extensions_label, list_label, tag_label, transform_label, unicode_label}
 use Rattle.lt_verify.specs.Judging.{KeepsFew, Judges, SettlesLine, IsProperIf, SettlesFront, FlowIs}
-use Rattle.lt_verify.specs.Verdicts.{HasOtherText, NamesNothing, EndsElsewhere, EndsHere, IsVerdict, Lead, LeadsOn, StopsAt, Explain}
+use Rattle.lt_verify.specs.Verdicts.{HasOtherText, NamesNothing, EndsElsewhere, EndsHere, IsVerdict, Lead, LeadsOn, StopsAt}
 use Rattle.lt_verify.specs.declared.verdicts.Verdict.{Verdict}
 use Rattle.std.proofs.lemmas.Bool.{false≢true, and_parts}
 use Rattle.lt_canon.specs.TraceLaws.{TracesHaveOneEnd}
@@ -277,15 +277,6 @@ not_both line step x text is ends =
 
 -- ---- one thing is judged
 
--- a step leads to one tag
-one_after : (R : List EntryParts) → TracesHaveOneEnd R → (t u w : TagForm) (step : Step) → LeadsBy R t step u → LeadsBy R t step w → u ≡ w
-one_after R one t u w step a b = one t u w (step ∷ []) (u, a, refl) (w, b, refl)
-
-led_once : (R : List EntryParts) → TracesHaveOneEnd R → (t u w : TagForm) (line : List ℕ) → LeadsOn R t line u → LeadsOn R t line w → u ≡ w
-led_once R one t u w line a b =
-    let same = same_step line a.step b.step (text_of u) (text_of w) a.is_line b.is_line in
-    one_after R one t u w b.step (subst (λ (s : Step). LeadsBy R t s u) same.0 a.leads) b.leads
-
 -- a line that names a step is settled only where the step leads nowhere, or to a tag of another text
 step_settles : (R : List EntryParts) → TracesHaveOneEnd R → (n : ℕ) (t : TagForm) (line text : List ℕ) (step : Step) (v : Verdict) → IsStepLine line step text → SettlesLine R n t line v
     → ((u : TagForm) → LeadsBy R t step u → text ≢ text_of u) × (((u : TagForm) → LeadsBy R t step u → ⊥) → v ≡ verdicts.NoSuchStep n)
@@ -296,7 +287,7 @@ step_settles R one n t line text step v a (inr (inl (ends, is))) = absurd (not_b
 step_settles R one n t line text step v a (inr (inr (inl other, is))) =
     let same = same_step line other.step step other.text text other.is_line a in
     let leads = subst (λ (s : Step). LeadsBy R t s other.u) same.0 other.leads in
-    (λ u led e. other.other (same.1 ∙ e ∙ ap text_of (one_after R one t u other.u step led leads)), λ none. absurd (none other.u leads))
+    (λ u led e. other.other (same.1 ∙ e ∙ ap text_of (one t u other.u (step ∷ []) (u, led, refl) (other.u, leads, refl))), λ none. absurd (none other.u leads))
 step_settles R one n t line text step v a (inr (inr (inr nothing, is))) = absurd (nothing.no_step step text a)
 
 -- and that of an end only where it has another text than that of the tag
@@ -318,7 +309,8 @@ judged_once : (R : List EntryParts) → TracesHaveOneEnd R → (n : ℕ) (here :
 judged_once R one n here [] v w a b = a ∙ sym b
 judged_once R one n None (line ∷ lines) v w a b = a ∙ sym b
 judged_once R one n (Some t) (line ∷ lines) v w (inl (u, leads, behind)) (inl (x, leads', behind')) =
-    let same = led_once R one t u x line leads leads' in
+    let step = same_step line leads.step leads'.step (text_of u) (text_of x) leads.is_line leads'.is_line in
+    let same = one t u x (leads'.step ∷ []) (u, subst (λ (s : Step). LeadsBy R t s u) step.0 leads.leads, refl) (x, leads'.leads, refl) in
     judged_once R one (n + 1) (Some x) lines v w (subst (λ (y : TagForm). Judges R (n + 1) (Some y) lines v) same behind) behind'
 judged_once R one n (Some t) (line ∷ lines) v w (inl (u, leads, behind)) (inr (inl (ends, behind'))) = absurd (not_both line leads.step (text_of u) (text_of t) leads.is_line ends)
 judged_once R one n (Some t) (line ∷ lines) v w (inl (u, leads, behind)) (inr (inr settles)) = absurd ((step_settles R one n t line (text_of u) leads.step w leads.is_line settles).0 u leads.leads refl)
@@ -445,22 +437,19 @@ steps_led R all (step ∷ steps) end t text are =
       λ more. ap lines_of (whole more) ∙ lines_of-ended line (are.rest ++ more) one ∙ ap (λ (l : List (List ℕ)). line ∷ l) (rest.2 more),
     )
 
-lines_explain : (R : List EntryParts) → NumbersFit R → (t end : TagForm) (steps : List Step) (text : List ℕ) → IsTag end → printed.AreLines R t steps end text → Explain R t (lines_of text)
-lines_explain R all t end steps text is are =
-    let led = steps_led R all steps end t are.of_steps are.are_steps in
-    let last = end_line (text_of end) in
-    let one : IsOneLine last = All-cons IsNoFeed 61 (32 ∷ text_of end) (λ e. absurd (omega (arith, e))) (All-cons IsNoFeed 32 (text_of end) (λ e. absurd (omega (arith, e))) (tag_line end is)) in
-    record {
-      steps = led.0;
-      end = end;
-      lead = led.1;
-      all = ap lines_of (are.all ∙ append_assoc are.of_steps (codes "= ") (printed.tag_line end)) ∙ led.2 (last ++ 10 ∷ []) ∙ ap (λ (l : List (List ℕ)). led.0 ++ l) (lines_of-ended last [] one);
-    }
-
 pub explanations_right : (R : List EntryParts) → NumbersFit R → ExplanationsAreRight R
-explanations_right R all text printed t read is =
-    subst (λ (u : TagForm). IsVerdict R u (lines_of printed) verdicts.Right) (one_tag_of_text text is.tag t is.read read)
-    (lines_explain R all is.tag is.end is.steps printed is.is_explanation.form.canonical.valid.proper.tag.tag is.are_lines)
+explanations_right R all text shown t read is =
+    let are = is.are_lines in
+    let led = steps_led R all is.steps is.end is.tag are.of_steps are.are_steps in
+    let last = end_line (text_of is.end) in
+    let line = tag_line is.end is.is_explanation.form.canonical.valid.proper.tag.tag in
+    let one : IsOneLine last = All-cons IsNoFeed 61 (32 ∷ text_of is.end) (λ e. absurd (omega (arith, e))) (All-cons IsNoFeed 32 (text_of is.end) (λ e. absurd (omega (arith, e))) line) in
+    subst (λ (u : TagForm). IsVerdict R u (lines_of shown) verdicts.Right) (one_tag_of_text text is.tag t is.read read) (record {
+      steps = led.0;
+      end = is.end;
+      lead = led.1;
+      all = ap lines_of (are.all ∙ append_assoc are.of_steps (codes "= ") (printed.tag_line is.end)) ∙ led.2 (last ++ 10 ∷ []) ∙ ap (λ (l : List (List ℕ)). led.0 ++ l) (lines_of-ended last [] one);
+    })
 
 -- nothing was taken
 pub takes_nothing : (R : List EntryParts) (state : Following) → IsProperIf R state.here → Takes R [] state state
