@@ -208,11 +208,6 @@ module _ (R : List EntryParts) (t here : TagForm) (before : List (List ℕ)) (n 
   stops : (line : List ℕ) (after : List (List ℕ)) (Holds : TagForm → List ℕ → Type 0) → Holds here line → StopsAt R t (before ++ line ∷ after) n Holds
   stops line after Holds holds = record { before = before; line = line; after = after; there = refl; nth = nth; here = here; lead = lead; holds = holds }
 
-  settled : (line : List ℕ) (after : List (List ℕ)) (v : Verdict) → SettlesLine R n here line v → IsVerdict R t (before ++ line ∷ after) v
-  settled line after v (inl (stuck, is)) = rw is (stops line after _ stuck)
-  settled line after v (inr (inl (ends, is))) = rw is (n, stops line after EndsElsewhere ends)
-  settled line after v (inr (inr (bad, is))) = rw is (inl (stops line after _ bad))
-
   ended : (line : List ℕ) (after : List (List ℕ)) (v : Verdict) → EndsHere here line → Judges R (n + 1) None after v → IsVerdict R t (before ++ line ∷ after) v
   ended line [] v ends is = rw is (record { steps = before; end = here; lead = lead; all = ap (λ (l : List ℕ). before ++ l ∷ []) ends })
   ended line (next ∷ after) v ends is =
@@ -232,7 +227,9 @@ verdict_behind R t here before [] v n nth lead is = rw (append-nil before, is) (
 verdict_behind R t here before (line ∷ lines) v n nth lead (inl (u, leads, behind)) =
     rw (← append_assoc before (line ∷ []) lines) (verdict_behind R t u (before ++ line ∷ []) lines v (n + 1) (omega (arith, nth, length-append before (line ∷ []))) (lead_more R before t here u line lead leads) behind)
 verdict_behind R t here before (line ∷ lines) v n nth lead (inr (inl (ends, behind))) = ended R t here before n nth lead line lines v ends behind
-verdict_behind R t here before (line ∷ lines) v n nth lead (inr (inr settles)) = settled R t here before n nth lead line lines v settles
+verdict_behind R t here before (line ∷ lines) v n nth lead (inr (inr (inl (stuck, is)))) = rw is (stops R t here before n nth lead line lines _ stuck)
+verdict_behind R t here before (line ∷ lines) v n nth lead (inr (inr (inr (inl (ends, is))))) = rw is (n, stops R t here before n nth lead line lines EndsElsewhere ends)
+verdict_behind R t here before (line ∷ lines) v n nth lead (inr (inr (inr (inr (bad, is))))) = rw is (inl (stops R t here before n nth lead line lines _ bad))
 
 -- ---- the verdict is judged
 
@@ -420,10 +417,8 @@ tag_line t is = subst IsOneLine (join_pieces (text_of t)) (pieces_line (pieces (
 -- ---- the lines
 
 -- lines that lead to a tag, and what follows their text
-abbrev AreLed : List EntryParts → (t end : TagForm) (text : List ℕ) → Type 0
-AreLed R t end text = (lines : List (List ℕ)) × Lead R t lines end × ((more : List ℕ) → lines_of (text ++ more) ≡ lines ++ lines_of more)
-
-steps_led : (R : List EntryParts) → NumbersFit R → (steps : List Step) (end t : TagForm) (text : List ℕ) → printed.AreStepLines R steps end t text → AreLed R t end text
+steps_led : (R : List EntryParts) → NumbersFit R → (steps : List Step) (end t : TagForm) (text : List ℕ) → printed.AreStepLines R steps end t text
+    → (lines : List (List ℕ)) × Lead R t lines end × ((more : List ℕ) → lines_of (text ++ more) ≡ lines ++ lines_of more)
 steps_led R all [] end t text are = ([], are.0, λ more. ap (λ (l : List ℕ). lines_of (l ++ more)) are.1)
 steps_led R all (step ∷ steps) end t text are =
     let after = are.after in
