@@ -269,8 +269,7 @@ same_step line a b x y is are =
 -- a line that names a step is not that of an end: no name begins with `=`
 not_both : (line : List ℕ) (step : Step) (x text : List ℕ) → IsStepLine line step x → line ≡ end_line text → ⊥
 not_both line step x text is ends =
-    let more = 32 ∷ (decimal step.place ++ 32 ∷ (decimal step.number ++ 32 ∷ x)) in
-    false≢true (sym (each_kind (λ k. get_or (name_of k ++ more) 0 0 == 61) (λ _. false) refl step.kind) ∙ ap (λ (l : List ℕ). get_or l 0 0 == 61) (sym is.line_is ∙ ends))
+    false≢true (sym (each_kind (λ k. get_or (name_of k ++ 32 ∷ (decimal step.place ++ 32 ∷ (decimal step.number ++ 32 ∷ x))) 0 0 == 61) (λ _. false) refl step.kind) ∙ ap (λ (l : List ℕ). get_or l 0 0 == 61) (sym is.line_is ∙ ends))
 
 -- ---- one thing is judged
 
@@ -437,8 +436,7 @@ explanations_right R all text shown t read is =
     let are = is.are_lines in
     let led = steps_led R all is.steps is.end is.tag are.of_steps are.are_steps in
     let last = end_line (text_of is.end) in
-    let line = tag_line is.end is.is_explanation.form.canonical.valid.proper.tag.tag in
-    let one : IsOneLine last = All-cons IsNoFeed 61 (32 ∷ text_of is.end) (λ e. absurd (omega (arith, e))) (All-cons IsNoFeed 32 (text_of is.end) (λ e. absurd (omega (arith, e))) line) in
+    let one : IsOneLine last = All-cons IsNoFeed 61 (32 ∷ text_of is.end) (λ e. absurd (omega (arith, e))) (All-cons IsNoFeed 32 (text_of is.end) (λ e. absurd (omega (arith, e))) (tag_line is.end is.is_explanation.form.canonical.valid.proper.tag.tag)) in
     subst (λ (u : TagForm). IsVerdict R u (lines_of shown) verdicts.Right) (one_tag_of_text text is.tag t is.read read) (record {
       steps = led.0;
       end = is.end;
@@ -471,8 +469,7 @@ takes_part {R = R} {part = part} {old = old} proper one keeps = record {
   proper = subst (IsProperIf R) (sym keeps.here) proper;
   counted = omega (arith, keeps.number);
   one = λ was. subst IsOneLine (sym keeps.kept) (All-append (λ byte. byte ≢ 10) old.kept.items part was one);
-  follows = λ more v was judged.
-      let there : Judges R old.number old.here (lines_of (old.kept.items ++ (part ++ more))) v = rw (keeps.number, keeps.here, keeps.kept, append_assoc old.kept.items part more) at judged in there;
+  follows = λ more v was judged. rw (keeps.number, keeps.here, keeps.kept, append_assoc old.kept.items part more) at judged;
 }
 
 -- and a line feed ends it

@@ -9,18 +9,15 @@ returns-in_default-read_step g c =
 
 pub returns-in-Err-NoSuchStep : goal.returns-in-Err-NoSuchStep
 returns-in-Err-NoSuchStep g c =
-    let stuck = rw c.in-Err-NoSuchStep.field-0-is at c.in-Err-NoSuchStep.ensures.err in
-    (omega arith, λ more. inl (record { step = c.in-Some-read_step.step; text = c.in-Some-read_step.text.now ++ more; is_line = step_goes_on more c.in-Some-read_step.ensures; stuck = stuck }, refl))
+    (omega arith, λ more. inl (record { step = c.in-Some-read_step.step; text = c.in-Some-read_step.text.now ++ more; is_line = step_goes_on more c.in-Some-read_step.ensures; stuck = rw c.in-Err-NoSuchStep.field-0-is at c.in-Err-NoSuchStep.ensures.err }, refl))
 
 pub returns-then-branch-2 : goal.returns-then-branch-2
 returns-then-branch-2 g c =
-    let longer = rw c.if-branch-2.true at c.in_ok-is_longer-in-Ok.ensures in
-    (omega arith, λ more. inr (inr (inl (front_other more c.in-Some-read_step.ensures c.in-Ok.ensures.ok longer), refl)))
+    (omega arith, λ more. inr (inr (inl (front_other more c.in-Some-read_step.ensures c.in-Ok.ensures.ok (rw c.if-branch-2.true at c.in_ok-is_longer-in-Ok.ensures)), refl)))
 
 pub returns-in-Some : goal.returns-in-Some
 returns-in-Some g c =
-    let short = rw c.if-branch.false at c.in_ok-is_longer.ensures in
-    inr (record { line = end_line (text_of c.args.here.now); right = inr refl; long = omega (arith, short, ap length c.in-Some.ensures) })
+    inr (record { line = end_line (text_of c.args.here.now); right = inr refl; long = omega (arith, rw c.if-branch.false at c.in_ok-is_longer.ensures, ap length c.in-Some.ensures) })
 
 pub returns-in-Ok : goal.returns-in-Ok
 returns-in-Ok g c = step_within c.in-Some-read_step.ensures c.in-Ok.ensures.ok (rw c.if-branch-2.false at c.in_ok-is_longer-in-Ok.ensures)

@@ -12,13 +12,11 @@ returns-in_default c = λ n h e. c.in_default.ensures.cases.0 (subst IsUtf8 e (I
 
 pub returns-in_default-parse : goal.returns-in_default-parse
 returns-in_default-parse c = λ n h e.
-    let read = parse-decimal 32 n c.in-Ok.text.now c.parse.result h (omega (arith, h)) (c.in-Ok.ensures.cases.0 ∙ sym e) c.parse.ensures.value.0 in
-    c.in_default-parse.not-Ok n read
+    c.in_default-parse.not-Ok n (parse-decimal 32 n c.in-Ok.text.now c.parse.result h (omega (arith, h)) (c.in-Ok.ensures.cases.0 ∙ sym e) c.parse.ensures.value.0)
 
 pub returns-then-eq : goal.returns-then-eq
 returns-then-eq c =
-    let same = (slice_eq-Decides Decides-eqb _ _ _ c.eq.ensures).0 c.if-eq.true in
-    (omega (arith, c.in-Ok-parse.ensures.value.0), sym c.format.ensures.text ∙ same ∙ c.in-Ok.ensures.cases.0)
+    (omega (arith, c.in-Ok-parse.ensures.value.0), sym c.format.ensures.text ∙ (slice_eq-Decides Decides-eqb _ _ _ c.eq.ensures).0 c.if-eq.true ∙ c.in-Ok.ensures.cases.0)
 
 pub returns-else-eq : goal.returns-else-eq
 returns-else-eq c = λ n h e.

@@ -62,8 +62,7 @@ returns-in_err-verdict-in-Ok g c =
 pub take_piece-requires : goal.take_piece-requires
 take_piece-requires g c =
     let turn = c.loop-read.invariant.turn in
-    let full = (reads g (goal.at.take_piece-requires g c).After-deref).0 in
-    record { proper = turn.takes.proper; room = omega (arith, run_room turn, length-take c.in-Ok.count c.deref.result.now, c.in-Ok.ensures.bound.0, full, c.loop-read-test.true) }
+    record { proper = turn.takes.proper; room = omega (arith, run_room turn, length-take c.in-Ok.count c.deref.result.now, c.in-Ok.ensures.bound.0, (reads g (goal.at.take_piece-requires g c).After-deref).0, c.loop-read-test.true) }
 
 pub returns-in-Some : goal.returns-in-Some
 returns-in-Some g c =

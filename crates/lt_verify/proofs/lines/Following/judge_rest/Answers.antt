@@ -1,4 +1,4 @@
-use Rattle.std.proofs.Common.{◌∙◌, Option, sym, subst, vec_len}
+use Rattle.std.proofs.Common.{◌∙◌, Option, sym, subst}
 use Rattle.std.proofs.lemmas.Result.{IfOk-weaker}
 use Rattle.lt_lines.proofs.TakenLemmas.{some_items}
 use Rattle.lt_verify.specs.Judging.{IsProperIf}
@@ -8,8 +8,7 @@ use Rattle.lt_verify.proofs.lines.Following.judge_rest.Goals as goal
 
 pub returns-in_default : goal.returns-in_default
 returns-in_default g c =
-    let kept = c.args.self.now.kept in
-    kept_behind (g.L.Lookup.listed c.args.table.now) c.args.self.now c.in_default.is (some_items kept.items (vec_len kept) kept.ok.0 (sym c.is_empty.ensures ∙ c.if-is_empty.false))
+    kept_behind (g.L.Lookup.listed c.args.table.now) c.args.self.now c.in_default.is (some_items _ _ c.args.self.now.kept.ok.0 (sym c.is_empty.ensures ∙ c.if-is_empty.false))
 
 pub judge_front-requires : goal.judge_front-requires
 judge_front-requires g c = subst (IsProperIf (g.L.Lookup.listed c.args.table.now)) c.in-Some.is c.requires
