@@ -133,8 +133,7 @@ whole_list front end c E read =
 pub has_end : (t : TagForm) (c : CoreParts) (s : ℕ) (ss : List (List ℕ)) → IsTag t → IsCore c → spell t ≡ spell_core c ++ (s ∷ []) ∷ ss
     → (es : List ExtensionParts) × (ps : List (List ℕ)) × (t ≡ LangTag c es ps) × (spell_rest es ps ≡ (s ∷ []) ∷ ss)
 has_end (LangTag d es ps) c s ss T k e =
-    let front = cut_first is_single (spell_core d) (spell_rest es ps) (core_no_single d T.0.shaped_core) (rest_single es ps) in
-    let core : spell_core d ≡ spell_core c = sym front ∙ ap (before is_single) e ∙ cut_first is_single (spell_core c) ((s ∷ []) ∷ ss) (core_no_single c k) refl in
+    let core : spell_core d ≡ spell_core c = sym (cut_first is_single (spell_core d) (spell_rest es ps) (core_no_single d T.0.shaped_core) (rest_single es ps)) ∙ ap (before is_single) e ∙ cut_first is_single (spell_core c) ((s ∷ []) ∷ ss) (core_no_single c k) refl in
     (es, ps, ap (λ (x : CoreParts). LangTag x es ps) (one_core d c T.0.shaped_core k core), append_cancel_left (spell_core d) _ _ (e ∙ ap (λ (l : List (List ℕ)). l ++ (s ∷ []) ∷ ss) (sym core)))
 has_end (PrivateUse ps) c s ss T k e =
     let first : x_subtag ≡ c.language = head_is x_subtag c.language ps _ e in
@@ -174,8 +173,7 @@ module _ (R : List EntryParts) (C : IsChecked R) where
   -- a text has one canonical text
   pub one_text : (text x y : List ℕ) → IsCanonicalTextOf R text x → IsCanonicalTextOf R text y → x ≡ y
   one_text text x y a b =
-      let end = ap (tag_end R C) (one_tag_of_text text a.tag b.tag a.read b.read) in
-      a.written ∙ ap (λ (t : TagForm). conventional (spell t)) (sym (form_is_end R C a.tag a.form a.is_form) ∙ end ∙ form_is_end R C b.tag b.form b.is_form) ∙ sym b.written
+      a.written ∙ ap (λ (t : TagForm). conventional (spell t)) (sym (form_is_end R C a.tag a.form a.is_form) ∙ ap (tag_end R C) (one_tag_of_text text a.tag b.tag a.read b.read) ∙ form_is_end R C b.tag b.form b.is_form) ∙ sym b.written
 
   -- these can follow each canonical core
   pub record CanFollow (es : List ExtensionParts) (ps : List (List ℕ)) : Type 0 where
@@ -358,8 +356,7 @@ module _ (R : List EntryParts) (C : IsChecked R) where
       let H = has_end a.tag F.core _ (list_of E.rest) a.read.tag F.read.tag.0.shaped_core (a.read.spelled ∙ whole_list front end F.core E F.read) in
       let none = list_all-append (λ (s : List ℕ). not (length s == 1)) (spell_core G.core) (list_of K.rest) (core_no_single G.core G.read.tag.0.shaped_core) K.no_singleton in
       let one = one_extension H.0 H.1 (t_of G.core fs).subtags (H.3 ∙ transformed_list source fields end G.core T G.read) (ap (λ (l : List (List ℕ)). no_single (spell_core G.core ++ l)) (sym (fields_list K)) ∙ none) in
-      let valid = subst (IsValid R) (H.2 ∙ (λ i. LangTag F.core (one.0 i) (one.1 i))) a.is_form.valid in
-      let parts = valid.proper.parts.extensions.0 refl in
+      let parts = (subst (IsValid R) (H.2 ∙ (λ i. LangTag F.core (one.0 i) (one.1 i))) a.is_form.valid).proper.parts.extensions.0 refl in
       let found : parts.0.fields ≡ fs = sym (t_again parts.0 parts.1.shaped).fields ∙ ap fields_of parts.1.spelled ∙ fields_after G.core _ G.read.tag.0.shaped_core ∙ ap fields_of (sym (fields_list K)) in
       let A : AreFields fs = record { each = subst (AllByRecursion IsField) found parts.1.shaped.fields; some = fields_some K } in
       let shared = with_fields fields K A in
@@ -395,15 +392,13 @@ pub all_put : (P : Option Kept → Type 0) (old new : List (Option Kept)) (line 
 all_put P old new line answer refused (inl same) right all = subst (All P) (sym same) all
 all_put P old new line answer refused (inr put) right all =
     let i = put.0 in
-    let exchanged = All-permutation P old (swap old i (i + 1)) (record { moves = (i, i + 1) ∷ []; below = (omega (arith, put.1), put.1, tt); is = refl }) all in
-    subst (All P) (sym put.2) (All-set P (swap old i (i + 1)) i (kept line answer refused) right exchanged)
+    subst (All P) (sym put.2) (All-set P (swap old i (i + 1)) i (kept line answer refused) right (All-permutation P old (swap old i (i + 1)) (record { moves = (i, i + 1) ∷ []; below = (omega (arith, put.1), put.1, tt); is = refl }) all))
 
 -- fields are no end
 fields_apart : (line : List ℕ) → IsEnd line → IsFields line → ⊥
 fields_apart line E K =
     let rest : K.rest ≡ E.singleton ∷ 45 ∷ E.rest = tail_is 45 45 K.rest (E.singleton ∷ 45 ∷ E.rest) (sym K.whole ∙ E.whole) in
-    let list = ap list_of rest ∙ list_single E.singleton E.rest E.single in
-    let bad : false ≡ true = sym (ap (list_all (λ (s : List ℕ). not (length s == 1))) list) ∙ K.no_singleton in
+    let bad : false ≡ true = sym (ap (list_all (λ (s : List ℕ). not (length s == 1))) (ap list_of rest ∙ list_single E.singleton E.rest E.single)) ∙ K.no_singleton in
     cc
 
 -- what is kept for its fields was appended after its source
