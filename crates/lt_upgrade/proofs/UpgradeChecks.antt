@@ -433,8 +433,7 @@ lowest_of A B k i e number rising a is before fails = record {
   fault = record { entry = e; there = contains_at (records_of k A B) i e a; numbered = sym is; fails = fails };
   first = λ other f. elim (below_or_not other number) [
     | inl l ↦
-        let lower = lower_before (records_of k A B) rising i f.there.0 e f.entry a (record { within = f.there.1; there = f.there.2 }) (omega (arith, l, is, f.numbered)) in
-        absurd (f.fails (subst (MeetsUpgrade k A B) f.there.2 (before f.there.0 f.entry lower)))
+        absurd (f.fails (subst (MeetsUpgrade k A B) f.there.2 (before f.there.0 f.entry (lower_before (records_of k A B) rising i f.there.0 e f.entry a (record { within = f.there.1; there = f.there.2 }) (omega (arith, l, is, f.numbered))))))
     | inr m ↦ m
   ];
 }
@@ -464,8 +463,7 @@ letters_trans a b c h k = sym (letters_compared a c) ∙ further nat_list_cmp_to
 by_range : (B : List EntryParts) → NumbersRise B → (k : Kind) (s : List ℕ) (f : EntryParts) → Contains B f → f.kind ≡ k → holds s f.name ≡ true → is_registered B k s ≡ true
 by_range B rising k s f g e h =
     let test : EntryParts → Bool = λ x. same_kind x.kind k && holds s x.name in
-    let found = least test B rising f g.0 g.1 g.2 (and_from (same_kind f.kind k) (holds s f.name) (ap (λ x. same_kind x k) e ∙ same_kind_itself k) h) in
-    elim (find (λ (x : EntryParts). same_kind x.kind k && is_named s x.name) B) as (λ o. is_some (option_or o (find test B)) ≡ true) [ None ↦ ap is_some found.1 | Some _ ↦ refl ]
+    elim (find (λ (x : EntryParts). same_kind x.kind k && is_named s x.name) B) as (λ o. is_some (option_or o (find test B)) ≡ true) [ None ↦ ap is_some (least test B rising f g.0 g.1 g.2 (and_from (same_kind f.kind k) (holds s f.name) (ap (λ x. same_kind x k) e ∙ same_kind_itself k) h)).1 | Some _ ↦ refl ]
 
 module _ (A B : List EntryParts) (CA : IsChecked A) (CB : IsChecked B) (U : Upgrades A B) where
   stays_at : (k : Kind) (s : List ℕ) (e : EntryParts) → StaysRegistered B e → e.kind ≡ k → (n : EntryName) → e.name ≡ n → (is_named s n ≡ true) ⊎ (holds s n ≡ true) → is_registered B k s ≡ true
@@ -539,8 +537,7 @@ module _ (A B : List EntryParts) (CA : IsChecked A) (CB : IsChecked B) (U : Upgr
   valued_single : (R : List EntryParts) → IsChecked R → (k : Kind) (s v : List ℕ) (n : ValuedEntry R k s v) → n.at.name ≡ names.Single s
   valued_single R C k s v n =
       has_name s n.at.name (λ a b e.
-      let x : one_of n.at.value ≡ None = ap one_of (valued_has R k s v HasNoRangeValue (C.passes.no_range_value) n a b e) in
-      cc (x, n.gives))
+      cc (ap one_of (valued_has R k s v HasNoRangeValue (C.passes.no_range_value) n a b e), n.gives))
       (entry_of R k s n.at n.found).names
 
   -- cores that differ in a subtag, of which the chains have one end
@@ -735,8 +732,7 @@ module _ (A B : List EntryParts) (CA : IsChecked A) (CB : IsChecked B) (U : Upgr
     | on_whole is_plain has ↦
         let w = valued_whole A t u has in
         let m : MeetInCanonical B t u = whole_has A t u (KeepsWhole B) (U upgrades.SameWhole) w t u w.named w.gives in
-        let end : tag_end B CB t ≡ m.tag = star_end (end_form B CB) m.left ∙ rest_is_end (end_form B CB) m.tag m.canonical.valid.proper m.canonical.at_rest in
-        absurd (plain_unnamed t v is_plain (subst RepeatsNoVariant (sym end) m.canonical.valid.distinct) r)
+        absurd (plain_unnamed t v is_plain (subst RepeatsNoVariant (sym (canonical_end B CB t m.tag m.canonical m.left)) m.canonical.valid.distinct) r)
   ]
 
   -- ---- after an upgrade valid tags stay valid, equivalent tags equivalent, and an old canonical form comes to what its tag
