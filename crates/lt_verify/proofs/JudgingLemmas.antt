@@ -73,8 +73,7 @@ one_split byte [] (b ∷ y) r s fx fy e = absurd (All-head (λ other. other ≢ 
 one_split byte (b ∷ x) [] r s fx fy e = absurd (All-head (λ other. other ≢ byte) b x fx (cc))
 one_split byte (b ∷ x) (c ∷ y) r s fx fy e =
     let rest = one_split byte x y r s (All-tail (λ other. other ≢ byte) b x fx) (All-tail (λ other. other ≢ byte) c y fy) (cc) in
-    let front : b ∷ x ≡ c ∷ y = cc in
-    (front, rest.1)
+    (cc, rest.1)
 
 -- a list that is free of a byte is not parted by it
 pub no_split : (byte : ℕ) (line x r : List ℕ) → IsFreeOf byte line → line ≡ x ++ byte ∷ r → ⊥
@@ -161,8 +160,7 @@ label_short step place number =
 pub front_names_nothing : (front more : List ℕ) → 38 < length front → IsNoName front → NamesNoEnd front → NamesNothing (front ++ more)
 front_names_nothing front more long name end = record {
   no_step = λ step text is.
-      let label = step_line step [] in
-      let rest = longer_front front more label text (is.line_is ∙ sym (step_line-append step [] text)) (omega (arith, label_short step is.place is.number, long)) in
+      let rest = longer_front front more (step_line step []) text (is.line_is ∙ sym (step_line-append step [] text)) (omega (arith, label_short step is.place is.number, long)) in
       name step rest.0 (record { place = is.place; number = is.number; line_is = rest.1 ∙ step_line-append step [] rest.0 });
   no_end = λ text e. let rest = longer_front front more (61 ∷ 32 ∷ []) text e (omega (arith, long)) in end rest.0 rest.1;
 }
