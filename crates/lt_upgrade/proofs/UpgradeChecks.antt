@@ -33,9 +33,9 @@ use Rattle.lt_canon.specs.Refusals.{IsRefusedWith}
 use Rattle.lt_canon.specs.declared.refusals.Refusal.{Refusal}
 use Rattle.lt_check.proofs.CheckedRegistry.{grandfathered_fit, valued_whole, whole_has, value_plain, tag_plain}
 use Rattle.lt_canon.proofs.EndForms.{star_end, rest_is_end, end_equivalent, equivalent_sym, star_equivalent}
-use Rattle.lt_canon.proofs.CanonicalForms.{none_of_test}
-use Rattle.lt_canon.proofs.TagForm.{core_end, tag_end, end_form, extension_end, extensions_end, extensions_end_formed, extensions_step_from, extensions_step_to, lang_end_some, or_value, cores_formed, value_end, value_end_is, resting, step_of_change}
-use Rattle.lt_canon.proofs.TagRepeats.{repeats_at_end, form_is_end, repeat_together, end_canonical}
+use Rattle.lt_canon.proofs.CanonicalForms.{value_canonical}
+use Rattle.lt_canon.proofs.TagForm.{core_end, tag_end, end_form, extension_end, extensions_end, extensions_end_formed, extensions_step_from, extensions_step_to, lang_end_some, or_value, cores_formed, value_end, core_normal, cores_reached, tag_reached}
+use Rattle.lt_canon.proofs.TagRepeats.{repeats_at_end, form_is_end, repeat_together}
 use Rattle.lt_rewrite.specs.Rewriting.{Star, done, then, Equivalent, same as no_steps, forth, back}
 use Rattle.lt_upgrade.specs.declared.conditions.UpgradeCondition.{UpgradeCondition}
 use Rattle.lt_check.proofs.FirstFaults.{below_or_not, lower_before, IsAt, contains_at}
@@ -43,7 +43,7 @@ use Rattle.std.proofs.lemmas.Option.{IfSome_then}
 use Rattle.std.proofs.lemmas.Cmp.{nat_list_cmp_total, upto, then_total, on_total, nat_cmp_total}
 use Rattle.lt_subtag.specs.Shapes.{is_alphabetic}
 use Rattle.lt_tag.proofs.TagLemmas.{AllByRecursion-weaker}
-use Rattle.lt_rewrite.proofs.Forms.{registered_entry, ExtlangEntry, extlang_entry, replacement_at, some_at}
+use Rattle.lt_rewrite.proofs.Forms.{registered_entry, ExtlangEntry, extlang_entry, replacement_at}
 use Rattle.lt_rewrite.proofs.CoreLaws.{one_end_one_form, each_step, by_extlang, by_language, by_script, by_region, by_variant, by_variant_language}
 use Rattle.lt_check.proofs.Checks.{core_conditions}
 use Rattle.std.proofs.lemmas.List.{map-append}
@@ -343,9 +343,13 @@ variant_language_compared B e f s v w b there gives short same h =
     )
 
 -- a variant with a language value that the older registry has
+some_or_none : {A : Type 0} (o : Option A) → (o ≡ None) ⊎ ((a : A) × (o ≡ Some a))
+some_or_none None = inl refl
+some_or_none (Some a) = inr (a, refl)
+
 pub had_compared : (A : List EntryParts) (e : EntryParts) (s v : List ℕ) (b : Bool) → e.kind ≡ kinds.Variant → e.name ≡ names.Single s → one_of e.value ≡ Some v → is_short v ≡ true → is_registered A kinds.Variant s ≡ true → b ≡ is_some (language_value A s) → IsTrue b ↔ HadVariantLanguage A e
 had_compared A e s v b k n o short there same = (
-  (λ x t w _ m _ _ _. let a : s ≡ t = cc in subst (λ z. (y : List ℕ) × (language_value A z ≡ Some y)) a (some_at (language_value A s) (sym same ∙ x))),
+  (λ x t w _ m _ _ _. let a : s ≡ t = cc in subst (λ z. (y : List ℕ) × (language_value A z ≡ Some y)) a (elim (some_or_none (language_value A s)) [ inl e ↦ (let bad : false ≡ true = ap is_some (sym e) ∙ sym same ∙ x in cc) | inr found ↦ found ])),
   (λ f. same ∙ ap is_some (f s v k n o short there).1),
 )
 
@@ -416,9 +420,14 @@ module _ (R : List EntryParts) (C : IsChecked R) where
       let w = valued_whole R t u e in
       let v = whole_replaced w.at (whole_has R t u (Contains R) (All-contains_itself R) w) t u w.named w.gives in
       let p = value_plain R C t u e in
-      let found : whole_value R t ≡ Some (core_alone p.core) = e ∙ ap Some p.is in
-      let form = end_canonical R C u (core_alone (core_end R C p.core)) p.valid (ap (tag_end R C) p.is ∙ value_end_is R C t p.core found) ((resting R C t p.core found).0, tt) in
-      record { tag = core_alone (core_end R C p.core); canonical = form.canonical; left = then (step_of_change R C t u (on_whole v.1 e) v.0.proper) form.reached; right = form.reached }
+      let n = core_normal R C p.core in
+      let form = value_canonical R C t u (core_alone (core_end R C p.core)) v.1 v.0 e (record { core = p.core; form = core_end R C p.core; from = p.is; to = refl; normal = n }) in
+      record {
+        tag = core_alone (core_end R C p.core);
+        canonical = form.canonical;
+        left = form.reached;
+        right = subst (λ x. IsReached R x (core_alone (core_end R C p.core))) (sym p.is) (cores_reached R C n.reached [] [] (subst (IsProper R) p.is p.valid.proper));
+      }
 
 -- ---- the first record that does not meet a condition is the lowest at fault
 
@@ -561,17 +570,19 @@ module _ (A B : List EntryParts) (CA : IsChecked A) (CB : IsChecked B) (U : Upgr
 
   -- what has a VariantLanguage step by the new registry has one by the old
   variant_language_back : (l u : List ℕ) → is_registered A kinds.Variant u ≡ true → (values_of A).variant_language l u ≡ None → (values_of B).variant_language l u ≡ None
-  variant_language_back l u r h = none_of_test _ ((values_of B).variant_language l u) refl (false_from_ne_true _ (λ is.
-      let found = some_at ((values_of B).variant_language l u) is in
-      let w = found.0 in
-      let t = variant_language_is B l u w found.1 in
-      let p = language_value_is B u w t.1 in
-      let m : ValuedEntry B kinds.Variant u w = valued B kinds.Variant u w p.0 in
-      let x = valued_has B kinds.Variant u w (HadVariantLanguage A) (U upgrades.NoNewVariantLanguage) m u w m.of_kind (valued_single B CB kinds.Variant u w m) m.gives p.1 r in
-      let n : ValuedEntry A kinds.Variant u x.0 = valued A kinds.Variant u x.0 (language_value_is A u x.0 x.1).0 in
-      let listed : has_prefix (prefixes A kinds.Variant u) l ≡ true = ap (λ ps. has_prefix ps l) (prefixes_at A kinds.Variant u n.at n.found) ∙ sym ((same_variant_language u x.0 x.1 n).prefixes l) ∙ t.0 in
-      let some : (values_of A).variant_language l u ≡ Some x.0 = ap (λ b. cond b (language_value A u) None) listed ∙ x.1 in
-      cc))
+  variant_language_back l u r h = elim (some_or_none ((values_of B).variant_language l u)) [
+    | inl e ↦ e
+    | inr found ↦
+        let w = found.0 in
+        let t = variant_language_is B l u w found.1 in
+        let p = language_value_is B u w t.1 in
+        let m : ValuedEntry B kinds.Variant u w = valued B kinds.Variant u w p.0 in
+        let x = valued_has B kinds.Variant u w (HadVariantLanguage A) (U upgrades.NoNewVariantLanguage) m u w m.of_kind (valued_single B CB kinds.Variant u w m) m.gives p.1 r in
+        let n : ValuedEntry A kinds.Variant u x.0 = valued A kinds.Variant u x.0 (language_value_is A u x.0 x.1).0 in
+        let listed : has_prefix (prefixes A kinds.Variant u) l ≡ true = ap (λ ps. has_prefix ps l) (prefixes_at A kinds.Variant u n.at n.found) ∙ sym ((same_variant_language u x.0 x.1 n).prefixes l) ∙ t.0 in
+        let some : (values_of A).variant_language l u ≡ Some x.0 = ap (λ b. cond b (language_value A u) None) listed ∙ x.1 in
+        cc
+  ]
 
   variant_languages_back : (l : List ℕ) (before after : List (List ℕ)) → AllByRecursion (λ v. is_registered A kinds.Variant v ≡ true) (before ++ after) → AllByRecursion (λ u. (values_of A).variant_language l u ≡ None) before → AllByRecursion (λ u. (values_of B).variant_language l u ≡ None) before
   variant_languages_back l [] after r h = tt
@@ -738,6 +749,17 @@ module _ (A B : List EntryParts) (CA : IsChecked A) (CB : IsChecked B) (U : Upgr
   -- ---- after an upgrade valid tags stay valid, equivalent tags equivalent, and an old canonical form comes to what its tag
   -- comes to.
 
+  -- one end form: one canonical form
+  form_moves : (t u c : TagForm) → IsValid B u → tag_end B CB t ≡ tag_end B CB u → IsCanonicalFormOf B t c → IsCanonicalFormOf B u c
+  form_moves t u c V e h =
+      let end : tag_end B CB u ≡ c = sym e ∙ form_is_end B CB t c h in
+      record {
+        valid = V;
+        canonical = h.canonical;
+        reached = subst (IsReached B u) end (tag_reached B CB u V.proper);
+        repeats_none = λ r. repeats_at_end B CB u V r (subst RepeatsNoVariant (sym end) h.canonical.valid.distinct);
+      }
+
   ends_meet : (t c : TagForm) → IsCanonicalFormOf A t c → tag_end B CB t ≡ tag_end B CB c
   ends_meet t c h = old_equivalent (star_equivalent h.reached)
 
@@ -748,8 +770,8 @@ module _ (A B : List EntryParts) (CA : IsChecked A) (CB : IsChecked B) (U : Upgr
   upgrade_keeps = record {
     valid = valid_stays;
     equivalent = λ t u P Q e. end_equivalent (end_form B CB) t u (proper_stays t P) (proper_stays u Q) (old_equivalent e);
-    form = λ t c d h k. end_canonical B CB c d (valid_stays c h.canonical.valid) (sym (ends_meet t c h) ∙ form_is_end B CB t d k) k.canonical.valid.distinct;
-    form_back = λ t c d h k. end_canonical B CB t d (valid_stays t h.valid) (ends_meet t c h ∙ form_is_end B CB c d k) k.canonical.valid.distinct;
+    form = λ t c d h k. form_moves t c d (valid_stays c h.canonical.valid) (ends_meet t c h) k;
+    form_back = λ t c d h k. form_moves c t d (valid_stays t h.valid) (sym (ends_meet t c h)) k;
     repeats = λ t c h r. repeat_together B CB t c (valid_stays t h.valid) (valid_stays c h.canonical.valid) (class_of_form t c h) r;
     repeats_back = λ t c h r. repeat_together B CB c t (valid_stays c h.canonical.valid) (valid_stays t h.valid) (equivalent_sym (class_of_form t c h)) r;
     named = λ t c v h r. star_keeps (λ x. IsNamedRepeat B x v) (λ a b s. step_named a b v s) h.reached r;
