@@ -292,7 +292,7 @@ module _ (R : List EntryParts) (C : IsChecked R) where
   fields_kept p q (on_fields _ s) A = record { each = all_step IsField p.fields q.fields s A.each; some = step_some p.fields q.fields s }
 
   abbrev parts_end : TForm → TForm
-  parts_end = t_form R (core_end R C) (cores_formed R C)
+  parts_end = t_form R (core_conditions R C.passes)
 
   abbrev fields_end : List FieldParts → List FieldParts
   fields_end fs = (parts_end (record { source = None; fields = fs })).fields
@@ -300,7 +300,7 @@ module _ (R : List EntryParts) (C : IsChecked R) where
   fields_ended : (fs : List FieldParts) → AreFields fs → AreFields (fields_end fs)
   fields_ended fs A =
       let none : TForm = record { source = None; fields = fs } in
-      star_keeps (λ (p : TForm). AreFields p.fields) fields_kept ((t_formed R (core_end R C) (cores_formed R C)).reached none) A
+      star_keeps (λ (p : TForm). AreFields p.fields) fields_kept ((t_formed R (core_conditions R C.passes)).reached none) A
 
   -- one extension is in order
   no_step : (e : ExtensionParts) (fs : List ExtensionParts) → ListStep false singleton_cmp (e ∷ []) fs → ⊥
@@ -310,7 +310,7 @@ module _ (R : List EntryParts) (C : IsChecked R) where
   extension_ended : {source : List ℕ} (G : IsCanonicalCore R source) (fs : List FieldParts) → AreFields fs → extensions_end R C (t_of G.core fs ∷ []) ≡ t_of G.core (fields_end fs) ∷ []
   extension_ended G fs A =
       let p = with_source G.core fs in
-      let settled = transform_settled R C.registry (t_of G.core fs) p (parts_end p) refl (formed G fs A) (form_is_normal (t_formed R (core_end R C) (cores_formed R C)) p) in
+      let settled = transform_settled R C.registry (t_of G.core fs) p (parts_end p) refl (formed G fs A) (form_is_normal (t_formed R (core_conditions R C.passes)) p) in
       sym (star_rests (extensions_ordered R C.registry (core_conditions R C.passes) (t_of G.core fs ∷ [])) (no_step (extension_end R C (t_of G.core fs))))
       ∙ ap (λ (e : ExtensionParts). e ∷ []) (normal_is_form (extension_formed R C.registry (core_conditions R C.passes)) (t_of G.core fs) (t_of (core_end R C G.core) (fields_end fs)) settled)
       ∙ ap (λ (c : CoreParts). t_of c (fields_end fs) ∷ []) (rest_is_form (cores_formed R C) G.core (core_rests R C G.core G.canonical))
