@@ -4,6 +4,7 @@ use bcp47::{Registry, Tag};
 use std::alloc::Global;
 use std::cmp::Ordering;
 use std::hash::{DefaultHasher, Hash, Hasher};
+use std::process::Abort;
 use std::test::Fail;
 
 /// Whether two tags are equal, and whether they are one language by a registry.
@@ -21,12 +22,17 @@ fn compared(
     ))
 }
 
+/// Two tags are one language by the small registry, and two others are not.
+fn expect_one_language(rt: &impl Abort, alloc: Global, registry: &Registry) -> Result<(), Fail> {
+    assert!(rt; compared(alloc, registry, "iw-IL", "HE-il")? == (false, true));
+    assert!(rt; compared(alloc, registry, "iw-IL", "he")? == (false, false));
+    Ok(())
+}
+
 #[test]
 fn one_language(rt: HostRuntime) -> Result<(), Fail> {
     let registry = small_registry(rt.alloc())?;
-    assert!(rt; compared(rt.alloc(), &registry, "iw-IL", "HE-il")? == (false, true));
-    assert!(rt; compared(rt.alloc(), &registry, "iw-IL", "he")? == (false, false));
-    Ok(())
+    expect_one_language(&rt, rt.alloc(), &registry)
 }
 
 /// What a value feeds a hasher, in short.

@@ -3,6 +3,7 @@ use super::{small_registry, tag_of};
 use bcp47::{Registry, Tag};
 use std::alloc::Global;
 use std::collections::{BTreeMap, HashMap};
+use std::process::Abort;
 use std::test::Fail;
 
 /// The languages of some books.
@@ -20,14 +21,29 @@ fn counted(alloc: Global, registry: &Registry) -> Result<HashMap<Tag, u32>, Fail
     Ok(counts)
 }
 
+/// How many books there are in the language that a text names.
+fn count_of(alloc: Global, counts: &HashMap<Tag, u32>, text: &str) -> Result<Option<u32>, Fail> {
+    let tag = tag_of(alloc, text)?;
+    Ok(counts.get(&tag).copied())
+}
+
+/// The books are in two languages.
+fn expect_two_languages(
+    rt: &impl Abort,
+    alloc: Global,
+    counts: &HashMap<Tag, u32>,
+) -> Result<(), Fail> {
+    assert_eq!(rt; counts.len(), 2);
+    assert_eq!(rt; count_of(alloc, counts, "he")?, Some(3));
+    assert_eq!(rt; count_of(alloc, counts, "cmn")?, Some(2));
+    Ok(())
+}
+
 #[test]
 fn books_by_language(rt: HostRuntime) -> Result<(), Fail> {
     let registry = small_registry(rt.alloc())?;
     let counts = counted(rt.alloc(), &registry)?;
-    assert_eq!(rt; counts.len(), 2);
-    assert_eq!(rt; counts.get(&tag_of(rt.alloc(), "he")?), Some(&3));
-    assert_eq!(rt; counts.get(&tag_of(rt.alloc(), "cmn")?), Some(&2));
-    Ok(())
+    expect_two_languages(&rt, rt.alloc(), &counts)
 }
 
 /// Titles in the order of their languages.

@@ -2,6 +2,7 @@
 use super::{small_registry, tag_of};
 use bcp47::{Core, Registry, Tag};
 use std::alloc::Global;
+use std::process::Abort;
 use std::test::Fail;
 
 /// A core, and its language at the end of four characters.
@@ -52,14 +53,24 @@ fn refused(alloc: Global, registry: &Registry, text: &str) -> Result<(&'static s
 }
 
 #[test]
-fn refusals(rt: HostRuntime) -> Result<(), Fail> {
+fn no_tags(rt: HostRuntime) -> Result<(), Fail> {
     let told = no_tag(rt.alloc(), "he_IL")?;
     assert_eq!(rt; told.as_str(), "BadByte 1");
-    let registry = small_registry(rt.alloc())?;
-    let (name, line) = refused(rt.alloc(), &registry, "he-Latn")?;
+    Ok(())
+}
+
+/// What a tag that is not valid by the small registry is told.
+fn expect_unknown_script(rt: &impl Abort, alloc: Global, registry: &Registry) -> Result<(), Fail> {
+    let (name, line) = refused(alloc, registry, "he-Latn")?;
     assert!(rt;
         name == "UnknownScript" && line.as_str().starts_with("UnknownScript 2: "),
         "{line}"
     );
     Ok(())
+}
+
+#[test]
+fn refusals(rt: HostRuntime) -> Result<(), Fail> {
+    let registry = small_registry(rt.alloc())?;
+    expect_unknown_script(&rt, rt.alloc(), &registry)
 }

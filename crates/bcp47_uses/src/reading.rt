@@ -1,16 +1,26 @@
 //! A registry is read.
 use super::REGISTRY;
-use bcp47::{Device, Registry};
+use bcp47::{Device, Registry, RegistryError};
 use std::alloc::Global;
 use std::test::Fail;
 
+/// How many entries the registry has whose text the bytes are.
+fn entries_of(alloc: Global, bytes: &[u8]) -> Result<usize, Fail> {
+    let registry = Registry::from_bytes(alloc, bytes)?;
+    Ok(registry.entries().len())
+}
+
+/// The same where the bytes are read, and how many reads failed.
+fn entries_read(alloc: Global, bytes: &[u8]) -> Result<(usize, u64), Fail> {
+    let mut device = Device::new(bytes);
+    let registry = Registry::read(alloc, &mut device)?;
+    Ok((registry.entries().len(), device.failures()))
+}
+
 #[test]
 fn from_bytes_and_from_a_device(rt: HostRuntime) -> Result<(), Fail> {
-    let registry = Registry::from_bytes(rt.alloc(), REGISTRY)?;
-    assert_eq!(rt; registry.entries().len(), 7);
-    let mut device = Device::new(REGISTRY);
-    let again = Registry::read(rt.alloc(), &mut device)?;
-    assert!(rt; again.entries().len() == 7 && device.failures() == 0);
+    assert_eq!(rt; entries_of(rt.alloc(), REGISTRY)?, 7);
+    assert!(rt; entries_read(rt.alloc(), REGISTRY)? == (7, 0));
     Ok(())
 }
 
@@ -34,12 +44,22 @@ const REFUSED: [(&str, &str, &str); 4] = [
     ),
 ];
 
+/// What is wrong with the registry whose text the bytes are, if anything is.
+fn error_of(alloc: Global, bytes: &[u8]) -> Option<RegistryError> {
+    Registry::from_bytes(alloc, bytes).err()
+}
+
+/// The same where the bytes are read.
+fn error_read(alloc: Global, bytes: &[u8]) -> Option<RegistryError> {
+    Registry::read(alloc, &mut Device::new(bytes)).err()
+}
+
 /// Whether a text is refused so, from bytes and from a device.
 fn is_refused(alloc: Global, text: &str, line: &str, name: &str) -> Result<bool, Fail> {
-    let Err(error) = Registry::from_bytes(alloc, text.as_bytes()) else {
+    let Some(error) = error_of(alloc, text.as_bytes()) else {
         return Ok(false);
     };
-    let Err(other) = Registry::read(alloc, &mut Device::new(text.as_bytes())) else {
+    let Some(other) = error_read(alloc, text.as_bytes()) else {
         return Ok(false);
     };
     let printed = format!(in alloc; "{error}")?;

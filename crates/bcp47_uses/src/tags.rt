@@ -2,6 +2,7 @@
 use super::{registry_of, small_registry, tag_of};
 use bcp47::{Registry, StepKind, Tag, Trace, TraceFault, ValidFaultKind, ValidRefusal, write_tag};
 use std::alloc::Global;
+use std::process::Abort;
 use std::test::Fail;
 
 /// The canonical text of the tag that a text is read as.
@@ -9,12 +10,17 @@ fn canonical_of(alloc: Global, registry: &Registry, text: &[u8]) -> Result<Vec<u
     Ok(registry.canonical_text(alloc, text)?)
 }
 
+/// What `canonical_text` gives by the small registry.
+fn expect_canonical_text(rt: &impl Abort, alloc: Global, registry: &Registry) -> Result<(), Fail> {
+    let text = canonical_of(alloc, registry, b"IW-il")?;
+    assert_eq!(rt; text.as_slice(), b"he-IL".as_slice());
+    Ok(())
+}
+
 #[test]
 fn canonical_texts(rt: HostRuntime) -> Result<(), Fail> {
     let registry = small_registry(rt.alloc())?;
-    let text = canonical_of(rt.alloc(), &registry, b"IW-il")?;
-    assert_eq!(rt; text.as_slice(), b"he-IL".as_slice());
-    Ok(())
+    expect_canonical_text(&rt, rt.alloc(), &registry)
 }
 
 /// The canonical texts of two tags, with a space between.
@@ -36,14 +42,19 @@ fn refuses(alloc: Global, registry: &Registry, text: &[u8], line: &mut Vec<u8>) 
     registry.append_canonical_text(alloc, text, line).is_err()
 }
 
+/// What `append_canonical_text` gives by it.
+fn expect_appended_texts(rt: &impl Abort, alloc: Global, registry: &Registry) -> Result<(), Fail> {
+    let mut line = pair_of(alloc, registry, b"zh-cmn-hans", b"iw")?;
+    assert_eq!(rt; line.as_slice(), b"cmn-Hans he".as_slice());
+    assert!(rt; refuses(alloc, registry, b"en_US", &mut line));
+    assert_eq!(rt; line.as_slice(), b"cmn-Hans he".as_slice());
+    Ok(())
+}
+
 #[test]
 fn texts_are_appended(rt: HostRuntime) -> Result<(), Fail> {
     let registry = small_registry(rt.alloc())?;
-    let mut line = pair_of(rt.alloc(), &registry, b"zh-cmn-hans", b"iw")?;
-    assert_eq!(rt; line.as_slice(), b"cmn-Hans he".as_slice());
-    assert!(rt; refuses(rt.alloc(), &registry, b"en_US", &mut line));
-    assert_eq!(rt; line.as_slice(), b"cmn-Hans he".as_slice());
-    Ok(())
+    expect_appended_texts(&rt, rt.alloc(), &registry)
 }
 
 /// The text of the canonical form of a tag.
@@ -58,14 +69,19 @@ fn extlang_form_of(alloc: Global, registry: &Registry, tag: &Tag) -> Result<Tag,
     Ok(registry.extlang_form(alloc, &canonical)?)
 }
 
+/// The canonical and the extlang form of a tag by it.
+fn expect_forms(rt: &impl Abort, alloc: Global, registry: &Registry) -> Result<(), Fail> {
+    let tag = tag_of(alloc, "zh-cmn")?;
+    let text = text_of_canonical(alloc, registry, &tag)?;
+    assert_eq!(rt; text.as_slice(), b"cmn".as_slice());
+    assert!(rt; extlang_form_of(alloc, registry, &tag)? == tag);
+    Ok(())
+}
+
 #[test]
 fn canonical_and_extlang_forms(rt: HostRuntime) -> Result<(), Fail> {
     let registry = small_registry(rt.alloc())?;
-    let tag = tag_of(rt.alloc(), "zh-cmn")?;
-    let text = text_of_canonical(rt.alloc(), &registry, &tag)?;
-    assert_eq!(rt; text.as_slice(), b"cmn".as_slice());
-    assert!(rt; extlang_form_of(rt.alloc(), &registry, &tag)? == tag);
-    Ok(())
+    expect_forms(&rt, rt.alloc(), &registry)
 }
 
 /// Why the tag that a text is read as is not valid, if it is not: what is printed, the fault, and its place.
@@ -85,15 +101,20 @@ fn fault_of(
     }
 }
 
-#[test]
-fn valid_tags(rt: HostRuntime) -> Result<(), Fail> {
-    let registry = small_registry(rt.alloc())?;
-    assert!(rt; fault_of(rt.alloc(), &registry, b"he-IL")?.is_none());
-    let Some((name, kind, place)) = fault_of(rt.alloc(), &registry, b"he-Latn")? else {
+/// A tag that is valid by it, and one that is not.
+fn expect_validity(rt: &impl Abort, alloc: Global, registry: &Registry) -> Result<(), Fail> {
+    assert!(rt; fault_of(alloc, registry, b"he-IL")?.is_none());
+    let Some((name, kind, place)) = fault_of(alloc, registry, b"he-Latn")? else {
         return Err(Fail::from("valid"));
     };
     assert!(rt; name == "UnknownScript" && kind == ValidFaultKind::UnknownScript && place == 2);
     Ok(())
+}
+
+#[test]
+fn valid_tags(rt: HostRuntime) -> Result<(), Fail> {
+    let registry = small_registry(rt.alloc())?;
+    expect_validity(&rt, rt.alloc(), &registry)
 }
 
 /// Whether a trace is the one step by record 4 from a language to its preferred value.
@@ -105,17 +126,22 @@ fn is_one_language_step(trace: &Trace) -> bool {
     is_language && step.place == 1 && step.number == 4 && trace.steps.len() == 1
 }
 
+/// An explanation by it, which is judged for its tag and for another one.
+fn expect_explanation(rt: &impl Abort, alloc: Global, registry: &Registry) -> Result<(), Fail> {
+    let tag = tag_of(alloc, "iw-IL")?;
+    let trace = explained(alloc, registry, &tag)?;
+    assert!(rt; is_one_language_step(&trace));
+    assert_eq!(rt; fault_of_trace(alloc, registry, &tag, &trace), None);
+    let other = tag_of(alloc, "he")?;
+    let wrong = fault_of_trace(alloc, registry, &other, &trace);
+    assert_eq!(rt; wrong, Some(TraceFault::NoSuchStep(1)));
+    Ok(())
+}
+
 #[test]
 fn explanations(rt: HostRuntime) -> Result<(), Fail> {
     let registry = small_registry(rt.alloc())?;
-    let tag = tag_of(rt.alloc(), "iw-IL")?;
-    let trace = explained(rt.alloc(), &registry, &tag)?;
-    assert!(rt; is_one_language_step(&trace));
-    assert_eq!(rt; fault_of_trace(rt.alloc(), &registry, &tag, &trace), None);
-    let other = tag_of(rt.alloc(), "he")?;
-    let wrong = fault_of_trace(rt.alloc(), &registry, &other, &trace);
-    assert_eq!(rt; wrong, Some(TraceFault::NoSuchStep(1)));
-    Ok(())
+    expect_explanation(&rt, rt.alloc(), &registry)
 }
 
 /// The explanation of a tag.
@@ -138,15 +164,24 @@ fn lines_of(alloc: Global, registry: &Registry, text: &[u8]) -> Result<Vec<u8>, 
     Ok(registry.explanation_text(alloc, text)?)
 }
 
-#[test]
-fn explanation_texts(rt: HostRuntime) -> Result<(), Fail> {
-    let registry = small_registry(rt.alloc())?;
-    let lines = lines_of(rt.alloc(), &registry, b"IW-il")?;
+/// The lines of an explanation by it.
+fn expect_explanation_text(
+    rt: &impl Abort,
+    alloc: Global,
+    registry: &Registry,
+) -> Result<(), Fail> {
+    let lines = lines_of(alloc, registry, b"IW-il")?;
     assert_eq!(rt;
         lines.as_slice(),
         b"Language 1 4 he-IL\n= he-IL\n".as_slice()
     );
     Ok(())
+}
+
+#[test]
+fn explanation_texts(rt: HostRuntime) -> Result<(), Fail> {
+    let registry = small_registry(rt.alloc())?;
+    expect_explanation_text(&rt, rt.alloc(), &registry)
 }
 
 /// Two records of the registry above, without the value that one has there.
@@ -157,11 +192,25 @@ fn upgrades_to(alloc: Global, older: &Registry, newer: &Registry) -> bool {
     older.upgrade_check(alloc, newer).is_ok()
 }
 
+/// The newer of two registries upgrades the older, and not the other way round.
+fn expect_one_way(rt: &impl Abort, alloc: Global, older: &Registry, newer: &Registry) {
+    assert!(rt; upgrades_to(alloc, older, newer));
+    assert!(rt; !upgrades_to(alloc, newer, older));
+}
+
+/// The small registry upgrades an older one.
+fn expect_small_registry_newer(
+    rt: &impl Abort,
+    alloc: Global,
+    older: &Registry,
+) -> Result<(), Fail> {
+    let newer = small_registry(alloc)?;
+    expect_one_way(rt, alloc, older, &newer);
+    Ok(())
+}
+
 #[test]
 fn upgrades(rt: HostRuntime) -> Result<(), Fail> {
     let older = registry_of(rt.alloc(), OLDER)?;
-    let newer = small_registry(rt.alloc())?;
-    assert!(rt; upgrades_to(rt.alloc(), &older, &newer));
-    assert!(rt; !upgrades_to(rt.alloc(), &newer, &older));
-    Ok(())
+    expect_small_registry_newer(&rt, rt.alloc(), &older)
 }
