@@ -5,5 +5,3 @@ pub mod Distinctness
 pub mod TagRepeats
 pub mod CanonicalForms
 pub mod StayingTags
--- What this crate alone uses.
-mod Explained

@@ -219,29 +219,23 @@ module _ (R : List EntryParts) (C : IsChecked R) where
       let v = value_plain R C t u e in
       inl (record { value = u; plain = h; has = e; settled = record { core = v.core; form = core_end v.core; from = v.is; to = ap value_end v.is; normal = core_normal v.core } })
 
-  some_extensions : (es : List ExtensionParts) → es ≢ [] → extensions_end es ≢ []
-  some_extensions es n = star_keeps (λ l. l ≢ []) (λ a b s _. extensions_step_to R a b s) (extensions_end_formed.reached es) n
-
   -- so the end form does
   pub end_replaced : (t : TagForm) → IsReplacedWhole R (parts_end t) (tag_end t)
   end_replaced (LangTag c [] []) = rw (rest_is_form extensions_end_formed [] (none_rests R)) (whole_replaced (core_alone (core_end c)) (refl, refl) (whole_value R (core_alone (core_end c))) refl)
   end_replaced (LangTag c [] (p ∷ ps)) = rw (rest_is_form extensions_end_formed [] (none_rests R)) (inr (record { none = λ h. let none = h.1 in cc; same = refl }))
-  end_replaced (LangTag c (e ∷ es) ps) = inr (record { none = λ h. absurd (some_extensions (e ∷ es) (λ k. cc) h.0); same = refl })
+  end_replaced (LangTag c (e ∷ es) ps) = inr (record { none = λ h. absurd (star_keeps (λ (l : List ExtensionParts). l ≢ []) (λ a b s _. extensions_step_to R a b s) (extensions_end_formed.reached (e ∷ es)) (λ k. cc) h.0); same = refl })
   end_replaced (PrivateUse ps) = inr (record { none = λ h. absurd h; same = refl })
   end_replaced (Grandfathered n) = whole_replaced (Grandfathered n) tt (whole_value R (Grandfathered n)) refl
 
   pub tag_reached : (t : TagForm) → IsProper R t → IsReached R t (tag_end t)
   tag_reached t P = settled_reached t (tag_end t) (end_replaced t) P
 
-  pub tag_end_rests : (t : TagForm) → Rests (TagStep R) (tag_end t)
-  tag_end_rests t = settled_rests t (tag_end t) (end_replaced t)
-
   -- so the end form is one
   pub end_form : IsEndForm (IsProper R) (TagStep R) tag_end
   end_form = record { to = λ a b s. s.to; kept = λ a b s. change_kept a b s.change; reached = tag_reached }
 
 pub has_end_forms : (R : List EntryParts) → IsChecked R → HasEndForms R
-has_end_forms R C = record { end = tag_end R C; kept = λ t u s. change_kept R C t u s.change; reached = tag_reached R C; at_rest = tag_end_rests R C }
+has_end_forms R C = record { end = tag_end R C; kept = λ t u s. change_kept R C t u s.change; reached = tag_reached R C; at_rest = λ t. settled_rests R C t (tag_end R C t) (end_replaced R C t) }
 
 pub steps_confluent : (R : List EntryParts) → IsChecked R → StepsAreConfluent R
 steps_confluent R C = confluent (end_form R C)

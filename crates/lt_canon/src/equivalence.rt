@@ -13,7 +13,7 @@ use std::alloc::Global;
 /// Whether steps, forth and back, lead from one tag to another (RFC 5646, 4.5): exactly where their canonical
 /// forms are equal, as those of `zh-cmn-Hans` and `cmn-Hans` are. A refusal is the one of `canonical` for the
 /// first tag, else for the second.
-#[tactic(auto, using(crate::proofs::CanonicalForms::refused, crate::proofs::CanonicalForms::second_refused, crate::proofs::TagRepeats::equivalence_answer))]
+#[tactic(auto, using(crate::proofs::CanonicalForms::refused, crate::proofs::CanonicalForms::second_refused, crate::proofs::CanonicalForms::equivalence_answer))]
 pub fn equivalent<L: Lookup>(
     alloc: Global,
     checked: &Checked<L>,

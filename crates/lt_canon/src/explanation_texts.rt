@@ -39,7 +39,7 @@ fn append_step(
 }
 
 /// Appends the lines of the steps of a trace, which lead from this tag.
-#[tactic(auto, using(crate::proofs::Explained::step_leads))]
+#[tactic(auto, using(crate::proofs::CanonicalForms::step_leads))]
 fn append_steps<L: Lookup>(
     lines: &mut Vec<u8>,
     alloc: Global,

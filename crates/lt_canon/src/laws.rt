@@ -25,7 +25,7 @@ use lt_registry::Lookup;
 /// - A canonical form is its own canonical form; a canonical text is its own canonical text, unless it has more
 ///   than 1,024 bytes.
 /// - Where a valid tag can repeat a variant, there is one variant that the refusal names.
-#[tactic(auto, using(crate::proofs::TagForm::has_end_forms, crate::proofs::TagForm::steps_confluent, crate::proofs::TagForm::one_canonical_tag, crate::proofs::TagRepeats::canonical_or_repeats, crate::proofs::TagRepeats::equivalence_is_equality, crate::proofs::TagRepeats::repeats_are_named, crate::proofs::TagRepeats::text_equality, crate::proofs::TagRepeats::twice_is_once))]
+#[tactic(auto, using(crate::proofs::TagForm::has_end_forms, crate::proofs::TagForm::steps_confluent, crate::proofs::TagForm::one_canonical_tag, crate::proofs::CanonicalForms::canonical_or_repeats, crate::proofs::CanonicalForms::equivalence_is_equality, crate::proofs::CanonicalForms::repeats_are_named, crate::proofs::CanonicalForms::text_equality, crate::proofs::CanonicalForms::twice_is_once))]
 pub fn confluence<L: Lookup>(checked: &Checked<L>)
     ensures ends { HasEndForms (L.listed checked.now) }
     ensures confluent { StepsAreConfluent (L.listed checked.now) }
@@ -53,7 +53,7 @@ pub fn steps_are_confluent()
 /// A valid tag reaches a canonical tag and can repeat no variant, or it can repeat one and is equivalent to no
 /// canonical tag; of two valid tags that are equivalent both can repeat a variant or neither; and two that can
 /// repeat none are equivalent exactly if their canonical forms are equal.
-#[tactic(auto, using(crate::proofs::TagRepeats::canonical_or_repeats, crate::proofs::TagRepeats::repeat_together, crate::proofs::TagRepeats::equivalence_is_equality))]
+#[tactic(auto, using(crate::proofs::CanonicalForms::canonical_or_repeats, crate::proofs::CanonicalForms::repeat_together, crate::proofs::CanonicalForms::equivalence_is_equality))]
 pub fn tags_are_canonical_or_repeat()
     ensures canonical { (R : List EntryParts) → IsChecked R → CanonicalOrRepeats R }
     ensures together { (R : List EntryParts) → IsChecked R → RepeatTogether R }
@@ -61,7 +61,7 @@ pub fn tags_are_canonical_or_repeat()
 {}
 
 /// Where a valid tag can repeat a variant, there is one variant that the refusal names.
-#[tactic(auto, using(crate::proofs::TagRepeats::repeats_are_named))]
+#[tactic(auto, using(crate::proofs::CanonicalForms::repeats_are_named))]
 pub fn repeats_are_named()
     ensures { (R : List EntryParts) → IsChecked R → RepeatsAreNamed R }
 {}
@@ -73,19 +73,19 @@ pub fn extlang_forms_lead_back()
 {}
 
 /// The end of a trace is reached from the tag, and so equivalent to it, in every registry.
-#[tactic(auto, using(crate::proofs::Explained::traces_reach_their_end))]
+#[tactic(auto, using(crate::proofs::CanonicalForms::traces_reach_their_end))]
 pub fn traces_reach_their_end()
     ensures { (R : List EntryParts) → TracesReachTheirEnd R }
 {}
 
 /// The steps of a trace lead from a tag to one end, in every registry.
-#[tactic(auto, using(crate::proofs::Explained::trace_determined))]
+#[tactic(auto, using(crate::proofs::CanonicalForms::trace_determined))]
 pub fn traces_have_one_end()
     ensures { (R : List EntryParts) → TracesHaveOneEnd R }
 {}
 
 /// A tag has one explanation, in every registry: the steps are fixed by which of them is the first that leads on.
-#[tactic(auto, using(crate::proofs::Explained::one_explanation))]
+#[tactic(auto, using(crate::proofs::CanonicalForms::one_explanation))]
 pub fn tags_have_one_explanation()
     ensures { (R : List EntryParts) → HasOneExplanation R }
 {}

@@ -1,17 +1,15 @@
-use Rattle.std.proofs.Common.{◌≡◌, None, inl, [], refl, sym, ap, ◌∙◌, length, arith}
+use Rattle.std.proofs.Common.{◌≡◌, None, inl, [], refl, sym, ◌∙◌, arith}
 use Rattle.std.proofs.lemmas.Option.{MatchOption-at_some, MatchOption-at_none}
 use Rattle.std.proofs.lemmas.Result.{IfOk-weaker}
-use Rattle.lt_tag.specs.Spelling.{spell_extensions}
-use Rattle.lt_tag.specs.Values.{extensions_of, core_alone}
+use Rattle.lt_tag.specs.Values.{core_alone}
 use Rattle.lt_registry.specs.Validity.{IsProper}
 use Rattle.lt_rewrite.specs.Labels.{LeadsBy}
 use Rattle.lt_rewrite.specs.Runs.{Adds}
 use Rattle.lt_rewrite.proofs.Forms.{some_at}
-use Rattle.lt_rewrite.proofs.StepLaws.{fits, few_subtags}
 use Rattle.lt_canon.specs.Explaining.{rank_in}
 use Rattle.lt_rewrite.proofs.ProperTags.{proper_parts}
 use Rattle.lt_canon.proofs.TagForm.{core_spells_none}
-use Rattle.lt_canon.proofs.Explained.{first_adds, plain_explained, langtag_explained}
+use Rattle.lt_canon.proofs.CanonicalForms.{few_in_tag, first_adds, plain_explained, langtag_explained}
 use Rattle.lt_canon.proofs.explaining.explain_tag.Goals as goal
 use Rattle.lt_canon.proofs.explaining.explain_tag.Goals.{Then-is_some}
 
@@ -44,12 +42,10 @@ returns-then-is_some g c =
 
 pub explain_extensions-requires-clause-few : goal.explain_extensions-requires-clause-few
 explain_extensions-requires-clause-few g c =
-    let f = fits c.args.tag.now c.extensions.ensures.tag.counts in
-    omega (arith, few_subtags (extensions_of c.args.tag.now) f.1, f.0, ap (λ es. length (spell_extensions es)) (c.in_ok-others.ensures {u = tt} ∙ c.extensions.ensures.value), c.core_length.ensures.few)
+    omega (arith, few_in_tag c.args.tag.now c.in_ok-others.others.items c.extensions.ensures.tag (c.in_ok-others.ensures {u = tt} ∙ c.extensions.ensures.value), c.core_length.ensures.few)
 
 pub returns : goal.returns
 returns g c =
     let none : c.core_alone.result ≡ None = let told = c.if-is_some.ensures {u = tt} in grind arith in
-    let more = MatchOption-at_none _ _ none c.core_alone.ensures.value in
     let given = c.in_ok-steps.ensures {u = tt} in
-    langtag_explained (g.L.Lookup.listed c.args.table.now) c.requires.checked c.args.tag.now c.in-Some.core.now c.in_ok-settled.settled c.in_ok-others.others.items _ c.core_length.result c.args.steps.items c.in_ok-settled.steps.items _ c.requires.proper (c.in-Some.ensures {u = tt}).value (c.in_ok-others.ensures {u = tt} ∙ c.extensions.ensures.value) more (rw (← c.in_ok-copy.ensures {u = tt}) (c.in_ok-settled.ensures {u = tt}).adds) (c.in_ok-settled.ensures {u = tt}).at_rest c.core_length.ensures.value given.adds given.at_rest
+    langtag_explained (g.L.Lookup.listed c.args.table.now) c.requires.checked c.args.tag.now c.in-Some.core.now c.in_ok-settled.settled c.in_ok-others.others.items _ c.core_length.result c.args.steps.items c.in_ok-settled.steps.items _ c.requires.proper (c.in-Some.ensures {u = tt}).value (c.in_ok-others.ensures {u = tt} ∙ c.extensions.ensures.value) (MatchOption-at_none _ _ none c.core_alone.ensures.value) (rw (← c.in_ok-copy.ensures {u = tt}) (c.in_ok-settled.ensures {u = tt}).adds) (c.in_ok-settled.ensures {u = tt}).at_rest c.core_length.ensures.value given.adds given.at_rest

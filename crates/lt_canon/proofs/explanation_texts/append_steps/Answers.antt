@@ -1,6 +1,6 @@
 use Rattle.lt_rewrite.specs.Labels.{step_at}
 use Rattle.lt_rewrite.specs.declared.steps.StepKind.TheVariants as kinds
-use Rattle.lt_canon.proofs.Explained.{explaining_more, explaining_done}
+use Rattle.lt_canon.proofs.CanonicalForms.{explaining_more, explaining_done}
 use Rattle.lt_canon.proofs.explanation_texts.append_steps.Goals as goal
 
 pub loop-step-preserved : goal.loop-step-preserved

@@ -1,4 +1,4 @@
-use Rattle.lt_canon.proofs.Explained.{LinesSoFar}
+use Rattle.lt_canon.proofs.CanonicalForms.{LinesSoFar}
 use Rattle.lt_canon.proofs.explanation_texts.append_steps.Given as goal
 
 -- the lines of the steps so far

@@ -1,16 +1,10 @@
 use Rattle.std.proofs.Common.{◌≡◌, inl, [], ◌∷◌, Some, sym}
-use Rattle.lt_registry.specs.Entries.{prefixes}
-use Rattle.lt_registry.specs.declared.entries.Kind.TheVariants as kinds
-use Rattle.lt_canon.specs.ExtlangForm.{prefix_of}
 use Rattle.lt_canon.proofs.CanonicalForms.{extlang_answer, extlang_form_is, no_extlang, front_spells_none, IsFittingPrefix, fitting_prefix}
 use Rattle.lt_canon.proofs.extlang_forms.extlang_form.Goals as goal
 use Rattle.lt_canon.proofs.extlang_forms.extlang_form.Goals.{In-Some-extlang_prefix, After-set_extlang}
 
-found : (g : _) (c : In-Some-extlang_prefix g) → prefix_of (prefixes (g.L.Lookup.listed c.args.checked.now) kinds.Extlang c.in-Some.canonical_core.now.language) ≡ Some c.in-Some-extlang_prefix.prefix.now
-found g c = rw (← c.table-table.ensures.value, ← c.language.ensures.value) (sym c.in-Some-extlang_prefix.ensures)
-
 fitting : (g : _) (c : In-Some-extlang_prefix g) → IsFittingPrefix (g.L.Lookup.listed c.args.checked.now) c.in-Some.canonical_core.now.language c.in-Some-extlang_prefix.prefix.now
-fitting g c = fitting_prefix (g.L.Lookup.listed c.args.checked.now) c.table-table.ensures.checked c.in-Some.canonical_core.now.language c.in-Some-extlang_prefix.prefix.now (found g c)
+fitting g c = fitting_prefix (g.L.Lookup.listed c.args.checked.now) c.table-table.ensures.checked c.in-Some.canonical_core.now.language c.in-Some-extlang_prefix.prefix.now (rw (← c.table-table.ensures.value, ← c.language.ensures.value) (sym c.in-Some-extlang_prefix.ensures))
 
 -- the core with the Prefix in front
 fronted : (g : _) (c : After-set_extlang g) → c.set_extlang.new.self ≡ record c.in-Some.canonical_core.now { language = c.in-Some-extlang_prefix.prefix.now; extlangs = c.in-Some.canonical_core.now.language ∷ [] }
@@ -34,7 +28,7 @@ pub from_parts-requires-clause-not_grandfathered :
     goal.from_parts-requires-clause-not_grandfathered
 from_parts-requires-clause-not_grandfathered g c =
     let at = goal.at.from_parts-requires-clause-not_grandfathered g c in
-    inl (rw (fronted g at.After-set_extlang) (front_spells_none (g.L.Lookup.listed c.args.checked.now) c.table-table.ensures.checked c.in_ok-form.form c.in-Some.canonical_core.now c.in-Some-extlang_prefix.prefix.now (c.in_ok-form.ensures {u = tt}).ok.canonical (sym c.in-Some.ensures.value) (found g at.In-Some-extlang_prefix)))
+    inl (rw (fronted g at.After-set_extlang) (front_spells_none (g.L.Lookup.listed c.args.checked.now) c.table-table.ensures.checked c.in_ok-form.form c.in-Some.canonical_core.now c.in-Some-extlang_prefix.prefix.now (c.in_ok-form.ensures {u = tt}).ok.canonical (sym c.in-Some.ensures.value) (fitting g at.In-Some-extlang_prefix).found))
 
 pub returns-clause-form : goal.returns-clause-form
 returns-clause-form g c =
@@ -42,4 +36,4 @@ returns-clause-form g c =
     let form = c.in_ok-form.form in
     extlang_answer (g.L.Lookup.listed c.args.checked.now) c.table-table.ensures.checked c.args.tag.now form c.from_parts.result (c.in_ok-form.ensures {u = tt}).ok
     (rw (c.from_parts.ensures, fronted g at.After-set_extlang, c.in_ok-extensions.ensures {u = tt}, c.extensions.ensures.value, c.in_ok-private.ensures {u = tt}, c.private.ensures.value)
-    (sym (extlang_form_is (g.L.Lookup.listed c.args.checked.now) form c.in-Some.canonical_core.now (Some c.in-Some-extlang_prefix.prefix.now) (sym c.in-Some.ensures.value) (found g at.In-Some-extlang_prefix))))
+    (sym (extlang_form_is (g.L.Lookup.listed c.args.checked.now) form c.in-Some.canonical_core.now (Some c.in-Some-extlang_prefix.prefix.now) (sym c.in-Some.ensures.value) (fitting g at.In-Some-extlang_prefix).found)))

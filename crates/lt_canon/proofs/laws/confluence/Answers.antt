@@ -1,4 +1,4 @@
-use Rattle.lt_canon.proofs.TagRepeats.{repeat_together, text_twice_is_once}
+use Rattle.lt_canon.proofs.CanonicalForms.{repeat_together, text_twice_is_once}
 use Rattle.lt_canon.proofs.laws.confluence.Goals as goal
 
 pub returns-clause-together : goal.returns-clause-together
