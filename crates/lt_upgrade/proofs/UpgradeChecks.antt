@@ -1,7 +1,7 @@
 -- What decides the conditions on an upgrade that speak of one record after another, and that the first record that does
 -- not meet a condition is the lowest at fault. Then what follows for tags: what the old registry registers the new one
 -- does, and old steps keep the new end form, and the variant that a refusal names.
-use Rattle.std.proofs.Common.{◌≡◌, ◌↔◌, ℕ, Bool, true, false, ◌&&◌, cond, List, [], ◌∷◌, length, Option, Some, None, refl, sym, ap, ◌∙◌, subst, ◌==◌, ◌<◌, IsTrue, is_some, bytes_eq, inl, inr, ◌+◌, ◌-◌, All, arith, ◌⊎◌, ◌||◌, find, ◌++◌, map, zero, suc, take, drop, ◌≤◌, get_or, eqb, not, Contains, slice_index_or, option_map}
+use Rattle.std.proofs.Common.{◌≡◌, ◌↔◌, ℕ, Bool, true, false, ◌&&◌, cond, List, [], ◌∷◌, length, Option, Some, None, refl, sym, ap, ◌∙◌, subst, ◌==◌, ◌<◌, IsTrue, is_some, bytes_eq, inl, inr, ◌+◌, ◌-◌, All, arith, ◌⊎◌, ◌||◌, find, ◌++◌, map, zero, suc, take, drop, ◌≤◌, get_or, eqb, not, Contains, slice_index_or, option_map, Ordering, Less, Equal, Greater}
 use Rattle.std.specs.Cmp.{both_ways, IsTotalOrder, unsigned_ties}
 use Rattle.std.specs.List.{list_all, list_any, AllByRecursion, dedup, dedup_from, cons_option, AllPairs}
 use Rattle.std.specs.Option.{option_and_then, option_map_or, option_or, unwrap_or}
@@ -36,7 +36,7 @@ use Rattle.lt_canon.proofs.EndForms.{star_end, rest_is_end, end_equivalent, equi
 use Rattle.lt_canon.proofs.CanonicalForms.{value_canonical}
 use Rattle.lt_canon.proofs.TagForm.{core_end, tag_end, end_form, extension_end, extensions_end, extensions_end_formed, extensions_step_from, extensions_step_to, lang_end_some, or_value, cores_formed, value_end, core_normal, cores_reached, tag_reached}
 use Rattle.lt_canon.proofs.TagRepeats.{repeats_at_end, form_is_end, repeat_together}
-use Rattle.lt_rewrite.specs.Rewriting.{Star, done, then, Equivalent, same as no_steps, forth, back}
+use Rattle.lt_rewrite.specs.Rewriting.{Equivalent, same as no_steps, forth, back}
 use Rattle.lt_upgrade.specs.declared.conditions.UpgradeCondition.{UpgradeCondition}
 use Rattle.lt_check.proofs.FirstFaults.{below_or_not, lower_before, IsAt, contains_at}
 use Rattle.std.proofs.lemmas.Option.{IfSome_then}
@@ -60,8 +60,6 @@ use Rattle.lt_canon.proofs.Distinctness.{second_repeats}
 use Rattle.lt_upgrade.specs.Laws.{UpgradeKeepsTags}
 use Rattle.std.specs.List.Sorted.{IsSortedBy, IsPartitionedBy, IsPartitionPoint, IsPermutation}
 use Rattle.std.specs.Ordering.{ordering_reverse, is_le, is_lt, is_gt, nat_cmp, ordering_then, is_eq}
-use Rattle.std.specs.declared.cmp.Ordering.{Ordering}
-use Rattle.std.specs.declared.cmp.Ordering.TheVariants.{Less, Equal, Greater}
 use Rattle.std.proofs.lemmas.List.Sorted.{ranks_by, sorted_far, list_any-IsPermutation}
 use Rattle.lt_upgrade.specs.WidestRanges.{end_cmp, is_up_to, contains, EndsRise, range_end, range_row, range_rows, HoldRanges}
 use Rattle.lt_upgrade.specs.declared.widest_ranges.RangeEnd.{RangeEnd}
@@ -90,9 +88,6 @@ gt_is _ = refl
 further : {K : Type 0} {R : K → K → Ordering} → IsTotalOrder R → (a b c : K) → is_le (R a b) ≡ true → is_le (R b c) ≡ true → is_le (R a c) ≡ true
 further {R = R} total a b c h k = not-false (is_le (R a c)) (sym (gt_is (R a c)) ∙ upto total a b c (gt_is (R a b) ∙ ap not h) (gt_is (R b c) ∙ ap not k))
 
-up_to_further : (a b c : RangeEnd) → is_up_to a b ≡ true → is_up_to b c ≡ true → is_up_to a c ≡ true
-up_to_further = further end_total
-
 other_way : (a b : RangeEnd) → is_up_to a b ≡ false → is_up_to b a ≡ true
 other_way a b h = ap is_le (end_total.antisymm b a) ∙ (elim (end_cmp a b) as (λ o. is_le o ≡ false → is_le (ordering_reverse o) ≡ true) [ Greater ↦ λ h. refl | _ ↦ λ h. cc ]) h
 
@@ -117,7 +112,7 @@ absorbed _ _ z h = refl
 contained : (a b : RangeEnd) (v w : RangeRow) → is_up_to v.first w.first ≡ true → is_up_to w.last v.last ≡ true → contains a b w ≡ true → contains a b v ≡ true
 contained a b v w first last h =
     let p = and_parts (is_up_to w.first a) (is_up_to b w.last) h in
-    and_from (is_up_to v.first a) (is_up_to b v.last) (up_to_further v.first w.first a first p.0) (up_to_further b w.last v.last p.1 last)
+    and_from (is_up_to v.first a) (is_up_to b v.last) (further end_total v.first w.first a first p.0) (further end_total b w.last v.last p.1 last)
 
 abbrev IsBefore : RangeRow → RangeRow → Type 0
 IsBefore v w = (is_up_to v.first w.first ≡ true) × (is_up_to v.last w.last ≡ true)
@@ -143,7 +138,7 @@ widest v (w ∷ rows) first up =
     })
     (λ is. record {
       held = λ a b. ap (λ t. contains a b v || t) (beside.held a b);
-      after = λ u h. (h, beside.after u (up_to_further u.first v.first w.first h.0 next, up_to_further u.last v.last w.last h.1 (other_way w.last v.last is)));
+      after = λ u h. (h, beside.after u (further end_total u.first v.first w.first h.0 next, further end_total u.last v.last w.last h.1 (other_way w.last v.last is)));
       rise = (beside.after v (next, other_way w.last v.last is), beside.rise);
     })
 
@@ -166,14 +161,13 @@ last_holds b rows (suc i) d = is_up_to b (get_or rows i d).last
 
 -- neither end of a range is before those of a range at an earlier place
 rise_at : (rows : List RangeRow) → EndsRise rows → (i j : ℕ) (d e : RangeRow) → i ≤ j → j < length rows → IsBefore (get_or rows i d) (get_or rows j e)
-rise_at [] up i j d e le l = absurd (omega (arith, l))
 rise_at (v ∷ rows) up zero zero d e le l = (itself v.first, itself v.last)
   where
     itself : (a : RangeEnd) → is_up_to a a ≡ true
     itself a = true_from_ne_false (is_up_to a a) (λ h. let k = other_way a a h in cc)
 rise_at (v ∷ rows) up zero (suc j) d e le l = All-from_recursion (IsBefore v) rows up.0 j e (omega (arith, l))
-rise_at (v ∷ rows) up (suc i) zero d e le l = absurd (omega (arith, le))
 rise_at (v ∷ rows) up (suc i) (suc j) d e le l = rise_at rows up.1 i j d e (omega (arith, le)) (omega (arith, l))
+rise_at _ up i j d e le l = absurd (omega (arith, le, l))
 
 held_at : (a b : RangeEnd) (rows : List RangeRow) (i : ℕ) (d : RangeRow) → EndsRise rows → i ≤ length rows
     → IsPartitionPoint (λ (v : RangeRow). is_up_to v.first a ≡ true) (λ (v : RangeRow). is_up_to v.first a ≡ false) rows i → list_any (contains a b) rows ≡ last_holds b rows i d
@@ -187,7 +181,7 @@ held_at a b rows (suc i) d up l point = both_ways (list_any (contains a b) rows)
     let f = Any-from_list_any (contains a b) rows h in
     let p = and_parts (is_up_to f.1.first a) (is_up_to b f.1.last) f.4 in
     elim (cases_lt f.0 (suc i)) [
-      | inl n ↦ up_to_further b f.1.last (get_or rows i d).last p.1 (rw f.3 at (rise_at rows up f.0 i f.1 d (omega (arith, n)) (omega (arith, l))).1)
+      | inl n ↦ further end_total b f.1.last (get_or rows i d).last p.1 (rw f.3 at (rise_at rows up f.0 i f.1 d (omega (arith, n)) (omega (arith, l))).1)
       | inr n ↦ let o = point.1 f.0 f.1 n f.2 in cc
     ])
     (λ h. list_any_at (contains a b) rows i d (omega (arith, l)) (and_from (is_up_to (get_or rows i d).first a) (is_up_to b (get_or rows i d).last) (point.0 i d (omega (arith, l)) (omega arith)) h))
@@ -196,7 +190,7 @@ held_at a b rows (suc i) d up l point = both_ways (list_any (contains a b) rows)
 pub search_finds : (a b : RangeEnd) (rows found : List RangeRow) (i : ℕ) (d : RangeRow) → EndsRise rows → found ≡ rows → i ≤ length found
     → (IsPartitionedBy (λ (v : RangeRow). is_up_to v.first a) found → IsPartitionPoint (λ (v : RangeRow). is_up_to v.first a ≡ true) (λ (v : RangeRow). is_up_to v.first a ≡ false) found i) → list_any (contains a b) rows ≡ last_holds b rows i d
 search_finds a b rows found i d up same l point =
-    held_at a b rows i d up (rw same at l) (rw same at (point (rw same (λ i j d le l h. up_to_further (get_or rows i d).first (get_or rows j d).first a (rise_at rows up i j d d le l).0 h))))
+    held_at a b rows i d up (rw same at l) (rw same at (point (rw same (λ i j d le l h. further end_total (get_or rows i d).first (get_or rows j d).first a (rise_at rows up i j d d le l).0 h))))
 
 -- ---- the ranges among entries contain what the entries cover
 
@@ -343,21 +337,13 @@ variant_language_compared B e f s v w b there gives short same h =
     )
 
 -- a variant with a language value that the older registry has
-some_or_none : {A : Type 0} (o : Option A) → (o ≡ None) ⊎ ((a : A) × (o ≡ Some a))
-some_or_none None = inl refl
-some_or_none (Some a) = inr (a, refl)
-
 pub had_compared : (A : List EntryParts) (e : EntryParts) (s v : List ℕ) (b : Bool) → e.kind ≡ kinds.Variant → e.name ≡ names.Single s → one_of e.value ≡ Some v → is_short v ≡ true → is_registered A kinds.Variant s ≡ true → b ≡ is_some (language_value A s) → IsTrue b ↔ HadVariantLanguage A e
 had_compared A e s v b k n o short there same = (
-  (λ x t w _ m _ _ _. let a : s ≡ t = cc in subst (λ z. (y : List ℕ) × (language_value A z ≡ Some y)) a (elim (some_or_none (language_value A s)) [ inl e ↦ (let bad : false ≡ true = ap is_some (sym e) ∙ sym same ∙ x in cc) | inr found ↦ found ])),
+  (λ x t w _ m _ _ _. let a : s ≡ t = cc in subst (λ z. (y : List ℕ) × (language_value A z ≡ Some y)) a ((elim (language_value A s) as (λ o. is_some o ≡ true → (y : List ℕ) × (o ≡ Some y)) [ None ↦ λ h. cc | Some y ↦ λ h. (y, refl) ]) (sym same ∙ x))),
   (λ f. same ∙ ap is_some (f s v k n o short there).1),
 )
 
 -- ---- whether two tags reach one canonical tag by a newer registry
-
-proper_from : (R : List EntryParts) {t u : TagForm} → Star (TagStep R) t u → IsProper R u → IsProper R t
-proper_from R done p = p
-proper_from R (then s r) p = s.from
 
 module _ (R : List EntryParts) (C : IsChecked R) where
   canonical_end : (t c : TagForm) → IsCanonical R c → IsReached R t c → tag_end R C t ≡ c
@@ -376,7 +362,7 @@ module _ (R : List EntryParts) (C : IsChecked R) where
   -- a tag without repeats that reaches a canonical tag is not refused
   not_refused : (t c : TagForm) (refusal : Refusal) → RepeatsNoVariant t → (refusal ≡ refusals.OutOfMemory → ⊥) → IsCanonical R c → IsReached R t c → IsRefusedWith R t refusal → ⊥
   not_refused t c (refusals.Invalid fault) d n K r h =
-      let P : IsProper R t = proper_from R r K.valid.proper in
+      let P : IsProper R t = star_keeps (λ x. IsProper R x → IsProper R t) (λ a b (s : TagStep R a b) held p. held s.from) r (λ p. p) K.valid.proper in
       (valid_law R t P.tag).0 (record { proper = P; distinct = d }) fault.kind fault.place h.there
   not_refused t c (refusals.ReplacementRepeats v) d n K r h =
       repeats_at_end R C t h.valid h.repeats (subst RepeatsNoVariant (sym (canonical_end t c K r)) K.valid.distinct)
@@ -570,11 +556,10 @@ module _ (A B : List EntryParts) (CA : IsChecked A) (CB : IsChecked B) (U : Upgr
 
   -- what has a VariantLanguage step by the new registry has one by the old
   variant_language_back : (l u : List ℕ) → is_registered A kinds.Variant u ≡ true → (values_of A).variant_language l u ≡ None → (values_of B).variant_language l u ≡ None
-  variant_language_back l u r h = elim (some_or_none ((values_of B).variant_language l u)) [
-    | inl e ↦ e
-    | inr found ↦
-        let w = found.0 in
-        let t = variant_language_is B l u w found.1 in
+  variant_language_back l u r h = (elim ((values_of B).variant_language l u) as (λ o. (values_of B).variant_language l u ≡ o → o ≡ None) [
+    | None ↦ λ found. refl
+    | Some w ↦ λ found.
+        let t = variant_language_is B l u w found in
         let p = language_value_is B u w t.1 in
         let m : ValuedEntry B kinds.Variant u w = valued B kinds.Variant u w p.0 in
         let x = valued_has B kinds.Variant u w (HadVariantLanguage A) (U upgrades.NoNewVariantLanguage) m u w m.of_kind (valued_single B CB kinds.Variant u w m) m.gives p.1 r in
@@ -582,7 +567,7 @@ module _ (A B : List EntryParts) (CA : IsChecked A) (CB : IsChecked B) (U : Upgr
         let listed : has_prefix (prefixes A kinds.Variant u) l ≡ true = ap (λ ps. has_prefix ps l) (prefixes_at A kinds.Variant u n.at n.found) ∙ sym ((same_variant_language u x.0 x.1 n).prefixes l) ∙ t.0 in
         let some : (values_of A).variant_language l u ≡ Some x.0 = ap (λ b. cond b (language_value A u) None) listed ∙ x.1 in
         cc
-  ]
+  ]) refl
 
   variant_languages_back : (l : List ℕ) (before after : List (List ℕ)) → AllByRecursion (λ v. is_registered A kinds.Variant v ≡ true) (before ++ after) → AllByRecursion (λ u. (values_of A).variant_language l u ≡ None) before → AllByRecursion (λ u. (values_of B).variant_language l u ≡ None) before
   variant_languages_back l [] after r h = tt
@@ -729,8 +714,7 @@ module _ (A B : List EntryParts) (CA : IsChecked A) (CB : IsChecked B) (U : Upgr
       let distinct : Distinct (core_end B CB c).variants = end_distinct (core_end B CB c) (whole_value B (core_alone (core_end B CB c))) refl d in
       second_repeats r.form.variants v r.second (subst (λ (x : CoreParts). Distinct x.variants) (normal_is_form (cores_formed B CB) c r.form r.normal) distinct)
   plain_unnamed (LangTag c [] []) v p d (inr r) = empty_middle r.1.before r.1.extension r.1.after (sym r.1.there)
-  plain_unnamed (LangTag c [] (q ∷ qs)) v p d r = let a = p.1 in cc
-  plain_unnamed (LangTag c (e ∷ es) ps) v p d r = let a = p.0 in cc
+  plain_unnamed (LangTag c es ps) v p d r = let a = p.0 in let b = p.1 in cc
   plain_unnamed _ v p d r = r
 
   step_named : (t u : TagForm) (v : List ℕ) → TagStep A t u → IsNamedRepeat B t v → IsNamedRepeat B u v

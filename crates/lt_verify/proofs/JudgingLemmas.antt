@@ -1,5 +1,5 @@
 -- Lemmas on judging an explanation: the words and the verdict of its lines, its printed lines, and lines that come in pieces.
-use Rattle.std.proofs.Common.{IsErrAnd, take, drop, take-append-drop, ◌≡◌, ◌≢◌, ◌<◌, ◌^◌, ◌++◌, ◌∷◌, ◌∙◌, ◌==◌, ℕ, List, [], Option, Some, Bool, true, sym, ap, refl, arith, not, map, get_or, find, ◌≤◌, ◌+◌, inl, inr, leb, length, append_assoc, length-append, bytes_eq, decimal, leb-true, None, subst, append-nil, false, Ordering, flat_map, option_to_list, codes, ◌*◌, Result, Ok, Err, min, ◌-◌}
+use Rattle.std.proofs.Common.{IsErrAnd, take, drop, take-append-drop, ◌≡◌, ◌≢◌, ◌<◌, ◌^◌, ◌++◌, ◌∷◌, ◌∙◌, ◌==◌, ℕ, List, [], Option, Some, Bool, true, sym, ap, refl, arith, not, map, get_or, find, ◌≤◌, ◌+◌, inl, inr, leb, length, append_assoc, length-append, bytes_eq, decimal, leb-true, None, subst, append-nil, false, Ordering, flat_map, option_to_list, codes, ◌*◌, Ok, Err, min, ◌-◌}
 use Rattle.std.specs.List.{list_all, join_with_byte}
 use Rattle.std.proofs.lemmas.Fmt.{decimal_is_IsNumeral, length-decimal-le, decimal_injective}
 use Rattle.std.proofs.lemmas.Str.Parse.{digit_at}
@@ -32,13 +32,11 @@ use Rattle.lt_rewrite.specs.Extensions.{ExtensionStep, ExtensionsStep, Transform
 use Rattle.lt_rewrite.specs.Orderings.{ListStep, by_drop, by_swap}
 use Rattle.lt_rewrite.specs.TagSteps.{TagChange, on_core, on_extensions, on_whole}
 use Rattle.lt_tag.specs.Splitting.{spell_source}
-use Rattle.std.specs.Char.{to_ascii_lowercase}
 use Rattle.lt_jar.proofs.CutLemmas.{lines_of-ended, first_goes_on, lines_of-last}
 use Rattle.lt_jar.specs.Lines.{IsOneLine, lines_of}
 use Rattle.lt_subtag.specs.Bytes.{folded, is_subtag, is_subtag_byte}
 use Rattle.lt_tag.proofs.LetterLemmas.{from_HasList, join_pieces}
 use Rattle.lt_tag.proofs.OneTagLemmas.{one_tag_of_text, text_of_tag}
-use Rattle.lt_tag.specs.Lists.{pieces}
 use Rattle.lt_tag.specs.WellFormed.{IsTag}
 use Rattle.lt_verify.specs.Verifying.{GoesOn, GoesTo, JudgesEnd, KeepsMore, SettlesKept, Takes, TakesPiece, Begins, EndsAs, IsVerdictOf, VerifiesLines, JudgesKept}
 use Rattle.lt_verify.specs.declared.lines.Following.{Following}
@@ -50,9 +48,7 @@ use Rattle.lt_jar.specs.Sources.{most_reads}
 use Rattle.lt_jar.specs.declared.devices.Device.{Device}
 use Rattle.lt_lines.proofs.DeviceLemmas.{failed_from}
 use Rattle.lt_lines.proofs.RunLemmas.{ReadsPiece, read_more}
-use Rattle.lt_lines.specs.declared.faults.ToolFault.{ToolFault}
 use Rattle.lt_lines.specs.Running.{HasRead}
-use Rattle.lt_registry.specs.Validity.{IsProper}
 use Rattle.lt_rewrite.proofs.PartLists.{some_long, flat_length}
 use Rattle.lt_rewrite.specs.declared.steps.StepKind.TheVariants as kinds
 use Rattle.lt_verify.specs.declared.judging.Flow.TheVariants as flows
@@ -62,7 +58,6 @@ use Rattle.lt_lines.specs.declared.faults.ToolFault.TheVariants as faults
 use Rattle.lt_rewrite.specs.Runs.{rank_of}
 use Rattle.lt_rewrite.proofs.ExtensionLaws.{attributes_count}
 use Rattle.lt_verify.specs.declared.labels.TheConstants.{KINDS}
-use Rattle.lt_verify.specs.declared.judging.Flow.{Flow}
 
 -- ---- words that are parted by a space
 
@@ -397,7 +392,7 @@ IsNoFeed byte = byte ≢ 10
 bytes_line : (piece : List ℕ) → list_all is_subtag_byte (folded piece) ≡ true → IsOneLine piece
 bytes_line [] h = All-nil IsNoFeed
 bytes_line (b ∷ piece) h =
-    let k = and_parts (is_subtag_byte (to_ascii_lowercase b)) (list_all is_subtag_byte (folded piece)) h in
+    let k = and_parts _ (list_all is_subtag_byte (folded piece)) h in
     All-cons IsNoFeed b piece (λ e. let bad = rw e at k.0 in cc) (bytes_line piece k.1)
 
 pieces_line : (ps : List (List ℕ)) → list_all is_subtag (map folded ps) ≡ true → IsOneLine (join_with_byte 45 ps)
@@ -409,7 +404,7 @@ pieces_line (p ∷ q ∷ ps) h =
     All-append IsNoFeed p (45 ∷ join_with_byte 45 (q ∷ ps)) (bytes_line p (and_parts (list_all is_subtag_byte (folded p)) _ k.0).0) (All-cons IsNoFeed 45 (join_with_byte 45 (q ∷ ps)) (λ e. absurd (omega arith)) (pieces_line (q ∷ ps) k.1))
 
 tag_line : (t : TagForm) → IsTag t → IsOneLine (text_of t)
-tag_line t is = subst IsOneLine (join_pieces (text_of t)) (pieces_line (pieces (text_of t)) (from_HasList (text_of t) (text_of_tag t is).0))
+tag_line t is = subst IsOneLine (join_pieces (text_of t)) (pieces_line _ (from_HasList (text_of t) (text_of_tag t is).0))
 
 -- ---- the lines
 
@@ -540,14 +535,14 @@ went_on {R = R} there to proper follows = record {
   follows = λ lines v judged. rw there (follows lines v (rw (to.counted, to.there) at judged));
 }
 
-pub ends_on : {R : List EntryParts} {t : TagForm} {line : List ℕ} {old new : Following} (flow : Flow) → old.here ≡ Some t → line ≡ old.kept.items → FlowIs R old.number t line flow → flow ≡ flows.Ends → GoesTo None old new → GoesOn R old new
+pub ends_on : {R : List EntryParts} {t : TagForm} {line : List ℕ} {old new : Following} (flow : _) → old.here ≡ Some t → line ≡ old.kept.items → FlowIs R old.number t line flow → flow ≡ flows.Ends → GoesTo None old new → GoesOn R old new
 ends_on flow there same goes is to = went_on there to tt (λ lines v judged. inr (inl (rw (is, same) at goes, judged)))
 
-pub leads_on : {R : List EntryParts} {t u : TagForm} {line : List ℕ} {old new : Following} (flow : Flow) → old.here ≡ Some t → line ≡ old.kept.items → FlowIs R old.number t line flow → flow ≡ flows.Leads u → GoesTo (Some u) old new → GoesOn R old new
+pub leads_on : {R : List EntryParts} {t u : TagForm} {line : List ℕ} {old new : Following} (flow : _) → old.here ≡ Some t → line ≡ old.kept.items → FlowIs R old.number t line flow → flow ≡ flows.Leads u → GoesTo (Some u) old new → GoesOn R old new
 leads_on {u = u} flow there same goes is to = let leads = rw (is, same) at goes in went_on there to leads.0 (λ lines v judged. inl (u, leads.1, judged))
 
 -- a line begins with its front
-begun_line : (front more : List ℕ) → IsOneLine front → (front ≡ [] → ⊥) → (rest : List ℕ) × (after : List (List ℕ)) × (lines_of (front ++ more) ≡ (front ++ rest) ∷ after)
+pub begun_line : (front more : List ℕ) → IsOneLine front → (front ≡ [] → ⊥) → (rest : List ℕ) × (after : List (List ℕ)) × (lines_of (front ++ more) ≡ (front ++ rest) ∷ after)
 begun_line [] more one some = absurd (some refl)
 begun_line (byte ∷ front) more one some = first_goes_on byte front more one
 
@@ -557,10 +552,6 @@ settled_rest R t state here None settles = rw here settles
 settled_rest R t state here (Some v) settles = λ more one.
     let goes = begun_line state.kept.items more one (λ e. absurd (omega (arith, settles.0, ap length e))) in
     rw (here, goes.2) (inr (inr (settles.1 goes.0)))
-
--- and anything after the end does
-pub kept_behind : (R : List EntryParts) (state : Following) → state.here ≡ None → (state.kept.items ≡ [] → ⊥) → SettlesKept R state (Some (verdicts.BadStep state.number))
-kept_behind R state here some = λ more one. rw (here, (begun_line state.kept.items more one some).2) refl
 
 -- ---- the end
 
@@ -583,7 +574,7 @@ pub record HasTurned {I : Type 0} (R : List EntryParts) (t : TagForm) (remaining
   pub failures : failures_of input' ≡ failures_of input
 
 -- memory ran out before the first read
-pub run_lacks : {I : Type 0} {R : List EntryParts} {t : TagForm} {remaining : I → Option (List ℕ)} {input : Device I} → (r : Result Verdict ToolFault) → IsErrAnd r (λ e. e ≡ faults.OutOfMemory) → VerifiesLines R t remaining input input r
+pub run_lacks : {I : Type 0} {R : List EntryParts} {t : TagForm} {remaining : I → Option (List ℕ)} {input : Device I} → (r : _) → IsErrAnd r (λ e. e ≡ faults.OutOfMemory) → VerifiesLines R t remaining input input r
 run_lacks r lacks = let p = err_from_is_err_and r lacks in rw (p.1, p.2) (record {
   read = [];
   reads = 0;
@@ -594,7 +585,7 @@ run_lacks r lacks = let p = err_from_is_err_and r lacks in rw (p.1, p.2) (record
   read_rises = λ lt. absurd (omega (arith, lt));
 })
 
-pub run_first : {I : Type 0} (R : List EntryParts) (t : TagForm) (remaining : I → Option (List ℕ)) (input : Device I) (start : Following) → Begins t start → IsProper R t
+pub run_first : {I : Type 0} (R : List EntryParts) (t : TagForm) (remaining : I → Option (List ℕ)) (input : Device I) (start : Following) → Begins t start → IsProperIf R (Some t)
     → HasTurned R t remaining input input start 0
 run_first R t remaining input start begins proper = record {
   start = start;
@@ -632,10 +623,6 @@ module _ {I : Type 0} {R : List EntryParts} {t : TagForm} {remaining : I → Opt
     failures = r.failures ∙ v.failures;
   }
 
-  -- the number of the next line is far from the greatest
-  pub run_room : state.number ≤ 1 + 65536 * turn
-  run_room = omega (arith, v.begins.number, v.takes.counted, v.most)
-
   -- a read failed
   pub run_failed : {after : Device I} → turn < most_reads → Keeps (remaining (inner_of before)) (remaining (inner_of after)) → reads_of after ≡ one_more (reads_of before) → HasFailed before after
       → VerifiesLines R t remaining input after (Err faults.Read)
@@ -662,7 +649,7 @@ module _ {I : Type 0} {R : List EntryParts} {t : TagForm} {remaining : I → Opt
   }
 
   -- a piece was read, and the run ended so
-  run_ended : {after : Device I} (piece : List ℕ) (r : Result Verdict ToolFault) → turn < most_reads → ReadsPiece remaining before after piece → EndsAs R t remaining input after (turn + 1) (v.read ++ piece) r
+  run_ended : {after : Device I} (piece : List ℕ) (r : _) → turn < most_reads → ReadsPiece remaining before after piece → EndsAs R t remaining input after (turn + 1) (v.read ++ piece) r
       → VerifiesLines R t remaining input after r
   run_ended {after = after} piece r few p ends = record {
     read = v.read ++ piece;
@@ -675,7 +662,7 @@ module _ {I : Type 0} {R : List EntryParts} {t : TagForm} {remaining : I → Opt
   }
 
   -- memory ran out
-  pub run_stopped : {after : Device I} (piece : List ℕ) (r : Result Verdict ToolFault) → IsErrAnd r (λ e. e ≡ faults.OutOfMemory) → turn < most_reads → ReadsPiece remaining before after piece → VerifiesLines R t remaining input after r
+  pub run_stopped : {after : Device I} (piece : List ℕ) (r : _) → IsErrAnd r (λ e. e ≡ faults.OutOfMemory) → turn < most_reads → ReadsPiece remaining before after piece → VerifiesLines R t remaining input after r
   run_stopped piece r lacks few p = let e = err_from_is_err_and r lacks in rw (e.1, e.2) (run_ended piece (Err faults.OutOfMemory) few p tt)
 
   -- a piece settled what is judged

@@ -1,9 +1,8 @@
-use Rattle.std.proofs.Common.{◌∙◌, ap, arith}
-use Rattle.lt_rewrite.specs.Names.{name_of}
+use Rattle.std.proofs.Common.{arith}
 use Rattle.lt_verify.proofs.JudgingLemmas.{kind_at}
 use Rattle.lt_verify.proofs.labels.kind_named.Goals as goal
 
 pub returns : goal.returns
 returns c = λ kind named.
     let at = kind_at kind in
-    c.loop-kind.invariant at.0 (omega (arith, at.1, c.loop-kind-test.false)) (ap name_of at.2 ∙ named)
+    c.loop-kind.invariant at.0 (omega (arith, at.1, c.loop-kind-test.false)) (cc (at.2, named))

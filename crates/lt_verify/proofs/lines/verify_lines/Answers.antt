@@ -1,6 +1,6 @@
 use Rattle.std.proofs.Common.{◌≡◌, ◌∙◌, ℕ, length, take, sym, ap, arith, length-take}
 use Rattle.lt_lines.proofs.RunLemmas.{ReadsPiece, refilled}
-use Rattle.lt_verify.proofs.JudgingLemmas.{run_failed, run_finished, run_first, run_lacks, run_next, run_room, run_settled, run_stopped, run_turns}
+use Rattle.lt_verify.proofs.JudgingLemmas.{run_failed, run_finished, run_first, run_lacks, run_next, run_settled, run_stopped, run_turns}
 use Rattle.lt_verify.proofs.lines.verify_lines.Goals as goal
 use Rattle.lt_verify.proofs.lines.verify_lines.Goals.{After-deref}
 
@@ -19,7 +19,7 @@ loop-read-init g c = record {
 pub finish-requires : goal.finish-requires
 finish-requires g c =
     let turn = c.loop-read.invariant.turn in
-    record { proper = turn.takes.proper; room = omega (arith, run_room turn, c.loop-read-test.true) }
+    record { proper = turn.takes.proper; room = omega (arith, turn.begins.number, turn.takes.counted, turn.most, c.loop-read-test.true) }
 
 pub returns-in-Ok-eq0 : goal.returns-in-Ok-eq0
 returns-in-Ok-eq0 g c =
@@ -62,7 +62,7 @@ returns-in_err-verdict-in-Ok g c =
 pub take_piece-requires : goal.take_piece-requires
 take_piece-requires g c =
     let turn = c.loop-read.invariant.turn in
-    record { proper = turn.takes.proper; room = omega (arith, run_room turn, length-take c.in-Ok.count c.deref.result.now, c.in-Ok.ensures.bound.0, (reads g (goal.at.take_piece-requires g c).After-deref).0, c.loop-read-test.true) }
+    record { proper = turn.takes.proper; room = omega (arith, turn.begins.number, turn.takes.counted, turn.most, length-take c.in-Ok.count c.deref.result.now, c.in-Ok.ensures.bound.0, (reads g (goal.at.take_piece-requires g c).After-deref).0, c.loop-read-test.true) }
 
 pub returns-in-Some : goal.returns-in-Some
 returns-in-Some g c =

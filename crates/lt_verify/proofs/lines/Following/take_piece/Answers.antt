@@ -1,6 +1,4 @@
-use Rattle.std.proofs.Common.{Option}
 use Rattle.std.proofs.lemmas.Result.{IfOk-weaker}
-use Rattle.lt_verify.specs.declared.verdicts.Verdict.{Verdict}
 use Rattle.lt_verify.proofs.JudgingLemmas.{last_turn, settled_turn}
 use Rattle.lt_verify.proofs.lines.Following.take_piece.Goals as goal
 
@@ -10,4 +8,4 @@ returns-in-Some-2 g c =
 
 pub returns : goal.returns
 returns g c =
-    IfOk-weaker c.judge_rest.result _ _ (λ (j : Option Verdict) is. last_turn c.loop-part.invariant c.in_default.ensures c.in_ok-keep-2.ensures j is) c.judge_rest.ensures
+    IfOk-weaker c.judge_rest.result _ _ (λ j is. last_turn c.loop-part.invariant c.in_default.ensures c.in_ok-keep-2.ensures j is) c.judge_rest.ensures
