@@ -1,4 +1,3 @@
--- What the crates above may use.
-pub mod TextLemmas
 -- What this crate alone uses.
+mod TextLemmas
 mod FlagLemmas
