@@ -1,11 +1,10 @@
-use Rattle.std.proofs.Common.{◌≡◌, None, inl, [], refl, sym, ◌∙◌, arith}
+use Rattle.std.proofs.Common.{◌≡◌, true, Some, None, is_some, inl, [], refl, sym, ◌∙◌, arith}
 use Rattle.std.proofs.lemmas.Option.{MatchOption-at_some, MatchOption-at_none}
 use Rattle.std.proofs.lemmas.Result.{IfOk-weaker}
 use Rattle.lt_tag.specs.Values.{core_alone}
 use Rattle.lt_registry.specs.Validity.{IsProper}
 use Rattle.lt_rewrite.specs.Labels.{LeadsBy}
 use Rattle.lt_rewrite.specs.Runs.{Adds}
-use Rattle.lt_rewrite.proofs.Forms.{some_at}
 use Rattle.lt_canon.specs.Explaining.{rank_in}
 use Rattle.lt_rewrite.proofs.ProperTags.{proper_parts}
 use Rattle.lt_canon.proofs.TagForm.{core_spells_none}
@@ -16,7 +15,7 @@ use Rattle.lt_canon.proofs.explaining.explain_tag.Goals.{Then-is_some}
 -- of a core alone
 plain : (g : _) (c : Then-is_some g) → IsProper (g.L.Lookup.listed c.args.table.now) (core_alone c.in_ok-settled.settled) × Adds (LeadsBy (g.L.Lookup.listed c.args.table.now)) rank_in c.args.tag.now (core_alone c.in_ok-settled.settled) c.args.steps.items c.in_ok-settled.steps.items
 plain g c =
-    let some = some_at c.core_alone.result (sym (c.if-is_some.ensures {u = tt})) in
+    let some = (elim c.core_alone.result as (λ o. is_some o ≡ true → (a : _) × (o ≡ Some a)) [ None ↦ λ e. cc | Some a ↦ λ e. (a, refl) ]) (sym (c.if-is_some.ensures {u = tt})) in
     let alone = MatchOption-at_some _ _ some.0 some.1 c.core_alone.ensures.value in
     plain_explained (g.L.Lookup.listed c.args.table.now) c.requires.checked c.args.tag.now c.in-Some.core.now c.in_ok-settled.settled some.0.now c.args.steps.items c.in_ok-settled.steps.items c.requires.proper (c.in-Some.ensures {u = tt}).value alone (rw (← c.in_ok-copy.ensures {u = tt}) (c.in_ok-settled.ensures {u = tt}).adds)
 
