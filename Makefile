@@ -1,46 +1,71 @@
 # Builds, tests and installs the program `langtag`, by the command `rt` of a Rattle kit.
 
 PREFIX ?= /usr/local
+LIBDIR ?= $(PREFIX)/lib
+PARTS ?= program library
+export DESTDIR PREFIX LIBDIR
 
-.PHONY: all lib sqlite test statement bench hostile growth install deb clean
+.PHONY: all lib lib-aarch64 sqlite test statement bench hostile growth install uninstall deb dist fresh-debian clean gate
 
 # Proves each crate that changed, and builds the program: `rt run` proves, builds and runs it.
 all:
+	tools/build.py langtag
 	cd crates/langtag && rt run -- --help > /dev/null
 	mkdir -p build
 	cp crates/langtag/out/langtag build/langtag
 
-# Proves and builds the library for C: build/libbcp47.a and build/libbcp47.so.1.
+# Proves and builds the library for C, for each processor of x86-64: build/libbcp47.a and build/libbcp47.so.1.
 lib:
-	cd crates/bcp47_c && rt lib > /dev/null
+	tools/build.py bcp47_c
+	cd crates/bcp47_c && rt lib --cpu x86-64 > /dev/null
 	bindings/c/build.sh
 
-# Builds the extension of SQLite: build/bcp47.so.
-sqlite: lib
-	gcc -O2 -fPIC -shared -Wall -Ibindings/c -o build/bcp47.so bindings/sqlite/bcp47_sqlite.c build/libbcp47.a
+# The same for aarch64, with gcc and binutils for it: build/aarch64/libbcp47.a and build/aarch64/libbcp47.so.1.
+lib-aarch64:
+	tools/build.py bcp47_c
+	cd crates/bcp47_c && rt lib --target aarch64-unknown-linux-gnu > /dev/null
+	bindings/c/build.sh build/aarch64 aarch64-linux-gnu-
 
-# Proves everything from nothing, and runs each test; then refuses growths of memory in the tests that name a line or a
-# record, and runs the program on real files and streams, README's commands, and what is linked to the library for C.
-test:
-	rt ci
-	tests/keep_proofs.py
+# Builds the extension of SQLite: build/bcp47_sqlite.so. It shows nothing but its entry.
+sqlite: lib
+	gcc -O2 -fPIC -shared -fvisibility=hidden -Wl,--exclude-libs,ALL -Wall -Ibindings/c -o build/bcp47_sqlite.so \
+	    bindings/sqlite/bcp47_sqlite.c build/libbcp47.a
+
+# The tests that must pass for each change: proves everything from nothing and runs each test and program, tries all wrong
+# bodies, many in one check; then refuses growths of memory in the tests that name a line or a record, and runs the program on
+# real files and streams, README's commands, what is linked to the library for C, and what is packaged.
+test: statement
+	tests/repository.sh
+	tests/edits_test.py
+	tests/gate.py
+	tests/trusted.py
 	mkdir -p build
 	cp crates/langtag/out/langtag build/langtag
 	bench/growth.py lt_jar_tests lt_registry_tests
 	tests/program.sh
+	tests/csv_readers.py
 	tests/messages.sh
 	tests/fresh.sh
 	tests/bindings.sh
+	tests/packaging.sh
 
-# Checks which lemmas the crates lend, and counts what has to be believed: the definitions that the headline reaches.
-# It needs no toolchain.
+# The gate of the kit, for a release: as the first part of `make test`, but it tries each wrong body alone, which takes hours.
+gate:
+	rt ci
+
+# Checks which lemmas the crates lend, and counts what has to be believed: the definitions that the headline reaches, which it
+# writes as one page to build/statement.md. It needs no toolchain.
 statement:
 	bench/layers.py
+	tests/statement.py
+	mkdir -p build
+	bench/statement.py --text > build/statement.md
 	bench/statement.py --docs
 
-# Measures the program that `make` built, over a registry of IANA's size; it takes some seconds.
+# Measures the program that `make` built, with the example's registry and with those that REGISTRIES names; it takes some
+# minutes, where valgrind counts.
 bench:
-	bench/run.sh
+	bench/run.sh build/langtag examples/iana-2025-05-15.txt $(REGISTRIES)
 
 # Measures the program on registries and lines that are made against it; it takes a quarter of an hour.
 hostile:
@@ -49,22 +74,30 @@ hostile:
 # Refuses each growth of memory in turn, in the tests that are meant for it and in the program. `rt test` proves the tests
 # of a crate, where they changed, and leaves them in out/.
 growth: all
-	set -e; for crate in lt_tag_tests lt_jar_tests lt_registry_tests lt_rewrite_tests lt_canon_tests lt_tool_tests; do (cd crates/$$crate && rt test); done
+	set -e; for crate in lt_tag_tests lt_parts_tests lt_jar_tests lt_registry_tests lt_rewrite_tests lt_canon_tests lt_tool_tests; do (cd crates/$$crate && rt test); done
 	bench/growth.py
 
-# The program, its manual and pages, and the library for C.
-install: all lib
-	packaging/install.sh $(DESTDIR)$(PREFIX)
-	install -d $(DESTDIR)$(PREFIX)/include $(DESTDIR)$(PREFIX)/lib/pkgconfig
-	install -m 644 bindings/c/bcp47.h $(DESTDIR)$(PREFIX)/include/bcp47.h
-	install -m 644 build/libbcp47.a $(DESTDIR)$(PREFIX)/lib/libbcp47.a
-	install -m 755 build/libbcp47.so.1 $(DESTDIR)$(PREFIX)/lib/libbcp47.so.1
-	ln -sf libbcp47.so.1 $(DESTDIR)$(PREFIX)/lib/libbcp47.so
-	sed 's#@PREFIX@#$(PREFIX)#' bindings/c/bcp47.pc.in > $(DESTDIR)$(PREFIX)/lib/pkgconfig/bcp47.pc
+# What `make` and `make lib` built, with the manual, pages, completions and a registry; PARTS=program leaves the library out.
+# DESTDIR, PREFIX and LIBDIR say where. Nothing is built.
+install:
+	packaging/install.sh install $(PARTS)
 
-# Builds the package build/langtag_VERSION_ARCHITECTURE.deb of Debian, which needs dpkg-deb.
-deb: all
+# Takes away what `make install` put there.
+uninstall:
+	packaging/install.sh uninstall $(PARTS)
+
+# Makes packages of Debian of what `make` and `make lib` built, in build/; it needs debhelper.
+deb:
 	packaging/deb.sh build
 
+# A release, in dist/: archives, wheels, packages of Debian, a list of the parts and checksums, of what is built.
+dist:
+	packaging/dist.sh dist
+
+# The packages in a Debian of their own, as a new user meets them: as root, with debootstrap and the network. The Debian is kept
+# in build/debian; to make it takes some minutes, and a run with it half a minute.
+fresh-debian:
+	tests/fresh_debian.sh
+
 clean:
-	rm -rf build crates/*/out
+	rm -rf build dist crates/*/out

@@ -13,8 +13,9 @@ gcc -std=c11 -D_GNU_SOURCE -O2 -Ibindings/c -o "$folder/library" bench/bindings/
 gcc -std=c11 -D_GNU_SOURCE -O2 -Ibindings/c -o "$folder/icu" bench/bindings/icu.c $(pkg-config --cflags --libs icu-uc)
 "$folder/library" "$registry" "$folder/tags"
 "$folder/icu" "$folder/tags"
-export PYTHONPATH=$PWD/bindings/python BCP47_LIBRARY=$PWD/build/libbcp47.so.1
+/usr/bin/python3 -m pip install -q --no-index --root-user-action=ignore --target "$folder/python" bindings/python
+export PYTHONPATH=$folder/python
 /usr/bin/python3 -B bench/bindings/python.py "$registry" "$folder/tags"
-gcc -O2 -fPIC -shared -Ibindings/c -o "$folder/bcp47.so" bindings/sqlite/bcp47_sqlite.c build/libbcp47.a
+gcc -O2 -fPIC -shared -fvisibility=hidden -Ibindings/c -o "$folder/bcp47_sqlite.so" bindings/sqlite/bcp47_sqlite.c build/libbcp47.a
 bench/bindings/sqlite.sh "$folder" "$registry"
 bench/bindings/postgresql.sh "$folder" "$registry"

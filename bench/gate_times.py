@@ -4,8 +4,8 @@
 Usage: gate_times.py COMMAND..
 
 Looks at the processes below the command twice a second. A process that works for a crate names it after
-`--crate-name`; it works for the tests if it has the word `--test`, for an edit if it runs in a copy of the
-crate that was made for one, and else for the proof. Prints a table in minutes of one processor, with the
+`--crate-name`; it works for the tests if it has the word `--test`, for edits if it runs in a copy of the
+crate that was made for them, and else for the proof. Prints a table in minutes of one processor, with the
 clock's minutes from a kind's first process to its last. What the command prints goes to standard error.
 Ends with the status of the command.
 """
@@ -42,7 +42,7 @@ def task(pid):
         return None
     if "--crate-name" not in words[:-1]:
         return None
-    is_edit = os.path.basename(folder).startswith("rt-edit-")
+    is_edit = os.path.basename(folder).startswith("rt-edit")
     kind = "edits" if is_edit else "tests" if "--test" in words else "proof"
     return words[words.index("--crate-name") + 1], kind
 

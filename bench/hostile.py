@@ -6,7 +6,7 @@ Usage: hostile.py PROGRAM [--count N] [--only WORD] [--seconds S]
 For each registry of `hostile_registries.py`, by the counts N, 2N and 4N less one (25,000, 50,000 and 99,999): processor
 time, the least of three runs, and memory of `check`, and of `upgrade` to itself and to the registry after it. Then the
 time of a tag of about 1,024 bytes: of a line of `canon`, where no two lines are equal, and of `explain`, `equal` and
-`extlang` beside the same command with a short tag. The last line tells how many figures are past a limit: 2 seconds or 300 MB for a registry, 1 millisecond
+`extlang` beside the same command with a short tag. The last line tells how many figures are past a limit: 4 seconds or 300 MB for a registry, 1 millisecond
 for a tag and 0.05 more for each step that `explain` prints with the tag to which it leads, or more than 2.6 times the time
 for twice the count. What is past a limit is measured again, a few times, and the least counts, since the times of a host
 vary. Ends with 1 if any is past a limit then.
@@ -22,7 +22,7 @@ import time
 
 from hostile_registries import MOST_VARIANTS, REGISTRIES, name, short_variant, turning
 
-MOST_SECONDS = 2.0
+MOST_SECONDS = 4.0
 MOST_MEGABYTES = 300
 MOST_RATIO = 2.6
 MOST_MILLISECONDS = 1.0

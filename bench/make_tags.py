@@ -8,9 +8,11 @@ LIST is one of these:
 - `mixed`: a fifth are a language alone, half a language and a region, a seventh have a script too, 8 % have a `u` or
   `t` extension and 3 % private use; the rest are extlangs, variants, whole tags, and some that are refused.
 - `catalogue`: some 400 distinct tags of `mixed`, by Zipf's law, as catalogues of libraries and logs have.
-- `distinct`: tags of `mixed`, none of them twice.
+- `distinct`: tags of `mixed`, none of them twice. The kinds of which there are few tags run out, so a third has a `u` or
+  `t` extension.
+- `new`: the kinds of `mixed` in the same shares, by any of the registry's subtags, and no line twice: 20,000 tags.
 
-200,000 tags come unless a COUNT is given, and the same each time.
+200,000 tags come, where nothing else is said, unless a COUNT is given, and the same each time.
 """
 
 import itertools
@@ -93,8 +95,9 @@ class Tags:
     def core(self):
         return self.random.choices([self.language, self.with_region, self.with_script, self.with_both], [6, 9, 3, 2])[0]()
 
-    def tag(self):
-        kinds = (
+    def kinds(self):
+        """Each kind of tag with its share."""
+        return (
             (20, self.language),
             (50, self.with_region),
             (14, self.with_both),
@@ -108,7 +111,14 @@ class Tags:
             (0.5, lambda: self.pick(self.names["redundant"])),
             (1, lambda: self.pick(REFUSED)),
         )
-        return self.random.choices([make for _, make in kinds], [share for share, _ in kinds])[0]()
+
+    def kind(self):
+        """What makes a tag of one of the kinds."""
+        kinds = self.kinds()
+        return self.random.choices([make for _, make in kinds], [share for share, _ in kinds])[0]
+
+    def tag(self):
+        return self.kind()()
 
     def mixed(self):
         """Tags as catalogues spell them: mostly well, at times in one case."""
@@ -132,10 +142,46 @@ class Tags:
             yield self.random.choices(tags, cum_weights=shares)[0]
 
 
+# How many tags are tried before a kind is taken to have run out.
+TRIES = 200
+
+
+class NewTags(Tags):
+    """Tags by any subtag of the registry: the common ones don't come more often."""
+
+    def language(self):
+        return self.pick(self.names["language"])
+
+    def region(self):
+        return self.pick(self.names["region"])
+
+    def script(self):
+        return self.pick(self.names["script"])
+
+    def cased(self, tag):
+        """The tag as it is, or in random case."""
+        if self.random.random() < 0.92:
+            return tag
+        return "".join(self.pick([letter.lower(), letter.upper()]) for letter in tag)
+
+    def new(self):
+        """Tags of each kind in its share, as long as it has more, and none of them twice."""
+        seen = set()
+        while True:
+            make = self.kind()
+            for tag in (self.cased(make()) for _ in range(TRIES)):
+                if tag not in seen:
+                    seen.add(tag)
+                    yield tag
+                    break
+
+
 def main():
-    tags = Tags(*read_registry(sys.argv[1]))
-    lists = {"mixed": tags.mixed, "catalogue": tags.catalogue, "distinct": tags.distinct}
-    count = int(sys.argv[3]) if len(sys.argv) > 3 else 200000
+    names = read_registry(sys.argv[1])
+    tags = Tags(*names)
+    lists = {"mixed": tags.mixed, "catalogue": tags.catalogue, "distinct": tags.distinct, "new": NewTags(*names).new}
+    usual = 20000 if sys.argv[2] == "new" else 200000
+    count = int(sys.argv[3]) if len(sys.argv) > 3 else usual
     sys.stdout.writelines(tag + "\n" for tag in itertools.islice(lists[sys.argv[2]](), count))
 
 

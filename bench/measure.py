@@ -3,9 +3,9 @@
 
 Usage: measure.py PROGRAM REGISTRY LIST..
 
-For each list: tags a second, and the instructions and the mispredicted branches of a tag, those of the start taken off.
-Both are counted by callgrind, where valgrind is installed: no other work on the machine moves them. The most memory is
-that of the last list.
+For each list: tags a second, the instructions and the mispredicted branches of a tag, those of the start taken off, and
+the most stack in bytes. These three are counted by valgrind, where it is installed: no other work on the machine moves
+them. The most memory is that of the last list.
 """
 
 import os
@@ -18,7 +18,7 @@ from pathlib import Path
 
 STARTS = 10
 RUNS = 5
-COLUMNS = "%-12s %10s %14s %14s %16s"
+COLUMNS = "%-12s %10s %14s %14s %16s %8s"
 
 
 def begin(program, registry, tags):
@@ -62,19 +62,32 @@ def most_memory(program, registry, tags):
     return held / 1024
 
 
+def profile(program, registry, tags, *flags):
+    """The lines that a tool of valgrind writes of a run."""
+    with tempfile.TemporaryDirectory() as folder:
+        file = Path(folder, "profile")
+        words = ["valgrind", *(flag % file if "%s" in flag else flag for flag in flags), program, "canon", registry]
+        with open(tags, "rb") as lines:
+            judge(subprocess.run(words, stdin=lines, stdout=subprocess.DEVNULL, stderr=subprocess.DEVNULL).returncode)
+        return file.read_text().splitlines()
+
+
 def counts(program, registry, tags):
     """The instructions and the mispredicted branches of a run, or nothing without valgrind."""
     if not shutil.which("valgrind"):
         return None
-    with tempfile.TemporaryDirectory() as folder:
-        profile = Path(folder, "profile")
-        words = ["valgrind", "--tool=callgrind", "--branch-sim=yes", "--callgrind-out-file=%s" % profile,
-                 program, "canon", registry]
-        with open(tags, "rb") as lines:
-            judge(subprocess.run(words, stdin=lines, stdout=subprocess.DEVNULL, stderr=subprocess.DEVNULL).returncode)
-        found = dict(line.split(": ", 1) for line in profile.read_text().splitlines() if line.startswith(("events", "totals")))
+    lines = profile(program, registry, tags, "--tool=callgrind", "--branch-sim=yes", "--callgrind-out-file=%s")
+    found = dict(line.split(": ", 1) for line in lines if line.startswith(("events", "totals")))
     events = dict(zip(found["events"].split(), map(int, found["totals"].split())))
     return events["Ir"], events["Bcm"] + events["Bim"]
+
+
+def most_stack(program, registry, tags):
+    """The most bytes of stack of a run, or a hyphen without valgrind."""
+    if not shutil.which("valgrind"):
+        return "-"
+    lines = profile(program, registry, tags, "--tool=massif", "--heap=no", "--stacks=yes", "--massif-out-file=%s")
+    return max(int(line.split("=")[1]) for line in lines if line.startswith("mem_stacks_B"))
 
 
 def print_list(program, registry, tags, start, start_counts):
@@ -86,17 +99,19 @@ def print_list(program, registry, tags, start, start_counts):
     if start_counts:
         shares = ["%.1f" % ((whole - start) / lines) for whole, start in
                   zip(counts(program, registry, tags), start_counts)]
-    print(COLUMNS % (Path(tags).stem, lines, "%.0f" % (lines / max(whole - start, 1e-9)), *shares))
+    print(COLUMNS % (Path(tags).stem, lines, "%.0f" % (lines / max(whole - start, 1e-9)), *shares,
+                     most_stack(program, registry, tags)))
 
 
 def main():
     program, registry, *lists = sys.argv[1:]
     start = min(seconds(program, registry, os.devnull) for _ in range(STARTS))
     start_counts = counts(program, registry, os.devnull)
-    print(COLUMNS % ("list", "tags", "tags a second", "instructions", "mispredictions"))
+    print(COLUMNS % ("list", "tags", "tags a second", "instructions", "mispredictions", "stack"))
     for tags in lists:
         print_list(program, registry, tags, start, start_counts)
-    print("start: %.1f ms" % (start * 1000) + (", %.1f million instructions" % (start_counts[0] / 1e6) if start_counts else ""))
+    counted = ", %.1f million instructions, %.0f thousand mispredictions" % (start_counts[0] / 1e6, start_counts[1] / 1e3) if start_counts else ""
+    print("start: %.1f ms%s" % (start * 1000, counted))
     print("largest memory: %.1f MB" % most_memory(program, registry, lists[-1]))
 
 

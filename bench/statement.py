@@ -1,7 +1,7 @@
 #!/usr/bin/env python3
 """Counts the statement: every definition that the clauses of the headline reach, and so all that has to be believed.
 
-Usage: bench/statement.py [--most N] [--list] [--docs]
+Usage: bench/statement.py [--most N] [--list] [--docs] [--text] [--root FOLDER]
 
 It starts at the clauses of README's table (HEADLINE below) and follows each name: definitions in crates/*/specs/**/*.antt, and
 in crates/*/src the enums, structs, views (`impl Model`) and traits that they speak of. Of a type with a view the view counts,
@@ -10,7 +10,11 @@ counted. A line counts unless it is blank, a comment, a `use`, an attribute or a
 
 It prints each file with the lines reached, and their sum. With --list it prints each definition too. It ends with 1 if a
 definition is reached that is in an inner file (specs/inner/), or if the sum is above N (700); with --docs also if README.md
-doesn't give the sum, or docs/READING.md doesn't name a definition.
+doesn't give the sum, docs/READING.md doesn't name a definition, or its table of notation doesn't have a name of std that a
+definition uses.
+
+With --text it prints one page in place of that: each definition with its file and its comment, in the order in which
+docs/READING.md names them, under its headings.
 """
 
 import argparse
@@ -24,8 +28,8 @@ ROOT = Path(__file__).resolve().parent.parent
 HEADLINE = [
     ("new", ["value", "passes", "rejects"], "Checked"),
     ("canonical", ["ok", "repeats"]),
-    ("canonical_text", ["written"]),
-    ("confluence", ["canonical", "text_twice", "equal_texts"]),
+    ("canonical_text", ["written", "repeats"]),
+    ("canonical_forms", ["canonical", "twice", "text_twice", "equal_texts"]),
 ]
 
 SEPARATORS = re.compile(r"[\s(){}\[\],;]+")
@@ -359,7 +363,9 @@ class Tree:
 
 
 def without_error(text):
-    """The text without the error type of a function's result, which counts only where a clause names it."""
+    """The text without the error type of a function's result, which counts only where a clause looks at the error."""
+    if re.search(r"ensures .*\bIfErr\b", text):
+        return text
     return re.sub(r"-> Result<(.*), [^,]*>$", r"-> \1", text, flags=re.M)
 
 
@@ -381,27 +387,40 @@ def chosen(item, names):
     return item
 
 
-def main():
+def statement(root, headline):
+    """All that the clauses of the headline reach."""
+    tree = Tree(root)
+    for entry in headline:
+        tree.clauses(entry[0], entry[1], *entry[2:])
+    tree.follow()
+    return tree
+
+
+def main(arguments=None, headline=HEADLINE):
     parser = argparse.ArgumentParser(description="Counts the statement: all that has to be believed.")
     parser.add_argument("--most", type=int, default=700, help="the most lines allowed")
     parser.add_argument("--list", action="store_true", help="print each definition")
     parser.add_argument("--docs", action="store_true", help="compare with README.md and docs/READING.md")
-    words = parser.parse_args()
+    parser.add_argument("--text", action="store_true", help="print the definitions as one page")
+    parser.add_argument("--root", type=Path, default=ROOT, help="the repository")
+    words = parser.parse_args(arguments)
+    root = words.root
 
-    tree = Tree()
-    for entry in HEADLINE:
-        tree.clauses(entry[0], entry[1], *entry[2:])
-    tree.follow()
+    tree = statement(root, headline)
+    items = list(tree.reached.values())
+    if words.text:
+        print_text(root, items)
+        return 0
 
     files = {}
-    for item in tree.reached.values():
+    for item in items:
         files.setdefault(item.path, []).append(item)
     total, failed = 0, False
     for path in sorted(files):
         items = sorted(files[path], key=lambda item: item.first)
         count = sum(item.count() for item in items)
         total += count
-        name = path.relative_to(ROOT)
+        name = path.relative_to(root)
         inner = "inner" in path.parts
         failed = failed or inner
         print(f"{count:5} {name}" + ("  INNER" if inner else ""))
@@ -413,20 +432,95 @@ def main():
         print(f"more than {words.most}")
         failed = True
     if words.docs:
-        failed = not agrees_with_docs(total, tree.reached.values()) or failed
+        failed = not agrees_with_docs(root, total, tree) or failed
     return 1 if failed else 0
 
 
-def agrees_with_docs(total, items):
-    """Whether README gives the sum, and READING.md names each definition."""
-    agrees = f"{total:,} lines" in (ROOT / "README.md").read_text(encoding="utf-8")
+def agrees_with_docs(root, total, tree):
+    """Whether README gives the sum, and READING.md names each definition, and each name of std that they use."""
+    agrees = f"{total:,} lines" in (root / "README.md").read_text(encoding="utf-8")
     if not agrees:
         print("README.md gives another number")
-    named = set(re.findall(r"[\w]+", (ROOT / "docs/READING.md").read_text(encoding="utf-8")))
-    missing = sorted({item.name for item in items if item.path.suffix == ".antt" and item.name not in named})
+    reading = Reading(root)
+    items = [item for item in tree.reached.values() if item.path.suffix == ".antt"]
+    missing = sorted({item.name for item in items if item.name not in reading.places})
     if missing:
         print(f"docs/READING.md doesn't name {', '.join(missing)}")
-    return agrees and not missing
+    unknown = sorted(name for name in std_names(tree) if not reading.explains(name))
+    if unknown:
+        print(f"docs/READING.md, 'Notation', doesn't have {', '.join(unknown)}")
+    return agrees and not missing and not unknown
+
+
+def std_names(tree):
+    """The names of std that the definitions use, an operator as `◌≡◌`."""
+    scopes = {spec.path: spec for spec in tree.specs.values()}
+    for sources in tree.sources.values():
+        scopes.update((source.path, source) for source in sources)
+    found = set()
+    for item in tree.reached.values():
+        scope = scopes[item.path]
+        used = {word for parts in tokens(item.text()) for word in (*parts, ".".join(parts))}
+        used.update(re.sub(r"[(){},;]", " ", item.text()).split())
+        for name, (module, _) in scope.imports.items():
+            if module.startswith("Rattle.std.") and all(part in used for part in name.split("◌") if part):
+                found.add(name)
+    return found
+
+
+class Reading:
+    """docs/READING.md: its headings, and where it names what."""
+
+    NAMES = re.compile(r"[\w◌]+")
+
+    def __init__(self, root):
+        text = (root / "docs/READING.md").read_text(encoding="utf-8")
+        legend, _, rest = text.partition("\n## 1.")
+        self.legend = {part for span in re.findall(r"`([^`]+)`", legend) for part in re.split(r"[\s(){};,]+", span)}
+        self.headings, self.places = [], {}
+        for number, section in enumerate(re.split(r"^## ", "\n## 1." + rest, flags=re.M)[1:]):
+            self.headings.append(section.partition("\n")[0])
+            for match in re.finditer(r"`([^`]+)`", section):
+                for name in self.NAMES.findall(match.group(1)):
+                    self.places.setdefault(name, (number, match.start()))
+
+    def explains(self, name):
+        return all(part in self.legend for part in name.split("◌") if part)
+
+
+def comment_above(item, lines):
+    """The comment right above a definition; of a doc comment the first paragraph."""
+    mark = "--" if item.path.suffix == ".antt" else "//"
+    first = item.first - 1
+    while first > 0 and lines[first - 1].strip().startswith((mark, "#[")):
+        first -= 1
+    comment = [line for line in lines[first:item.first - 1] if line.strip().startswith(mark)]
+    ends = [at for at, line in enumerate(comment) if line.strip() == "///"]
+    return comment[:ends[0]] if ends else comment
+
+
+def print_text(root, items):
+    """Each definition with its file and its comment, in the order of READING.md."""
+    reading = Reading(root)
+    last = (len(reading.headings) - 1, sys.maxsize)
+    order = sorted(items, key=lambda item: (reading.places.get(item.name, last), str(item.path), item.first))
+    total = sum(item.count() for item in items)
+    print(f"# The statement: {total} lines of {len(items)} definitions\n")
+    print("In the order of docs/READING.md, which explains them.")
+    heading, path = None, None
+    for item in order:
+        number = reading.places.get(item.name, last)[0]
+        if number != heading:
+            heading, path = number, None
+            print(f"\n## {reading.headings[number]}")
+        if item.path != path:
+            path = item.path
+            print(f"\n`{path.relative_to(root)}`")
+        lines = path.read_text(encoding="utf-8").splitlines()
+        print()
+        shown = [line for line in item.lines if line.strip() and not line.strip().startswith(("#[", "ghost use "))]
+        for line in comment_above(item, lines) + shown:
+            print(f"    {line}")
 
 
 if __name__ == "__main__":

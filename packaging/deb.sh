@@ -1,36 +1,28 @@
 #!/bin/sh
-# Builds a package of Debian of the program that `make` built: FOLDER/langtag_VERSION_ARCHITECTURE.deb.
+# Makes the packages of Debian of what `make` and `make lib` built, in FOLDER, and prints their names.
 #
 # Usage: packaging/deb.sh FOLDER
+#
+# It needs debhelper. The same files and the same SOURCE_DATE_EPOCH, which is the date of packaging/debian/changelog if it
+# is not set, give the same bytes.
 set -eu
 
-root=$(cd "$(dirname "$0")/.." && pwd)
-to=${1:?a folder is wanted}
-version=$("$root/build/langtag" --version | cut -d ' ' -f 2)
-architecture=$(dpkg --print-architecture)
-name=langtag_${version}_$architecture
-folder=$(mktemp -d)
-trap 'rm -rf "$folder"' EXIT
+ROOT=$(cd "$(dirname "$0")/.." && pwd)
+export ROOT
+command -v dh > /dev/null || { echo 'there is no debhelper: install it first' >&2; exit 1; }
+mkdir -p "${1:?a folder is wanted}"
+to=$(cd "$1" && pwd)
+work=$(mktemp -d)
+trap 'rm -rf "$work"' EXIT
 
-"$root/packaging/install.sh" "$folder/usr"
-gzip -9 -n "$folder/usr/share/man/man1/langtag.1"
-install -d "$folder/usr/share/zsh/vendor-completions"
-mv "$folder/usr/share/zsh/site-functions/_langtag" "$folder/usr/share/zsh/vendor-completions/_langtag"
-rmdir "$folder/usr/share/zsh/site-functions"
-mkdir "$folder/DEBIAN"
-cat > "$folder/DEBIAN/control" << END
-Package: langtag
-Version: $version
-Architecture: $architecture
-Maintainer: The authors of langtag <langtag@localhost>
-Depends: libc6
-Section: utils
-Priority: optional
-Installed-Size: $(du -sk "$folder/usr" | cut -f 1)
-Description: read, check and canonicalise language tags
- langtag reads language tags (BCP 47: RFC 5646, with the extensions u and t),
- says what is wrong with them, and makes them canonical by a subtag registry.
-END
-chmod -R u=rwX,go=rX "$folder/usr"
-dpkg-deb --root-owner-group --build "$folder" "$to/$name.deb" > /dev/null
-echo "$to/$name.deb"
+# dpkg-buildpackage writes the packages beside the folder in which it works.
+mkdir "$work/langtag"
+cp -r "$ROOT/packaging/debian" "$work/langtag/debian"
+cd "$work/langtag"
+if ! DEB_BUILD_OPTIONS=noautodbgsym dpkg-buildpackage -b -us -uc > "$work/log" 2>&1; then
+    tail -n 20 "$work/log" >&2
+    exit 1
+fi
+mv ../*.deb "$to"
+cd ..
+sed -n 's/^ [0-9a-f]\{64\} [0-9]* \(.*\.deb\)$/\1/p' ./*.changes | while read -r name; do echo "$to/$name"; done

@@ -1,7 +1,11 @@
 #!/bin/bash
 # Installs what the tests of the bindings need of Debian, where it is not there: as root, or by sudo.
-wanted="gcc binutils valgrind libsqlite3-dev sqlite3 python3 python3-pip python3-icu libicu-dev pkg-config postgresql
+wanted="gcc g++ clang binutils valgrind qemu-user libsqlite3-dev sqlite3 python3 python3-dev python3-pip python3-pandas mypy python3-icu
+    libicu-dev pkg-config postgresql
     postgresql-server-dev-15"
+# for packages and releases
+wanted="$wanted binutils-aarch64-linux-gnu build-essential curl debhelper dh-python gcc-aarch64-linux-gnu libc6-dev-arm64-cross lintian
+    qemu-user"
 missing=
 for package in $wanted; do
     dpkg-query -W -f '${Status}' "$package" 2> /dev/null | grep -q 'ok installed' || missing="$missing $package"

@@ -3,6 +3,8 @@
 # Argument: the program (build/langtag, if there is none). The last line counts; the status is 1 if any run failed.
 program=$(realpath "${1:-"$(dirname "$0")/../build/langtag"}")
 sample=$(realpath "$(dirname "$0")/../examples/sample-registry.txt")
+round=$(realpath "$(dirname "$0")/../examples/loop-registry.txt")
+number=$(cat "$(dirname "$0")/../VERSION")
 folder=$(mktemp -d)
 trap 'rm -rf "$folder"' EXIT
 cd "$folder" || exit 1
@@ -63,6 +65,16 @@ sed 's/= gsg/= de/' steps | "$program" verify "$sample" sgn-dd > out 2> err; is 
 "$program" verify "$sample" sgn-dd <&- > out 2> err; is 'verify: closed input' 4 '' '! Read\n'
 : > out
 "$program" verify "$sample" sgn-dd < steps > /dev/full 2> err; is 'verify: full output' 4 '' '! Write\n'
+# a registry that passes, and in which steps in a free order go round: an explanation ends
+run check "$round"; is 'check: a registry that goes round' 0 'ok 5\n' ''
+run explain "$round" sgn-aa; is 'explain: it ends' 0 'Region 2 3 sgn-DD\nRegion 2 4 sgn-DE\n= sgn-DE\n' ''
+{ yes "$(printf 'Region 2 3 sgn-DD\nWhole 1 6 sgn-AA')" | head -n 100000; echo '= sgn-AA'; } | "$program" verify "$round" sgn-aa > out 2> err
+is 'verify: 100,000 steps round' 0 'ok\n' ''
+# what canonical tags leave alone
+for tags in 'en-Latn en' 'sgn-DE-x-a gsg-x-a' 'en-scotland-fonipa en-fonipa-scotland' 'und-Latn-DE de' 'ar-u-ca-islamicc ar-u-ca-islamic-civil'; do
+    # shellcheck disable=SC2086
+    run equal "$(dirname "$round")/iana-2025-05-15.txt" $tags; is "$tags" 1 'different\n' ''
+done
 run upgrade old new; is 'upgrade old new' 2 'upgrade U1 record 3\n' ''
 run upgrade new old; is 'upgrade new old' 0 'ok\n' ''
 run upgrade old old; is 'upgrade old old' 0 'ok\n' ''
@@ -88,24 +100,27 @@ printf '\tde\n' >> long
 "$program" tsv "$sample" 2 < long > out 2> err; ended=$?
 tail -c 5 out > end; mv end out
 (exit "$ended"); is 'tsv: a long row' 0 '\tde\t\n' ''
-for column in 0 two -1; do
-    "$program" tsv "$sample" "$column" < rows > out 2> usage; ended=$?
-    head -c 7 usage > err
-    (exit "$ended"); is "tsv: the column $column" 3 '' 'error: '
+for column in 0 two; do
+    "$program" tsv "$sample" "$column" < rows > out 2> err; is "tsv: the column $column" 3 '' "error: COLUMN is a number from 1, and not $column\n\nFor more information, try '--help'.\n"
 done
+"$program" tsv "$sample" -1 < rows > out 2> usage; ended=$?
+head -n 1 usage > err
+(exit "$ended"); is 'tsv: the column -1' 3 '' "error: unexpected argument '-1' found\n"
 
 # records of CSV, by their second fields
 printf 'id,tag\r\n"a\n,b",zh-yue\r\n2,"en_US"\n3\n' > records
 "$program" csv "$sample" 2 < records > out 2> err; is 'csv refuses two' 1 'id,tag,langtag_fault\r\n"a\n,b",yue,\r\n2,"en_US",BadByte 1\n3,NoColumn\n' ''
 printf 'id,tag\n1,"DE"' | "$program" csv "$sample" 2 > out 2> err; is csv 0 'id,tag,langtag_fault\n1,"de",\n' ''
 printf 'id,tag\n1,iw\n"2' | "$program" csv "$sample" 2 > out 2> err; is 'csv: an open quote' 4 'id,tag,langtag_fault\n1,he,\n' '! BadCsv line 3\n'
+printf 'id,title,tag\n1,12" LP,zh-yue\n2,7" EP,I-KLINGON\n3,"5"" d",iw\n' > inches
+"$program" csv "$sample" 3 < inches > out 2> err; is 'csv: quotes in plain fields' 0 'id,title,tag,langtag_fault\n1,12" LP,yue,\n2,7" EP,tlh,\n3,"5"" d",he,\n' ''
+dd bs=1 status=none < inches | "$program" csv "$sample" 3 > out 2> err; is 'csv: the same byte by byte' 0 'id,title,tag,langtag_fault\n1,12" LP,yue,\n2,7" EP,tlh,\n3,"5"" d",he,\n' ''
+printf 'id,tag\n"a"b,iw\nx, "q,iw\n' | "$program" csv "$sample" 2 > out 2> err; is 'csv: text after a quote, and a space before one' 1 'id,tag,langtag_fault\n"a"b,he,\nx, "q,iw,BadByte 1\n' ''
 "$program" csv other 2 < records > out 2> err; is 'csv: the registry is refused' 2 'jar BadLine line 1\n' ''
 : > out
 "$program" csv "$sample" 2 < records > /dev/full 2> err; is 'csv: full output' 4 '' '! Write\n'
 "$program" csv "$sample" 2 <&- > out 2> err; is 'csv: closed input' 4 '' '! Read\n'
-"$program" csv missing 0 < records > out 2> usage; ended=$?
-head -c 7 usage > err
-(exit "$ended"); is 'csv: the column 0' 3 '' 'error: '
+"$program" csv missing 0 < records > out 2> err; is 'csv: the column 0' 3 '' "error: COLUMN is a number from 1, and not 0\n\nFor more information, try '--help'.\n"
 
 # the registry from the standard input, where that isn't read otherwise
 "$program" check - < "$sample" > out 2> err; is 'check -' 0 'ok 46\n' ''
@@ -157,16 +172,16 @@ run check .; is 'check: a folder' 4 'jar Read line 1\n' ''
 "$program" --help < empty > help 2> err; ended=$?
 grep '^Usage: ' help > out
 (exit "$ended"); is help 0 'Usage: langtag <COMMAND>\n' ''
+sed -n '/^Status:/,$p' help > out
+(exit "$ended"); is 'help: the statuses' 0 'Status:\n  0  done\n  1  a tag was refused, or the tags are different, or the steps are no explanation\n  2  a registry or an upgrade was refused\n  3  the words name no command\n  4  a file, the input, the output or memory failed\n' ''
 "$program" --version < empty > version 2> err; ended=$?
-head -c 10 version > out
-(exit "$ended"); is version 0 'langtag 1.' ''
+cut -d '(' -f 1 version > out
+(exit "$ended"); is version 0 "langtag $number \n" ''
 "$program" -V < empty > out 2> err; is 'version, short' 0 "$(cat version)\n" ''
 "$program" upgrade old < empty > out 2> usage; ended=$?
 head -c 7 usage > err
 (exit "$ended"); is usage 3 '' 'error: '
-"$program" $'\xff' < empty > out 2> usage; ended=$?
-head -c 7 usage > err
-(exit "$ended"); is 'a word that is not UTF-8' 3 '' 'error: '
+"$program" classify $'\xff' < empty > out 2> err; is 'a word that is not UTF-8' 3 '' 'error: invalid data\n'
 
 # what a person is told where the standard error is a terminal, and nothing of it where it is none
 # on_terminal WORD..: runs the program with a terminal of its own as its standard error, which is written to `told`.

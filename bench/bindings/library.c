@@ -9,22 +9,20 @@ static double now(void) {
 }
 
 int main(int count, char **words) {
-    size_t length, n, calls = 0, done = 0;
+    size_t n, calls = 0, done = 0;
     if (count < 3) return 3;
-    uint8_t *bytes = read_all(words[1], &length), *tags = read_all(words[2], &n), buffer[4096];
-    bcp47_handle registry = {NULL};
-    if (bcp47_open(&registry, bytes, length, buffer, sizeof buffer).status) return 2;
+    char *tags = read_all(words[2], &n), buffer[4096];
+    bcp47_registry *registry = opened(words[1]);
     double begun = now();
     for (int round = 0; round < 5; round++)
         for (size_t i = 0, j; i < n; i = j + 1) {
             for (j = i; tags[j] != '\n'; j++) {}
-            done += bcp47_canonical(&registry, tags + i, j - i, buffer, sizeof buffer).status == BCP47_DONE;
+            done += bcp47_canonical(registry, tags + i, j - i, buffer, sizeof buffer).status == BCP47_DONE;
             calls++;
         }
     double seconds = now() - begun;
     printf("C, bcp47_canonical: %.2f million calls a second (%zu of %zu canonical)\n", (double)calls / seconds / 1e6, done, calls);
-    bcp47_close(&registry);
-    free(bytes);
+    bcp47_close(registry);
     free(tags);
     return 0;
 }

@@ -2,7 +2,7 @@
 # Calls a second of the extension of SQLite. Arguments: the folder of bcp47.so and `tags`; a registry.
 sed 's/"/""/g; s/.*/"&"/' "$1/tags" > "$1/tags.csv"
 sqlite3 :memory: > "$1/answers" << END || exit 1
-.load $1/bcp47
+.load $1/bcp47_sqlite
 SELECT bcp47_load('$2');
 CREATE TABLE books (tag TEXT);
 .mode csv

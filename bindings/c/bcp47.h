@@ -1,3 +1,4 @@
+/* SPDX-License-Identifier: MIT OR Apache-2.0 */
 /* BCP 47 language tags by a registry of language subtags. docs/C.md describes each call, and what a caller owes. */
 #ifndef BCP47_H
 #define BCP47_H
@@ -9,17 +10,20 @@
 extern "C" {
 #endif
 
-/* What holds a registry. It begins as zeros, which hold nothing. */
-typedef struct {
-    void *place;
-} bcp47_handle;
+/* The version of this header; bcp47_version() tells that of the library. */
+#define BCP47_VERSION "1.1.0"
+
+/* A registry that is open. Any number of threads may ask it at once; bcp47_close comes after all of their calls. */
+typedef struct bcp47_registry bcp47_registry;
 
 /* What a call answers beside the text that it writes. */
 typedef struct {
-    uint8_t status;  /* how the call ended, BCP47_DONE and so on */
-    uint8_t detail;  /* the number of a fault, which bcp47_fault_name names; for bcp47_classify the class */
-    uint64_t place;  /* of a fault: the subtag, the line, the record or the step, counted from 1 */
-    size_t length;   /* the bytes of the text, also where it does not fit the buffer */
+    int status;    /* how the call ended: BCP47_DONE and so on, which bcp47_status_name names */
+    int detail;    /* the number of a fault, which bcp47_fault_name names; for bcp47_classify the class; else 0 */
+    size_t place;  /* of a fault: the subtag, the line, the record or the step, counted from 1; else 0 */
+    size_t length; /* the bytes of the text, also where it does not fit the buffer */
+    int text;      /* where bcp47_equal or bcp47_verify refuses one of its two texts: which, 1 or 2; else 0 */
+    int reserved;  /* 0 */
 } bcp47_outcome;
 
 /* How a call ended. */
@@ -36,7 +40,11 @@ enum {
     BCP47_REJECTED = 9,
     BCP47_NO_UPGRADE = 10,         /* of bcp47_upgrade_check */
     BCP47_NO_SUCH_STEP = 11,       /* of bcp47_verify: the step at `place` does not lead on */
-    BCP47_WRONG_END = 12           /* of bcp47_verify: the steps lead to another tag than the last */
+    BCP47_WRONG_END = 12,          /* of bcp47_verify: the steps lead to another tag than the last */
+    BCP47_NOT_OPEN = 13,           /* the registry is NULL, or no registry that is open */
+    BCP47_BAD_CALL = 14,           /* NULL where something is needed, a length that no text has, or a buffer over a text */
+    BCP47_BUSY = 15,               /* as many calls as there is room for are under way, and none ended for a while */
+    BCP47_TOO_MANY_STEPS = 16      /* of bcp47_explanation: more than the steps that were allowed */
 };
 
 /* The classes of a tag, in `detail` of bcp47_classify. */
@@ -67,75 +75,119 @@ enum {
     BCP47_SWAP_FIELDS = 14
 };
 
-/* Room for the line of any registry that is refused, and for any name. */
+/* A part of a tag: its kind, BCP47_PART_LANGUAGE and so on, and where it is in the text of the tag. */
+typedef struct {
+    uint8_t kind;  /* which bcp47_part_kind_name names */
+    size_t start;  /* its first byte, counted from 0 */
+    size_t length; /* how many bytes it has */
+} bcp47_part;
+
+/* The kinds of part (RFC 5646, 2.1; RFC 6067, 2.1; RFC 6497, 2.2). */
+enum {
+    BCP47_PART_LANGUAGE = 1,
+    BCP47_PART_EXTLANG = 2,
+    BCP47_PART_SCRIPT = 3,
+    BCP47_PART_REGION = 4,
+    BCP47_PART_VARIANT = 5,
+    BCP47_PART_SINGLETON = 6,         /* that begins an extension */
+    BCP47_PART_EXTENSION_SUBTAG = 7,  /* of another extension than u and t */
+    BCP47_PART_ATTRIBUTE = 8,         /* of a u extension, as the next two */
+    BCP47_PART_KEY = 9,
+    BCP47_PART_TYPE = 10,
+    BCP47_PART_SOURCE_LANGUAGE = 11,  /* of a t extension, as the next six */
+    BCP47_PART_SOURCE_EXTLANG = 12,
+    BCP47_PART_SOURCE_SCRIPT = 13,
+    BCP47_PART_SOURCE_REGION = 14,
+    BCP47_PART_SOURCE_VARIANT = 15,
+    BCP47_PART_SEPARATOR = 16,        /* of a field */
+    BCP47_PART_VALUE = 17,
+    BCP47_PART_PRIVATE_USE_SINGLETON = 18,
+    BCP47_PART_PRIVATE_USE = 19,
+    BCP47_PART_GRANDFATHERED = 20     /* the whole of the tag */
+};
+
+/* Room for the parts of any tag, and for its text with a zero. */
+#define BCP47_PARTS 512
+#define BCP47_TEXT 1025
+
+/* What a registry is. */
+typedef struct {
+    size_t entries;     /* how many there are: one for each record but the header */
+    uint8_t sha256[32]; /* the SHA-256 of the bytes that were read (FIPS 180-4) */
+    char file_date[11]; /* the File-Date of the header, as "2025-05-15"; "" where there is none of that form */
+} bcp47_info;
+
+/* Room for the line of any registry that is refused, and for any name, with a zero after it. */
 #define BCP47_LINE 80
 
-/* Whether a handle holds a registry. */
-static inline int bcp47_is_open(const bcp47_handle *handle) {
-    return handle->place != NULL;
-}
+/* The version of the library: the same text as BCP47_VERSION of the header that it was built with. */
+const char *bcp47_version(void);
 
-bcp47_outcome bcp47_open(bcp47_handle *handle, const uint8_t *bytes, size_t bytes_length, uint8_t *buffer, size_t room);
-uint8_t bcp47_share(bcp47_handle *handle, bcp47_handle *other);
-void bcp47_close(bcp47_handle *handle);
+/* Opens the registry whose text the bytes are: *registry points to it then. Where it is refused, *registry is NULL, and
+   the line that the program prints is written, as "jar BadLine line 1", if it fits. What *registry was before is not
+   read, and the bytes are not needed after the call. */
+bcp47_outcome bcp47_open(bcp47_registry **registry, const void *bytes, size_t length, char *line, size_t room);
 
-bcp47_outcome bcp47_canonical(bcp47_handle *handle, const uint8_t *text, size_t length, uint8_t *buffer, size_t room);
-bcp47_outcome bcp47_extlang(bcp47_handle *handle, const uint8_t *text, size_t length, uint8_t *buffer, size_t room);
-bcp47_outcome bcp47_classify(bcp47_handle *handle, const uint8_t *text, size_t length, uint8_t *buffer, size_t room);
-bcp47_outcome bcp47_explain(bcp47_handle *handle, const uint8_t *text, size_t length, uint8_t *buffer, size_t room);
-bcp47_outcome bcp47_verify(bcp47_handle *handle, const uint8_t *text, size_t length, const bcp47_step *steps,
-                           size_t count, const uint8_t *last, size_t last_length);
-bcp47_outcome bcp47_validate(bcp47_handle *handle, const uint8_t *text, size_t length);
-bcp47_outcome bcp47_equal(bcp47_handle *handle, const uint8_t *first, size_t first_length, const uint8_t *second,
-                          size_t second_length, uint8_t *buffer, size_t room);
-bcp47_outcome bcp47_upgrade_check(bcp47_handle *older, bcp47_handle *newer);
+/* Closes a registry, as free() lets go of memory: no call is under way, and none comes after. NULL does nothing. */
+void bcp47_close(bcp47_registry *registry);
 
-bcp47_outcome bcp47_status_name(uint8_t status, uint8_t *buffer, size_t room);
-bcp47_outcome bcp47_fault_name(uint8_t fault, uint8_t *buffer, size_t room);
-bcp47_outcome bcp47_kind_name(uint8_t kind, uint8_t *buffer, size_t room);
+/* File-Date, number of entries and digest of a registry. The digest is taken anew at each call, of the bytes that were
+   read: a millisecond or two for a registry of IANA's size. */
+bcp47_outcome bcp47_registry_info(const bcp47_registry *registry, bcp47_info *info);
 
-/* Canonical texts of `count` texts that follow one another in `texts`: text i ends before byte ends[i]. Their outcomes go
-   to `outcomes`, and the texts, one after another, to the buffer: the canonical text of each, or the variant of a tag that
-   is refused for one. Returns how many were answered: fewer than `count` where the next text does not fit what is left of
-   the buffer. */
-size_t bcp47_canonical_many(bcp47_handle *handle, const uint8_t *texts, const size_t *ends, size_t count,
-                            bcp47_outcome *outcomes, uint8_t *buffer, size_t room);
+/* Calls that write the text of a tag: its canonical text, the same with the extlang prefix, and the tag in conventional
+   case, for which the registry may be NULL. A zero follows the text where the buffer has room for it. */
+bcp47_outcome bcp47_canonical(const bcp47_registry *registry, const char *text, size_t length, char *buffer, size_t room);
+bcp47_outcome bcp47_extlang(const bcp47_registry *registry, const char *text, size_t length, char *buffer, size_t room);
+bcp47_outcome bcp47_classify(const bcp47_registry *registry, const char *text, size_t length, char *buffer, size_t room);
 
-/* The calls take null for no bytes, for no steps and for no room. */
-static inline const uint8_t *bcp47_bytes_(const void *bytes) {
-    return bytes ? (const uint8_t *)bytes : (const uint8_t *)"";
-}
+/* The text of a tag in conventional case, as bcp47_classify writes it, and its parts, one for each subtag, in their order:
+   joined by hyphens they are the text. It asks no registry. `place` is how many parts there are. Where they or the text do
+   not fit, neither is written, and the status is BCP47_BUFFER_TOO_SMALL. */
+bcp47_outcome bcp47_parts(const char *text, size_t length, char *buffer, size_t room, bcp47_part *parts, size_t count);
 
-static inline const bcp47_step *bcp47_steps_(const bcp47_step *steps) {
-    static const bcp47_step none = {0, 0, 0};
-    return steps ? steps : &none;
-}
+/* Whether a tag is valid. */
+bcp47_outcome bcp47_validate(const bcp47_registry *registry, const char *text, size_t length);
 
-static inline uint8_t *bcp47_room_(void *buffer) {
-    static uint8_t nothing[1];
-    return buffer ? (uint8_t *)buffer : nothing;
-}
+/* Whether two tags are equivalent: BCP47_DONE, or BCP47_DIFFERENT. The buffer, which may be NULL, gets the variant of
+   BCP47_REPLACEMENT_REPEATS, if it fits: 9 bytes are room for each, with a zero. */
+bcp47_outcome bcp47_equal(const bcp47_registry *registry, const char *first, size_t first_length, const char *second,
+                          size_t second_length, char *buffer, size_t room);
 
-#define bcp47_open(handle, bytes, bytes_length, buffer, room) \
-    (bcp47_open)((handle), bcp47_bytes_(bytes), (bytes_length), bcp47_room_(buffer), (room))
-#define bcp47_canonical(handle, text, length, buffer, room) \
-    (bcp47_canonical)((handle), bcp47_bytes_(text), (length), bcp47_room_(buffer), (room))
-#define bcp47_extlang(handle, text, length, buffer, room) \
-    (bcp47_extlang)((handle), bcp47_bytes_(text), (length), bcp47_room_(buffer), (room))
-#define bcp47_classify(handle, text, length, buffer, room) \
-    (bcp47_classify)((handle), bcp47_bytes_(text), (length), bcp47_room_(buffer), (room))
-#define bcp47_explain(handle, text, length, buffer, room) \
-    (bcp47_explain)((handle), bcp47_bytes_(text), (length), bcp47_room_(buffer), (room))
-#define bcp47_verify(handle, text, length, steps, count, last, last_length)                                        \
-    (bcp47_verify)((handle), bcp47_bytes_(text), (length), bcp47_steps_(steps), (count), bcp47_bytes_(last),       \
-                   (last_length))
-#define bcp47_validate(handle, text, length) (bcp47_validate)((handle), bcp47_bytes_(text), (length))
-#define bcp47_equal(handle, first, first_length, second, second_length, buffer, room)                              \
-    (bcp47_equal)((handle), bcp47_bytes_(first), (first_length), bcp47_bytes_(second), (second_length),            \
-                  bcp47_room_(buffer), (room))
-#define bcp47_status_name(status, buffer, room) (bcp47_status_name)((status), bcp47_room_(buffer), (room))
-#define bcp47_fault_name(fault, buffer, room) (bcp47_fault_name)((fault), bcp47_room_(buffer), (room))
-#define bcp47_kind_name(kind, buffer, room) (bcp47_kind_name)((kind), bcp47_room_(buffer), (room))
+/* The lines that `langtag explain` prints for a tag, written to a buffer. */
+bcp47_outcome bcp47_explain(const bcp47_registry *registry, const char *text, size_t length, char *buffer, size_t room);
+
+/* The same lines, with a zero after them, in memory that bcp47_free lets go of: *lines points to it then. Where there
+   are more than `most` steps, the status is BCP47_TOO_MANY_STEPS. Where it is not BCP47_DONE, *lines is NULL. */
+bcp47_outcome bcp47_explanation(const bcp47_registry *registry, const char *text, size_t length, size_t most, char **lines);
+
+/* Lets go of what bcp47_explanation gave. NULL does nothing. */
+void bcp47_free(void *lines);
+
+/* Whether steps lead from a valid tag, one after another, to another tag, which is then equivalent to it. */
+bcp47_outcome bcp47_verify(const bcp47_registry *registry, const char *text, size_t length, const bcp47_step *steps,
+                           size_t count, const char *last, size_t last_length);
+
+/* Whether a newer registry keeps what an older one promised. Both may be the same. */
+bcp47_outcome bcp47_upgrade_check(const bcp47_registry *older, const bcp47_registry *newer);
+
+/* Canonical texts of `count` texts that follow one another in `texts`: text i ends before byte ends[i], and begins where
+   the one before it ends, the first at `begin`. Their outcomes go to `outcomes`, and the texts, one after another, to the
+   buffer: the canonical text of each, or the variant of a tag that is refused for one; no zero follows them. Returns how
+   many were answered: fewer than `count` where the next text does not fit what is left of the buffer, as its outcome
+   says. To go on, call with what is left of `ends` and `outcomes`, and with the end of the last text as `begin`. */
+size_t bcp47_canonical_many(const bcp47_registry *registry, const char *texts, const size_t *ends, size_t begin,
+                            size_t count, bcp47_outcome *outcomes, char *buffer, size_t room);
+
+/* The name of a number, as "NotATag", "BadByte" and "Extlang", which is "" where the number has none. */
+const char *bcp47_status_name(int status);
+const char *bcp47_fault_name(int fault);
+const char *bcp47_kind_name(int kind);
+const char *bcp47_part_kind_name(int kind);
+
+/* What a status or a fault means, and what to do, in a sentence; "" where the number has none. */
+const char *bcp47_status_help(int status);
+const char *bcp47_fault_help(int fault);
 
 #ifdef __cplusplus
 }

@@ -7,50 +7,95 @@ registry=$2
 cp "$3" sample
 cp "$1/wanted" "$1/explained-tags" "$1/explained" .
 chmod 644 sample wanted explained-tags explained
-got=$(
-    ask -c 'CREATE EXTENSION bcp47'
-    ask -c "SELECT bcp47_canonical('zh-yue'), bcp47_equal('zh-yue', 'YUE'), bcp47_fault('en_US')"
-    ask -c "SELECT bcp47_canonical('en_US'), bcp47_fault('zh-yue'), bcp47_equal('en', 'en_US'), bcp47_equal('en', 'zh')"
-    ask -c "SELECT bcp47_canonical(NULL), bcp47_fault(NULL), bcp47_equal(NULL, 'en'), bcp47_equal('en', NULL)"
-    ask -c "SELECT bcp47_canonical(''), bcp47_fault(''), bcp47_fault(repeat('a', 100000))"
-    ask -c "SET bcp47.registry = '$folder/sample'" -c "SELECT bcp47_canonical('sgn-dd'), bcp47_explain(NULL), bcp47_explain('en_US')" \
-        -c "SELECT bcp47_explain('sgn-dd')"
-    ask -c "SET bcp47.registry = '/no/such/file'" -c "SELECT bcp47_canonical('en')" 2>&1
-    ask -c "SET bcp47.registry = '$folder/tags'" -c "SELECT bcp47_canonical('en')" 2>&1
-)
-wanted='yue|t|BadByte 1
+fail() { echo "$@"; exit 1; }
+again() { as_user "$tools/pg_ctl" -D "$folder/data" -m fast -w stop > /dev/null 2>&1; start "$@"; }
+# is NAME WANTED COMMAND..: compares what a command prints.
+is() {
+    local name=$1 wanted=$2 got
+    shift 2
+    got=$("$@" 2>&1)
+    [ "$got" = "$wanted" ] || { diff <(echo "$wanted") <(echo "$got") && exit 1; fail "$name"; }
+}
+
+is extension '' ask -c 'CREATE EXTENSION bcp47'
+is answers 'yue|t|BadByte 1
 NULL|NULL|NULL|f
 NULL|NULL|NULL|NULL
-NULL|EmptySubtag 1|TooLong 0
-gsg|NULL|NULL
-Region 2 27 sgn-DE
-Whole 1 44 gsg
-= gsg
-ERROR:  bcp47.registry names no file that can be read
-ERROR:  the registry is refused: jar BadLine line 1'
-if [ "$got" != "$wanted" ]; then
-    diff <(echo "$wanted") <(echo "$got")
-    exit 1
-fi
-page=$root/docs/SQL.md
+NULL|EmptySubtag 1|TooLong 0' ask -c "SELECT bcp47_canonical('zh-yue'), bcp47_equal('zh-yue', 'YUE'), bcp47_fault('en_US')" \
+    -c "SELECT bcp47_canonical('en_US'), bcp47_fault('zh-yue'), bcp47_equal('en', 'en_US'), bcp47_equal('en', 'zh')" \
+    -c "SELECT bcp47_canonical(NULL), bcp47_fault(NULL), bcp47_equal(NULL, 'en'), bcp47_equal('en', NULL)" \
+    -c "SELECT bcp47_canonical(''), bcp47_fault(''), bcp47_fault(repeat('a', 100000))"
+
+is parts 'HK|1994-nedis|NULL|NULL
+ERROR:  there is no kind of part "regions"' ask -c "SELECT bcp47_part('zh-hant-hk-1994-nedis', 'region'), bcp47_part('zh-hant-hk-1994-nedis', 'Variant'), bcp47_part('en', 'region'), bcp47_part('e_n', 'region')" \
+    -c "SELECT bcp47_part('en', 'regions')"
+
+# docs/SQL.md's example
+page=$here/../../docs/SQL.md
 ask -c 'CREATE DATABASE example' || exit 1
 ask -d example -c 'CREATE TABLE books (tag text)' || exit 1
 sed -n '/^## PostgreSQL/,$s/^    postgres=# //p' "$page" | ask -d example -F ' | ' > answers 2>&1
 diff <(sed -n '/^## PostgreSQL/,${/^    postgres=#/!s/^     *//p}' "$page") answers || exit 1
+
+# 200,000 tags, by an index and in parallel
+date=$(sed -n '1s/File-Date: //p' registry)
 begun=$(date +%s%N)
 ask -c 'CREATE TABLE books (place serial, tag text)' -c "$copy" \
-    -c 'CREATE INDEX by_canonical ON books (bcp47_canonical(tag))' || exit 1
+    -c "CREATE INDEX by_canonical ON books (bcp47_canonical(tag, '$date'))" || exit 1
 ended=$(date +%s%N)
 ask -c "SELECT coalesce(bcp47_canonical(tag), '! ' || bcp47_fault(coalesce(tag, ''))) FROM books ORDER BY place" > answers || exit 1
-cmp "$folder/wanted" "$folder/answers" || exit 1
+cmp wanted answers || exit 1
 ask -c 'CREATE TABLE explained (place serial, tag text)' -c "COPY explained (tag) FROM '$folder/explained-tags'" || exit 1
 ask -c "SELECT coalesce(bcp47_explain(tag), '! ' || bcp47_fault(tag)) FROM explained ORDER BY place" > answers || exit 1
-cmp "$folder/explained" "$folder/answers" || exit 1
-[ "$(ask -c "SET enable_seqscan = off" -c "SELECT count(*) FROM books WHERE bcp47_canonical(tag) = 'yue'")" = "$(grep -cx yue wanted)" ] || exit 1
-plan=$(ask -c 'SET max_parallel_workers_per_gather = 4; SET parallel_setup_cost = 0; SET parallel_tuple_cost = 0; SET min_parallel_table_scan_size = 0' \
-    -c 'EXPLAIN (COSTS OFF) SELECT count(bcp47_fault(tag)) FROM books')
-case $plan in *Gather*) ;; *) echo "no parallel plan: $plan" && exit 1 ;; esac
-ask -c 'SET max_parallel_workers_per_gather = 4; SET parallel_setup_cost = 0; SET parallel_tuple_cost = 0; SET min_parallel_table_scan_size = 0' \
-    -c 'SELECT count(bcp47_fault(tag)) > 0 FROM books' > parallel || exit 1
-grep -qx t parallel || exit 1
+cmp explained answers || exit 1
+of_yue="SELECT count(*) FROM books WHERE bcp47_canonical(tag, '$date') = 'yue'"
+is 'by the index' "$(grep -cx yue wanted)" ask -c 'SET enable_seqscan = off' -c "$of_yue"
+parallel='SET max_parallel_workers_per_gather = 4; SET parallel_setup_cost = 0; SET parallel_tuple_cost = 0; SET min_parallel_table_scan_size = 0'
+case $(ask -c "$parallel" -c 'EXPLAIN (COSTS OFF) SELECT count(bcp47_fault(tag)) FROM books') in *Gather*) ;; *) fail 'no parallel plan' ;; esac
+is 'in parallel' "$(grep -c '^! ' wanted)" ask -c "$parallel" -c "SELECT count(bcp47_fault(coalesce(tag, ''))) FROM books"
+
+# A session can't take another registry; what names none serves in no index, and what names one only where the server has it.
+is 'set in a session' 'ERROR:  parameter "bcp47.registry" cannot be changed without restarting the server' \
+    ask -c "SET bcp47.registry = '$folder/sample'"
+is 'set in the file' 'ERROR:  invalid value for parameter "bcp47.registry": "/no/such/file"
+DETAIL:  There is no "/no/such/file" that the server can see.' ask -c "ALTER SYSTEM SET bcp47.registry = '/no/such/file'"
+is 'an index without a name' 'ERROR:  functions in index expression must be marked IMMUTABLE' \
+    ask -c 'CREATE INDEX by_any ON books (bcp47_canonical(tag))'
+is 'a name that is not there' "ERROR:  the server has no registry \"2001-01-01\"
+HINT:  Put it into the folder that bcp47.folder names, and start the server again." \
+    ask -c "SELECT bcp47_canonical('en', '2001-01-01')"
+digest=$(sha256sum < registry | cut -c 1-64)
+is 'which registry' "$date $(grep -c '^%%' registry) $digest" ask -c 'SELECT bcp47_registry()'
+is 'named by the digest' 'he|he|he' ask -c "SELECT bcp47_canonical('iw', '$digest'), bcp47_canonical('iw', '${digest:0:8}'), bcp47_canonical('iw', upper('$digest'))"
+is 'too short a name' "ERROR:  the server has no registry \"${digest:0:7}\"" ask -v VERBOSITY=terse -c "SELECT bcp47_canonical('iw', '${digest:0:7}')"
+
+# The file is replaced while the server runs, and it starts again with another one: the index has what it says.
+cp sample "$folder/registry"
+is 'a replaced file' "$date" ask -c "SELECT split_part(bcp47_registry(), ' ', 1)"
+again || fail "$(cat start.log log)"
+is 'another registry' "2024-01-01|$(grep -cx yue wanted)" ask -c 'SET enable_seqscan = off' -c "SELECT split_part(bcp47_registry(), ' ', 1), ($of_yue)"
+is 'a dump' '' as_user "$tools/pg_dump" -h "$folder" -f "$folder/dump" postgres
+ask -c 'CREATE DATABASE restored' || exit 1
+database=restored ask -f "$folder/dump" > restored 2>&1 || fail "$(cat restored)"
+is 'a restored index' "$(grep -cx yue wanted)|t" env database=restored bash -c "$(declare -f ask as_user); $(declare -p folder user tools); ask -c 'SET enable_seqscan = off' -c \"SELECT (${of_yue//\"/}), (SELECT indisvalid FROM pg_index WHERE indexrelid = 'by_canonical'::regclass)\""
+
+# make installcheck, by the sample registry
+as_user env PATH="$PATH" bash -c "cd '$folder/built' && true"
+[ "$(id -u)" != 0 ] || chown -R "$user" "$folder/built"
+(as_user make -s -C "$folder/built" ROOT="$(realpath "$here/../..")" installcheck PGHOST="$folder" REGRESS_OPTS="--host=$folder --user=$user" > check.log 2>&1) ||
+    { cat check.log "$folder"/built/regression.diffs && exit 1; }
+
+# What takes long ends, and what the server can't read keeps it from starting.
+hostile=en-u-$(for letter in z y x w v; do seq -f "$letter%02g" -s - 65 -1 10; done | paste -sd - | cut -c 1-980)
+is 'a long explanation' 'ERROR:  the explanation has more than 20000 steps' ask -c "SET statement_timeout = '20s'" -c "SELECT length(bcp47_explain('${hostile%-}'))"
+printf 'no registry\n' > bad
+mkdir wrong && cp sample wrong/2020-01-01.txt && chmod 755 wrong
+for flag in "-c bcp47.registry=/no/such/file" "-c bcp47.registry=$folder/bad" "-c bcp47.folder=$folder/wrong"; do
+    again "$flag" && fail "the server starts with $flag"
+done
+for line in 'could not read the registry "/no/such/file": No such file or directory' 'is refused: jar BadLine line 1' 'has the File-Date "2024-01-01"'; do
+    grep -qF "$line" log || fail "the log has no $line"
+done
+start -c shared_preload_libraries= -c bcp47.registry= || fail "$(cat log)"
+is 'not loaded by the server' 'ERROR:  bcp47 is not loaded by the server' ask -v VERBOSITY=terse -c "SELECT bcp47_canonical('en')"
 echo "PostgreSQL: 200,000 rows loaded and indexed in $(((ended - begun) / 1000000)) ms"

@@ -1,168 +1,306 @@
-/* BCP 47 language tags in SQLite: docs/SQL.md tells of the functions. A connection has one registry. */
+/* SPDX-License-Identifier: MIT OR Apache-2.0 */
+/* BCP 47 language tags in SQLite: docs/SQL.md tells of the functions. A connection has one registry. Connections of a process
+   that read the same bytes share it. */
 #include "bcp47.h"
+#include <limits.h>
 #include <sqlite3ext.h>
 #include <stdio.h>
 #include <stdlib.h>
 #include <string.h>
 SQLITE_EXTENSION_INIT1
 
-#define BUFFER 4096
+/* Room for any canonical text, and more. */
+enum { BUFFER = 4096 };
 
-/* What a connection has. */
-typedef struct {
-    bcp47_handle handle;
+/* The most steps that are told, and the most bytes of a registry: IANA's has some 730,000. */
+enum { STEPS = 100000, LONGEST = 64 << 20 };
+
+/* ---- registries of the process */
+
+typedef struct shared {
+    bcp47_registry *registry;
+    void *bytes; /* what it was read from */
+    size_t length;
     int users;
+    struct shared *next;
+} shared;
+
+static shared *all;
+
+static sqlite3_mutex *mutex(void) {
+    return sqlite3_mutex_alloc(SQLITE_MUTEX_STATIC_APP1);
+}
+
+/* One user less; the last one closes it. */
+static void leave(shared *it) {
+    if (!it) return;
+    sqlite3_mutex_enter(mutex());
+    if (!--it->users) {
+        shared **place = &all;
+        while (*place != it) place = &(*place)->next;
+        *place = it->next;
+        bcp47_close(it->registry);
+        free(it->bytes);
+        free(it);
+    }
+    sqlite3_mutex_leave(mutex());
+}
+
+/* The registry of the bytes, which it keeps or frees, with one user more; NULL where they are none, with the line. */
+static shared *join(void *bytes, size_t length, char line[BCP47_LINE]) {
+    shared *it;
+    sqlite3_mutex_enter(mutex());
+    for (it = all; it; it = it->next)
+        if (it->length == length && !memcmp(it->bytes, bytes, length)) break;
+    if (it) {
+        free(bytes);
+        it->users++;
+    } else if ((it = calloc(1, sizeof *it))) {
+        bcp47_outcome outcome = bcp47_open(&it->registry, bytes, length, line, BCP47_LINE);
+        if (outcome.status == BCP47_DONE) {
+            it->bytes = bytes, it->length = length, it->users = 1, it->next = all;
+            all = it;
+        } else {
+            free(it), free(bytes);
+            it = NULL;
+        }
+    } else {
+        free(bytes);
+        strcpy(line, "OutOfMemory");
+    }
+    sqlite3_mutex_leave(mutex());
+    return it;
+}
+
+/* ---- connections */
+
+typedef struct {
+    sqlite3 *database;
+    shared *held;
+    bcp47_info info;
+    int users; /* functions and collations that have it */
 } connection;
 
 static void release(void *data) {
     connection *c = data;
     if (--c->users) return;
-    if (bcp47_is_open(&c->handle)) bcp47_close(&c->handle);
+    leave(c->held);
     free(c);
 }
 
-/* A text that a call writes; where it does not fit, the call is made again. */
-typedef bcp47_outcome (*call)(bcp47_handle *, const uint8_t *, size_t, uint8_t *, size_t);
-
-static uint8_t *ask(connection *c, call does, sqlite3_value *value, uint8_t *buffer, bcp47_outcome *outcome) {
-    const uint8_t *text = bcp47_bytes_(sqlite3_value_text(value));
-    size_t length = (size_t)sqlite3_value_bytes(value);
-    *outcome = does(&c->handle, text, length, buffer, BUFFER);
-    if (outcome->status != BCP47_BUFFER_TOO_SMALL) return buffer;
-    size_t room = outcome->length;
-    buffer = malloc(room);
-    if (buffer) *outcome = does(&c->handle, text, length, buffer, room);
-    return buffer;
-}
-
 static int is_ready(sqlite3_context *context, connection *c) {
-    if (bcp47_is_open(&c->handle)) return 1;
+    if (c->held) return 1;
     sqlite3_result_error(context, "bcp47: no registry is loaded: call bcp47_load(path) first", -1);
     return 0;
 }
 
-/* The line that the program prints for a refusal, without `! `. */
-static void say_fault(sqlite3_context *context, bcp47_outcome outcome, const uint8_t *text) {
-    uint8_t name[BCP47_LINE];
-    char line[2 * BCP47_LINE];
-    if (outcome.status == BCP47_REPLACEMENT_REPEATS) {
-        snprintf(line, sizeof line, "ReplacementRepeats %.*s", (int)outcome.length, (const char *)text);
-    } else {
-        bcp47_outcome named = bcp47_fault_name(outcome.detail, name, sizeof name);
-        snprintf(line, sizeof line, "%.*s %llu", (int)named.length, (const char *)name, (unsigned long long)outcome.place);
-    }
-    sqlite3_result_text(context, line, -1, SQLITE_TRANSIENT);
+static void say(sqlite3_context *context, const char *text, const char *more) {
+    char *message = sqlite3_mprintf("bcp47: %s%s", text, more);
+    if (message) sqlite3_result_error(context, message, -1);
+    else sqlite3_result_error_nomem(context);
+    sqlite3_free(message);
 }
 
-static void load(sqlite3_context *context, int count, sqlite3_value **values) {
-    (void)count;
-    connection *c = sqlite3_user_data(context);
-    const char *path = (const char *)sqlite3_value_text(values[0]);
-    if (!path) return;
+static void write_digest(const bcp47_info *info, char hex[65]) {
+    for (int i = 0; i < 32; i++) sprintf(hex + 2 * i, "%02x", info->sha256[i]);
+}
+
+/* Whether a text names the registry: by its File-Date, or by its digest or at least 8 digits at the front of that. */
+static int is_named(connection *c, sqlite3_value *value) {
+    char hex[65];
+    const char *name = (const char *)sqlite3_value_text(value);
+    size_t length = name ? strlen(name) : 0;
+    write_digest(&c->info, hex);
+    if (length >= 8 && length <= 64 && !sqlite3_strnicmp(name, hex, (int)length)) return 1;
+    return length && !strcmp(name, c->info.file_date);
+}
+
+/* The bytes of a file, for free(); NULL where it can't be read, or is too long. */
+static void *read_file(const char *path, size_t *length) {
     FILE *file = fopen(path, "rb");
-    uint8_t *bytes = NULL;
-    size_t length = 0, room = 0, got = 1;
-    while (file && got) {
-        if (length == room) {
-            uint8_t *more = realloc(bytes, room = 2 * room + 65536);
+    char *bytes = NULL;
+    size_t room = 0, got = 1;
+    *length = 0;
+    while (file && got && *length <= LONGEST) {
+        if (*length == room) {
+            char *more = realloc(bytes, room = 2 * room + 65536);
             if (!more) break;
             bytes = more;
         }
-        got = fread(bytes + length, 1, room - length, file);
-        length += got;
+        got = fread(bytes + *length, 1, room - *length, file);
+        *length += got;
     }
-    int failed = !file || got || ferror(file);
+    int is_read = file && !got && !ferror(file) && *length <= LONGEST;
     if (file) fclose(file);
-    if (failed) {
-        free(bytes);
-        sqlite3_result_error(context, "bcp47: the file can't be read", -1);
-        return;
-    }
-    uint8_t line[BCP47_LINE];
-    bcp47_handle opened = {NULL};
-    bcp47_outcome outcome = bcp47_open(&opened, bytes, length, line, sizeof line);
+    if (is_read) return bytes;
     free(bytes);
-    if (outcome.status != BCP47_DONE) {
-        char *message = sqlite3_mprintf("bcp47: %.*s", (int)outcome.length, line);
-        sqlite3_result_error(context, message, -1);
-        sqlite3_free(message);
-        return;
+    return NULL;
+}
+
+/* The bytes that a value gives: those of a blob, or of the file that a text names. */
+static void *bytes_of(sqlite3_value *value, size_t *length) {
+    if (sqlite3_value_type(value) == SQLITE_TEXT) return read_file((const char *)sqlite3_value_text(value), length);
+    const void *blob = sqlite3_value_blob(value);
+    *length = (size_t)sqlite3_value_bytes(value);
+    void *bytes = malloc(*length + 1);
+    if (bytes && *length) memcpy(bytes, blob, *length);
+    return bytes;
+}
+
+static int collate(void *, int, const void *, int, const void *);
+
+/* bcp47_load(path or blob [, 'replace']) */
+static void load(sqlite3_context *context, int count, sqlite3_value **values) {
+    connection *c = sqlite3_user_data(context);
+    char line[BCP47_LINE] = "";
+    size_t length;
+    int type = sqlite3_value_type(values[0]);
+    if (type == SQLITE_NULL) return;
+    if (type != SQLITE_TEXT && type != SQLITE_BLOB) return say(context, "bcp47_load takes a path or a blob", "");
+    const char *word = count == 2 ? (const char *)sqlite3_value_text(values[1]) : NULL;
+    if (count == 2 && (!word || strcmp(word, "replace"))) return say(context, "the second word of bcp47_load is 'replace'", "");
+    void *bytes = bytes_of(values[0], &length);
+    if (!bytes) return say(context, "the file can't be read, or is too long", "");
+    shared *it = join(bytes, length, line);
+    if (!it) return say(context, line, "");
+    if (c->held && it != c->held && !word) {
+        leave(it);
+        return say(context, "another registry is loaded: open a connection of its own, or say bcp47_load(path, 'replace') and then REINDEX", "");
     }
-    if (bcp47_is_open(&c->handle)) bcp47_close(&c->handle);
-    c->handle = opened;
+    if (!c->held) {
+        /* From the first registry on: without one it could not compare, and no error can be told. */
+        c->users++;
+        if (sqlite3_create_collation_v2(c->database, "BCP47", SQLITE_UTF8, c, collate, release) != SQLITE_OK) {
+            c->users--;
+            leave(it);
+            return say(context, "the collation can't be made: ", sqlite3_errmsg(c->database));
+        }
+    }
+    leave(c->held);
+    c->held = it;
+    bcp47_registry_info(it->registry, &c->info);
     sqlite3_result_int(context, 1);
 }
 
-/* The text that a call writes, without the line feed of its last line; NULL where the tag is refused. */
-static void answer(sqlite3_context *context, call does, sqlite3_value *value) {
+/* bcp47_registry(): File-Date, number of entries, SHA-256 */
+static void registry(sqlite3_context *context, int count, sqlite3_value **values) {
     connection *c = sqlite3_user_data(context);
-    if (sqlite3_value_type(value) == SQLITE_NULL || !is_ready(context, c)) return;
-    uint8_t buffer[BUFFER];
-    bcp47_outcome outcome;
-    uint8_t *text = ask(c, does, value, buffer, &outcome);
-    if (!text || outcome.status == BCP47_OUT_OF_MEMORY) {
-        sqlite3_result_error_nomem(context);
-    } else if (outcome.status == BCP47_DONE) {
-        size_t length = outcome.length;
-        if (length && text[length - 1] == '\n') length--;
-        sqlite3_result_text(context, (const char *)text, (int)length, SQLITE_TRANSIENT);
-    }
-    if (text != buffer) free(text);
+    char hex[65], line[128];
+    (void)count, (void)values;
+    if (!c->held) return;
+    write_digest(&c->info, hex);
+    snprintf(line, sizeof line, "%s %zu %s", *c->info.file_date ? c->info.file_date : "-", c->info.entries, hex);
+    sqlite3_result_text(context, line, -1, SQLITE_TRANSIENT);
 }
 
+/* ---- tags */
+
+/* Answers an outcome that no tag is refused with, and tells whether it did. */
+static int is_error(sqlite3_context *context, bcp47_outcome outcome) {
+    if (outcome.status == BCP47_OUT_OF_MEMORY) sqlite3_result_error_nomem(context);
+    else if (outcome.status >= BCP47_NOT_OPEN) say(context, bcp47_status_name(outcome.status), "");
+    else return 0;
+    return 1;
+}
+
+/* bcp47_canonical(tag [, name of the registry]) */
 static void canonical(sqlite3_context *context, int count, sqlite3_value **values) {
+    connection *c = sqlite3_user_data(context);
+    char buffer[BUFFER];
+    if (sqlite3_value_type(values[0]) == SQLITE_NULL || !is_ready(context, c)) return;
+    if (count == 2 && !is_named(c, values[1])) return say(context, "the registry that is loaded has another name", "");
+    const char *text = (const char *)sqlite3_value_text(values[0]);
+    bcp47_outcome outcome = bcp47_canonical(c->held->registry, text, (size_t)sqlite3_value_bytes(values[0]), buffer, BUFFER);
+    if (is_error(context, outcome) || outcome.status != BCP47_DONE) return;
+    sqlite3_result_text(context, buffer, (int)outcome.length, SQLITE_TRANSIENT);
+}
+
+/* The line that the program prints for a refusal, without `! `. */
+static void fault(sqlite3_context *context, int count, sqlite3_value **values) {
+    connection *c = sqlite3_user_data(context);
+    char buffer[BUFFER], line[2 * BCP47_LINE];
     (void)count;
-    answer(context, bcp47_canonical, values[0]);
+    if (sqlite3_value_type(values[0]) == SQLITE_NULL || !is_ready(context, c)) return;
+    const char *text = (const char *)sqlite3_value_text(values[0]);
+    bcp47_outcome outcome = bcp47_canonical(c->held->registry, text, (size_t)sqlite3_value_bytes(values[0]), buffer, BUFFER);
+    if (is_error(context, outcome) || outcome.status == BCP47_DONE) return;
+    if (outcome.status == BCP47_REPLACEMENT_REPEATS)
+        snprintf(line, sizeof line, "ReplacementRepeats %.*s", (int)outcome.length, buffer);
+    else
+        snprintf(line, sizeof line, "%s %zu", bcp47_fault_name(outcome.detail), outcome.place);
+    sqlite3_result_text(context, line, -1, SQLITE_TRANSIENT);
+}
+
+/* The number of a kind of part, whose name may be in any case; 0 where there is none. */
+static int kind_of(const char *name) {
+    for (int kind = 1; name && *bcp47_part_kind_name(kind); kind++)
+        if (!sqlite3_stricmp(name, bcp47_part_kind_name(kind))) return kind;
+    return 0;
+}
+
+/* bcp47_part(tag, kind): the parts of that kind, with hyphens between them */
+static void part(sqlite3_context *context, int count, sqlite3_value **values) {
+    bcp47_part parts[BCP47_PARTS];
+    char text[BCP47_TEXT], found[BCP47_TEXT + 1];
+    size_t length = 0;
+    (void)count;
+    if (sqlite3_value_type(values[0]) == SQLITE_NULL || sqlite3_value_type(values[1]) == SQLITE_NULL) return;
+    int kind = kind_of((const char *)sqlite3_value_text(values[1]));
+    if (!kind) return say(context, "there is no such kind of part", "");
+    const char *tag = (const char *)sqlite3_value_text(values[0]);
+    bcp47_outcome outcome = bcp47_parts(tag, (size_t)sqlite3_value_bytes(values[0]), text, sizeof text, parts, BCP47_PARTS);
+    if (is_error(context, outcome) || outcome.status != BCP47_DONE) return;
+    for (size_t i = 0; i < outcome.place; i++) {
+        if (parts[i].kind != kind) continue;
+        memcpy(found + length, text + parts[i].start, parts[i].length);
+        length += parts[i].length;
+        found[length++] = '-';
+    }
+    if (length) sqlite3_result_text(context, found, (int)length - 1, SQLITE_TRANSIENT);
 }
 
 static void explain(sqlite3_context *context, int count, sqlite3_value **values) {
-    (void)count;
-    answer(context, bcp47_explain, values[0]);
-}
-
-static void fault(sqlite3_context *context, int count, sqlite3_value **values) {
-    (void)count;
     connection *c = sqlite3_user_data(context);
+    char *lines;
+    (void)count;
     if (sqlite3_value_type(values[0]) == SQLITE_NULL || !is_ready(context, c)) return;
-    uint8_t buffer[BUFFER];
-    bcp47_outcome outcome;
-    uint8_t *text = ask(c, bcp47_canonical, values[0], buffer, &outcome);
-    if (!text || outcome.status == BCP47_OUT_OF_MEMORY) {
-        sqlite3_result_error_nomem(context);
-    } else if (outcome.status != BCP47_DONE) {
-        say_fault(context, outcome, text);
-    }
-    if (text != buffer) free(text);
+    const char *text = (const char *)sqlite3_value_text(values[0]);
+    bcp47_outcome outcome =
+        bcp47_explanation(c->held->registry, text, (size_t)sqlite3_value_bytes(values[0]), STEPS, &lines);
+    if (is_error(context, outcome) || outcome.status != BCP47_DONE) return;
+    if (outcome.length > INT_MAX) sqlite3_result_error_toobig(context), bcp47_free(lines);
+    /* without the line feed of the last line */
+    else sqlite3_result_text(context, lines, (int)outcome.length - 1, bcp47_free);
 }
 
 static void equal(sqlite3_context *context, int count, sqlite3_value **values) {
-    (void)count;
     connection *c = sqlite3_user_data(context);
+    (void)count;
     if (sqlite3_value_type(values[0]) == SQLITE_NULL || sqlite3_value_type(values[1]) == SQLITE_NULL) return;
     if (!is_ready(context, c)) return;
-    const uint8_t *first = sqlite3_value_text(values[0]), *second = sqlite3_value_text(values[1]);
-    uint8_t variant[BCP47_LINE];
-    bcp47_outcome outcome = bcp47_equal(&c->handle, first, (size_t)sqlite3_value_bytes(values[0]), second,
-                                        (size_t)sqlite3_value_bytes(values[1]), variant, sizeof variant);
-    if (outcome.status == BCP47_OUT_OF_MEMORY) sqlite3_result_error_nomem(context);
-    if (outcome.status == BCP47_DONE || outcome.status == BCP47_DIFFERENT) {
+    const char *first = (const char *)sqlite3_value_text(values[0]), *second = (const char *)sqlite3_value_text(values[1]);
+    bcp47_outcome outcome = bcp47_equal(c->held->registry, first, (size_t)sqlite3_value_bytes(values[0]), second,
+                                        (size_t)sqlite3_value_bytes(values[1]), NULL, 0);
+    if (is_error(context, outcome)) return;
+    if (outcome.status == BCP47_DONE || outcome.status == BCP47_DIFFERENT)
         sqlite3_result_int(context, outcome.status == BCP47_DONE);
-    }
 }
 
-/* Texts compare by their canonical texts, where they have one; those that have none come last, by their bytes. */
+/* Texts compare by their canonical texts, where they have one; those that have none come last, by their bytes. A collation
+   can't answer an error: where memory runs out, the statement is interrupted. */
 static int collate(void *data, int first_length, const void *first, int second_length, const void *second) {
     connection *c = data;
-    uint8_t buffers[2][BUFFER];
-    const uint8_t *texts[2] = {first, second};
+    char buffers[2][BUFFER];
+    const void *texts[2] = {first, second};
     size_t lengths[2] = {(size_t)first_length, (size_t)second_length};
-    int refused[2] = {1, 1};
-    for (int i = 0; i < 2 && bcp47_is_open(&c->handle); i++) {
-        bcp47_outcome o = bcp47_canonical(&c->handle, texts[i], lengths[i], buffers[i], BUFFER);
-        if (o.status != BCP47_DONE) continue;
-        refused[i] = 0;
+    int refused[2];
+    for (int i = 0; i < 2; i++) {
+        bcp47_outcome outcome = bcp47_canonical(c->held->registry, texts[i], lengths[i], buffers[i], BUFFER);
+        refused[i] = outcome.status != BCP47_DONE;
+        if (outcome.status == BCP47_OUT_OF_MEMORY || outcome.status >= BCP47_NOT_OPEN) sqlite3_interrupt(c->database);
+        if (refused[i]) continue;
         texts[i] = buffers[i];
-        lengths[i] = o.length;
+        lengths[i] = outcome.length;
     }
     if (refused[0] != refused[1]) return refused[0] - refused[1];
     size_t least = lengths[0] < lengths[1] ? lengths[0] : lengths[1];
@@ -170,39 +308,35 @@ static int collate(void *data, int first_length, const void *first, int second_l
     return order ? order : (lengths[0] > lengths[1]) - (lengths[0] < lengths[1]);
 }
 
+/* The name that SQLite looks for first, whatever the file is called. */
 #ifdef _WIN32
 __declspec(dllexport)
+#else
+__attribute__((visibility("default")))
 #endif
-int sqlite3_bcp_init(sqlite3 *database, char **error, const sqlite3_api_routines *api) {
+int sqlite3_extension_init(sqlite3 *database, char **error, const sqlite3_api_routines *api) {
+    enum { PURE = SQLITE_UTF8 | SQLITE_DETERMINISTIC | SQLITE_INNOCUOUS, OWN = SQLITE_UTF8 | SQLITE_DIRECTONLY };
+    static const struct {
+        const char *name;
+        int words, flags;
+        void (*does)(sqlite3_context *, int, sqlite3_value **);
+    } functions[] = {
+        {"bcp47_load", 1, OWN, load},         {"bcp47_load", 2, OWN, load},   {"bcp47_registry", 0, SQLITE_UTF8, registry},
+        {"bcp47_canonical", 1, PURE, canonical}, {"bcp47_canonical", 2, PURE, canonical},
+        {"bcp47_equal", 2, PURE, equal},      {"bcp47_fault", 1, PURE, fault}, {"bcp47_explain", 1, PURE, explain},
+        {"bcp47_part", 2, PURE, part},
+    };
     (void)error;
     SQLITE_EXTENSION_INIT2(api);
     connection *c = calloc(1, sizeof *c);
     if (!c) return SQLITE_NOMEM;
+    c->database = database;
     c->users = 1;
-    int pure = SQLITE_UTF8 | SQLITE_DETERMINISTIC | SQLITE_INNOCUOUS;
-    static const struct {
-        const char *name;
-        int words;
-        int is_pure;
-        void (*does)(sqlite3_context *, int, sqlite3_value **);
-    } functions[] = {
-        {"bcp47_load", 1, 0, load},
-        {"bcp47_canonical", 1, 1, canonical},
-        {"bcp47_equal", 2, 1, equal},
-        {"bcp47_fault", 1, 1, fault},
-        {"bcp47_explain", 1, 1, explain},
-    };
     int result = SQLITE_OK;
     for (size_t i = 0; i < sizeof functions / sizeof *functions && result == SQLITE_OK; i++) {
         c->users++;
-        int flags = functions[i].is_pure ? pure : SQLITE_UTF8 | SQLITE_DIRECTONLY;
-        result = sqlite3_create_function_v2(database, functions[i].name, functions[i].words, flags, c, functions[i].does,
-                                            NULL, NULL, release);
-    }
-    if (result == SQLITE_OK) {
-        c->users++;
-        result = sqlite3_create_collation_v2(database, "BCP47", SQLITE_UTF8, c, collate, release);
-        if (result != SQLITE_OK) c->users--;
+        result = sqlite3_create_function_v2(database, functions[i].name, functions[i].words, functions[i].flags, c,
+                                            functions[i].does, NULL, NULL, release);
     }
     release(c);
     return result;

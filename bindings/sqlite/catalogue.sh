@@ -1,10 +1,10 @@
 #!/bin/bash
-# A catalogue of 1,000,000 rows with an index on the canonical tag. Arguments: the folder of bcp47.so, `tags` and
+# A catalogue of 1,000,000 rows with an index on the canonical tag. Arguments: the folder of bcp47_sqlite.so, `tags` and
 # `wanted`; a registry.
 for _ in 1 2 3 4 5; do sed 's/"/""/g; s/.*/"&"/' "$1/tags"; done > "$1/catalogue"
 wanted=$(grep -cx 'yue' "$1/wanted")
 begun=$(date +%s%N)
-got=$(sqlite3 "$1/catalogue.db" ".load $1/bcp47" "SELECT bcp47_load('$2');" "CREATE TABLE books (tag TEXT);" ".mode csv" \
+got=$(sqlite3 "$1/catalogue.db" ".load $1/bcp47_sqlite" "SELECT bcp47_load('$2');" "CREATE TABLE books (tag TEXT);" ".mode csv" \
     ".import $1/catalogue books" ".mode list" \
     "CREATE INDEX by_canonical ON books (bcp47_canonical(tag));" "SELECT count(*) FROM books;" \
     "SELECT count(*) FROM books WHERE bcp47_canonical(tag) = 'yue';" | tr '\n' ' ')

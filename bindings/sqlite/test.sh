@@ -1,24 +1,24 @@
 #!/bin/bash
-# Tests of the functions in SQLite, and docs/SQL.md's first example. Arguments: the folder of bcp47.so, the sample registry.
+# Tests of the functions in SQLite, and docs/SQL.md's first example. Arguments: the folder of bcp47_sqlite.so, the sample registry.
 page=$(dirname "$(realpath "$0")")/../../docs/SQL.md
 books=$1/books
 rm -rf "$books"
 mkdir "$books"
-cp "$1/bcp47.so" "$books"
+cp "$1/bcp47_sqlite.so" "$books"
 cp "$2" "$books/registry.txt"
 sed -n '/^## SQLite/,/^## PostgreSQL/s/^    sqlite> //p' "$page" > "$books/example"
 sed -n '/^## SQLite/,/^## PostgreSQL/{/^    \(sqlite>\|\$\) /!s/^    //p}' "$page" > "$books/wanted"
 sqlite3 "$books/books.db" 'CREATE TABLE books (tag TEXT)'
 (cd "$books" && sqlite3 books.db < example > got 2>&1)
 diff "$books/wanted" "$books/got" || exit 1
-got=$(sqlite3 :memory: ".load $1/bcp47" "SELECT bcp47_canonical('en');" 2>&1)
+got=$(sqlite3 :memory: ".load $1/bcp47_sqlite" "SELECT bcp47_canonical('en');" 2>&1)
 case $got in *"no registry is loaded"*) ;; *) echo "not loaded: $got" && exit 1 ;; esac
-got=$(sqlite3 :memory: ".load $1/bcp47" "SELECT bcp47_load('/no/such/file');" 2>&1)
+got=$(sqlite3 :memory: ".load $1/bcp47_sqlite" "SELECT bcp47_load('/no/such/file');" 2>&1)
 case $got in *"the file can't be read"*) ;; *) echo "no file: $got" && exit 1 ;; esac
 printf 'no registry\n' > "$1/other"
-got=$(sqlite3 :memory: ".load $1/bcp47" "SELECT bcp47_load('$1/other');" 2>&1)
+got=$(sqlite3 :memory: ".load $1/bcp47_sqlite" "SELECT bcp47_load('$1/other');" 2>&1)
 case $got in *"jar BadLine line 1"*) ;; *) echo "refused: $got" && exit 1 ;; esac
-got=$(sqlite3 :memory: ".load $1/bcp47" "SELECT bcp47_load('$2');" \
+got=$(sqlite3 :memory: ".load $1/bcp47_sqlite" "SELECT bcp47_load('$2');" \
     "SELECT bcp47_canonical('zh-yue'), bcp47_equal('zh-yue', 'YUE'), bcp47_fault('en_US');" \
     "SELECT bcp47_explain('sgn-dd');" \
     ".nullvalue NULL" \

@@ -1,26 +1,26 @@
-/* Answers each line of a file as `langtag canon` does, by so many threads that each hold the one registry, and prints
+/* Answers each line of a file as `langtag canon` does, by so many threads that ask one registry, and prints
    the lines in order. Arguments: registry, lines, threads; and `explain`, to answer as that command does. */
 #include "support.h"
 #include <pthread.h>
 
 typedef struct {
-    bcp47_handle handle;
-    const uint8_t *texts;
+    const char *texts;
     size_t begin, end, used, room;
     char *lines;
 } part;
 
 static int is_explained = 0;
+static bcp47_registry *registry;
 
 static void *answer(void *data) {
     part *p = data;
-    static _Thread_local uint8_t buffer[65536];
+    static _Thread_local char buffer[65536];
     static _Thread_local char line[66000];
     for (size_t i = p->begin; i < p->end;) {
         size_t j = i;
         while (p->texts[j] != '\n') j++;
-        bcp47_outcome o = is_explained ? bcp47_explain(&p->handle, p->texts + i, j - i, buffer, sizeof buffer)
-                                       : bcp47_canonical(&p->handle, p->texts + i, j - i, buffer, sizeof buffer);
+        bcp47_outcome o = is_explained ? bcp47_explain(registry, p->texts + i, j - i, buffer, sizeof buffer)
+                                       : bcp47_canonical(registry, p->texts + i, j - i, buffer, sizeof buffer);
         size_t n = (size_t)line_of(o, buffer, line, sizeof line);
         if (is_explained && o.status == BCP47_DONE) n--;
         if (p->used + n > p->room && !(p->lines = realloc(p->lines, p->room = 2 * (p->room + n)))) exit(4);
@@ -32,14 +32,11 @@ static void *answer(void *data) {
 }
 
 int main(int count, char **words) {
-    size_t length, texts_length;
+    size_t texts_length;
     int threads = count > 3 ? atoi(words[3]) : 1;
     is_explained = count > 4 && !strcmp(words[4], "explain");
-    uint8_t line[BCP47_LINE], *bytes = read_all(words[1], &length), *texts = read_all(words[2], &texts_length);
-    bcp47_handle registry = {NULL};
-    bcp47_outcome o = bcp47_open(&registry, bytes, length, line, sizeof line);
-    if (o.status) return 2;
-    free(bytes);
+    char *texts = read_all(words[2], &texts_length);
+    registry = opened(words[1]);
     part *parts = calloc((size_t)threads, sizeof *parts);
     pthread_t *ids = calloc((size_t)threads, sizeof *ids);
     if (!parts || !ids) return 4;
@@ -49,17 +46,15 @@ int main(int count, char **words) {
         while (end < texts_length && end > 0 && texts[end - 1] != '\n') end++;
         parts[i] = (part){.texts = texts, .begin = begin, .end = end};
         begin = end;
-        if (bcp47_share(&registry, &parts[i].handle)) return 4;
     }
-    bcp47_close(&registry);
     for (int i = 0; i < threads; i++)
         if (pthread_create(&ids[i], NULL, answer, &parts[i])) return 4;
     for (int i = 0; i < threads; i++) {
         pthread_join(ids[i], NULL);
         fwrite(parts[i].lines, 1, parts[i].used, stdout);
-        bcp47_close(&parts[i].handle);
         free(parts[i].lines);
     }
+    bcp47_close(registry);
     free(parts);
     free(ids);
     free(texts);

@@ -1,145 +1,450 @@
-/* Each call once, and what bad input gets. Argument: the sample registry. */
+/* Each call once, and what bad input and bad arguments get. Arguments: the sample registry,
+   and its SHA-256, number of entries and File-Date. */
 #include "support.h"
 
-static uint8_t buffer[2048];
-static bcp47_handle registry;
+#define REPEATS "ja-Latn-hepburn-alalc97-heploc"
+static char buffer[2048];
+static bcp47_registry *registry;
 
+/* A text that is written has a zero after it. */
 static int is_text(bcp47_outcome o, const char *text) {
-    return o.status == BCP47_DONE && o.length == strlen(text) && !memcmp(buffer, text, o.length);
+    return o.status == BCP47_DONE && o.length == strlen(text) && !strcmp(buffer, text) && !o.text && !o.reserved;
 }
 
-#define ASK(call, text) call(&registry, (const uint8_t *)(text), strlen(text), buffer, sizeof buffer)
-#define EQUAL(first, second)                                                                                         \
-    bcp47_equal(&registry, (const uint8_t *)(first), strlen(first), (const uint8_t *)(second), strlen(second), buffer, \
-                sizeof buffer)
+static int is_ended(bcp47_outcome o, int status) {
+    return o.status == status && !o.detail && !o.place && !o.length && !o.text && !o.reserved;
+}
 
-static void refused_registry(const char *bytes, uint8_t status, uint64_t place, const char *line) {
-    bcp47_handle handle = {NULL};
-    bcp47_outcome o = bcp47_open(&handle, (const uint8_t *)bytes, strlen(bytes), buffer, sizeof buffer);
-    CHECK(o.status == status && o.place == place && !bcp47_is_open(&handle));
-    CHECK(o.length == strlen(line) && !memcmp(buffer, line, o.length));
+#define ASK(call, text) call(registry, text, strlen(text), buffer, sizeof buffer)
+#define EQUAL(first, second) bcp47_equal(registry, first, strlen(first), second, strlen(second), buffer, sizeof buffer)
+
+static void refused_registry(const char *bytes, int status, size_t place, const char *line) {
+    bcp47_registry *refused = registry;
+    bcp47_outcome o = bcp47_open(&refused, bytes, strlen(bytes), buffer, sizeof buffer);
+    CHECK(o.status == status && o.place == place && !refused);
+    CHECK(o.length == strlen(line) && !strcmp(buffer, line));
+    /* The reason is told without the line too. */
+    memset(buffer, '#', sizeof buffer);
+    refused = registry;
+    o = bcp47_open(&refused, bytes, strlen(bytes), buffer, strlen(line) - 1);
+    CHECK(o.status == status && o.place == place && !refused && o.length == strlen(line) && buffer[0] == '#');
+    o = bcp47_open(&refused, bytes, strlen(bytes), buffer, strlen(line));
+    CHECK(o.status == status && !memcmp(buffer, line, o.length) && buffer[o.length] == '#');
+    o = bcp47_open(&refused, bytes, strlen(bytes), NULL, 0);
+    CHECK(o.status == status && o.length == strlen(line));
+}
+
+/* The parts of a tag in one text: each kind and the bytes that it is. */
+static int has_parts(const char *tag, const char *shown, const char *wanted) {
+    bcp47_part parts[BCP47_PARTS];
+    char text[BCP47_TEXT], told[2048] = "";
+    bcp47_outcome o = bcp47_parts(tag, strlen(tag), text, sizeof text, parts, BCP47_PARTS);
+    if (o.status || o.length != strlen(shown) || strcmp(text, shown)) return 0;
+    for (size_t i = 0; i < o.place; i++)
+        sprintf(told + strlen(told), "%s%s %.*s", i ? ", " : "", bcp47_part_kind_name(parts[i].kind), (int)parts[i].length,
+                text + parts[i].start);
+    return !strcmp(told, wanted);
+}
+
+/* The tags are those of RFC 5646, 2.2 and appendix A, RFC 6067, 2.1 and RFC 6497, 2.2. */
+static void parts(void) {
+    bcp47_part room[4], kept = {77, 77, 77};
+    CHECK(has_parts("ZH-yue-hANT-hk", "zh-yue-Hant-HK", "Language zh, Extlang yue, Script Hant, Region HK"));
+    CHECK(has_parts("sl-IT-nedis-1994", "sl-IT-nedis-1994", "Language sl, Region IT, Variant nedis, Variant 1994"));
+    CHECK(has_parts("de-u-attr-co-phonebk", "de-u-attr-co-phonebk", "Language de, Singleton u, Attribute attr, Key co, Type phonebk"));
+    CHECK(has_parts("und-t-und-cyrl-m0-ungegn", "und-t-und-cyrl-m0-ungegn",
+                    "Language und, Singleton t, SourceLanguage und, SourceScript cyrl, Separator m0, Value ungegn"));
+    CHECK(has_parts("en-t-zh-yue-hk-1994", "en-t-zh-yue-hk-1994",
+                    "Language en, Singleton t, SourceLanguage zh, SourceExtlang yue, SourceRegion hk, SourceVariant 1994"));
+    CHECK(has_parts("en-a-bbb-x-A-ccc", "en-a-bbb-x-a-ccc",
+                    "Language en, Singleton a, ExtensionSubtag bbb, PrivateUseSingleton x, PrivateUse a, PrivateUse ccc"));
+    CHECK(has_parts("x-own", "x-own", "PrivateUseSingleton x, PrivateUse own"));
+    CHECK(has_parts("I-KLINGON", "i-klingon", "Grandfathered i-klingon"));
+    bcp47_outcome o = bcp47_parts("en_US", 5, buffer, sizeof buffer, room, 4);
+    CHECK(o.status == BCP47_NOT_A_TAG && o.detail == 3 && o.place == 1 && o.length == 0);
+    /* What does not fit is not written. */
+    for (int k = 0; k < 4; k++) room[k] = kept;
+    memset(buffer, '#', sizeof buffer);
+    o = bcp47_parts("zh-yue", 6, buffer, 6, room, 1);
+    CHECK(o.status == BCP47_BUFFER_TOO_SMALL && o.place == 2 && o.length == 6 && buffer[0] == '#' && room[0].kind == 77);
+    o = bcp47_parts("zh-yue", 6, buffer, 5, room, 2);
+    CHECK(o.status == BCP47_BUFFER_TOO_SMALL && o.place == 2 && o.length == 6 && buffer[0] == '#' && room[0].kind == 77);
+    o = bcp47_parts("zh-yue", 6, NULL, 0, NULL, 0);
+    CHECK(o.status == BCP47_BUFFER_TOO_SMALL && o.place == 2 && o.length == 6);
+    o = bcp47_parts("zh-yue", 6, buffer, 6, room, 2);
+    CHECK(o.status == BCP47_DONE && o.place == 2 && !memcmp(buffer, "zh-yue#", 7) && room[1].start == 3 && room[2].kind == 77);
+    o = bcp47_parts(NULL, 0, buffer, sizeof buffer, room, 4);
+    CHECK(o.status == BCP47_NOT_A_TAG && o.place == 1);
+    /* Lengths that no array has, and rooms over one another. */
+    CHECK(is_ended(bcp47_parts("en", 2, buffer, sizeof buffer, NULL, 1), BCP47_BAD_CALL));
+    CHECK(is_ended(bcp47_parts("en", 2, buffer, sizeof buffer, room, SIZE_MAX), BCP47_BAD_CALL));
+    CHECK(is_ended(bcp47_parts("en", 2, NULL, 1, room, 4), BCP47_BAD_CALL));
+    CHECK(is_ended(bcp47_parts(NULL, 1, buffer, sizeof buffer, room, 4), BCP47_BAD_CALL));
+    CHECK(is_ended(bcp47_parts((char *)room, 2, buffer, sizeof buffer, room, 4), BCP47_BAD_CALL));
+    CHECK(is_ended(bcp47_parts("en", 2, (char *)room, 9, room, 4), BCP47_BAD_CALL));
+    CHECK(is_ended(bcp47_parts(buffer, 2, buffer, sizeof buffer, room, 4), BCP47_BAD_CALL));
 }
 
 static void canonical(void) {
     CHECK(is_text(ASK(bcp47_canonical, "zh-yue"), "yue"));
     CHECK(is_text(ASK(bcp47_canonical, "I-KLINGON"), "tlh"));
     bcp47_outcome o = ASK(bcp47_canonical, "en_US");
-    CHECK(o.status == BCP47_NOT_A_TAG && o.place == 1 && o.length == 0);
+    CHECK(o.status == BCP47_NOT_A_TAG && o.place == 1 && o.length == 0 && buffer[0] == 0);
     o = ASK(bcp47_canonical, "xx-Latn");
     CHECK(o.status == BCP47_INVALID && o.place == 1);
-    o = bcp47_canonical(&registry, NULL, 0, buffer, sizeof buffer);
+    o = bcp47_canonical(registry, NULL, 0, buffer, sizeof buffer);
     CHECK(o.status == BCP47_NOT_A_TAG && o.place == 1);
     memset(buffer, '#', sizeof buffer);
-    o = bcp47_canonical(&registry, (const uint8_t *)"zh-yue", 6, buffer, 2);
+    o = bcp47_canonical(registry, "zh-yue", 6, buffer, 2);
     CHECK(o.status == BCP47_BUFFER_TOO_SMALL && o.length == 3 && buffer[0] == '#');
-    o = bcp47_canonical(&registry, (const uint8_t *)"zh-yue", 6, NULL, 0);
+    o = bcp47_canonical(registry, "zh-yue", 6, NULL, 0);
     CHECK(o.status == BCP47_BUFFER_TOO_SMALL && o.length == 3);
-    o = bcp47_canonical(&registry, (const uint8_t *)"zh-yue", 6, buffer, 3);
-    CHECK(is_text(o, "yue") && buffer[3] == '#');
-    static uint8_t longest[1025];
+    o = bcp47_canonical(registry, "zh-yue", 6, buffer, 3);
+    CHECK(o.status == BCP47_DONE && o.length == 3 && !memcmp(buffer, "yue#", 4));
+    o = bcp47_canonical(registry, "zh-yue", 6, buffer, 5);
+    CHECK(is_text(o, "yue") && buffer[4] == '#');
+    o = bcp47_canonical(registry, REPEATS, strlen(REPEATS), buffer, sizeof buffer);
+    CHECK(o.status == BCP47_REPLACEMENT_REPEATS && o.length == 7 && !strcmp(buffer, "alalc97"));
+    static char longest[1025];
     memset(longest, 'a', sizeof longest);
-    o = bcp47_canonical(&registry, longest, sizeof longest, buffer, sizeof buffer);
+    o = bcp47_canonical(registry, longest, sizeof longest, buffer, sizeof buffer);
     CHECK(o.status == BCP47_NOT_A_TAG && o.detail == 1 && o.place == 0);
+}
+
+static void classify(const bcp47_registry *by) {
+    bcp47_outcome o = bcp47_classify(by, "EN-gb-OED", 9, buffer, sizeof buffer);
+    CHECK(is_text(o, "en-GB-oed") && o.detail == BCP47_GRANDFATHERED);
+    o = bcp47_classify(by, "ZH-cmn-hANS-cn", 14, buffer, sizeof buffer);
+    CHECK(is_text(o, "zh-cmn-Hans-CN") && o.detail == BCP47_LANGTAG);
+    o = bcp47_classify(by, "X-Own", 5, buffer, sizeof buffer);
+    CHECK(is_text(o, "x-own") && o.detail == BCP47_PRIVATE_USE);
+    CHECK(bcp47_classify(by, "-", 1, buffer, sizeof buffer).status == BCP47_NOT_A_TAG);
+    CHECK(bcp47_classify(by, NULL, 0, NULL, 0).status == BCP47_NOT_A_TAG);
+    o = bcp47_classify(by, "EN", 2, NULL, 0);
+    CHECK(o.status == BCP47_BUFFER_TOO_SMALL && o.length == 2);
+}
+
+static int is_refused(bcp47_outcome o, int status, int text, size_t place) {
+    return o.status == status && o.text == text && o.place == place;
+}
+
+static void equal(void) {
+    CHECK(is_ended(EQUAL("zh-yue", "YUE"), BCP47_DONE));
+    CHECK(is_ended(EQUAL("zh-yue", "zh"), BCP47_DIFFERENT));
+    CHECK(is_ended(bcp47_equal(registry, "zh", 2, "yue", 3, NULL, 0), BCP47_DIFFERENT));
+    CHECK(is_refused(EQUAL("zh", "xx"), BCP47_INVALID, 2, 1));
+    CHECK(is_refused(EQUAL("xx", "zh"), BCP47_INVALID, 1, 1));
+    CHECK(is_refused(EQUAL("", "xx"), BCP47_NOT_A_TAG, 1, 1));
+    CHECK(is_refused(EQUAL("en_US", "x"), BCP47_NOT_A_TAG, 1, 1));
+    CHECK(is_refused(EQUAL("en-GB", "en-x"), BCP47_NOT_A_TAG, 2, 3));
+    CHECK(is_refused(EQUAL("xx", "en_US"), BCP47_NOT_A_TAG, 2, 1));
+    CHECK(is_refused(EQUAL("en-yy", "xx"), BCP47_INVALID, 1, 2));
+    memset(buffer, '#', sizeof buffer);
+    bcp47_outcome o = EQUAL(REPEATS, "en");
+    CHECK(is_refused(o, BCP47_REPLACEMENT_REPEATS, 1, 0) && o.length == 7 && !strcmp(buffer, "alalc97"));
+    o = EQUAL("en", REPEATS);
+    CHECK(is_refused(o, BCP47_REPLACEMENT_REPEATS, 2, 0) && o.length == 7);
+    o = EQUAL("xx", REPEATS);
+    CHECK(is_refused(o, BCP47_INVALID, 1, 1) && o.length == 0);
+    memset(buffer, '#', sizeof buffer);
+    o = bcp47_equal(registry, "en", 2, REPEATS, strlen(REPEATS), buffer, 6);
+    CHECK(is_refused(o, BCP47_REPLACEMENT_REPEATS, 2, 0) && o.length == 7 && buffer[0] == '#');
+    o = bcp47_equal(registry, "en", 2, REPEATS, strlen(REPEATS), buffer, 7);
+    CHECK(o.length == 7 && !memcmp(buffer, "alalc97#", 8));
 }
 
 static void others(void) {
     CHECK(is_text(ASK(bcp47_extlang, "yue"), "zh-yue"));
-    bcp47_outcome o = ASK(bcp47_classify, "EN-gb-OED");
-    CHECK(is_text(o, "en-GB-oed") && o.detail == BCP47_GRANDFATHERED);
-    o = ASK(bcp47_classify, "ZH-cmn-hANS-cn");
-    CHECK(is_text(o, "zh-cmn-Hans-CN") && o.detail == BCP47_LANGTAG);
-    o = ASK(bcp47_classify, "X-Own");
-    CHECK(is_text(o, "x-own") && o.detail == BCP47_PRIVATE_USE);
-    CHECK(ASK(bcp47_classify, "-").status == BCP47_NOT_A_TAG);
-    CHECK(bcp47_validate(&registry, (const uint8_t *)"zh-yue", 6).status == BCP47_DONE);
-    o = bcp47_validate(&registry, (const uint8_t *)"xx-Latn", 7);
+    CHECK(is_ended(bcp47_validate(registry, "zh-yue", 6), BCP47_DONE));
+    bcp47_outcome o = bcp47_validate(registry, "xx-Latn", 7);
     CHECK(o.status == BCP47_INVALID && o.place == 1 && o.length == 0);
-    CHECK(bcp47_validate(&registry, NULL, 0).status == BCP47_NOT_A_TAG);
-    CHECK(EQUAL("zh-yue", "YUE").status == BCP47_DONE);
-    CHECK(EQUAL("zh-yue", "zh").status == BCP47_DIFFERENT);
-    CHECK(EQUAL("zh", "xx").status == BCP47_INVALID);
-    CHECK(EQUAL("", "xx").status == BCP47_NOT_A_TAG);
+    CHECK(bcp47_validate(registry, NULL, 0).status == BCP47_NOT_A_TAG);
     CHECK(is_text(ASK(bcp47_explain, "sgn-dd"), "Region 2 27 sgn-DE\nWhole 1 44 gsg\n= gsg\n"));
     CHECK(is_text(ASK(bcp47_explain, "EN"), "= en\n"));
     CHECK(ASK(bcp47_explain, "en_US").status == BCP47_NOT_A_TAG);
     memset(buffer, '#', sizeof buffer);
-    o = bcp47_explain(&registry, (const uint8_t *)"en", 2, buffer, 4);
+    o = bcp47_explain(registry, "en", 2, buffer, 4);
     CHECK(o.status == BCP47_BUFFER_TOO_SMALL && o.length == 5 && buffer[0] == '#');
-    CHECK(is_text(bcp47_status_name(BCP47_INVALID, buffer, sizeof buffer), "Invalid"));
-    CHECK(is_text(bcp47_status_name(BCP47_WRONG_END, buffer, sizeof buffer), "WrongEnd"));
-    CHECK(is_text(bcp47_status_name(13, buffer, sizeof buffer), ""));
-    CHECK(is_text(bcp47_kind_name(BCP47_EXTLANG, buffer, sizeof buffer), "Extlang"));
-    CHECK(is_text(bcp47_kind_name(BCP47_SWAP_FIELDS, buffer, sizeof buffer), "SwapFields"));
-    CHECK(is_text(bcp47_kind_name(0, buffer, sizeof buffer), ""));
-    CHECK(is_text(bcp47_kind_name(15, buffer, sizeof buffer), ""));
-    CHECK(is_text(bcp47_fault_name(1, buffer, sizeof buffer), "TooLong"));
-    CHECK(is_text(bcp47_fault_name(52, buffer, sizeof buffer), "U6"));
-    CHECK(is_text(bcp47_fault_name(53, buffer, sizeof buffer), ""));
 }
 
-static int is_judged(const char *text, const bcp47_step *steps, size_t count, const char *last, uint8_t status, uint64_t place) {
-    bcp47_outcome o = bcp47_verify(&registry, (const uint8_t *)text, strlen(text), steps, count, (const uint8_t *)last, strlen(last));
-    return o.status == status && o.place == place && o.length == 0;
+static void explanations(void) {
+    char *lines = buffer, longest[1025] = "en-u";
+    bcp47_outcome o = bcp47_explanation(registry, "sgn-dd", 6, SIZE_MAX, &lines);
+    CHECK(o.status == BCP47_DONE && lines && !strcmp(lines, "Region 2 27 sgn-DE\nWhole 1 44 gsg\n= gsg\n") && o.length == strlen(lines));
+    bcp47_free(lines);
+    o = bcp47_explanation(registry, "sgn-dd", 6, 2, &lines);
+    CHECK(o.status == BCP47_DONE && lines);
+    bcp47_free(lines);
+    lines = buffer;
+    CHECK(is_ended(bcp47_explanation(registry, "sgn-dd", 6, 1, &lines), BCP47_TOO_MANY_STEPS) && !lines);
+    o = bcp47_explanation(registry, "en", 2, 0, &lines);
+    CHECK(o.status == BCP47_DONE && lines && !strcmp(lines, "= en\n"));
+    bcp47_free(lines);
+    lines = buffer;
+    o = bcp47_explanation(registry, "en_US", 5, 0, &lines);
+    CHECK(o.status == BCP47_NOT_A_TAG && o.place == 1 && !lines);
+    for (int i = 60; i > 0; i--) sprintf(longest + strlen(longest), "-z%02d", i);
+    o = bcp47_explanation(registry, longest, strlen(longest), SIZE_MAX, &lines);
+    CHECK(o.status == BCP47_DONE && lines && o.length > 4096 && strlen(lines) == o.length);
+    size_t count = 0;
+    for (const char *at = lines; (at = strchr(at, '\n')); at++) count++;
+    CHECK(count == 60 * 59 / 2 + 1);
+    bcp47_free(lines);
+    lines = buffer;
+    CHECK(is_ended(bcp47_explanation(registry, longest, strlen(longest), count - 2, &lines), BCP47_TOO_MANY_STEPS) && !lines);
+    lines = buffer;
+    CHECK(is_ended(bcp47_explanation(registry, REPEATS, strlen(REPEATS), SIZE_MAX, &lines), BCP47_REPLACEMENT_REPEATS) && !lines);
+    CHECK(is_ended(bcp47_explanation(registry, NULL, 1, 0, &lines), BCP47_BAD_CALL) && !lines);
+    lines = buffer;
+    CHECK(is_ended(bcp47_explanation(NULL, "en", 2, 0, &lines), BCP47_NOT_OPEN) && !lines);
+    CHECK(is_ended(bcp47_explanation(registry, "en", 2, 0, NULL), BCP47_BAD_CALL));
+    bcp47_free(NULL);
+}
+
+/* Replacements that make a tag longer: each of 40 variants of 4 bytes becomes one of 8. */
+static void longer(void) {
+    static char bytes[8000] = "Type: language\nSubtag: de\n", text[400] = "de", canonical[400] = "de";
+    bcp47_registry *opened;
+    char *lines;
+    for (int i = 0; i < 40; i++) {
+        sprintf(bytes + strlen(bytes), "%%%%\nType: variant\nSubtag: 1a%02d\nPreferred-Value: abcdef%02d\n", i, i);
+        sprintf(bytes + strlen(bytes), "%%%%\nType: variant\nSubtag: abcdef%02d\n", i);
+        sprintf(text + strlen(text), "-1a%02d", i);
+        sprintf(canonical + strlen(canonical), "-abcdef%02d", i);
+    }
+    CHECK(is_ended(bcp47_open(&opened, bytes, strlen(bytes), buffer, sizeof buffer), BCP47_DONE));
+    bcp47_outcome o = bcp47_explanation(opened, text, strlen(text), 40, &lines);
+    CHECK(o.status == BCP47_DONE && lines && strlen(lines) == o.length && o.length > 41 * (strlen(text) + 64));
+    CHECK(!strncmp(lines, "Variant 2 ", 10) && !strncmp(strstr(lines, "= ") + 2, canonical, strlen(canonical)));
+    bcp47_free(lines);
+    bcp47_close(opened);
+}
+
+static int is_judged(const char *text, const bcp47_step *steps, size_t count, const char *last, int status, size_t place, int which) {
+    bcp47_outcome o = bcp47_verify(registry, text, strlen(text), steps, count, last, strlen(last));
+    return is_refused(o, status, which, place) && o.length == 0;
 }
 
 static void verify(void) {
     bcp47_step steps[2] = {{BCP47_REGION, 2, 27}, {BCP47_WHOLE, 1, 44}};
-    CHECK(is_judged("sgn-dd", steps, 2, "GSG", BCP47_DONE, 0));
-    CHECK(is_judged("sgn-dd", steps, 1, "sgn-DE", BCP47_DONE, 0));
-    CHECK(is_judged("sgn-dd", NULL, 0, "sgn-DD", BCP47_DONE, 0));
-    CHECK(is_judged("sgn-dd", steps, 2, "sgn", BCP47_WRONG_END, 0));
-    CHECK(is_judged("sgn-dd", steps, 1, "gsg", BCP47_WRONG_END, 0));
-    CHECK(is_judged("sgn-dd", steps + 1, 1, "gsg", BCP47_NO_SUCH_STEP, 1));
-    CHECK(is_judged("xx", steps, 2, "gsg", BCP47_INVALID, 1));
-    CHECK(is_judged("en_US", steps, 2, "gsg", BCP47_NOT_A_TAG, 1));
-    CHECK(is_judged("sgn-dd", steps, 2, "gsg-", BCP47_NOT_A_TAG, 2));
+    CHECK(is_judged("sgn-dd", steps, 2, "GSG", BCP47_DONE, 0, 0));
+    CHECK(is_judged("sgn-dd", steps, 1, "sgn-DE", BCP47_DONE, 0, 0));
+    CHECK(is_judged("sgn-dd", NULL, 0, "sgn-DD", BCP47_DONE, 0, 0));
+    CHECK(is_judged("sgn-dd", steps, 2, "sgn", BCP47_WRONG_END, 0, 0));
+    CHECK(is_judged("sgn-dd", steps, 1, "gsg", BCP47_WRONG_END, 0, 0));
+    CHECK(is_judged("sgn-dd", steps + 1, 1, "gsg", BCP47_NO_SUCH_STEP, 1, 0));
+    CHECK(is_judged("xx", steps, 2, "gsg", BCP47_INVALID, 1, 1));
+    CHECK(is_judged("en_US", steps, 2, "gsg", BCP47_NOT_A_TAG, 1, 1));
+    CHECK(is_judged("sgn-dd", steps, 2, "gsg-", BCP47_NOT_A_TAG, 2, 2));
     steps[1].number = 43;
-    CHECK(is_judged("sgn-dd", steps, 2, "gsg", BCP47_NO_SUCH_STEP, 2));
-    steps[1] = (bcp47_step){15, 1, 44};
-    CHECK(is_judged("sgn-dd", steps, 2, "gsg", BCP47_NO_SUCH_STEP, 2));
-    CHECK(is_judged("sgn-dd", steps, 2, "sgn-DE", BCP47_NO_SUCH_STEP, 2));
+    CHECK(is_judged("sgn-dd", steps, 2, "gsg", BCP47_NO_SUCH_STEP, 2, 0));
+    steps[1].kind = 15;
+    CHECK(is_judged("sgn-dd", steps, 2, "gsg", BCP47_NO_SUCH_STEP, 2, 0));
+    CHECK(is_judged("sgn-dd", steps, 2, "sgn-DE", BCP47_NO_SUCH_STEP, 2, 0));
     steps[0].kind = 0;
-    CHECK(is_judged("sgn-dd", steps, 2, "sgn-DD", BCP47_NO_SUCH_STEP, 1));
-    CHECK(is_judged("xx", steps, 2, "gsg", BCP47_INVALID, 1));
+    CHECK(is_judged("sgn-dd", steps, 2, "sgn-DD", BCP47_NO_SUCH_STEP, 1, 0));
+    CHECK(is_judged("xx", steps, 2, "gsg", BCP47_INVALID, 1, 1));
 }
 
 static void many(void) {
-    const uint8_t *texts = (const uint8_t *)"zh-yueen_USiw";
-    size_t ends[3] = {6, 11, 13};
-    bcp47_outcome outcomes[3];
-    CHECK(bcp47_canonical_many(&registry, texts, ends, 3, outcomes, buffer, 4) == 2);
-    CHECK(bcp47_canonical_many(&registry, texts, ends, 3, outcomes, buffer, sizeof buffer) == 3);
-    CHECK(!memcmp(buffer, "yuehe", 5) && outcomes[1].status == BCP47_NOT_A_TAG);
+    const char *texts = "zh-yueen_USiw";
+    size_t ends[4] = {6, 11, 13, 13};
+    bcp47_outcome outcomes[4];
+    CHECK(bcp47_canonical_many(registry, texts, ends, 0, 3, outcomes, buffer, 4) == 2);
+    CHECK(outcomes[2].status == BCP47_BUFFER_TOO_SMALL && outcomes[2].length == 2);
+    /* It goes on where it stopped. */
+    CHECK(bcp47_canonical_many(registry, texts, ends + 2, ends[1], 2, outcomes + 2, buffer + 3, 4) == 2);
+    CHECK(!memcmp(buffer, "yuehe", 5) && outcomes[0].status == BCP47_DONE && outcomes[1].status == BCP47_NOT_A_TAG);
+    CHECK(outcomes[2].status == BCP47_DONE && outcomes[2].length == 2 && outcomes[3].status == BCP47_NOT_A_TAG);
+    memset(buffer, '#', sizeof buffer);
+    CHECK(bcp47_canonical_many(registry, texts, ends, 0, 4, outcomes, buffer, sizeof buffer) == 4);
+    CHECK(!memcmp(buffer, "yuehe#", 6));
+    /* Lengths in place of ends: those that fall are told. */
+    size_t lengths[3] = {6, 5, 2};
+    CHECK(bcp47_canonical_many(registry, texts, lengths, 0, 3, outcomes, buffer, sizeof buffer) == 3);
+    CHECK(outcomes[0].status == BCP47_DONE && is_ended(outcomes[1], BCP47_BAD_CALL) && is_ended(outcomes[2], BCP47_BAD_CALL));
+    size_t nothing[2] = {0, 0}, far = SIZE_MAX;
+    CHECK(bcp47_canonical_many(registry, NULL, nothing, 0, 2, outcomes, NULL, 0) == 2);
+    CHECK(outcomes[0].status == BCP47_NOT_A_TAG && outcomes[1].status == BCP47_NOT_A_TAG);
+    CHECK(bcp47_canonical_many(registry, NULL, ends, 0, 1, outcomes, buffer, sizeof buffer) == 1 && is_ended(outcomes[0], BCP47_BAD_CALL));
+    CHECK(bcp47_canonical_many(registry, texts, &far, 0, 1, outcomes, buffer, sizeof buffer) == 1 && is_ended(outcomes[0], BCP47_BAD_CALL));
+    CHECK(bcp47_canonical_many(registry, texts, NULL, 0, 2, outcomes, buffer, sizeof buffer) == 2);
+    CHECK(is_ended(outcomes[0], BCP47_BAD_CALL) && is_ended(outcomes[1], BCP47_BAD_CALL));
+    CHECK(bcp47_canonical_many(registry, texts, ends, 0, 1, outcomes, NULL, 4) == 1 && is_ended(outcomes[0], BCP47_BAD_CALL));
+    CHECK(bcp47_canonical_many(NULL, texts, ends, 0, 2, outcomes, buffer, sizeof buffer) == 2 && is_ended(outcomes[1], BCP47_NOT_OPEN));
+    CHECK(bcp47_canonical_many(registry, texts, ends, 0, 2, NULL, buffer, sizeof buffer) == 0);
+    CHECK(bcp47_canonical_many(registry, NULL, NULL, 0, 0, outcomes, NULL, 0) == 0);
+}
+
+/* Each call on what is no registry that is open. */
+static void not_open(const bcp47_registry *none) {
+    bcp47_info info;
+    bcp47_step step = {BCP47_WHOLE, 1, 44};
+    CHECK(is_ended(bcp47_canonical(none, "en", 2, buffer, sizeof buffer), BCP47_NOT_OPEN));
+    CHECK(is_ended(bcp47_extlang(none, "en", 2, buffer, sizeof buffer), BCP47_NOT_OPEN));
+    CHECK(is_ended(bcp47_explain(none, "en", 2, buffer, sizeof buffer), BCP47_NOT_OPEN));
+    CHECK(is_ended(bcp47_validate(none, "en", 2), BCP47_NOT_OPEN));
+    CHECK(is_ended(bcp47_equal(none, "en", 2, "en", 2, buffer, sizeof buffer), BCP47_NOT_OPEN));
+    CHECK(is_ended(bcp47_verify(none, "en", 2, &step, 1, "en", 2), BCP47_NOT_OPEN));
+    CHECK(is_ended(bcp47_upgrade_check(none, registry), BCP47_NOT_OPEN));
+    CHECK(is_ended(bcp47_upgrade_check(registry, none), BCP47_NOT_OPEN));
+    CHECK(is_ended(bcp47_registry_info(none, &info), BCP47_NOT_OPEN));
+    CHECK(is_ended(bcp47_canonical(none, NULL, 9, NULL, 9), BCP47_NOT_OPEN));
+    CHECK(bcp47_classify(none, "en", 2, buffer, sizeof buffer).status == (none ? BCP47_NOT_OPEN : BCP47_DONE));
+}
+
+/* Each text and buffer of each call. */
+static void bad_calls(void) {
+    static const size_t too_long[2] = {SIZE_MAX, (size_t)PTRDIFF_MAX + 1};
+    bcp47_outcome (*const calls[])(const bcp47_registry *, const char *, size_t, char *, size_t) = {
+        bcp47_canonical, bcp47_extlang, bcp47_classify, bcp47_explain};
+    bcp47_registry *opened;
+    bcp47_step step = {BCP47_WHOLE, 1, 44};
+    char over[64] = "zh-yue";
+    for (size_t i = 0; i < 4; i++) {
+        CHECK(is_ended(calls[i](registry, NULL, 1, buffer, sizeof buffer), BCP47_BAD_CALL));
+        CHECK(is_ended(calls[i](registry, "en", 2, NULL, 1), BCP47_BAD_CALL));
+        for (size_t k = 0; k < 2; k++) {
+            CHECK(is_ended(calls[i](registry, "en", too_long[k], buffer, sizeof buffer), BCP47_BAD_CALL));
+            CHECK(is_ended(calls[i](registry, "en", 2, buffer, too_long[k]), BCP47_BAD_CALL));
+        }
+        CHECK(is_ended(calls[i](registry, over, 6, over, sizeof over), BCP47_BAD_CALL));
+        CHECK(is_ended(calls[i](registry, over, 6, over + 5, 9), BCP47_BAD_CALL));
+        CHECK(is_ended(calls[i](registry, over + 3, 3, over, 4), BCP47_BAD_CALL));
+        CHECK(calls[i](registry, over, 6, over + 6, sizeof over - 6).status == BCP47_DONE);
+        CHECK(calls[i](registry, over + 3, 3, over, 3).status != BCP47_BAD_CALL);
+        strcpy(over, "zh-yue");
+        CHECK(calls[i](registry, over, 6, over + 3, 0).status == BCP47_BUFFER_TOO_SMALL);
+    }
+    CHECK(is_ended(bcp47_classify(NULL, over, 6, over, 6), BCP47_BAD_CALL));
+    CHECK(is_ended(bcp47_validate(registry, NULL, 1), BCP47_BAD_CALL));
+    CHECK(is_ended(bcp47_validate(registry, "en", SIZE_MAX), BCP47_BAD_CALL));
+    CHECK(is_ended(bcp47_equal(registry, NULL, 1, "en", 2, buffer, 9), BCP47_BAD_CALL));
+    CHECK(is_ended(bcp47_equal(registry, "en", 2, "en", SIZE_MAX, buffer, 9), BCP47_BAD_CALL));
+    CHECK(is_ended(bcp47_equal(registry, "en", 2, over, 6, over, 9), BCP47_BAD_CALL));
+    CHECK(is_ended(bcp47_equal(registry, over, 6, over, 6, NULL, 0), BCP47_DONE));
+    CHECK(is_ended(bcp47_verify(registry, NULL, 1, &step, 1, "en", 2), BCP47_BAD_CALL));
+    CHECK(is_ended(bcp47_verify(registry, "en", 2, NULL, 1, "en", 2), BCP47_BAD_CALL));
+    CHECK(is_ended(bcp47_verify(registry, "en", 2, &step, SIZE_MAX / 8, "en", 2), BCP47_BAD_CALL));
+    CHECK(is_ended(bcp47_verify(registry, "en", 2, &step, 1, NULL, 2), BCP47_BAD_CALL));
+    CHECK(is_ended(bcp47_open(NULL, "", 0, buffer, sizeof buffer), BCP47_BAD_CALL));
+    opened = registry;
+    CHECK(is_ended(bcp47_open(&opened, NULL, 1, buffer, sizeof buffer), BCP47_BAD_CALL) && !opened);
+    opened = registry;
+    CHECK(is_ended(bcp47_open(&opened, over, 6, over, 6), BCP47_BAD_CALL) && !opened);
+    CHECK(is_ended(bcp47_open(&opened, "", 0, NULL, 1), BCP47_BAD_CALL));
+    CHECK(is_ended(bcp47_registry_info(registry, NULL), BCP47_BAD_CALL));
+}
+
+static void names(void) {
+    CHECK(!strcmp(bcp47_version(), BCP47_VERSION));
+    CHECK(!strcmp(bcp47_status_name(BCP47_INVALID), "Invalid") && !strcmp(bcp47_status_name(BCP47_TOO_MANY_STEPS), "TooManySteps"));
+    CHECK(!strcmp(bcp47_fault_name(1), "TooLong") && !strcmp(bcp47_fault_name(52), "U6"));
+    CHECK(!strcmp(bcp47_kind_name(BCP47_EXTLANG), "Extlang") && !strcmp(bcp47_kind_name(BCP47_SWAP_FIELDS), "SwapFields"));
+    CHECK(!strcmp(bcp47_fault_help(9), "The registry lacks the extlang: correct it, or get a newer registry."));
+    CHECK(strstr(bcp47_status_help(BCP47_NOT_OPEN), "open it first") != NULL);
+    static const int none[] = {-1, 256, 100, INT32_MAX, INT32_MIN, 1 << 30};
+    for (size_t i = 0; i < sizeof none / sizeof *none; i++)
+        CHECK(!*bcp47_status_name(none[i]) && !*bcp47_fault_name(none[i]) && !*bcp47_kind_name(none[i]) &&
+              !*bcp47_status_help(none[i]) && !*bcp47_fault_help(none[i]));
+    CHECK(!*bcp47_status_name(17) && !*bcp47_status_help(17) && !*bcp47_fault_name(53) && !*bcp47_fault_help(53));
+    CHECK(!*bcp47_kind_name(0) && !*bcp47_kind_name(15));
+    CHECK(!*bcp47_part_kind_name(-1) && !*bcp47_part_kind_name(0) && !*bcp47_part_kind_name(21));
+    CHECK(!strcmp(bcp47_part_kind_name(BCP47_PART_GRANDFATHERED), "Grandfathered"));
+}
+
+/* What a registry of these bytes says of itself. */
+static bcp47_info info_of(const char *bytes, size_t length) {
+    bcp47_registry *opened = NULL;
+    bcp47_info info;
+    memset(&info, '#', sizeof info);
+    CHECK(is_ended(bcp47_open(&opened, bytes, length, buffer, sizeof buffer), BCP47_DONE));
+    CHECK(is_ended(bcp47_registry_info(opened, &info), BCP47_DONE));
+    bcp47_close(opened);
+    return info;
+}
+
+static int has_digest(bcp47_info info, const char *hexadecimal) {
+    char shown[65];
+    for (size_t i = 0; i < 32; i++) sprintf(shown + 2 * i, "%02x", info.sha256[i]);
+    return !strcmp(shown, hexadecimal);
+}
+
+static void info(const char *bytes, size_t length, char **wanted) {
+    static const struct {
+        const char *bytes, *date;
+        size_t entries;
+    } rows[] = {
+        {"", "", 0},
+        {"File-Date: 2000-01-01\n", "2000-01-01", 0},
+        {"File-Date: 2000-01-01", "2000-01-01", 0},
+        {"File-Date: 2000-01-01\n%%\nType: language\nSubtag: en\n", "2000-01-01", 1},
+        {"Type: language\nSubtag: en\n%%\nType: language\nSubtag: de", "", 2},
+        {"File-Date: 1 May\n", "", 0},
+        {"File-Date: 2000-1-001\n", "", 0},
+        {"File-Date: 2000-01-0\n", "", 0},
+        {"File-Date: 2000/01-01\n", "", 0},
+        {"File-Date: 2000-01/01\n", "", 0},
+        {"File-Date: 2OOO-01-01\n", "", 0},
+        {"File-Date: 2000-O1-01\n", "", 0},
+        {"File-Date: 2000-01-O1\n", "", 0},
+        {"Type: language\nSubtag: en\nFile-Date: 2000-01-01\n", "", 1},
+    };
+    for (size_t i = 0; i < sizeof rows / sizeof *rows; i++) {
+        bcp47_info got = info_of(rows[i].bytes, strlen(rows[i].bytes));
+        if (strcmp(got.file_date, rows[i].date) || got.entries != rows[i].entries) fprintf(stderr, "row %zu: %s %zu\n", i, got.file_date, got.entries);
+        CHECK(!strcmp(got.file_date, rows[i].date) && got.entries == rows[i].entries);
+    }
+    CHECK(has_digest(info_of(NULL, 0), "e3b0c44298fc1c149afbf4c8996fb92427ae41e4649b934ca495991b7852b855"));
+    bcp47_info sample = info_of(bytes, length);
+    CHECK(has_digest(sample, wanted[0]) && sample.entries == (size_t)atol(wanted[1]) && !strcmp(sample.file_date, wanted[2]));
+}
+
+static void upgrades(void) {
+    bcp47_registry *empty;
+    CHECK(is_ended(bcp47_upgrade_check(registry, registry), BCP47_DONE));
+    CHECK(!bcp47_open(&empty, "File-Date: 2000-01-01\n", 22, buffer, sizeof buffer).status);
+    bcp47_outcome o = bcp47_upgrade_check(registry, empty);
+    CHECK(o.status == BCP47_NO_UPGRADE && o.detail == 47 && o.place > 0);
+    CHECK(is_ended(bcp47_upgrade_check(empty, registry), BCP47_DONE));
+    bcp47_close(empty);
 }
 
 int main(int count, char **words) {
     size_t length;
-    if (count < 2) return 3;
-    uint8_t *bytes = read_all(words[1], &length);
+    if (count < 5) return 3;
+    char *bytes = read_all(words[1], &length);
+    static const union {
+        char zeros[1 << 16];
+        max_align_t aligned;
+    } zero = {{0}};
+    bcp47_outcome o = bcp47_open(&registry, bytes, length, NULL, 0);
+    CHECK(is_ended(o, BCP47_DONE) && registry);
     refused_registry("no registry\n", BCP47_BAD_FILE, 1, "jar BadLine line 1");
     refused_registry("%%\nType: language\nSubtag: en\n%%\nType: tongue\nSubtag: fr\n", BCP47_BAD_RECORD, 2, "record 2 UnknownType");
     refused_registry("File-Date: 2000-01-01\n%%\nType: language\nSubtag: en\n%%\nType: language\nSubtag: en\n", BCP47_REJECTED, 3,
                      "check C1 record 3");
-    bcp47_outcome o = bcp47_open(&registry, bytes, length, NULL, 0);
-    free(bytes);
-    CHECK(o.status == BCP47_DONE && bcp47_is_open(&registry));
+    parts();
     canonical();
+    classify(registry);
+    classify(NULL);
+    equal();
     others();
+    explanations();
+    longer();
     verify();
     many();
-    bcp47_handle other = {NULL};
-    CHECK(bcp47_share(&registry, &other) == BCP47_DONE && bcp47_is_open(&other));
-    CHECK(bcp47_upgrade_check(&registry, &other).status == BCP47_DONE);
-    bcp47_close(&registry);
-    CHECK(!bcp47_is_open(&registry));
-    registry = other;
+    not_open(NULL);
+    not_open((const bcp47_registry *)(const void *)&zero);
+    bad_calls();
+    names();
+    info(bytes, length, words + 2);
+    upgrades();
+    free(bytes);
     canonical();
-    bcp47_handle empty = {NULL};
-    CHECK(bcp47_open(&empty, (const uint8_t *)"File-Date: 2000-01-01\n", 22, buffer, sizeof buffer).status == BCP47_DONE);
-    o = bcp47_upgrade_check(&registry, &empty);
-    CHECK(o.status == BCP47_NO_UPGRADE && o.detail == 47);
-    bcp47_close(&empty);
-    bcp47_close(&registry);
+    bcp47_close(registry);
+    bcp47_close(NULL);
+    bcp47_close((bcp47_registry *)(uintptr_t)&zero);
     if (!failures) puts("calls: passed");
     return failures != 0;
 }

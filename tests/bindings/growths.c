@@ -26,8 +26,9 @@ void *__wrap_realloc(void *old, size_t size) {
 static const char *const tags[] = {"zh-yue", "en-us", "I-KLINGON", "sgn-dd", "en-t-iw-m0-names", "en-u-nu-latn-ca-buddhist-foo",
                                    "en_US", "xx", "de-1901-1901", "x-own-use", "en-a-bbb-x-own"};
 #define TAGS (sizeof tags / sizeof *tags)
-#define CALLS 7
-static uint8_t buffer[4096];
+#define CALLS 10
+static char buffer[4096];
+static bcp47_part parts[BCP47_PARTS];
 static char wanted[CALLS * TAGS][512];
 static const bcp47_step steps[2] = {{BCP47_REGION, 2, 27}, {BCP47_WHOLE, 1, 44}};
 
@@ -37,54 +38,58 @@ static int was_refused(long before) {
 }
 
 /* An answer is that of the run in which no growth was refused; or the growth of this call was refused. */
-static void kept(int is_first, size_t at, bcp47_outcome o, const uint8_t *text, long before) {
+static void kept(int is_first, size_t at, bcp47_outcome o, const char *text, long before) {
     char line[512];
     int n = line_of(o, text, line, sizeof line);
-    snprintf(line + n, sizeof line - (size_t)n, "%d", o.status);
+    snprintf(line + n, sizeof line - (size_t)n, "%d", 10 * o.text + o.status);
     if (is_first) strcpy(wanted[at], line);
     if (o.status == BCP47_OUT_OF_MEMORY) CHECK(was_refused(before));
     else CHECK(!strcmp(line, wanted[at]));
 }
 
-static void ask(bcp47_handle *handle, int is_first, size_t at, const uint8_t *text, size_t n) {
+static void ask(const bcp47_registry *registry, int is_first, size_t at, const char *text, size_t n) {
     long before = growths;
-    kept(is_first, at, bcp47_canonical(handle, text, n, buffer, sizeof buffer), buffer, before);
+    char *lines;
+    kept(is_first, at, bcp47_canonical(registry, text, n, buffer, sizeof buffer), buffer, before);
     before = growths;
-    kept(is_first, at + 1, bcp47_extlang(handle, text, n, buffer, sizeof buffer), buffer, before);
+    kept(is_first, at + 1, bcp47_extlang(registry, text, n, buffer, sizeof buffer), buffer, before);
     before = growths;
-    kept(is_first, at + 2, bcp47_classify(handle, text, n, buffer, sizeof buffer), buffer, before);
+    kept(is_first, at + 2, bcp47_classify(registry, text, n, buffer, sizeof buffer), buffer, before);
     before = growths;
-    kept(is_first, at + 3, bcp47_explain(handle, text, n, buffer, sizeof buffer), buffer, before);
+    kept(is_first, at + 3, bcp47_explain(registry, text, n, buffer, sizeof buffer), buffer, before);
     before = growths;
-    kept(is_first, at + 4, bcp47_equal(handle, text, n, (const uint8_t *)"yue", 3, buffer, sizeof buffer), buffer, before);
+    kept(is_first, at + 4, bcp47_equal(registry, text, n, "yue", 3, buffer, sizeof buffer), buffer, before);
     before = growths;
-    kept(is_first, at + 5, bcp47_validate(handle, text, n), buffer, before);
+    kept(is_first, at + 5, bcp47_validate(registry, text, n), buffer, before);
     before = growths;
-    kept(is_first, at + 6, bcp47_verify(handle, text, n, steps, 2, (const uint8_t *)"gsg", 3), buffer, before);
+    kept(is_first, at + 6, bcp47_verify(registry, text, n, steps, 2, "gsg", 3), buffer, before);
+    before = growths;
+    bcp47_outcome o = bcp47_explanation(registry, text, n, SIZE_MAX, &lines);
+    CHECK((o.status == BCP47_DONE) == (lines != NULL));
+    kept(is_first, at + 7, o, lines ? lines : "", before);
+    bcp47_free(lines);
+    before = growths;
+    kept(is_first, at + 8, bcp47_classify(NULL, text, n, buffer, sizeof buffer), buffer, before);
+    before = growths;
+    kept(is_first, at + 9, bcp47_parts(text, n, buffer, sizeof buffer, parts, BCP47_PARTS), buffer, before);
 }
 
 /* All calls, with the growth of this number refused; answers whether one was. */
-static int run(const uint8_t *bytes, size_t length, long number) {
-    bcp47_handle first = {NULL}, second = {NULL};
+static int run(const char *bytes, size_t length, long number) {
+    bcp47_registry *registry;
     growths = 0;
     refused_at = number;
-    bcp47_outcome o = bcp47_open(&first, bytes, length, buffer, sizeof buffer);
+    bcp47_outcome o = bcp47_open(&registry, bytes, length, buffer, sizeof buffer);
     if (o.status) {
         CHECK(o.status == BCP47_OUT_OF_MEMORY && was_refused(0));
-        CHECK(!bcp47_is_open(&first) && o.length == strlen("OutOfMemory") && !memcmp(buffer, "OutOfMemory", o.length));
+        CHECK(!registry && o.length == strlen("OutOfMemory") && !strcmp(buffer, "OutOfMemory"));
         return growths >= number;
     }
-    for (size_t i = 0; i < TAGS; i++) ask(&first, !number, CALLS * i, (const uint8_t *)tags[i], strlen(tags[i]));
+    for (size_t i = 0; i < TAGS; i++) ask(registry, !number, CALLS * i, tags[i], strlen(tags[i]));
     long before = growths;
-    uint8_t shared = bcp47_share(&first, &second);
-    CHECK(shared == (was_refused(before) ? BCP47_OUT_OF_MEMORY : BCP47_DONE) && bcp47_is_open(&second) == !shared);
-    if (!shared) {
-        before = growths;
-        o = bcp47_upgrade_check(&first, &second);
-        CHECK(o.status == BCP47_DONE || (o.status == BCP47_OUT_OF_MEMORY && was_refused(before)));
-        bcp47_close(&second);
-    }
-    bcp47_close(&first);
+    o = bcp47_upgrade_check(registry, registry);
+    CHECK(o.status == BCP47_DONE || (o.status == BCP47_OUT_OF_MEMORY && was_refused(before)));
+    bcp47_close(registry);
     return growths >= number;
 }
 
@@ -95,9 +100,9 @@ static void first_answers(void) {
         const char *line;
     } rows[] = {
         {0, "yue\n0"}, {3, "Extlang 2 23 yue\n= yue\n\n0"}, {4, "\n0"}, {5, "\n0"}, {6, "! None 1\n11"},
-        {CALLS + 4, "! UnknownRegion 2\n2"}, {3 * CALLS + 4, "\n6"}, {3 * CALLS + 5, "\n0"}, {3 * CALLS + 6, "\n0"},
-        {6 * CALLS + 5, "! BadByte 1\n1"}, {7 * CALLS + 5, "! UnknownLanguage 1\n2"}, {7 * CALLS + 6, "! UnknownLanguage 1\n2"},
-        {8 * CALLS + 5, "! DuplicateVariant 3\n2"},
+        {CALLS + 4, "! UnknownRegion 2\n12"}, {3 * CALLS + 4, "\n6"}, {3 * CALLS + 5, "\n0"}, {3 * CALLS + 6, "\n0"},
+        {6 * CALLS + 5, "! BadByte 1\n1"}, {7 * CALLS + 5, "! UnknownLanguage 1\n2"}, {7 * CALLS + 6, "! UnknownLanguage 1\n12"},
+        {8 * CALLS + 5, "! DuplicateVariant 3\n2"}, {9, "zh-yue\n0"}, {2 * CALLS + 9, "i-klingon\n0"}, {6 * CALLS + 9, "! BadByte 1\n1"},
     };
     for (size_t i = 0; i < sizeof rows / sizeof *rows; i++) {
         if (strcmp(wanted[rows[i].at], rows[i].line)) fprintf(stderr, "%zu: %s\n", rows[i].at, wanted[rows[i].at]);
@@ -108,24 +113,24 @@ static void first_answers(void) {
 int main(int count, char **words) {
     size_t length;
     if (count < 2) return 3;
-    uint8_t *bytes = read_all(words[1], &length);
+    char *bytes = read_all(words[1], &length);
     long far = count > 2 ? atol(words[2]) : 1, number = 1, runs = 0;
     run(bytes, length, 0);
     first_answers();
     for (; run(bytes, length, number); number += far) runs++;
     CHECK(number > 100);
-    bcp47_handle registry = {NULL};
+    bcp47_registry *registry;
     refused_at = 0;
     CHECK(!bcp47_open(&registry, bytes, length, buffer, sizeof buffer).status);
     growths = 0;
     for (int i = 0; i < 1000; i++) {
-        CHECK(!bcp47_canonical(&registry, (const uint8_t *)"zh-yue", 6, buffer, sizeof buffer).status);
-        CHECK(!bcp47_extlang(&registry, (const uint8_t *)"yue", 3, buffer, sizeof buffer).status);
-        CHECK(!bcp47_classify(&registry, (const uint8_t *)"EN-us", 5, buffer, sizeof buffer).status);
-        CHECK(!bcp47_validate(&registry, (const uint8_t *)"en-gb", 5).status);
+        CHECK(!bcp47_canonical(registry, "zh-yue", 6, buffer, sizeof buffer).status);
+        CHECK(!bcp47_extlang(registry, "yue", 3, buffer, sizeof buffer).status);
+        CHECK(!bcp47_classify(registry, "EN-us", 5, buffer, sizeof buffer).status);
+        CHECK(!bcp47_validate(registry, "en-gb", 5).status);
     }
     CHECK(growths == 0);
-    bcp47_close(&registry);
+    bcp47_close(registry);
     free(bytes);
     if (!failures) printf("growths: %ld refused in turn\n", runs);
     return failures != 0;

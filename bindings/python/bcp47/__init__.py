@@ -1,3 +1,4 @@
+# SPDX-License-Identifier: MIT OR Apache-2.0
 """BCP 47 language tags, read and made canonical by a registry of language subtags.
 
     >>> import bcp47
@@ -7,33 +8,43 @@
 """
 from __future__ import annotations
 
-import ctypes
+import datetime
+import functools
 import os
-import threading
-from typing import Iterable, List, NamedTuple, Optional, Tuple, Union
+from typing import Any, Dict, Iterable, List, NamedTuple, NoReturn, Optional, Tuple, Type, TypeVar, Union, overload
 
-from . import _library
-from ._library import BUFFER_TOO_SMALL, DIFFERENT, DONE, NO_SUCH_STEP, OUT_OF_MEMORY, REPLACEMENT_REPEATS, WRONG_END
+from . import _bcp47
 
-__all__ = ["Explanation", "RefusedRegistry", "RefusedTag", "RefusedTrace", "RefusedUpgrade", "Registry", "Step", "Tag"]
+__all__ = ["Explanation", "Info", "Part", "Refused", "RefusedRegistry", "RefusedTag", "RefusedTrace", "RefusedUpgrade", "Registry",
+           "Step", "Tag", "__version__"]
 
-_calls = _library.load()
+__version__: str = _bcp47.version
+
 _CLASSES = {1: "langtag", 2: "privateuse", 3: "grandfathered"}
+_REPEATS = 3
+_OF_EXTENSIONS = ("ExtensionSubtag", "Attribute", "Key", "Type", "SourceLanguage", "SourceExtlang", "SourceScript", "SourceRegion",
+                  "SourceVariant", "Separator", "Value")
+Missing = TypeVar("Missing")
 
 
 class Refused(ValueError):
-    """What is refused: `status` and `fault` are names, `place` a number, and `str` gives them as one line."""
+    """What is refused: `status` and `fault` are names, `place` a number, `help` says what to do, and `str` is one line."""
 
-    def __init__(self, line: str, status: str, fault: str, place: int) -> None:
-        super().__init__(line)
+    def __init__(self, line: str, status: str, fault: str, place: int, help: str = "") -> None:
+        super().__init__(line, status, fault, place, help)
         self.status = status
         self.fault = fault
         self.place = place
+        self.help = help
+
+    def __str__(self) -> str:
+        return str(self.args[0])
 
 
 class RefusedTag(Refused):
-    """A text is no tag, a tag is not valid, or its replacements can repeat a variant, which `variant` names."""
+    """A text is no tag, a tag is not valid, or its replacements can repeat a variant, which `variant` names. `tag` is the text."""
 
+    tag: Optional[str] = None
     variant: Optional[str] = None
 
 
@@ -47,6 +58,9 @@ class RefusedUpgrade(Refused):
 
 class RefusedTrace(Refused):
     """Steps do not lead from a tag to another: NoSuchStep, with the number of a step as the place, or WrongEnd."""
+
+
+_KINDS_OF_REFUSAL = {it.__name__: it for it in (RefusedTag, RefusedRegistry, RefusedUpgrade, RefusedTrace)}
 
 
 class Step(NamedTuple):
@@ -65,168 +79,240 @@ class Explanation(NamedTuple):
     canonical: str
 
 
-def _name(call, number: int) -> str:
-    buffer = ctypes.create_string_buffer(80)
-    outcome = call(number, buffer, 80)
-    return buffer.raw[: outcome.length].decode("ascii")
+class Part(NamedTuple):
+    """A part of a tag: its kind, as "Script", and its text, as "Hant". docs/LIBRARY.md has the kinds."""
+
+    kind: str
+    text: str
+
+
+class Info(NamedTuple):
+    """Which registry it is: its File-Date, if it has one, the number of its entries, and the SHA-256 of its bytes."""
+
+    file_date: Optional[datetime.date]
+    entries: int
+    sha256: str
+
+
+def _refusal(name: str, status: int, fault: int, place: int, text: Optional[str], tag: object) -> Refused:
+    """The exception for what the library answered."""
+    status_name = _bcp47.names(status)[0]
+    if status == _REPEATS:
+        refused: Refused = RefusedTag(f"{status_name} {text}", status_name, status_name, 0)
+        refused.variant = text  # type: ignore[attr-defined]
+    elif fault:
+        _, fault_name, _, help = _bcp47.names(fault)
+        refused = _KINDS_OF_REFUSAL[name](text or f"{fault_name} {place}", status_name, fault_name, place, help)
+    else:
+        refused = _KINDS_OF_REFUSAL[name](f"{status_name} {place}" if place else status_name, status_name, status_name, place)
+    if isinstance(refused, RefusedTag):
+        refused.tag = str(tag)
+    return refused
 
 
 # The number of each kind of step.
-_KINDS = {_name(_calls.bcp47_kind_name, number): number for number in range(1, 15)}
+_KINDS = {_bcp47.names(number)[2]: number for number in range(1, 15)}
 
 
-def _refusal(kind, outcome: _library.Outcome, text: bytes = b"") -> Exception:
-    if outcome.status == OUT_OF_MEMORY:
-        return MemoryError("no memory was left")
-    status = _name(_calls.bcp47_status_name, outcome.status)
-    if outcome.status == REPLACEMENT_REPEATS:
-        variant = text.decode("ascii")
-        refused = kind(f"{status} {variant}", status, status, 0)
-        refused.variant = variant
-        return refused
-    fault = _name(_calls.bcp47_fault_name, outcome.detail)
-    line = text.decode("ascii") if text else f"{fault} {outcome.place}"
-    return kind(line, status, fault, outcome.place)
-
-
-def _bytes(text: Union[str, "Tag"]) -> bytes:
-    if isinstance(text, Tag):
-        text = text._text
-    if not isinstance(text, str):
-        raise TypeError(f"a tag is a str, not {type(text).__name__}")
-    return text.encode("utf-8")
-
-
-def _numbers(step: Step) -> _library.Step:
+def _numbers(step: Step) -> Tuple[int, int, int]:
     """A step in numbers. One that has none, as no kind has its name, gets zeros, which lead nowhere."""
     kind = _KINDS.get(step.kind, 0)
     if not all(isinstance(number, int) and 0 <= number < 2**32 for number in (step.place, step.number)):
-        return _library.Step(0, 0, 0)
-    return _library.Step(kind, step.place, step.number)
+        return 0, 0, 0
+    return kind, step.place, step.number
 
 
-class Registry:
-    """A registry that passes the check. Threads may share it: a call waits for the end of another."""
+@functools.total_ordering
+class Tag:
+    """A tag in conventional case, by no registry. It does not change. Two are equal exactly if their texts are, and in the
+    order of these: `Registry.equivalent` compares meanings. Raises RefusedTag."""
 
-    def __init__(self) -> None:
-        raise TypeError("use Registry.from_file or Registry.from_bytes")
+    __slots__ = ("kind", "_text")
+    kind: str
+    _text: str
+
+    def __init__(self, text: Union[str, Tag]) -> None:
+        number, shown = _bcp47.classify(text)
+        object.__setattr__(self, "kind", _CLASSES[number])
+        object.__setattr__(self, "_text", shown)
+
+    def __setattr__(self, name: str, value: object) -> NoReturn:
+        raise AttributeError("a Tag does not change")
+
+    def __delattr__(self, name: str) -> NoReturn:
+        raise AttributeError("a Tag does not change")
+
+    def __reduce__(self) -> Tuple[Type[Tag], Tuple[str]]:
+        return Tag, (self._text,)
+
+    @property
+    def parts(self) -> Tuple[Part, ...]:
+        """The parts, one for each subtag, in their order: joined by hyphens they are the text. A grandfathered tag is one part."""
+        return tuple(Part(kind, text) for kind, text in _bcp47.parts(self._text))
+
+    def _all(self, kind: str) -> Tuple[str, ...]:
+        return tuple(part.text for part in self.parts if part.kind == kind)
+
+    def _one(self, kind: str) -> Optional[str]:
+        return next(iter(self._all(kind)), None)
+
+    def _groups(self, begins: str, goes_on: Tuple[str, ...]) -> Dict[str, Tuple[str, ...]]:
+        """The texts that follow each part of a kind. Of two that are alike the first counts."""
+        groups: Dict[str, Tuple[str, ...]] = {}
+        name: Optional[str] = None
+        for kind, text in self.parts:
+            if kind == begins:
+                name = None if text in groups else text
+                groups.setdefault(text, ())
+            elif kind not in goes_on:
+                name = None
+            elif name is not None:
+                groups[name] += (text,)
+        return groups
+
+    @property
+    def language(self) -> Optional[str]:
+        """The primary language (RFC 5646, 2.2.1); None for private use alone and for a grandfathered tag."""
+        return self._one("Language")
+
+    @property
+    def extlangs(self) -> Tuple[str, ...]:
+        """The extended languages (RFC 5646, 2.2.2)."""
+        return self._all("Extlang")
+
+    @property
+    def script(self) -> Optional[str]:
+        """The script (RFC 5646, 2.2.3)."""
+        return self._one("Script")
+
+    @property
+    def region(self) -> Optional[str]:
+        """The region (RFC 5646, 2.2.4)."""
+        return self._one("Region")
+
+    @property
+    def variants(self) -> Tuple[str, ...]:
+        """The variants (RFC 5646, 2.2.5)."""
+        return self._all("Variant")
+
+    @property
+    def extensions(self) -> Dict[str, Tuple[str, ...]]:
+        """The subtags of each extension, by its singleton (RFC 5646, 2.2.6)."""
+        return self._groups("Singleton", _OF_EXTENSIONS)
+
+    @property
+    def attributes(self) -> Tuple[str, ...]:
+        """The attributes of the `u` extension (RFC 6067, 2.1)."""
+        return self._all("Attribute")
+
+    @property
+    def keywords(self) -> Dict[str, Tuple[str, ...]]:
+        """The types of each key of the `u` extension (RFC 6067, 2.1). Of a key that occurs twice the first counts."""
+        return self._groups("Key", ("Type",))
+
+    @property
+    def private(self) -> Tuple[str, ...]:
+        """The subtags of private use (RFC 5646, 2.2.7)."""
+        return self._all("PrivateUse")
+
+    def __str__(self) -> str:
+        return self._text
+
+    def __repr__(self) -> str:
+        return f"Tag({self._text!r})"
+
+    def __eq__(self, other: object) -> bool:
+        return isinstance(other, Tag) and self._text == other._text
+
+    def __lt__(self, other: Tag) -> bool:
+        if not isinstance(other, Tag):
+            return NotImplemented
+        return self._text < other._text
+
+    def __hash__(self) -> int:
+        return hash(self._text)
+
+
+def _listed(tags: Iterable[object]) -> Iterable[object]:
+    if isinstance(tags, (str, bytes, Tag)):
+        raise TypeError("many tags are a list or a column, and not one text")
+    return tags
+
+
+class Registry(_bcp47.Registry):
+    """A registry that passes the check. Any number of threads may ask it at once. Raises RefusedTag where a tag is refused."""
+
+    __slots__ = ()
 
     @classmethod
-    def from_bytes(cls, content: bytes) -> "Registry":
+    def from_bytes(cls, content: Union[bytes, bytearray, memoryview]) -> Registry:
         """The registry whose text the bytes are. Raises RefusedRegistry where they are none."""
         if not isinstance(content, (bytes, bytearray, memoryview)):
             raise TypeError(f"a registry is read from bytes, not from {type(content).__name__}")
-        content = bytes(content)
-        self = object.__new__(cls)
-        self._handle, self._open = _library.Handle(), False
-        self._lock = threading.RLock()
-        self._room = 2048
-        self._buffer = ctypes.create_string_buffer(self._room)
-        outcome = _calls.bcp47_open(self._handle, content, len(content), self._buffer, self._room)
-        if outcome.status != DONE:
-            raise _refusal(RefusedRegistry, outcome, self._buffer.raw[: outcome.length])
-        self._open = True
-        return self
+        return _bcp47.open(cls, bytes(content))
 
     @classmethod
-    def from_file(cls, path: Union[str, "os.PathLike[str]"]) -> "Registry":
-        """The registry of a file. Raises OSError where it can't be read."""
+    def from_file(cls, path: Union[str, os.PathLike[str]]) -> Registry:
+        """The registry of a file. Raises OSError where it can't be read, and RefusedRegistry."""
         with open(path, "rb") as file:
             return cls.from_bytes(file.read())
 
-    def close(self) -> None:
-        """Frees the registry; no call but this one may follow."""
-        if getattr(self, "_open", False):
-            with self._lock:
-                if self._open:
-                    self._open = False
-                    _calls.bcp47_close(self._handle)
-
-    __del__ = close
-
-    def __enter__(self) -> "Registry":
-        self._check()
+    def __enter__(self) -> Registry:
+        if self.closed:
+            raise ValueError("the registry is closed")
         return self
 
     def __exit__(self, *_: object) -> None:
         self.close()
 
-    def _check(self) -> None:
-        if not self._open:
-            raise ValueError("the registry is closed")
+    def __reduce_ex__(self, protocol: object) -> NoReturn:
+        raise TypeError("a registry is not copied or pickled: open it in each process by Registry.from_file")
 
-    def _ask(self, call, *texts: bytes) -> Tuple[_library.Outcome, bytes]:
-        words = [word for text in texts for word in (text, len(text))]
-        with self._lock:
-            self._check()
-            buffer = self._buffer
-            outcome = call(self._handle, *words, buffer, self._room)
-            if outcome.status == BUFFER_TOO_SMALL:
-                buffer = ctypes.create_string_buffer(outcome.length)
-                outcome = call(self._handle, *words, buffer, outcome.length)
-            return outcome, ctypes.string_at(buffer, outcome.length)
+    def __repr__(self) -> str:
+        if self.closed:
+            return "<bcp47.Registry, closed>"
+        return f"<bcp47.Registry of {self.info.file_date}, {self.info.entries} entries>"
 
-    def _text(self, call, tag: Union[str, "Tag"]) -> str:
-        outcome, text = self._ask(call, _bytes(tag))
-        if outcome.status != DONE:
-            raise _refusal(RefusedTag, outcome, text)
-        return text.decode("ascii")
+    @property
+    def info(self) -> Info:
+        """Which registry answers."""
+        date, entries, digest = self._facts()
+        return Info(datetime.date.fromisoformat(date) if date else None, entries, digest.hex())
 
-    def canonical(self, tag: Union[str, "Tag"]) -> str:
-        """The canonical text of a tag. Raises RefusedTag."""
-        return self._text(_calls.bcp47_canonical, tag)
+    @overload
+    def canonical_many(self, tags: Iterable[Union[str, Tag, None, float]]) -> List[Union[str, RefusedTag, None]]: ...
+    @overload
+    def canonical_many(self, tags: Iterable[Union[str, Tag, None, float]],
+                       missing: Missing) -> List[Union[str, RefusedTag, Missing]]: ...
 
-    def extlang(self, tag: Union[str, "Tag"]) -> str:
-        """The canonical text of a tag with its extlang prefix. Raises RefusedTag."""
-        return self._text(_calls.bcp47_extlang, tag)
-
-    def canonical_many(self, tags: Iterable[Union[str, "Tag"]]) -> List[Union[str, RefusedTag]]:
-        """The canonical text of each tag, or in its place why there is none, by one call of the library."""
-        texts = [_bytes(tag) for tag in tags]
-        ends, end = (ctypes.c_size_t * len(texts))(), 0
-        for index, text in enumerate(texts):
-            end += len(text)
-            ends[index] = end
-        outcomes = (_library.Outcome * len(texts))()
-        joined, room = b"".join(texts), 2 * end + 16 * len(texts) + 2048
-        while True:
-            buffer = ctypes.create_string_buffer(room)
-            with self._lock:
-                self._check()
-                done = _calls.bcp47_canonical_many(self._handle, joined, ends, len(texts), outcomes, buffer, room)
-            if done == len(texts):
-                break
-            room *= 2
-        written, answers, place = buffer.raw, [], 0
-        for outcome in outcomes:
-            text = written[place : place + outcome.length]
-            place += outcome.length
-            answers.append(text.decode("ascii") if outcome.status == DONE else _refusal(RefusedTag, outcome, text))
+    def canonical_many(self, tags: Iterable[Any], missing: Any = None) -> List[Any]:
+        """The canonical text of each tag, or in its place why there is none. Where a value is missing, which is None, NaN, or
+        NA of pandas, the list has `missing`."""
+        answers: List[Any] = self._answer_many(_listed(tags), missing, False)
         return answers
 
-    def validate(self, tag: Union[str, "Tag"]) -> None:
-        """Returns where a tag is valid. Raises RefusedTag where it is not."""
-        text = _bytes(tag)
-        with self._lock:
-            self._check()
-            outcome = _calls.bcp47_validate(self._handle, text, len(text))
-        if outcome.status != DONE:
-            raise _refusal(RefusedTag, outcome)
+    def canonical_columns(self, tags: Iterable[Union[str, Tag, None, float]],
+                          missing: Optional[str] = None) -> Tuple[List[Optional[str]], List[Optional[str]]]:
+        """Two lists for a table: the canonical texts, with `missing` where there is none, and why there is none, as
+        "BadByte 1", with None where there is no fault."""
+        columns: Tuple[List[Optional[str]], List[Optional[str]]] = self._answer_many(_listed(tags), missing, True)
+        return columns
 
-    def equivalent(self, first: Union[str, "Tag"], second: Union[str, "Tag"]) -> bool:
-        """Whether two tags are one language. Raises RefusedTag for the first tag, or else for the second."""
-        outcome, text = self._ask(_calls.bcp47_equal, _bytes(first), _bytes(second))
-        if outcome.status in (DONE, DIFFERENT):
-            return outcome.status == DONE
-        raise _refusal(RefusedTag, outcome, text)
+    def is_valid(self, tag: Union[str, Tag]) -> bool:
+        """Whether a text is a tag that is valid (RFC 5646, 2.2.9)."""
+        try:
+            self.validate(tag)
+        except RefusedTag:
+            return False
+        return True
 
-    def explain(self, tag: Union[str, "Tag"]) -> Explanation:
-        """The steps from a tag to its canonical form. Raises RefusedTag."""
-        *lines, last = self._text(_calls.bcp47_explain, tag).splitlines()
+    def explain(self, tag: Union[str, Tag], most: int = 1_000_000) -> Explanation:
+        """The steps from a tag to its canonical form. Raises RefusedTag, also where there are more than `most`."""
+        *lines, last = self._explain_lines(tag, most).splitlines()
         steps = (line.split(" ") for line in lines)
         return Explanation(tuple(Step(kind, int(place), int(number), after) for kind, place, number, after in steps), last[2:])
 
-    def verify(self, tag: Union[str, "Tag"], steps: Iterable[Step], last: Union[str, "Tag", None] = None) -> None:
+    def verify(self, tag: Union[str, Tag], steps: Iterable[Step], last: Union[str, Tag, None] = None) -> None:
         """Returns where steps lead from a valid tag, one after another, to the last: that of the last step, if none is given.
 
         The steps are judged by their kinds, places and numbers. Raises RefusedTrace where they don't lead there, and
@@ -236,64 +322,14 @@ class Registry:
         for step in steps:
             if not isinstance(step, Step):
                 raise TypeError(f"a step is a Step, not {type(step).__name__}")
-        text = _bytes(tag)
-        end = _bytes(last) if last is not None else _bytes(steps[-1].tag) if steps else text
-        told = (_library.Step * len(steps))(*map(_numbers, steps))
-        with self._lock:
-            self._check()
-            outcome = _calls.bcp47_verify(self._handle, text, len(text), told, len(steps), end, len(end))
-        if outcome.status in (NO_SUCH_STEP, WRONG_END):
-            status = _name(_calls.bcp47_status_name, outcome.status)
-            raise RefusedTrace(f"{status} {outcome.place}" if outcome.place else status, status, status, outcome.place)
-        if outcome.status != DONE:
-            raise _refusal(RefusedTag, outcome)
+        end = last if last is not None else steps[-1].tag if steps else tag
+        self._verify_steps(tag, tuple(map(_numbers, steps)), end)
 
-    def upgrade_check(self, newer: "Registry") -> None:
+    def upgrade_check(self, newer: Registry) -> None:
         """Returns where a newer registry keeps what this one promised. Raises RefusedUpgrade where it does not."""
         if not isinstance(newer, Registry):
             raise TypeError(f"a registry is a Registry, not {type(newer).__name__}")
-        first, second = sorted((self, newer), key=id)
-        with first._lock, second._lock:
-            self._check()
-            newer._check()
-            if newer is self:
-                return
-            outcome = _calls.bcp47_upgrade_check(self._handle, newer._handle)
-        if outcome.status != DONE:
-            raise _refusal(RefusedUpgrade, outcome)
+        self._upgrade_to(newer)
 
 
-class Tag:
-    """A tag. Two are equal exactly if their texts in conventional case are: `Registry.equivalent` compares meanings."""
-
-    __slots__ = ("_text", "kind")
-
-    def __init__(self, text: str) -> None:
-        outcome, shown = _reader()._ask(_calls.bcp47_classify, _bytes(text))
-        if outcome.status != DONE:
-            raise _refusal(RefusedTag, outcome, shown)
-        self._text = shown.decode("ascii")
-        self.kind = _CLASSES[outcome.detail]
-
-    def __str__(self) -> str:
-        return self._text
-
-    def __repr__(self) -> str:
-        return f"Tag({self._text!r})"
-
-    def __eq__(self, other: object) -> bool:
-        return self._text == other._text if isinstance(other, Tag) else NotImplemented
-
-    def __hash__(self) -> int:
-        return hash(self._text)
-
-
-_empty: Optional[Registry] = None
-
-
-def _reader() -> Registry:
-    """A registry without entries: reading a tag takes none."""
-    global _empty
-    if _empty is None:
-        _empty = Registry.from_bytes(b"File-Date: 2000-01-01\n")
-    return _empty
+_bcp47.setup(_refusal, Tag)

@@ -100,10 +100,12 @@ class Calls(unittest.TestCase):
         self.assertEqual(str(raised.exception), "TooLong 0")
 
     def test_wrong_words(self):
-        for wrong in (None, 1, b"en", ["en"]):
+        for wrong in (1, b"en", ["en"]):
             self.assertRaises(TypeError, self.registry.canonical, wrong)
             self.assertRaises(TypeError, self.registry.canonical_many, [wrong])
             self.assertRaises(TypeError, bcp47.Tag, wrong)
+        self.assertRaises(TypeError, self.registry.canonical, None)
+        self.assertRaises(TypeError, bcp47.Tag, None)
         self.assertRaises(UnicodeEncodeError, self.registry.canonical, "en-\udc80")
         self.assertRaises(bcp47.RefusedTag, self.registry.canonical, "é")
         self.assertRaises(bcp47.RefusedTag, self.registry.canonical, "en\0")

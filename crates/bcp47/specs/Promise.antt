@@ -14,6 +14,7 @@ use Rattle.lt_registry.specs.declared.faults.RegistryFault.TheVariants as faults
 use Rattle.lt_check.specs.Conditions.{IsChecked, IsFinding}
 use Rattle.lt_canon.specs.Laws.{CanonicalOrRepeats, CanonicalTwiceIsOnce, CanonicalTextTwiceIsOnce}
 use Rattle.lt_canon.specs.Laws.{EquivalenceIsEqualText}
+use Rattle.lt_canon.specs.Corollaries.{RepeatsHaveNoForm}
 use Rattle.lt_canon.specs.RepeatLaws.{RepeatsAreNamed}
 use Rattle.bcp47.specs.declared.errors.RegistryError.{RegistryError}
 use Rattle.bcp47.specs.declared.errors.RegistryError.TheVariants as errors
@@ -25,8 +26,9 @@ pub record Promise (R : List EntryParts) : Type 0 where
   -- each record meets each of the twelve conditions
   pub checked : IsChecked R
   -- A valid tag reaches a canonical tag, from which no step leads, and steps can repeat no variant of it; or they can
-  -- repeat one, and the tag is equivalent to no canonical tag.
+  -- repeat one, and then the tag is equivalent to no canonical tag.
   pub canonical : CanonicalOrRepeats R
+  pub formless : RepeatsHaveNoForm R
   -- where steps can repeat a variant, the refusal names one, and no other
   pub named : RepeatsAreNamed R
   -- a canonical form is its own canonical form, and so is a canonical text of at most 1,024 bytes

@@ -14,6 +14,7 @@ pub use errors::RegistryError;
 pub use lt_canon::{Refusal, TextRefusal, Trace, TraceFault};
 pub use lt_check::{Condition, Finding};
 pub use lt_jar::{Device, JarFault, JarFaultKind};
+pub use lt_parts::{Part, PartKind, parts};
 pub use lt_registry::{
     Entry, EntryName, EntryValue, Kind, Prefix, RecordFault, RecordFaultKind, ValidFault,
     ValidFaultKind, ValidRefusal,
@@ -21,8 +22,8 @@ pub use lt_registry::{
 pub use lt_rewrite::{Step, StepKind};
 pub use lt_subtag::{Case, Subtag, SubtagFault};
 pub use lt_tag::{
-    Class, Core, Extension, OutOfMemory, Tag, TagFault, TagFaultKind, append_tag, read_tag,
-    write_tag,
+    Class, Core, Extension, Field, Keyword, OutOfMemory, TParts, Tag, TagFault, TagFaultKind,
+    TransformFault, UParts, append_tag, join_t, join_u, read_tag, split_t, split_u, write_tag,
 };
 pub use lt_upgrade::{UpgradeCondition, UpgradeFault};
 pub use registries::Registry;

@@ -1,5 +1,7 @@
 //! A registry that passes the check, and what it says of tags.
 ghost use Rattle.std.specs.Prelude.{◌≡◌, Ok, OnOk, OnErr, IfOk, IfErr, Err, Some};
+ghost use Rattle.std.specs.Option.{option_copied};
+ghost use Rattle.lt_registry.specs.Entries as listed;
 ghost use Rattle.lt_registry.specs.Faults as validity;
 ghost use Rattle.lt_rewrite.specs.TagSteps.{AreEquivalent};
 ghost use Rattle.lt_check.specs.Conditions.{IsChecked};
@@ -9,7 +11,7 @@ ghost use Rattle.lt_canon.specs.Equivalence.{IsEquivalenceAnswer, IsFirstRefusal
 ghost use Rattle.lt_canon.specs.Explaining.{IsExplanation};
 ghost use Rattle.lt_canon.specs.ExplanationTexts.{IsExplanationTextOf};
 ghost use Rattle.lt_canon.specs.ExtlangForm.{IsExtlangFormOf};
-ghost use Rattle.lt_canon.specs.Texts.{AppendsCanonicalText, IsCanonicalTextOf, IsTextRefusal};
+ghost use Rattle.lt_canon.specs.Texts.{AppendsCanonicalText, IsCanonicalTextOf, IsTextRefusal, RefusesTextOnlyRepeats};
 ghost use Rattle.lt_canon.specs.Traces.{IsTraceFault, IsValidTrace};
 ghost use Rattle.lt_upgrade.specs.Laws.{UpgradeKeepsTags};
 ghost use Rattle.lt_upgrade.specs.Upgrade.{Upgrades};
@@ -23,7 +25,8 @@ use lt_canon::laws::confluence;
 use lt_canon::{Refusal, TextRefusal, Trace, TraceFault};
 use lt_check::{Checked, RejectedCause};
 use lt_jar::Device;
-use lt_registry::{Entry, Lookup, Registry as Entries, SortedTable, ValidRefusal};
+use lt_registry::{Entry, Kind, Lookup, Registry as Entries, SortedTable, ValidRefusal};
+use lt_subtag::Subtag;
 use lt_tag::Tag;
 use lt_upgrade::UpgradeFault;
 use std::alloc::Global;
@@ -33,9 +36,16 @@ use std::marker::Model;
 
 /// A registry of language subtags in the format of IANA's (RFC 5646, 3.1), which passes the check: each record
 /// meets each [`Condition`](crate::Condition). No call changes it. A contract sees the list of its entries.
-#[derive(Drop)]
 pub struct Registry {
     checked: Checked<SortedTable>,
+}
+
+// By hand: a caller that lets a registry go then owes this one call, and not a drop for each of its vectors.
+impl Drop for Registry {
+    fn drop(self) {
+        let Registry { checked } = self;
+        drop(checked);
+    }
 }
 
 impl Model for Registry {
@@ -128,6 +138,22 @@ impl Registry {
         self.checked.table().entries()
     }
 
+    /// The entry of a subtag under a kind (RFC 5646, 3.1.4): the first record of the kind that names this subtag
+    /// and no other; or, without such a record, the first whose range holds it, as `qaa..qtz` holds `qab`. There
+    /// is none where the subtag is not registered; no subtag has one as a grandfathered or redundant tag.
+    pub fn entry(&self, kind: Kind, subtag: &Subtag) -> Option<&Entry>
+        ensures { option_copied result ≡ listed.entry self.now kind subtag.now }
+    {
+        self.checked.table().entry(kind, subtag)
+    }
+
+    /// The entry of a whole tag (RFC 5646, 2.2.8): the first grandfathered or redundant record of that tag.
+    pub fn whole(&self, tag: &Tag) -> Option<&Entry>
+        ensures { option_copied result ≡ listed.whole self.now tag.now }
+    {
+        self.checked.table().whole(tag)
+    }
+
     /// Whether a tag is valid (RFC 5646, 2.2.9): nothing, or the fault of the least place and, there, of the
     /// first kind in the order of [`ValidFaultKind`](crate::ValidFaultKind). By a registry without the script
     /// `Latn`, `he-Latn` gives `UnknownScript` at place 2.
@@ -163,6 +189,7 @@ impl Registry {
     /// - `OutOfMemory` where memory runs out.
     pub fn canonical_text(&self, alloc: Global, text: &[u8]) -> Result<Vec<u8>, TextRefusal>
         ensures written { IfOk result (λ canonical. IsCanonicalTextOf self.now text.now canonical.items) }
+        ensures repeats { IfErr result (λ refusal. RefusesTextOnlyRepeats self.now text.now refusal) }
         ensures refusal { IfErr result (λ refusal. IsTextRefusal self.now text.now refusal) }
     {
         lt_canon::canonical_text(alloc, &self.checked, text)

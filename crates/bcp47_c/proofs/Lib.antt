@@ -2,3 +2,4 @@ pub mod AsBox
 pub mod Refusals
 pub mod Fronts
 pub mod KindNumbers
+pub mod PartKindNumbers

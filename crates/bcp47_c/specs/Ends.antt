@@ -6,6 +6,7 @@ use Rattle.lt_tag.specs.Faults.{HasTag}
 use Rattle.lt_tag.specs.Parts.{TagForm}
 use Rattle.lt_tag.specs.WellFormed.{spell}
 use Rattle.lt_registry.specs.Parts.{EntryParts}
+use Rattle.lt_canon.specs.Texts.{IsTextRefusal}
 use Rattle.lt_upgrade.specs.Laws.{UpgradeKeepsTags}
 use Rattle.lt_upgrade.specs.Upgrade.{Upgrades}
 use Rattle.lt_upgrade.specs.UpgradeChecking.{IsUpgradeFault}
@@ -18,7 +19,7 @@ use Rattle.bcp47.specs.declared.errors.RegistryError.TheVariants as errors
 use Rattle.bcp47_c.specs.Handles.{Held}
 use Rattle.bcp47_c.specs.Numbers.{class, condition, file_fault, record_fault, upgrade_condition}
 use Rattle.bcp47_c.specs.Outcomes.{ended, outcome, IsDelivered, IsRefusedAsOwed}
-use Rattle.bcp47_c.specs.Texts.{IsEqualityOf, IsPairRefusal, IsReadingRefusal, IsValidityRefusal, IsValidText}
+use Rattle.bcp47_c.specs.Texts.{IsEqualityOf, IsPairRefusal, IsReadingRefusal, IsStepCount, IsValidityRefusal, IsValidText}
 use Rattle.bcp47_c.specs.declared.outcomes.Outcome.{Outcome}
 use Rattle.bcp47_c.specs.declared.outcomes.Said.{Said}
 
@@ -80,6 +81,17 @@ Classifies text before after o =
 abbrev pub Validates : List EntryParts → List ℕ → Outcome → Type 0
 Validates R text o =
     (IsValidText R text × (o ≡ outcome (ended 0) 0)) ⊎ IsRefusedAsOwed (IsValidityRefusal R text) [] [] o
+
+-- the number of steps is told
+pub record IsCounted (R : List EntryParts) (text before after : List ℕ) (o : Outcome) : Type 0 where
+  pub count : ℕ
+  pub is_count : IsStepCount R text count
+  pub delivered : IsDelivered (record { status = 0; detail = 0; place = count }) [] before after o
+
+-- or the text or its tag is refused
+abbrev pub CountsSteps : List EntryParts → List ℕ → List ℕ → List ℕ → Outcome → Type 0
+CountsSteps R text before after o =
+    IsCounted R text before after o ⊎ IsRefusedAsOwed (IsTextRefusal R text) before after o
 
 -- the status says whether the tags are equivalent
 pub record IsCompared (R : List EntryParts) (first second before after : List ℕ) (o : Outcome) : Type 0 where

@@ -3,6 +3,7 @@ pub mod Numbers
 pub mod Names
 pub mod Outcomes
 pub mod Texts
+pub mod Parts
 pub mod Steps
 pub mod Traces
 pub mod Ends

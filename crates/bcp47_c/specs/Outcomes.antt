@@ -12,7 +12,15 @@ ended status = record { status = status; detail = 0; place = 0 }
 
 -- what is said, and the length of the text
 abbrev pub outcome : Said → ℕ → Outcome
-outcome said length = record { status = said.status; detail = said.detail; place = said.place; length = length }
+outcome said length =
+    record {
+      status = said.status;
+      detail = said.detail;
+      place = said.place;
+      length = length;
+      text = 0;
+      reserved = 0;
+    }
 
 -- a text is at the front of a buffer, and what was after it is there still
 pub record StandsIn (text before after : List ℕ) : Type 0 where

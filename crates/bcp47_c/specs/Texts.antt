@@ -1,12 +1,14 @@
 -- What calls owe for texts that are read as tags.
-use Rattle.std.specs.Prelude.{ℕ, ◌≡◌, ◌⊎◌, Bool, List}
+use Rattle.std.specs.Prelude.{ℕ, ◌≡◌, ◌⊎◌, Bool, List, length}
 use Rattle.lt_tag.specs.Conventional.{conventional}
 use Rattle.lt_tag.specs.Faults.{HasFault, HasTag}
 use Rattle.lt_tag.specs.Parts.{TagForm}
 use Rattle.lt_tag.specs.WellFormed.{spell}
 use Rattle.lt_registry.specs.Faults.{HasNoFault, IsFirstFault}
 use Rattle.lt_registry.specs.Parts.{EntryParts}
+use Rattle.lt_rewrite.specs.declared.steps.Step.{Step}
 use Rattle.lt_canon.specs.Equivalence.{IsEquivalenceAnswer, IsFirstRefusal}
+use Rattle.lt_canon.specs.Explaining.{IsExplanation}
 use Rattle.lt_canon.specs.ExtlangForm.{IsExtlangFormOf}
 use Rattle.lt_canon.specs.Texts.{ReadsAs}
 use Rattle.lt_canon.specs.declared.refusals.Refusal.TheVariants as tag_refusals
@@ -38,6 +40,15 @@ pub record IsExtlangTextOf (R : List EntryParts) (text extlang : List ℕ) : Typ
   pub form : TagForm
   pub is_form : IsExtlangFormOf R tag form
   pub written : extlang ≡ conventional (spell form)
+
+-- the text is read as a tag, and its explanation has so many steps (RFC 5646, 4.5)
+pub record IsStepCount (R : List EntryParts) (text : List ℕ) (count : ℕ) : Type 0 where
+  pub tag : TagForm
+  pub read : HasTag text tag
+  pub steps : List Step
+  pub end : TagForm
+  pub is_explanation : IsExplanation R tag steps end
+  pub counted : count ≡ length steps
 
 -- the texts are read as tags, and this is whether they are equivalent
 pub record IsEqualityOf (R : List EntryParts) (first second : List ℕ) (answer : Bool) : Type 0 where

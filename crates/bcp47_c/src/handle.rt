@@ -11,7 +11,7 @@ use std::mem::replace;
 use std::ptr::null_mut;
 
 /// What C holds: a registry, or nothing, as bytes do that are all zero. A contract sees its entries.
-/// `bcp47_open` and `bcp47_share` open it, `bcp47_close` closes it.
+/// `bcp47_handle_open` and `bcp47_handle_share` open it, `bcp47_handle_close` closes it.
 #[repr(C)]
 pub struct Handle {
     place: *mut u8,
@@ -69,15 +69,10 @@ pub(crate) fn take(alloc: Global, handle: &mut Handle) -> Box<Opened>
         .into_box()
 }
 
-/// Puts a registry in a handle, in place of what it held.
+/// Puts a registry in a handle that holds nothing. A handle is never dropped, so none is lost by mistake.
 pub(crate) fn put(handle: &mut Handle, opened: Box<Opened>)
+    requires { handle.old.held ≡ None }
     ensures { handle.new.held ≡ Some opened.value }
 {
-    *handle = Handle::of_block(Block::of(opened));
-}
-
-impl Drop for Handle {
-    fn drop(self) {
-        let Handle { place: _, alloc: _ } = self;
-    }
+    let Handle { place: _, alloc: _ } = replace(handle, Handle::of_block(Block::of(opened)));
 }

@@ -5,13 +5,14 @@
 //! fit its buffer is not written; the status is then 5, and the length is the one that is needed.
 #![tactic(auto)]
 
-ghost use Rattle.std.specs.Prelude.{◌≡◌, ◌≤◌, ◌<◌, ◌≢◌, List, [], Some, None, slice_index_or};
+ghost use Rattle.std.specs.Prelude.{◌≡◌, ◌≤◌, ◌<◌, ◌≢◌, List, [], Some, None, length, slice_index_or};
+ghost use Rattle.sha2.specs.Sha256.{sha256};
 ghost use Rattle.lt_registry.specs.Parts.{EntryParts};
 ghost use Rattle.lt_rewrite.specs.Names.{name_of};
 ghost use Rattle.lt_rewrite.specs.declared.steps.StepKind.{StepKind};
 ghost use Rattle.lt_canon.specs.ExplanationTexts.{IsExplanationTextOf};
 ghost use Rattle.lt_canon.specs.Texts.{IsCanonicalTextOf, IsTextRefusal};
-ghost use Rattle.bcp47_c.specs.Ends.{ChecksUpgrade, Classifies, Compares, Opens, Shares, Validates};
+ghost use Rattle.bcp47_c.specs.Ends.{ChecksUpgrade, Classifies, Compares, CountsSteps, Opens, Shares, Validates};
 ghost use Rattle.bcp47_c.specs.Names.{fault_names, status_names};
 ghost use Rattle.bcp47_c.specs.Numbers as number_of;
 ghost use Rattle.bcp47_c.specs.Outcomes.{Answers, IsDelivered, ended};
@@ -25,6 +26,7 @@ mod names;
 mod numbers;
 mod opened;
 mod outcomes;
+mod parts;
 mod steps;
 mod texts;
 mod traces;
@@ -37,8 +39,11 @@ use numbers::{DONE, OUT_OF_MEMORY};
 use opened::Opened;
 pub use outcomes::Outcome;
 use outcomes::{deliver, ended};
+pub use parts::{PartNumbers, bcp47_write_part_kind_name, bcp47_write_parts};
+use sha2::{Digest, Sha256};
 use std::alloc::Global;
 pub use steps::StepNumbers;
+use texts::classify;
 
 /// Opens the registry whose text the bytes are (RFC 5646, 3.1), in a handle that holds nothing: status 0.
 ///
@@ -46,7 +51,7 @@ pub use steps::StepNumbers;
 /// its line or record, and 4 that memory ran out. The handle then still holds nothing, and the line that the
 /// program prints is written to the buffer.
 #[unsafe(no_mangle)]
-pub extern "C" fn bcp47_open(
+pub extern "C" fn bcp47_handle_open(
     alloc: Global,
     handle: &mut Handle,
     bytes: &[u8],
@@ -66,7 +71,7 @@ pub extern "C" fn bcp47_open(
 
 /// Lets another handle, which holds nothing, hold the same registry: 0, or 4 where memory runs out.
 #[unsafe(no_mangle)]
-pub extern "C" fn bcp47_share(alloc: Global, handle: &mut Handle, other: &mut Handle) -> u8
+pub extern "C" fn bcp47_handle_share(alloc: Global, handle: &mut Handle, other: &mut Handle) -> u8
     ghost registry: { List EntryParts }
     requires open { handle.old.held ≡ Some registry }
     requires empty { other.old.held ≡ None }
@@ -87,12 +92,35 @@ pub extern "C" fn bcp47_share(alloc: Global, handle: &mut Handle, other: &mut Ha
 
 /// Closes a registry: the handle holds nothing then. What it held is freed where no other handle holds it.
 #[unsafe(no_mangle)]
-pub extern "C" fn bcp47_close(alloc: Global, handle: &mut Handle)
+pub extern "C" fn bcp47_handle_close(alloc: Global, handle: &mut Handle)
     ghost registry: { List EntryParts }
     requires { handle.old.held ≡ Some registry }
     ensures { handle.new.held ≡ None }
 {
     drop(take(alloc, handle));
+}
+
+/// How many entries the registry has: one for each record but the header.
+#[unsafe(no_mangle)]
+pub extern "C" fn bcp47_handle_entries(alloc: Global, handle: &mut Handle) -> usize
+    ghost registry: { List EntryParts }
+    requires { handle.old.held ≡ Some registry }
+    ensures kept { handle.new.held ≡ Some registry }
+    ensures count { result ≡ length registry }
+{
+    let opened = take(alloc, handle);
+    let count = opened.count();
+    put(handle, opened);
+    count
+}
+
+/// Writes the SHA-256 of bytes (FIPS 180-4), of 32 bytes.
+#[unsafe(no_mangle)]
+pub extern "C" fn bcp47_digest(bytes: &[u8], buffer: &mut [u8]) -> Outcome
+    ensures { IsDelivered (ended 0) (sha256 bytes.now) buffer.old buffer.new result }
+{
+    let digest = Sha256::digest(bytes);
+    deliver(ended(DONE), &digest, buffer)
 }
 
 /// Writes the canonical text of the tag that a text is read as (RFC 5646, 4.5): status 0, and `yue` for
@@ -101,7 +129,7 @@ pub extern "C" fn bcp47_close(alloc: Global, handle: &mut Handle)
 /// Status 1 says that the text is no tag, 2 that the tag is not valid, both with the number of the fault and
 /// its place; 3 that steps can repeat a variant, which is written; 4 that memory ran out.
 #[unsafe(no_mangle)]
-pub extern "C" fn bcp47_canonical(
+pub extern "C" fn bcp47_handle_canonical(
     alloc: Global,
     handle: &mut Handle,
     text: &[u8],
@@ -119,9 +147,9 @@ pub extern "C" fn bcp47_canonical(
 }
 
 /// Writes the text of the extlang form of the tag that a text is read as (RFC 5646, 4.5): `zh-cmn-Hans` for
-/// `cmn-Hans`. The statuses are those of `bcp47_canonical`.
+/// `cmn-Hans`. The statuses are those of `bcp47_handle_canonical`.
 #[unsafe(no_mangle)]
-pub extern "C" fn bcp47_extlang(
+pub extern "C" fn bcp47_handle_extlang(
     alloc: Global,
     handle: &mut Handle,
     text: &[u8],
@@ -142,7 +170,7 @@ pub extern "C" fn bcp47_extlang(
 /// class as the detail: 1 for a langtag, 2 for private use, 3 for a grandfathered tag (RFC 5646, 2.1). Status 1
 /// says that the text is no tag, 4 that memory ran out.
 #[unsafe(no_mangle)]
-pub extern "C" fn bcp47_classify(
+pub extern "C" fn bcp47_handle_classify(
     alloc: Global,
     handle: &mut Handle,
     text: &[u8],
@@ -159,11 +187,19 @@ pub extern "C" fn bcp47_classify(
     outcome
 }
 
+/// What `bcp47_handle_classify` does, by no registry.
+#[unsafe(no_mangle)]
+pub extern "C" fn bcp47_classify_text(alloc: Global, text: &[u8], buffer: &mut [u8]) -> Outcome
+    ensures { Classifies text.now buffer.old buffer.new result }
+{
+    classify(alloc, text, &mut Vec::new(alloc), buffer)
+}
+
 /// Writes the explanation of the tag that a text is read as: each step to its canonical form, with the tag to
 /// which the step leads, and that form, each a line that a line feed ends (RFC 5646, 4.5). The statuses are
-/// those of `bcp47_canonical`.
+/// those of `bcp47_handle_canonical`.
 #[unsafe(no_mangle)]
-pub extern "C" fn bcp47_explain(
+pub extern "C" fn bcp47_handle_explain(
     alloc: Global,
     handle: &mut Handle,
     text: &[u8],
@@ -180,13 +216,33 @@ pub extern "C" fn bcp47_explain(
     outcome
 }
 
+/// How many steps the explanation has of the tag that a text is read as: status 0, and the number as the place.
+/// The other statuses are those of `bcp47_handle_canonical`.
+#[unsafe(no_mangle)]
+pub extern "C" fn bcp47_handle_count_steps(
+    alloc: Global,
+    handle: &mut Handle,
+    text: &[u8],
+    buffer: &mut [u8],
+) -> Outcome
+    ghost registry: { List EntryParts }
+    requires { handle.old.held ≡ Some registry }
+    ensures kept { handle.new.held ≡ Some registry }
+    ensures answer { CountsSteps registry text.now buffer.old buffer.new result }
+{
+    let opened = take(alloc, handle);
+    let outcome = opened.count_steps(alloc, text, buffer);
+    put(handle, opened);
+    outcome
+}
+
 /// Whether steps lead from the tag that a text is read as, which is valid, one after another to the tag that
 /// another text is read as, which is then equivalent to it (RFC 5646, 4.5): status 0.
 ///
 /// Status 1 says that one of the texts is no tag, 2 that the tag is not valid, 11 that a step, whose number
 /// from 1 is the place, does not lead on, 12 that the steps lead to another tag, 4 that memory ran out.
 #[unsafe(no_mangle)]
-pub extern "C" fn bcp47_verify(
+pub extern "C" fn bcp47_handle_verify(
     alloc: Global,
     handle: &mut Handle,
     text: &[u8],
@@ -207,7 +263,7 @@ pub extern "C" fn bcp47_verify(
 /// Whether the tag that a text is read as is valid (RFC 5646, 2.2.9): status 0. Status 1 says that the text is
 /// no tag, 2 that the tag is not valid, both with the number of the fault and its place; 4 that memory ran out.
 #[unsafe(no_mangle)]
-pub extern "C" fn bcp47_validate(alloc: Global, handle: &mut Handle, text: &[u8]) -> Outcome
+pub extern "C" fn bcp47_handle_validate(alloc: Global, handle: &mut Handle, text: &[u8]) -> Outcome
     ghost registry: { List EntryParts }
     requires { handle.old.held ≡ Some registry }
     ensures kept { handle.new.held ≡ Some registry }
@@ -223,9 +279,9 @@ pub extern "C" fn bcp47_validate(alloc: Global, handle: &mut Handle, text: &[u8]
 /// not.
 ///
 /// Status 1 says that a text is no tag, the first or else the second; 2 and 3 that a tag is refused as by
-/// `bcp47_canonical`, the first or else the second; 4 that memory ran out.
+/// `bcp47_handle_canonical`, the first or else the second; 4 that memory ran out.
 #[unsafe(no_mangle)]
-pub extern "C" fn bcp47_equal(
+pub extern "C" fn bcp47_handle_equal(
     alloc: Global,
     handle: &mut Handle,
     first: &[u8],
@@ -259,7 +315,7 @@ fn check_newer(alloc: Global, older: &Opened, newer: &mut Handle) -> Outcome
 /// Whether a newer registry upgrades an older one: status 0, or 10 with the number of the condition that is not
 /// met and the record at fault, or 4 where memory runs out.
 #[unsafe(no_mangle)]
-pub extern "C" fn bcp47_upgrade_check(
+pub extern "C" fn bcp47_handle_upgrade_check(
     alloc: Global,
     older: &mut Handle,
     newer: &mut Handle,
@@ -279,7 +335,7 @@ pub extern "C" fn bcp47_upgrade_check(
 
 /// Writes the name of a status, 0 to 12, as `NotATag` for 1; nothing for another number.
 #[unsafe(no_mangle)]
-pub extern "C" fn bcp47_status_name(status: u8, buffer: &mut [u8]) -> Outcome
+pub extern "C" fn bcp47_write_status_name(status: u8, buffer: &mut [u8]) -> Outcome
     ensures named { status ≤ 12 → IsDelivered (ended 0) (slice_index_or status_names status []) buffer.old buffer.new result }
     ensures none { 12 < status → IsDelivered (ended 0) [] buffer.old buffer.new result }
 {
@@ -293,7 +349,7 @@ pub extern "C" fn bcp47_status_name(status: u8, buffer: &mut [u8]) -> Outcome
 
 /// Writes the name of a fault, 0 to 52, as the program prints it: `BadByte` for 3; nothing for another number.
 #[unsafe(no_mangle)]
-pub extern "C" fn bcp47_fault_name(fault: u8, buffer: &mut [u8]) -> Outcome
+pub extern "C" fn bcp47_write_fault_name(fault: u8, buffer: &mut [u8]) -> Outcome
     ensures named { fault ≤ 52 → IsDelivered (ended 0) (slice_index_or fault_names fault []) buffer.old buffer.new result }
     ensures none { 52 < fault → IsDelivered (ended 0) [] buffer.old buffer.new result }
 {
@@ -308,7 +364,7 @@ pub extern "C" fn bcp47_fault_name(fault: u8, buffer: &mut [u8]) -> Outcome
 /// Writes the name of a kind of step, 1 to 14, as the program prints it: `Extlang` for 1; nothing for another
 /// number.
 #[unsafe(no_mangle)]
-pub extern "C" fn bcp47_kind_name(kind: u8, buffer: &mut [u8]) -> Outcome
+pub extern "C" fn bcp47_write_kind_name(kind: u8, buffer: &mut [u8]) -> Outcome
     ensures named { (k : StepKind) → kind ≡ number_of.step_kind k → IsDelivered (ended 0) (name_of k) buffer.old buffer.new result }
     ensures none { ((k : StepKind) → kind ≢ number_of.step_kind k) → IsDelivered (ended 0) [] buffer.old buffer.new result }
 {

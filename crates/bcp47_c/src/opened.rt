@@ -1,20 +1,20 @@
 //! What a handle holds.
-ghost use Rattle.std.specs.Prelude.{◌≡◌, IfOk, IfErr, Ok, Err};
+ghost use Rattle.std.specs.Prelude.{◌≡◌, IfOk, IfErr, Ok, Err, length};
 ghost use Rattle.lt_canon.specs.ExplanationTexts.{IsExplanationTextOf};
 ghost use Rattle.lt_canon.specs.Texts.{IsCanonicalTextOf, IsTextRefusal};
 ghost use Rattle.bcp47.specs.Promise.{ReadsBytes};
-ghost use Rattle.bcp47_c.specs.Ends.{ChecksUpgrade, Classifies, Compares, Validates};
+ghost use Rattle.bcp47_c.specs.Ends.{ChecksUpgrade, Classifies, Compares, CountsSteps, Validates};
 ghost use Rattle.bcp47_c.specs.Outcomes.{Answers};
 ghost use Rattle.bcp47_c.specs.Texts.{IsExtlangTextOf};
 ghost use Rattle.bcp47_c.specs.Traces.{Verifies};
 
 use crate::errors::upgrade_said;
-use crate::numbers::{DIFFERENT, DONE, class};
+use crate::numbers::{DIFFERENT, DONE};
 use crate::outcomes::{Outcome, Said, deliver, ended, refuse};
 use crate::steps::StepNumbers;
-use crate::texts::{equality, read_pair, validity, write_extlang};
+use crate::texts::{classify, equality, read_pair, step_count, validity, write_extlang};
 use crate::traces::{judge, trace_said};
-use bcp47::{OutOfMemory, Registry, RegistryError, Tag, TextRefusal, append_tag};
+use bcp47::{OutOfMemory, Registry, RegistryError};
 use std::alloc::Global;
 use std::marker::Model;
 use std::sync::Arc;
@@ -62,6 +62,13 @@ impl Opened {
         }
     }
 
+    /// How many entries the registry has.
+    pub(crate) fn count(&self) -> usize
+        ensures { result ≡ length self.now }
+    {
+        self.registry.entries().len()
+    }
+
     /// The same registry for another handle.
     pub(crate) fn share(&self, alloc: Global) -> Result<Box<Opened>, OutOfMemory>
         ensures { IfOk result (λ opened. opened.value ≡ self.now) }
@@ -100,20 +107,7 @@ impl Opened {
         ensures kept { self.new ≡ self.old }
         ensures answer { Classifies text.now buffer.old buffer.new result }
     {
-        let tag = match Tag::read(alloc, text) {
-            Ok(tag) => tag,
-            Err(fault) => return refuse(&TextRefusal::from(fault), buffer),
-        };
-        self.texts.clear();
-        if append_tag(&mut self.texts, &tag).is_err() {
-            return refuse(&TextRefusal::OutOfMemory, buffer);
-        }
-        let said = Said {
-            status: DONE,
-            detail: class(tag.class()),
-            place: 0,
-        };
-        deliver(said, &self.texts, buffer)
+        classify(alloc, text, &mut self.texts, buffer)
     }
 
     /// Whether the tag that a text is read as is valid.
@@ -153,6 +147,23 @@ impl Opened {
         }
     }
 
+    /// Tells how many steps the explanation has of the tag that a text is read as.
+    pub(crate) fn count_steps(&self, alloc: Global, text: &[u8], buffer: &mut [u8]) -> Outcome
+        ensures { CountsSteps self.now text.now buffer.old buffer.new result }
+    {
+        match step_count(alloc, &self.registry, text) {
+            Ok(count) => {
+                let said = Said {
+                    status: DONE,
+                    detail: 0,
+                    place: count as u64,
+                };
+                deliver(said, &[], buffer)
+            }
+            Err(refusal) => refuse(&refusal, buffer),
+        }
+    }
+
     /// Whether steps in numbers lead from the tag that a text is read as to the one that another is read as.
     pub(crate) fn verify(
         &self,
@@ -182,4 +193,12 @@ impl Opened {
             Err(fault) => deliver(upgrade_said(fault), &[], &mut []),
         }
     }
+}
+
+/// What threads may share and hand to one another.
+fn shareable<T: Send + Sync>() {}
+
+/// Threads may share what a handle holds: the handles of a registry share it.
+pub(crate) fn opened_is_shareable() {
+    shareable::<Opened>();
 }

@@ -13,15 +13,19 @@ use bcp47::TextRefusal;
 #[repr(C)]
 #[derive(Clone, Copy, Drop)]
 pub struct Outcome {
-    /// How the call ended: a status, 0 to 12, whose name `bcp47_status_name` writes.
-    pub status: u8,
-    /// The number of the fault, 1 to 52, whose name `bcp47_fault_name` writes, or that of the class of a tag;
+    /// How the call ended: a status, 0 to 12, whose name `bcp47_write_status_name` writes.
+    pub status: u32,
+    /// The number of the fault, 1 to 52, whose name `bcp47_write_fault_name` writes, or that of the class of a tag;
     /// else 0.
-    pub detail: u8,
+    pub detail: u32,
     /// The place of the fault: a subtag, a line, a record or a step, each counted from 1; else 0.
     pub place: u64,
     /// How many bytes the text has, also where it does not fit the buffer.
     pub length: usize,
+    /// 0: room for what the file in C tells, which of two texts is refused.
+    pub text: u32,
+    /// 0.
+    pub reserved: u32,
 }
 
 /// What is said of a call's end.
@@ -50,18 +54,22 @@ pub(crate) fn deliver(said: Said, text: &[u8], buffer: &mut [u8]) -> Outcome
     let length = text.len();
     if length > buffer.len() {
         return Outcome {
-            status: BUFFER_TOO_SMALL,
+            status: u32::from(BUFFER_TOO_SMALL),
             detail: 0,
             place: 0,
             length,
+            text: 0,
+            reserved: 0,
         };
     }
     buffer[..length].copy_from_slice(text);
     Outcome {
-        status: said.status,
-        detail: said.detail,
+        status: u32::from(said.status),
+        detail: u32::from(said.detail),
         place: said.place,
         length,
+        text: 0,
+        reserved: 0,
     }
 }
 

@@ -10,7 +10,7 @@ use std::alloc::Global;
 #[repr(C)]
 #[derive(Clone, Copy, Drop)]
 pub struct StepNumbers {
-    /// The number of the kind, 1 to 14, whose name `bcp47_kind_name` writes.
+    /// The number of the kind, 1 to 14, whose name `bcp47_write_kind_name` writes.
     pub kind: u8,
     /// The place of the step: the subtag that changes, counted from 1.
     pub place: u32,

@@ -2,9 +2,12 @@
 ghost use Rattle.std.specs.Prelude.{◌≡◌, IfOk, IfErr, OnOk};
 ghost use Rattle.lt_tag.specs.Faults.{HasTag};
 ghost use Rattle.lt_canon.specs.Texts.{IsTextRefusal};
-ghost use Rattle.bcp47_c.specs.Texts.{IsEqualityOf, IsExtlangTextOf, IsPairRefusal, IsValidityRefusal, IsValidText};
+ghost use Rattle.bcp47_c.specs.Ends.{Classifies};
+ghost use Rattle.bcp47_c.specs.Texts.{IsEqualityOf, IsExtlangTextOf, IsPairRefusal, IsStepCount, IsValidityRefusal, IsValidText};
 ghost use Rattle.bcp47_c.specs.Traces.{IsPairReadingRefusal};
 
+use crate::numbers::{DONE, class};
+use crate::outcomes::{Outcome, Said, deliver, refuse};
 use bcp47::{Refusal, Registry, Tag, TextRefusal, append_tag};
 use std::alloc::Global;
 
@@ -23,6 +26,46 @@ pub(crate) fn write_extlang(
     extlang.clear();
     append_tag(extlang, &form)?;
     Ok(())
+}
+
+/// Writes the text, in conventional case, of the tag that a text is read as, and tells its class. The text is
+/// made in `shown` first.
+pub(crate) fn classify(
+    alloc: Global,
+    text: &[u8],
+    shown: &mut Vec<u8>,
+    buffer: &mut [u8],
+) -> Outcome
+    ensures { Classifies text.now buffer.old buffer.new result }
+{
+    let tag = match Tag::read(alloc, text) {
+        Ok(tag) => tag,
+        Err(fault) => return refuse(&TextRefusal::from(fault), buffer),
+    };
+    shown.clear();
+    if append_tag(shown, &tag).is_err() {
+        return refuse(&TextRefusal::OutOfMemory, buffer);
+    }
+    let said = Said {
+        status: DONE,
+        detail: class(tag.class()),
+        place: 0,
+    };
+    deliver(said, shown, buffer)
+}
+
+/// How many steps the explanation of the tag has that a text is read as.
+pub(crate) fn step_count(
+    alloc: Global,
+    registry: &Registry,
+    text: &[u8],
+) -> Result<usize, TextRefusal>
+    ensures count { IfOk result (λ count. IsStepCount registry.now text.now count) }
+    ensures refusal { IfErr result (λ refusal. IsTextRefusal registry.now text.now refusal) }
+{
+    let tag = Tag::read(alloc, text)?;
+    let trace = registry.explain(alloc, &tag)?;
+    Ok(trace.steps.len())
 }
 
 /// Whether the tag that a text is read as is valid.

@@ -7,7 +7,7 @@ use std::hash::{DefaultHasher, Hash, Hasher};
 use std::process::Abort;
 use std::test::Fail;
 
-/// Whether two tags are equal, and whether they are one language by a registry.
+/// Whether two tags are equal, and whether they are equivalent by a registry.
 fn compared(
     alloc: Global,
     registry: &Registry,
@@ -22,7 +22,7 @@ fn compared(
     ))
 }
 
-/// Two tags are one language by the small registry, and two others are not.
+/// Two tags are equivalent by the small registry, and two others are not.
 fn expect_one_language(rt: &impl Abort, alloc: Global, registry: &Registry) -> Result<(), Fail> {
     assert!(rt; compared(alloc, registry, "iw-IL", "HE-il")? == (false, true));
     assert!(rt; compared(alloc, registry, "iw-IL", "he")? == (false, false));

@@ -32,10 +32,10 @@ use Rattle.lt_rewrite.specs.Conditions.{MeetsCoreConditions}
 use Rattle.lt_rewrite.specs.TagSteps.{TagChange, on_core, on_extensions, on_whole, TagStep, IsReached, CanRepeat, IsCanonical, CanBeReplacedWhole}
 use Rattle.lt_rewrite.proofs.CoreLaws.{VariantLanguagesOnce, variant_languages_once, variant_languages_once_kept, form_distinct, one_end_one_form, by_extlang, by_language, AtRest, rests}
 use Rattle.lt_canon.specs.Laws.{CanonicalOrRepeats, EquivalenceIsEqualText, CanonicalTwiceIsOnce, CanonicalTextTwiceIsOnce}
-use Rattle.lt_canon.specs.Corollaries.{RepeatTogether, EquivalenceIsEquality}
+use Rattle.lt_canon.specs.Corollaries.{RepeatsHaveNoForm, RepeatTogether, EquivalenceIsEquality}
 use Rattle.lt_check.proofs.CheckedRegistry.{value_plain, tag_plain, found_name}
 use Rattle.lt_canon.proofs.EndForms.{star_proper, star_end, star_equivalent, equivalent_end, equivalent_trans, equivalent_sym, rest_is_end, reached_is_end}
-use Rattle.lt_rewrite.specs.CoreSteps.{values_of, IsCoreNormalForm, CoreStep, EndsIn}
+use Rattle.lt_rewrite.specs.CoreSteps.{IsCoreNormalForm, CoreStep, EndsIn}
 use Rattle.lt_canon.specs.RepeatLaws.{RepeatsAreNamed}
 use Rattle.std.specs.Ordering.{eq_by_cmp}
 use Rattle.lt_tag.specs.WellFormed.{spell, IsNotGrandfathered}
@@ -54,6 +54,9 @@ use Rattle.lt_canon.specs.declared.refusals.Refusal.{Refusal}
 use Rattle.lt_canon.specs.declared.refusals.Refusal.TheVariants as refusals
 use Rattle.lt_rewrite.proofs.ProperTags.{proper_parts, proper_langtag}
 use Rattle.lt_tag.specs.Lists.{longest_text, list_of}
+use Rattle.lt_tag.proofs.FaultLemmas.{fault_excludes_tag}
+use Rattle.lt_canon.specs.declared.refusals.TextRefusal.{TextRefusal}
+use Rattle.lt_canon.specs.declared.refusals.TextRefusal.TheVariants as text_refusals
 use Rattle.std.proofs.lemmas.Slice.Eq.{bytes_eq-Decides}
 use Rattle.lt_subtag.specs.Shapes.{is_language, is_extlang}
 use Rattle.lt_registry.specs.declared.entries.Kind.TheVariants as kinds
@@ -65,7 +68,7 @@ use Rattle.lt_canon.specs.ExtlangForm.{prefix_of, behind, extlang_form, IsExtlan
 use Rattle.lt_canon.specs.ExtlangLaws.{ExtlangFormsLeadBack}
 use Rattle.std.proofs.lemmas.List.Folds.{list_any_at}
 use Rattle.lt_usual.specs.Staying.{replaces_plain_of, StaysAs, IsStaying}
-use Rattle.lt_canon.specs.Texts.{AppendsCanonicalText}
+use Rattle.lt_canon.specs.Texts.{AppendsCanonicalText, IsTextRefusal, RefusesTextOnlyRepeats}
 use Rattle.lt_canon.specs.UsualTags.{IsUsual, core_valued}
 use Rattle.lt_registry.specs.Checking.{Counted, core_check, variants_check}
 use Rattle.lt_registry.specs.declared.faults.ValidFault.{ValidFault}
@@ -220,9 +223,9 @@ module _ (R : List EntryParts) (C : IsChecked R) where
       h k (record { transforms = is_t; parts = p; formed = from; there = sym g ∙ ap (λ (r : TForm). r.source) (sym (one_transform f.subtags s.parts q s.formed to)) ∙ s.there })
 
   extensions_once : (es fs : List ExtensionParts) → ExtensionsStep R es fs → AllByRecursion Once es → AllByRecursion Once fs
-  extensions_once es fs (inside before e f after w s) h =
-      let all : AllByRecursion Once (before ++ e ∷ after) = rw w.there at h in
-      rw w.result (all_replaced Once before e f after all (extension_once e f s (all_middle Once before e after all)))
+  extensions_once es fs (inside before e f after there result s) h =
+      let all : AllByRecursion Once (before ++ e ∷ after) = rw there at h in
+      rw result (all_replaced Once before e f after all (extension_once e f s (all_middle Once before e after all)))
   extensions_once es fs (among s) h = all_step Once es fs s h
 
   change_once : (t u : TagForm) → TagChange R t u → VariantLanguagesOnceTag R t → VariantLanguagesOnceTag R u
@@ -285,7 +288,7 @@ module _ (R : List EntryParts) (C : IsChecked R) where
   -- the end form of a valid tag is its canonical form, or steps can repeat a variant
   form_or_repeat : (t : TagForm) → IsValid R t → IsCanonicalFormOf R t (tag_end R C t) ⊎ ((v : List ℕ) × IsRepeatOf R t v)
   form_or_repeat (LangTag c es ps) V =
-      let n : IsCoreNormalForm (values_of R) c (core_end R C c) = core_normal R C c in
+      let n : IsCoreNormalForm R c (core_end R C c) = core_normal R C c in
       let m = form_is_normal (extensions_end_formed R C) es in
       let P : IsProper R (parts_end R C (LangTag c es ps)) = star_proper (end_form R C) (parts_reached R C n.reached m.reached ps V.proper) V.proper in
       elim (distinct_or_second (core_end R C c).variants) [
@@ -300,11 +303,12 @@ module _ (R : List EntryParts) (C : IsChecked R) where
   pub canonical_or_repeats : CanonicalOrRepeats R
   canonical_or_repeats t V = elim (form_or_repeat t V) [
     | inl F ↦ inl (tag_end R C t, F)
-    | inr n ↦ inr (record {
-      repeats = n.1.repeats;
-      formless = λ c k e. repeats_at_end t V n.1.repeats (subst RepeatsNoVariant (sym (equivalent_end (end_form R C) e ∙ rest_is_end (end_form R C) c k.valid.proper k.at_rest)) k.valid.distinct);
-    })
+    | inr n ↦ inr n.1.repeats
   ]
+
+  pub repeats_have_no_form : RepeatsHaveNoForm R
+  repeats_have_no_form t c V r k e =
+      repeats_at_end t V r (subst RepeatsNoVariant (sym (equivalent_end (end_form R C) e ∙ rest_is_end (end_form R C) c k.valid.proper k.at_rest)) k.valid.distinct)
 
   pub repeat_together : RepeatTogether R
   repeat_together t u V W e r =
@@ -323,7 +327,7 @@ module _ (R : List EntryParts) (C : IsChecked R) where
 
 module _ (R : List EntryParts) (C : IsChecked R) where
   -- a core has one normal form, so it repeats one variant first
-  one_form : (c d e : CoreParts) → IsCoreNormalForm (values_of R) c d → IsCoreNormalForm (values_of R) c e → d ≡ e
+  one_form : (c d e : CoreParts) → IsCoreNormalForm R c d → IsCoreNormalForm R c e → d ≡ e
   one_form c d e n m = sym (normal_is_form (cores_formed R C) c d n) ∙ normal_is_form (cores_formed R C) c e m
 
   one_core_repeat : (c : CoreParts) (v w : List ℕ) → IsRepeatOfCore R c v → IsRepeatOfCore R c w → v ≡ w
@@ -365,6 +369,9 @@ text_equality R E t u c d h k = (
   (λ e. E.equivalent t u c h (subst (IsCanonicalFormOf R u) (sym ((same_form_text R t u c d h k).0 e)) k)),
 )
 
+pub equal_texts_tell : (R : List EntryParts) → IsChecked R → EquivalenceIsEqualText R
+equal_texts_tell R C = text_equality R (equivalence_is_equality R C)
+
 -- what comparing the texts of canonical forms tells
 pub equivalence_answer : (R : List EntryParts) → EquivalenceIsEquality R → (t u c d : TagForm) (answer : Bool) → IsCanonicalFormOf R t c → IsCanonicalFormOf R u d → answer ≡ eq_by_cmp tag_cmp c d → IsEquivalenceAnswer R t u answer
 equivalence_answer R E t u c d answer h k e =
@@ -388,7 +395,7 @@ module _ (R : List EntryParts) (C : IsChecked R) where
   forms_equal t c d h k = sym (form_is_end R C t c h) ∙ form_is_end R C t d k
 
   pub twice_is_once : CanonicalTwiceIsOnce R
-  twice_is_once t c h = record { own = own_form c h.canonical; only = λ d k. forms_equal c d c k (own_form c h.canonical) }
+  twice_is_once t c h = (own_form c h.canonical, λ d k. forms_equal c d c k (own_form c h.canonical))
 
   pub text_twice_is_once : CanonicalTextTwiceIsOnce R
   text_twice_is_once text canonical x short =
@@ -421,6 +428,13 @@ repeats_answered R t (Err (refusals.Invalid fault)) h = λ V. (valid_law R t V.p
 repeats_answered R t (Err (refusals.ReplacementRepeats v)) h = (h.valid, h.repeats)
 repeats_answered R t _ h = tt
 
+-- the refusal of a text, by the refusal that is owed
+pub text_repeats_answered : (R : List EntryParts) (text : List ℕ) (refusal : TextRefusal) → IsTextRefusal R text refusal → RefusesTextOnlyRepeats R text refusal
+text_repeats_answered R text (text_refusals.NotATag fault) h = λ tag t. fault_excludes_tag text fault.kind fault.place tag h t
+text_repeats_answered R text (text_refusals.Invalid fault) h = (h.tag, h.read, λ V. (valid_law R h.tag V.proper.tag).0 V fault.kind fault.place h.holds.there)
+text_repeats_answered R text (text_refusals.ReplacementRepeats v) h = (h.tag, h.read, h.holds.valid, h.holds.repeats)
+text_repeats_answered R text text_refusals.OutOfMemory h = tt
+
 -- what settling the extensions of a proper tag needs
 pub transforms_have_parts : (R : List EntryParts) (es : List ExtensionParts) → AllByRecursion (IsProperExtension R) es → AllByRecursion (λ (e : ExtensionParts). e.singleton ≡ transform → (p : TForm) × IsTransform e.subtags p) es
 transforms_have_parts R es P =
@@ -428,11 +442,11 @@ transforms_have_parts R es P =
 
 module _ (R : List EntryParts) (C : IsChecked R) where
   -- the core normal form of a proper tag's core spells no grandfathered tag
-  pub form_spells_none : (c d : CoreParts) (es : List ExtensionParts) (ps : List (List ℕ)) → IsProper R (LangTag c es ps) → IsCoreNormalForm (values_of R) c d → IsNotGrandfathered (spell_core d)
+  pub form_spells_none : (c d : CoreParts) (es : List ExtensionParts) (ps : List (List ℕ)) → IsProper R (LangTag c es ps) → IsCoreNormalForm R c d → IsNotGrandfathered (spell_core d)
   form_spells_none c d es ps P n = core_spells_none R C d (proper_parts R d es ps (cores_proper R C n.reached es ps P)).core
 
   -- nor does that of the core of a whole record's value
-  pub value_spells_none : (t : TagForm) (c s d : CoreParts) → IsValidCoreAlone R t → Some c ≡ core_of t → s ≡ c → IsCoreNormalForm (values_of R) s d → IsNotGrandfathered (spell_core d)
+  pub value_spells_none : (t : TagForm) (c s d : CoreParts) → IsValidCoreAlone R t → Some c ≡ core_of t → s ≡ c → IsCoreNormalForm R s d → IsNotGrandfathered (spell_core d)
   value_spells_none t c s d v h e n =
       let is : t ≡ core_alone s = grind arith in
       form_spells_none s d [] [] (rw is at v.valid.proper) n
@@ -441,7 +455,7 @@ module _ (R : List EntryParts) (C : IsChecked R) where
   pub core_refused : (c : CoreParts) (es : List ExtensionParts) (ps : List (List ℕ)) (refusal : Refusal) → IsValid R (LangTag c es ps) → IsCoreRefusal R c refusal → IsCanonicalAnswer R (LangTag c es ps) (Err refusal)
   core_refused c es ps refusal V h = grind (arith, core_repeats R C)
 
-  pub form_count : (c d : CoreParts) (es fs : List ExtensionParts) (ps : List (List ℕ)) → IsProper R (LangTag c es ps) → IsCoreNormalForm (values_of R) c d → IsNormalForm (ExtensionsStep R) es fs → length fs ≤ longest_text
+  pub form_count : (c d : CoreParts) (es fs : List ExtensionParts) (ps : List (List ℕ)) → IsProper R (LangTag c es ps) → IsCoreNormalForm R c d → IsNormalForm (ExtensionsStep R) es fs → length fs ≤ longest_text
   form_count c d es fs ps P n m = (star_proper (end_form R C) (parts_reached R C n.reached m.reached ps P) P).tag.counts.1
 
   pub form_some : (es fs : List ExtensionParts) (ps : List (List ℕ)) → IsNormalForm (ExtensionsStep R) es fs → 0 < length es + length ps → 0 < length fs + length ps
@@ -498,7 +512,7 @@ module _ (R : List EntryParts) (C : IsChecked R) where
       by [] e = refl
       by (x ∷ []) e =
           let d' : CoreParts = core (replacement R x) [] d.script d.region d.variants in
-          let s : CoreStep (values_of R) d d' = by_extlang (values_of R) d x e in
+          let s : CoreStep R d d' = by_extlang R d x e in
           absurd (K.at_rest (LangTag d' (extensions_of c) (private_of c)) (step_of_change R C c (LangTag d' (extensions_of c) (private_of c)) (on_core d d' (extensions_of c) (private_of c) (langtag_of c d h) refl s) K.valid.proper))
       by (x ∷ y ∷ r) e = absurd (subst (ExtlangsFit R d.language) e (subst (IsProper R) (langtag_of c d h) K.valid.proper).parts.core.extlangs)
 
@@ -517,8 +531,8 @@ module _ (R : List EntryParts) (C : IsChecked R) where
       let at : List ℕ → CoreParts = λ u. core u [] d.script d.region d.variants in
       let back : unwrap_or (one_of x.at.value) x.fits.subtag ≡ replacement R l = ap (unwrap_or (one_of x.at.value)) x.same ∙ sym (replacement_at R l x.at x.found) in
       let Q : List ℕ → Type 0 = λ u. EndsIn (preferred_value R kinds.Language) u x.fits.end in
-      (cores_formed R C).kept (behind (Some p) d) (at (replacement R l)) (by_extlang (values_of R) (behind (Some p) d) l refl)
-      ∙ one_end_one_form R (core_conditions R C.passes) (preferred_value R kinds.Language) at (λ s t e. by_language (values_of R) (at s) t refl e)
+      (cores_formed R C).kept (behind (Some p) d) (at (replacement R l)) (by_extlang R (behind (Some p) d) l refl)
+      ∙ one_end_one_form R (core_conditions R C.passes) (preferred_value R kinds.Language) at (λ s t e. by_language R (at s) t refl e)
       (replacement R l) l x.fits.end (subst Q back x.fits.replacement_ends) (subst Q x.same x.fits.ends)
       ∙ ap (λ xs. core_end R C (core l xs d.script d.region d.variants)) (sym none)
 
@@ -583,8 +597,8 @@ module _ (R : List EntryParts) (t : TagForm) (c : CoreParts) (u : IsUsual c) (k 
   pub usual_settled : IsTagValue t → core_valued R c ≡ Ok false → IsSettledTag R t t
   unfolding core_valued
   usual_settled v h =
-      let rest : AtRest (values_of R) c = grind arith in
-      let form : IsDistinctForm R c c = record { normal = record { reached = done; at_rest = λ d s. rests (values_of R) c d rest s }; distinct = (rw k at (usual_valid false v h)).distinct.0 } in
+      let rest : AtRest R c = grind arith in
+      let form : IsDistinctForm R c c = record { normal = record { reached = done; at_rest = λ d s. rests R c d rest s }; distinct = (rw k at (usual_valid false v h)).distinct.0 } in
       let settled : IsSettledTag R (core_alone c) t = record { core = c; extensions = []; is = k; form = form; normal = record { reached = done; at_rest = none_rests R }; distinct = tt } in
       subst (λ a. IsSettledTag R a t) (sym k) settled
 
@@ -735,7 +749,7 @@ extension_behind R start place e f (in_transform p q _ _ _ _ (on_source c d _ _ 
     record { late = omega (arith, r.some, r.raised); behind = λ _. omega (arith, h, core_low R place c d s) }
 
 extensions_behind : (R : List EntryParts) (start : ℕ) (es fs : List ExtensionParts) (s : ExtensionsStep R es fs) → IsBehind start (extensions_label R start s)
-extensions_behind R start es fs (inside before e f after w s) = extension_behind R start (start + length (spell_extensions before) + 1) e f s (omega arith)
+extensions_behind R start es fs (inside before e f after there result s) = extension_behind R start (start + length (spell_extensions before) + 1) e f s (omega arith)
 extensions_behind R start es fs (among s) = list_behind steps.SwapExtensions steps.SwapExtensions (omega arith) (omega arith) spell_extension start start s
 
 -- the ranks in a tag
@@ -846,7 +860,7 @@ module _ (R : List EntryParts) where
   run_trace [] t end h = h
   run_trace (step ∷ run) t end h = (h.0, h.1.leads, run_trace run h.0 end h.2)
 
-  core_rests : (d : CoreParts) → NoneLeads (CoreLeads R 0 d) → Rests (CoreStep (values_of R)) d
+  core_rests : (d : CoreParts) → NoneLeads (CoreLeads R 0 d) → Rests (CoreStep R) d
   core_rests d none e s = none (core_label R 0 s) e (s, refl)
 
   only_whole : (t : TagForm) → CanBeReplacedWhole t → RestsOnCore R t → (step : Step) (u : TagForm) (s : TagChange R t u) → tag_label R s ≡ step → step ≡ step_at steps.Whole 1 (number_of (whole R t))
@@ -884,7 +898,7 @@ module _ (R : List EntryParts) where
     value_rests_by t value entry core copied form number old mid new P h k found gives there same numbered m a none =
         let v = value_plain R C t value (grind arith) in
         let is : whole_value R t ≡ Some (core_alone copied) = grind arith in
-        let normal : IsCoreNormalForm (values_of R) copied form = record { reached = run_star (CoreLeads R 0) (λ _ step. kind_rank step) (CoreStep (values_of R)) (λ a step b l. l.0) a.run copied form a.is_run; at_rest = core_rests form none } in
+        let normal : IsCoreNormalForm R copied form = record { reached = run_star (CoreLeads R 0) (λ _ step. kind_rank step) (CoreStep R) (λ a step b l. l.0) a.run copied form a.is_run; at_rest = core_rests form none } in
         let rest : LeadsToRest R (core_alone form) new new = valueless_explained (core_alone form) new (refl, refl) (λ c i. let j : form ≡ c = cc in rw j at none) (value_rests R C t copied form is normal) in
         let one : Adds (LeadsBy R) rank_in t (core_alone copied) old mid = adds_more (LeadsBy R) rank_in t t (core_alone copied) old old mid (step_at steps.Whole 1 number) (adds_none (LeadsBy R) rank_in t old) (whole_is_first t (core_alone copied) (step_at steps.Whole 1 number) P h k is (ap (step_at steps.Whole 1) (numbered ∙ ap number_of found))) m in
         first_adds t (core_alone copied) old mid new one (first_adds (core_alone copied) (core_alone form) mid new new (adds_on_core copied form [] [] mid new (value_plain R C t (core_alone copied) is).valid.proper a).1 rest)

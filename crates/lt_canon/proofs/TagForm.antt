@@ -9,7 +9,7 @@ use Rattle.lt_registry.specs.Same.{same_core}
 use Rattle.lt_registry.specs.Validity.{Distinct, IsProper, RepeatsNoVariant}
 use Rattle.lt_registry.specs.declared.entries.EntryName.TheVariants as names
 use Rattle.lt_rewrite.specs.Rewriting.{Star, done, then, Rests}
-use Rattle.lt_rewrite.specs.CoreSteps.{values_of, CoreStep, IsCoreNormalForm}
+use Rattle.lt_rewrite.specs.CoreSteps.{CoreStep, IsCoreNormalForm}
 use Rattle.lt_rewrite.specs.Extensions.{ExtensionsStep}
 use Rattle.lt_rewrite.specs.TagSteps.{CanBeReplacedWhole, TagChange, on_core, on_extensions, on_whole, TagStep, IsReached}
 use Rattle.lt_rewrite.proofs.Stars.{star_trans}
@@ -51,13 +51,13 @@ pub none_rests : (R : List EntryParts) → Rests (ExtensionsStep R) []
 none_rests R fs s = extensions_step_from R [] fs s refl
 
 -- no change leads from a tag whose parts are at rest, and that has no value
-pub at_end : (R : List EntryParts) (t : TagForm) → ((c : CoreParts) → core_of t ≡ Some c → Rests (CoreStep (values_of R)) c) → Rests (ExtensionsStep R) (extensions_of t) → (CanBeReplacedWhole t → whole_value R t ≡ None) → NoChange R t
+pub at_end : (R : List EntryParts) (t : TagForm) → ((c : CoreParts) → core_of t ≡ Some c → Rests (CoreStep R) c) → Rests (ExtensionsStep R) (extensions_of t) → (CanBeReplacedWhole t → whole_value R t ≡ None) → NoChange R t
 at_end R t k m w u (on_core c d es ps from _ s) = k c (ap core_of from) d s
 at_end R t k m w u (on_extensions c es fs ps from _ s) = m fs (subst (λ x. ExtensionsStep R x fs) (sym (ap extensions_of from)) s)
 at_end R t k m w u (on_whole is_plain has) = let none = w is_plain in cc
 
-pub lang_at_end : (R : List EntryParts) (d : CoreParts) (es : List ExtensionParts) (ps : List (List ℕ)) → Rests (CoreStep (values_of R)) d → Rests (ExtensionsStep R) es → (CanBeReplacedWhole (LangTag d es ps) → whole_value R (LangTag d es ps) ≡ None) → NoChange R (LangTag d es ps)
-lang_at_end R d es ps k m w = at_end R (LangTag d es ps) (λ c e. let same : d ≡ c = cc in subst (Rests (CoreStep (values_of R))) same k) m w
+pub lang_at_end : (R : List EntryParts) (d : CoreParts) (es : List ExtensionParts) (ps : List (List ℕ)) → Rests (CoreStep R) d → Rests (ExtensionsStep R) es → (CanBeReplacedWhole (LangTag d es ps) → whole_value R (LangTag d es ps) ≡ None) → NoChange R (LangTag d es ps)
+lang_at_end R d es ps k m w = at_end R (LangTag d es ps) (λ c e. let same : d ≡ c = cc in subst (Rests (CoreStep R)) same k) m w
 
 pub ending_chains : (R : List EntryParts) → IsChecked R → All (HasEndingChain R) R
 ending_chains R C = C.passes.ending_chain
@@ -81,7 +81,7 @@ module _ (R : List EntryParts) (C : IsChecked R) where
   abbrev pub core_end : CoreParts → CoreParts
   core_end = normal_core R (core_conditions R C.passes)
 
-  pub cores_formed : IsFormOf (CoreStep (values_of R)) core_end
+  pub cores_formed : IsFormOf (CoreStep R) core_end
   cores_formed = normal_cores R (core_conditions R C.passes)
 
   abbrev pub extension_end : ExtensionParts → ExtensionParts
@@ -116,17 +116,17 @@ module _ (R : List EntryParts) (C : IsChecked R) where
   pub lang_end_some : (d : CoreParts) (es : List ExtensionParts) (ps : List (List ℕ)) → es ≢ [] → lang_end d es ps ≡ LangTag d (extensions_end es) ps
   lang_end_some d es ps h = grind arith
 
-  pub core_normal : (c : CoreParts) → IsCoreNormalForm (values_of R) c (core_end c)
+  pub core_normal : (c : CoreParts) → IsCoreNormalForm R c (core_end c)
   core_normal c = form_is_normal cores_formed c
 
   -- of a whole record's value: what its core normal form has
-  resting : (t : TagForm) (c d : CoreParts) → whole_value R t ≡ Some (core_alone c) → IsCoreNormalForm (values_of R) c d → Distinct d.variants × All (λ (f : EntryParts). f.name ≡ names.Whole (core_alone d) → tag_of f.value ≡ None) R
+  resting : (t : TagForm) (c d : CoreParts) → whole_value R t ≡ Some (core_alone c) → IsCoreNormalForm R c d → Distinct d.variants × All (λ (f : EntryParts). f.name ≡ names.Whole (core_alone d) → tag_of f.value ≡ None) R
   resting t c d e n =
       let w = valued_whole R t (core_alone c) e in
       whole_has R t (core_alone c) (HasRestingWhole R) (C.passes.resting_whole) w t (core_alone c) w.named w.gives c d refl n
 
   -- the end of a value is its core normal form
-  pub value_rests : (t : TagForm) (c d : CoreParts) → whole_value R t ≡ Some (core_alone c) → IsCoreNormalForm (values_of R) c d → whole_value R (core_alone d) ≡ None
+  pub value_rests : (t : TagForm) (c d : CoreParts) → whole_value R t ≡ Some (core_alone c) → IsCoreNormalForm R c d → whole_value R (core_alone d) ≡ None
   value_rests t c d e n = no_value R (core_alone d) (resting t c d e n).1
 
   value_end_is : (t : TagForm) (c : CoreParts) → whole_value R t ≡ Some (core_alone c) → tag_end (core_alone c) ≡ core_alone (core_end c)
@@ -161,15 +161,15 @@ module _ (R : List EntryParts) (C : IsChecked R) where
 
   -- each proper tag reaches its end form
 
-  pub cores_reached : {c d : CoreParts} → Star (CoreStep (values_of R)) c d → (es : List ExtensionParts) (ps : List (List ℕ)) → IsProper R (LangTag c es ps) → IsReached R (LangTag c es ps) (LangTag d es ps)
+  pub cores_reached : {c d : CoreParts} → Star (CoreStep R) c d → (es : List ExtensionParts) (ps : List (List ℕ)) → IsProper R (LangTag c es ps) → IsReached R (LangTag c es ps) (LangTag d es ps)
   cores_reached r es ps P =
       star_map_while (λ x. IsProper R (LangTag x es ps)) (λ x. LangTag x es ps) (λ x y s p. steps_keep.core x y es ps s p)
       (λ x y s p q. step_of_change (LangTag x es ps) (LangTag y es ps) (on_core x y es ps refl refl s) p) r P
 
-  pub cores_proper : {c d : CoreParts} → Star (CoreStep (values_of R)) c d → (es : List ExtensionParts) (ps : List (List ℕ)) → IsProper R (LangTag c es ps) → IsProper R (LangTag d es ps)
+  pub cores_proper : {c d : CoreParts} → Star (CoreStep R) c d → (es : List ExtensionParts) (ps : List (List ℕ)) → IsProper R (LangTag c es ps) → IsProper R (LangTag d es ps)
   cores_proper r es ps P = star_keeps (λ x. IsProper R (LangTag x es ps)) (λ x y s p. steps_keep.core x y es ps s p) r P
 
-  pub parts_reached : {c d : CoreParts} {es fs : List ExtensionParts} → Star (CoreStep (values_of R)) c d → Star (ExtensionsStep R) es fs → (ps : List (List ℕ)) → IsProper R (LangTag c es ps) → IsReached R (LangTag c es ps) (LangTag d fs ps)
+  pub parts_reached : {c d : CoreParts} {es fs : List ExtensionParts} → Star (CoreStep R) c d → Star (ExtensionsStep R) es fs → (ps : List (List ℕ)) → IsProper R (LangTag c es ps) → IsReached R (LangTag c es ps) (LangTag d fs ps)
   parts_reached {c} {d} {es} {fs} r s ps P =
       star_trans (cores_reached r es ps P) (star_map_while (λ x. IsProper R (LangTag d x ps)) (λ x. LangTag d x ps) (λ x y k p. steps_keep.extensions d x y ps k p)
       (λ x y k p q. step_of_change (LangTag d x ps) (LangTag d y ps) (on_extensions d x y ps refl refl k) p) s (cores_proper r es ps P))

@@ -4,7 +4,7 @@ use Rattle.lt_tag.specs.Parts.{CoreParts, ExtensionParts, TagForm, LangTag, Priv
 use Rattle.lt_registry.specs.Parts.{EntryParts}
 use Rattle.lt_registry.specs.Validity.{IsValid, Distinct}
 use Rattle.lt_registry.specs.Faults.{HasSource}
-use Rattle.lt_rewrite.specs.CoreSteps.{values_of, IsCoreNormalForm}
+use Rattle.lt_rewrite.specs.CoreSteps.{IsCoreNormalForm}
 use Rattle.lt_rewrite.specs.TagSteps.{IsReached, IsCanonical, CanRepeat}
 use Rattle.lt_canon.specs.declared.refusals.Refusal.{Refusal}
 use Rattle.lt_canon.specs.declared.refusals.Refusal.TheVariants as refusals
@@ -20,7 +20,7 @@ pub record IsSecondOccurrence (variants : List (List ℕ)) (v : List ℕ) : Type
 -- that variant where core steps on a core have come to rest
 pub record IsRepeatOfCore (R : List EntryParts) (c : CoreParts) (v : List ℕ) : Type 0 where
   pub form : CoreParts
-  pub normal : IsCoreNormalForm (values_of R) c form
+  pub normal : IsCoreNormalForm R c form
   pub second : IsSecondOccurrence form.variants v
 
 -- and where they have on the source of an extension
@@ -36,7 +36,7 @@ pub record IsRepeatOfSource (R : List EntryParts) (es : List ExtensionParts) (v 
 -- the core normal form of the core repeats no variant
 pub record HasDistinctForm (R : List EntryParts) (c : CoreParts) : Type 0 where
   pub form : CoreParts
-  pub normal : IsCoreNormalForm (values_of R) c form
+  pub normal : IsCoreNormalForm R c form
   pub distinct : Distinct form.variants
 
 -- the variant that a refusal names: of the core, or, where that repeats none, of the source

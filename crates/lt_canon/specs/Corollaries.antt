@@ -10,6 +10,10 @@ use Rattle.lt_canon.specs.Answers.{IsCanonicalFormOf}
 abbrev pub OneCanonicalTag : List EntryParts → Type 0
 OneCanonicalTag R = (a b : TagForm) → IsCanonical R a → IsCanonical R b → AreEquivalent R a b → a ≡ b
 
+-- a valid tag of which steps can repeat a variant is equivalent to no canonical tag
+abbrev pub RepeatsHaveNoForm : List EntryParts → Type 0
+RepeatsHaveNoForm R = (t c : TagForm) → IsValid R t → CanRepeat R t → IsCanonical R c → AreEquivalent R t c → ⊥
+
 -- of two valid tags that are equivalent both can repeat a variant or neither
 abbrev pub RepeatTogether : List EntryParts → Type 0
 RepeatTogether R = (t u : TagForm) → IsValid R t → IsValid R u → AreEquivalent R t u → CanRepeat R t → CanRepeat R u

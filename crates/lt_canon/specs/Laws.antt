@@ -22,31 +22,20 @@ pub record HasEndForms (R : List EntryParts) : Type 0 where
   pub reached : (t : TagForm) → IsProper R t → IsReached R t (end t)
   pub at_rest : (t : TagForm) → Rests (TagStep R) (end t)
 
--- steps can repeat a variant, and no canonical tag is equivalent (RFC 5646, 4.5 and 2.2.5)
-pub record RepeatsWithoutForm (R : List EntryParts) (t : TagForm) : Type 0 where
-  pub repeats : CanRepeat R t
-  pub formless : (c : TagForm) → IsCanonical R c → AreEquivalent R t c → ⊥
-
--- A valid tag reaches a canonical tag and can repeat no variant, or it can repeat one and is equivalent to no
--- canonical tag (RFC 5646, 4.5).
+-- a valid tag has a canonical form, or steps can repeat a variant of it (RFC 5646, 4.5 and 2.2.5)
 abbrev pub CanonicalOrRepeats : List EntryParts → Type 0
-CanonicalOrRepeats R = (t : TagForm) → IsValid R t → ((c : TagForm) × IsCanonicalFormOf R t c) ⊎ RepeatsWithoutForm R t
+CanonicalOrRepeats R = (t : TagForm) → IsValid R t → ((c : TagForm) × IsCanonicalFormOf R t c) ⊎ CanRepeat R t
 
 -- valid tags that can repeat no variant are equivalent exactly if the texts of their canonical forms are equal (RFC
 -- 5646, 4.5)
 abbrev pub EquivalenceIsEqualText : List EntryParts → Type 0
-EquivalenceIsEqualText R =
-    (t u c d : TagForm) → IsCanonicalFormOf R t c → IsCanonicalFormOf R u d →
+EquivalenceIsEqualText R = (t u c d : TagForm) → IsCanonicalFormOf R t c → IsCanonicalFormOf R u d →
     AreEquivalent R t u ↔ (conventional (spell c) ≡ conventional (spell d))
-
--- a canonical tag is its own canonical form, and has no other
-pub record IsItsOwnForm (R : List EntryParts) (c : TagForm) : Type 0 where
-  pub own : IsCanonicalFormOf R c c
-  pub only : (d : TagForm) → IsCanonicalFormOf R c d → d ≡ c
 
 -- a canonical form is its own canonical form, and has no other (RFC 5646, 4.5)
 abbrev pub CanonicalTwiceIsOnce : List EntryParts → Type 0
-CanonicalTwiceIsOnce R = (t c : TagForm) → IsCanonicalFormOf R t c → IsItsOwnForm R c
+CanonicalTwiceIsOnce R = (t c : TagForm) → IsCanonicalFormOf R t c →
+    IsCanonicalFormOf R c c × ((d : TagForm) → IsCanonicalFormOf R c d → d ≡ c)
 
 -- a canonical text that is not too long to be read is its own canonical text, and has no other (RFC 5646, 4.5)
 abbrev pub CanonicalTextTwiceIsOnce : List EntryParts → Type 0

@@ -8,7 +8,7 @@ use Rattle.lt_registry.specs.Entries.{whole_value}
 use Rattle.lt_registry.specs.Validity.{Distinct, HasDistinctSource}
 use Rattle.lt_registry.specs.Faults.{HasSource}
 use Rattle.lt_rewrite.specs.Rewriting.{IsNormalForm}
-use Rattle.lt_rewrite.specs.CoreSteps.{values_of, IsCoreNormalForm}
+use Rattle.lt_rewrite.specs.CoreSteps.{IsCoreNormalForm}
 use Rattle.lt_rewrite.specs.Extensions.{ExtensionsStep}
 use Rattle.lt_rewrite.specs.TagSteps.{CanBeReplacedWhole}
 use Rattle.lt_canon.specs.Answers.{IsCanonicalFormOf, IsSecondOccurrence, IsRepeatOfCore}
@@ -19,7 +19,7 @@ use Rattle.lt_tag.specs.Values.{core_alone}
 
 -- the core normal form of a core, in which no variant occurs twice
 pub record IsDistinctForm (R : List EntryParts) (c d : CoreParts) : Type 0 where
-  pub normal : IsCoreNormalForm (values_of R) c d
+  pub normal : IsCoreNormalForm R c d
   pub distinct : Distinct d.variants
 
 -- the variant that occurs twice in the core normal form; running out of memory aside
@@ -48,7 +48,7 @@ pub record IsSettledValue (R : List EntryParts) (t u : TagForm) : Type 0 where
   pub form : CoreParts
   pub from : t ≡ core_alone core
   pub to : u ≡ core_alone form
-  pub normal : IsCoreNormalForm (values_of R) core form
+  pub normal : IsCoreNormalForm R core form
 
 -- the langtag of the normal forms of a core and of extensions, in which no variant occurs twice
 pub record IsSettledLangTag (R : List EntryParts) (c : CoreParts) (es : List ExtensionParts)

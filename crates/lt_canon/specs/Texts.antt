@@ -6,6 +6,8 @@ use Rattle.lt_tag.specs.Conventional.{conventional}
 use Rattle.lt_tag.specs.Faults.{HasTag, HasFault}
 use Rattle.lt_registry.specs.Parts.{EntryParts}
 use Rattle.lt_registry.specs.Faults.{IsFirstFault}
+use Rattle.lt_registry.specs.Validity.{IsValid}
+use Rattle.lt_rewrite.specs.TagSteps.{CanRepeat}
 use Rattle.lt_canon.specs.Answers.{IsCanonicalFormOf, IsRepeatOf}
 use Rattle.lt_canon.specs.declared.refusals.TextRefusal.{TextRefusal}
 use Rattle.lt_canon.specs.declared.refusals.TextRefusal.TheVariants as refusals
@@ -36,3 +38,12 @@ IsTextRefusal R text (refusals.NotATag fault) = HasFault text fault.kind fault.p
 IsTextRefusal R text (refusals.Invalid fault) = ReadsAs text (λ tag. IsFirstFault R tag fault.kind fault.place)
 IsTextRefusal R text (refusals.ReplacementRepeats variant) = ReadsAs text (λ tag. IsRepeatOf R tag variant)
 IsTextRefusal R text refusals.OutOfMemory = Unit {0}
+
+-- A text is refused only where it is read as no tag, or as one that is not valid, or where steps can repeat a variant
+-- of that, which is valid (RFC 5646, 4.5 and 2.2.5). Where memory runs out nothing is said.
+abbrev pub RefusesTextOnlyRepeats : List EntryParts → List ℕ → TextRefusal → Type 0
+RefusesTextOnlyRepeats R text (refusals.NotATag fault) = (tag : TagForm) → HasTag text tag → ⊥
+RefusesTextOnlyRepeats R text (refusals.Invalid fault) = (tag : TagForm) × HasTag text tag × (IsValid R tag → ⊥)
+RefusesTextOnlyRepeats R text (refusals.ReplacementRepeats v) =
+    (tag : TagForm) × HasTag text tag × IsValid R tag × CanRepeat R tag
+RefusesTextOnlyRepeats R text refusals.OutOfMemory = Unit {0}

@@ -4,6 +4,7 @@ use Rattle.lt_tag.specs.Parts.{TagForm}
 use Rattle.lt_registry.specs.Parts.{EntryParts}
 use Rattle.lt_registry.specs.Validity.{IsValid}
 use Rattle.lt_registry.specs.Faults.{IsFirstFault}
+use Rattle.lt_registry.specs.Names as tags
 use Rattle.lt_registry.specs.declared.faults.ValidRefusal.{ValidRefusal}
 use Rattle.lt_registry.specs.declared.faults.ValidRefusal.TheVariants as checks
 use Rattle.lt_rewrite.specs.Labels.{LeadsBy, IsTrace}
@@ -40,9 +41,9 @@ IsTraceFault R t steps end (faults.NoSuchStep n) = IsValid R t × IsMisstep R t 
 IsTraceFault R t steps end faults.WrongEnd = IsValid R t × EndsElsewhere R t steps end
 IsTraceFault R t steps end faults.OutOfMemory = Unit {0}
 
--- the names of the faults
+-- the names of the faults, as they are printed
 abbrev pub trace_fault_name_of : TraceFault → List ℕ
-trace_fault_name_of (faults.Invalid fault) = codes "Invalid"
+trace_fault_name_of (faults.Invalid fault) = tags.name_of fault.kind
 trace_fault_name_of (faults.NoSuchStep n) = codes "NoSuchStep"
 trace_fault_name_of faults.WrongEnd = codes "WrongEnd"
 trace_fault_name_of faults.OutOfMemory = codes "OutOfMemory"

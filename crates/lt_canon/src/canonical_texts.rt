@@ -1,6 +1,6 @@
 //! Canonical texts.
 ghost use Rattle.std.specs.Prelude.{◌≡◌, IfOk, IfErr, OnOk, OnErr};
-ghost use Rattle.lt_canon.specs.Texts.{AppendsCanonicalText, IsCanonicalTextOf, IsTextRefusal};
+ghost use Rattle.lt_canon.specs.Texts.{AppendsCanonicalText, IsCanonicalTextOf, IsTextRefusal, RefusesTextOnlyRepeats};
 
 use crate::canonical_tags::canonical_of;
 use crate::refusals::TextRefusal;
@@ -52,12 +52,14 @@ fn append_other_text<L: Lookup>(
 /// - `NotATag`, with the fault that `read_tag` answers, exactly where the text is read as none.
 /// - `Invalid` and `ReplacementRepeats` where `canonical` refuses the tag so.
 /// - `OutOfMemory` where memory runs out.
+#[tactic(auto, using(crate::proofs::CanonicalForms::text_repeats_answered))]
 pub fn canonical_text<L: Lookup>(
     alloc: Global,
     checked: &Checked<L>,
     text: &[u8],
 ) -> Result<Vec<u8>, TextRefusal>
     ensures written { IfOk result (λ canonical. IsCanonicalTextOf (L.listed checked.now) text.now canonical.items) }
+    ensures repeats { IfErr result (λ refusal. RefusesTextOnlyRepeats (L.listed checked.now) text.now refusal) }
     ensures refusal { IfErr result (λ refusal. IsTextRefusal (L.listed checked.now) text.now refusal) }
 {
     let mut canonical = Vec::new(alloc);

@@ -4,7 +4,7 @@ ghost use Rattle.std.specs.Prelude.{List};
 ghost use Rattle.lt_registry.specs.Parts.{EntryParts};
 ghost use Rattle.lt_check.specs.Conditions.{IsChecked};
 ghost use Rattle.lt_canon.specs.Laws.{HasEndForms, StepsAreConfluent, CanonicalOrRepeats, EquivalenceIsEqualText, CanonicalTwiceIsOnce, CanonicalTextTwiceIsOnce};
-ghost use Rattle.lt_canon.specs.Corollaries.{OneCanonicalTag, RepeatTogether, EquivalenceIsEquality};
+ghost use Rattle.lt_canon.specs.Corollaries.{OneCanonicalTag, RepeatsHaveNoForm, RepeatTogether, EquivalenceIsEquality};
 ghost use Rattle.lt_canon.specs.RepeatLaws.{RepeatsAreNamed};
 ghost use Rattle.lt_canon.specs.ExtlangLaws.{ExtlangFormsLeadBack};
 ghost use Rattle.lt_canon.specs.TraceLaws.{TracesReachTheirEnd, TracesHaveOneEnd};
@@ -25,12 +25,13 @@ use lt_registry::Lookup;
 /// - A canonical form is its own canonical form; a canonical text is its own canonical text, unless it has more
 ///   than 1,024 bytes.
 /// - Where a valid tag can repeat a variant, there is one variant that the refusal names.
-#[tactic(auto, using(crate::proofs::TagForm::has_end_forms, crate::proofs::TagForm::steps_confluent, crate::proofs::TagForm::one_canonical_tag, crate::proofs::CanonicalForms::canonical_or_repeats, crate::proofs::CanonicalForms::equivalence_is_equality, crate::proofs::CanonicalForms::repeats_are_named, crate::proofs::CanonicalForms::text_equality, crate::proofs::CanonicalForms::twice_is_once))]
+#[tactic(auto, using(crate::proofs::TagForm::has_end_forms, crate::proofs::TagForm::steps_confluent, crate::proofs::TagForm::one_canonical_tag, crate::proofs::CanonicalForms::canonical_or_repeats, crate::proofs::CanonicalForms::repeats_have_no_form, crate::proofs::CanonicalForms::equivalence_is_equality, crate::proofs::CanonicalForms::repeats_are_named, crate::proofs::CanonicalForms::text_equality))]
 pub fn confluence<L: Lookup>(checked: &Checked<L>)
     ensures ends { HasEndForms (L.listed checked.now) }
     ensures confluent { StepsAreConfluent (L.listed checked.now) }
     ensures one { OneCanonicalTag (L.listed checked.now) }
     ensures canonical { CanonicalOrRepeats (L.listed checked.now) }
+    ensures formless { RepeatsHaveNoForm (L.listed checked.now) }
     ensures together { RepeatTogether (L.listed checked.now) }
     ensures equality { EquivalenceIsEquality (L.listed checked.now) }
     ensures equal_texts { EquivalenceIsEqualText (L.listed checked.now) }
@@ -53,11 +54,23 @@ pub fn steps_are_confluent()
 /// A valid tag reaches a canonical tag and can repeat no variant, or it can repeat one and is equivalent to no
 /// canonical tag; of two valid tags that are equivalent both can repeat a variant or neither; and two that can
 /// repeat none are equivalent exactly if their canonical forms are equal.
-#[tactic(auto, using(crate::proofs::CanonicalForms::canonical_or_repeats, crate::proofs::CanonicalForms::repeat_together, crate::proofs::CanonicalForms::equivalence_is_equality))]
+#[tactic(auto, using(crate::proofs::CanonicalForms::canonical_or_repeats, crate::proofs::CanonicalForms::repeats_have_no_form, crate::proofs::CanonicalForms::repeat_together, crate::proofs::CanonicalForms::equivalence_is_equality))]
 pub fn tags_are_canonical_or_repeat()
     ensures canonical { (R : List EntryParts) → IsChecked R → CanonicalOrRepeats R }
+    ensures formless { (R : List EntryParts) → IsChecked R → RepeatsHaveNoForm R }
     ensures together { (R : List EntryParts) → IsChecked R → RepeatTogether R }
     ensures equality { (R : List EntryParts) → IsChecked R → EquivalenceIsEquality R }
+{}
+
+/// A valid tag has a canonical form or can repeat a variant; a canonical form is its own canonical form, and a
+/// canonical text its own canonical text, unless it has more than 1,024 bytes; valid tags that can repeat none are
+/// equivalent exactly if the texts of their canonical forms are equal.
+#[tactic(auto, using(crate::proofs::CanonicalForms::canonical_or_repeats, crate::proofs::CanonicalForms::twice_is_once, crate::proofs::CanonicalForms::equal_texts_tell))]
+pub fn canonical_forms()
+    ensures canonical { (R : List EntryParts) → IsChecked R → CanonicalOrRepeats R }
+    ensures twice { (R : List EntryParts) → IsChecked R → CanonicalTwiceIsOnce R }
+    ensures text_twice { (R : List EntryParts) → IsChecked R → CanonicalTextTwiceIsOnce R }
+    ensures equal_texts { (R : List EntryParts) → IsChecked R → EquivalenceIsEqualText R }
 {}
 
 /// Where a valid tag can repeat a variant, there is one variant that the refusal names.

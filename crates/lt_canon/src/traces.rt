@@ -40,12 +40,13 @@ pub enum TraceFault {
 }
 
 impl TraceFault {
-    /// The fault's name, as it is written here: `NoSuchStep`.
+    /// The fault's name, as it is printed: `NoSuchStep`, or for a tag that is not valid that of its fault, as
+    /// `UnknownLanguage`.
     pub fn name(self) -> &'static str
         ensures { result.now ≡ trace_fault_name_of self }
     {
         match self {
-            TraceFault::Invalid(_) => "Invalid",
+            TraceFault::Invalid(fault) => fault.kind.name(),
             TraceFault::NoSuchStep(_) => "NoSuchStep",
             TraceFault::WrongEnd => "WrongEnd",
             TraceFault::OutOfMemory => "OutOfMemory",

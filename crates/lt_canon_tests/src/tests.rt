@@ -5,6 +5,7 @@ mod explanations;
 mod growths;
 mod hostile;
 mod refusals;
+mod rounds;
 mod traces;
 mod upgrades;
 mod usual_texts;

@@ -11,7 +11,7 @@ use Rattle.lt_registry.specs.Entries.{IsEntry, FitsName, is_whole, tag_of, whole
 use Rattle.lt_registry.specs.Validity.{IsProperCore, HasProperParts, Distinct}
 use Rattle.lt_registry.specs.declared.entries.EntryName.TheVariants as names
 use Rattle.lt_rewrite.specs.Rewriting.{Star}
-use Rattle.lt_rewrite.specs.CoreSteps.{values_of, CoreStep, IsCoreNormalForm}
+use Rattle.lt_rewrite.specs.CoreSteps.{CoreStep, IsCoreNormalForm}
 use Rattle.lt_rewrite.specs.Conditions.{HasFittingGrandfathered, MeetsCoreConditions}
 use Rattle.lt_rewrite.proofs.CoreLaws.{one_normal_form}
 use Rattle.lt_rewrite.proofs.Entries.{find_has}
@@ -49,11 +49,11 @@ core_below R M = record {
 }
 
 -- a core has one core normal form
-pub one_form : (R : List EntryParts) → MeetsBelow 10 R → (c a b : CoreParts) → IsCoreNormalForm (values_of R) c a → IsCoreNormalForm (values_of R) c b → a ≡ b
+pub one_form : (R : List EntryParts) → MeetsBelow 10 R → (c a b : CoreParts) → IsCoreNormalForm R c a → IsCoreNormalForm R c b → a ≡ b
 one_form R M c a b x y = let o = one_normal_form R (core_below R M) c in o.1.alone a x ∙ sym (o.1.alone b y)
 
 -- that of a proper core spells no grandfathered tag
-pub form_spells_none : (R : List EntryParts) → MeetsBelow 10 R → (c d : CoreParts) → IsProperCore R c → Star (CoreStep (values_of R)) c d → IsCore d → IsNotGrandfathered (spell_core d)
+pub form_spells_none : (R : List EntryParts) → MeetsBelow 10 R → (c d : CoreParts) → IsProperCore R c → Star (CoreStep R) c d → IsCore d → IsNotGrandfathered (spell_core d)
 form_spells_none R M c d P s shaped =
     proper_not_grandfathered R (M conditions.FittingGrandfathered (omega arith)) d shaped (star_keeps (IsProperCore R) (λ a b one k. step_proper R (core_below R M) a b k one) s P)
 
@@ -124,37 +124,37 @@ pub differ : (c d : CoreParts) (b : Bool) → b ≡ eq_by_cmp core_cmp c d → b
 differ c d b e f k = let t : b ≡ true = (same_verdict c d b e).1 k in cc
 
 -- a tag agrees as its core normal form does
-pub at_form : (R : List EntryParts) → MeetsBelow 10 R → (t : TagForm) (c form end : CoreParts) → t ≡ core_alone c → IsCoreNormalForm (values_of R) c form → (b : Bool) → Decides b (form ≢ c → ComesTo R form end) → Decides b (Agrees R t end)
+pub at_form : (R : List EntryParts) → MeetsBelow 10 R → (t : TagForm) (c form end : CoreParts) → t ≡ core_alone c → IsCoreNormalForm R c form → (b : Bool) → Decides b (form ≢ c → ComesTo R form end) → Decides b (Agrees R t end)
 at_form R M t c form end e n b d =
     Decides-like b
     (λ f a s x m moved.
     let core : c ≡ a = cc in
-    let same = one_form R M a form s (subst (λ (z : CoreParts). IsCoreNormalForm (values_of R) z form) core n) m in
+    let same = one_form R M a form s (subst (λ (z : CoreParts). IsCoreNormalForm R z form) core n) m in
     subst (λ (z : CoreParts). ComesTo R z end) same (f (λ k. moved (sym same ∙ k ∙ core))))
     (λ h moved. h c form e n moved)
     d
 
 -- the core normal form has a value, which has a core normal form
-pub by_value : (R : List EntryParts) → MeetsBelow 10 R → (c form end q r : CoreParts) → form ≢ c → form ≢ end → whole_value R (core_alone form) ≡ Some (core_alone q) → IsCoreNormalForm (values_of R) q r → (b : Bool) → Decides b (r ≡ end) → Decides b (form ≢ c → ComesTo R form end)
+pub by_value : (R : List EntryParts) → MeetsBelow 10 R → (c form end q r : CoreParts) → form ≢ c → form ≢ end → whole_value R (core_alone form) ≡ Some (core_alone q) → IsCoreNormalForm R q r → (b : Bool) → Decides b (r ≡ end) → Decides b (form ≢ c → ComesTo R form end)
 by_value R M c form end q r moved apart w m b d =
     Decides-like b
-    (λ e k. inr (q, w, subst (IsCoreNormalForm (values_of R) q) e m))
+    (λ e k. inr (q, w, subst (IsCoreNormalForm R q) e m))
     (λ t. elim (t moved) [
       | inl e ↦ absurd (apart e)
       | inr v ↦ (
           let found : Some (core_alone q) ≡ Some (core_alone v.0) = sym w ∙ v.1 in
           let same : q ≡ v.0 = cc in
-          one_form R M q r end m (subst (λ (z : CoreParts). IsCoreNormalForm (values_of R) z end) (sym same) v.2))
+          one_form R M q r end m (subst (λ (z : CoreParts). IsCoreNormalForm R z end) (sym same) v.2))
     ])
     d
 
 -- a whole record whose value is a langtag without extensions and private use
-pub at_end : (R : List EntryParts) → MeetsBelow 10 R → (e : EntryParts) (t u : TagForm) (p end : CoreParts) → e.name ≡ names.Whole t → tag_of e.value ≡ Some u → u ≡ core_alone p → IsCoreNormalForm (values_of R) p end → (P : TagForm → CoreParts → Type 0) (b : Bool) → Decides b (P t end) → Decides b (OfWhole e (λ t u. (p d : CoreParts) → u ≡ core_alone p → IsCoreNormalForm (values_of R) p d → P t d))
+pub at_end : (R : List EntryParts) → MeetsBelow 10 R → (e : EntryParts) (t u : TagForm) (p end : CoreParts) → e.name ≡ names.Whole t → tag_of e.value ≡ Some u → u ≡ core_alone p → IsCoreNormalForm R p end → (P : TagForm → CoreParts → Type 0) (b : Bool) → Decides b (P t end) → Decides b (OfWhole e (λ t u. (p d : CoreParts) → u ≡ core_alone p → IsCoreNormalForm R p d → P t d))
 at_end R M e t u p end n v up k P b d =
     Decides-like b
     (λ f x y m w z q yz l.
     let tag : t ≡ x = cc in
     let core : z ≡ p = cc in
-    subst (λ (a : TagForm). P a q) tag (subst (P t) (one_form R M p end q k (subst (λ (z : CoreParts). IsCoreNormalForm (values_of R) z q) core l)) f))
+    subst (λ (a : TagForm). P a q) tag (subst (P t) (one_form R M p end q k (subst (λ (z : CoreParts). IsCoreNormalForm R z q) core l)) f))
     (λ h. h t u n v p end up k)
     d

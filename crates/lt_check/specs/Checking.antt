@@ -49,11 +49,6 @@ abbrev pub IsCause : List EntryParts → RejectedCause → Type 0
 IsCause R (causes.Finding finding) = IsAtFault R finding.condition finding.number
 IsCause R causes.OutOfMemory = Unit {0}
 
--- A table that passes is rejected only where memory runs out (this project's own).
-abbrev pub RejectsNoneThatPass : List EntryParts → RejectedCause → Type 0
-RejectsNoneThatPass R (causes.Finding finding) = Passes R → ⊥
-RejectsNoneThatPass R causes.OutOfMemory = Unit {0}
-
 -- It is the first condition that fails, and there the lowest record. Where memory runs out nothing is said.
 abbrev pub IsFirstCause : List EntryParts → RejectedCause → Type 0
 IsFirstCause R (causes.Finding finding) = IsFinding R finding.condition finding.number

@@ -7,7 +7,7 @@ use Rattle.lt_registry.specs.Entries.{tag_of, whole_value, IsRegistry}
 use Rattle.lt_registry.specs.Validity.{IsValid, Distinct}
 use Rattle.lt_registry.specs.declared.entries.Kind.TheVariants as kinds
 use Rattle.lt_registry.specs.declared.entries.EntryName.TheVariants as names
-use Rattle.lt_rewrite.specs.CoreSteps.{values_of, IsCoreNormalForm}
+use Rattle.lt_rewrite.specs.CoreSteps.{IsCoreNormalForm}
 use Rattle.lt_rewrite.specs.Conditions.{HasOwnName, HasRegisteredValue, HasEndingChain, HasFittingExtlang, HasFittingVariantValue, HasFinalPrefixes, HasLangtagPrefixes, HasFittingGrandfathered, HasNoRangeValue}
 use Rattle.lt_check.specs.declared.conditions.Condition.{Condition}
 use Rattle.lt_check.specs.declared.conditions.Condition.TheVariants as conditions
@@ -31,18 +31,16 @@ HasValidWhole R e = OfWhole e (λ t u. IsValidCoreAlone R u × (e.kind ≡ kinds
 -- If a whole record has a value, no variant occurs twice in the core normal form of this value, and this form is not
 -- the tag of a whole record with a value (C10; this project's own).
 abbrev pub HasRestingWhole : List EntryParts → EntryParts → Type 0
-HasRestingWhole R e =
-    OfWhole e (λ t u. (c d : CoreParts) → u ≡ core_alone c → IsCoreNormalForm (values_of R) c d →
+HasRestingWhole R e = OfWhole e (λ t u. (c d : CoreParts) → u ≡ core_alone c → IsCoreNormalForm R c d →
     Distinct d.variants × All (λ (f : EntryParts). f.name ≡ names.Whole (core_alone d) → tag_of f.value ≡ None) R)
 
 -- Let a tag with a value have a core normal form that is another tag. Then the value has this core normal form too; or
 -- this form has a value as a whole tag, and the two values have one core normal form (C11; this project's own).
 abbrev pub HasAgreeingWhole : List EntryParts → EntryParts → Type 0
-HasAgreeingWhole R e =
-    OfWhole e (λ t u. (c s p d : CoreParts) → t ≡ core_alone c → u ≡ core_alone p →
-    IsCoreNormalForm (values_of R) c s → s ≢ c → IsCoreNormalForm (values_of R) p d →
+HasAgreeingWhole R e = OfWhole e (λ t u. (c s p d : CoreParts) → t ≡ core_alone c → u ≡ core_alone p →
+    IsCoreNormalForm R c s → s ≢ c → IsCoreNormalForm R p d →
     (s ≡ d)
-    ⊎ ((q : CoreParts) × (whole_value R (core_alone s) ≡ Some (core_alone q)) × IsCoreNormalForm (values_of R) q d))
+    ⊎ ((q : CoreParts) × (whole_value R (core_alone s) ≡ Some (core_alone q)) × IsCoreNormalForm R q d))
 
 -- a record meets a condition
 abbrev pub Meets : Condition → List EntryParts → EntryParts → Type 0

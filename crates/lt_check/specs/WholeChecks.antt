@@ -5,7 +5,7 @@ use Rattle.lt_registry.specs.Parts.{EntryParts}
 use Rattle.lt_registry.specs.Entries.{tag_of, whole_value}
 use Rattle.lt_registry.specs.Validity.{Distinct}
 use Rattle.lt_registry.specs.declared.entries.EntryName.TheVariants as names
-use Rattle.lt_rewrite.specs.CoreSteps.{values_of, IsCoreNormalForm}
+use Rattle.lt_rewrite.specs.CoreSteps.{IsCoreNormalForm}
 use Rattle.lt_check.specs.Conditions.{Meets, rank_of}
 use Rattle.lt_check.specs.declared.conditions.Condition.{Condition}
 use Rattle.lt_tag.specs.Values.{core_alone}
@@ -26,8 +26,8 @@ Rests R d = Distinct d.variants × HasNoValue R (core_alone d)
 abbrev pub ComesTo : List EntryParts → CoreParts → CoreParts → Type 0
 ComesTo R s d =
     (s ≡ d) ⊎ ((q : CoreParts) × (whole_value R (core_alone s) ≡ Some (core_alone q))
-    × IsCoreNormalForm (values_of R) q d)
+    × IsCoreNormalForm R q d)
 
 -- where a tag has a core normal form other than itself, that comes to an end
 abbrev pub Agrees : List EntryParts → TagForm → CoreParts → Type 0
-Agrees R t d = (c s : CoreParts) → t ≡ core_alone c → IsCoreNormalForm (values_of R) c s → s ≢ c → ComesTo R s d
+Agrees R t d = (c s : CoreParts) → t ≡ core_alone c → IsCoreNormalForm R c s → s ≢ c → ComesTo R s d

@@ -1,9 +1,10 @@
 //! A table of entries that passes the check.
-ghost use Rattle.std.specs.Prelude.{◌≡◌, IfOk, IfErr};
+ghost use Rattle.std.specs.Prelude.{◌≡◌, ◌⊎◌, IfOk, IfErr};
 ghost use Rattle.lt_rewrite.specs.Shortcuts.{AreShortcuts};
 ghost use Rattle.lt_usual.specs.Flags.{AreFlags};
 ghost use Rattle.lt_check.specs.Conditions.{IsChecked, Passes};
-ghost use Rattle.lt_check.specs.Checking.{IsCause, IsFirstCause, RejectsNoneThatPass};
+ghost use Rattle.lt_check.specs.Checking.{IsCause, IsFirstCause};
+ghost use Rattle.lt_check.specs.declared.rejections.RejectedCause.TheVariants as causes;
 
 use crate::checking::find_fault;
 use crate::rejections::{Rejected, RejectedCause};
@@ -15,11 +16,24 @@ use std::alloc::Global;
 use std::marker::Model;
 
 /// A table of entries that passes the check: each record meets each [`Condition`](crate::Condition).
-#[derive(Drop)]
 pub struct Checked<L: Lookup> {
     table: L,
     shortcuts: Shortcuts,
     usual: UsualSubtags,
+}
+
+// By hand: who lets a checked table go then owes this one call, and not a drop for each of its vectors.
+impl<L: Lookup + Drop> Drop for Checked<L> {
+    fn drop(self) {
+        let Checked {
+            table,
+            shortcuts,
+            usual,
+        } = self;
+        drop(table);
+        drop(shortcuts);
+        drop(usual);
+    }
 }
 
 // A contract sees it as its table (this project's own).
@@ -43,7 +57,7 @@ impl<L: Lookup> Checked<L> {
         ensures value { IfOk result (λ checked. checked ≡ table) }
         ensures passes { IfOk result (λ checked. Passes (L.listed table)) }
         ensures returned { IfErr result (λ rejected. rejected.table ≡ table) }
-        ensures rejects { IfErr result (λ rejected. RejectsNoneThatPass (L.listed table) rejected.cause) }
+        ensures rejects { IfErr result (λ rejected. (rejected.cause ≡ causes.OutOfMemory) ⊎ (Passes (L.listed table) → ⊥)) }
         ensures cause { IfErr result (λ rejected. IsCause (L.listed table) rejected.cause) }
         ensures first { IfErr result (λ rejected. IsFirstCause (L.listed table) rejected.cause) }
     {

@@ -8,7 +8,7 @@ ghost use Rattle.lt_tag.specs.WellFormed.{IsNotGrandfathered};
 ghost use Rattle.lt_registry.specs.Entries.{tag_of, whole_value, IsRegistry};
 ghost use Rattle.lt_registry.specs.Validity.{IsProperCore};
 ghost use Rattle.lt_registry.specs.declared.entries.EntryName.TheVariants as names;
-ghost use Rattle.lt_rewrite.specs.CoreSteps.{values_of, IsCoreNormalForm};
+ghost use Rattle.lt_rewrite.specs.CoreSteps.{IsCoreNormalForm};
 ghost use Rattle.lt_rewrite.specs.Shortcuts.{AreShortcuts};
 ghost use Rattle.lt_check.specs.Conditions.{OfWhole, IsValidCoreAlone, Meets};
 ghost use Rattle.lt_check.specs.WholeChecks.{MeetsBelow, Rests, Agrees};
@@ -61,7 +61,7 @@ fn settled<L: Lookup>(
     requires shortcuts { AreShortcuts (L.listed table.now) shortcuts.now }
     requires lower { MeetsBelow 10 (L.listed table.now) }
     requires proper { IsProperCore (L.listed table.now) core.now }
-    ensures normal { IfOk result (λ form. IsCoreNormalForm (values_of (L.listed table.now)) core.now form) }
+    ensures normal { IfOk result (λ form. IsCoreNormalForm (L.listed table.now) core.now form) }
     ensures spelled { IfOk result (λ form. IsNotGrandfathered (spell_core form)) }
 {
     let mut form = core.copy(alloc)?;

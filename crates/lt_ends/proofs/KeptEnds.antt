@@ -22,7 +22,7 @@ use Rattle.lt_tag.proofs.TextLemmas.{some_pieces}
 use Rattle.lt_registry.specs.Parts.{EntryParts}
 use Rattle.lt_registry.specs.Validity.{HasDistinctSource, IsValid, RepeatsNoVariant, Distinct}
 use Rattle.lt_rewrite.specs.Rewriting.{done, then, Rests}
-use Rattle.lt_rewrite.specs.CoreSteps.{values_of, CoreStep}
+use Rattle.lt_rewrite.specs.CoreSteps.{CoreStep}
 use Rattle.lt_rewrite.specs.TagSteps.{on_core, IsCanonical}
 use Rattle.lt_rewrite.specs.Laws.{IsProperValue}
 use Rattle.lt_rewrite.proofs.NormalForms.{form_is_normal, star_rests, normal_is_form, star_keeps, rest_is_form}
@@ -157,7 +157,7 @@ lang_text c (e ∷ es) ps k n = text_append c.language _ (e.singleton ∷ []) _ 
 
 module _ (R : List EntryParts) (C : IsChecked R) where
   -- no step leads from the core of a canonical tag
-  pub core_rests : (c : CoreParts) → IsCanonical R (core_alone c) → Rests (CoreStep (values_of R)) c
+  pub core_rests : (c : CoreParts) → IsCanonical R (core_alone c) → Rests (CoreStep R) c
   core_rests c K d s =
       K.at_rest (core_alone d) (record {
         from = K.valid.proper;

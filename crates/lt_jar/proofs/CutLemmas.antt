@@ -1,9 +1,10 @@
 -- Where a line ends.
-use Rattle.std.proofs.Common.{◌≡◌, ◌≢◌, ◌<◌, ◌+◌, ◌-◌, ◌++◌, ◌∷◌, ◌∙◌, ℕ, List, [], take, drop, length, sym, ap, arith, add-one, if◌then◌else◌, get_or, length-drop, suc, subst, refl}
+use Rattle.std.proofs.Common.{◌≡◌, ◌≢◌, ◌<◌, ◌≤◌, ◌+◌, ◌-◌, ◌++◌, ◌∷◌, ◌∙◌, ℕ, List, [], take, drop, length, sym, ap, arith, add-one, if◌then◌else◌, get_or, length-drop, suc, subst, refl}
 use Rattle.std.proofs.Math.Seq.{drop-cons, take-length}
-use Rattle.std.proofs.lemmas.Bool.{ne_eqb}
-use Rattle.std.proofs.lemmas.List.{take-append-drop, take_all}
-use Rattle.std.proofs.lemmas.List.Elements.{All-head, All-tail}
+use Rattle.std.proofs.lemmas.Bool.{eq-eqb, ne_eqb}
+use Rattle.std.proofs.lemmas.List.{get_or-take, length-take-le, take-append-drop, take_all}
+use Rattle.std.proofs.lemmas.List.Elements.{All-from_get_or, All-head, All-tail}
+use Rattle.memchr.specs.Find.{Nowhere, Passes, is_byte}
 use Rattle.lt_jar.specs.Lines.{IsOneLine, begin_first, lines_of}
 
 abbrev pub IsNoEnd : ℕ → Type 0
@@ -39,8 +40,16 @@ first_goes_on byte (next ∷ line) more one =
     let rest = first_goes_on next line more (All-tail IsNoEnd byte (next ∷ line) one) in
     (rest.0, rest.1, begins byte ((next ∷ line) ++ more) (All-head IsNoEnd byte (next ∷ line) one) ∙ ap (begin_first byte) rest.2)
 
-pub whole_line : (text : List ℕ) (i : ℕ) → i ≡ length text → IsOneLine (take i text) → IsOneLine text
-whole_line text i all one = subst IsOneLine (ap (λ n. take n text) all ∙ take-length text) one
+-- the bytes before the first line feed
+pub line_front : (text : List ℕ) (i : ℕ) → i ≤ length text → Nowhere (Passes (is_byte 10) text) 0 i → IsOneLine (take i text)
+line_front text i le none =
+    let long = length-take-le i text le in
+    All-from_get_or IsNoEnd (take i text) 0
+    (λ k inside e. none k (omega arith) (omega (arith, inside, long)) (eq-eqb (get_or text k 0) 10 (sym (get_or-take i text k 0 (omega (arith, inside, long))) ∙ e)))
+
+-- there is none
+pub whole_line : (text : List ℕ) → Nowhere (Passes (is_byte 10) text) 0 (length text) → IsOneLine text
+whole_line text none = subst IsOneLine (take-length text) (line_front text (length text) (omega arith) none)
 
 -- the parts before and after the line feed at i
 pub split_at : (text : List ℕ) (i : ℕ) → i < length text → get_or text i 0 ≡ 10 → text ≡ take i text ++ 10 ∷ take (length text - (i + 1)) (drop (i + 1) text)

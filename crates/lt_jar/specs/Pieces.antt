@@ -1,5 +1,5 @@
 -- What is done with a piece of a text.
-use Rattle.std.specs.Prelude.{◌≡◌, ◌≢◌, ◌≤◌, ◌<◌, ◌+◌, ◌⊎◌, ℕ, Bool, true, false, List, [], ◌∷◌, ◌++◌, length, Option, Some, None, Result, Ok, Err, MatchOption}
+use Rattle.std.specs.Prelude.{◌≡◌, ◌≢◌, ◌≤◌, ◌<◌, ◌+◌, ◌⊎◌, ℕ, Bool, true, false, List, [], ◌∷◌, ◌++◌, length, take, Option, Some, None, Result, Ok, Err, MatchOption}
 use Rattle.std.specs.Borrow.{Bor}
 use Rattle.std.specs.List.{AllByRecursion}
 use Rattle.lt_jar.specs.Lines.{IsOneLine, lines_of, whole_lines}
@@ -18,7 +18,7 @@ SplitsLine text parts = MatchOption parts (IsOneLine text) (λ p. IsOneLine p.0.
 
 -- the fields of the record that is being read
 abbrev pub fields_in : Engine → List Field
-fields_in engine = engine.draft.fields.items
+fields_in engine = take engine.draft.count engine.draft.fields.items
 
 -- the engine went over whole lines, which ended no record
 pub record GoesOver (old new : Engine) (lines : List (List ℕ)) : Type 0 where

@@ -1,5 +1,5 @@
 //! The record that is being read.
-ghost use Rattle.std.specs.Prelude.{◌≡◌, [], OnOk, string_bytes};
+ghost use Rattle.std.specs.Prelude.{◌≡◌, ◌≤◌, [], OnOk, string_bytes, take, vec_len};
 ghost use Rattle.lt_jar.specs.Reading as reading;
 ghost use Rattle.lt_jar.specs.Views.{IsTaken, line_in};
 
@@ -21,38 +21,42 @@ pub(crate) enum Progress {
     Ends,
 }
 
-/// The fields so far of a record.
+/// The fields so far of a record. Those of records before are kept behind them, and their memory is used again.
 #[derive(Drop)]
 pub(crate) struct Draft {
     fields: Vec<JarField>,
+    /// How many of them are of this record.
+    count: usize,
+    ghost within: { count ≤ vec_len fields },
 }
 
 impl Draft {
     pub(crate) fn new(alloc: Global) -> Draft
-        ensures { result.fields.items ≡ [] }
+        ensures { take result.count result.fields.items ≡ [] }
     {
         Draft {
             fields: Vec::new(alloc),
+            count: 0,
         }
     }
 
     pub(crate) fn is_empty(&self) -> bool
-        ensures { IsTrue result ↔ (self.now.fields.items ≡ []) }
+        ensures { IsTrue result ↔ (take self.now.count self.now.fields.items ≡ []) }
     {
-        self.fields.is_empty()
+        self.count == 0
     }
 
     pub(crate) fn fields(&self) -> &[JarField]
-        ensures { result.now ≡ self.now.fields.items }
+        ensures { result.now ≡ take self.now.count self.now.fields.items }
     {
-        &self.fields
+        &self.fields[..self.count]
     }
 
-    /// Drops the fields.
+    /// Leaves no field, and keeps the memory of all.
     pub(crate) fn clear(&mut self)
-        ensures { self.new.fields.items ≡ [] }
+        ensures { take self.new.count self.new.fields.items ≡ [] }
     {
-        self.fields.clear();
+        self.count = 0;
     }
 
     /// Takes the next line, after this many records that have ended.
@@ -62,8 +66,8 @@ impl Draft {
         line: &[u8],
         ended: usize,
     ) -> Result<Progress, JarFaultKind>
-        ensures { IsTaken result (reading.take_line ended self.old.fields.items line.now)
-            self.new.fields.items }
+        ensures { IsTaken result (reading.take_line ended (take self.old.count self.old.fields.items) line.now)
+            (take self.new.count self.new.fields.items) }
     {
         if line.len() > LONGEST_LINE {
             return Err(JarFaultKind::LineTooLong);
@@ -80,12 +84,12 @@ impl Draft {
         kind: LineKind<'_>,
         ended: usize,
     ) -> Result<Progress, JarFaultKind>
-        ensures { IsTaken result (reading.take_kind ended self.old.fields.items (line_in kind.entry))
-            self.new.fields.items }
+        ensures { IsTaken result (reading.take_kind ended (take self.old.count self.old.fields.items) (line_in kind.entry))
+            (take self.new.count self.new.fields.items) }
     {
         match kind {
             LineKind::Blank => Ok(Progress::GoesOn),
-            LineKind::Separator if self.fields.is_empty() => Ok(Progress::GoesOn),
+            LineKind::Separator if self.is_empty() => Ok(Progress::GoesOn),
             LineKind::Separator => Ok(Progress::Ends),
             LineKind::Continuation(text) => self.continue_field(text),
             LineKind::Start(name, body) => self.start_field(alloc, name, body, ended),
@@ -94,15 +98,13 @@ impl Draft {
     }
 
     fn continue_field(&mut self, text: &str) -> Result<Progress, JarFaultKind>
-        ensures { IsTaken result (reading.continued text.now self.old.fields.items) self.new.fields.items }
+        ensures { IsTaken result (reading.continued text.now (take self.old.count self.old.fields.items)) (take self.new.count self.new.fields.items) }
     {
-        match self.fields.last_mut() {
-            Some(field) => {
-                lengthen(&mut field.body, text)?;
-                Ok(Progress::GoesOn)
-            }
-            None => Err(JarFaultKind::LeadingContinuation),
+        if self.count == 0 {
+            return Err(JarFaultKind::LeadingContinuation);
         }
+        lengthen(&mut self.fields[self.count - 1].body, text)?;
+        Ok(Progress::GoesOn)
     }
 
     fn start_field(
@@ -112,24 +114,30 @@ impl Draft {
         body: &str,
         ended: usize,
     ) -> Result<Progress, JarFaultKind>
-        ensures { IsTaken result (reading.started ended (name.now, body.now) self.old.fields.items)
-            self.new.fields.items }
+        ensures { IsTaken result (reading.started ended (name.now, body.now) (take self.old.count self.old.fields.items))
+            (take self.new.count self.new.fields.items) }
     {
-        if self.fields.is_empty() && ended >= MOST_RECORDS {
+        if self.count == 0 && ended >= MOST_RECORDS {
             return Err(JarFaultKind::TooManyRecords);
         }
-        self.fields.push(JarField {
-            name: String::from_str(alloc, name)?,
-            body: String::from_str(alloc, body)?,
-        })?;
+        if self.count == self.fields.len() {
+            self.fields.push(JarField {
+                name: String::new(alloc),
+                body: String::new(alloc),
+            })?;
+        }
+        write_field(&mut self.fields[self.count], name, body)?;
+        self.count += 1;
         Ok(Progress::GoesOn)
     }
 
     /// The record, whose place an empty draft takes.
     pub(crate) fn take_record(&mut self, alloc: Global) -> Record
-        ensures record { result ≡ self.old.fields.items }
-        ensures empty { self.new.fields.items ≡ [] }
+        ensures record { result ≡ take self.old.count self.old.fields.items }
+        ensures empty { take self.new.count self.new.fields.items ≡ [] }
     {
+        self.fields.truncate(self.count);
+        self.count = 0;
         Record {
             fields: std::mem::replace(&mut self.fields, Vec::new(alloc)),
         }
@@ -137,6 +145,16 @@ impl Draft {
 }
 
 ghost use Rattle.std.specs.Prelude.{◌↔◌, IsTrue};
+
+/// Puts a name and a body into a field, in place of those that it had.
+fn write_field(field: &mut JarField, name: &str, body: &str) -> Result<(), AllocError>
+    ensures { OnOk result (field.new ≡ (name.now, body.now)) }
+{
+    field.name.clear();
+    field.name.push_str(name)?;
+    field.body.clear();
+    field.body.push_str(body)
+}
 
 /// Puts a further text after a body.
 fn lengthen(body: &mut String, text: &str) -> Result<(), AllocError>

@@ -6,17 +6,17 @@ ghost use Rattle.lt_jar.specs.LineKinds as lines;
 ghost use Rattle.lt_jar.specs.Views.{line_in};
 ghost use Rattle.lt_jar.specs.Pieces.{SplitsLine};
 
+use memchr::memchr;
+
 /// What is before the first line feed and after it, if there is one.
-#[tactic(auto, using(crate::proofs::CutLemmas::split_at, crate::proofs::CutLemmas::whole_line))]
+#[tactic(auto, using(crate::proofs::CutLemmas::line_front, crate::proofs::CutLemmas::split_at, crate::proofs::CutLemmas::whole_line))]
 pub(crate) fn split_line(text: &[u8]) -> Option<(&[u8], &[u8])>
     ensures { SplitsLine text.now result }
 {
-    for (i, byte) in text.iter().enumerate() {
-        if *byte == b'\n' {
-            return Some((&text[..i], &text[i + 1..]));
-        }
+    match memchr(b'\n', text) {
+        Some(i) => Some((&text[..i], &text[i + 1..])),
+        None => None,
     }
-    None
 }
 
 /// What a line is.

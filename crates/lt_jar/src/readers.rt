@@ -48,7 +48,8 @@ impl<'a> RecordRef<'a> {
     }
 }
 
-/// Reads a device record by record (RFC 5646, 3.1.1), and keeps no more of it than one record.
+/// Reads a device record by record (RFC 5646, 3.1.1), and keeps no more of it than one record, whose memory the
+/// next record uses again.
 pub struct JarReader<'d, R, S = JarSource> {
     device: &'d mut Device<R>,
     source: S,

@@ -138,3 +138,16 @@ fn sample_is_read(rt: HostRuntime) -> Result<(), Fail> {
     assert!(rt; has_fields(rt.alloc(), &jar, 0, "File-Date=2024-01-01")?);
     Ok(())
 }
+
+#[test]
+fn faults_are_shown(rt: HostRuntime) -> Result<(), Fail> {
+    for (text, name, line) in &FAULTS {
+        let Err(fault) = read_jar(rt.alloc(), text) else {
+            return Err(Fail::from("the text has no fault"));
+        };
+        let shown = format!(in rt.alloc(); "{fault}")?;
+        let told = format!(in rt.alloc(); "{name} in line {line}")?;
+        assert!(rt; shown.as_str() == told.as_str(), "{told}");
+    }
+    Ok(())
+}

@@ -1,7 +1,7 @@
 -- Where a byte is first, what is within quotes, the fields of a row, and what is owed for it.
 use Rattle.std.specs.List.{AllByRecursion}
 use Rattle.std.proofs.Math.Bool.{and-false}
-use Rattle.std.proofs.Common.{refl, ◌≡◌, ◌≢◌, ◌≤◌, ◌<◌, ◌+◌, ◌-◌, ◌==◌, ◌++◌, [], ◌∷◌, ◌∙◌, ℕ, true, false, List, Option, Some, None, length, sym, ap, arith, zero, suc, subst, take, drop, get_or, add-one, take-append-drop, inl, inr, Bool, not, All, ne_eqb, append_assoc, length-append}
+use Rattle.std.proofs.Common.{refl, ◌≡◌, ◌≢◌, ◌≤◌, ◌<◌, ◌+◌, ◌-◌, ◌==◌, ◌++◌, [], ◌∷◌, ◌∙◌, ℕ, true, false, List, Option, Some, None, length, sym, ap, arith, zero, suc, subst, take, drop, get_or, add-one, take-append-drop, inl, inr, not, All, ◌||◌, if◌then◌else◌, ne_eqb, append_assoc, length-append}
 use Rattle.std.proofs.Math.Seq.{drop-cons, take-length}
 use Rattle.std.proofs.lemmas.Bool.{eq-eqb, cases_Bool, cases_eq}
 use Rattle.std.proofs.lemmas.List.{take_rest, length-take-le, get_or-take, take_more}
@@ -10,7 +10,9 @@ use Rattle.lt_tag.proofs.ListLemmas.{head_is}
 use Rattle.memchr.specs.Find.{IsFirstByte, Nowhere, NoneBefore, Passes, TakesFirst, is_byte, places, places_from}
 use Rattle.lt_lines.specs.Splitting.{IsFreeOf}
 use Rattle.lt_jar.specs.Lines.{begin_first, content_of}
-use Rattle.lt_lines.specs.Quotes.{IsFreeOutside, is_inside, is_inside_after, records_from}
+use Rattle.lt_lines.specs.Quotes.{IsFreeOutside, is_quoted, place_after, place_at, place_outside, records_from}
+use Rattle.lt_lines.specs.declared.quotes.Place.{Place}
+use Rattle.lt_lines.specs.declared.quotes.Place.TheVariants as places
 use Rattle.lt_registry.specs.Parts.{EntryParts}
 use Rattle.lt_canon.specs.Texts.{AppendsCanonicalText, IsTextRefusal}
 use Rattle.lt_canon.specs.declared.refusals.TextRefusal.{TextRefusal}
@@ -73,51 +75,79 @@ module _ (byte : ℕ) (text : List ℕ) where
   first_byte None rest h = subst (Nowhere has 0) (omega arith) (none_from 0 (length text - 0) h.0)
   first_byte (Some k) rest h = subst (λ n. NoneBefore has 0 n k × has k) (omega arith) (first_from 0 (length text - 0) k rest h)
 
-pub is_inside-append : (inside : Bool) (text more : List ℕ) → is_inside inside (text ++ more) ≡ is_inside (is_inside inside text) more
-is_inside-append inside [] more = refl
-is_inside-append inside (byte ∷ text) more = is_inside-append (is_inside_after inside byte) text more
+pub place_at-append : (place : Place) (text more : List ℕ) → place_at place (text ++ more) ≡ place_at (place_at place text) more
+place_at-append place [] more = refl
+place_at-append place (byte ∷ text) more = place_at-append (place_after place byte) text more
 
-pub free-append : (stop : ℕ) (inside : Bool) (text more : List ℕ) → IsFreeOutside stop inside text → IsFreeOutside stop (is_inside inside text) more
-    → IsFreeOutside stop inside (text ++ more)
-free-append stop inside [] more h k = k
-free-append stop inside (byte ∷ text) more h k = (h.0, free-append stop (is_inside_after inside byte) text more h.1 k)
+-- a field begins after a line feed outside of quotes
+pub place_after_feed : (place : Place) → is_quoted place ≡ false → place_after place 10 ≡ places.Fresh
+place_after_feed places.Fresh closed = refl
+place_after_feed places.Plain closed = refl
+place_after_feed places.Quoted closed = let bad : true ≡ false = closed in cc
+
+outside_closed : (byte : ℕ) → is_quoted (place_outside byte) ≡ false
+outside_closed byte = elim ((byte == 44) || (byte == 10)) as (λ t. is_quoted (if t then places.Fresh else places.Plain) ≡ false) [ true ↦ refl | false ↦ refl ]
+
+-- outside of quotes, after a byte that is no quote
+after_other : (place : Place) (byte : ℕ) → is_quoted place ≡ false → byte ≢ 34 → place_after place byte ≡ place_outside byte
+after_other places.Fresh byte closed other = rw (ne_eqb byte 34 other) refl
+after_other places.Plain byte closed other = refl
+after_other places.Quoted byte closed other = let bad : true ≡ false = closed in cc
+
+-- after a text without quotes, by its last byte
+pub place_of_free : (place : Place) (text : List ℕ) → is_quoted place ≡ false → All (λ (byte : ℕ). byte ≢ 34) text → 0 < length text
+    → place_at place text ≡ place_outside (get_or text (length text - 1) 0)
+place_of_free place [] closed free some = absurd (omega arith)
+place_of_free place (byte ∷ []) closed free some = after_other place byte closed (All-head (λ (b : ℕ). b ≢ 34) byte [] free)
+place_of_free place (byte ∷ next ∷ text) closed free some =
+    let first = after_other place byte closed (All-head (λ (b : ℕ). b ≢ 34) byte (next ∷ text) free) in
+    let more : length (byte ∷ next ∷ text) - 1 ≡ suc (length text) = omega arith in
+    let less : length (next ∷ text) - 1 ≡ length text = omega arith in
+    let rest = place_of_free (place_after place byte) (next ∷ text) (ap is_quoted first ∙ outside_closed byte) (All-tail (λ (b : ℕ). b ≢ 34) byte (next ∷ text) free) (omega arith) in
+    rw more (rw less at rest)
+
+pub free-append : (stop : ℕ) (place : Place) (text more : List ℕ) → IsFreeOutside stop place text → IsFreeOutside stop (place_at place text) more
+    → IsFreeOutside stop place (text ++ more)
+free-append stop place [] more h k = k
+free-append stop place (byte ∷ text) more h k = (h.0, free-append stop (place_after place byte) text more h.1 k)
 
 -- a text without the byte
-pub free_of_none : (stop : ℕ) (inside : Bool) (text : List ℕ) → All (λ (byte : ℕ). byte ≢ stop) text → IsFreeOutside stop inside text
-free_of_none stop inside [] h = tt
-free_of_none stop inside (byte ∷ text) h = (
+pub free_of_none : (stop : ℕ) (place : Place) (text : List ℕ) → All (λ (byte : ℕ). byte ≢ stop) text → IsFreeOutside stop place text
+free_of_none stop place [] h = tt
+free_of_none stop place (byte ∷ text) h = (
   λ e. absurd (All-head (λ (b : ℕ). b ≢ stop) byte text h e),
-  free_of_none stop (is_inside_after inside byte) text (All-tail (λ (b : ℕ). b ≢ stop) byte text h),
+  free_of_none stop (place_after place byte) text (All-tail (λ (b : ℕ). b ≢ stop) byte text h),
 )
 
 -- a line feed within quotes ends no record
-begins : (inside : Bool) (byte : ℕ) (text : List ℕ) → (byte ≡ 10 → inside ≡ true) → records_from inside (byte ∷ text) ≡ begin_first byte (records_from (is_inside_after inside byte) text)
-begins true byte text h = rw (and-false (byte == 10)) refl
-begins false byte text h = rw (ne_eqb byte 10 (λ e. let bad = h e in cc)) refl
+begins : (place : Place) (byte : ℕ) (text : List ℕ) → (byte ≡ 10 → is_quoted place ≡ true) → records_from place (byte ∷ text) ≡ begin_first byte (records_from (place_after place byte) text)
+begins places.Quoted byte text h = rw (and-false (byte == 10)) refl
+begins places.Fresh byte text h = rw (ne_eqb byte 10 (λ e. let bad : false ≡ true = h e in cc)) refl
+begins places.Plain byte text h = rw (ne_eqb byte 10 (λ e. let bad : false ≡ true = h e in cc)) refl
 
 -- a record and its line feed
-pub records_from-ended : (inside : Bool) (text rest : List ℕ) → IsFreeOutside 10 inside text → is_inside inside text ≡ false
-    → records_from inside (text ++ 10 ∷ rest) ≡ text ∷ records_from false rest
-records_from-ended inside [] rest h closed = ap (λ b. records_from b (10 ∷ rest)) closed
-records_from-ended inside (byte ∷ text) rest h closed =
-    begins inside byte (text ++ 10 ∷ rest) h.0 ∙ ap (begin_first byte) (records_from-ended (is_inside_after inside byte) text rest h.1 closed)
+pub records_from-ended : (place : Place) (text rest : List ℕ) → IsFreeOutside 10 place text → is_quoted (place_at place text) ≡ false
+    → records_from place (text ++ 10 ∷ rest) ≡ text ∷ records_from places.Fresh rest
+records_from-ended place [] rest h closed = rw closed refl
+records_from-ended place (byte ∷ text) rest h closed =
+    begins place byte (text ++ 10 ∷ rest) h.0 ∙ ap (begin_first byte) (records_from-ended (place_after place byte) text rest h.1 closed)
 
 -- a last record
-pub records_from-last : (inside : Bool) (text : List ℕ) → IsFreeOutside 10 inside text → 0 < length text → records_from inside text ≡ text ∷ []
-records_from-last inside [] h some = absurd (omega arith)
-records_from-last inside (byte ∷ []) h some = begins inside byte [] h.0
-records_from-last inside (byte ∷ next ∷ text) h some =
-    begins inside byte (next ∷ text) h.0 ∙ ap (begin_first byte) (records_from-last (is_inside_after inside byte) (next ∷ text) h.1 (omega arith))
+pub records_from-last : (place : Place) (text : List ℕ) → IsFreeOutside 10 place text → 0 < length text → records_from place text ≡ text ∷ []
+records_from-last place [] h some = absurd (omega arith)
+records_from-last place (byte ∷ []) h some = begins place byte [] h.0
+records_from-last place (byte ∷ next ∷ text) h some =
+    begins place byte (next ∷ text) h.0 ∙ ap (begin_first byte) (records_from-last (place_after place byte) (next ∷ text) h.1 (omega arith))
 
 -- ---- the turns of a loop over bytes
 
-pub inside_next : (inside : Bool) (text : List ℕ) (i : ℕ) → i < length text → is_inside inside (take (i + 1) text) ≡ is_inside_after (is_inside inside (take i text)) (get_or text i 0)
-inside_next inside text i below = ap (is_inside inside) (take_more text i 0 below) ∙ is_inside-append inside (take i text) (get_or text i 0 ∷ [])
+pub place_next : (place : Place) (text : List ℕ) (i : ℕ) → i < length text → place_at place (take (i + 1) text) ≡ place_after (place_at place (take i text)) (get_or text i 0)
+place_next place text i below = ap (place_at place) (take_more text i 0 below) ∙ place_at-append place (take i text) (get_or text i 0 ∷ [])
 
-pub free_next : (stop : ℕ) (text : List ℕ) (i : ℕ) → i < length text → IsFreeOutside stop false (take i text)
-    → (get_or text i 0 ≡ stop → is_inside false (take i text) ≡ true) → IsFreeOutside stop false (take (i + 1) text)
+pub free_next : (stop : ℕ) (text : List ℕ) (i : ℕ) → i < length text → IsFreeOutside stop places.Fresh (take i text)
+    → (get_or text i 0 ≡ stop → is_quoted (place_at places.Fresh (take i text)) ≡ true) → IsFreeOutside stop places.Fresh (take (i + 1) text)
 free_next stop text i below free inside =
-    subst (IsFreeOutside stop false) (sym (take_more text i 0 below)) (free-append stop false (take i text) (get_or text i 0 ∷ []) free (inside, tt))
+    subst (IsFreeOutside stop places.Fresh) (sym (take_more text i 0 below)) (free-append stop places.Fresh (take i text) (get_or text i 0 ∷ []) free (inside, tt))
 
 pub each-last : {X : Type 0} (P : X → Type 0) (xs : List X) (x : X) → AllByRecursion P xs → P x → AllByRecursion P (xs ++ x ∷ [])
 each-last P [] x h one = (one, tt)

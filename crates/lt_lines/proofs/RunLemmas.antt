@@ -1,12 +1,13 @@
 -- What the turns over a piece of lines keep, and those of a run over lines, and how it ends.
-use Rattle.std.proofs.Common.{◌≡◌, ◌≤◌, ◌+◌, ◌++◌, ◌∷◌, ◌∙◌, inl, inr, ℕ, List, [], Option, Result, Ok, Err, OnOk, length, take, sym, ap, refl, subst, arith, append_assoc, append-nil, length-append, ◌<◌, ◌*◌, false, add-one, drop}
+use Rattle.std.proofs.Common.{◌≡◌, ◌≤◌, ◌+◌, ◌++◌, ◌∷◌, ◌∙◌, inl, inr, ℕ, List, [], Option, Result, Ok, Err, OnOk, length, take, sym, ap, refl, subst, arith, append_assoc, append-nil, length-append, ◌<◌, ◌*◌, add-one, drop}
 use Rattle.std.specs.Io.KnownBytes.{Appends, Consumes, IsAtEnd, Keeps}
 use Rattle.std.proofs.KnownBytes.{Appends-nil, Appends-trans, Consumes-kept, Consumes-nil, Consumes-trans}
 use Rattle.std.proofs.Math.Seq.{take-append_seam}
 use Rattle.lt_jar.specs.Devices.{failures_of, inner_of, HasFailed, after_reads, last_given_of, one_more, reads_of}
 use Rattle.lt_jar.specs.declared.devices.Device.{Device}
 use Rattle.lt_lines.specs.DeviceOutput.{IsFrontOf}
-use Rattle.lt_lines.specs.Answering.{CountsFeed, IsTaken, TakesPiece, WritesOwed, open_after, part_kept, AreRecent, FinishesLines, HasRoom, IsStop}
+use Rattle.lt_lines.specs.declared.quotes.Place.TheVariants as places
+use Rattle.lt_lines.specs.Answering.{CountsFeed, IsTaken, TakesPiece, WritesOwed, place_then, part_kept, AreRecent, FinishesLines, HasRoom, IsStop}
 use Rattle.lt_lines.specs.Owed.{IsOneLine, Terms, EndsInQuotes, IsBegun, IsOwed, units_of}
 use Rattle.lt_lines.specs.declared.answering.Answering.{Answering}
 use Rattle.lt_lines.specs.declared.faults.ToolFault.{ToolFault}
@@ -82,7 +83,7 @@ module _ {W : Type 0} (T : Terms) (contents : W → Option (List ℕ)) (piece re
 
   -- the rest of the piece is kept
   pub turn_kept : (mid : Answering) → IsOneLine rest → mid.kept.items ≡ now.kept.items ++ part_kept T.form (length now.kept.items) rest
-      → mid.is_open ≡ open_after T.form now.is_open rest → mid.feeds ≡ now.feeds → mid.owed.items ≡ now.owed.items → mid.counts ≡ now.counts → mid.recent ≡ now.recent
+      → mid.place ≡ place_then T.form now.place rest → mid.feeds ≡ now.feeds → mid.owed.items ≡ now.owed.items → mid.counts ≡ now.counts → mid.recent ≡ now.recent
       → PieceTurn T contents piece [] old mid before between
   turn_kept mid one kept inside feeds owed counts recent = record {
     front = piece;
@@ -133,7 +134,7 @@ pub record ReadsPiece {I : Type 0} (remaining : I → Option (List ℕ)) (before
   pub failures : failures_of after ≡ failures_of before
 
 pub run_first : {I O : Type 0} (T : Terms) (remaining : I → Option (List ℕ)) (contents : O → Option (List ℕ)) (input : Device I) (output : Device O) (state : Answering)
-    → (state.kept.items ≡ []) × (state.owed.items ≡ []) → (state.is_open ≡ false) × (state.feeds ≡ 0) → (state.counts.lines ≡ 0) × (state.counts.refused ≡ 0) → ((T : Terms) → AreRecent T state.recent)
+    → (state.kept.items ≡ []) × (state.owed.items ≡ []) → (state.place ≡ places.Fresh) × (state.feeds ≡ 0) → (state.counts.lines ≡ 0) × (state.counts.refused ≡ 0) → ((T : Terms) → AreRecent T state.recent)
     → RunTurn T remaining contents input input output output state 0
 run_first T remaining contents input output state items place counts recent = record {
   read = [];

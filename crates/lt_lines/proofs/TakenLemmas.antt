@@ -5,11 +5,13 @@ use Rattle.std.specs.List.{AllByRecursion}
 use Rattle.std.proofs.lemmas.List.Elements.{All-append, All-head, All-tail}
 use Rattle.std.proofs.lemmas.List.Sums.{sum_by-append, count_by-le-length}
 use Rattle.lt_jar.proofs.CutLemmas.{lines_of-ended, lines_of-last}
-use Rattle.lt_lines.specs.Answering.{kept_of, one_if, open_after, AreRecent, GoesOn, IsAnswered, IsTaken, IsWholeAfter, KeepsLine, longest_kept, part_kept}
-use Rattle.lt_lines.specs.Owed.{AreRepliesFrom, IsOneLine, IsReplyTo, IsUnit, IsWhole, Reply, Terms, bytes_in, ended, feeds_in, is_open, refused_in, units_of, EndsInQuotes, IsBegun, IsOwed, IsOwedToLastFeed}
-use Rattle.lt_lines.specs.Quotes.{is_inside}
+use Rattle.lt_lines.specs.Answering.{kept_of, one_if, place_then, AreRecent, GoesOn, IsAnswered, IsTaken, IsWholeAfter, KeepsLine, longest_kept, part_kept}
+use Rattle.lt_lines.specs.Owed.{AreRepliesFrom, IsOneLine, IsReplyTo, IsUnit, IsWhole, Reply, Terms, bytes_in, ended, feeds_in, is_open, place_of, refused_in, units_of, EndsInQuotes, IsBegun, IsOwed, IsOwedToLastFeed}
+use Rattle.lt_lines.specs.Quotes.{is_quoted, place_at}
+use Rattle.lt_lines.specs.declared.quotes.Place.{Place}
+use Rattle.lt_lines.specs.declared.quotes.Place.TheVariants as places
 use Rattle.lt_lines.specs.declared.forms.LineForm.{LineForm}
-use Rattle.lt_lines.proofs.RowLemmas.{each-last, free-append, free_of_none, is_inside-append, records_from-ended, records_from-last}
+use Rattle.lt_lines.proofs.RowLemmas.{each-last, free-append, free_of_none, place_after_feed, place_at-append, records_from-ended, records_from-last}
 use Rattle.std.proofs.lemmas.Bool.{eqb-true, eqb-false}
 use Rattle.std.proofs.lemmas.Bool.Decides.{leb_tells}
 use Rattle.std.proofs.lemmas.List.{take_all, length-take, length-take-le, nil_from_length, take-append-le}
@@ -24,7 +26,7 @@ use Rattle.lt_lines.specs.declared.forms.LineForm.TheVariants as forms
 pub record HasNone (form : LineForm) : Type 0 where
   pub units : units_of form [] ≡ []
   pub unit : IsUnit form []
-  pub closed : is_open form [] ≡ false
+  pub closed : place_of form [] ≡ places.Fresh
   pub kept : kept_of form [] ≡ []
 
 pub of_none : (form : LineForm) → HasNone form
@@ -33,26 +35,33 @@ of_none form = record { units = refl; unit = λ k d lt. absurd (omega (arith, lt
 
 -- a line and its line feed
 pub units-ended : (form : LineForm) (line rest : List ℕ) → IsWhole form line → units_of form (line ++ 10 ∷ rest) ≡ line ∷ units_of form rest
-units-ended (forms.Csv before) line rest h = records_from-ended false line rest h.unit h.closed
+units-ended (forms.Csv before) line rest h = records_from-ended places.Fresh line rest h.unit h.closed
 units-ended form line rest h = lines_of-ended line rest h.unit
 
 -- a last line
 pub units-last : (form : LineForm) (line : List ℕ) → IsUnit form line → 0 < length line → units_of form line ≡ line ∷ []
-units-last (forms.Csv before) line one some = records_from-last false line one some
+units-last (forms.Csv before) line one some = records_from-last places.Fresh line one some
 units-last form line one some = lines_of-last line one some
 
 -- a line goes on with bytes before the next line feed
 pub unit-append : (form : LineForm) (last part : List ℕ) → IsUnit form last → IsOneLine part → IsUnit form (last ++ part)
-unit-append (forms.Csv before) last part h one = free-append 10 false last part h (free_of_none 10 (is_inside false last) part one)
+unit-append (forms.Csv before) last part h one = free-append 10 places.Fresh last part h (free_of_none 10 (place_at places.Fresh last) part one)
 unit-append form last part h one = All-append (λ (byte : ℕ). byte ≢ 10) last part h one
 
-pub open-append : (form : LineForm) (last part : List ℕ) → is_open form (last ++ part) ≡ open_after form (is_open form last) part
-open-append (forms.Csv before) last part = is_inside-append false last part
-open-append form last part = refl
+pub place_of-append : (form : LineForm) (last part : List ℕ) → place_of form (last ++ part) ≡ place_then form (place_of form last) part
+place_of-append (forms.Csv before) last part = place_at-append places.Fresh last part
+place_of-append form last part = refl
+
+-- the one place within quotes
+pub quoted_is : (place : Place) → is_quoted place ≡ true → place ≡ places.Quoted
+quoted_is places.Quoted inside = refl
+quoted_is places.Fresh inside = let bad : false ≡ true = inside in cc
+quoted_is places.Plain inside = let bad : false ≡ true = inside in cc
 
 -- a line feed within quotes
-feed_within : (form : LineForm) (last : List ℕ) → IsUnit form last → is_open form last ≡ true → IsUnit form (last ++ 10 ∷ []) × (is_open form (last ++ 10 ∷ []) ≡ true)
-feed_within (forms.Csv before) last h inside = (free-append 10 false last (10 ∷ []) h (λ e. inside, tt), is_inside-append false last (10 ∷ []) ∙ ap (λ b. is_inside b (10 ∷ [])) inside)
+feed_within : (form : LineForm) (last : List ℕ) → IsUnit form last → is_open form last ≡ true → IsUnit form (last ++ 10 ∷ []) × (place_of form (last ++ 10 ∷ []) ≡ places.Quoted)
+feed_within (forms.Csv before) last h inside =
+    (free-append 10 places.Fresh last (10 ∷ []) h (λ e. inside, tt), place_at-append places.Fresh last (10 ∷ []) ∙ ap (λ p. place_at p (10 ∷ [])) (quoted_is (place_at places.Fresh last) inside))
 feed_within form last h inside = let bad : false ≡ true = inside in cc
 
 -- lines that are ended come first
@@ -63,12 +72,13 @@ ended_first form (line ∷ lines) more h =
     rw (append_assoc line (10 ∷ ended lines) more, units-ended form line (ended lines ++ more) h.0, ended_first form lines more h.1) refl
 
 -- no quote is open after them
-open_after_ended : (form : LineForm) (lines : List (List ℕ)) (last : List ℕ) → AllByRecursion (IsWhole form) lines
-    → is_open form (ended lines ++ last) ≡ is_open form last
-open_after_ended form [] last h = refl
-open_after_ended (forms.Csv before) (line ∷ lines) last h =
-    rw (append_assoc line (10 ∷ ended lines) last, is_inside-append false line (10 ∷ (ended lines ++ last)), h.0.closed) (open_after_ended (forms.Csv before) lines last h.1)
-open_after_ended form lines last h = refl
+place_of_ended : (form : LineForm) (lines : List (List ℕ)) (last : List ℕ) → AllByRecursion (IsWhole form) lines
+    → place_of form (ended lines ++ last) ≡ place_of form last
+place_of_ended form [] last h = refl
+place_of_ended (forms.Csv before) (line ∷ lines) last h =
+    ap (place_at places.Fresh) (append_assoc line (10 ∷ ended lines) last) ∙ place_at-append places.Fresh line (10 ∷ (ended lines ++ last))
+    ∙ ap (λ p. place_at p (ended lines ++ last)) (place_after_feed (place_at places.Fresh line) h.0.closed) ∙ place_of_ended (forms.Csv before) lines last h.1
+place_of_ended form lines last h = refl
 
 -- one more line that is ended
 pub ended-append : (lines : List (List ℕ)) (line : List ℕ) → ended (lines ++ line ∷ []) ≡ ended lines ++ (line ++ 10 ∷ [])
@@ -153,9 +163,9 @@ kept_open forms.Tag kept last is inside = let bad : false ≡ true = inside in c
 kept_open form kept last is inside = is
 
 -- a line was ended and answered
-pub taken_line : (T : Terms) (bytes out part : List ℕ) (r : Reply) (old new : Answering) → IsTaken T bytes out old → IsWholeAfter T.form old.is_open part
+pub taken_line : (T : Terms) (bytes out part : List ℕ) (r : Reply) (old new : Answering) → IsTaken T bytes out old → IsWholeAfter T.form old.place part
     → ((last : List ℕ) → old.kept.items ≡ kept_of T.form last → IsReplyTo T (old.counts.lines == 0) (last ++ part) r)
-    → new.owed.items ≡ old.owed.items ++ r.bytes → new.kept.items ≡ [] → new.is_open ≡ false → new.feeds ≡ old.feeds + 1 → new.counts.lines ≡ old.counts.lines + 1
+    → new.owed.items ≡ old.owed.items ++ r.bytes → new.kept.items ≡ [] → new.place ≡ places.Fresh → new.feeds ≡ old.feeds + 1 → new.counts.lines ≡ old.counts.lines + 1
     → new.counts.refused ≡ old.counts.refused + one_if r.refused → AreRecent T new.recent → IsTaken T (bytes ++ (part ++ 10 ∷ [])) out new
 taken_line T bytes out part r old new t one owed_for grown none closed feeds lines refusals recent =
     let whole = t.last ++ part in
@@ -165,7 +175,7 @@ taken_line T bytes out part r old new t one owed_for grown none closed feeds lin
       cut = rw (t.cut, ended-append t.lines whole) (simp (append_assoc, append-nil));
       each_one = each-last (IsWhole T.form) t.lines whole t.each_one (record {
         unit = unit-append T.form t.last part t.last_one one.one;
-        closed = open-append T.form t.last part ∙ ap (λ b. open_after T.form b part) (sym t.goes_on) ∙ one.closed;
+        closed = ap is_quoted (place_of-append T.form t.last part ∙ ap (λ p. place_then T.form p part) (sym t.goes_on)) ∙ one.closed;
       });
       last_one = (of_none T.form).unit;
       kept = none ∙ sym (of_none T.form).kept;
@@ -181,7 +191,7 @@ taken_line T bytes out part r old new t one owed_for grown none closed feeds lin
 
 -- a line went on
 taken_more : (T : Terms) (bytes out more : List ℕ) (old new : Answering) (t : IsTaken T bytes out old) → IsUnit T.form (t.last ++ more) → new.kept.items ≡ kept_of T.form (t.last ++ more)
-    → new.is_open ≡ is_open T.form (t.last ++ more) → new.feeds ≡ old.feeds + feeds_in more → new.owed.items ≡ old.owed.items → new.counts ≡ old.counts → new.recent ≡ old.recent → IsTaken T (bytes ++ more) out new
+    → new.place ≡ place_of T.form (t.last ++ more) → new.feeds ≡ old.feeds + feeds_in more → new.owed.items ≡ old.owed.items → new.counts ≡ old.counts → new.recent ≡ old.recent → IsTaken T (bytes ++ more) out new
 taken_more T bytes out more old new t one kept inside feeds owed counts recent = record {
   lines = t.lines;
   last = t.last ++ more;
@@ -200,25 +210,25 @@ taken_more T bytes out more old new t one kept inside feeds owed counts recent =
 }
 
 -- after a line feed
-pub taken_within : (T : Terms) (bytes out part : List ℕ) (old new : Answering) → IsTaken T bytes out old → IsOneLine part → open_after T.form old.is_open part ≡ true
+pub taken_within : (T : Terms) (bytes out part : List ℕ) (old new : Answering) → IsTaken T bytes out old → IsOneLine part → is_quoted (place_then T.form old.place part) ≡ true
     → GoesOn T.form part old new → IsTaken T (bytes ++ (part ++ 10 ∷ [])) out new
 taken_within T bytes out part old new t one inside g =
     let whole = t.last ++ part in
-    let after : is_open T.form whole ≡ true = open-append T.form t.last part ∙ ap (λ b. open_after T.form b part) (sym t.goes_on) ∙ inside in
+    let after : is_open T.form whole ≡ true = ap is_quoted (place_of-append T.form t.last part ∙ ap (λ p. place_then T.form p part) (sym t.goes_on)) ∙ inside in
     let fed = feed_within T.form whole (unit-append T.form t.last part t.last_one one) after in
     let split = append_assoc t.last part (10 ∷ []) in
     let front = old.kept.items ++ part_kept T.form (length old.kept.items) part in
     taken_more T bytes out (part ++ 10 ∷ []) old new t (subst (IsUnit T.form) split fed.0)
     (kept_more T.form front whole (10 ∷ []) new.kept.items (kept_more T.form old.kept.items t.last part front t.kept refl) g.kept ∙ ap (kept_of T.form) split)
-    (g.goes_on ∙ sym fed.1 ∙ ap (is_open T.form) split) (g.feeds ∙ ap (λ n. old.feeds + n) (sym (one_feed [] part one))) g.owed g.counts g.recent
+    (g.goes_on ∙ sym fed.1 ∙ ap (place_of T.form) split) (g.feeds ∙ ap (λ n. old.feeds + n) (sym (one_feed [] part one))) g.owed g.counts g.recent
 
 -- with no line feed
 pub taken_part : (T : Terms) (bytes out part : List ℕ) (old new : Answering) → IsTaken T bytes out old → IsOneLine part
-    → new.kept.items ≡ old.kept.items ++ part_kept T.form (length old.kept.items) part → new.is_open ≡ open_after T.form old.is_open part → new.feeds ≡ old.feeds
+    → new.kept.items ≡ old.kept.items ++ part_kept T.form (length old.kept.items) part → new.place ≡ place_then T.form old.place part → new.feeds ≡ old.feeds
     → new.owed.items ≡ old.owed.items → new.counts ≡ old.counts → new.recent ≡ old.recent → IsTaken T (bytes ++ part) out new
 taken_part T bytes out part old new t one kept inside feeds owed counts recent =
     taken_more T bytes out part old new t (unit-append T.form t.last part t.last_one one) (kept_more T.form old.kept.items t.last part new.kept.items t.kept kept)
-    (inside ∙ ap (λ b. open_after T.form b part) t.goes_on ∙ sym (open-append T.form t.last part)) (omega (arith, feeds, no_feeds part one)) owed counts recent
+    (inside ∙ ap (λ p. place_then T.form p part) t.goes_on ∙ sym (place_of-append T.form t.last part)) (omega (arith, feeds, no_feeds part one)) owed counts recent
 
 -- some of what is owed was written
 pub taken_write : (T : Terms) (bytes out part : List ℕ) (old new : Answering) → IsTaken T bytes out old → KeepsLine old new
@@ -258,8 +268,8 @@ pub begun_nothing : (T : Terms) (bytes out more all : List ℕ) (state : Answeri
 begun_nothing T bytes out more all state t all_is = begun_front T bytes out [] more all out state t (state.owed.items, refl) all_is (sym (append-nil out))
 
 -- whether a quote is open at the end
-taken_open : (T : Terms) (bytes out : List ℕ) (state : Answering) → (t : IsTaken T bytes out state) → is_open T.form bytes ≡ is_open T.form t.last
-taken_open T bytes out state t = ap (is_open T.form) t.cut ∙ open_after_ended T.form t.lines t.last t.each_one
+taken_open : (T : Terms) (bytes out : List ℕ) (state : Answering) → (t : IsTaken T bytes out state) → place_of T.form bytes ≡ place_of T.form t.last
+taken_open T bytes out state t = ap (place_of T.form) t.cut ∙ place_of_ended T.form t.lines t.last t.each_one
 
 -- the lines of the bytes, where nothing is kept
 units_taken : (T : Terms) (bytes out : List ℕ) (state : Answering) (t : IsTaken T bytes out state) → state.kept.items ≡ [] → units_of T.form bytes ≡ t.lines
@@ -281,31 +291,31 @@ answered_by T bytes others out state t closed all = record {
 pub answered_none : (T : Terms) (bytes out : List ℕ) (state : Answering) → IsTaken T bytes out state → state.kept.items ≡ [] → IsAnswered T bytes out state
 answered_none T bytes out state t none =
     let last = nothing_kept T.form state.kept.items t.last t.kept none in
-    answered_by T bytes bytes out state t (taken_open T bytes out state t ∙ ap (is_open T.form) last ∙ (of_none T.form).closed) (units_taken T bytes out state t none)
+    answered_by T bytes bytes out state t (ap is_quoted (taken_open T bytes out state t ∙ ap (place_of T.form) last ∙ (of_none T.form).closed)) (units_taken T bytes out state t none)
 
 -- a line feed after a last line ends no further line
-last_ended : (T : Terms) (bytes out : List ℕ) (state : Answering) → IsTaken T bytes out state → (state.kept.items ≡ [] → ⊥) → state.is_open ≡ false
+last_ended : (T : Terms) (bytes out : List ℕ) (state : Answering) → IsTaken T bytes out state → (state.kept.items ≡ [] → ⊥) → is_quoted state.place ≡ false
     → units_of T.form (bytes ++ 10 ∷ []) ≡ units_of T.form bytes
 last_ended T bytes out state t some closed =
     let long : 0 < length t.last = last_length t.last t.kept in
     rw (t.cut, append_assoc (ended t.lines) t.last (10 ∷ []), ended_first T.form t.lines (t.last ++ 10 ∷ []) t.each_one, ended_first T.form t.lines t.last t.each_one)
-    (rw (units-ended T.form t.last [] (record { unit = t.last_one; closed = sym t.goes_on ∙ closed }), (of_none T.form).units, units-last T.form t.last t.last_one long) refl)
+    (rw (units-ended T.form t.last [] (record { unit = t.last_one; closed = ap is_quoted (sym t.goes_on) ∙ closed }), (of_none T.form).units, units-last T.form t.last t.last_one long) refl)
   where
     last_length : (last : List ℕ) → state.kept.items ≡ kept_of T.form last → 0 < length last
     last_length [] is = absurd (some (is ∙ (of_none T.form).kept))
     last_length (byte ∷ last) is = omega arith
 
-nothing_after : (form : LineForm) (inside : Bool) → inside ≡ false → open_after form inside [] ≡ false
-nothing_after (forms.Csv before) inside closed = closed
-nothing_after form inside closed = refl
+nothing_after : (form : LineForm) (place : Place) → is_quoted place ≡ false → is_quoted (place_then form place []) ≡ false
+nothing_after (forms.Csv before) place closed = closed
+nothing_after form place closed = refl
 
 -- whether the last line was answered
-pub last_answered : {E : Type 0} (T : Terms) (old new : Answering) (r : Result (Unit {0}) E) → (old.kept.items ≡ [] → ⊥) → old.is_open ≡ false
-    → OnOk r ((bytes out : List ℕ) → IsWholeAfter T.form old.is_open [] → IsTaken T bytes out old → IsTaken T (bytes ++ ([] ++ 10 ∷ [])) out new) → OnOk r (new.kept.items ≡ [])
+pub last_answered : {E : Type 0} (T : Terms) (old new : Answering) (r : Result (Unit {0}) E) → (old.kept.items ≡ [] → ⊥) → is_quoted old.place ≡ false
+    → OnOk r ((bytes out : List ℕ) → IsWholeAfter T.form old.place [] → IsTaken T bytes out old → IsTaken T (bytes ++ ([] ++ 10 ∷ [])) out new) → OnOk r (new.kept.items ≡ [])
     → OnOk r ((bytes out : List ℕ) → IsTaken T bytes out old → IsAnswered T bytes out new)
 last_answered T old new (Ok _) some closed taken none =
-    λ bytes out t. let after = taken bytes out (record { one = λ k d lt. absurd (omega (arith, lt)); closed = nothing_after T.form old.is_open closed }) t in
-    answered_by T bytes (bytes ++ 10 ∷ []) out new after (taken_open T bytes out old t ∙ sym t.goes_on ∙ closed) (sym (last_ended T bytes out old t some closed) ∙ units_taken T (bytes ++ 10 ∷ []) out new after none)
+    λ bytes out t. let after = taken bytes out (record { one = λ k d lt. absurd (omega (arith, lt)); closed = nothing_after T.form old.place closed }) t in
+    answered_by T bytes (bytes ++ 10 ∷ []) out new after (ap is_quoted (taken_open T bytes out old t ∙ sym t.goes_on) ∙ closed) (sym (last_ended T bytes out old t some closed) ∙ units_taken T (bytes ++ 10 ∷ []) out new after none)
 last_answered T old new (Err _) some closed taken none = tt
 
 -- all that is owed was written
@@ -355,14 +365,14 @@ owed_to_last_feed T read written state t none = record {
 }
 
 -- a quote is open at the end
-pub ends_in_quotes : (T : Terms) (bytes out : List ℕ) (state : Answering) (line : ℕ) → IsTaken T bytes out state → state.owed.items ≡ [] → state.is_open ≡ true
+pub ends_in_quotes : (T : Terms) (bytes out : List ℕ) (state : Answering) (line : ℕ) → IsTaken T bytes out state → state.owed.items ≡ [] → is_quoted state.place ≡ true
     → line ≡ (state.feeds - feeds_in state.kept.items) + 1 → EndsInQuotes T bytes out line
 ends_in_quotes T bytes out state line t none inside begins =
-    let last : state.kept.items ≡ t.last = kept_open T.form state.kept.items t.last t.kept (sym t.goes_on ∙ inside) in
+    let last : state.kept.items ≡ t.last = kept_open T.form state.kept.items t.last t.kept (ap is_quoted (sym t.goes_on) ∙ inside) in
     let all : feeds_in bytes ≡ feeds_in (ended t.lines) + feeds_in t.last = ap feeds_in t.cut ∙ feeds_in-append (ended t.lines) t.last in
     record {
       owed = owed_to_last_feed T bytes out state t none;
-      inside = sym t.goes_on ∙ inside;
+      inside = ap is_quoted (sym t.goes_on) ∙ inside;
       begins = omega (arith, begins, t.feeds, all, ap feeds_in last);
     }
 

@@ -8,8 +8,10 @@ use Rattle.lt_registry.specs.Parts.{EntryParts}
 use Rattle.lt_canon.specs.Texts.{AppendsCanonicalText, IsCanonicalTextOf, IsTextRefusal}
 use Rattle.lt_canon.specs.declared.refusals.TextRefusal.{TextRefusal}
 use Rattle.lt_lines.specs.Refusals.{IsTold}
-use Rattle.lt_lines.specs.Quotes.{is_inside}
-use Rattle.lt_lines.specs.Owed.{AreReplies, EndsInQuotes, IsBegun, IsOneLine, IsOwed, IsReplyTo, IsRowReply, IsTextReply, IsUnit, IsWhole, Reply, Terms, bytes_in, ended, feeds_in, is_open, refused_in, reply, row_line, units_of}
+use Rattle.lt_lines.specs.Quotes.{is_quoted, place_at}
+use Rattle.lt_lines.specs.declared.quotes.Place.{Place}
+use Rattle.lt_lines.specs.declared.quotes.Place.TheVariants as places
+use Rattle.lt_lines.specs.Owed.{AreReplies, EndsInQuotes, IsBegun, IsOneLine, IsOwed, IsReplyTo, IsRowReply, IsTextReply, IsUnit, IsWhole, Reply, Terms, bytes_in, ended, feeds_in, is_open, place_of, refused_in, reply, row_line, units_of}
 use Rattle.lt_lines.specs.DeviceOutput.{IsFrontOf}
 use Rattle.lt_recent.specs.declared.Kept.{Kept}
 use Rattle.lt_ends.specs.Ends.{AreEnds}
@@ -47,16 +49,16 @@ part_kept forms.Tag count part = take (longest_kept - count) part
 part_kept (forms.Row before) count part = part
 part_kept (forms.Csv before) count part = part
 
--- whether a line goes on after a line feed, by whether it would before these bytes, which are the last before it
-abbrev pub open_after : LineForm → Bool → List ℕ → Bool
-open_after forms.Tag inside part = false
-open_after (forms.Row before) inside part = false
-open_after (forms.Csv before) inside part = is_inside inside part
+-- the place after more bytes of a line, by that before them
+abbrev pub place_then : LineForm → Place → List ℕ → Place
+place_then forms.Tag place part = places.Fresh
+place_then (forms.Row before) place part = places.Fresh
+place_then (forms.Csv before) place part = place_at place part
 
 -- the last bytes of a line before the line feed that ends it
-pub record IsWholeAfter (form : LineForm) (inside : Bool) (part : List ℕ) : Type 0 where
+pub record IsWholeAfter (form : LineForm) (place : Place) (part : List ℕ) : Type 0 where
   pub one : IsOneLine part
-  pub closed : open_after form inside part ≡ false
+  pub closed : is_quoted (place_then form place part) ≡ false
 
 -- one answer more is among those that are owed: that to a text
 pub record AppendsTextReply (R : List EntryParts) (text old new : List ℕ) (refused : Bool) : Type 0 where
@@ -118,7 +120,7 @@ pub record IsTaken (T : Terms) (bytes written : List ℕ) (state : Answering) : 
   pub each_one : AllByRecursion (IsWhole T.form) lines
   pub last_one : IsUnit T.form last
   pub kept : state.kept.items ≡ kept_of T.form last
-  pub goes_on : state.is_open ≡ is_open T.form last
+  pub goes_on : state.place ≡ place_of T.form last
   pub feeds : state.feeds ≡ feeds_in bytes
   pub owed : List Reply
   pub each : AreReplies T lines owed
@@ -152,7 +154,7 @@ pub record CountsFeed (old new : Answering) : Type 0 where
 pub record GoesOn (form : LineForm) (part : List ℕ) (old new : Answering) : Type 0 where
   pub kept : new.kept.items ≡ (old.kept.items ++ part_kept form (length old.kept.items) part)
       ++ part_kept form (length (old.kept.items ++ part_kept form (length old.kept.items) part)) (10 ∷ [])
-  pub goes_on : new.is_open ≡ true
+  pub goes_on : new.place ≡ places.Quoted
   pub feeds : new.feeds ≡ old.feeds + 1
   pub owed : new.owed.items ≡ old.owed.items
   pub counts : new.counts ≡ old.counts
@@ -161,7 +163,7 @@ pub record GoesOn (form : LineForm) (part : List ℕ) (old new : Answering) : Ty
 -- all but what is owed is the same
 pub record KeepsLine (old new : Answering) : Type 0 where
   pub kept : new.kept.items ≡ old.kept.items
-  pub goes_on : new.is_open ≡ old.is_open
+  pub goes_on : new.place ≡ old.place
   pub feeds : new.feeds ≡ old.feeds
   pub counts : new.counts ≡ old.counts
   pub recent : new.recent ≡ old.recent

@@ -7,7 +7,9 @@ use Rattle.lt_registry.specs.Parts.{EntryParts}
 use Rattle.lt_canon.specs.Texts.{IsCanonicalTextOf, IsTextRefusal}
 use Rattle.lt_canon.specs.declared.refusals.TextRefusal.{TextRefusal}
 use Rattle.lt_lines.specs.Refusals.{IsRefusalLine, IsTold}
-use Rattle.lt_lines.specs.Quotes.{IsFreeOutside, is_inside, records_from}
+use Rattle.lt_lines.specs.Quotes.{IsFreeOutside, is_quoted, place_at, records_from}
+use Rattle.lt_lines.specs.declared.quotes.Place.{Place}
+use Rattle.lt_lines.specs.declared.quotes.Place.TheVariants as places
 use Rattle.lt_lines.specs.Rows.{HasFewer, HasField, IsTextIn, separator}
 use Rattle.lt_lines.specs.declared.forms.LineForm.{LineForm}
 use Rattle.lt_lines.specs.declared.forms.LineForm.TheVariants as forms
@@ -153,19 +155,23 @@ IsOneLine text = All (λ byte. byte ≢ 10) text
 abbrev pub units_of : LineForm → List ℕ → List (List ℕ)
 units_of forms.Tag text = lines_of text
 units_of (forms.Row before) text = lines_of text
-units_of (forms.Csv before) text = records_from false text
+units_of (forms.Csv before) text = records_from places.Fresh text
 
 -- no line feed that ends a line of this form: none, or in CSV none outside of quotes
 abbrev pub IsUnit : LineForm → List ℕ → Type 0
 IsUnit forms.Tag text = IsOneLine text
 IsUnit (forms.Row before) text = IsOneLine text
-IsUnit (forms.Csv before) text = IsFreeOutside 10 false text
+IsUnit (forms.Csv before) text = IsFreeOutside 10 places.Fresh text
 
--- whether a line goes on after a line feed: a record does where its quotes are odd in number
+-- the place after a text of this form, which is of no account but in CSV
+abbrev pub place_of : LineForm → List ℕ → Place
+place_of forms.Tag text = places.Fresh
+place_of (forms.Row before) text = places.Fresh
+place_of (forms.Csv before) text = place_at places.Fresh text
+
+-- whether a line goes on after a line feed: a record does where it ends within quotes
 abbrev pub is_open : LineForm → List ℕ → Bool
-is_open forms.Tag text = false
-is_open (forms.Row before) text = false
-is_open (forms.Csv before) text = is_inside false text
+is_open form text = is_quoted (place_of form text)
 
 -- a line that a line feed ends
 pub record IsWhole (form : LineForm) (text : List ℕ) : Type 0 where

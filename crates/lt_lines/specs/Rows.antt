@@ -2,7 +2,8 @@
 use Rattle.std.specs.Prelude.{◌≡◌, ◌≢◌, ◌<◌, ◌⊎◌, ℕ, false, List, [], ◌∷◌, ◌++◌, length, Option, MatchOption}
 use Rattle.std.specs.Borrow.{Bor}
 use Rattle.std.specs.List.{All, AllByRecursion}
-use Rattle.lt_lines.specs.Quotes.{IsFreeOutside, is_inside}
+use Rattle.lt_lines.specs.Quotes.{IsFreeOutside, is_quoted, place_at}
+use Rattle.lt_lines.specs.declared.quotes.Place.TheVariants as places
 use Rattle.lt_lines.specs.declared.rows.Separator.{Separator}
 use Rattle.lt_lines.specs.declared.rows.Separator.TheVariants as separators
 
@@ -14,12 +15,12 @@ separator separators.Comma = 44
 -- no tab, or no comma outside of quotes
 abbrev pub IsField : Separator → List ℕ → Type 0
 IsField separators.Tab text = All (λ byte. byte ≢ 9) text
-IsField separators.Comma text = IsFreeOutside 44 false text
+IsField separators.Comma text = IsFreeOutside 44 places.Fresh text
 
--- a separator may end the field: its quotes are even in number, where commas part fields
+-- a separator may end the field: it does not end within quotes, where commas part fields
 abbrev pub IsClosed : Separator → List ℕ → Type 0
 IsClosed separators.Tab text = Unit {0}
-IsClosed separators.Comma text = is_inside false text ≡ false
+IsClosed separators.Comma text = is_quoted (place_at places.Fresh text) ≡ false
 
 -- a field that a separator ends
 pub record IsEnded (S : Separator) (text : List ℕ) : Type 0 where

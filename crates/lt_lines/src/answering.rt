@@ -1,6 +1,7 @@
 //! Answering lines that come in pieces.
 ghost use Rattle.std.specs.Prelude.{◌≡◌, ◌≤◌, ◌+◌, ◌-◌, ◌++◌, ◌∷◌, List, ℕ, [], false, IfOk, OnOk, length, take, vec_len};
 ghost use Rattle.lt_lines.specs.Owed.{IsOneLine, Terms, feeds_in, terms};
+ghost use Rattle.lt_lines.specs.Quotes.{is_quoted};
 ghost use Rattle.lt_lines.specs.Answering as spec;
 
 use crate::answer_lines::without_return;
@@ -8,7 +9,7 @@ use crate::answer_rows::{append_heading, append_row};
 use crate::device_output::write_text;
 use crate::faults::ToolFault;
 use crate::forms::LineForm;
-use crate::quotes::after_text;
+use crate::quotes::{Place, after_text};
 use crate::recent_answers::{RecentAnswers, append_again};
 use crate::rows::Separator;
 use crate::runs::Counts;
@@ -32,8 +33,8 @@ const FULL: usize = 65536;
 pub(crate) struct Answering {
     /// The front of the line that no line feed ended so far.
     kept: Vec<u8>,
-    /// Whether that ends within quotes, so that a line feed does not end it.
-    is_open: bool,
+    /// The place after that: a line feed within quotes does not end it.
+    place: Place,
     /// The line feeds so far.
     feeds: u64,
     /// Lines that are owed and not yet written.
@@ -56,13 +57,13 @@ fn keep(form: LineForm, kept: &mut Vec<u8>, part: &[u8]) -> Result<(), AllocErro
     }
 }
 
-/// Whether a line goes on after a line feed, by whether it would before these bytes, which are the last before it.
-fn is_open_after(form: LineForm, is_open: bool, part: &[u8]) -> bool
-    ensures { result ≡ spec.open_after form is_open part.now }
+/// The place after more bytes of a line, by that before them.
+fn place_then(form: LineForm, place: Place, part: &[u8]) -> Place
+    ensures { result ≡ spec.place_then form place part.now }
 {
     match form {
-        LineForm::Tag | LineForm::Row(_) => false,
-        LineForm::Csv(_) => after_text(is_open, part),
+        LineForm::Tag | LineForm::Row(_) => Place::Fresh,
+        LineForm::Csv(_) => after_text(place, part),
     }
 }
 
@@ -150,13 +151,13 @@ impl Answering {
     /// Nothing taken so far.
     pub(crate) fn new(alloc: Global) -> Answering
         ensures items { (result.kept.items ≡ []) × (result.owed.items ≡ []) }
-        ensures place { (result.is_open ≡ false) × (result.feeds ≡ 0) }
+        ensures place { (result.place ≡ Place.Fresh) × (result.feeds ≡ 0) }
         ensures counts { (result.counts.lines ≡ 0) × (result.counts.refused ≡ 0) }
         ensures recent { (terms : Terms) → spec.AreRecent terms result.recent }
     {
         Answering {
             kept: Vec::new(alloc),
-            is_open: false,
+            place: Place::Fresh,
             feeds: 0,
             owed: Vec::new(alloc),
             counts: Counts {
@@ -179,7 +180,7 @@ impl Answering {
     ) -> Result<(), OutOfMemory>
         requires room { spec.HasRoom self.old 1 }
         requires count { count ≤ length text.now }
-        ensures taken { OnOk result ((bytes out : List ℕ) → spec.IsWholeAfter form self.old.is_open (take count text.now) → spec.IsTaken (terms (L.listed checked.now) form) bytes out self.old
+        ensures taken { OnOk result ((bytes out : List ℕ) → spec.IsWholeAfter form self.old.place (take count text.now) → spec.IsTaken (terms (L.listed checked.now) form) bytes out self.old
             → spec.IsTaken (terms (L.listed checked.now) form) (bytes ++ (take count text.now ++ 10 ∷ [])) out self.new) }
         ensures kept { OnOk result (self.new.kept.items ≡ []) }
         ensures counted { OnOk result (spec.CountsFeed self.old self.new) }
@@ -197,7 +198,7 @@ impl Answering {
         )?;
         self.counts.count(refused);
         self.kept.clear();
-        self.is_open = false;
+        self.place = Place::Fresh;
         self.feeds += 1;
         Ok(())
     }
@@ -210,7 +211,7 @@ impl Answering {
     {
         keep(form, &mut self.kept, part)?;
         keep(form, &mut self.kept, b"\n")?;
-        self.is_open = true;
+        self.place = Place::Quoted;
         self.feeds += 1;
         Ok(())
     }
@@ -232,7 +233,7 @@ impl Answering {
         ensures counted { OnOk result (spec.CountsFeed self.old self.new) }
     {
         let part = &text[..count];
-        if is_open_after(form, self.is_open, part) {
+        if place_then(form, self.place, part).is_quoted() {
             return self.go_on(form, part);
         }
         self.answer_line(alloc, checked, form, text, count)
@@ -277,7 +278,7 @@ impl Answering {
             self.write_much(output)?;
             rest = after;
         }
-        self.is_open = is_open_after(form, self.is_open, rest);
+        self.place = place_then(form, self.place, rest);
         keep(form, &mut self.kept, rest)?;
         self.write(output)
     }
@@ -290,7 +291,7 @@ impl Answering {
         form: LineForm,
     ) -> Result<(), OutOfMemory>
         requires room { spec.HasRoom self.old 1 }
-        requires closed { self.old.is_open ≡ false }
+        requires closed { is_quoted self.old.place ≡ false }
         ensures { OnOk result ((bytes out : List ℕ) → spec.IsTaken (terms (L.listed checked.now) form) bytes out self.old
             → spec.IsAnswered (terms (L.listed checked.now) form) bytes out self.new) }
     {
@@ -318,7 +319,7 @@ impl Answering {
         output: &mut Device<W>,
     ) -> Result<Counts, ToolFault>
         requires room { spec.HasRoom self.old 1 }
-        requires closed { self.old.is_open ≡ false }
+        requires closed { is_quoted self.old.place ≡ false }
         ensures { spec.FinishesLines (terms (L.listed checked.now) form) W.contents self.old output.old output.new result }
     {
         self.end_last(alloc, checked, form)?;
@@ -337,7 +338,7 @@ impl Answering {
         requires { spec.HasRoom self.old 1 }
         ensures { spec.FinishesLines (terms (L.listed checked.now) form) W.contents self.old output.old output.new result }
     {
-        if self.is_open {
+        if self.place.is_quoted() {
             return Err(ToolFault::BadCsv(self.kept_from()));
         }
         self.finish_closed(alloc, checked, form, output)

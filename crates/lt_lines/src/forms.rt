@@ -13,7 +13,8 @@ pub enum LineForm {
     Row(usize),
     /// A record of CSV (RFC 4180, 2): a line, or lines where line feeds are within quotes. The first is the heading,
     /// which is answered by itself and one field more, `langtag_fault`. Any other is answered as a row is, with commas
-    /// between its fields; those within quotes part none. The text of a field with a quote at both ends is what is
-    /// between them, and they stay.
+    /// between its fields; those within quotes part none. A quote begins quoted text where a field begins, and where a
+    /// quote has just ended some; elsewhere it is a byte like any other. The text of a field with a quote at both ends
+    /// is what is between them, and they stay.
     Csv(usize),
 }

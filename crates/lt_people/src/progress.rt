@@ -1,5 +1,6 @@
 //! How far a long run is.
-ghost use Rattle.std.specs.Prelude.{◌≡◌, ◌+◌, ◌-◌, ◌^◌, IfOk, min, take};
+ghost use Rattle.std.specs.Prelude.{◌≡◌, ◌+◌, ◌-◌, ◌^◌, IfOk, OnErr, min, take};
+ghost use Rattle.lt_jar.specs.Devices.{HasFailed, failures_of, inner_of};
 ghost use Rattle.std.specs.Io.KnownBytes.{Keeps, WriteAppends};
 ghost use Rattle.std.specs.Io.{WritesAtMost};
 ghost use Rattle.lt_lines.specs.Owed.{feeds_in};
@@ -20,7 +21,7 @@ const MILLION: u64 = 1_000_000;
 #[derive(Drop)]
 pub struct Progress<W, T> {
     alloc: Global,
-    inner: W,
+    inner: Device<W>,
     people: Device<T>,
     is_told: bool,
     lines: u64,
@@ -37,12 +38,12 @@ impl<W, T> Progress<W, T> {
     /// A writer that took nothing so far. Where the output is a terminal itself, its lines tell how far the run is, and
     /// `is_told` is false.
     pub fn new(alloc: Global, inner: W, people: T, is_told: bool) -> Progress<W, T>
-        ensures inner { result.inner ≡ inner }
+        ensures inner { (inner_of result.inner ≡ inner) × (failures_of result.inner ≡ 0) }
         ensures told { (result.is_told ≡ is_told) × (result.lines ≡ 0) }
     {
         Progress {
             alloc,
-            inner,
+            inner: Device::new(inner),
             people: Device::new(people),
             is_told,
             lines: 0,
@@ -68,12 +69,13 @@ fn tell_progress<T: Write>(
 }
 
 impl<W: Write, T: Write> Write for Progress<W, T> {
-    ghost contents = { λ progress. W.contents progress.inner };
+    ghost contents = { λ progress. W.contents (inner_of progress.inner) };
 
     /// What one call of the writer with this slice answers.
     fn write(&mut self, buf: &[u8]) -> io::Result<usize>
         ensures bound { WritesAtMost result buf.now }
-        ensures bytes { WriteAppends (W.contents self.old.inner) (W.contents self.new.inner) result buf.now }
+        ensures bytes { WriteAppends (W.contents (inner_of self.old.inner)) (W.contents (inner_of self.new.inner)) result buf.now }
+        ensures fails { OnErr result (HasFailed self.old.inner self.new.inner) }
         ensures counted { IfOk result (λ count. self.new.lines ≡ min (self.old.lines + feeds_in (take count buf.now)) (2 ^ 64 - 1)) }
         ensures told { TellsProgress self.old.is_told self.old.lines self.new.lines (stream T.contents self.old.people self.new.people) }
     {
@@ -97,7 +99,7 @@ impl<W: Write, T: Write> Write for Progress<W, T> {
 
     /// What one call of the writer's `flush` answers.
     fn flush(&mut self) -> io::Result<()>
-        ensures bytes { Keeps (W.contents self.old.inner) (W.contents self.new.inner) }
+        ensures bytes { Keeps (W.contents (inner_of self.old.inner)) (W.contents (inner_of self.new.inner)) }
     {
         self.inner.flush()
     }

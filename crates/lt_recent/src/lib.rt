@@ -7,8 +7,6 @@ ghost use Rattle.std.specs.Prelude.{◌≡◌, ◌≤◌, length, take, IfSome, 
 ghost use Rattle.lt_recent.specs.Recent.{Holds, IsBlank, PutsIn};
 
 mod short_texts;
-#[cfg(test)]
-mod tests;
 
 pub use short_texts::ShortText;
 use std::alloc::{AllocError, Global};

@@ -99,10 +99,11 @@ impl ShortText {
     }
 
     /// Appends the text: all 32 bytes, which are then cut to its own, since a copy whose length is known takes
-    /// no loop. The only refusal is running out of memory.
+    /// no loop. The only refusal is running out of memory, which leaves what was there.
     #[inline(always)]
     pub fn append_to(&self, texts: &mut Vec<u8>) -> Result<(), AllocError>
-        ensures { OnOk result (texts.new.items ≡ texts.old.items ++ self.now) }
+        ensures appended { OnOk result (texts.new.items ≡ texts.old.items ++ self.now) }
+        ensures kept { OnErr result (texts.new.items ≡ texts.old.items) }
     {
         let end = texts.len() + usize::from(self.count);
         texts.extend_from_slice(&self.bytes)?;

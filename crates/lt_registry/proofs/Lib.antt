@@ -1,6 +1,7 @@
 pub mod CoreFaultLemmas
 pub mod DistinctTests
 pub mod EqualityLemmas
+pub mod FoundLemmas
 pub mod ListLemmas
 pub mod OrderLemmas
 pub mod RecordLaws

@@ -1,15 +1,42 @@
 -- What each step of reading a record gives. No public contract cites this.
-use Rattle.std.specs.Prelude.{ℕ, ◌≡◌, true, false, List, Option, Some, None, Result, Ok, Err}
+use Rattle.std.specs.Prelude.{ℕ, ◌≡◌, true, false, if◌then◌else◌, List, Option, Some, None, is_some, Result, Ok, Err}
+use Rattle.std.specs.List.{position_from}
+use Rattle.std.specs.Str.{str_eq_ignore_ascii_case}
 use Rattle.lt_tag.specs.Parts.{TagForm}
 use Rattle.lt_tag.specs.Faults.{HasTag}
 use Rattle.lt_jar.specs.Records.{Field}
 use Rattle.lt_registry.specs.Entries.{is_whole_kind}
-use Rattle.lt_registry.specs.Records.{body, subtag_name, tag_name, value_name, kind_of, name_field, subtags_named, HasNoTag, IsName, IsValue, prefixes_in, prefixes_of, bodies, prefix_name}
+use Rattle.lt_registry.specs.Records.{is_called, body, type_name, subtag_name, tag_name, value_name, date_name, repeats_field, kind_of, name_field, subtags_named, HasNoTag, IsName, IsValue, prefixes_in, prefixes_of, bodies, prefix_name}
 use Rattle.lt_registry.specs.declared.entries.Kind.{Kind}
 use Rattle.lt_registry.specs.declared.entries.EntryName.{EntryName}
 use Rattle.lt_registry.specs.declared.entries.EntryValue.{EntryValue}
+use Rattle.lt_registry.specs.declared.fields.FieldName.{FieldName}
+use Rattle.lt_registry.specs.declared.fields.FieldName.TheVariants as told
+use Rattle.lt_registry.specs.declared.fields.Found.{Found}
 use Rattle.lt_registry.specs.declared.faults.RecordFaultKind.{RecordFaultKind}
 use Rattle.lt_registry.specs.declared.faults.RecordFaultKind.TheVariants as faults
+
+-- the field that has a name, letter case aside
+abbrev pub field_told : List ℕ → FieldName
+field_told s =
+    if str_eq_ignore_ascii_case s type_name then told.Type
+    else (if str_eq_ignore_ascii_case s subtag_name then told.Subtag
+    else (if str_eq_ignore_ascii_case s tag_name then told.Tag
+    else (if str_eq_ignore_ascii_case s value_name then told.PreferredValue
+    else (if str_eq_ignore_ascii_case s date_name then told.FileDate else told.Other))))
+
+-- where the first field of a name is, if there is one
+abbrev pub IsPlace : List ℕ → List Field → Option ℕ → Type 0
+IsPlace name r place = place ≡ position_from (is_called name) 0 r
+
+-- this was found among the fields
+pub record HasFound (r : List Field) (found : Found) : Type 0 where
+  pub kind : IsPlace type_name r found.kind
+  pub subtag : IsPlace subtag_name r found.subtag
+  pub tag : IsPlace tag_name r found.tag
+  pub value : IsPlace value_name r found.value
+  pub dated : found.is_dated ≡ is_some (body date_name r)
+  pub repeats : found.repeats ≡ repeats_field r
 
 -- the kind that a type names, if it names one
 abbrev pub kind_or : Option Kind → Result Kind RecordFaultKind

@@ -6,7 +6,7 @@ ghost use Rattle.lt_registry.specs.RecordRefusals.{IsRefused};
 
 use crate::entries::Entry;
 use crate::faults::{RecordFault, RecordFaultKind};
-use crate::fields::is_header_at;
+use crate::fields::RecordFields;
 use crate::records::read_entry;
 use lt_jar::{JarFault, JarField, JarReader};
 use std::alloc::Global;
@@ -22,24 +22,25 @@ pub(crate) fn add_record(
     ensures ok { OnOk result (IsAdded fields.now number entries.old.items entries.new.items) }
     ensures err { IfErr result (IsRefusedAt fields.now number) }
 {
-    if is_header_at(number, fields) {
+    let fields = RecordFields::of(fields);
+    if number == 1 && fields.are_header() {
         return Ok(());
     }
-    match add_entry(alloc, entries, fields, number) {
+    match add_entry(alloc, entries, &fields, number) {
         Ok(()) => Ok(()),
         Err(kind) => Err(RecordFault { kind, number }),
     }
 }
 
-/// Puts the entry of the record of these fields after the others.
+/// Puts the entry of a record after the others.
 fn add_entry(
     alloc: Global,
     entries: &mut Vec<Entry>,
-    fields: &[JarField],
+    fields: &RecordFields<'_>,
     number: u32,
 ) -> Result<(), RecordFaultKind>
-    ensures ok { OnOk result (IsPut fields.now number entries.old.items entries.new.items) }
-    ensures err { IfErr result (IsRefused fields.now) }
+    ensures ok { OnOk result (IsPut fields.now.all.now number entries.old.items entries.new.items) }
+    ensures err { IfErr result (IsRefused fields.now.all.now) }
 {
     entries.push(read_entry(alloc, fields, number)?)?;
     Ok(())

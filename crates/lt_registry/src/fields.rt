@@ -1,10 +1,14 @@
 //! The fields of a record that count.
-ghost use Rattle.std.specs.Prelude.{◌≡◌, ◌==◌, ◌<◌, ◌∷◌, length, position, Some, None, MatchOption, IfSome, IfOk};
+ghost use Rattle.std.specs.Prelude.{◌≡◌, ◌==◌, ◌<◌, ◌∷◌, ◌++◌, [], ℕ, List, length, position, Some, None, MatchOption, IfSome, IfOk, option_map};
+ghost use Rattle.std.specs.List.{slice_get};
 ghost use Rattle.std.specs.Option.{option_copied};
 ghost use Rattle.std.specs.Str.{str_eq_ignore_ascii_case};
 ghost use Rattle.lt_tag.specs.Lists.{pieces};
 ghost use Rattle.lt_tag.specs.Rest.{pieces_left};
+ghost use Rattle.lt_jar.specs.Records.{Field};
+ghost use Rattle.lt_registry.specs.Entries as entry_words;
 ghost use Rattle.lt_registry.specs.Records as record_words;
+ghost use Rattle.lt_registry.specs.RecordSteps as steps;
 
 use crate::entries::{Kind, Prefix};
 use lt_jar::JarField;
@@ -26,43 +30,205 @@ pub(crate) fn is_called(field: &JarField, name: &str) -> bool
     same_text(field.name(), name)
 }
 
-/// The body of the first field of a name.
-pub(crate) fn body<'a>(fields: &'a [JarField], name: &str) -> Option<&'a str>
-    ensures { option_copied result ≡ record_words.body name.now fields.now }
-{
-    let field = fields.iter().find(|field| is_called(field, name))?;
-    Some(field.body())
+/// A field that occurs once at most in a record, or in the header.
+#[derive(Clone, Copy)]
+pub(crate) enum FieldName {
+    Type,
+    Subtag,
+    Tag,
+    PreferredValue,
+    FileDate,
+    Other,
 }
 
-/// Whether a second field has a name.
-fn is_repeated(fields: &[JarField], name: &str) -> bool
-    ensures { result ≡ record_words.is_repeated name.now fields.now }
+/// The field that has a name. Texts of another length are no further compared.
+fn field_name(text: &str) -> FieldName
+    ensures { result ≡ steps.field_told text.now }
 {
-    1 < fields.iter().filter(|field| is_called(field, name)).count()
+    if same_text(text, "Type") {
+        FieldName::Type
+    } else if same_text(text, "Subtag") {
+        FieldName::Subtag
+    } else if same_text(text, "Tag") {
+        FieldName::Tag
+    } else if same_text(text, "Preferred-Value") {
+        FieldName::PreferredValue
+    } else if same_text(text, "File-Date") {
+        FieldName::FileDate
+    } else {
+        FieldName::Other
+    }
 }
 
-/// Whether Type, Subtag, Tag or Preferred-Value occurs twice.
-pub(crate) fn repeats_field(fields: &[JarField]) -> bool
-    ensures { result ≡ record_words.repeats_field fields.now }
-{
-    is_repeated(fields, "Type")
-        || is_repeated(fields, "Subtag")
-        || is_repeated(fields, "Tag")
-        || is_repeated(fields, "Preferred-Value")
+/// Where the first field of each name is, among fields that were looked at.
+#[derive(Clone, Copy)]
+pub(crate) struct Found {
+    kind: Option<usize>,
+    subtag: Option<usize>,
+    tag: Option<usize>,
+    value: Option<usize>,
+    is_dated: bool,
+    /// Whether Type, Subtag, Tag or Preferred-Value occurs twice.
+    repeats: bool,
 }
 
-/// Whether a record has a date and no type.
-fn is_header(fields: &[JarField]) -> bool
-    ensures { result ≡ record_words.is_header fields.now }
-{
-    body(fields, "File-Date").is_some() && body(fields, "Type").is_none()
+impl Found {
+    /// Nothing was looked at.
+    fn none() -> Found
+        ensures { steps.HasFound [] result }
+    {
+        Found {
+            kind: None,
+            subtag: None,
+            tag: None,
+            value: None,
+            is_dated: false,
+            repeats: false,
+        }
+    }
+
+    /// What is found with a field more, which has this place and name.
+    fn with_field(self, place: usize, name: &str) -> Found
+        ensures { (r : List Field) (f : Field) → length r ≡ place → f.0 ≡ name.now
+            → steps.HasFound r self → steps.HasFound (r ++ f ∷ []) result }
+    {
+        let here = Some(place);
+        match field_name(name) {
+            FieldName::Type => Found {
+                kind: self.kind.or(here),
+                repeats: self.repeats | self.kind.is_some(),
+                ..self
+            },
+            FieldName::Subtag => Found {
+                subtag: self.subtag.or(here),
+                repeats: self.repeats | self.subtag.is_some(),
+                ..self
+            },
+            FieldName::Tag => Found {
+                tag: self.tag.or(here),
+                repeats: self.repeats | self.tag.is_some(),
+                ..self
+            },
+            FieldName::PreferredValue => Found {
+                value: self.value.or(here),
+                repeats: self.repeats | self.value.is_some(),
+                ..self
+            },
+            FieldName::FileDate => Found {
+                is_dated: true,
+                ..self
+            },
+            FieldName::Other => self,
+        }
+    }
+
+    /// What is found among all fields of a record.
+    #[tactic(auto, using(crate::proofs::ListLemmas::take_turn))]
+    fn among(fields: &[JarField]) -> Found
+        ensures { steps.HasFound fields.now result }
+    {
+        let mut found = Found::none();
+        for (place, field) in fields.iter().enumerate() {
+            found = found.with_field(place, field.name());
+        }
+        found
+    }
 }
 
-/// Whether the record of a number is the header of the file.
-pub(crate) fn is_header_at(number: u32, fields: &[JarField]) -> bool
-    ensures { result ≡ record_words.is_header_at number fields.now }
+/// The body of the field at a place, if there is one.
+#[tactic(auto, using(std::proofs::lemmas::Option::gets))]
+fn body_at(fields: &[JarField], place: usize) -> Option<&str>
+    ensures { option_copied result ≡ option_map (λ (f : Field). f.1) (slice_get fields.now place) }
 {
-    number == 1 && is_header(fields)
+    Some(fields.get(place)?.body())
+}
+
+/// The fields of a record, which are looked at once.
+#[derive(Clone, Copy)]
+pub(crate) struct RecordFields<'a> {
+    all: &'a [JarField],
+    found: Found,
+    ghost found_there: { steps.HasFound all.now found },
+}
+
+impl<'a> RecordFields<'a> {
+    /// The fields, looked at.
+    pub(crate) fn of(fields: &'a [JarField]) -> RecordFields<'a>
+        ensures { result.all.now ≡ fields.now }
+    {
+        RecordFields {
+            all: fields,
+            found: Found::among(fields),
+        }
+    }
+
+    /// All fields.
+    pub(crate) fn all(&self) -> &'a [JarField]
+        ensures { result.now ≡ self.now.all.now }
+    {
+        self.all
+    }
+
+    /// Whether Type, Subtag, Tag or Preferred-Value occurs twice.
+    pub(crate) fn repeat(&self) -> bool
+        ensures { result ≡ record_words.repeats_field self.now.all.now }
+    {
+        self.found.repeats
+    }
+
+    /// Whether the record has a date and no type.
+    #[tactic(auto, using(crate::proofs::FoundLemmas::found_or_none))]
+    pub(crate) fn are_header(&self) -> bool
+        ensures { result ≡ record_words.is_header self.now.all.now }
+    {
+        self.found.is_dated & self.found.kind.is_none()
+    }
+
+    /// The body of the field at a place that was found.
+    fn body(&self, place: Option<usize>) -> Option<&'a str>
+        ensures { (name : List ℕ) → steps.IsPlace name self.now.all.now place
+            → option_copied result ≡ record_words.body name self.now.all.now }
+    {
+        match place {
+            Some(place) => body_at(self.all, place),
+            None => None,
+        }
+    }
+
+    /// The type.
+    pub(crate) fn kind(&self) -> Option<&'a str>
+        ensures { option_copied result ≡ record_words.body record_words.type_name self.now.all.now }
+    {
+        self.body(self.found.kind)
+    }
+
+    /// What names the subject of a record of a kind: its Tag, if that is a kind of whole tags, else its Subtag.
+    pub(crate) fn name(&self, kind: Kind) -> Option<&'a str>
+        ensures { option_copied result ≡ record_words.body (record_words.name_field kind) self.now.all.now }
+    {
+        if is_whole_kind(kind) {
+            self.body(self.found.tag)
+        } else {
+            self.body(self.found.subtag)
+        }
+    }
+
+    /// The preferred value.
+    pub(crate) fn value(&self) -> Option<&'a str>
+        ensures { option_copied result ≡ record_words.body record_words.value_name self.now.all.now }
+    {
+        self.body(self.found.value)
+    }
+}
+
+/// Grandfathered and redundant tags are named by a Tag.
+pub(crate) fn is_whole_kind(kind: Kind) -> bool
+    ensures { result ≡ entry_words.is_whole_kind kind }
+{
+    match kind {
+        Kind::Grandfathered | Kind::Redundant => true,
+        Kind::Language | Kind::Extlang | Kind::Script | Kind::Region | Kind::Variant => false,
+    }
 }
 
 /// The kind that a type names.

@@ -10,7 +10,7 @@ use crate::whole_index::WholeIndex;
 use std::alloc::{AllocError, Global};
 
 /// An index of each kind that is named by subtags, and of the whole records.
-#[derive(Debug, Drop)]
+#[derive(Debug)]
 pub(crate) struct Indexes {
     languages: KindIndex,
     extlangs: KindIndex,
@@ -18,6 +18,26 @@ pub(crate) struct Indexes {
     regions: KindIndex,
     variants: KindIndex,
     pub(crate) wholes: WholeIndex,
+}
+
+// By hand: who lets the indexes go then owes this one call, and not a drop for each of their vectors.
+impl Drop for Indexes {
+    fn drop(self) {
+        let Indexes {
+            languages,
+            extlangs,
+            scripts,
+            regions,
+            variants,
+            wholes,
+        } = self;
+        drop(languages);
+        drop(extlangs);
+        drop(scripts);
+        drop(regions);
+        drop(variants);
+        drop(wholes);
+    }
 }
 
 impl Indexes {

@@ -104,7 +104,8 @@ fn singles(alloc: Global, entries: &[Entry], kind: Kind) -> Result<Vec<Row>, All
     ensures { IfOk result (λ rows. sorted.IsSingles entries.now kind rows.items) }
 {
     let mut rows = single_rows(alloc, entries, kind)?;
-    rows.sort_unstable();
+    // Not unstable: a file has them in a few rising runs, which are merged.
+    rows.sort()?;
     rows.dedup_by_key(|row| row.number);
     Ok(rows)
 }

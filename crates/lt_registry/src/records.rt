@@ -13,7 +13,7 @@ ghost use Rattle.lt_registry.specs.RecordRefusals.{IsRefused};
 
 use crate::entries::{Entry, EntryName, EntryValue, Kind, Prefix};
 use crate::faults::RecordFaultKind;
-use crate::fields::{body, ends_of, is_called, kind_of, read_prefix, repeats_field};
+use crate::fields::{RecordFields, ends_of, is_called, is_whole_kind, kind_of, read_prefix};
 use crate::names::{is_alphabetic, is_up_to};
 use crate::prefixes::Prefixes;
 use lt_jar::JarField;
@@ -21,60 +21,47 @@ use lt_subtag::Subtag;
 use lt_tag::{OutOfMemory, Tag, TagFaultKind, read_tag};
 use std::alloc::Global;
 
-/// The entry of the record of these fields, which has this number in the file; or the first of what is
-/// wrong with it.
+/// The entry of a record, which has this number in the file; or the first of what is wrong with it.
 #[tactic(auto, using(crate::proofs::RecordLaws::kind_there, crate::proofs::RecordLaws::name_refused, crate::proofs::RecordLaws::prefixes_fit, crate::proofs::RecordLaws::prefixes_where))]
 pub(crate) fn read_entry(
     alloc: Global,
-    fields: &[JarField],
+    fields: &RecordFields<'_>,
     number: u32,
 ) -> Result<Entry, RecordFaultKind>
-    ensures ok { IfOk result (IsEntryOf fields.now number) }
+    ensures ok { IfOk result (IsEntryOf fields.now.all.now number) }
     ensures forms { IfOk result IsEntry }
-    ensures err { IfErr result (IsRefused fields.now) }
+    ensures err { IfErr result (IsRefused fields.now.all.now) }
 {
-    if repeats_field(fields) {
+    if fields.repeat() {
         return Err(RecordFaultKind::RepeatedField);
     }
     let kind = read_kind(fields)?;
     let name = read_name(alloc, kind, fields)?;
     let value = read_value(alloc, kind, fields)?;
-    let prefixes = read_prefixes(alloc, kind, fields)?;
+    let prefixes = read_prefixes(alloc, kind, fields.all())?;
     Ok(Entry::of_parts(number, kind, name, value, prefixes))
 }
 
-fn read_kind(fields: &[JarField]) -> Result<Kind, RecordFaultKind>
-    ensures { result ≡ steps.kind_by (record_words.body record_words.type_name fields.now) }
+fn read_kind(fields: &RecordFields<'_>) -> Result<Kind, RecordFaultKind>
+    ensures { result ≡ steps.kind_by (record_words.body record_words.type_name fields.now.all.now) }
 {
-    match body(fields, "Type") {
+    match fields.kind() {
         Some(text) => kind_of(text).ok_or(RecordFaultKind::UnknownType),
         None => Err(RecordFaultKind::MissingType),
     }
 }
 
-/// Grandfathered and redundant tags are named by a Tag.
-fn is_whole_kind(kind: Kind) -> bool
-    ensures { result ≡ entry_words.is_whole_kind kind }
-{
-    match kind {
-        Kind::Grandfathered | Kind::Redundant => true,
-        Kind::Language | Kind::Extlang | Kind::Script | Kind::Region | Kind::Variant => false,
-    }
-}
-
-fn name_field(kind: Kind) -> &'static str
-    ensures { result.now ≡ record_words.name_field kind }
-{
-    if is_whole_kind(kind) { "Tag" } else { "Subtag" }
-}
-
 #[tactic(auto, using(crate::proofs::RecordLaws::name_told))]
-fn read_name(alloc: Global, kind: Kind, fields: &[JarField]) -> Result<EntryName, RecordFaultKind>
-    ensures ok { IfOk result (steps.IsNameIn kind fields.now) }
+fn read_name(
+    alloc: Global,
+    kind: Kind,
+    fields: &RecordFields<'_>,
+) -> Result<EntryName, RecordFaultKind>
+    ensures ok { IfOk result (steps.IsNameIn kind fields.now.all.now) }
     ensures fits { IfOk result (FitsName kind) }
-    ensures err { IfErr result (IsNameFault kind fields.now) }
+    ensures err { IfErr result (IsNameFault kind fields.now.all.now) }
 {
-    let Some(text) = body(fields, name_field(kind)) else {
+    let Some(text) = fields.name(kind) else {
         return Err(RecordFaultKind::MissingName);
     };
     if !is_whole_kind(kind) {
@@ -105,7 +92,8 @@ fn read_whole(alloc: Global, text: &[u8]) -> Result<Option<Tag>, OutOfMemory>
 
 /// The subtag, or the range, that a text names.
 fn read_subtags(kind: Kind, text: &[u8]) -> Result<EntryName, RecordFaultKind>
-    ensures { result ≡ record_words.subtags_named kind text.now }
+    ensures named { result ≡ record_words.subtags_named kind text.now }
+    ensures fits { IfOk result (FitsName kind) }
 {
     match ends_of(text) {
         Some((first, last)) => read_range(kind, first, last),
@@ -142,7 +130,8 @@ fn has_form(kind: Kind, subtag: &Subtag) -> bool
 }
 
 fn read_range(kind: Kind, first: &[u8], last: &[u8]) -> Result<EntryName, RecordFaultKind>
-    ensures { result ≡ record_words.range_of kind (subtag_of first.now) (subtag_of last.now) }
+    ensures range { result ≡ record_words.range_of kind (subtag_of first.now) (subtag_of last.now) }
+    ensures fits { IfOk result (FitsName kind) }
 {
     let (Ok(from), Ok(to)) = (Subtag::read(first), Subtag::read(last)) else {
         return Err(RecordFaultKind::BadRange);
@@ -169,13 +158,13 @@ fn is_range(kind: Kind, first: &Subtag, last: &Subtag) -> bool
 fn read_value(
     alloc: Global,
     kind: Kind,
-    fields: &[JarField],
+    fields: &RecordFields<'_>,
 ) -> Result<Option<EntryValue>, RecordFaultKind>
-    ensures ok { IfOk result (IsValueOf kind (record_words.body record_words.value_name fields.now)) }
+    ensures ok { IfOk result (IsValueOf kind (record_words.body record_words.value_name fields.now.all.now)) }
     ensures fits { IfOk result (λ value. IfSome value (FitsValue kind)) }
-    ensures err { IfErr result (IsValueFault kind fields.now) }
+    ensures err { IfErr result (IsValueFault kind fields.now.all.now) }
 {
-    match body(fields, "Preferred-Value") {
+    match fields.value() {
         Some(text) => Ok(Some(read_one_value(alloc, kind, text.as_bytes())?)),
         None => Ok(None),
     }

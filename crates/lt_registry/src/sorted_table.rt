@@ -13,10 +13,19 @@ use std::marker::Model;
 /// A table that finds entries by binary search: single records by their subtags, which are compared
 /// as numbers, and whole records by their tags. A subtag that none names is looked for among ranges,
 /// of which the first of the file counts.
-#[derive(Debug, Drop)]
+#[derive(Debug)]
 pub struct SortedTable {
     registry: Registry,
     indexes: Indexes,
+}
+
+// By hand: who lets a table go then owes this one call, and not a drop for each of its vectors.
+impl Drop for SortedTable {
+    fn drop(self) {
+        let SortedTable { registry, indexes } = self;
+        drop(registry);
+        drop(indexes);
+    }
 }
 
 impl Model for SortedTable {

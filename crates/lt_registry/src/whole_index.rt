@@ -27,7 +27,7 @@ impl WholeIndex {
         ensures { IfOk result (λ index. sorted.IsWholes entries.now index.rows.items) }
     {
         let mut rows = whole_rows(alloc, entries)?;
-        rows.sort_unstable_by(|one, other| compare_rows(entries, *one, *other));
+        rows.sort_by(|one, other| compare_rows(entries, *one, *other))?;
         rows.dedup_by(|later, kept| name_same_tag(entries, *later, *kept));
         Ok(WholeIndex { rows })
     }

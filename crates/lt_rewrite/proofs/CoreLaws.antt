@@ -17,11 +17,11 @@ use Rattle.lt_tag.specs.Parts.{CoreParts}
 use Rattle.lt_tag.specs.Spelling.{spell_core, IsCore}
 use Rattle.lt_tag.proofs.TagLemmas.{AllByRecursion-weaker, table_length, list_all-at}
 use Rattle.lt_registry.specs.Parts.{EntryParts}
-use Rattle.lt_registry.specs.Entries.{prefixes, has_prefix, variant_value, language_value, replacement, is_registered, IsRegistry}
+use Rattle.lt_registry.specs.Entries.{preferred_value, prefixes, has_prefix, variant_value, language_value, replacement, is_registered, IsRegistry}
 use Rattle.lt_registry.specs.Validity.{Distinct, ExtlangsFit, IsProperCore}
 use Rattle.lt_registry.specs.declared.entries.Kind.{Kind}
 use Rattle.lt_registry.specs.declared.entries.Kind.TheVariants as kinds
-use Rattle.lt_rewrite.specs.CoreSteps.{Values, Spot, at_extlang, at_language, at_script, at_region, at_variant, at_variant_language, subtag_at, value_at, replaced, CoreStep, values_of, IsCoreNormalForm, EndsIn, chase}
+use Rattle.lt_rewrite.specs.CoreSteps.{language_beside, Spot, at_extlang, at_language, at_script, at_region, at_variant, at_variant_language, subtag_at, value_at, replaced, CoreStep, IsCoreNormalForm, EndsIn, chase}
 use Rattle.lt_rewrite.specs.Rewriting.{Star, done, then as onward}
 use Rattle.lt_rewrite.specs.Conditions.{MeetsCoreConditions, next_value, HasEndingChain, HasFittingGrandfathered, second_entry}
 use Rattle.lt_rewrite.specs.Laws.{HasOneNormalForm, StepsKeepNormalForm, StepsKeepProper, ProperCoresSpellNone}
@@ -77,30 +77,30 @@ extlang_there c x one = ap (λ xs. if eqb (length xs) 1 then slice_get xs 0 else
 pub there_alone : (c : CoreParts) (o : Option (List ℕ)) (x : List ℕ) → c.extlangs ≡ [] → o ≡ Some x → (if eqb (length c.extlangs) 0 then o else None) ≡ Some x
 there_alone c o x none e = ap (λ xs. if eqb (length xs) 0 then o else None) none ∙ e
 
-pub has_leftmost : (V : Values) (c : CoreParts) (i : ℕ) (v m : List ℕ) → V.variant_language c.language v ≡ Some m → AllByRecursion (λ u. V.variant_language c.language u ≡ None) (take i c.variants) → value_at V c (at_variant_language i) v ≡ Some m
-has_leftmost V c i v m has leftmost =
-    let f : List ℕ → Option (List ℕ) = V.variant_language c.language in
+pub has_leftmost : (R : List EntryParts) (c : CoreParts) (i : ℕ) (v m : List ℕ) → language_beside R c.language v ≡ Some m → AllByRecursion (λ u. language_beside R c.language u ≡ None) (take i c.variants) → value_at R c (at_variant_language i) v ≡ Some m
+has_leftmost R c i v m has leftmost =
+    let f : List ℕ → Option (List ℕ) = language_beside R c.language in
     ap (λ b. if b then f v else None) (none_test f (take i c.variants) leftmost) ∙ has
 
 -- what holds of each core to which a core step leads
-pub record EachStep (V : Values) (c : CoreParts) (P : CoreParts → Type 0) : Type 0 where
-  pub extlang : (x : List ℕ) → c.extlangs ≡ x ∷ [] → P (record c { language = V.replacement x; extlangs = [] })
-  pub language : (v : List ℕ) → c.extlangs ≡ [] → V.language c.language ≡ Some v → P (record c { language = v })
-  pub script : (s v : List ℕ) → c.script ≡ Some s → V.script s ≡ Some v → P (record c { script = Some v })
-  pub region : (s v : List ℕ) → c.region ≡ Some s → V.region s ≡ Some v → P (record c { region = Some v })
-  pub variant : (before : List (List ℕ)) (v w : List ℕ) (after : List (List ℕ)) → c.variants ≡ before ++ v ∷ after → V.variant v ≡ Some w → P (record c { variants = before ++ w ∷ after })
-  pub variant_language : (before : List (List ℕ)) (v m : List ℕ) (after : List (List ℕ)) → c.extlangs ≡ [] → c.variants ≡ before ++ v ∷ after → V.variant_language c.language v ≡ Some m → AllByRecursion (λ u. V.variant_language c.language u ≡ None) before → P (record c { language = m; variants = before ++ after })
+pub record EachStep (R : List EntryParts) (c : CoreParts) (P : CoreParts → Type 0) : Type 0 where
+  pub extlang : (x : List ℕ) → c.extlangs ≡ x ∷ [] → P (record c { language = replacement R x; extlangs = [] })
+  pub language : (v : List ℕ) → c.extlangs ≡ [] → preferred_value R kinds.Language c.language ≡ Some v → P (record c { language = v })
+  pub script : (s v : List ℕ) → c.script ≡ Some s → preferred_value R kinds.Script s ≡ Some v → P (record c { script = Some v })
+  pub region : (s v : List ℕ) → c.region ≡ Some s → preferred_value R kinds.Region s ≡ Some v → P (record c { region = Some v })
+  pub variant : (before : List (List ℕ)) (v w : List ℕ) (after : List (List ℕ)) → c.variants ≡ before ++ v ∷ after → variant_value R v ≡ Some w → P (record c { variants = before ++ w ∷ after })
+  pub variant_language : (before : List (List ℕ)) (v m : List ℕ) (after : List (List ℕ)) → c.extlangs ≡ [] → c.variants ≡ before ++ v ∷ after → language_beside R c.language v ≡ Some m → AllByRecursion (λ u. language_beside R c.language u ≡ None) before → P (record c { language = m; variants = before ++ after })
 
-module _ (V : Values) (c : CoreParts) where
-  pub each_step : (P : CoreParts → Type 0) → EachStep V c P → (d : CoreParts) → CoreStep V c d → P d
+module _ (R : List EntryParts) (c : CoreParts) where
+  pub each_step : (P : CoreParts → Type 0) → EachStep R c P → (d : CoreParts) → CoreStep R c d → P d
   each_step P E d s = subst P (sym s.result) (at s.spot s.subtag s.there s.value s.has)
     where
-      at : (spot : Spot) (x : List ℕ) → subtag_at c spot ≡ Some x → (v : List ℕ) → value_at V c spot x ≡ Some v → P (replaced c spot v)
+      at : (spot : Spot) (x : List ℕ) → subtag_at c spot ≡ Some x → (v : List ℕ) → value_at R c spot x ≡ Some v → P (replaced c spot v)
       at at_extlang x t v h =
-          subst (λ u. P (record c { language = u; extlangs = [] })) (same_Some (V.replacement x) v h) (E.extlang x (one_extlang c x t))
+          subst (λ u. P (record c { language = u; extlangs = [] })) (same_Some (replacement R x) v h) (E.extlang x (one_extlang c x t))
       at at_language x t v h =
           let a = alone c (Some c.language) x t in
-          E.language v a.0 (ap V.language (same_Some c.language x a.1) ∙ h)
+          E.language v a.0 (ap (preferred_value R kinds.Language) (same_Some c.language x a.1) ∙ h)
       at at_script x t v h = E.script x v t h
       at at_region x t v h = E.region x v t h
       at (at_variant i) x t v h =
@@ -108,37 +108,37 @@ module _ (V : Values) (c : CoreParts) where
           (E.variant (take i c.variants) x v (drop (suc i) c.variants) (got_at c.variants i x t) h)
       at (at_variant_language i) x t v h =
           let a = alone c (slice_get c.variants i) x t in
-          let f : List ℕ → Option (List ℕ) = V.variant_language c.language in
+          let f : List ℕ → Option (List ℕ) = language_beside R c.language in
           let l = some_if (list_all (λ u. is_none (f u)) (take i c.variants)) (f x) v h in
           E.variant_language (take i c.variants) x v (drop (suc i) c.variants) a.0 (got_at c.variants i x a.1) l.1 (none_before f (take i c.variants) l.0)
 
-  step : (spot : Spot) (s v : List ℕ) → subtag_at c spot ≡ Some s → value_at V c spot s ≡ Some v → CoreStep V c (replaced c spot v)
+  step : (spot : Spot) (s v : List ℕ) → subtag_at c spot ≡ Some s → value_at R c spot s ≡ Some v → CoreStep R c (replaced c spot v)
   step spot s v there has = record { spot = spot; subtag = s; there = there; value = v; has = has; result = refl }
 
-  pub by_extlang : (x : List ℕ) → c.extlangs ≡ x ∷ [] → CoreStep V c (record c { language = V.replacement x; extlangs = [] })
-  by_extlang x one = step at_extlang x (V.replacement x) (extlang_there c x one) refl
+  pub by_extlang : (x : List ℕ) → c.extlangs ≡ x ∷ [] → CoreStep R c (record c { language = replacement R x; extlangs = [] })
+  by_extlang x one = step at_extlang x (replacement R x) (extlang_there c x one) refl
 
-  pub by_language : (v : List ℕ) → c.extlangs ≡ [] → V.language c.language ≡ Some v → CoreStep V c (record c { language = v })
+  pub by_language : (v : List ℕ) → c.extlangs ≡ [] → preferred_value R kinds.Language c.language ≡ Some v → CoreStep R c (record c { language = v })
   by_language v none has = step at_language c.language v (there_alone c (Some c.language) c.language none refl) has
 
-  pub by_script : (s v : List ℕ) → c.script ≡ Some s → V.script s ≡ Some v → CoreStep V c (record c { script = Some v })
+  pub by_script : (s v : List ℕ) → c.script ≡ Some s → preferred_value R kinds.Script s ≡ Some v → CoreStep R c (record c { script = Some v })
   by_script s v there has = step at_script s v there has
 
-  pub by_region : (s v : List ℕ) → c.region ≡ Some s → V.region s ≡ Some v → CoreStep V c (record c { region = Some v })
+  pub by_region : (s v : List ℕ) → c.region ≡ Some s → preferred_value R kinds.Region s ≡ Some v → CoreStep R c (record c { region = Some v })
   by_region s v there has = step at_region s v there has
 
-  pub by_variant : (before : List (List ℕ)) (v w : List ℕ) (after : List (List ℕ)) → c.variants ≡ before ++ v ∷ after → V.variant v ≡ Some w → CoreStep V c (record c { variants = before ++ w ∷ after })
+  pub by_variant : (before : List (List ℕ)) (v w : List ℕ) (after : List (List ℕ)) → c.variants ≡ before ++ v ∷ after → variant_value R v ≡ Some w → CoreStep R c (record c { variants = before ++ w ∷ after })
   by_variant before v w after there has =
-      subst (λ vs. CoreStep V c (record c { variants = vs })) (ap (λ vs. set vs (length before) w) there ∙ set_at before v after w (length before) refl)
+      subst (λ vs. CoreStep R c (record c { variants = vs })) (ap (λ vs. set vs (length before) w) there ∙ set_at before v after w (length before) refl)
       (step (at_variant (length before)) v w (get_at before v after c.variants there) has)
 
-  pub by_variant_language : (before : List (List ℕ)) (v m : List ℕ) (after : List (List ℕ)) → c.extlangs ≡ [] → c.variants ≡ before ++ v ∷ after → V.variant_language c.language v ≡ Some m → AllByRecursion (λ u. V.variant_language c.language u ≡ None) before → CoreStep V c (record c { language = m; variants = before ++ after })
+  pub by_variant_language : (before : List (List ℕ)) (v m : List ℕ) (after : List (List ℕ)) → c.extlangs ≡ [] → c.variants ≡ before ++ v ∷ after → language_beside R c.language v ≡ Some m → AllByRecursion (λ u. language_beside R c.language u ≡ None) before → CoreStep R c (record c { language = m; variants = before ++ after })
   by_variant_language before v m after none there has leftmost =
       let n : ℕ = length before in
       let front : take n c.variants ≡ before = ap (take n) there ∙ take_at before (v ∷ after) n refl in
       let rest : drop (suc n) c.variants ≡ after = ap (drop (suc n)) (there ∙ sym (append_assoc before (v ∷ []) after)) ∙ drop_at (before ++ v ∷ []) after (suc n) (omega (arith, length-append before (v ∷ []))) in
-      subst (λ vs. CoreStep V c (record c { language = m; variants = vs })) (λ i. front i ++ rest i)
-      (step (at_variant_language n) v m (there_alone c (slice_get c.variants n) v none (get_at before v after c.variants there)) (has_leftmost V c n v m has (subst (AllByRecursion (λ u. V.variant_language c.language u ≡ None)) (sym front) leftmost)))
+      subst (λ vs. CoreStep R c (record c { language = m; variants = vs })) (λ i. front i ++ rest i)
+      (step (at_variant_language n) v m (there_alone c (slice_get c.variants n) v none (get_at before v after c.variants there)) (has_leftmost R c n v m has (subst (AllByRecursion (λ u. language_beside R c.language u ≡ None)) (sym front) leftmost)))
 
 -- A core step makes the subtags of a core no more.
 
@@ -149,8 +149,8 @@ pub record IsNoLonger (d c : CoreParts) : Type 0 where
   pub region : length (option_to_list d.region) ≤ length (option_to_list c.region)
   pub variants : length d.variants ≤ length c.variants
 
-pub core_step_no_longer : (V : Values) (c d : CoreParts) → CoreStep V c d → IsNoLonger d c
-core_step_no_longer V c = each_step V c (λ d. IsNoLonger d c) (record {
+pub core_step_no_longer : (R : List EntryParts) (c d : CoreParts) → CoreStep R c d → IsNoLonger d c
+core_step_no_longer R c = each_step R c (λ d. IsNoLonger d c) (record {
   extlang = λ x one. search (rules, arith);
   language = λ v none has. search (rules, arith);
   script = λ a v there has. let n = ap (λ o. length (option_to_list o)) there in search (rules, arith);
@@ -169,49 +169,49 @@ spelled_no_longer c d h = simp length-append (omega arith)
 -- What single steps reach, one after another.
 
 -- one subtag is led to the end of its chain
-along : (V : Values) (f : List ℕ → Option (List ℕ)) (at : List ℕ → CoreParts) → ((s t : List ℕ) → f s ≡ Some t → CoreStep V (at s) (at t)) → (s e : List ℕ) → EndsIn f s e → Star (CoreStep V) (at s) (at e)
-along V f at step s e h =
-    subst (λ u. Star (CoreStep V) (at s) (at u)) h.1 (chase_keeps f (λ u. Star (CoreStep V) (at s) (at u)) (λ u t g r. star_trans r (onward (step u t g) done)) h.0 s done)
+along : (R : List EntryParts) (f : List ℕ → Option (List ℕ)) (at : List ℕ → CoreParts) → ((s t : List ℕ) → f s ≡ Some t → CoreStep R (at s) (at t)) → (s e : List ℕ) → EndsIn f s e → Star (CoreStep R) (at s) (at e)
+along R f at step s e h =
+    subst (λ u. Star (CoreStep R) (at s) (at u)) h.1 (chase_keeps f (λ u. Star (CoreStep R) (at s) (at u)) (λ u t g r. star_trans r (onward (step u t g) done)) h.0 s done)
 
 -- a part that may be missing
-part_reached : (V : Values) (f : List ℕ → Option (List ℕ)) (at : Option (List ℕ) → CoreParts) → ((s t : List ℕ) → f s ≡ Some t → CoreStep V (at (Some s)) (at (Some t))) → (part : Option (List ℕ)) (d : CoreParts) (o : Option (Bor (List ℕ))) (s : Bor (List ℕ)) (e : List ℕ) → option_copied o ≡ part → o ≡ Some s → EndsIn f s.now e → d ≡ at (Some e) → Star (CoreStep V) (at part) d
-part_reached V f at step part d o s e own some ends new =
-    subst (λ d. Star (CoreStep V) (at part) d) (sym new)
-    (subst (λ p. Star (CoreStep V) (at p) (at (Some e))) (ap option_copied (sym some) ∙ own) (along V f (λ u. at (Some u)) step s.now e ends))
+part_reached : (R : List EntryParts) (f : List ℕ → Option (List ℕ)) (at : Option (List ℕ) → CoreParts) → ((s t : List ℕ) → f s ≡ Some t → CoreStep R (at (Some s)) (at (Some t))) → (part : Option (List ℕ)) (d : CoreParts) (o : Option (Bor (List ℕ))) (s : Bor (List ℕ)) (e : List ℕ) → option_copied o ≡ part → o ≡ Some s → EndsIn f s.now e → d ≡ at (Some e) → Star (CoreStep R) (at part) d
+part_reached R f at step part d o s e own some ends new =
+    subst (λ d. Star (CoreStep R) (at part) d) (sym new)
+    (subst (λ p. Star (CoreStep R) (at p) (at (Some e))) (ap option_copied (sym some) ∙ own) (along R f (λ u. at (Some u)) step s.now e ends))
 
-pub script_reached : (R : List EntryParts) (c d : CoreParts) (o : Option (Bor (List ℕ))) (s : Bor (List ℕ)) (e : List ℕ) → option_copied o ≡ c.script → o ≡ Some s → EndsIn (next_value R kinds.Script) s.now e → d ≡ record c { script = Some e } → Star (CoreStep (values_of R)) c d
-script_reached R c d = part_reached (values_of R) (next_value R kinds.Script) (λ o. record c { script = o }) (λ u t f. by_script (values_of R) (record c { script = Some u }) u t refl f) c.script d
+pub script_reached : (R : List EntryParts) (c d : CoreParts) (o : Option (Bor (List ℕ))) (s : Bor (List ℕ)) (e : List ℕ) → option_copied o ≡ c.script → o ≡ Some s → EndsIn (next_value R kinds.Script) s.now e → d ≡ record c { script = Some e } → Star (CoreStep R) c d
+script_reached R c d = part_reached R (next_value R kinds.Script) (λ o. record c { script = o }) (λ u t f. by_script R (record c { script = Some u }) u t refl f) c.script d
 
-pub region_reached : (R : List EntryParts) (c d : CoreParts) (o : Option (Bor (List ℕ))) (s : Bor (List ℕ)) (e : List ℕ) → option_copied o ≡ c.region → o ≡ Some s → EndsIn (next_value R kinds.Region) s.now e → d ≡ record c { region = Some e } → Star (CoreStep (values_of R)) c d
-region_reached R c d = part_reached (values_of R) (next_value R kinds.Region) (λ o. record c { region = o }) (λ u t f. by_region (values_of R) (record c { region = Some u }) u t refl f) c.region d
+pub region_reached : (R : List EntryParts) (c d : CoreParts) (o : Option (Bor (List ℕ))) (s : Bor (List ℕ)) (e : List ℕ) → option_copied o ≡ c.region → o ≡ Some s → EndsIn (next_value R kinds.Region) s.now e → d ≡ record c { region = Some e } → Star (CoreStep R) c d
+region_reached R c d = part_reached R (next_value R kinds.Region) (λ o. record c { region = o }) (λ u t f. by_region R (record c { region = Some u }) u t refl f) c.region d
 
-pub language_reached : (R : List EntryParts) (c d : CoreParts) (l e : List ℕ) → c.extlangs ≡ [] → l ≡ c.language → EndsIn (next_value R kinds.Language) l e → d ≡ record c { language = e } → Star (CoreStep (values_of R)) c d
+pub language_reached : (R : List EntryParts) (c d : CoreParts) (l e : List ℕ) → c.extlangs ≡ [] → l ≡ c.language → EndsIn (next_value R kinds.Language) l e → d ≡ record c { language = e } → Star (CoreStep R) c d
 language_reached R c d l e none own ends new =
-    subst (λ d. Star (CoreStep (values_of R)) c d) (sym new)
-    (along (values_of R) (next_value R kinds.Language) (λ u. record c { language = u }) (λ u t f. by_language (values_of R) (record c { language = u }) t none f) c.language e (subst (λ s. EndsIn (next_value R kinds.Language) s e) own ends))
+    subst (λ d. Star (CoreStep R) c d) (sym new)
+    (along R (next_value R kinds.Language) (λ u. record c { language = u }) (λ u t f. by_language R (record c { language = u }) t none f) c.language e (subst (λ s. EndsIn (next_value R kinds.Language) s e) own ends))
 
 -- nothing is left to replace
-pub record AtRest (V : Values) (d : CoreParts) : Type 0 where
+pub record AtRest (R : List EntryParts) (d : CoreParts) : Type 0 where
   pub extlang : (x : List ℕ) → d.extlangs ≡ x ∷ [] → ⊥
-  pub language : d.extlangs ≡ [] → V.language d.language ≡ None
-  pub script : (s : List ℕ) → d.script ≡ Some s → V.script s ≡ None
-  pub region : (s : List ℕ) → d.region ≡ Some s → V.region s ≡ None
-  pub variant : AllByRecursion (λ v. V.variant v ≡ None) d.variants
-  pub variant_language : d.extlangs ≡ [] → AllByRecursion (λ v. V.variant_language d.language v ≡ None) d.variants
+  pub language : d.extlangs ≡ [] → preferred_value R kinds.Language d.language ≡ None
+  pub script : (s : List ℕ) → d.script ≡ Some s → preferred_value R kinds.Script s ≡ None
+  pub region : (s : List ℕ) → d.region ≡ Some s → preferred_value R kinds.Region s ≡ None
+  pub variant : AllByRecursion (λ v. variant_value R v ≡ None) d.variants
+  pub variant_language : d.extlangs ≡ [] → AllByRecursion (λ v. language_beside R d.language v ≡ None) d.variants
 
 -- from such a core no step leads
-pub rests : (V : Values) (d e : CoreParts) → AtRest V d → CoreStep V d e → ⊥
-rests V d e R = each_step V d (λ _. ⊥) (record {
-  extlang = R.extlang;
-  language = λ v none has. none-some v (sym (R.language none) ∙ has);
-  script = λ s v there has. none-some v (sym (R.script s there) ∙ has);
-  region = λ s v there has. none-some v (sym (R.region s there) ∙ has);
+pub rests : (R : List EntryParts) (d e : CoreParts) → AtRest R d → CoreStep R d e → ⊥
+rests R d e A = each_step R d (λ _. ⊥) (record {
+  extlang = A.extlang;
+  language = λ v none has. none-some v (sym (A.language none) ∙ has);
+  script = λ s v there has. none-some v (sym (A.script s there) ∙ has);
+  region = λ s v there has. none-some v (sym (A.region s there) ∙ has);
   variant = λ before v w after there has.
-      let P : List ℕ → Type 0 = λ u. V.variant u ≡ None in
-      none-some w (sym (all_middle P before v after (subst (AllByRecursion P) there R.variant)) ∙ has);
+      let P : List ℕ → Type 0 = λ u. variant_value R u ≡ None in
+      none-some w (sym (all_middle P before v after (subst (AllByRecursion P) there A.variant)) ∙ has);
   variant_language = λ before v m after none there has leftmost.
-      let P : List ℕ → Type 0 = λ u. V.variant_language d.language u ≡ None in
-      none-some m (sym (all_middle P before v after (subst (AllByRecursion P) there (R.variant_language none))) ∙ has);
+      let P : List ℕ → Type 0 = λ u. language_beside R d.language u ≡ None in
+      none-some m (sym (all_middle P before v after (subst (AllByRecursion P) there (A.variant_language none))) ∙ has);
 }) e
 
 -- Lists that a test divides.
@@ -305,14 +305,14 @@ abbrev core : List ℕ → List (List ℕ) → Option (List ℕ) → Option (Lis
 core l xs sc re vs = record { language = l; extlangs = xs; script = sc; region = re; variants = vs }
 
 -- the script and the region, if there are some, have no value
-record AtEnds (V : Values) (sc re : Option (List ℕ)) : Type 0 where
-  script : (s : List ℕ) → sc ≡ Some s → V.script s ≡ None
-  region : (s : List ℕ) → re ≡ Some s → V.region s ≡ None
+record AtEnds (R : List EntryParts) (sc re : Option (List ℕ)) : Type 0 where
+  script : (s : List ℕ) → sc ≡ Some s → preferred_value R kinds.Script s ≡ None
+  region : (s : List ℕ) → re ≡ Some s → preferred_value R kinds.Region s ≡ None
 
 -- steps lead from one core to the other, which is at rest, and keep each variant that has no language value
 record Led (R : List EntryParts) (c d : CoreParts) : Type 0 where
-  reached : Star (CoreStep (values_of R)) c d
-  rest : AtRest (values_of R) d
+  reached : Star (CoreStep R) c d
+  rest : AtRest R d
   kept : filter (staying R) d.variants ≡ filter (staying R) c.variants
 
 end_of_some : (f : List ℕ → Option (List ℕ)) (g : List ℕ → List ℕ) → IsEnd f g → (o : Option (List ℕ)) (s : List ℕ) → option_map g o ≡ Some s → f s ≡ None
@@ -320,9 +320,6 @@ end_of_some f g E None s e = cc
 end_of_some f g E (Some t) s e = subst (λ u. f u ≡ None) (same_Some (g t) s e) (E.ends t).2
 
 module _ (R : List EntryParts) (C : MeetsCoreConditions R) where
-  abbrev V : Values
-  V = values_of R
-
   -- the end of the chain of a kind
   last : Kind → List ℕ → List ℕ
   last k s = chase (next_value R k) (chains_end R C.chains k s).0 s
@@ -334,14 +331,14 @@ module _ (R : List EntryParts) (C : MeetsCoreConditions R) where
   abbrev Final : List ℕ → Type 0
   Final v = variant_value R v ≡ None
 
-  abbrev taken : (List ℕ → List (List ℕ) → List ℕ × List (List ℕ)) → (x : List ℕ) (vs : List (List ℕ)) → Pick (V.variant_language x) vs → List ℕ × List (List ℕ)
+  abbrev taken : (List ℕ → List (List ℕ) → List ℕ × List (List ℕ)) → (x : List ℕ) (vs : List (List ℕ)) → Pick (language_beside R x) vs → List ℕ × List (List ℕ)
   taken go x vs (inl p) = go (last kinds.Language p.value) (p.before ++ p.after)
   taken go x vs (inr none) = (x, vs)
 
   -- VariantLanguage steps taken, at most n, from a language that has no value
   abbrev settled : ℕ → List ℕ → List (List ℕ) → List ℕ × List (List ℕ)
   settled zero x vs = (x, vs)
-  settled (suc n) x vs = taken (settled n) x vs (pick (V.variant_language x) vs)
+  settled (suc n) x vs = taken (settled n) x vs (pick (language_beside R x) vs)
 
   abbrev form_on : List (List ℕ) → List ℕ → Option (List ℕ) → Option (List ℕ) → List (List ℕ) → CoreParts
   form_on [] l sc re vs = let p = settled (length vs) (last kinds.Language l) vs in core p.0 [] sc re p.1
@@ -352,27 +349,27 @@ module _ (R : List EntryParts) (C : MeetsCoreConditions R) where
   pub normal_core : CoreParts → CoreParts
   normal_core c = form_on c.extlangs c.language (option_map (last kinds.Script) c.script) (option_map (last kinds.Region) c.region) (map (last kinds.Variant) c.variants)
 
-  none_beside : (l v : List ℕ) → language_value R v ≡ None → V.variant_language l v ≡ None
+  none_beside : (l v : List ℕ) → language_value R v ≡ None → language_beside R l v ≡ None
   none_beside l v e = cond_both (has_prefix (prefixes R kinds.Variant v) l) (language_value R v) None (λ x. x ≡ None) (λ _. e) (λ _. refl)
 
-  variant_language_last : (l v : List ℕ) → V.variant_language l (last kinds.Variant v) ≡ V.variant_language l v
+  variant_language_last : (l v : List ℕ) → language_beside R l (last kinds.Variant v) ≡ language_beside R l v
   variant_language_last l v =
-      end_keeps (at_last kinds.Variant) (λ s. V.variant_language l s ≡ V.variant_language l v)
+      end_keeps (at_last kinds.Variant) (λ s. language_beside R l s ≡ language_beside R l v)
       (λ s t h p. let n = no_language R C s t h in none_beside l t n.1 ∙ sym (none_beside l s n.0) ∙ p) v refl
 
-  settled_some : (n : ℕ) (x : List ℕ) (vs : List (List ℕ)) (q : Picked (V.variant_language x) vs) → settled (suc n) x vs ≡ settled n (last kinds.Language q.value) (q.before ++ q.after)
+  settled_some : (n : ℕ) (x : List ℕ) (vs : List (List ℕ)) (q : Picked (language_beside R x) vs) → settled (suc n) x vs ≡ settled n (last kinds.Language q.value) (q.before ++ q.after)
   settled_some n x vs q =
-      elim (pick (V.variant_language x) vs) as (λ o. taken (settled n) x vs o ≡ settled n (last kinds.Language q.value) (q.before ++ q.after)) [
+      elim (pick (language_beside R x) vs) as (λ o. taken (settled n) x vs o ≡ settled n (last kinds.Language q.value) (q.before ++ q.after)) [
         | inl p ↦
-            let one = one_leftmost (V.variant_language x) p.before q.before p.variant q.variant p.value q.value p.after q.after (sym p.there ∙ q.there) p.has q.has p.leftmost q.leftmost in
+            let one = one_leftmost (language_beside R x) p.before q.before p.variant q.variant p.value q.value p.after q.after (sym p.there ∙ q.there) p.has q.has p.leftmost q.leftmost in
             λ i. settled n (last kinds.Language (one.0 i)) (one.1 i)
         | inr none ↦
-            let P : List ℕ → Type 0 = λ u. V.variant_language x u ≡ None in
+            let P : List ℕ → Type 0 = λ u. language_beside R x u ≡ None in
             absurd (none-some q.value (sym (all_middle P q.before q.variant q.after (subst (AllByRecursion P) q.there none)) ∙ q.has))
       ]
 
   -- every core step keeps the form
-  step_keeps : (c d : CoreParts) → CoreStep V c d → normal_core c ≡ normal_core d
+  step_keeps : (c d : CoreParts) → CoreStep R c d → normal_core c ≡ normal_core d
   unfolding normal_core
   step_keeps c =
       let sc = option_map (last kinds.Script) c.script in
@@ -381,7 +378,7 @@ module _ (R : List EntryParts) (C : MeetsCoreConditions R) where
       let vs = map g c.variants in
       let settle : List ℕ → CoreParts = λ x. let p = settled (length vs) x vs in core p.0 [] sc re p.1 in
       let at : List (List ℕ) → CoreParts = λ xs. form_on xs c.language sc re vs in
-      each_step V c (λ d. normal_core c ≡ normal_core d) (record {
+      each_step R c (λ d. normal_core c ≡ normal_core d) (record {
         extlang = λ x one. ap at one;
         language = λ v none has.
             ap at none ∙ ap settle (end_next (at_last kinds.Language) c.language v has) ∙ ap (λ xs. form_on xs v sc re vs) (sym none);
@@ -393,12 +390,12 @@ module _ (R : List EntryParts) (C : MeetsCoreConditions R) where
             ap (form_on c.extlangs c.language sc re)
             (ap (map g) there ∙ map-append g before (v ∷ after) ∙ ap (λ u. map g before ++ u ∷ map g after) (end_next (at_last kinds.Variant) v w has) ∙ sym (map-append g before (w ∷ after)));
         variant_language = λ before v m after none there has leftmost.
-            let P : List ℕ → Type 0 = λ u. V.variant_language c.language u ≡ None in
+            let P : List ℕ → Type 0 = λ u. language_beside R c.language u ≡ None in
             let b = map g before in
             let a = map g after in
             let same : vs ≡ b ++ g v ∷ a = ap (map g) there ∙ map-append g before (v ∷ after) in
             let n : length vs ≡ suc (length (b ++ a)) = omega (arith, ap length same, length-append b (g v ∷ a), length-append b a) in
-            let picked : Picked (V.variant_language c.language) vs = record { before = b; variant = g v; after = a; value = m; there = same; has = variant_language_last c.language v ∙ has; leftmost = all_mapped P P g (λ u h. variant_language_last c.language u ∙ h) before leftmost } in
+            let picked : Picked (language_beside R c.language) vs = record { before = b; variant = g v; after = a; value = m; there = same; has = variant_language_last c.language v ∙ has; leftmost = all_mapped P P g (λ u h. variant_language_last c.language u ∙ h) before leftmost } in
             ap at none
             ∙ ap settle (end_same (at_last kinds.Language) c.language (variant_languages_final R C c.language v m has).final)
             ∙ ap (λ (p : List ℕ × List (List ℕ)). core p.0 [] sc re p.1) (ap (λ k. settled k c.language vs) n ∙ settled_some (length (b ++ a)) c.language vs picked)
@@ -406,7 +403,7 @@ module _ (R : List EntryParts) (C : MeetsCoreConditions R) where
             ∙ ap (λ xs. form_on xs m sc re (map g (before ++ after))) (sym none);
       })
 
-  some_variant_language : (l v m : List ℕ) → V.variant_language l v ≡ Some m → has_variant_language R v ≡ true
+  some_variant_language : (l v m : List ℕ) → language_beside R l v ≡ Some m → has_variant_language R v ≡ true
   unfolding has_variant_language
   some_variant_language l v m e = ap is_some (variant_language_is R l v m e).1
 
@@ -414,12 +411,12 @@ module _ (R : List EntryParts) (C : MeetsCoreConditions R) where
   unfolding has_variant_language
   stays v e = ap is_some e
 
-  settled_led : (sc re : Option (List ℕ)) → AtEnds V sc re → (n : ℕ) (x : List ℕ) (vs : List (List ℕ)) → length vs ≡ n → V.language x ≡ None → AllByRecursion Final vs → (let p = settled n x vs in Led R (core x [] sc re vs) (core p.0 [] sc re p.1))
+  settled_led : (sc re : Option (List ℕ)) → AtEnds R sc re → (n : ℕ) (x : List ℕ) (vs : List (List ℕ)) → length vs ≡ n → preferred_value R kinds.Language x ≡ None → AllByRecursion Final vs → (let p = settled n x vs in Led R (core x [] sc re vs) (core p.0 [] sc re p.1))
   settled_led sc re E zero x [] l h k =
       record { reached = done; rest = record { extlang = λ y e. cc; language = λ _. h; script = E.script; region = E.region; variant = tt; variant_language = λ _. tt }; kept = refl }
   settled_led sc re E zero x (v ∷ vs) l h k = cc
   settled_led sc re E (suc n) x vs l h k =
-      elim (pick (V.variant_language x) vs) as (λ o. let p = taken (settled n) x vs o in Led R (core x [] sc re vs) (core p.0 [] sc re p.1)) [
+      elim (pick (language_beside R x) vs) as (λ o. let p = taken (settled n) x vs o in Led R (core x [] sc re vs) (core p.0 [] sc re p.1)) [
         | inl p ↦
             let m = p.value in
             let us = p.before ++ p.after in
@@ -427,7 +424,7 @@ module _ (R : List EntryParts) (C : MeetsCoreConditions R) where
             let led : (let q = settled n (last kinds.Language m) us in Led R (core (last kinds.Language m) [] sc re us) (core q.0 [] sc re q.1)) =
             settled_led sc re E n (last kinds.Language m) us shorter ((at_last kinds.Language).ends m).2 (all_without Final p.before p.variant p.after (subst (AllByRecursion Final) p.there k)) in
             record {
-              reached = onward (by_variant_language V (core x [] sc re vs) p.before p.variant m p.after refl p.there p.has p.leftmost)
+              reached = onward (by_variant_language R (core x [] sc re vs) p.before p.variant m p.after refl p.there p.has p.leftmost)
                   (star_trans (language_reached R (core m [] sc re us) (core (last kinds.Language m) [] sc re us) m (last kinds.Language m) refl refl ((at_last kinds.Language).ends m) refl) led.reached);
               rest = led.rest;
               kept = led.kept ∙ sym (ap (filter (staying R)) p.there ∙ filter_without (staying R) p.before p.variant p.after (ap not (some_variant_language x p.variant m p.has)));
@@ -436,7 +433,7 @@ module _ (R : List EntryParts) (C : MeetsCoreConditions R) where
             record { reached = done; rest = record { extlang = λ y e. cc; language = λ _. h; script = E.script; region = E.region; variant = k; variant_language = λ _. none }; kept = refl }
       ]
 
-  form_led : (xs : List (List ℕ)) (l : List ℕ) (sc re : Option (List ℕ)) (vs : List (List ℕ)) → AtEnds V sc re → AllByRecursion Final vs → Led R (core l xs sc re vs) (form_on xs l sc re vs)
+  form_led : (xs : List (List ℕ)) (l : List ℕ) (sc re : Option (List ℕ)) (vs : List (List ℕ)) → AtEnds R sc re → AllByRecursion Final vs → Led R (core l xs sc re vs) (form_on xs l sc re vs)
   form_led [] l sc re vs E k =
       let end = (at_last kinds.Language).ends l in
       let led : (let p = settled (length vs) (last kinds.Language l) vs in Led R (core (last kinds.Language l) [] sc re vs) (core p.0 [] sc re p.1)) =
@@ -444,7 +441,7 @@ module _ (R : List EntryParts) (C : MeetsCoreConditions R) where
       record { reached = star_trans (language_reached R (core l [] sc re vs) (core (last kinds.Language l) [] sc re vs) l (last kinds.Language l) refl refl end refl) led.reached; rest = led.rest; kept = led.kept }
   form_led (x ∷ []) l sc re vs E k =
       let led : Led R (core (replacement R x) [] sc re vs) (form_on [] (replacement R x) sc re vs) = form_led [] (replacement R x) sc re vs E k in
-      record { reached = onward (by_extlang V (core l (x ∷ []) sc re vs) x refl) led.reached; rest = led.rest; kept = led.kept }
+      record { reached = onward (by_extlang R (core l (x ∷ []) sc re vs) x refl) led.reached; rest = led.rest; kept = led.kept }
   form_led (x ∷ y ∷ r) l sc re vs E k =
       record { reached = done; rest = record { extlang = λ z e. cc; language = λ e. absurd (cc); script = E.script; region = E.region; variant = k; variant_language = λ e. absurd (cc) }; kept = refl }
 
@@ -453,30 +450,30 @@ module _ (R : List EntryParts) (C : MeetsCoreConditions R) where
   unfolding normal_core
   led c =
       form_led c.extlangs c.language (option_map (last kinds.Script) c.script) (option_map (last kinds.Region) c.region) (map (last kinds.Variant) c.variants)
-      (record { script = end_of_some V.script (last kinds.Script) (at_last kinds.Script) c.script; region = end_of_some V.region (last kinds.Region) (at_last kinds.Region) c.region })
+      (record { script = end_of_some (preferred_value R kinds.Script) (last kinds.Script) (at_last kinds.Script) c.script; region = end_of_some (preferred_value R kinds.Region) (last kinds.Region) (at_last kinds.Region) c.region })
       (recursion_from_All Final (map (last kinds.Variant) c.variants) (All-map Final (last kinds.Variant) c.variants (λ k d h. ((at_last kinds.Variant).ends (get_or c.variants k d)).2)))
 
-  part_to_end : (k : Kind) (at : Option (List ℕ) → CoreParts) → ((s t : List ℕ) → next_value R k s ≡ Some t → CoreStep V (at (Some s)) (at (Some t))) → (o : Option (List ℕ)) → Star (CoreStep V) (at o) (at (option_map (last k) o))
+  part_to_end : (k : Kind) (at : Option (List ℕ) → CoreParts) → ((s t : List ℕ) → next_value R k s ≡ Some t → CoreStep R (at (Some s)) (at (Some t))) → (o : Option (List ℕ)) → Star (CoreStep R) (at o) (at (option_map (last k) o))
   part_to_end k at step None = done
-  part_to_end k at step (Some s) = along V (next_value R k) (λ u. at (Some u)) step s (last k s) ((at_last k).ends s)
+  part_to_end k at step (Some s) = along R (next_value R k) (λ u. at (Some u)) step s (last k s) ((at_last k).ends s)
 
-  variants_to_end : (at : List (List ℕ) → CoreParts) → ((before : List (List ℕ)) (v w : List ℕ) (after : List (List ℕ)) → V.variant v ≡ Some w → CoreStep V (at (before ++ v ∷ after)) (at (before ++ w ∷ after))) → (vs : List (List ℕ)) → Star (CoreStep V) (at vs) (at (map (last kinds.Variant) vs))
+  variants_to_end : (at : List (List ℕ) → CoreParts) → ((before : List (List ℕ)) (v w : List ℕ) (after : List (List ℕ)) → variant_value R v ≡ Some w → CoreStep R (at (before ++ v ∷ after)) (at (before ++ w ∷ after))) → (vs : List (List ℕ)) → Star (CoreStep R) (at vs) (at (map (last kinds.Variant) vs))
   variants_to_end at step [] = done
   variants_to_end at step (v ∷ vs) =
-      star_trans (along V V.variant (λ u. at (u ∷ vs)) (λ s t e. step [] s t vs e) v (last kinds.Variant v) ((at_last kinds.Variant).ends v))
+      star_trans (along R (variant_value R) (λ u. at (u ∷ vs)) (λ s t e. step [] s t vs e) v (last kinds.Variant v) ((at_last kinds.Variant).ends v))
       (variants_to_end (λ us. at (last kinds.Variant v ∷ us)) (λ before s t after e. step (last kinds.Variant v ∷ before) s t after e) vs)
 
   -- each step keeps it, steps reach it, none leads from it
-  pub cores_formed : IsFormOf (CoreStep (values_of R)) normal_core
+  pub cores_formed : IsFormOf (CoreStep R) normal_core
   cores_formed = record {
     kept = step_keeps;
     reached = λ c.
         let d : CoreParts = record c { script = option_map (last kinds.Script) c.script } in
         let e : CoreParts = record d { region = option_map (last kinds.Region) c.region } in
-        star_trans (part_to_end kinds.Script (λ o. record c { script = o }) (λ s t f. by_script V (record c { script = Some s }) s t refl f) c.script)
-        (star_trans (part_to_end kinds.Region (λ o. record d { region = o }) (λ s t f. by_region V (record d { region = Some s }) s t refl f) c.region)
-        (star_trans (variants_to_end (λ vs. record e { variants = vs }) (λ b v w a h. by_variant V (record e { variants = b ++ v ∷ a }) b v w a refl h) c.variants) (led c).reached));
-    rests = λ c e. rests V (normal_core c) e (led c).rest;
+        star_trans (part_to_end kinds.Script (λ o. record c { script = o }) (λ s t f. by_script R (record c { script = Some s }) s t refl f) c.script)
+        (star_trans (part_to_end kinds.Region (λ o. record d { region = o }) (λ s t f. by_region R (record d { region = Some s }) s t refl f) c.region)
+        (star_trans (variants_to_end (λ vs. record e { variants = vs }) (λ b v w a h. by_variant R (record e { variants = b ++ v ∷ a }) b v w a refl h) c.variants) (led c).reached));
+    rests = λ c e. rests R (normal_core c) e (led c).rest;
   }
 
   pub one_normal_form : HasOneNormalForm R
@@ -485,12 +482,12 @@ module _ (R : List EntryParts) (C : MeetsCoreConditions R) where
 
   pub steps_keep_normal_form : StepsKeepNormalForm R
   steps_keep_normal_form c d e s n =
-      subst (λ x. IsCoreNormalForm V d x) (sym (cores_formed.kept c d s) ∙ normal_is_form cores_formed c e n) (form_is_normal cores_formed d)
+      subst (λ x. IsCoreNormalForm R d x) (sym (cores_formed.kept c d s) ∙ normal_is_form cores_formed c e n) (form_is_normal cores_formed d)
 
   -- cores that differ in subtags whose chains end alike have one normal form
-  pub one_end_one_form : (f : List ℕ → Option (List ℕ)) (at : List ℕ → CoreParts) → ((s t : List ℕ) → f s ≡ Some t → CoreStep (values_of R) (at s) (at t)) → (s t e : List ℕ) → EndsIn f s e → EndsIn f t e → normal_core (at s) ≡ normal_core (at t)
+  pub one_end_one_form : (f : List ℕ → Option (List ℕ)) (at : List ℕ → CoreParts) → ((s t : List ℕ) → f s ≡ Some t → CoreStep R (at s) (at t)) → (s t e : List ℕ) → EndsIn f s e → EndsIn f t e → normal_core (at s) ≡ normal_core (at t)
   one_end_one_form f at step s t e h k =
-      star_form cores_formed (along V f at step s e h) ∙ sym (star_form cores_formed (along V f at step t e k))
+      star_form cores_formed (along R f at step s e h) ∙ sym (star_form cores_formed (along R f at step t e k))
 
   -- A repeat that steps on a core without repeats can reach is in the core normal form too.
 
@@ -499,10 +496,10 @@ module _ (R : List EntryParts) (C : MeetsCoreConditions R) where
   variant_languages_once c h = distinct_filter (has_variant_language R) c.variants h
 
   -- core steps make no second variant with a language value
-  pub variant_languages_once_kept : (c d : CoreParts) → CoreStep (values_of R) c d → VariantLanguagesOnce R c → VariantLanguagesOnce R d
+  pub variant_languages_once_kept : (c d : CoreParts) → CoreStep R c d → VariantLanguagesOnce R c → VariantLanguagesOnce R d
   variant_languages_once_kept c =
       let T : List ℕ → Bool = has_variant_language R in
-      each_step V c (λ d. VariantLanguagesOnce R c → VariantLanguagesOnce R d) (record {
+      each_step R c (λ d. VariantLanguagesOnce R c → VariantLanguagesOnce R d) (record {
         extlang = λ x one h. h;
         language = λ v none has h. h;
         script = λ a v there has h. h;
@@ -539,10 +536,10 @@ module _ (R : List EntryParts) (C : MeetsCoreConditions R) where
 
 -- steps lead from the one core to the other, and the variants before an index of it are at the ends of their chains
 pub record VariantsSettled (R : List EntryParts) (c d : CoreParts) (index end : ℕ) : Type 0 where
-  pub reached : Star (CoreStep (values_of R)) c d
+  pub reached : Star (CoreStep R) c d
   pub others : d ≡ record c { variants = d.variants }
   pub count : length d.variants ≡ end
-  pub final : All (λ (v : List ℕ). (values_of R).variant v ≡ None) (take index d.variants)
+  pub final : All (λ (v : List ℕ). variant_value R v ≡ None) (take index d.variants)
 
 pub none_settled : (R : List EntryParts) (c : CoreParts) (n : ℕ) → n ≡ length c.variants → VariantsSettled R c c 0 n
 none_settled R c n e = record { reached = done; others = refl; count = sym e; final = λ k d h. absurd (omega (arith, h)) }
@@ -551,15 +548,14 @@ none_settled R c n e = record { reached = done; others = refl; count = sym e; fi
 pub one_settled : (R : List EntryParts) (c d e : CoreParts) (i n : ℕ) (s t : List ℕ) (us : List (List ℕ)) → VariantsSettled R c d i n → i < n → us ≡ d.variants → s ≡ get_or us i s → EndsIn (next_value R kinds.Variant) s t → e ≡ record d { variants = set d.variants i t } → VariantsSettled R c e (i + 1) n
 one_settled R c d e i n s t us S below own at ends new =
     let vs = d.variants in
-    let V = values_of R in
-    let P : List ℕ → Type 0 = λ v. V.variant v ≡ None in
+    let P : List ℕ → Type 0 = λ v. variant_value R v ≡ None in
     let within : i < length vs = omega (arith, below, S.count) in
     let is : s ≡ get_or vs i s = subst (λ us. s ≡ get_or us i s) own at in
     let with : List ℕ → CoreParts = λ u. record d { variants = take i vs ++ u ∷ drop (suc i) vs } in
-    let walk : Star (CoreStep V) (with s) (with t) = along V V.variant with (λ u w f. by_variant V (with u) (take i vs) u w (drop (suc i) vs) refl f) s t ends in
+    let walk : Star (CoreStep R) (with s) (with t) = along R (variant_value R) with (λ u w f. by_variant R (with u) (take i vs) u w (drop (suc i) vs) refl f) s t ends in
     subst (λ e. VariantsSettled R c e (i + 1) n) (sym new)
     (record {
-      reached = star_trans S.reached (subst (λ us. Star (CoreStep V) d (record d { variants = us })) (sym (set_split vs i t within)) (subst (λ us. Star (CoreStep V) (record d { variants = us }) (with t)) (sym (round vs i s within is)) walk));
+      reached = star_trans S.reached (subst (λ us. Star (CoreStep R) d (record d { variants = us })) (sym (set_split vs i t within)) (subst (λ us. Star (CoreStep R) (record d { variants = us }) (with t)) (sym (round vs i s within is)) walk));
       others = ap (λ (k : CoreParts). record k { variants = set vs i t }) S.others;
       count = length-set vs i t ∙ S.count;
       final = All-same P (take (i + 1) (set vs i t)) (take i vs ++ t ∷ []) (take_more_set vs i t within) (All-push P (take i vs) t S.final ends.2);
@@ -568,19 +564,19 @@ one_settled R c d e i n s t us S below own at ends new =
 pub all_settled : (R : List EntryParts) (c d : CoreParts) (i n : ℕ) → VariantsSettled R c d i n → n ≤ i → take i d.variants ≡ d.variants
 all_settled R c d i n S past = take_all i d.variants (omega (arith, past, S.count))
 
-pub all_final : (R : List EntryParts) (c d : CoreParts) (i n : ℕ) → VariantsSettled R c d i n → n ≤ i → All (λ (v : List ℕ). (values_of R).variant v ≡ None) d.variants
-all_final R c d i n S past = subst (All (λ v. (values_of R).variant v ≡ None)) (all_settled R c d i n S past) S.final
+pub all_final : (R : List EntryParts) (c d : CoreParts) (i n : ℕ) → VariantsSettled R c d i n → n ≤ i → All (λ (v : List ℕ). variant_value R v ≡ None) d.variants
+all_final R c d i n S past = subst (All (λ v. variant_value R v ≡ None)) (all_settled R c d i n S past) S.final
 
-pub extlang_reached : (R : List EntryParts) (c d e : CoreParts) (x l : List ℕ) (xs : List (List ℕ)) → xs ≡ c.extlangs → x ≡ get_or xs 0 x → length xs ≡ 1 → l ≡ replacement R x → d ≡ record c { extlangs = [] } → e ≡ record d { language = l } → Star (CoreStep (values_of R)) c e
+pub extlang_reached : (R : List EntryParts) (c d e : CoreParts) (x l : List ℕ) (xs : List (List ℕ)) → xs ≡ c.extlangs → x ≡ get_or xs 0 x → length xs ≡ 1 → l ≡ replacement R x → d ≡ record c { extlangs = [] } → e ≡ record d { language = l } → Star (CoreStep R) c e
 extlang_reached R c d e x l xs own at one value dropped new =
-    subst (λ e. Star (CoreStep (values_of R)) c e) (sym (new ∙ (λ i. record (dropped i) { language = value i })))
-    (onward (by_extlang (values_of R) c x (sym own ∙ sole xs x at one)) done)
+    subst (λ e. Star (CoreStep R) c e) (sym (new ∙ (λ i. record (dropped i) { language = value i })))
+    (onward (by_extlang R c x (sym own ∙ sole xs x at one)) done)
 
 -- steps lead from the one core to the other, whose language and variants are at the ends of their chains
 pub record LanguageSettled (R : List EntryParts) (c d : CoreParts) : Type 0 where
-  pub reached : Star (CoreStep (values_of R)) c d
-  pub language : HasFinalLanguage (values_of R) d
-  pub variants : HasFinalVariants (values_of R) d
+  pub reached : Star (CoreStep R) c d
+  pub language : HasFinalLanguage R d
+  pub variants : HasFinalVariants R d
   pub others : d ≡ record c { language = d.language; variants = d.variants }
 
 -- what a VariantLanguage step leaves, and then the chain of the new language
@@ -588,64 +584,63 @@ pub others_left : (d e f g : CoreParts) (i : ℕ) (m : List ℕ) → e ≡ recor
 others_left d e f g i m dropped new other =
     other ∙ ap (λ (k : CoreParts). record k { language = g.language }) (new ∙ ap (λ (k : CoreParts). record k { language = m }) dropped)
 
-pub language_settled : (R : List EntryParts) (c d e f g : CoreParts) (i : ℕ) (m : List ℕ) → c.extlangs ≡ [] → LanguageSettled R c d → IsFirstVariantLanguage (values_of R) d i m → e ≡ record d { variants = remove d.variants i } → f ≡ record e { language = m } → Star (CoreStep (values_of R)) f g → HasFinalLanguage (values_of R) g → g ≡ record f { language = g.language } → LanguageSettled R c g
+pub language_settled : (R : List EntryParts) (c d e f g : CoreParts) (i : ℕ) (m : List ℕ) → c.extlangs ≡ [] → LanguageSettled R c d → IsFirstVariantLanguage R d i m → e ≡ record d { variants = remove d.variants i } → f ≡ record e { language = m } → Star (CoreStep R) f g → HasFinalLanguage R g → g ≡ record f { language = g.language } → LanguageSettled R c g
 language_settled R c d e f g i m none S t dropped new after final other =
-    let V = values_of R in
-    let P : List ℕ → Type 0 = λ v. V.variant v ≡ None in
+    let P : List ℕ → Type 0 = λ v. variant_value R v ≡ None in
     let left = others_left d e f g i m dropped new other in
     let vs : g.variants ≡ remove d.variants i = ap (λ (k : CoreParts). k.variants) left in
     let alone : d.extlangs ≡ [] = ap (λ (k : CoreParts). k.extlangs) S.others ∙ none in
-    let step = by_variant_language V d (take i d.variants) t.variant m (drop (suc i) d.variants) alone t.there t.has t.leftmost in
-    let reached = star_trans S.reached (onward step (subst (λ (k : CoreParts). Star (CoreStep V) k g) (new ∙ ap (λ (k : CoreParts). record k { language = m }) dropped) after)) in
+    let step = by_variant_language R d (take i d.variants) t.variant m (drop (suc i) d.variants) alone t.there t.has t.leftmost in
+    let reached = star_trans S.reached (onward step (subst (λ (k : CoreParts). Star (CoreStep R) k g) (new ∙ ap (λ (k : CoreParts). record k { language = m }) dropped) after)) in
     let variants = subst (All P) (sym vs) (All-append P (take i d.variants) (drop (suc i) d.variants) (All-take P i d.variants S.variants) (All-drop P (suc i) d.variants S.variants)) in
     let others : g ≡ record c { language = g.language; variants = g.variants } = let o = S.others in cc in
     search rules
 
 -- the variant at an index is the first with a VariantLanguage step, where none before it has one
-pub first_variant_language_at : (V : Values) (c : CoreParts) (i : ℕ) (l v m : List ℕ) (vs : List (List ℕ)) (o : Option (Bor (List ℕ))) (b : Bor (List ℕ)) → vs ≡ c.variants → i < length vs → v ≡ get_or vs i v → l ≡ c.language → option_copied o ≡ V.variant_language l v → o ≡ Some b → m ≡ b.now → All (λ (u : List ℕ). V.variant_language c.language u ≡ None) (take i vs) → IsFirstVariantLanguage V c i m
-first_variant_language_at V c i l v m vs o b same h e its value found copy none =
-    let P : List ℕ → Type 0 = λ u. V.variant_language c.language u ≡ None in
+pub first_variant_language_at : (R : List EntryParts) (c : CoreParts) (i : ℕ) (l v m : List ℕ) (vs : List (List ℕ)) (o : Option (Bor (List ℕ))) (b : Bor (List ℕ)) → vs ≡ c.variants → i < length vs → v ≡ get_or vs i v → l ≡ c.language → option_copied o ≡ language_beside R l v → o ≡ Some b → m ≡ b.now → All (λ (u : List ℕ). language_beside R c.language u ≡ None) (take i vs) → IsFirstVariantLanguage R c i m
+first_variant_language_at R c i l v m vs o b same h e its value found copy none =
+    let P : List ℕ → Type 0 = λ u. language_beside R c.language u ≡ None in
     record {
       within = omega (arith, h, ap length same);
       variant = v;
       there = subst (λ us. us ≡ take i us ++ v ∷ drop (suc i) us) same (round vs i v h e);
-      has = ap (λ l. V.variant_language l v) (sym its) ∙ sym value ∙ ap option_copied found ∙ ap Some (sym copy);
+      has = ap (λ l. language_beside R l v) (sym its) ∙ sym value ∙ ap option_copied found ∙ ap Some (sym copy);
       leftmost = subst (λ us. AllByRecursion P (take i us)) same (recursion_from_All P (take i vs) none);
     }
 
-pub none_more : (V : Values) (c : CoreParts) (i : ℕ) (l v : List ℕ) (vs : List (List ℕ)) (o : Option (Bor (List ℕ))) → i < length vs → v ≡ get_or vs i v → l ≡ c.language → option_copied o ≡ V.variant_language l v → o ≡ None → All (λ (u : List ℕ). V.variant_language c.language u ≡ None) (take i vs) → All (λ (u : List ℕ). V.variant_language c.language u ≡ None) (take (i + 1) vs)
-none_more V c i l v vs o h e its value found none =
-    let P : List ℕ → Type 0 = λ u. V.variant_language c.language u ≡ None in
-    All-more P vs i v h none (subst P e (ap (λ l. V.variant_language l v) (sym its) ∙ sym value ∙ ap option_copied found))
+pub none_more : (R : List EntryParts) (c : CoreParts) (i : ℕ) (l v : List ℕ) (vs : List (List ℕ)) (o : Option (Bor (List ℕ))) → i < length vs → v ≡ get_or vs i v → l ≡ c.language → option_copied o ≡ language_beside R l v → o ≡ None → All (λ (u : List ℕ). language_beside R c.language u ≡ None) (take i vs) → All (λ (u : List ℕ). language_beside R c.language u ≡ None) (take (i + 1) vs)
+none_more R c i l v vs o h e its value found none =
+    let P : List ℕ → Type 0 = λ u. language_beside R c.language u ≡ None in
+    All-more P vs i v h none (subst P e (ap (λ l. language_beside R l v) (sym its) ∙ sym value ∙ ap option_copied found))
 
 -- the core as the calls leave it one after another
-pub record Settlings (V : Values) (c c1 c2 c3 : CoreParts) : Type 0 where
-  pub script : Star (CoreStep V) c c1
-  pub region : Star (CoreStep V) c1 c2
-  pub extlang : Star (CoreStep V) c2 c3
-  pub final_script : HasFinalScript V c1
-  pub final_region : HasFinalRegion V c2
+pub record Settlings (R : List EntryParts) (c c1 c2 c3 : CoreParts) : Type 0 where
+  pub script : Star (CoreStep R) c c1
+  pub region : Star (CoreStep R) c1 c2
+  pub extlang : Star (CoreStep R) c2 c3
+  pub final_script : HasFinalScript R c1
+  pub final_region : HasFinalRegion R c2
   pub none_alone : (x : List ℕ) → c3.extlangs ≡ x ∷ [] → ⊥
   pub other_than_region : c2 ≡ record c1 { region = c2.region }
   pub other_than_extlang : c3 ≡ record c2 { language = c3.language; extlangs = c3.extlangs }
 
 -- and the language and the variants at last, where no VariantLanguage step is left or extlangs stay
-pub rests_settled : (V : Values) (c c1 c2 c3 d : CoreParts) → Settlings V c c1 c2 c3 → Star (CoreStep V) c3 d → HasFinalVariants V d → (c3.extlangs ≡ [] → HasFinalLanguage V d × HasNoVariantLanguage V d) → d ≡ record c3 { language = d.language; variants = d.variants } → IsCoreNormalForm V c d
-rests_settled V c c1 c2 c3 d S last variants language other =
+pub rests_settled : (R : List EntryParts) (c c1 c2 c3 d : CoreParts) → Settlings R c c1 c2 c3 → Star (CoreStep R) c3 d → HasFinalVariants R d → (c3.extlangs ≡ [] → HasFinalLanguage R d × HasNoVariantLanguage R d) → d ≡ record c3 { language = d.language; variants = d.variants } → IsCoreNormalForm R c d
+rests_settled R c c1 c2 c3 d S last variants language other =
     let none : c3.extlangs ≡ d.extlangs = sym (ap (λ (k : CoreParts). k.extlangs) other) in
     let script = ap (λ (k : CoreParts). k.script) other ∙ ap (λ (k : CoreParts). k.script) S.other_than_extlang ∙ ap (λ (k : CoreParts). k.script) S.other_than_region in
     let region = ap (λ (k : CoreParts). k.region) other ∙ ap (λ (k : CoreParts). k.region) S.other_than_extlang in
     record {
       reached = star_trans S.script (star_trans S.region (star_trans S.extlang last));
       at_rest = λ e.
-          rests V d e
+          rests R d e
           (record {
             extlang = λ x h. S.none_alone x (none ∙ h);
             language = λ h. (language (none ∙ h)).0;
-            script = λ s h. if_some_is (λ s. V.script s ≡ None) c1.script s (sym script ∙ h) S.final_script;
-            region = λ s h. if_some_is (λ s. V.region s ≡ None) c2.region s (sym region ∙ h) S.final_region;
-            variant = recursion_from_All (λ v. V.variant v ≡ None) d.variants variants;
-            variant_language = λ h. recursion_from_All (λ v. V.variant_language d.language v ≡ None) d.variants (language (none ∙ h)).1;
+            script = λ s h. if_some_is (λ s. preferred_value R kinds.Script s ≡ None) c1.script s (sym script ∙ h) S.final_script;
+            region = λ s h. if_some_is (λ s. preferred_value R kinds.Region s ≡ None) c2.region s (sym region ∙ h) S.final_region;
+            variant = recursion_from_All (λ v. variant_value R v ≡ None) d.variants variants;
+            variant_language = λ h. recursion_from_All (λ v. language_beside R d.language v ≡ None) d.variants (language (none ∙ h)).1;
           });
     }
 
@@ -698,9 +693,9 @@ module _ (R : List EntryParts) where
   variants_with : (before : List (List ℕ)) (v : List ℕ) (vs : List (List ℕ)) → sum_by of_variant (before ++ v ∷ vs) ≡ sum_by of_variant before + (of_variant v + sum_by of_variant vs)
   variants_with before v vs = sum_by-append of_variant before (v ∷ vs) ∙ ap (λ n. sum_by of_variant before + n) (sum_by-cons of_variant v vs)
 
-  pub weight_falls : All (HasEndingChain R) R → (c d : CoreParts) → CoreStep (values_of R) c d → weight d < weight c
+  pub weight_falls : All (HasEndingChain R) R → (c d : CoreParts) → CoreStep R c d → weight d < weight c
   unfolding weight
-  weight_falls C c = each_step (values_of R) c (λ d. weight d < weight c) (record {
+  weight_falls C c = each_step R c (λ d. weight d < weight c) (record {
     extlang = λ x one.
         omega (arith, ap (sum_by (λ _. spare)) one, sum_by-cons (λ _. spare) x [], after_most C kinds.Language (replacement R x));
     language = λ v none has. omega (arith, after_next C kinds.Language c.language v has);
@@ -715,8 +710,8 @@ module _ (R : List EntryParts) where
 -- A core step on a proper core gives a proper core, and no proper core spells a grandfathered tag.
 
 -- a core step keeps the shape
-pub step_shaped : (R : List EntryParts) → IsRegistry R → (c d : CoreParts) → IsCore c → CoreStep (values_of R) c d → IsCore d
-step_shaped R G c d S = each_step (values_of R) c IsCore (record {
+pub step_shaped : (R : List EntryParts) → IsRegistry R → (c d : CoreParts) → IsCore c → CoreStep R c d → IsCore d
+step_shaped R G c d S = each_step R c IsCore (record {
   extlang = λ x one.
       let shape : is_extlang x ≡ true = (and_parts (is_extlang x) true (ap (list_all is_extlang) (sym one) ∙ S.extlangs)).0 in
       record { language = replacement_form R G x shape; extlangs = refl; up_to_three = omega arith; after_short = λ n. absurd (omega (arith, n)); script = S.script; region = S.region; variants = S.variants };
@@ -736,8 +731,8 @@ abbrev RegisteredVariant : List EntryParts → List ℕ → Type 0
 RegisteredVariant R v = is_registered R kinds.Variant v ≡ true
 
 -- a core step keeps the core proper
-pub step_proper : (R : List EntryParts) → MeetsCoreConditions R → (c d : CoreParts) → IsProperCore R c → CoreStep (values_of R) c d → IsProperCore R d
-step_proper R C c d P = each_step (values_of R) c (IsProperCore R) (record {
+pub step_proper : (R : List EntryParts) → MeetsCoreConditions R → (c d : CoreParts) → IsProperCore R c → CoreStep R c d → IsProperCore R d
+step_proper R C c d P = each_step R c (IsProperCore R) (record {
   extlang = λ x one.
       let fit : ExtlangsFit R c.language (x ∷ []) = subst (ExtlangsFit R c.language) one P.extlangs in
       record { language = replacement_registered R C x fit.0; extlangs = tt; script = P.script; region = P.region; variants = P.variants };
@@ -756,7 +751,7 @@ pub steps_keep_proper : (R : List EntryParts) → IsRegistry R → MeetsCoreCond
 steps_keep_proper R G C c d P s =
     let shaped = step_shaped R G c d P.value.shaped s in
     let proper = step_proper R C c d P.proper s in
-    let n = (core_step_no_longer (values_of R) c d s).variants in
+    let n = (core_step_no_longer R c d s).variants in
     search (rules, arith)
 
 -- no proper core spells a grandfathered tag

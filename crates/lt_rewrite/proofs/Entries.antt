@@ -13,7 +13,7 @@ use Rattle.lt_registry.specs.Entries.{is_named, holds, one_of, entry, preferred_
 use Rattle.lt_registry.specs.declared.entries.Kind.{Kind}
 use Rattle.lt_registry.specs.declared.entries.EntryName.{EntryName}
 use Rattle.lt_registry.specs.declared.entries.Kind.TheVariants as kinds
-use Rattle.lt_rewrite.specs.CoreSteps.{values_of, Ends}
+use Rattle.lt_rewrite.specs.CoreSteps.{language_beside, Ends}
 use Rattle.lt_rewrite.specs.Conditions.{next_value, HasEndingChain, HasFittingVariantValue, HasFinalPrefixes, IsFinalLanguage, MeetsCoreConditions}
 use Rattle.lt_rewrite.proofs.Chains.{by_next, ends_first}
 
@@ -106,7 +106,7 @@ chains_end R h k s =
     subst (λ k. Ends (next_value R k) v) en.of_kind (valued_has R k s v (HasEndingChain R) h en v en.gives))
 
 -- what a VariantLanguage step rests on
-pub variant_language_is : (R : List EntryParts) (l v m : List ℕ) → (values_of R).variant_language l v ≡ Some m → (has_prefix (prefixes R kinds.Variant v) l ≡ true) × (language_value R v ≡ Some m)
+pub variant_language_is : (R : List EntryParts) (l v m : List ℕ) → language_beside R l v ≡ Some m → (has_prefix (prefixes R kinds.Variant v) l ≡ true) × (language_value R v ≡ Some m)
 variant_language_is R l v m e = some_if (has_prefix (prefixes R kinds.Variant v) l) (language_value R v) m e
 
 listed_at : (l : List ℕ) (ps : List (List (List ℕ))) (Q : List ℕ → Type 0) → AllByRecursion (λ p. (k : List ℕ) × (p ≡ k ∷ []) × Q k) ps → has_prefix ps l ≡ true → Q l
@@ -123,7 +123,7 @@ pub prefixes_at : (R : List EntryParts) (k : Kind) (s : List ℕ) (e : EntryPart
 prefixes_at R k s e h = ap (λ (o : Option EntryParts). option_map_or (λ (e : EntryParts). e.prefixes) o []) h
 
 -- a language beside which a variant has a VariantLanguage step has no value
-pub variant_languages_final : (R : List EntryParts) → MeetsCoreConditions R → (l v m : List ℕ) → (values_of R).variant_language l v ≡ Some m → IsFinalLanguage R l
+pub variant_languages_final : (R : List EntryParts) → MeetsCoreConditions R → (l v m : List ℕ) → language_beside R l v ≡ Some m → IsFinalLanguage R l
 variant_languages_final R C l v m e =
     let t = variant_language_is R l v m e in
     let w = language_value_is R v m t.1 in

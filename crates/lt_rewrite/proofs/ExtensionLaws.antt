@@ -20,7 +20,7 @@ use Rattle.lt_rewrite.proofs.Sorting.{sorted, list_step_keeps, sorted_reached, s
 use Rattle.lt_rewrite.proofs.PartLists.{all_step, list_all_step, all_middle, all_replaced, step_some, some_long, empty_middle, spelled_step, spelled_replaced, length_step, if_some_is, is_if_some, length_replaced, all_unmapped, all_both, round}
 use Rattle.lt_tag.specs.Spelling.{IsCore, IsExtension}
 use Rattle.lt_registry.specs.Parts.{EntryParts}
-use Rattle.lt_rewrite.specs.CoreSteps.{values_of, CoreStep, IsCoreNormalForm}
+use Rattle.lt_rewrite.specs.CoreSteps.{CoreStep, IsCoreNormalForm}
 use Rattle.lt_rewrite.proofs.CoreLaws.{core_step_no_longer, spelled_no_longer, normal_core, cores_formed, step_shaped}
 use Rattle.lt_tag.specs.Splitting.{spell_source, unicode_of, transform_of}
 use Rattle.lt_tag.proofs.PartsLaws.{u_decided, t_decided}
@@ -166,15 +166,15 @@ with_source source fields = record { source = source; fields = fields }
 
 -- a step on a source, if there is one
 abbrev pub OnSome : List EntryParts → Option CoreParts → Option CoreParts → Type 0
-OnSome R o r = (c d : CoreParts) × (o ≡ Some c) × (r ≡ Some d) × CoreStep (values_of R) c d
+OnSome R o r = (c d : CoreParts) × (o ≡ Some c) × (r ≡ Some d) × CoreStep R c d
 
 pub none_settles : (R : List EntryParts) → IsNormalForm (OnSome R) None None
 none_settles R = record { reached = done; at_rest = λ r s. cc (s.2) }
 
-pub source_settles : (R : List EntryParts) {c d : CoreParts} → IsCoreNormalForm (values_of R) c d → IsNormalForm (OnSome R) (Some c) (Some d)
+pub source_settles : (R : List EntryParts) {c d : CoreParts} → IsCoreNormalForm R c d → IsNormalForm (OnSome R) (Some c) (Some d)
 source_settles R {d = d} n = record {
   reached = star_map Some (λ x y s. (x, y, refl, refl, s)) n.reached;
-  at_rest = λ r s. let same : s.0 ≡ d = cc (s.2) in n.at_rest s.1 (subst (λ x. CoreStep (values_of R) x s.1) same s.4);
+  at_rest = λ r s. let same : s.0 ≡ d = cc (s.2) in n.at_rest s.1 (subst (λ x. CoreStep R x s.1) same s.4);
 }
 
 t_parts : (R : List EntryParts) (o : Option CoreParts) (fs : List FieldParts) (q : TForm) → TransformStep R (with_source o fs) q → ((r : Option CoreParts) × OnSome R o r) ⊎ ((gs : List FieldParts) × ListStep false separator_cmp fs gs)
@@ -207,7 +207,7 @@ module _ (R : List EntryParts) (C : MeetsCoreConditions R) where
 
 -- the shapes of the parts
 
-module _ (R : List EntryParts) (S : (c d : CoreParts) → IsCore c → CoreStep (values_of R) c d → IsCore d) where
+module _ (R : List EntryParts) (S : (c d : CoreParts) → IsCore c → CoreStep R c d → IsCore d) where
   -- a step keeps the shapes of the parts
   pub t_shaped : (p q : TForm) → TransformStep R p q → IsT p → IsT q
   t_shaped p q (on_source c d from to s same_fields) k =
@@ -226,7 +226,7 @@ module _ (R : List EntryParts) (S : (c d : CoreParts) → IsCore c → CoreStep 
 -- a step makes the subtags no more
 pub t_step_length : (R : List EntryParts) (p q : TForm) → TransformStep R p q → length (spell_t q) ≤ length (spell_t p)
 t_step_length R p q (on_source c d from to s same_fields) =
-    omega (arith, length-append {A = List ℕ}, spelled_no_longer c d (core_step_no_longer (values_of R) c d s), ap (λ o. length (spell_source o)) from, ap (λ o. length (spell_source o)) to, ap (λ fs. length (flat_map spell_field fs)) same_fields)
+    omega (arith, length-append {A = List ℕ}, spelled_no_longer c d (core_step_no_longer R c d s), ap (λ o. length (spell_source o)) from, ap (λ o. length (spell_source o)) to, ap (λ fs. length (flat_map spell_field fs)) same_fields)
 t_step_length R p q (on_fields h s) =
     omega (arith, length-append {A = List ℕ}, ap (λ o. length (spell_source o)) h, spelled_step spell_field p.fields q.fields s)
 
@@ -283,11 +283,11 @@ each_rests R e u t f (in_unicode p q is_u kept from to s) = u is_u f (in_unicode
 each_rests R e u t f (in_transform p q is_t kept from to s) = t is_t f (in_transform p q is_t kept from to s)
 
 to_part : (R : List EntryParts) (es fs : List ExtensionParts) → ExtensionsStep R es fs → PartStep (ExtensionStep R) false singleton_cmp es fs
-to_part R es fs (inside before e f after w s) = on_part before e f after w.there w.result s
+to_part R es fs (inside before e f after there result s) = on_part before e f after there result s
 to_part R es fs (among s) = on_order s
 
 from_part : (R : List EntryParts) (es fs : List ExtensionParts) → PartStep (ExtensionStep R) false singleton_cmp es fs → ExtensionsStep R es fs
-from_part R es fs (on_part before e f after a b s) = inside before e f after (record { there = a; result = b }) s
+from_part R es fs (on_part before e f after a b s) = inside before e f after a b s
 from_part R es fs (on_order s) = among s
 
 from_normal : (R : List EntryParts) (es fs : List ExtensionParts) → IsNormalForm (PartStep (ExtensionStep R) false singleton_cmp) es fs → IsNormalForm (ExtensionsStep R) es fs
@@ -422,15 +422,15 @@ extension_step_singleton R e f (in_transform p q _ kept _ _ _) = kept
 
 -- so extensions stay extensions as values have them
 pub extensions_step_values : (R : List EntryParts) (es fs : List ExtensionParts) → ExtensionsStep R es fs → AllByRecursion IsExtensionValue es → AllByRecursion IsExtensionValue fs
-extensions_step_values R es fs (inside before e f after w s) h =
-    let all = subst (AllByRecursion IsExtensionValue) w.there h in
+extensions_step_values R es fs (inside before e f after there result s) h =
+    let all = subst (AllByRecursion IsExtensionValue) there h in
     let new : IsExtensionValue f = record { shaped = extension_step_shaped R e f s; subtags = omega (arith, extension_step_length R e f s, (all_middle IsExtensionValue before e after all).subtags) } in
-    subst (AllByRecursion IsExtensionValue) (sym w.result) (all_replaced IsExtensionValue before e f after all new)
+    subst (AllByRecursion IsExtensionValue) (sym result) (all_replaced IsExtensionValue before e f after all new)
 extensions_step_values R es fs (among s) h = all_step IsExtensionValue es fs s h
 
 pub extensions_step_count : (R : List EntryParts) (es fs : List ExtensionParts) → ExtensionsStep R es fs → length fs ≤ length es
-extensions_step_count R es fs (inside before e f after w s) =
-    omega (arith, length_replaced before e f after, ap length w.there, ap length w.result)
+extensions_step_count R es fs (inside before e f after there result s) =
+    omega (arith, length_replaced before e f after, ap length there, ap length result)
 extensions_step_count R es fs (among s) = length_step es fs s
 
 -- The laws of the steps on extensions.
@@ -512,7 +512,7 @@ placed_reached R n es None s = done
 placed_reached R n es (Some p) s =
     let i : ℕ = p.0 in
     subst₂ (Star (ExtensionsStep R)) (sym (round es i s.from s.within s.there)) (sym (set_split es i p.1 s.within))
-    (star_map (λ x. take i es ++ x ∷ drop (suc i) es) (λ x y t. inside (take i es) x y (drop (suc i) es) (record { there = refl; result = refl }) t) s.normal.reached)
+    (star_map (λ x. take i es ++ x ∷ drop (suc i) es) (λ x y t. inside (take i es) x y (drop (suc i) es) refl refl t) s.normal.reached)
 
 pub placed_distinct : (R : List EntryParts) (n : ℕ) (es : List ExtensionParts) (o : Option (ℕ × ExtensionParts)) → Settles R n es o → Distinct (map singleton_of es) → Distinct (map singleton_of (placed o es))
 placed_distinct R n es None s d = d

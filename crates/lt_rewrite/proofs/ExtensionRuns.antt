@@ -330,11 +330,11 @@ module _ (R : List EntryParts) (start n most : ℕ) (own : (k : ℕ) (e : Extens
 
   none_before : (e f : ExtensionParts) (step : Step) → Leading e → IsFirst (ExtensionLeads R here e) extension_rank step f → (other : Step) (gs : List ExtensionParts) → ExtensionsLeads R start (before ++ e ∷ after) other gs → IsNoLater extension_rank step other
   none_before e f step h i other gs (among s, x) = absurd (ordered_rests (before ++ e ∷ after) gs h.ordered s)
-  none_before e f step h i other gs (inside before' e' f' after' w s, x) =
+  none_before e f step h i other gs (inside before' e' f' after' there result s, x) =
       elim (cases_eq e'.singleton n) [
-        | inl same ↦ i.first other f' (moved R start (distinct_cut before before' e e' after after' w.there h.distinct (h.singleton ∙ sym same)) (s, x))
+        | inl same ↦ i.first other f' (moved R start (distinct_cut before before' e e' after after' there h.distinct (h.singleton ∙ sym same)) (s, x))
         | inr ne ↦
-            let all = subst (AllByRecursion (λ x. x.singleton ≢ n → IsBehind R most x)) w.there h.behind in
+            let all = subst (AllByRecursion (λ x. x.singleton ≢ n → IsBehind R most x)) there h.behind in
             inl (omega (arith, own here e step f i.leads h.singleton, all_middle (λ x. x.singleton ≢ n → IsBehind R most x) before' e' after' all ne (start + length (spell_extensions before') + 1) other f' (s, x)))
       ]
 
@@ -343,7 +343,7 @@ module _ (R : List EntryParts) (start n most : ℕ) (own : (k : ℕ) (e : Extens
       (adds_lift (ExtensionLeads R here) (λ _ step. extension_rank step) (ExtensionsLeads R start) (λ _ step. extension_rank step) Leading (λ x. before ++ x ∷ after)
       (λ x y step h i. (
         leading_step x y i.leads.0 h,
-        record { leads = (inside before x y after (record { there = refl; result = refl }) i.leads.0, i.leads.1); first = none_before x y step h i },
+        record { leads = (inside before x y after refl refl i.leads.0, i.leads.1); first = none_before x y step h i },
       )) e f old new h a).1
 
 -- The steps on extensions, phase by phase: exchanges, those in u, those in t.
@@ -385,7 +385,7 @@ pub record Swapped (R : List EntryParts) (start : ℕ) (es fs : List ExtensionPa
 
 module _ (R : List EntryParts) (start : ℕ) where
   none_earlier : (es fs : List ExtensionParts) (step : Step) → IsFirst (Swapping start es) (λ _. 0) step fs → (other : Step) (gs : List ExtensionParts) → ExtensionsLeads R start es other gs → IsNoLater extension_rank step other
-  none_earlier es fs step h other gs (inside before e f after w s, x) =
+  none_earlier es fs step h other gs (inside before e f after there result s, x) =
       inl (omega (arith, ap order h.leads.of_kind, told R (start + length (spell_extensions before) + 1) e other f (s, x)))
   none_earlier es fs step h other gs (among s, x) =
       let l = as_swap singleton_cmp steps.SwapExtensions spell_extension start es gs other s x in
@@ -434,9 +434,9 @@ adds_placed R start n most own es (Some p) old new h d r b =
     (adds_among R start n most own (take i es) (drop (suc i) es) e p.1 old new leading h.adds))
 
 few_step : (R : List EntryParts) (es fs : List ExtensionParts) → ExtensionsStep R es fs → length (spell_extensions fs) ≤ length (spell_extensions es)
-few_step R es fs (inside before e f after w s) =
+few_step R es fs (inside before e f after there result s) =
     let l = spelled_replaced spell_extension before e f after (omega (arith, extension_step_length R e f s)) in
-    omega (arith, l, ap (λ x. length (spell_extensions x)) w.there, ap (λ x. length (spell_extensions x)) w.result)
+    omega (arith, l, ap (λ x. length (spell_extensions x)) there, ap (λ x. length (spell_extensions x)) result)
 few_step R es fs (among s) = spelled_step spell_extension es fs s
 
 -- the steps in u, where the extensions are in order
@@ -491,5 +491,5 @@ module _ (R : List EntryParts) (start : ℕ) {es fs gs hs : List ExtensionParts}
       behind_t e u ne k step f (in_transform p q is_t _ _ _ _, h) = absurd (ne is_t)
 
       none : AllByRecursion (Rests (ExtensionStep R)) (placed o fs) → IsRising singleton_cmp (placed o fs) → (gs : List ExtensionParts) → ExtensionsStep R (placed o fs) gs → ⊥
-      none all r gs (inside before e f after w t) = all_middle (Rests (ExtensionStep R)) before e after (subst (AllByRecursion (Rests (ExtensionStep R))) w.there all) f t
+      none all r gs (inside before e f after there result t) = all_middle (Rests (ExtensionStep R)) before e after (subst (AllByRecursion (Rests (ExtensionStep R))) there all) f t
       none all r gs (among t) = ordered_rests (placed o fs) gs r t

@@ -16,6 +16,6 @@ pub mod StepLaws
 mod Sorting
 mod OrderingRows
 mod ChainWalks
-mod FoundPairs
+mod VariantPlaces
 mod TagLeading
 mod ExtensionRuns

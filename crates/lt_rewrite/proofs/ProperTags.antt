@@ -10,7 +10,7 @@ use Rattle.lt_tag.specs.WellFormed.{IsLangTag, IsNotGrandfathered}
 use Rattle.lt_tag.proofs.TagLemmas.{not_grandfathered, AllByRecursion-weaker}
 use Rattle.lt_registry.specs.Parts.{EntryParts}
 use Rattle.lt_registry.specs.Validity.{IsProperCore, Distinct, IsProperExtension, IsProper}
-use Rattle.lt_rewrite.specs.CoreSteps.{values_of, CoreStep}
+use Rattle.lt_rewrite.specs.CoreSteps.{CoreStep}
 use Rattle.lt_rewrite.specs.Orderings.{ListStep, by_swap, by_drop}
 use Rattle.lt_rewrite.specs.Extensions.{singleton_cmp, TransformStep, on_source, on_fields, ExtensionStep, in_unicode, in_transform, ExtensionsStep, inside, among}
 use Rattle.lt_registry.specs.Entries.{IsRegistry}
@@ -79,8 +79,8 @@ same_singletons : (before : List ExtensionParts) (e f : ExtensionParts) (after :
 same_singletons before e f after h = simp (map-append, h)
 
 distinct_step : (R : List EntryParts) (es fs : List ExtensionParts) → ExtensionsStep R es fs → Distinct (singletons_of es) → Distinct (singletons_of fs)
-distinct_step R es fs (inside before e f after w s) h =
-    subst Distinct (ap singletons_of w.there ∙ same_singletons before e f after (extension_step_singleton R e f s) ∙ sym (ap singletons_of w.result)) h
+distinct_step R es fs (inside before e f after there result s) h =
+    subst Distinct (ap singletons_of there ∙ same_singletons before e f after (extension_step_singleton R e f s) ∙ sym (ap singletons_of result)) h
 distinct_step R es fs (among s) h = distinct_order es fs s h
 
 proper_source : (R : List EntryParts) (e : ExtensionParts) (p : TForm) → IsProperExtension R e → e.singleton ≡ transform → IsTransform e.subtags p → IfSome p.source (IsProperCore R)
@@ -103,12 +103,12 @@ module _ (R : List EntryParts) (G : IsRegistry R) (C : MeetsCoreConditions R) (H
   extension_step_proper e f (in_transform p q is_t _ from to s) P h = (q, to, transform_step_proper p q s (proper_source R e p P is_t from))
 
   extensions_step_proper : (es fs : List ExtensionParts) → ExtensionsStep R es fs → AllByRecursion (IsProperExtension R) es → AllByRecursion (IsProperExtension R) fs
-  extensions_step_proper es fs (inside before e f after w s) P =
-      let all = subst (AllByRecursion (IsProperExtension R)) w.there P in
-      subst (AllByRecursion (IsProperExtension R)) (sym w.result) (all_replaced (IsProperExtension R) before e f after all (extension_step_proper e f s (all_middle (IsProperExtension R) before e after all)))
+  extensions_step_proper es fs (inside before e f after there result s) P =
+      let all = subst (AllByRecursion (IsProperExtension R)) there P in
+      subst (AllByRecursion (IsProperExtension R)) (sym result) (all_replaced (IsProperExtension R) before e f after all (extension_step_proper e f s (all_middle (IsProperExtension R) before e after all)))
   extensions_step_proper es fs (among s) P = all_step (IsProperExtension R) es fs s P
 
-  core_step_tag : (c d : CoreParts) (es : List ExtensionParts) (ps : List (List ℕ)) → CoreStep (values_of R) c d → IsProper R (LangTag c es ps) → IsProper R (LangTag d es ps)
+  core_step_tag : (c d : CoreParts) (es : List ExtensionParts) (ps : List (List ℕ)) → CoreStep R c d → IsProper R (LangTag c es ps) → IsProper R (LangTag d es ps)
   core_step_tag c d es ps s P =
       let parts = proper_parts R c es ps P in
       let core = steps_keep_proper R G C c d parts.core s in

@@ -7,7 +7,7 @@ use Rattle.lt_tag.specs.Spelling.{spell_core, spell_extension, spell_extensions}
 use Rattle.lt_registry.specs.Parts.{EntryParts}
 use Rattle.lt_registry.specs.Entries.{entry, number_of, preferred_value, variant_value, is_short, IsRegistry}
 use Rattle.lt_registry.specs.Faults.{before_variants}
-use Rattle.lt_rewrite.specs.CoreSteps.{values_of, Spot, at_extlang, at_language, at_script, at_region, at_variant, at_variant_language, subtag_at, value_at, replaced, CoreStep}
+use Rattle.lt_rewrite.specs.CoreSteps.{language_beside, Spot, at_extlang, at_language, at_script, at_region, at_variant, at_variant_language, subtag_at, value_at, replaced, CoreStep}
 use Rattle.lt_rewrite.specs.Labels.{step_at, kind_at, subtag_kind_at, place_at, core_label, list_label, unicode_label, LeadsBy}
 use Rattle.lt_rewrite.specs.Runs.{rank_of, kind_rank, extension_rank, IsFirst, NoneLeads, NoneOnCore, IsLeftmostOnCore, IsFirstOnCore, SwapsBy, DropsBy, DropsTrueBy}
 use Rattle.lt_rewrite.specs.declared.steps.Step.{Step}
@@ -50,14 +50,14 @@ spot_rank : (spot : Spot) (place number : ℕ) → OnSource (step_at (kind_at sp
 spot_rank at_extlang p n = record { some = omega arith; most = omega arith; raised = refl }
 spot_rank s p n = record { some = omega arith; most = omega arith; raised = refl }
 
-pub core_rank : (R : List EntryParts) (start : ℕ) (c d : CoreParts) (s : CoreStep (values_of R) c d) → OnSource (core_label R start s)
+pub core_rank : (R : List EntryParts) (start : ℕ) (c d : CoreParts) (s : CoreStep R c d) → OnSource (core_label R start s)
 core_rank R start c d s = spot_rank s.spot (start + place_at c s.spot) (number_of (entry R (subtag_kind_at s.spot) s.subtag))
 
 place_low : (c : CoreParts) (spot : Spot) → 0 < place_at c spot
 place_low c at_extlang = omega arith
 place_low c s = omega arith
 
-pub core_low : (R : List EntryParts) (start : ℕ) (c d : CoreParts) (s : CoreStep (values_of R) c d) → start < (core_label R start s).place
+pub core_low : (R : List EntryParts) (start : ℕ) (c d : CoreParts) (s : CoreStep R c d) → start < (core_label R start s).place
 core_low R start c d s = omega (arith, place_low c s.spot)
 
 core_length : (c : CoreParts) → length (spell_core c) ≡ before_variants c + length c.variants
@@ -71,7 +71,7 @@ place_high c (at_variant_language i) x t =
     omega (arith, core_length c, slice_get_within c.variants i x (alone c (slice_get c.variants i) x t).1)
 place_high c s x t = omega (arith, core_length c, ap (λ o. length (option_to_list o)) t)
 
-pub core_high : (R : List EntryParts) (start : ℕ) (c d : CoreParts) (s : CoreStep (values_of R) c d) → (core_label R start s).place ≤ start + length (spell_core c)
+pub core_high : (R : List EntryParts) (start : ℕ) (c d : CoreParts) (s : CoreStep R c d) → (core_label R start s).place ≤ start + length (spell_core c)
 core_high R start c d s = omega (arith, place_high c s.spot s.subtag s.there)
 
 -- the kind and the place determine the spot
@@ -108,7 +108,7 @@ same_step kind place number step k p n = λ i. record { kind = (sym k) i; place 
 
 module _ (R : List EntryParts) (start : ℕ) (c : CoreParts) (step : Step) where
   -- the step of a spot's kind, at its place, by the record of its subtag
-  pub leads_at : (spot : Spot) (x v : List ℕ) → step.kind ≡ kind_at spot → step.place ≡ start + place_at c spot → step.number ≡ number_of (entry R (subtag_kind_at spot) x) → subtag_at c spot ≡ Some x → value_at (values_of R) c spot x ≡ Some v → CoreLeads R start c step (replaced c spot v)
+  pub leads_at : (spot : Spot) (x v : List ℕ) → step.kind ≡ kind_at spot → step.place ≡ start + place_at c spot → step.number ≡ number_of (entry R (subtag_kind_at spot) x) → subtag_at c spot ≡ Some x → value_at R c spot x ≡ Some v → CoreLeads R start c step (replaced c spot v)
   leads_at spot x v k p n there has =
       (record { spot = spot; subtag = x; there = there; value = v; has = has; result = refl }, same_step _ _ _ step k p n)
 
@@ -117,7 +117,7 @@ module _ (R : List EntryParts) (start : ℕ) (c : CoreParts) (step : Step) where
     pub subtag : List ℕ
     pub there : subtag_at c spot ≡ Some subtag
     pub value : List ℕ
-    pub has : value_at (values_of R) c spot subtag ≡ Some value
+    pub has : value_at R c spot subtag ≡ Some value
     pub number : number_of (entry R (subtag_kind_at spot) subtag) ≡ step.number
 
   pub needs : (d : CoreParts) → (l : CoreLeads R start c step d) → Needs l.0.spot
@@ -140,9 +140,9 @@ module _ (R : List EntryParts) (start : ℕ) (c : CoreParts) (step : Step) where
       record { index = s.0; needs = subst Needs s.1 (needs d l); place = omega (arith, ap (λ (x : Step). x.place) l.1, ap (place_at c) s.1) }
 
   -- the variant of a VariantLanguage step has a language, and none before it has one
-  pub has_language : (n : NeedsVariant at_variant_language) → AllByRecursion (λ u. (values_of R).variant_language c.language u ≡ None) (take n.index c.variants) × ((values_of R).variant_language c.language n.needs.subtag ≡ Some n.needs.value)
+  pub has_language : (n : NeedsVariant at_variant_language) → AllByRecursion (λ u. language_beside R c.language u ≡ None) (take n.index c.variants) × (language_beside R c.language n.needs.subtag ≡ Some n.needs.value)
   has_language n =
-      let f : List ℕ → Option (List ℕ) = (values_of R).variant_language c.language in
+      let f : List ℕ → Option (List ℕ) = language_beside R c.language in
       let l = some_if (list_all (λ u. is_none (f u)) (take n.index c.variants)) (f n.needs.subtag) n.needs.value n.needs.has in
       (none_before f (take n.index c.variants) l.0, l.1)
 
@@ -172,19 +172,19 @@ module _ (R : List EntryParts) (start : ℕ) (c : CoreParts) (step : Step) where
       let has = variant_value_is R n.subtag n.value n.has in
       none n.value (subst (λ u. IsValueBy R kinds.Variant u step.number n.value) (same_Some n.subtag v (sym n.there ∙ there)) (record { has = has.0; by = n.number })) has.1
 
-  first_there : (i : ℕ) (m : List ℕ) → (t : IsFirstVariantLanguage (values_of R) c i m) → slice_get c.variants i ≡ Some t.variant
+  first_there : (i : ℕ) (m : List ℕ) → (t : IsFirstVariantLanguage R c i m) → slice_get c.variants i ≡ Some t.variant
   first_there i m t =
       ap (slice_get c.variants) (sym (length-take-le i c.variants (omega (arith, t.within))))
       ∙ get_at (take i c.variants) t.variant (drop (suc i) c.variants) c.variants t.there
 
-  pub variant_language_there : (i : ℕ) (m v : List ℕ) → slice_get c.variants i ≡ Some v → IsFirstVariantLanguage (values_of R) c i m → (values_of R).variant_language c.language v ≡ Some m
+  pub variant_language_there : (i : ℕ) (m v : List ℕ) → slice_get c.variants i ≡ Some v → IsFirstVariantLanguage R c i m → language_beside R c.language v ≡ Some m
   variant_language_there i m v there t =
-      ap ((values_of R).variant_language c.language) (same_Some v t.variant (sym there ∙ first_there i m t)) ∙ t.has
+      ap (language_beside R c.language) (same_Some v t.variant (sym there ∙ first_there i m t)) ∙ t.has
 
   -- the leftmost VariantLanguage step is that of another variant
-  pub variant_language_elsewhere : step.kind ≡ steps.VariantLanguage → (i : ℕ) (m : List ℕ) → IsFirstVariantLanguage (values_of R) c i m → (step.place ≡ start + before_variants c + i + 1 → ⊥) → (d : CoreParts) → CoreLeads R start c step d → ⊥
+  pub variant_language_elsewhere : step.kind ≡ steps.VariantLanguage → (i : ℕ) (m : List ℕ) → IsFirstVariantLanguage R c i m → (step.place ≡ start + before_variants c + i + 1 → ⊥) → (d : CoreParts) → CoreLeads R start c step d → ⊥
   variant_language_elsewhere k i m t n d l =
-      let f : List ℕ → Option (List ℕ) = (values_of R).variant_language c.language in
+      let f : List ℕ → Option (List ℕ) = language_beside R c.language in
       let o = needs_variant_language R start c step (ap rank_of k) d l in
       let h = has_language R start c step o in
       n (omega (arith, o.place, not_before f c.variants i o.index o.needs.subtag o.needs.value t.leftmost (variant_there R start c step o) h.1, not_before f c.variants o.index i t.variant m h.0 (first_there i m t) t.has))
@@ -193,7 +193,7 @@ module _ (R : List EntryParts) (start : ℕ) (c : CoreParts) (step : Step) where
 
 module _ (R : List EntryParts) (start : ℕ) (c : CoreParts) (step : Step) where
   -- the step at a spot is the leftmost of its kind, where each that leads on is no further left
-  first_at : (spot : Spot) (x v : List ℕ) → step.kind ≡ kind_at spot → step.place ≡ start + place_at c spot → step.number ≡ number_of (entry R (subtag_kind_at spot) x) → subtag_at c spot ≡ Some x → value_at (values_of R) c spot x ≡ Some v → ((other : Step) (b : CoreParts) → CoreLeads R start c other b → rank_of other.kind ≡ rank_of (kind_at spot) → start + place_at c spot ≤ other.place) → IsLeftmostOnCore R start c (rank_of (kind_at spot)) step
+  first_at : (spot : Spot) (x v : List ℕ) → step.kind ≡ kind_at spot → step.place ≡ start + place_at c spot → step.number ≡ number_of (entry R (subtag_kind_at spot) x) → subtag_at c spot ≡ Some x → value_at R c spot x ≡ Some v → ((other : Step) (b : CoreParts) → CoreLeads R start c other b → rank_of other.kind ≡ rank_of (kind_at spot) → start + place_at c spot ≤ other.place) → IsLeftmostOnCore R start c (rank_of (kind_at spot)) step
   first_at spot x v k p n there has least = record {
     of_rank = ap rank_of k;
     to = replaced c spot v;
@@ -201,7 +201,7 @@ module _ (R : List EntryParts) (start : ℕ) (c : CoreParts) (step : Step) where
     leftmost = λ other b l r. omega (arith, p, least other b l r);
   }
 
-  pub first_part : (spot : Spot) (x v : List ℕ) → IsPart spot → step.kind ≡ kind_at spot → step.place ≡ start + place_at c spot → step.number ≡ number_of (entry R (subtag_kind_at spot) x) → subtag_at c spot ≡ Some x → value_at (values_of R) c spot x ≡ Some v → IsLeftmostOnCore R start c (rank_of (kind_at spot)) step
+  pub first_part : (spot : Spot) (x v : List ℕ) → IsPart spot → step.kind ≡ kind_at spot → step.place ≡ start + place_at c spot → step.number ≡ number_of (entry R (subtag_kind_at spot) x) → subtag_at c spot ≡ Some x → value_at R c spot x ≡ Some v → IsLeftmostOnCore R start c (rank_of (kind_at spot)) step
   first_part spot x v part k p n there has =
       first_at spot x v k p n there has (λ other b l r.
       omega (arith, ap (λ (x : Step). x.place) l.1, part_place c l.0.spot spot part (ap rank_of (ap (λ (x : Step). x.kind) l.1) ∙ r)))
@@ -213,12 +213,12 @@ module _ (R : List EntryParts) (start : ℕ) (c : CoreParts) (step : Step) where
       let q = not_before (variant_value R) c.variants i m.index m.needs.subtag m.needs.value (recursion_from_All (λ u. variant_value R u ≡ None) (take i c.variants) none) m.needs.there m.needs.has in
       omega (arith, m.place, q))
 
-  pub first_variant_language : (i : ℕ) (m v : List ℕ) → step.kind ≡ steps.VariantLanguage → step.place ≡ start + (before_variants c + i + 1) → step.number ≡ number_of (entry R kinds.Variant v) → c.extlangs ≡ [] → slice_get c.variants i ≡ Some v → IsFirstVariantLanguage (values_of R) c i m → IsLeftmostOnCore R start c 6 step
+  pub first_variant_language : (i : ℕ) (m v : List ℕ) → step.kind ≡ steps.VariantLanguage → step.place ≡ start + (before_variants c + i + 1) → step.number ≡ number_of (entry R kinds.Variant v) → c.extlangs ≡ [] → slice_get c.variants i ≡ Some v → IsFirstVariantLanguage R c i m → IsLeftmostOnCore R start c 6 step
   first_variant_language i m v k p n none there t =
       first_at (at_variant_language i) v m k p n (there_alone c (slice_get c.variants i) v none there)
-      (has_leftmost (values_of R) c i v m (variant_language_there R start c step i m v there t) t.leftmost) (λ other b l r.
+      (has_leftmost R c i v m (variant_language_there R start c step i m v there t) t.leftmost) (λ other b l r.
       let o = needs_variant_language R start c other r b l in
-      omega (arith, o.place, not_before ((values_of R).variant_language c.language) c.variants i o.index o.needs.subtag o.needs.value t.leftmost (variant_there R start c other o) (has_language R start c other o).1))
+      omega (arith, o.place, not_before (language_beside R c.language) c.variants i o.index o.needs.subtag o.needs.value t.leftmost (variant_there R start c other o) (has_language R start c other o).1))
 
 -- no variant has a value
 pub none_varies : (R : List EntryParts) (start : ℕ) (c : CoreParts) → All (λ u. variant_value R u ≡ None) c.variants → NoneOnCore R start c 5
@@ -227,10 +227,10 @@ none_varies R start c none step b l r =
     no_value (variant_value R) c.variants m.index m.needs.subtag m.needs.value none m.needs.there m.needs.has
 
 -- no variant has a VariantLanguage step
-pub none_variant_language : (R : List EntryParts) (start : ℕ) (c : CoreParts) → HasNoVariantLanguage (values_of R) c → NoneOnCore R start c 6
+pub none_variant_language : (R : List EntryParts) (start : ℕ) (c : CoreParts) → HasNoVariantLanguage R c → NoneOnCore R start c 6
 none_variant_language R start c none step b l r =
     let o = needs_variant_language R start c step r b l in
-    no_value ((values_of R).variant_language c.language) c.variants o.index o.needs.subtag o.needs.value none (variant_there R start c step o) (has_language R start c step o).1
+    no_value (language_beside R c.language) c.variants o.index o.needs.subtag o.needs.value none (variant_there R start c step o) (has_language R start c step o).1
 
 module _ (R : List EntryParts) (start : ℕ) (c : CoreParts) where
   -- no step of the first ranks leads on
@@ -453,20 +453,20 @@ module _ (R : List EntryParts) (start : ℕ) (es : List ExtensionParts) (step : 
   leads_inside i f h l =
       let e : ExtensionParts = get_or es i f in
       let s : ExtensionLeads R (start + length (spell_extensions (take i es)) + 1) e step f = l f in
-      (inside (take i es) e f (drop (suc i) es) (record { there = round es i e h (get_or_default es i f e h); result = set_split es i f h }) s.0, s.1)
+      (inside (take i es) e f (drop (suc i) es) (round es i e h (get_or_default es i f e h)) (set_split es i f h) s.0, s.1)
 
   pub none_inside : step.kind ≢ steps.SwapExtensions → ((i : ℕ) (f : ExtensionParts) → i < length es → LeadsAt R start es step i f → ⊥) → (fs : List ExtensionParts) → ExtensionsLeads R start es step fs → ⊥
-  none_inside k none fs (inside before e f after w s, h) =
+  none_inside k none fs (inside before e f after there result s, h) =
       let i : ℕ = length before in
-      none i f (cut_within before e after es w.there)
+      none i f (cut_within before e after es there)
       (λ d.
-      subst (λ (b : List ExtensionParts). ExtensionLeads R (start + length (spell_extensions b) + 1) (get_or es i d) step f) (sym (ap (take i) w.there ∙ take_at before (e ∷ after) i refl))
-      (subst (λ (x : ExtensionParts). ExtensionLeads R (start + length (spell_extensions before) + 1) x step f) (sym (cut_at before e after es d w.there)) (s, h)))
+      subst (λ (b : List ExtensionParts). ExtensionLeads R (start + length (spell_extensions b) + 1) (get_or es i d) step f) (sym (ap (take i) there ∙ take_at before (e ∷ after) i refl))
+      (subst (λ (x : ExtensionParts). ExtensionLeads R (start + length (spell_extensions before) + 1) x step f) (sym (cut_at before e after es d there)) (s, h)))
   none_inside k none fs (among s, h) = k (as_swap singleton_cmp steps.SwapExtensions spell_extension start es fs step s h).of_kind
 
   -- inside an extension no extensions change places
   to_swaps : step.kind ≡ steps.SwapExtensions → (fs : List ExtensionParts) → ExtensionsLeads R start es step fs → SwapsBy singleton_cmp spell_extension steps.SwapExtensions start es step fs
-  to_swaps k fs (inside before e f after w s, h) = absurd (omega (arith, told R (start + length (spell_extensions before) + 1) e step f (s, h), ap rank_of k))
+  to_swaps k fs (inside before e f after there result s, h) = absurd (omega (arith, told R (start + length (spell_extensions before) + 1) e step f (s, h), ap rank_of k))
   to_swaps k fs (among s, h) = as_swap singleton_cmp steps.SwapExtensions spell_extension start es fs step s h
 
   pub swaps_answers : step.kind ≡ steps.SwapExtensions → step.number ≡ 0 → (fs : List ExtensionParts) (r : Bool) → Answers (SwapLeads singleton_cmp spell_extension start step.place es) fs r → Answers (ExtensionsLeads R start es step) fs r
@@ -477,7 +477,7 @@ module _ (R : List EntryParts) (start : ℕ) (es : List ExtensionParts) (step : 
 
   -- none is of a whole tag
   behind : (fs : List ExtensionParts) → ExtensionsLeads R start es step fs → (start < step.place) × (kind_rank step ≢ 7)
-  behind fs (inside before e f after w s, h) = omega (arith, told R (start + length (spell_extensions before) + 1) e step f (s, h))
+  behind fs (inside before e f after there result s, h) = omega (arith, told R (start + length (spell_extensions before) + 1) e step f (s, h))
   behind fs (among s, h) =
       let a = as_swap singleton_cmp steps.SwapExtensions spell_extension start es fs step s h in
       omega (arith, a.leads.at, ap rank_of a.of_kind)
@@ -505,7 +505,7 @@ module _ (R : List EntryParts) (step other : Step) (w : SameSpot step other) whe
   core_end start c d e (s, h) (u, k) =
       let m : s.spot ≡ u.spot = one_spot c s.spot u.spot (ap (λ (x : Step). x.kind) h ∙ w.kind ∙ sym (ap (λ (x : Step). x.kind) k)) (omega (arith, w.place, ap (λ (x : Step). x.place) h, ap (λ (x : Step). x.place) k)) in
       let a : s.subtag ≡ u.subtag = same_Some s.subtag u.subtag (sym s.there ∙ ap (subtag_at c) m ∙ u.there) in
-      let b : s.value ≡ u.value = same_Some s.value u.value (sym s.has ∙ (λ i. value_at (values_of R) c (m i) (a i)) ∙ u.has) in
+      let b : s.value ≡ u.value = same_Some s.value u.value (sym s.has ∙ (λ i. value_at R c (m i) (a i)) ∙ u.has) in
       record {
         number = sym (ap (λ (x : Step). x.number) h) ∙ (λ i. number_of (entry R (subtag_kind_at (m i)) (a i))) ∙ ap (λ (x : Step). x.number) k;
         result = s.result ∙ (λ i. replaced c (m i) (b i)) ∙ sym u.result;
@@ -583,14 +583,14 @@ module _ (R : List EntryParts) (step other : Step) (w : SameSpot step other) whe
 
   -- on a list of extensions whose singletons differ
   extensions_end : (start : ℕ) (es fs gs : List ExtensionParts) → Distinct (map (λ (e : ExtensionParts). e.singleton) es) → ExtensionsLeads R start es step fs → ExtensionsLeads R start es other gs → SameEnd step other fs gs
-  extensions_end start es fs gs D (inside before e f after v s, h) (inside before' e' f' after' v' s', h') =
+  extensions_end start es fs gs D (inside before e f after there result s, h) (inside before' e' f' after' there' result' s', h') =
       let k : ℕ = start + length (spell_extensions before) + 1 in
       let k' : ℕ = start + length (spell_extensions before') + 1 in
       let one : e.singleton ≡ e'.singleton = omega (arith, told R k e step f (s, h), told R k' e' other f' (s', h'), ap rank_of w.kind, ap order w.kind) in
-      let cut = distinct_cut before before' e e' after after' (sym v.there ∙ v'.there) (subst (λ l. Distinct (map (λ (e : ExtensionParts). e.singleton) l)) v.there D) one in
+      let cut = distinct_cut before before' e e' after after' (sym there ∙ there') (subst (λ l. Distinct (map (λ (e : ExtensionParts). e.singleton) l)) there D) one in
       let n = extension_end k e f f' (s, h) (moved R start cut (s', h')) in
-      record { number = n.number; result = v.result ∙ (λ i. cut.front i ++ n.result i ∷ cut.rest i) ∙ sym v'.result }
-  extensions_end start es fs gs D (inside before e f after v s, h) (among u, k) =
+      record { number = n.number; result = result ∙ (λ i. cut.front i ++ n.result i ∷ cut.rest i) ∙ sym result' }
+  extensions_end start es fs gs D (inside before e f after there result s, h) (among u, k) =
       absurd (omega (arith, told R (start + length (spell_extensions before) + 1) e step f (s, h), ap rank_of w.kind, ap rank_of (as_swap singleton_cmp steps.SwapExtensions spell_extension start es gs other u k).of_kind))
   extensions_end start es fs gs D (among s, h) l =
       let a = as_swap singleton_cmp steps.SwapExtensions spell_extension start es fs step s h in

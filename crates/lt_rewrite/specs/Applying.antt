@@ -7,7 +7,7 @@ use Rattle.lt_tag.specs.Extensions.{spell_keyword}
 use Rattle.lt_registry.specs.Parts.{EntryParts}
 use Rattle.lt_registry.specs.Entries.{entry, preferred_value, whole, whole_value, number_of}
 use Rattle.lt_registry.specs.declared.entries.Kind.{Kind}
-use Rattle.lt_rewrite.specs.CoreSteps.{values_of, CoreStep}
+use Rattle.lt_rewrite.specs.CoreSteps.{CoreStep}
 use Rattle.lt_rewrite.specs.TagSteps.{TagChange}
 use Rattle.lt_rewrite.specs.Labels.{tag_label, core_label, unicode_label, transform_label, extension_label, extensions_label}
 use Rattle.lt_rewrite.specs.Orderings.{SwapsAt, DropsAt}
@@ -31,7 +31,7 @@ pub record IsValueBy (R : List EntryParts) (kind : Kind) (s : List ℕ) (number 
 
 -- on a core that begins after this many subtags
 abbrev pub CoreLeads : List EntryParts → ℕ → CoreParts → Step → CoreParts → Type 0
-CoreLeads R start c step d = (s : CoreStep (values_of R) c d) × (core_label R start s ≡ step)
+CoreLeads R start c step d = (s : CoreStep R c d) × (core_label R start s ≡ step)
 
 -- the first subtag of the part at an index is at a place, in a list that begins after this many subtags
 abbrev pub IsPlaceOf : {A : Type 0} → (A → List (List ℕ)) → ℕ → List A → ℕ → ℕ → Type 0

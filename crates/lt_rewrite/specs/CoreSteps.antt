@@ -1,4 +1,4 @@
--- The replacement steps on a core (RFC 5646, 4.5), over what a registry says of its subtags.
+-- The replacement steps on a core (RFC 5646, 4.5), over the entries of a registry.
 use Rattle.std.specs.Prelude.{ℕ, ◌≡◌, zero, suc, nat_eq, if◌then◌else◌, List, [], length, take, slice_get, slice_set, Option, Some, None, is_none}
 use Rattle.std.specs.Option.{option_map_or}
 use Rattle.std.specs.List.{list_all, remove}
@@ -8,26 +8,10 @@ use Rattle.lt_registry.specs.Entries.{preferred_value, variant_value, language_v
 use Rattle.lt_registry.specs.declared.entries.Kind.TheVariants as kinds
 use Rattle.lt_rewrite.specs.Rewriting.{IsNormalForm}
 
--- what a registry says of the subtags of a core (RFC 5646, 3.1.7)
-pub record Values : Type 0 where
-  pub replacement : List ℕ → List ℕ
-  pub language : List ℕ → Option (List ℕ)
-  pub script : List ℕ → Option (List ℕ)
-  pub region : List ℕ → Option (List ℕ)
-  pub variant : List ℕ → Option (List ℕ)
-  -- the language that becomes the language in place of a variant and the language beside it
-  pub variant_language : List ℕ → List ℕ → Option (List ℕ)
-
--- the same, by the entries of a registry (RFC 5646, 3.1.7)
-abbrev pub values_of : List EntryParts → Values
-values_of R = record {
-  replacement = replacement R;
-  language = preferred_value R kinds.Language;
-  script = preferred_value R kinds.Script;
-  region = preferred_value R kinds.Region;
-  variant = variant_value R;
-  variant_language = λ l v. if has_prefix (prefixes R kinds.Variant v) l then language_value R v else None;
-}
+-- the language that takes the place of the language l and of a variant beside it, if l is one of the Prefixes of the
+-- variant, and its value a language (this project's own)
+abbrev pub language_beside : List EntryParts → List ℕ → List ℕ → Option (List ℕ)
+language_beside R l v = if has_prefix (prefixes R kinds.Variant v) l then language_value R v else None
 
 -- where a core step is taken; a variant by its index, counted from 0
 pub data Spot : Type 0 where
@@ -51,14 +35,14 @@ subtag_at c (at_variant_language i) = if nat_eq (length c.extlangs) 0 then slice
 
 -- its value (RFC 5646, 4.5, rule 3); of several variants whose value takes the place of the language, which is one of
 -- their Prefixes, the leftmost has it (this project's own)
-abbrev pub value_at : Values → CoreParts → Spot → List ℕ → Option (List ℕ)
-value_at V c at_extlang s = Some (V.replacement s)
-value_at V c at_language s = V.language s
-value_at V c at_script s = V.script s
-value_at V c at_region s = V.region s
-value_at V c (at_variant i) s = V.variant s
-value_at V c (at_variant_language i) s =
-    let f = V.variant_language c.language in if list_all (λ v. is_none (f v)) (take i c.variants) then f s else None
+abbrev pub value_at : List EntryParts → CoreParts → Spot → List ℕ → Option (List ℕ)
+value_at R c at_extlang s = Some (replacement R s)
+value_at R c at_language s = preferred_value R kinds.Language s
+value_at R c at_script s = preferred_value R kinds.Script s
+value_at R c at_region s = preferred_value R kinds.Region s
+value_at R c (at_variant i) s = variant_value R s
+value_at R c (at_variant_language i) s =
+    let f = language_beside R c.language in if list_all (λ v. is_none (f v)) (take i c.variants) then f s else None
 
 -- the core with the value: an extlang's and such a variant's as its language, any other in its place (RFC 5646, 4.5,
 -- rule 3)
@@ -71,17 +55,17 @@ replaced c (at_variant i) v = record c { variants = slice_set c.variants i v }
 replaced c (at_variant_language i) v = record c { language = v; variants = remove c.variants i }
 
 -- one kind of replacement at one place (RFC 5646, 4.5, rule 3)
-pub record CoreStep (V : Values) (c d : CoreParts) : Type 0 where
+pub record CoreStep (R : List EntryParts) (c d : CoreParts) : Type 0 where
   pub spot : Spot
   pub subtag : List ℕ
   pub there : subtag_at c spot ≡ Some subtag
   pub value : List ℕ
-  pub has : value_at V c spot subtag ≡ Some value
+  pub has : value_at R c spot subtag ≡ Some value
   pub result : d ≡ replaced c spot value
 
 -- core steps reach d, and none leads from it (RFC 5646, 4.5)
-abbrev pub IsCoreNormalForm : Values → CoreParts → CoreParts → Type 0
-IsCoreNormalForm V c d = IsNormalForm (CoreStep V) c d
+abbrev pub IsCoreNormalForm : List EntryParts → CoreParts → CoreParts → Type 0
+IsCoreNormalForm R c d = IsNormalForm (CoreStep R) c d
 
 -- the subtag after n values, or the last one (RFC 5646, 3.1.7)
 abbrev pub chase : (List ℕ → Option (List ℕ)) → ℕ → List ℕ → List ℕ

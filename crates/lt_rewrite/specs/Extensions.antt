@@ -6,7 +6,7 @@ use Rattle.std.specs.Cmp.Lexicographic.{slice_cmp}
 use Rattle.lt_tag.specs.Parts.{CoreParts, ExtensionParts, KeywordParts, UForm, FieldParts, TForm}
 use Rattle.lt_tag.specs.Extensions.{unicode, IsUnicode, transform, IsTransform}
 use Rattle.lt_registry.specs.Parts.{EntryParts}
-use Rattle.lt_rewrite.specs.CoreSteps.{values_of, CoreStep}
+use Rattle.lt_rewrite.specs.CoreSteps.{CoreStep}
 use Rattle.lt_rewrite.specs.Orderings.{ListStep}
 
 -- the order of subtags: that of their bytes (RFC 6067, 2.1.1)
@@ -41,7 +41,7 @@ pub data UnicodeStep (p q : UForm) : Type 0 where
 
 -- one step on the parts of a t extension: on its source, or two fields change places (RFC 6497, 2.2 and 2.3)
 pub data TransformStep (R : List EntryParts) (p q : TForm) : Type 0 where
-  on_source : (c d : CoreParts) → p.source ≡ Some c → q.source ≡ Some d → CoreStep (values_of R) c d →
+  on_source : (c d : CoreParts) → p.source ≡ Some c → q.source ≡ Some d → CoreStep R c d →
       q.fields ≡ p.fields → TransformStep R p q
   on_fields : q.source ≡ p.source → ListStep false separator_cmp p.fields q.fields → TransformStep R p q
 
@@ -52,14 +52,8 @@ pub data ExtensionStep (R : List EntryParts) (e f : ExtensionParts) : Type 0 whe
   in_transform : (p q : TForm) → e.singleton ≡ transform → f.singleton ≡ e.singleton → IsTransform e.subtags p →
       IsTransform f.subtags q → TransformStep R p q → ExtensionStep R e f
 
--- the extension e among others becomes f (RFC 5646, 4.5)
-pub record Within (before : List ExtensionParts) (e f : ExtensionParts) (after : List ExtensionParts)
-    (es fs : List ExtensionParts) : Type 0 where
-  pub there : es ≡ before ++ e ∷ after
-  pub result : fs ≡ before ++ f ∷ after
-
--- one step on a list of extensions (RFC 5646, 4.5, rule 1)
+-- one step on a list of extensions: inside one of them, or two change places (RFC 5646, 4.5, rule 1)
 pub data ExtensionsStep (R : List EntryParts) (es fs : List ExtensionParts) : Type 0 where
   inside : (before : List ExtensionParts) (e f : ExtensionParts) (after : List ExtensionParts) →
-      Within before e f after es fs → ExtensionStep R e f → ExtensionsStep R es fs
+      es ≡ before ++ e ∷ after → fs ≡ before ++ f ∷ after → ExtensionStep R e f → ExtensionsStep R es fs
   among : ListStep false singleton_cmp es fs → ExtensionsStep R es fs

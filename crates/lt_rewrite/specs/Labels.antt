@@ -9,7 +9,7 @@ use Rattle.lt_registry.specs.Entries.{entry, whole, number_of}
 use Rattle.lt_registry.specs.Faults.{before_script, before_region, before_variants}
 use Rattle.lt_registry.specs.declared.entries.Kind.{Kind}
 use Rattle.lt_registry.specs.declared.entries.Kind.TheVariants as kinds
-use Rattle.lt_rewrite.specs.CoreSteps.{values_of, Spot, at_extlang, at_language, at_script, at_region, at_variant, at_variant_language, CoreStep}
+use Rattle.lt_rewrite.specs.CoreSteps.{Spot, at_extlang, at_language, at_script, at_region, at_variant, at_variant_language, CoreStep}
 use Rattle.lt_rewrite.specs.Orderings.{ListStep, by_swap, by_drop}
 use Rattle.lt_rewrite.specs.Extensions.{UnicodeStep, on_attributes, on_keywords, on_types, TransformStep, on_source, on_fields, ExtensionStep, in_unicode, in_transform, ExtensionsStep, inside, among}
 use Rattle.lt_rewrite.specs.TagSteps.{TagChange, on_core, on_extensions, on_whole, TagStep}
@@ -50,7 +50,7 @@ place_at c (at_variant i) = before_variants c + i + 1
 place_at c (at_variant_language i) = before_variants c + i + 1
 
 -- of a core that begins after this many subtags
-abbrev pub core_label : (R : List EntryParts) (start : ℕ) {c d : CoreParts} → CoreStep (values_of R) c d → Step
+abbrev pub core_label : (R : List EntryParts) (start : ℕ) {c d : CoreParts} → CoreStep R c d → Step
 core_label R start {c} s =
     step_at (kind_at s.spot) (start + place_at c s.spot) (number_of (entry R (subtag_kind_at s.spot) s.subtag))
 
@@ -83,7 +83,7 @@ extension_label R start (in_transform p q _ _ _ _ s) = transform_label R start s
 
 -- of extensions that begin after this many subtags
 abbrev pub extensions_label : (R : List EntryParts) → ℕ → {es fs : List ExtensionParts} → ExtensionsStep R es fs → Step
-extensions_label R start (inside before e f after w s) =
+extensions_label R start (inside before e f after there result s) =
     extension_label R (start + length (spell_extensions before) + 1) s
 extensions_label R start (among s) = list_label steps.SwapExtensions steps.SwapExtensions spell_extension start s
 

@@ -7,7 +7,7 @@ use Rattle.lt_tag.specs.WellFormed.{IsNotGrandfathered}
 use Rattle.lt_registry.specs.Parts.{EntryParts}
 use Rattle.lt_registry.specs.Validity.{IsProperCore, IsProper}
 use Rattle.lt_registry.specs.declared.entries.Kind.{Kind}
-use Rattle.lt_rewrite.specs.CoreSteps.{values_of, CoreStep, IsCoreNormalForm, chase, Ends}
+use Rattle.lt_rewrite.specs.CoreSteps.{CoreStep, IsCoreNormalForm, chase, Ends}
 use Rattle.lt_rewrite.specs.Extensions.{ExtensionsStep}
 use Rattle.lt_rewrite.specs.Conditions.{next_value}
 use Rattle.lt_rewrite.specs.Labels.{LeadsBy}
@@ -15,8 +15,8 @@ use Rattle.lt_rewrite.specs.declared.steps.Step.{Step}
 
 -- a core's normal form, and the only one
 pub record IsOneNormalForm (R : List EntryParts) (c d : CoreParts) : Type 0 where
-  pub normal : IsCoreNormalForm (values_of R) c d
-  pub alone : (e : CoreParts) → IsCoreNormalForm (values_of R) c e → e ≡ d
+  pub normal : IsCoreNormalForm R c d
+  pub alone : (e : CoreParts) → IsCoreNormalForm R c e → e ≡ d
 
 -- each core has a core normal form and no second one
 abbrev pub HasOneNormalForm : List EntryParts → Type 0
@@ -24,8 +24,8 @@ HasOneNormalForm R = (c : CoreParts) → (d : CoreParts) × IsOneNormalForm R c 
 
 -- a core step keeps the core normal form
 abbrev pub StepsKeepNormalForm : List EntryParts → Type 0
-StepsKeepNormalForm R = (c d e : CoreParts) → CoreStep (values_of R) c d
-    → IsCoreNormalForm (values_of R) c e → IsCoreNormalForm (values_of R) d e
+StepsKeepNormalForm R = (c d e : CoreParts) → CoreStep R c d
+    → IsCoreNormalForm R c e → IsCoreNormalForm R d e
 
 -- a proper core as a value has it
 pub record IsProperValue (R : List EntryParts) (c : CoreParts) : Type 0 where
@@ -34,12 +34,12 @@ pub record IsProperValue (R : List EntryParts) (c : CoreParts) : Type 0 where
 
 -- a core step leads from a proper core to a proper core
 abbrev pub StepsKeepProper : List EntryParts → Type 0
-StepsKeepProper R = (c d : CoreParts) → IsProperValue R c → CoreStep (values_of R) c d → IsProperValue R d
+StepsKeepProper R = (c d : CoreParts) → IsProperValue R c → CoreStep R c d → IsProperValue R d
 
 -- A core step on the core of a proper tag leads to a proper tag, and so does a step on its extensions, such as a core
 -- step on a source (RFC 5646, 4.5).
 pub record StepsKeepTagsProper (R : List EntryParts) : Type 0 where
-  pub core : (c d : CoreParts) (es : List ExtensionParts) (ps : List (List ℕ)) → CoreStep (values_of R) c d →
+  pub core : (c d : CoreParts) (es : List ExtensionParts) (ps : List (List ℕ)) → CoreStep R c d →
       IsProper R (LangTag c es ps) → IsProper R (LangTag d es ps)
   pub extensions : (c : CoreParts) (es fs : List ExtensionParts) (ps : List (List ℕ)) → ExtensionsStep R es fs →
       IsProper R (LangTag c es ps) → IsProper R (LangTag c fs ps)

@@ -11,8 +11,6 @@ pub mod Laws
 pub mod ChainEnds
 pub mod CoreSettling
 pub mod VariantLanguages
-pub mod VariantPairs
-pub mod CorePlaces
 pub mod ExtensionSettling
 pub mod ExtensionsSettling
 pub mod Applying

@@ -6,8 +6,6 @@ use Rattle.lt_registry.specs.declared.entries.Kind.{Kind}
 use Rattle.lt_rewrite.specs.CoreSteps.{chase}
 use Rattle.lt_rewrite.specs.Conditions.{next_value}
 use Rattle.lt_rewrite.specs.ChainEnds.{following}
-use Rattle.lt_rewrite.specs.VariantPairs.{AreVariantPairs}
-use Rattle.lt_rewrite.specs.declared.language_bits.LanguageBits.{LanguageBits}
 
 -- t is n values on from s, or more; where the chain ends sooner, t is its end
 abbrev pub IsOnward : (List ℕ → Option (List ℕ)) → ℕ → List ℕ → List ℕ → Type 0
@@ -36,10 +34,7 @@ pub record LeadOn (R : List EntryParts) (n : ℕ) (places : List ℕ) : Type 0 w
 -- what is kept of a table beside its records
 pub record ShortcutParts : Type 0 where
   pub places : List ℕ
-  pub pairs : List ℕ
-  pub languages : List LanguageBits
 
--- places as many values on as there are records: at the end of each chain that has one; and the variants by their Prefixes
+-- places as many values on as there are records: at the end of each chain that has one
 pub record AreShortcuts (R : List EntryParts) (s : ShortcutParts) : Type 0 where
   pub chains : LeadOn R (length R) s.places
-  pub variants : AreVariantPairs R s.pairs s.languages

@@ -5,7 +5,7 @@ use Rattle.lt_registry.specs.Parts.{EntryParts}
 use Rattle.lt_registry.specs.Entries.{whole_value}
 use Rattle.lt_registry.specs.Validity.{IsProper, IsValid, RepeatsNoVariant}
 use Rattle.lt_rewrite.specs.Rewriting.{Star, Rests, Equivalent}
-use Rattle.lt_rewrite.specs.CoreSteps.{values_of, CoreStep}
+use Rattle.lt_rewrite.specs.CoreSteps.{CoreStep}
 use Rattle.lt_rewrite.specs.Extensions.{ExtensionsStep}
 
 -- a tag that is grandfathered, or a langtag and a core alone (RFC 5646, 4.5, rule 2; that no other is replaced is
@@ -18,7 +18,7 @@ CanBeReplacedWhole (PrivateUse ps) = ⊥
 -- a step on the core, on the extensions, or of the whole tag to the value of its record (RFC 5646, 4.5, rules 3, 1, 2)
 pub data TagChange (R : List EntryParts) (t u : TagForm) : Type 0 where
   on_core : (c d : CoreParts) (es : List ExtensionParts) (ps : List (List ℕ)) → t ≡ LangTag c es ps →
-      u ≡ LangTag d es ps → CoreStep (values_of R) c d → TagChange R t u
+      u ≡ LangTag d es ps → CoreStep R c d → TagChange R t u
   on_extensions : (c : CoreParts) (es fs : List ExtensionParts) (ps : List (List ℕ)) → t ≡ LangTag c es ps →
       u ≡ LangTag c fs ps → ExtensionsStep R es fs → TagChange R t u
   on_whole : CanBeReplacedWhole t → whole_value R t ≡ Some u → TagChange R t u

@@ -4,7 +4,7 @@ ghost use Rattle.std.specs.Option.{option_copied};
 ghost use Rattle.lt_subtag.specs.Shapes.{is_language};
 ghost use Rattle.lt_registry.specs.Entries.{has_form};
 ghost use Rattle.lt_rewrite.specs.Rewriting.{Star};
-ghost use Rattle.lt_rewrite.specs.CoreSteps.{values_of, CoreStep, IsCoreNormalForm, EndsIn};
+ghost use Rattle.lt_rewrite.specs.CoreSteps.{language_beside, CoreStep, IsCoreNormalForm, EndsIn};
 ghost use Rattle.lt_rewrite.specs.Conditions as conditions;
 ghost use Rattle.lt_rewrite.specs.Conditions.{HasEndingChain};
 ghost use Rattle.lt_rewrite.specs.Shortcuts.{AreShortcuts};
@@ -12,7 +12,6 @@ ghost use Rattle.lt_rewrite.specs.VariantLanguages.{ArePlaces};
 ghost use Rattle.lt_rewrite.specs.CoreSettling.{IsFirstVariantLanguage, HasNoVariantLanguage, HasFinalLanguage, HasFinalScript, HasFinalRegion, HasFinalVariants};
 
 use crate::chain_ends::{end_of_chain, replacement};
-use crate::core_places::{lower_to, take_out};
 use crate::shortcuts::Shortcuts;
 use crate::values::{is_short, one_value};
 use crate::variant_languages::{first_variant_language_at, settled_variant};
@@ -48,8 +47,8 @@ fn certain_end<L: Lookup>(
 fn settle_script<L: Lookup>(table: &L, shortcuts: Option<&Shortcuts>, core: &mut Core)
     requires chains { All (HasEndingChain (L.listed table.now)) (L.listed table.now) }
     requires shortcuts { IfSome shortcuts (λ s. AreShortcuts (L.listed table.now) s.now) }
-    ensures reached { Star (CoreStep (values_of (L.listed table.now))) core.old core.new }
-    ensures at_rest { HasFinalScript (values_of (L.listed table.now)) core.new }
+    ensures reached { Star (CoreStep (L.listed table.now)) core.old core.new }
+    ensures at_rest { HasFinalScript (L.listed table.now) core.new }
     ensures others { core.new ≡ record core.old { script = core.new.script } }
 {
     if let Some(script) = core.script() {
@@ -63,8 +62,8 @@ fn settle_script<L: Lookup>(table: &L, shortcuts: Option<&Shortcuts>, core: &mut
 fn settle_region<L: Lookup>(table: &L, shortcuts: Option<&Shortcuts>, core: &mut Core)
     requires chains { All (HasEndingChain (L.listed table.now)) (L.listed table.now) }
     requires shortcuts { IfSome shortcuts (λ s. AreShortcuts (L.listed table.now) s.now) }
-    ensures reached { Star (CoreStep (values_of (L.listed table.now))) core.old core.new }
-    ensures at_rest { HasFinalRegion (values_of (L.listed table.now)) core.new }
+    ensures reached { Star (CoreStep (L.listed table.now)) core.old core.new }
+    ensures at_rest { HasFinalRegion (L.listed table.now) core.new }
     ensures others { core.new ≡ record core.old { region = core.new.region } }
 {
     if let Some(region) = core.region() {
@@ -78,8 +77,8 @@ fn settle_region<L: Lookup>(table: &L, shortcuts: Option<&Shortcuts>, core: &mut
 fn settle_variants<L: Lookup>(table: &L, shortcuts: Option<&Shortcuts>, core: &mut Core)
     requires chains { All (HasEndingChain (L.listed table.now)) (L.listed table.now) }
     requires shortcuts { IfSome shortcuts (λ s. AreShortcuts (L.listed table.now) s.now) }
-    ensures reached { Star (CoreStep (values_of (L.listed table.now))) core.old core.new }
-    ensures at_rest { HasFinalVariants (values_of (L.listed table.now)) core.new }
+    ensures reached { Star (CoreStep (L.listed table.now)) core.old core.new }
+    ensures at_rest { HasFinalVariants (L.listed table.now) core.new }
     ensures others { core.new ≡ record core.old { variants = core.new.variants } }
 {
     for index in 0..core.variants().len() {
@@ -91,7 +90,7 @@ fn settle_variants<L: Lookup>(table: &L, shortcuts: Option<&Shortcuts>, core: &m
 /// Replaces the language and a sole extlang by the extlang's replacement.
 #[tactic(auto, using(crate::specs::Rewriting::done))]
 fn settle_extlang<L: Lookup>(table: &L, core: &mut Core)
-    ensures reached { Star (CoreStep (values_of (L.listed table.now))) core.old core.new }
+    ensures reached { Star (CoreStep (L.listed table.now)) core.old core.new }
     ensures at_rest { (x : List ℕ) → core.new.extlangs ≡ x ∷ [] → ⊥ }
     ensures others { core.new ≡ record core.old { language = core.new.language; extlangs = core.new.extlangs } }
 {
@@ -107,8 +106,8 @@ fn settle_language<L: Lookup>(table: &L, shortcuts: Option<&Shortcuts>, core: &m
     requires chains { All (HasEndingChain (L.listed table.now)) (L.listed table.now) }
     requires shortcuts { IfSome shortcuts (λ s. AreShortcuts (L.listed table.now) s.now) }
     requires alone { core.old.extlangs ≡ [] }
-    ensures reached { Star (CoreStep (values_of (L.listed table.now))) core.old core.new }
-    ensures at_rest { HasFinalLanguage (values_of (L.listed table.now)) core.new }
+    ensures reached { Star (CoreStep (L.listed table.now)) core.old core.new }
+    ensures at_rest { HasFinalLanguage (L.listed table.now) core.new }
     ensures others { core.new ≡ record core.old { language = core.new.language } }
 {
     let end = certain_end(table, shortcuts, Kind::Language, core.language());
@@ -122,7 +121,7 @@ fn variant_language<'a, L: Lookup>(
     language: &Subtag,
     variant: &Subtag,
 ) -> Option<&'a Subtag>
-    ensures value { option_copied result ≡ (values_of (L.listed table.now)).variant_language language.now variant.now }
+    ensures value { option_copied result ≡ language_beside (L.listed table.now) language.now variant.now }
     ensures form { IfSome result (λ value. is_language value.now ≡ true) }
 {
     match table.entry(Kind::Variant, variant) {
@@ -138,8 +137,8 @@ fn variant_language<'a, L: Lookup>(
 /// leads.
 pub(crate) fn first_variant_language<L: Lookup>(table: &L, core: &Core) -> Option<(usize, Subtag)>
     ensures variant_language { MatchOption result
-        (HasNoVariantLanguage (values_of (L.listed table.now)) core.now)
-        (λ first. IsFirstVariantLanguage (values_of (L.listed table.now)) core.now first.0 first.1) }
+        (HasNoVariantLanguage (L.listed table.now) core.now)
+        (λ first. IsFirstVariantLanguage (L.listed table.now) core.now first.0 first.1) }
     ensures form { IfSome result (λ first. is_language first.1 ≡ true) }
 {
     for (index, variant) in core.variants().iter().enumerate() {
@@ -156,11 +155,11 @@ fn settle_variant_languages<L: Lookup>(table: &L, shortcuts: Option<&Shortcuts>,
     requires chains { All (HasEndingChain (L.listed table.now)) (L.listed table.now) }
     requires shortcuts { IfSome shortcuts (λ s. AreShortcuts (L.listed table.now) s.now) }
     requires alone { core.old.extlangs ≡ [] }
-    requires variants { HasFinalVariants (values_of (L.listed table.now)) core.old }
-    ensures reached { Star (CoreStep (values_of (L.listed table.now))) core.old core.new }
-    ensures language { HasFinalLanguage (values_of (L.listed table.now)) core.new }
-    ensures variant_languages { HasNoVariantLanguage (values_of (L.listed table.now)) core.new }
-    ensures variants { HasFinalVariants (values_of (L.listed table.now)) core.new }
+    requires variants { HasFinalVariants (L.listed table.now) core.old }
+    ensures reached { Star (CoreStep (L.listed table.now)) core.old core.new }
+    ensures language { HasFinalLanguage (L.listed table.now) core.new }
+    ensures variant_languages { HasNoVariantLanguage (L.listed table.now) core.new }
+    ensures variants { HasFinalVariants (L.listed table.now) core.new }
     ensures others { core.new ≡ record core.old { language = core.new.language; variants = core.new.variants } }
 {
     settle_language(table, shortcuts, core);
@@ -182,8 +181,8 @@ fn settle_few_variants<L: Lookup>(
     requires chains { All (HasEndingChain (L.listed table.now)) (L.listed table.now) }
     requires shortcuts { AreShortcuts (L.listed table.now) shortcuts.now }
     requires few { length core.old.variants ≤ 256 }
-    ensures reached { Star (CoreStep (values_of (L.listed table.now))) core.old core.new }
-    ensures at_rest { HasFinalVariants (values_of (L.listed table.now)) core.new }
+    ensures reached { Star (CoreStep (L.listed table.now)) core.old core.new }
+    ensures at_rest { HasFinalVariants (L.listed table.now) core.new }
     ensures places { ArePlaces (L.listed table.now) core.new.variants result.items }
     ensures others { core.new ≡ record core.old { variants = core.new.variants } }
 {
@@ -196,28 +195,22 @@ fn settle_few_variants<L: Lookup>(
     places
 }
 
-/// Replaces the language and at most 256 variants so, by shortcuts: each variant is looked up once, and which of them
-/// have a step beside a language is told by the shortcuts.
+/// Replaces the language and at most 256 variants so, by shortcuts: each variant is looked up once.
 fn settle_few_variant_languages<L: Lookup>(table: &L, shortcuts: &Shortcuts, core: &mut Core)
     requires chains { All (HasEndingChain (L.listed table.now)) (L.listed table.now) }
     requires shortcuts { AreShortcuts (L.listed table.now) shortcuts.now }
     requires alone { core.old.extlangs ≡ [] }
     requires few { length core.old.variants ≤ 256 }
-    ensures reached { Star (CoreStep (values_of (L.listed table.now))) core.old core.new }
-    ensures language { HasFinalLanguage (values_of (L.listed table.now)) core.new }
-    ensures variant_languages { HasNoVariantLanguage (values_of (L.listed table.now)) core.new }
-    ensures variants { HasFinalVariants (values_of (L.listed table.now)) core.new }
+    ensures reached { Star (CoreStep (L.listed table.now)) core.old core.new }
+    ensures language { HasFinalLanguage (L.listed table.now) core.new }
+    ensures variant_languages { HasNoVariantLanguage (L.listed table.now) core.new }
+    ensures variants { HasFinalVariants (L.listed table.now) core.new }
     ensures others { core.new ≡ record core.old { language = core.new.language; variants = core.new.variants } }
 {
     let mut places = settle_few_variants(table, shortcuts, core);
     settle_language(table, Some(shortcuts), core);
-    let mut indices = [255; 131072];
-    lower_to(&mut indices, &places);
-    while let Some((index, language)) = first_variant_language_at(
-        table, shortcuts, &indices, &places, core,
-    ) {
+    while let Some((index, language)) = first_variant_language_at(table, &places, core) {
         core.remove_variant(index);
-        take_out(&mut indices, &places, index);
         places.remove(index);
         core.set_language(language);
         settle_language(table, Some(shortcuts), core);
@@ -235,10 +228,10 @@ fn settle_all_variant_languages<L: Lookup>(
     requires chains { All (HasEndingChain (L.listed table.now)) (L.listed table.now) }
     requires shortcuts { IfSome shortcuts (λ s. AreShortcuts (L.listed table.now) s.now) }
     requires alone { core.old.extlangs ≡ [] }
-    ensures reached { Star (CoreStep (values_of (L.listed table.now))) core.old core.new }
-    ensures language { HasFinalLanguage (values_of (L.listed table.now)) core.new }
-    ensures variant_languages { HasNoVariantLanguage (values_of (L.listed table.now)) core.new }
-    ensures variants { HasFinalVariants (values_of (L.listed table.now)) core.new }
+    ensures reached { Star (CoreStep (L.listed table.now)) core.old core.new }
+    ensures language { HasFinalLanguage (L.listed table.now) core.new }
+    ensures variant_languages { HasNoVariantLanguage (L.listed table.now) core.new }
+    ensures variants { HasFinalVariants (L.listed table.now) core.new }
     ensures others { core.new ≡ record core.old { language = core.new.language; variants = core.new.variants } }
 {
     let count = core.variants().len();
@@ -257,7 +250,7 @@ fn settle_all_variant_languages<L: Lookup>(
 pub(crate) fn settle_along<L: Lookup>(table: &L, shortcuts: Option<&Shortcuts>, core: &mut Core)
     requires chains { All (HasEndingChain (L.listed table.now)) (L.listed table.now) }
     requires shortcuts { IfSome shortcuts (λ s. AreShortcuts (L.listed table.now) s.now) }
-    ensures { IsCoreNormalForm (values_of (L.listed table.now)) core.old core.new }
+    ensures { IsCoreNormalForm (L.listed table.now) core.old core.new }
 {
     settle_script(table, shortcuts, core);
     settle_region(table, shortcuts, core);
@@ -279,7 +272,7 @@ pub(crate) fn settle_along<L: Lookup>(table: &L, shortcuts: Option<&Shortcuts>, 
 /// have, to find the VariantLanguage steps; [`Shortcuts::settle_core`] takes one search for each language.
 pub fn settle_core<L: Lookup>(table: &L, core: &mut Core)
     requires { All (HasEndingChain (L.listed table.now)) (L.listed table.now) }
-    ensures { IsCoreNormalForm (values_of (L.listed table.now)) core.old core.new }
+    ensures { IsCoreNormalForm (L.listed table.now) core.old core.new }
 {
     settle_along(table, None, core);
 }

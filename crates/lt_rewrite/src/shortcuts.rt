@@ -9,21 +9,16 @@ ghost use Rattle.lt_rewrite.specs.Rewriting.{IsNormalForm};
 ghost use Rattle.lt_rewrite.specs.Extensions.{ExtensionsStep};
 ghost use Rattle.lt_registry.specs.Parts.{EntryParts};
 ghost use Rattle.lt_registry.specs.Entries.{NumbersRise, has_form};
-ghost use Rattle.lt_rewrite.specs.CoreSteps.{values_of, Ends, EndsIn, IsCoreNormalForm};
+ghost use Rattle.lt_rewrite.specs.CoreSteps.{Ends, EndsIn, IsCoreNormalForm};
 ghost use Rattle.lt_rewrite.specs.Conditions as conditions;
 ghost use Rattle.lt_rewrite.specs.Conditions.{HasEndingChain};
 ghost use Rattle.lt_rewrite.specs.ChainEnds.{ChainEnds, ChainEndsIn};
-ghost use Rattle.lt_rewrite.specs.CorePlaces.{AreBounds};
-ghost use Rattle.lt_rewrite.specs.VariantPairs.{pair, has_pair, number_in, AreBitsOf};
 ghost use Rattle.lt_rewrite.specs.Shortcuts.{IsOnward, IsShortcut, LeadOn, AreShortcuts};
 
 use crate::chain_ends::{Cycle, following, next_value, replacement};
-use crate::core_places::{Indices, first_in_pairs};
 use crate::core_settling::settle_along;
 use crate::extensions_settling::settle_all;
-use crate::language_bits::{LanguageBits, bits_beside, first_in_bits, language_bits};
 use crate::values::one_value;
-use crate::variant_pairs::{pairs_beside, variant_pairs};
 use lt_registry::{Entry, Kind, Lookup};
 use lt_subtag::Subtag;
 use lt_tag::{Core, Extension, OutOfMemory};
@@ -31,16 +26,11 @@ use std::alloc::{AllocError, Global};
 use std::marker::Model;
 
 /// Shortcuts along the chains of values of a table's records, by which the end of a chain is found in
-/// a few look-ups, however long it is; and the variants with a language as their value by the languages
-/// that are their Prefixes, so that a VariantLanguage step is found without asking each variant.
+/// a few look-ups, however long it is.
 #[derive(Debug, Drop)]
 pub struct Shortcuts {
     /// For each record the place of a record on its chain.
     places: Vec<usize>,
-    /// Such variants, in the order of those languages.
-    pairs: Vec<u64>,
-    /// The bits of the languages that are Prefixes of many.
-    languages: Vec<LanguageBits>,
 }
 
 impl Model for Shortcuts {
@@ -48,38 +38,19 @@ impl Model for Shortcuts {
 
     ghost Value = { ShortcutParts };
 
-    ghost view = { λ s. record { places = s.places.items; pairs = s.pairs.items; languages = s.languages.items } };
+    ghost view = { λ s. record { places = s.places.items } };
 }
 
 impl Shortcuts {
     /// The shortcuts of a table: for each record a place as many values on as there are records, so
-    /// at the end of each chain that has one. They take a place for each record, and another for each
-    /// Prefix of a variant with a language as its value, and look up each value once. Refused only
-    /// where memory runs out.
+    /// at the end of each chain that has one. They take a place for each record, and look up each value
+    /// once. Refused only where memory runs out.
     pub fn of_table<L: Lookup>(alloc: Global, table: &L) -> Result<Shortcuts, AllocError>
         ensures { IfOk result (AreShortcuts (L.listed table.now)) }
     {
-        let places = last_places(alloc, table)?;
-        let pairs = variant_pairs(alloc, table)?;
-        let languages = language_bits(alloc, table.entries().len() / 64 + 1, &pairs)?;
         Ok(Shortcuts {
-            places,
-            pairs,
-            languages,
+            places: last_places(alloc, table)?,
         })
-    }
-
-    /// An index before which no place is in a pair of a language's number.
-    pub(crate) fn first_beside(&self, number: u64, indices: &Indices, places: &[usize]) -> usize
-        requires rising { IsNonDecreasingBy number_in self.now.pairs }
-        requires bits { All (AreBitsOf self.now.pairs) self.now.languages }
-        requires bounds { AreBounds places.now indices.now }
-        ensures { AllWithin (λ place. has_pair (pair number place) self.now.pairs ≡ false) places.now 0 result }
-    {
-        match bits_beside(&self.languages, number) {
-            Some(bits) => first_in_bits(bits, places),
-            None => first_in_pairs(indices, pairs_beside(&self.pairs, number), places),
-        }
     }
 
     /// The subtag as many values on from a subtag as there are records: the end of its chain, if it
@@ -167,7 +138,7 @@ impl Shortcuts {
     pub fn settle_core<L: Lookup>(&self, table: &L, core: &mut Core)
         requires chains { All (HasEndingChain (L.listed table.now)) (L.listed table.now) }
         requires shortcuts { AreShortcuts (L.listed table.now) self.now }
-        ensures { IsCoreNormalForm (values_of (L.listed table.now)) core.old core.new }
+        ensures { IsCoreNormalForm (L.listed table.now) core.old core.new }
     {
         settle_along(table, Some(self), core);
     }

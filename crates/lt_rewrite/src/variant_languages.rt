@@ -5,19 +5,16 @@ ghost use Rattle.std.specs.Option.{option_copied};
 ghost use Rattle.lt_subtag.specs.Shapes.{is_language};
 ghost use Rattle.lt_registry.specs.Entries.{entry, has_form};
 ghost use Rattle.lt_registry.specs.declared.entries.Kind.TheVariants as kinds;
-ghost use Rattle.lt_rewrite.specs.CoreSteps.{values_of, EndsIn};
+ghost use Rattle.lt_rewrite.specs.CoreSteps.{language_beside, EndsIn};
 ghost use Rattle.lt_rewrite.specs.Conditions as conditions;
 ghost use Rattle.lt_rewrite.specs.Conditions.{HasEndingChain};
 ghost use Rattle.lt_rewrite.specs.Shortcuts.{AreShortcuts};
 ghost use Rattle.lt_rewrite.specs.CoreSettling.{IsFirstVariantLanguage, HasNoVariantLanguage};
 ghost use Rattle.lt_rewrite.specs.VariantLanguages.{ArePlaces};
-ghost use Rattle.lt_rewrite.specs.CorePlaces.{AreBounds};
 
 use crate::chain_ends::following;
-use crate::core_places::Indices;
 use crate::shortcuts::{Shortcuts, place_of};
 use crate::values::{is_short, one_value};
-use crate::variant_pairs::number_of;
 use lt_registry::{Entry, Kind, Lookup};
 use lt_subtag::Subtag;
 use lt_tag::Core;
@@ -77,7 +74,7 @@ fn variant_language_at<'a, L: Lookup>(
     _variant: &Subtag,
 ) -> Option<&'a Subtag>
     requires { slice_get (L.listed table.now) place ≡ entry (L.listed table.now) kinds.Variant _variant.now }
-    ensures value { option_copied result ≡ (values_of (L.listed table.now)).variant_language language.now _variant.now }
+    ensures value { option_copied result ≡ language_beside (L.listed table.now) language.now _variant.now }
     ensures form { IfSome result (λ value. is_language value.now ≡ true) }
 {
     match entry_at(table, place) {
@@ -89,28 +86,21 @@ fn variant_language_at<'a, L: Lookup>(
     }
 }
 
-/// The leftmost variant with a VariantLanguage step, by shortcuts and the places of the core's variants: its index,
-/// counted from 0, and the language to which it leads. Variants before the first that may have the language as a
-/// Prefix are not looked at.
+/// The leftmost variant with a VariantLanguage step, by the places of the core's variants: its index, counted from 0,
+/// and the language to which it leads.
 pub(crate) fn first_variant_language_at<L: Lookup>(
     table: &L,
-    shortcuts: &Shortcuts,
-    indices: &Indices,
     places: &[usize],
     core: &Core,
 ) -> Option<(usize, Subtag)>
-    requires shortcuts { AreShortcuts (L.listed table.now) shortcuts.now }
     requires places { ArePlaces (L.listed table.now) core.now.variants places.now }
-    requires bounds { AreBounds places.now indices.now }
     ensures variant_language { MatchOption result
-        (HasNoVariantLanguage (values_of (L.listed table.now)) core.now)
-        (λ first. IsFirstVariantLanguage (values_of (L.listed table.now)) core.now first.0 first.1) }
+        (HasNoVariantLanguage (L.listed table.now) core.now)
+        (λ first. IsFirstVariantLanguage (L.listed table.now) core.now first.0 first.1) }
     ensures form { IfSome result (λ first. is_language first.1 ≡ true) }
 {
-    let number = number_of(core.language());
-    let first = shortcuts.first_beside(number, indices, places);
     let variants = core.variants();
-    for index in first..variants.len() {
+    for index in 0..variants.len() {
         if let Some(language) = variant_language_at(
             table,
             places[index],

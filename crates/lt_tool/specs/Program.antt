@@ -1,12 +1,12 @@
 -- A run of the program, from its words to its exit status.
-use Rattle.std.specs.Prelude.{◌≡◌, ◌≢◌, ◌⊎◌, ℕ, Bool, true, false, List, [], ◌∷◌, ◌++◌, Option, Some, None, String, Vec, Result, Ok, Err, length, map, codes, string_bytes}
+use Rattle.std.specs.Prelude.{◌≡◌, ◌≢◌, ◌⊎◌, ℕ, Bool, true, false, List, [], ◌∷◌, ◌++◌, Option, Some, None, String, Vec, Result, Ok, Err, IfErr, IfOk, length, map, codes, string_bytes}
 use Rattle.std.specs.IoError.{error_kind}
 use Rattle.std.specs.Io.KnownBytes.{ReadConsumes}
 use Rattle.std.specs.declared.alloc.Global.{Global}
 use Rattle.std.specs.declared.io.Error.{Error}
 use Rattle.std.specs.declared.io.ErrorKind.{ErrorKind}
 use Rattle.std.specs.declared.io.ErrorKind.TheVariants as kinds
-use Rattle.lt_jar.specs.Devices.{failures_of, inner_of, reads_of}
+use Rattle.lt_jar.specs.Devices.{HasFailed, failures_of, inner_of, one_more, reads_of}
 use Rattle.lt_jar.specs.declared.devices.Device.{Device}
 use Rattle.lt_words.specs.Reading.{IsRefused, Reads, first_file_of, reads_input_of, second_file_of}
 use Rattle.lt_words.specs.declared.commands.Command.{Command}
@@ -138,11 +138,14 @@ RunsOnFiles command opener of_none input output errors result (Some name) =
     first (second_file_of command))
     (λ between error. EndsAt between opener.after input output errors result error)
 
--- the input was read into a buffer of no bytes, and answered this
+-- the input was read once, into a buffer of no bytes, and answered this; it failed where that is an error
 pub record Asks {I : Type 0} (input : Stream I) (answer : Result ℕ Error) : Type 0 where
   pub buffer : List ℕ
   pub empty : length buffer ≡ 0
   pub consumes : ReadConsumes (input.bytes (inner_of input.before)) (input.bytes (inner_of input.after)) answer buffer
+  pub called : reads_of input.after ≡ one_more (reads_of input.before)
+  pub failed : IfErr answer (λ _. HasFailed input.before input.after)
+  pub worked : IfOk answer (λ _. failures_of input.after ≡ failures_of input.before)
 
 -- the line for an input that can't be read
 abbrev pub input_line : List ℕ

@@ -13,7 +13,7 @@ use Rattle.lt_registry.specs.Entries.{preferred_value, one_of, entry, is_short, 
 use Rattle.lt_registry.specs.Same.{same_kind, same_list}
 use Rattle.lt_registry.specs.declared.entries.Kind.{Kind}
 use Rattle.lt_registry.specs.declared.entries.EntryName.{EntryName}
-use Rattle.lt_rewrite.specs.CoreSteps.{EndsIn, values_of, CoreStep, IsCoreNormalForm}
+use Rattle.lt_rewrite.specs.CoreSteps.{language_beside, EndsIn, CoreStep, IsCoreNormalForm}
 use Rattle.lt_rewrite.specs.Conditions.{next_value, HasFittingGrandfathered, HasNoRangeValue}
 use Rattle.lt_rewrite.specs.ChainEnds.{ChainEnds, ChainEndsIn}
 use Rattle.lt_upgrade.specs.Upgrade.{SameEnd, IsCovered, StaysRegistered, KeepsKind, KeepsEnds, IsSameExtlang, IsSameVariantLanguage, HadVariantLanguage, MeetInCanonical, MeetsUpgrade, records_of, upgrade_rank_of, KeepsExtlang, Upgrades, KeepsVariantLanguage, KeepsWhole}
@@ -536,17 +536,17 @@ module _ (A B : List EntryParts) (CA : IsChecked A) (CB : IsChecked B) (U : Upgr
       (entry_of R k s n.at n.found).names
 
   -- cores that differ in a subtag, of which the chains have one end
-  one_form : (f : List ℕ → Option (List ℕ)) (at : List ℕ → CoreParts) → ((s t : List ℕ) → f s ≡ Some t → CoreStep (values_of B) (at s) (at t)) → (s t : List ℕ) → SameEnd f s t → core_end B CB (at s) ≡ core_end B CB (at t)
+  one_form : (f : List ℕ → Option (List ℕ)) (at : List ℕ → CoreParts) → ((s t : List ℕ) → f s ≡ Some t → CoreStep B (at s) (at t)) → (s t : List ℕ) → SameEnd f s t → core_end B CB (at s) ≡ core_end B CB (at t)
   one_form f at step s t h = one_end_one_form B (core_conditions B CB.passes) f at step s t h.end h.left h.right
 
   language_same : (c : CoreParts) (a b : List ℕ) → SameEnd (preferred_value B kinds.Language) a b → c.extlangs ≡ [] → core_end B CB (record c { language = a }) ≡ core_end B CB (record c { language = b })
-  language_same c a b h alone = one_form (preferred_value B kinds.Language) (λ u. record c { language = u }) (λ s t e. by_language (values_of B) (record c { language = s }) t alone e) a b h
+  language_same c a b h alone = one_form (preferred_value B kinds.Language) (λ u. record c { language = u }) (λ s t e. by_language B (record c { language = s }) t alone e) a b h
 
   same_variant_language : (v m : List ℕ) → language_value A v ≡ Some m → (n : ValuedEntry A kinds.Variant v m) → IsSameVariantLanguage B n.at v m
   same_variant_language v m h n =
       valued_has A kinds.Variant v m (KeepsVariantLanguage B) (U upgrades.SameVariantLanguage) n v m n.of_kind (valued_single A CA kinds.Variant v m n) n.gives (language_value_is A v m h).1
 
-  variant_language_both : (l v m : List ℕ) → (values_of A).variant_language l v ≡ Some m → (w : List ℕ) × ((values_of B).variant_language l v ≡ Some w) × SameEnd (preferred_value B kinds.Language) m w
+  variant_language_both : (l v m : List ℕ) → language_beside A l v ≡ Some m → (w : List ℕ) × (language_beside B l v ≡ Some w) × SameEnd (preferred_value B kinds.Language) m w
   variant_language_both l v m h =
       let t = variant_language_is A l v m h in
       let n : ValuedEntry A kinds.Variant v m = valued A kinds.Variant v m (language_value_is A v m t.1).0 in
@@ -555,8 +555,8 @@ module _ (A B : List EntryParts) (CA : IsChecked A) (CB : IsChecked B) (U : Upgr
       (k.newer, ap (λ b. cond b (language_value B v) None) listed ∙ k.has, k.ends)
 
   -- what has a VariantLanguage step by the new registry has one by the old
-  variant_language_back : (l u : List ℕ) → is_registered A kinds.Variant u ≡ true → (values_of A).variant_language l u ≡ None → (values_of B).variant_language l u ≡ None
-  variant_language_back l u r h = (elim ((values_of B).variant_language l u) as (λ o. (values_of B).variant_language l u ≡ o → o ≡ None) [
+  variant_language_back : (l u : List ℕ) → is_registered A kinds.Variant u ≡ true → language_beside A l u ≡ None → language_beside B l u ≡ None
+  variant_language_back l u r h = (elim (language_beside B l u) as (λ o. language_beside B l u ≡ o → o ≡ None) [
     | None ↦ λ found. refl
     | Some w ↦ λ found.
         let t = variant_language_is B l u w found in
@@ -565,11 +565,11 @@ module _ (A B : List EntryParts) (CA : IsChecked A) (CB : IsChecked B) (U : Upgr
         let x = valued_has B kinds.Variant u w (HadVariantLanguage A) (U upgrades.NoNewVariantLanguage) m u w m.of_kind (valued_single B CB kinds.Variant u w m) m.gives p.1 r in
         let n : ValuedEntry A kinds.Variant u x.0 = valued A kinds.Variant u x.0 (language_value_is A u x.0 x.1).0 in
         let listed : has_prefix (prefixes A kinds.Variant u) l ≡ true = ap (λ ps. has_prefix ps l) (prefixes_at A kinds.Variant u n.at n.found) ∙ sym ((same_variant_language u x.0 x.1 n).prefixes l) ∙ t.0 in
-        let some : (values_of A).variant_language l u ≡ Some x.0 = ap (λ b. cond b (language_value A u) None) listed ∙ x.1 in
+        let some : language_beside A l u ≡ Some x.0 = ap (λ b. cond b (language_value A u) None) listed ∙ x.1 in
         cc
   ]) refl
 
-  variant_languages_back : (l : List ℕ) (before after : List (List ℕ)) → AllByRecursion (λ v. is_registered A kinds.Variant v ≡ true) (before ++ after) → AllByRecursion (λ u. (values_of A).variant_language l u ≡ None) before → AllByRecursion (λ u. (values_of B).variant_language l u ≡ None) before
+  variant_languages_back : (l : List ℕ) (before after : List (List ℕ)) → AllByRecursion (λ v. is_registered A kinds.Variant v ≡ true) (before ++ after) → AllByRecursion (λ u. language_beside A l u ≡ None) before → AllByRecursion (λ u. language_beside B l u ≡ None) before
   variant_languages_back l [] after r h = tt
   variant_languages_back l (u ∷ us) after r h = (variant_language_back l u r.0 h.0, variant_languages_back l us after r.1 h.1)
 
@@ -580,31 +580,31 @@ module _ (A B : List EntryParts) (CA : IsChecked A) (CB : IsChecked B) (U : Upgr
       (valued_has A k s v (KeepsEnds B) (U upgrades.SameEnds) n s v (valued_single A CA k s v n) n.gives (subst (λ k. KeepsKind k v) (sym n.of_kind) keeps))
 
   -- an old core step keeps the new core normal form
-  old_core_step : (c d : CoreParts) → IsProperCore A c → CoreStep (values_of A) c d → core_end B CB c ≡ core_end B CB d
-  old_core_step c d P = each_step (values_of A) c (λ d. core_end B CB c ≡ core_end B CB d) (record {
+  old_core_step : (c d : CoreParts) → IsProperCore A c → CoreStep A c d → core_end B CB c ≡ core_end B CB d
+  old_core_step c d P = each_step A c (λ d. core_end B CB c ≡ core_end B CB d) (record {
     extlang = λ x one.
         let en : ExtlangEntry A x = extlang_entry A (core_conditions A CA.passes) x (subst (ExtlangsFit A c.language) one P.extlangs).0 in
         let k : IsSameExtlang B en.at x = same_extlang x en in
-        (cores_formed B CB).kept c (record c { language = replacement B x; extlangs = [] }) (by_extlang (values_of B) c x one)
+        (cores_formed B CB).kept c (record c { language = replacement B x; extlangs = [] }) (by_extlang B c x one)
         ∙ ap (λ u. core_end B CB (record c { language = u; extlangs = [] })) (replacement_at B x k.newer k.there)
         ∙ sym (language_same (record c { extlangs = [] }) (unwrap_or (one_of en.at.value) x) (unwrap_or (one_of k.newer.value) x) k.ends refl)
         ∙ ap (λ u. core_end B CB (record c { language = u; extlangs = [] })) (sym (replacement_at A x en.at en.found));
     language = λ v none has. language_same c c.language v (value_same kinds.Language c.language v tt has) none;
     script = λ a v there has.
         ap (λ o. core_end B CB (record c { script = o })) there
-        ∙ one_form (preferred_value B kinds.Script) (λ u. record c { script = Some u }) (λ s t e. by_script (values_of B) (record c { script = Some s }) s t refl e) a v (value_same kinds.Script a v tt has);
+        ∙ one_form (preferred_value B kinds.Script) (λ u. record c { script = Some u }) (λ s t e. by_script B (record c { script = Some s }) s t refl e) a v (value_same kinds.Script a v tt has);
     region = λ a v there has.
         ap (λ o. core_end B CB (record c { region = o })) there
-        ∙ one_form (preferred_value B kinds.Region) (λ u. record c { region = Some u }) (λ s t e. by_region (values_of B) (record c { region = Some s }) s t refl e) a v (value_same kinds.Region a v tt has);
+        ∙ one_form (preferred_value B kinds.Region) (λ u. record c { region = Some u }) (λ s t e. by_region B (record c { region = Some s }) s t refl e) a v (value_same kinds.Region a v tt has);
     variant = λ before v w after there has.
         let p = variant_value_is A v w has in
         ap (λ vs. core_end B CB (record c { variants = vs })) there
-        ∙ one_form (variant_value B) (λ u. record c { variants = before ++ u ∷ after }) (λ s t e. by_variant (values_of B) (record c { variants = before ++ s ∷ after }) before s t after refl e) v w (value_same kinds.Variant v w p.1 p.0);
+        ∙ one_form (variant_value B) (λ u. record c { variants = before ++ u ∷ after }) (λ s t e. by_variant B (record c { variants = before ++ s ∷ after }) before s t after refl e) v w (value_same kinds.Variant v w p.1 p.0);
     variant_language = λ before v m after none there has leftmost.
         let k = variant_language_both c.language v m has in
         let r : AllByRecursion (λ v. is_registered A kinds.Variant v ≡ true) (before ++ v ∷ after) = subst (AllByRecursion (λ v. is_registered A kinds.Variant v ≡ true)) there P.variants in
         let left : CoreParts = record c { variants = before ++ after } in
-        (cores_formed B CB).kept c (record left { language = k.0 }) (by_variant_language (values_of B) c before v k.0 after none there k.1 (variant_languages_back c.language before (v ∷ after) r leftmost))
+        (cores_formed B CB).kept c (record left { language = k.0 }) (by_variant_language B c before v k.0 after none there k.1 (variant_languages_back c.language before (v ∷ after) r leftmost))
         ∙ sym (language_same left m k.0 k.2 none);
   }) d
 
@@ -618,14 +618,14 @@ module _ (A B : List EntryParts) (CA : IsChecked A) (CB : IsChecked B) (U : Upgr
   old_extension_step e f P (in_transform p q is_t kept from to (on_fields a k)) = (extension_formed B CB.registry (core_conditions B CB.passes)).kept e f (in_transform p q is_t kept from to (on_fields a k))
 
   old_extensions_step : (es fs : List ExtensionParts) → AllByRecursion (IsProperExtension A) es → ExtensionsStep A es fs → extensions_end B CB es ≡ extensions_end B CB fs
-  old_extensions_step es fs P (inside before e f after w s) =
-      let one : extension_end B CB e ≡ extension_end B CB f = old_extension_step e f (all_middle (IsProperExtension A) before e after (subst (AllByRecursion (IsProperExtension A)) w.there P)) s in
-      ap (extensions_end B CB) w.there
+  old_extensions_step es fs P (inside before e f after there result s) =
+      let one : extension_end B CB e ≡ extension_end B CB f = old_extension_step e f (all_middle (IsProperExtension A) before e after (subst (AllByRecursion (IsProperExtension A)) there P)) s in
+      ap (extensions_end B CB) there
       ∙ one_by_one B CB.registry (core_conditions B CB.passes) (before ++ e ∷ after) (before ++ f ∷ after)
       (map-append (extension_end B CB) before (e ∷ after)
       ∙ ap (λ x. map (extension_end B CB) before ++ x ∷ map (extension_end B CB) after) one
       ∙ sym (map-append (extension_end B CB) before (f ∷ after)))
-      ∙ sym (ap (extensions_end B CB) w.result)
+      ∙ sym (ap (extensions_end B CB) result)
   old_extensions_step es fs P (among s) = (extensions_end_formed B CB).kept es fs (among s)
 
   -- an old step keeps the new end form
@@ -666,9 +666,9 @@ module _ (A B : List EntryParts) (CA : IsChecked A) (CB : IsChecked B) (U : Upgr
     has_source : HasSource e source
     repeat : IsRepeatOfCore B source v
 
-  normal_moves : (c d f : CoreParts) → core_end B CB c ≡ core_end B CB d → IsCoreNormalForm (values_of B) c f → IsCoreNormalForm (values_of B) d f
+  normal_moves : (c d f : CoreParts) → core_end B CB c ≡ core_end B CB d → IsCoreNormalForm B c f → IsCoreNormalForm B d f
   normal_moves c d f e n =
-      subst (λ x. IsCoreNormalForm (values_of B) d x) (sym e ∙ normal_is_form (cores_formed B CB) c f n) (form_is_normal (cores_formed B CB) d)
+      subst (λ x. IsCoreNormalForm B d x) (sym e ∙ normal_is_form (cores_formed B CB) c f n) (form_is_normal (cores_formed B CB) d)
 
   repeat_moves : (c d : CoreParts) (v : List ℕ) → core_end B CB c ≡ core_end B CB d → IsRepeatOfCore B c v → IsRepeatOfCore B d v
   repeat_moves c d v e r = record { form = r.form; normal = normal_moves c d r.form e r.normal; second = r.second }
@@ -700,8 +700,8 @@ module _ (A B : List EntryParts) (CA : IsChecked A) (CB : IsChecked B) (U : Upgr
 
       by : ExtensionsStep A es fs → Contains es r.extension → Carries v r.extension → IsRepeatOfSource B fs v
       by (among t) m c = at r.extension (All-contains (Contains fs) es r.extension (swap_keeps es fs t) m) c
-      by (inside before e f after w t) m c =
-          inner before e f after (all_middle (IsProperExtension A) before e after (subst (AllByRecursion (IsProperExtension A)) w.there P)) t w.result r.extension (Contains-append_cases before (e ∷ after) r.extension (rw w.there at m)) c
+      by (inside before e f after there result t) m c =
+          inner before e f after (all_middle (IsProperExtension A) before e after (subst (AllByRecursion (IsProperExtension A)) there P)) t result r.extension (Contains-append_cases before (e ∷ after) r.extension (rw there at m)) c
 
   -- a plain core whose end repeats no variant
   end_distinct : (d : CoreParts) → (o : Option TagForm) → whole_value B (core_alone d) ≡ o → RepeatsNoVariant (or_value (core_alone d) (value_end B CB) o) → Distinct d.variants

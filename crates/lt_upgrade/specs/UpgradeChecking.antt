@@ -7,6 +7,7 @@ use Rattle.lt_registry.specs.declared.entries.Kind.{Kind}
 use Rattle.lt_registry.specs.Entries.{letters_le, has_prefix}
 use Rattle.lt_registry.specs.declared.entries.EntryName.{EntryName}
 use Rattle.lt_registry.specs.declared.entries.EntryName.TheVariants as names
+use Rattle.lt_upgrade.specs.Codes.{upgrade_code_of}
 use Rattle.lt_upgrade.specs.Upgrade.{MeetsUpgrade, records_of, upgrade_rank_of, IsAtUpgradeFault, IsUpgradeFinding}
 use Rattle.lt_upgrade.specs.declared.conditions.UpgradeCondition.{UpgradeCondition}
 use Rattle.lt_upgrade.specs.declared.upgrades.UpgradeFault.{UpgradeFault}
@@ -36,9 +37,9 @@ IsUpgradeFault A B faults.OutOfMemory = Unit {0}
 abbrev pub no_upgrade_memory : UpgradeFault
 no_upgrade_memory = faults.OutOfMemory
 
--- the names of the faults
+-- the names of the faults, as they are printed
 abbrev pub upgrade_fault_name_of : UpgradeFault → List ℕ
-upgrade_fault_name_of (faults.Fails condition number) = codes "Fails"
+upgrade_fault_name_of (faults.Fails condition number) = upgrade_code_of condition
 upgrade_fault_name_of faults.OutOfMemory = codes "OutOfMemory"
 
 -- ---- what a look at one record tells

@@ -35,12 +35,12 @@ pub enum UpgradeFault {
 }
 
 impl UpgradeFault {
-    /// The fault's name, as it is written here: `Fails` or `OutOfMemory`.
+    /// The fault's name, as it is printed: the code of the condition, as `U2`, or `OutOfMemory`.
     pub fn name(self) -> &'static str
         ensures { result.now ≡ upgrade_fault_name_of self }
     {
         match self {
-            UpgradeFault::Fails { .. } => "Fails",
+            UpgradeFault::Fails { condition, .. } => condition.code(),
             UpgradeFault::OutOfMemory => "OutOfMemory",
         }
     }

@@ -1,4 +1,4 @@
--- The place of each subtag in a table of flags. No public contract cites this.
+-- The place of each subtag in a table of flags.
 use Rattle.std.specs.Prelude.{ℕ, ◌+◌, ◌-◌, ◌*◌, if◌then◌else◌, List, [], ◌∷◌, Option, Some, None}
 use Rattle.std.specs.Char.{is_ascii_alphabetic, is_ascii_digit, to_ascii_lowercase}
 use Rattle.lt_registry.specs.declared.entries.Kind.{Kind}

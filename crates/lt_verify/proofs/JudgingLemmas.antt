@@ -27,7 +27,7 @@ use Rattle.lt_tag.specs.Values.{IsTagValue}
 use Rattle.lt_registry.specs.Entries.{entry, is_whole, number_of, whole}
 use Rattle.lt_rewrite.proofs.Entries.{entry_has, find_has}
 use Rattle.lt_rewrite.proofs.StepLaws.{core_high, few_subtags, fits}
-use Rattle.lt_rewrite.specs.CoreSteps.{CoreStep, values_of}
+use Rattle.lt_rewrite.specs.CoreSteps.{CoreStep}
 use Rattle.lt_rewrite.specs.Extensions.{ExtensionStep, ExtensionsStep, TransformStep, UnicodeStep, among, in_transform, in_unicode, inside, on_attributes, on_fields, on_keywords, on_source, on_types}
 use Rattle.lt_rewrite.specs.Orderings.{ListStep, by_drop, by_swap}
 use Rattle.lt_rewrite.specs.TagSteps.{TagChange, on_core, on_extensions, on_whole}
@@ -336,7 +336,7 @@ list_fits xs ys swap drop spell start some (by_drop before a between b after o s
     omega (arith, flat_length spell before a (between ++ b ∷ after), flat_length spell between b after, some b, ap (λ l. length (flat_map spell l)) s.there)
 
 module _ (R : List EntryParts) (all : NumbersFit R) where
-  core_fits : (start : ℕ) (c d : CoreParts) (s : CoreStep (values_of R) c d) → Fits (core_label R start s) (start + length (spell_core c))
+  core_fits : (start : ℕ) (c d : CoreParts) (s : CoreStep R c d) → Fits (core_label R start s) (start + length (spell_core c))
   core_fits start c d s = record { place = core_high R start c d s; number = few (entry R _ s.subtag) (λ e is. (entry_has R _ s.subtag (λ (e : EntryParts). e.number < 2 ^ 32) all e is).0) }
 
   unicode_fits : (start : ℕ) (p q : UForm) (s : UnicodeStep p q) → Fits (unicode_label start s) (start + length (spell_u p) + 1)
@@ -358,8 +358,8 @@ module _ (R : List EntryParts) (all : NumbersFit R) where
   extension_fits start e f (in_transform p q _ _ from _ s) = omega (arith, transform_fits start p q s, ap length from.spelled)
 
   extensions_fit : (start : ℕ) (es fs : List ExtensionParts) (s : ExtensionsStep R es fs) → Fits (extensions_label R start s) (start + length (spell_extensions es) + 1)
-  extensions_fit start es fs (inside before e f after w s) =
-      omega (arith, extension_fits (start + length (spell_extensions before) + 1) e f s, flat_length spell_extension before e after, ap (λ l. length (spell_extensions l)) w.there)
+  extensions_fit start es fs (inside before e f after there result s) =
+      omega (arith, extension_fits (start + length (spell_extensions before) + 1) e f s, flat_length spell_extension before e after, ap (λ l. length (spell_extensions l)) there)
   extensions_fit start es fs (among s) = omega (arith, list_fits es fs kinds.SwapExtensions kinds.SwapExtensions spell_extension start (λ a. omega arith) s)
 
   -- what the parts of a tag have room for

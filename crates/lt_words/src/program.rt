@@ -53,7 +53,7 @@ Status:
   4  a file, the input, the output or memory failed";
 
 /// The version, and the line of the kit that proves and builds the program.
-const VERSION: &str = "1.0.0 (rattle-kit-13f logic dac8208d650f15bf)";
+const VERSION: &str = "1.1.0 (rattle-kit-13b logic dac8208d650f15bf)";
 
 /// An argument that is a required positional.
 fn new_argument<'a>(alloc: Global, wanted: &Positional) -> Arg<'a>

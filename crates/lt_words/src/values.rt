@@ -48,7 +48,7 @@ pub(crate) fn column_of(alloc: Global, text: &str) -> Result<usize, WordsFault>
     match text.parse::<usize>() {
         Ok(column) if column > 0 => Ok(column),
         _ => Err(WordsFault::Usage(format!(in alloc;
-            "error: COLUMN is a number from 1, and not {text}\n"
+            "error: COLUMN is a number from 1, and not {text}\n\nFor more information, try '--help'.\n"
         )?)),
     }
 }

@@ -1,4 +1,4 @@
-//! Are these two tags one language by this registry?
+//! Are these two tags equivalent by this registry?
 #![tactic(auto)]
 
 use bcp47::{Registry, Tag};

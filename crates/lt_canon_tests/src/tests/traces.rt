@@ -76,6 +76,6 @@ pub(super) fn traces<L: Lookup>(
             "{last}"
         );
     }
-    assert!(rt; TraceFault::WrongEnd.name() == "WrongEnd");
+    assert!(rt; TraceFault::WrongEnd.name() == "WrongEnd" && UNKNOWN.name() == "UnknownLanguage");
     Ok(())
 }

@@ -4,7 +4,7 @@ use lt_check::Checked;
 use lt_registry::{Lookup, validate};
 use lt_tag::read_tag;
 use lt_test_tables::{sample, sample_with};
-use lt_upgrade::{UpgradeFault, upgrade_check};
+use lt_upgrade::{UpgradeCondition, UpgradeFault, upgrade_check};
 use std::alloc::Global;
 use std::test::Fail;
 
@@ -95,6 +95,11 @@ pub(super) const UPGRADES: [(usize, &str); 6] = [
 #[test]
 fn names_of_faults(rt: HostRuntime) {
     assert_eq!(rt; UpgradeFault::OutOfMemory.name(), "OutOfMemory");
+    let fails = UpgradeFault::Fails {
+        condition: UpgradeCondition::NoNewVariantLanguage,
+        number: 7,
+    };
+    assert_eq!(rt; fails.name(), "U5");
 }
 
 /// A language whose value is taken out is its own canonical form.

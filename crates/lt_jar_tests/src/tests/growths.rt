@@ -98,7 +98,8 @@ fn memory_runs_out_at_the_last_line(rt: HostRuntime) -> Result<(), Fail> {
 /// from one growth to the next, and that each line is among them.
 #[test]
 fn lines_in_order(rt: HostRuntime) -> Result<(), Fail> {
-    if let Err(fault) = read_jar(rt.alloc(), b"A: b\n c\nD: e\n%%\nF: g") {
+    let text = b"A: b\n and a line that takes more than the first has left\nD: e\n%%\nF: g";
+    if let Err(fault) = read_jar(rt.alloc(), text) {
         assert!(rt; fault.kind == JarFaultKind::OutOfMemory);
         println!(rt; "ran out at {} of 5", fault.line)?;
     }

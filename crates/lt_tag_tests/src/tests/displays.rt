@@ -46,6 +46,17 @@ fn parts_of_a_tag(rt: HostRuntime) {
     assert!(rt; prints_parts(rt.alloc(), text, "zh-yue-Hant-HK", "u-co-trad"));
 }
 
+/// Whether this is printed of the fault of a text.
+fn prints_fault(alloc: Global, text: &str, shown: &str) -> bool {
+    matches!(Tag::read(alloc, text.as_bytes()), Err(fault) if prints(alloc, &fault, shown))
+}
+
+#[test]
+fn faults_of_texts(rt: HostRuntime) {
+    assert!(rt; prints_fault(rt.alloc(), "zh-Hant_TW", "BadByte 2"));
+    assert!(rt; prints_fault(rt.alloc(), "en-latn-de-a", "Unfinished 5"));
+}
+
 /// Whether this is printed of a subtag, as it is and to the right of six places.
 fn prints_subtag(alloc: Global, bytes: &[u8], text: &str) -> bool {
     let Ok(subtag) = Subtag::read(bytes) else {

@@ -491,6 +491,28 @@ fn has_rest(tag: &Tag) -> bool {
         && are_texts(tag.private(), &[b"c"])
 }
 
+/// Whether a text is read as a tag, and this is copied.
+fn is_read_and_copied(alloc: Global, text: &str) -> bool {
+    matches!(read_tag(alloc, text.as_bytes()), Ok(tag) if tag.copy(alloc).is_ok())
+}
+
+/// Whether a text has this fault.
+fn has_fault(alloc: Global, text: &str, kind: TagFaultKind) -> bool {
+    matches!(read_tag(alloc, text.as_bytes()), Err(fault) if fault.kind == kind)
+}
+
+#[test]
+fn tags_without_growth(rt: HostRuntime) -> Result<(), Fail> {
+    let tag = tag_of(rt.alloc(), "zh-yue-Hant-HK-1996")?;
+    let mut texts = Vec::with_capacity(rt.alloc(), 64)?;
+    mark(rt.alloc());
+    assert!(rt; append_tag(&mut texts, &tag).is_ok());
+    assert!(rt; is_read_and_copied(rt.alloc(), "zh-yue-Hant-HK"));
+    assert!(rt; is_read_and_copied(rt.alloc(), "i-klingon"));
+    assert!(rt; has_fault(rt.alloc(), "en_US", TagFaultKind::BadByte));
+    Ok(())
+}
+
 #[test]
 fn parts_without_growth(rt: HostRuntime) -> Result<(), Fail> {
     let alloc = rt.alloc();

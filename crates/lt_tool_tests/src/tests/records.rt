@@ -18,7 +18,7 @@ const HEADINGS: [(&[u8], &str); 4] = [
 ];
 
 /// Records after a heading, what `csv` makes of them by their second fields, and its status.
-const RECORDS: [(&str, &str, u8); 13] = [
+const RECORDS: [(&str, &str, u8); 19] = [
     ("1,\"zh-yue\",b\n", "1,\"yue\",b,\n", 0),
     ("1,DE", "1,de,\n", 0),
     ("1,iw\r\n2,iw\n", "1,he,\r\n2,he,\n", 0),
@@ -32,6 +32,16 @@ const RECORDS: [(&str, &str, u8); 13] = [
     ("\"1,iw\"\r\n", "\"1,iw\",NoColumn\r\n", 1),
     ("\n1,iw\n", ",NoColumn\n1,he,\n", 1),
     ("1,iw\tx\n", "1,iw\tx,BadByte 1\n", 1),
+    (
+        "12\" LP,zh-yue\n7\" EP,iw\n",
+        "12\" LP,yue,\n7\" EP,he,\n",
+        0,
+    ),
+    ("5\",iw\n", "5\",he,\n", 0),
+    ("a\"\"b,iw\n", "a\"\"b,he,\n", 0),
+    ("x, \"q,iw\n", "x, \"q,iw,BadByte 1\n", 1),
+    ("\"a\"b,iw\n", "\"a\"b,he,\n", 0),
+    ("\"a\"b\"c,iw\n2,iw\n", "\"a\"b\"c,he,\n2,he,\n", 0),
 ];
 
 /// Whether `csv` makes this of records by their second fields, and ends so.
@@ -74,7 +84,7 @@ const OPEN: [(&str, &str, &str); 4] = [
         "! BadCsv line 4\n",
     ),
     (
-        "id,tag\n1,iw\"\n2,iw\n",
+        "id,tag\n1,\"iw\n2,iw\n",
         "id,tag,langtag_fault\n",
         "! BadCsv line 2\n",
     ),

@@ -4,6 +4,7 @@ pub returns : goal.returns
 returns c = record {
   checked = c.table.ensures.checked;
   canonical = c.confluence.ensures.canonical;
+  formless = c.confluence.ensures.formless;
   named = c.confluence.ensures.named;
   twice = c.confluence.ensures.twice;
   text_twice = c.confluence.ensures.text_twice;

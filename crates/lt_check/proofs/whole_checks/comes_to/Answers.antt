@@ -22,7 +22,7 @@ pub returns-in_ok-settled-in-Some-plain_value_of : goal.returns-in_ok-settled-in
 returns-in_ok-settled-in-Some-plain_value_of g c =
     let moved = differ _ _ _ c.eq.ensures c.if-eq.false in
     let apart = differ _ _ _ c.eq-else-eq.ensures c.if-eq-2.false in
-    let reaches = same_verdict _ _ _ c.eq-in-Some-plain_value_of-2.ensures in
+    let reaches = same_verdict _ _ _ c.eq-in-Some-plain_value_of.ensures in
     at_form _ c.requires.lower _ _ _ _ c.in-Some.ensures.value c.in_ok-form.ensures.normal _
     (by_value _ c.requires.lower _ _ _ _ _ moved apart c.in-Some-plain_value_of.ensures c.in_ok-settled-in-Some-plain_value_of.ensures.normal _ reaches)
 

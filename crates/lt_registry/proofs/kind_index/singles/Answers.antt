@@ -10,7 +10,7 @@ use Rattle.lt_registry.proofs.kind_index.singles.Goals as goal
 pub returns : goal.returns
 returns c =
     let kept = dedup_same _ (λ (p q : Row). p.number == q.number) _ (λ x y b f' x' y' k. search rules) _ _ c.dedup_by_key.ensures.filtered in
-    let sorted = c.sort_unstable.new.self.items in
+    let sorted = c.sort.new.self.items in
     indexed nat_cmp_total (λ (row : Row). row.number) (λ (row : Row). row.place) (single_row c.args.kind) (single_placed c.args.kind) c.args.entries.now
-    c.in_ok-rows.rows.items sorted c.dedup_by_key.new.self.items c.in_ok-rows.ensures c.sort_unstable.ensures.permutation c.sort_unstable.ensures.sorted
+    c.in_ok-rows.rows.items sorted c.dedup_by_key.new.self.items c.in_ok-rows.ensures c.in_ok-sort.ensures.permutation c.in_ok-sort.ensures.sorted
     (kept ∙ ap (λ (E : Row → Row → Bool). dedup E sorted) (λ i p q. sym (nats_equal p.number q.number) i))

@@ -2,7 +2,7 @@ use Rattle.std.proofs.Common.{◌≡◌, ℕ, List, Some, get_or, refl, sym, ap,
 use Rattle.std.proofs.lemmas.Option.{slice_get_read}
 use Rattle.lt_tag.specs.Parts.{CoreParts}
 use Rattle.lt_rewrite.specs.Applying.{CoreLeads}
-use Rattle.lt_rewrite.specs.CoreSteps.{values_of, at_variant_language}
+use Rattle.lt_rewrite.specs.CoreSteps.{at_variant_language}
 use Rattle.lt_rewrite.proofs.CoreLaws.{none_of, there_alone, has_leftmost}
 use Rattle.lt_rewrite.proofs.TagLeading.{leads_at, variant_language_there, variant_language_elsewhere}
 use Rattle.lt_rewrite.proofs.core_applying.apply_variant_language.Goals as goal
@@ -24,4 +24,4 @@ returns g c =
     subst (CoreLeads R c.args.start core c.args.step)
     (sym (c.set_language.ensures ∙ ap (λ (d : CoreParts). record d { language = c.in-Some.language }) c.remove_variant.ensures))
     (leads_at R c.args.start core c.args.step (at_variant_language i) v c.in-Some.language c.requires.kind (omega (arith, c.if-step-start.false, c.before_variants.ensures.value)) (omega (arith, c.if-step-record_number.false, c.record_number.ensures))
-    (there_alone core (slice_get core.variants i) v none there) (has_leftmost (values_of R) core i v c.in-Some.language (variant_language_there R c.args.start core c.args.step i c.in-Some.language v there t) t.leftmost))
+    (there_alone core (slice_get core.variants i) v none there) (has_leftmost R core i v c.in-Some.language (variant_language_there R c.args.start core c.args.step i c.in-Some.language v there t) t.leftmost))

@@ -1,13 +1,12 @@
 use Rattle.std.proofs.Common.{◌≡◌, ℕ, List, None, All, sym, ap, subst, rules}
 use Rattle.std.specs.List.{remove}
 use Rattle.lt_tag.specs.Parts.{CoreParts}
-use Rattle.lt_rewrite.specs.CoreSteps.{values_of}
 use Rattle.lt_rewrite.specs.VariantLanguages.{ArePlaces}
-use Rattle.lt_rewrite.specs.CorePlaces.{AreBounds}
-use Rattle.lt_rewrite.proofs.FoundPairs.{placed_without}
+use Rattle.lt_rewrite.proofs.VariantPlaces.{placed_without}
 use Rattle.lt_rewrite.proofs.Stars.{star_trans}
 use Rattle.lt_rewrite.proofs.CoreLaws.{language_settled, others_left}
 use Rattle.lt_rewrite.proofs.core_settling.settle_few_variant_languages.Goals as goal
+use Rattle.lt_registry.specs.Entries.{variant_value}
 
 pub loop-index-init : goal.loop-index-init
 loop-index-init g c =
@@ -17,11 +16,10 @@ loop-index-init g c =
       settled = record {
         reached = star_trans c.settle_few_variants-places.ensures.reached c.settle_language.ensures.reached;
         language = c.settle_language.ensures.at_rest;
-        variants = subst (All (λ (v : List ℕ). (values_of R).variant v ≡ None)) (sym vs) c.settle_few_variants-places.ensures.at_rest;
+        variants = subst (All (λ (v : List ℕ). variant_value R v ≡ None)) (sym vs) c.settle_few_variants-places.ensures.at_rest;
         others = search rules;
       };
       places = subst (λ us. ArePlaces R us c.settle_few_variants-places.result.items) (sym vs) c.settle_few_variants-places.ensures.places;
-      bounds = search rules;
     }
 
 pub loop-index-preserved : goal.loop-index-preserved
@@ -37,6 +35,4 @@ loop-index-preserved g c =
           c.requires.alone c.loop-index.invariant.settled c.in-Some.ensures.variant_language c.remove_variant.ensures c.set_language.ensures settled.reached settled.at_rest settled.others;
       places = subst (λ vs. ArePlaces R vs c.remove.new.self.items) (sym (ap (λ (d : CoreParts). d.variants) left))
           (subst (ArePlaces R (remove core.variants i)) (sym c.remove.ensures.items) (placed_without R core.variants c.loop-index.places.items i c.loop-index.invariant.places));
-      bounds = subst (λ ps. AreBounds ps c.take_out.new.indices) (sym c.remove.ensures.items)
-          (subst (λ ps. AreBounds ps c.loop-index.indices → AreBounds (remove ps i) c.take_out.new.indices) c.deref-in-Some.ensures.0 c.take_out.ensures c.loop-index.invariant.bounds);
     }

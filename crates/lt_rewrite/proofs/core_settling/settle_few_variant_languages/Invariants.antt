@@ -1,6 +1,5 @@
 use Rattle.std.proofs.Common.{length}
 use Rattle.lt_rewrite.specs.VariantLanguages.{ArePlaces}
-use Rattle.lt_rewrite.specs.CorePlaces.{AreBounds}
 use Rattle.lt_rewrite.proofs.CoreLaws.{LanguageSettled}
 use Rattle.lt_rewrite.proofs.core_settling.settle_few_variant_languages.Given as goal
 
@@ -9,7 +8,6 @@ abbrev pub invariant-loop-index : goal.invariant-loop-index
 invariant-loop-index g l = record {
   settled : LanguageSettled (g.L.Lookup.listed l.table) l.fn.core l.core;
   places : ArePlaces (g.L.Lookup.listed l.table) l.core.variants l.places.items;
-  bounds : AreBounds l.places.items l.indices;
 }
 
 abbrev pub decreases-loop-index : goal.decreases-loop-index

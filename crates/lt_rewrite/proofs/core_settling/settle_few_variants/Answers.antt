@@ -2,7 +2,7 @@ use Rattle.std.proofs.Common.{◌+◌, ◌++◌, ◌∷◌, [], take, sym, ap, s
 use Rattle.lt_tag.specs.Parts.{CoreParts}
 use Rattle.lt_rewrite.specs.VariantLanguages.{ArePlaces}
 use Rattle.lt_rewrite.proofs.CoreLaws.{one_settled, all_settled}
-use Rattle.lt_rewrite.proofs.FoundPairs.{placed_more}
+use Rattle.lt_rewrite.proofs.VariantPlaces.{placed_more}
 use Rattle.lt_rewrite.proofs.core_settling.settle_few_variants.Goals as goal
 
 pub loop-index-preserved : goal.loop-index-preserved

@@ -1,20 +1,10 @@
 use Rattle.std.proofs.Common.{rules, ◌≡◌, ℕ, true, List, None, All, get_or, sym, ap, ◌∙◌, subst, true≢false, arith}
 use Rattle.std.proofs.lemmas.List.{take_all}
-use Rattle.lt_rewrite.specs.CoreSteps.{values_of}
+use Rattle.lt_rewrite.specs.CoreSteps.{language_beside}
 use Rattle.lt_rewrite.specs.VariantLanguages.{ArePlaces}
-use Rattle.lt_rewrite.specs.VariantPairs.{number, pair, has_pair}
 use Rattle.lt_rewrite.proofs.CoreLaws.{first_variant_language_at, none_more}
-use Rattle.lt_rewrite.proofs.FoundPairs.{none_before, placed_at}
+use Rattle.lt_rewrite.proofs.VariantPlaces.{placed_at}
 use Rattle.lt_rewrite.proofs.variant_languages.first_variant_language_at.Goals as goal
-
-pub loop-index-init : goal.loop-index-init
-loop-index-init g c =
-    let R = g.L.Lookup.listed c.args.table.now in
-    let s = c.args.shortcuts.now in
-    let same : c.number_of-number.result ≡ number c.args.core.now.language = c.number_of-number.ensures.value ∙ ap number c.language.ensures.value in
-    none_before R c.args.core.now.language s.pairs s.languages c.variants-variants.result.now c.args.places.now c.first_beside-first.result c.requires.shortcuts.variants
-    (subst (λ vs. ArePlaces R vs c.args.places.now) (sym c.variants-variants.ensures.value) c.requires.places)
-    (λ k below h. true≢false (sym (subst (λ n. has_pair (pair n (get_or c.args.places.now k 0)) s.pairs ≡ true) (sym same) h) ∙ c.first_beside-first.ensures k 0 (omega arith) below))
 
 pub variant_language_at-requires : goal.variant_language_at-requires
 variant_language_at-requires g c =
@@ -27,9 +17,9 @@ pub returns-in-Some-clause-variant_language : goal.returns-in-Some-clause-varian
 returns-in-Some-clause-variant_language g c = search (rules, first_variant_language_at)
 
 pub loop-index-preserved : goal.loop-index-preserved
-loop-index-preserved g c = search (rules, none_more (values_of (g.L.Lookup.listed c.args.table.now)) c.args.core.now)
+loop-index-preserved g c = search (rules, none_more (g.L.Lookup.listed c.args.table.now) c.args.core.now)
 
 pub returns-clause-variant_language : goal.returns-clause-variant_language
 returns-clause-variant_language g c =
-    let P : List ℕ → Type 0 = λ v. (values_of (g.L.Lookup.listed c.args.table.now)).variant_language c.args.core.now.language v ≡ None in
+    let P : List ℕ → Type 0 = λ v. language_beside (g.L.Lookup.listed c.args.table.now) c.args.core.now.language v ≡ None in
     subst (All P) ((take_all c.loop-index.index c.variants-variants.result.now c.loop-index-test.false) ∙ c.variants-variants.ensures.value) c.loop-index.invariant

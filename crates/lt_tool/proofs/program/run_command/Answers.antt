@@ -8,8 +8,15 @@ returns-in-Ok g c =
     rw reads (record {
       answer = Ok c.in-Ok.field-0;
       between = c.read.new.self;
-      asks = record { buffer = c.read.new.buf; empty = search rules; consumes = c.in-Ok.ensures.bytes };
-      goes_on = c.run_on_files-in-Ok.ensures;
+      asks = record {
+        buffer = c.read.new.buf;
+        empty = search rules;
+        consumes = c.in-Ok.ensures.bytes;
+        called = c.in-Ok.ensures.reads;
+        failed = tt;
+        worked = c.in-Ok.ensures.works;
+      };
+      goes_on = search;
     })
 
 pub returns-in-Err : goal.returns-in-Err
@@ -18,7 +25,14 @@ returns-in-Err g c =
     rw reads (record {
       answer = Err c.in-Err.field-0;
       between = c.read.new.self;
-      asks = record { buffer = c.read.new.buf; empty = search rules; consumes = c.in-Err.ensures.bytes };
+      asks = record {
+        buffer = c.read.new.buf;
+        empty = search rules;
+        consumes = c.in-Err.ensures.bytes;
+        called = c.in-Err.ensures.reads;
+        failed = c.in-Err.ensures.fails;
+        worked = tt;
+      };
       goes_on = (
         refl,
         record { failed = c.refuse_input.ensures.status; opened = refl; printed = refl; said = c.refuse_input.ensures.said },

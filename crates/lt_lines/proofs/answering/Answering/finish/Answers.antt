@@ -1,10 +1,10 @@
-use Rattle.std.proofs.Common.{[], inl, refl, append-nil}
+use Rattle.std.proofs.Common.{[], ◌∙◌, inl, refl, sym, append-nil}
 use Rattle.std.proofs.KnownBytes.{Appends-nil}
 use Rattle.lt_lines.proofs.TakenLemmas.{ends_in_quotes}
 use Rattle.lt_lines.proofs.answering.Answering.finish.Goals as goal
 
-pub returns-then-self : goal.returns-then-self
-returns-then-self g c =
+pub returns-then-is_quoted : goal.returns-then-is_quoted
+returns-then-is_quoted g c =
     let line = c.kept_from.result in
     record {
       written = [];
@@ -14,6 +14,6 @@ returns-then-self g c =
         line = line;
         fault = refl;
         same = refl;
-        ends = λ bytes out t none. rw append-nil (ends_in_quotes _ bytes out c.args.self.now line t none c.if-self.true c.kept_from.ensures);
+        ends = λ bytes out t none. rw append-nil (ends_in_quotes _ bytes out c.args.self.now line t none (sym c.is_quoted.ensures ∙ c.if-is_quoted.true) c.kept_from.ensures);
       });
     }

@@ -1,0 +1,422 @@
+/* SPDX-License-Identifier: MIT OR Apache-2.0 */
+/* The calls of bcp47.h over the proved ones of handles.h. What this file decides is which handle a call asks by, which
+   arguments are answered by a status, and where a zero follows a text; all else is theirs. There is no lock and no state
+   but a registry's own. */
+#define _POSIX_C_SOURCE 200809L
+#include "handles.h"
+#include <sched.h>
+#include <stdatomic.h>
+#include <stdbool.h>
+#include <stdlib.h>
+#include <string.h>
+#include <time.h>
+
+/* How many calls may be under way on a registry at once, and how many milliseconds a call waits for another to end. */
+#ifndef BCP47_WAIT
+#define BCP47_WAIT 500
+#endif
+enum { SLOTS = 64 };
+
+/* What a registry that is open begins with. */
+#define OPEN 0x37345042u
+
+/* What one call at a time asks by. It fills a line of a processor's cache, so that threads don't wait for each other. */
+typedef struct {
+    bcp47_handle handle;
+    atomic_bool is_taken;
+    char rest[64 - sizeof(bcp47_handle) - sizeof(atomic_bool)];
+} slot;
+
+/* For tools that see no atomic operations: tests/bindings/order.h. */
+#ifndef BCP47_TAKEN
+#define BCP47_TAKEN(slot) ((void)0)
+#define BCP47_GIVEN(slot) ((void)0)
+#endif
+
+struct bcp47_registry {
+    atomic_uint mark;
+    bcp47_info info; /* but for the digest, which is taken of the bytes when it is asked for */
+    void *bytes;
+    size_t length;
+    slot slots[SLOTS]; /* their handles hold one registry */
+};
+
+/* ---- what is answered */
+
+static bcp47_outcome ended(int status) {
+    bcp47_outcome outcome = {status, 0, 0, 0, 0, 0};
+    return outcome;
+}
+
+/* Puts a zero after a text that stands in a buffer, where there is room. */
+static inline void end_text(const bcp47_outcome *outcome, char *buffer, size_t room) {
+    if (outcome->status != BCP47_BUFFER_TOO_SMALL && outcome->length < room) buffer[outcome->length] = 0;
+}
+
+/* Copies the text of an outcome to a buffer where it fits. The status stays what it is where it does not. */
+static void tell(const bcp47_outcome *outcome, const uint8_t *text, char *buffer, size_t room) {
+    if (outcome->length && outcome->length <= room) memcpy(buffer, text, outcome->length);
+    end_text(outcome, buffer, room);
+}
+
+/* ---- what is asked */
+
+/* Whether so many items of a size can stand there: NULL is for none of them. */
+static inline bool is_array(const void *items, size_t count, size_t size) {
+    return items ? count <= PTRDIFF_MAX / size : count == 0;
+}
+
+static inline bool is_text(const void *bytes, size_t length) {
+    return is_array(bytes, length, 1);
+}
+
+/* Whether a text and a buffer can stand there, and have no byte in common. */
+static inline bool are_apart(const void *text, size_t length, const void *buffer, size_t room) {
+    uintptr_t one = (uintptr_t)text, other = (uintptr_t)buffer;
+    if (!is_text(text, length) || !is_text(buffer, room)) return false;
+    return !length || !room || (other - one >= length && one - other >= room);
+}
+
+/* The proved calls take no null pointer: any other stands for no bytes. */
+static const uint8_t *bytes_of(const void *bytes) {
+    return bytes ? (const uint8_t *)bytes : (const uint8_t *)"";
+}
+
+static uint8_t *room_of(void *buffer, uint8_t *nowhere) {
+    return buffer ? (uint8_t *)buffer : nowhere;
+}
+
+/* ---- handles */
+
+static bool is_open(const bcp47_registry *registry) {
+    return registry && atomic_load_explicit(&registry->mark, memory_order_relaxed) == OPEN;
+}
+
+/* Where a thread begins to look for a slot: stacks of threads lie apart. */
+static size_t first_slot(void) {
+    char here;
+    uint64_t place = (uint64_t)(uintptr_t)&here >> 14;
+    return (size_t)(place * UINT64_C(0x9E3779B97F4A7C15) >> 32) % SLOTS;
+}
+
+static inline bool takes(slot *s) {
+    if (atomic_exchange_explicit(&s->is_taken, true, memory_order_acquire)) return false;
+    BCP47_TAKEN(s);
+    return true;
+}
+
+static int64_t milliseconds(void) {
+    struct timespec now;
+    clock_gettime(CLOCK_MONOTONIC, &now);
+    return (int64_t)now.tv_sec * 1000 + now.tv_nsec / 1000000;
+}
+
+/* The first slot, from one on, that no other call has; NULL where none is given back for a while. */
+static slot *take_other(slot *slots, size_t first) {
+    int64_t begun = milliseconds();
+    do {
+        for (size_t i = 0; i < SLOTS; i++) {
+            slot *s = &slots[(first + i) % SLOTS];
+            if (takes(s)) return s;
+        }
+        sched_yield();
+    } while (milliseconds() - begun < BCP47_WAIT);
+    return NULL;
+}
+
+static inline slot *take(const bcp47_registry *registry) {
+    slot *slots = ((bcp47_registry *)(uintptr_t)registry)->slots;
+    size_t first = first_slot();
+    return takes(&slots[first]) ? &slots[first] : take_other(slots, first + 1);
+}
+
+static inline void give(slot *s) {
+    BCP47_GIVEN(s);
+    atomic_store_explicit(&s->is_taken, false, memory_order_release);
+}
+
+/* ---- opening and closing */
+
+static bool is_digits(const uint8_t *bytes, size_t count) {
+    for (size_t i = 0; i < count; i++)
+        if (bytes[i] < '0' || bytes[i] > '9') return false;
+    return true;
+}
+
+/* The date of a header that begins the bytes, in the form of RFC 3339. */
+static void read_date(const uint8_t *bytes, size_t length, char date[11]) {
+    static const char name[] = "File-Date: ";
+    size_t begin = sizeof name - 1;
+    const uint8_t *day = bytes + begin;
+    date[0] = 0;
+    if (length < begin + 10 || memcmp(bytes, name, begin)) return;
+    if (!is_digits(day, 4) || day[4] != '-' || !is_digits(day + 5, 2) || day[7] != '-' || !is_digits(day + 8, 2)) return;
+    memcpy(date, day, 10);
+    date[10] = 0;
+}
+
+/* Lets go of a registry that has so many handles. */
+static void let_go(bcp47_registry *registry, size_t handles) {
+    for (size_t i = 0; i < handles; i++) bcp47_handle_close(&registry->slots[i].handle);
+    free(registry->bytes);
+    free(registry);
+}
+
+/* A registry without a handle, which keeps the bytes. */
+static bcp47_registry *without_handles(const void *bytes, size_t length) {
+    bcp47_registry *made = calloc(1, sizeof *made);
+    if (!made) return NULL;
+    made->length = length;
+    made->bytes = malloc(length + 1);
+    if (made->bytes) {
+        memcpy(made->bytes, bytes_of(bytes), length);
+        return made;
+    }
+    free(made);
+    return NULL;
+}
+
+static bcp47_outcome no_memory(char *line, size_t room) {
+    static const char text[] = "OutOfMemory";
+    bcp47_outcome outcome = {BCP47_OUT_OF_MEMORY, 0, 0, sizeof text - 1, 0, 0};
+    tell(&outcome, (const uint8_t *)text, line, room);
+    return outcome;
+}
+
+bcp47_outcome bcp47_open(bcp47_registry **registry, const void *bytes, size_t length, char *line, size_t room) {
+    uint8_t said[BCP47_LINE];
+    if (!registry) return ended(BCP47_BAD_CALL);
+    *registry = NULL;
+    if (!are_apart(bytes, length, line, room)) return ended(BCP47_BAD_CALL);
+    bcp47_registry *opened = without_handles(bytes, length);
+    if (!opened) return no_memory(line, room);
+    bcp47_outcome outcome = bcp47_handle_open(&opened->slots[0].handle, bytes_of(bytes), length, said, sizeof said);
+    if (outcome.status != BCP47_DONE) {
+        let_go(opened, 0);
+        tell(&outcome, said, line, room);
+        return outcome;
+    }
+    for (size_t i = 1; i < SLOTS; i++)
+        if (bcp47_handle_share(&opened->slots[0].handle, &opened->slots[i].handle)) {
+            let_go(opened, i);
+            return no_memory(line, room);
+        }
+    opened->info.entries = bcp47_handle_entries(&opened->slots[0].handle);
+    read_date(bytes_of(bytes), length, opened->info.file_date);
+    for (size_t i = 0; i < SLOTS; i++) give(&opened->slots[i]);
+    atomic_init(&opened->mark, OPEN);
+    *registry = opened;
+    tell(&outcome, said, line, room);
+    return outcome;
+}
+
+/* A slot that a call has stays: a call of a thread that a fork left behind in the parent never ends. */
+void bcp47_close(bcp47_registry *registry) {
+    bool is_whole = true;
+    if (!is_open(registry)) return;
+    atomic_store_explicit(&registry->mark, 0, memory_order_relaxed);
+    for (size_t i = 0; i < SLOTS; i++) {
+        if (takes(&registry->slots[i])) bcp47_handle_close(&registry->slots[i].handle);
+        else is_whole = false;
+    }
+    if (is_whole) let_go(registry, 0);
+}
+
+bcp47_outcome bcp47_registry_info(const bcp47_registry *registry, bcp47_info *info) {
+    if (!is_open(registry)) return ended(BCP47_NOT_OPEN);
+    if (!info) return ended(BCP47_BAD_CALL);
+    *info = registry->info;
+    bcp47_digest(registry->bytes, registry->length, info->sha256, sizeof info->sha256);
+    return ended(BCP47_DONE);
+}
+
+/* ---- calls that write the text of a tag */
+
+/* A proved call that writes a text. */
+typedef bcp47_outcome writer(bcp47_handle *, const uint8_t *, size_t, uint8_t *, size_t);
+
+static inline __attribute__((always_inline)) bcp47_outcome write_text(writer *writes, const bcp47_registry *registry, const char *text, size_t length, char *buffer,
+                                size_t room) {
+    uint8_t nowhere;
+    if (!is_open(registry)) return ended(BCP47_NOT_OPEN);
+    if (!are_apart(text, length, buffer, room)) return ended(BCP47_BAD_CALL);
+    slot *s = take(registry);
+    if (!s) return ended(BCP47_BUSY);
+    bcp47_outcome outcome = writes(&s->handle, bytes_of(text), length, room_of(buffer, &nowhere), room);
+    give(s);
+    end_text(&outcome, buffer, room);
+    return outcome;
+}
+
+bcp47_outcome bcp47_canonical(const bcp47_registry *registry, const char *text, size_t length, char *buffer, size_t room) {
+    return write_text(bcp47_handle_canonical, registry, text, length, buffer, room);
+}
+
+bcp47_outcome bcp47_extlang(const bcp47_registry *registry, const char *text, size_t length, char *buffer, size_t room) {
+    return write_text(bcp47_handle_extlang, registry, text, length, buffer, room);
+}
+
+bcp47_outcome bcp47_explain(const bcp47_registry *registry, const char *text, size_t length, char *buffer, size_t room) {
+    return write_text(bcp47_handle_explain, registry, text, length, buffer, room);
+}
+
+bcp47_outcome bcp47_classify(const bcp47_registry *registry, const char *text, size_t length, char *buffer, size_t room) {
+    uint8_t nowhere;
+    if (registry) return write_text(bcp47_handle_classify, registry, text, length, buffer, room);
+    if (!are_apart(text, length, buffer, room)) return ended(BCP47_BAD_CALL);
+    bcp47_outcome outcome = bcp47_classify_text(bytes_of(text), length, room_of(buffer, &nowhere), room);
+    end_text(&outcome, buffer, room);
+    return outcome;
+}
+
+bcp47_outcome bcp47_parts(const char *text, size_t length, char *buffer, size_t room, bcp47_part *parts, size_t count) {
+    uint8_t nowhere;
+    bcp47_part none;
+    if (!is_array(parts, count, sizeof *parts) || !are_apart(text, length, buffer, room) ||
+        !are_apart(text, length, parts, count * sizeof *parts) || !are_apart(buffer, room, parts, count * sizeof *parts))
+        return ended(BCP47_BAD_CALL);
+    bcp47_outcome outcome =
+        bcp47_write_parts(bytes_of(text), length, room_of(buffer, &nowhere), room, parts ? parts : &none, count);
+    end_text(&outcome, buffer, room);
+    return outcome;
+}
+
+/* ---- explanations that are given whole */
+
+/* The lines of so many steps. Each has about the length of the text; where replacements make tags longer, they are asked
+   for again. */
+static bcp47_outcome write_lines(slot *s, const uint8_t *text, size_t length, size_t steps, char **lines) {
+    size_t room = (steps + 1) * (length + 64);
+    char *buffer = NULL, *more;
+    bcp47_outcome outcome;
+    do {
+        more = realloc(buffer, room);
+        outcome = more ? bcp47_handle_explain(&s->handle, text, length, (uint8_t *)more, room - 1) : ended(BCP47_OUT_OF_MEMORY);
+        if (more) buffer = more;
+        room = outcome.length + 1;
+    } while (outcome.status == BCP47_BUFFER_TOO_SMALL);
+    if (outcome.status != BCP47_DONE) {
+        free(buffer);
+        return outcome;
+    }
+    buffer[outcome.length] = 0;
+    more = realloc(buffer, room);
+    *lines = more ? more : buffer;
+    return outcome;
+}
+
+bcp47_outcome bcp47_explanation(const bcp47_registry *registry, const char *text, size_t length, size_t most, char **lines) {
+    uint8_t variant[8];
+    if (!lines) return ended(BCP47_BAD_CALL);
+    *lines = NULL;
+    if (!is_open(registry)) return ended(BCP47_NOT_OPEN);
+    if (!is_text(text, length)) return ended(BCP47_BAD_CALL);
+    slot *s = take(registry);
+    if (!s) return ended(BCP47_BUSY);
+    bcp47_outcome outcome = bcp47_handle_count_steps(&s->handle, bytes_of(text), length, variant, sizeof variant);
+    outcome.length = 0;
+    if (outcome.status == BCP47_DONE)
+        outcome = outcome.place > most ? ended(BCP47_TOO_MANY_STEPS) : write_lines(s, bytes_of(text), length, outcome.place, lines);
+    give(s);
+    return outcome;
+}
+
+void bcp47_free(void *lines) {
+    free(lines);
+}
+
+/* ---- calls that judge */
+
+bcp47_outcome bcp47_validate(const bcp47_registry *registry, const char *text, size_t length) {
+    if (!is_open(registry)) return ended(BCP47_NOT_OPEN);
+    if (!is_text(text, length)) return ended(BCP47_BAD_CALL);
+    slot *s = take(registry);
+    if (!s) return ended(BCP47_BUSY);
+    bcp47_outcome outcome = bcp47_handle_validate(&s->handle, bytes_of(text), length);
+    give(s);
+    return outcome;
+}
+
+/* Tells which of two texts is refused: the second only where the first is not. */
+static void tell_text(bcp47_outcome *outcome, slot *s, const uint8_t *first, size_t length) {
+    uint8_t variant[8];
+    if (outcome->status < BCP47_NOT_A_TAG || BCP47_REPLACEMENT_REPEATS < outcome->status) return;
+    bcp47_outcome alone = outcome->status == BCP47_NOT_A_TAG
+                              ? bcp47_handle_classify(&s->handle, first, length, variant, sizeof variant)
+                              : bcp47_handle_canonical(&s->handle, first, length, variant, sizeof variant);
+    if (alone.status == BCP47_OUT_OF_MEMORY) *outcome = ended(BCP47_OUT_OF_MEMORY);
+    else outcome->text = alone.status == outcome->status ? 1 : 2;
+}
+
+bcp47_outcome bcp47_equal(const bcp47_registry *registry, const char *first, size_t first_length, const char *second,
+                          size_t second_length, char *buffer, size_t room) {
+    uint8_t variant[8];
+    if (!is_open(registry)) return ended(BCP47_NOT_OPEN);
+    if (!are_apart(first, first_length, buffer, room) || !are_apart(second, second_length, buffer, room))
+        return ended(BCP47_BAD_CALL);
+    slot *s = take(registry);
+    if (!s) return ended(BCP47_BUSY);
+    bcp47_outcome outcome = bcp47_handle_equal(&s->handle, bytes_of(first), first_length, bytes_of(second), second_length,
+                                               variant, sizeof variant);
+    tell_text(&outcome, s, bytes_of(first), first_length);
+    give(s);
+    tell(&outcome, variant, buffer, room);
+    return outcome;
+}
+
+bcp47_outcome bcp47_verify(const bcp47_registry *registry, const char *text, size_t length, const bcp47_step *steps,
+                           size_t count, const char *last, size_t last_length) {
+    static const bcp47_step no_step = {0, 0, 0};
+    if (!is_open(registry)) return ended(BCP47_NOT_OPEN);
+    if (!is_text(text, length) || !is_array(steps, count, sizeof *steps) || !is_text(last, last_length))
+        return ended(BCP47_BAD_CALL);
+    slot *s = take(registry);
+    if (!s) return ended(BCP47_BUSY);
+    bcp47_outcome outcome = bcp47_handle_verify(&s->handle, bytes_of(text), length, steps ? steps : &no_step, count,
+                                                bytes_of(last), last_length);
+    tell_text(&outcome, s, bytes_of(text), length);
+    give(s);
+    return outcome;
+}
+
+bcp47_outcome bcp47_upgrade_check(const bcp47_registry *older, const bcp47_registry *newer) {
+    if (!is_open(older) || !is_open(newer)) return ended(BCP47_NOT_OPEN);
+    slot *s = take(older);
+    if (!s) return ended(BCP47_BUSY);
+    slot *other = take(newer);
+    if (!other) {
+        give(s);
+        return ended(BCP47_BUSY);
+    }
+    bcp47_outcome outcome = bcp47_handle_upgrade_check(&s->handle, &other->handle);
+    give(other);
+    give(s);
+    return outcome;
+}
+
+/* ---- many texts */
+
+/* The outcome of one of them, written to what is left of the buffer. */
+static bcp47_outcome write_next(slot *s, const char *texts, size_t begin, size_t end, char *buffer, size_t room) {
+    uint8_t nowhere;
+    if (end < begin || !are_apart(texts ? texts + begin : NULL, end - begin, buffer, room)) return ended(BCP47_BAD_CALL);
+    const char *text = texts ? texts + begin : NULL;
+    return bcp47_handle_canonical(&s->handle, bytes_of(text), end - begin, room_of(buffer, &nowhere), room);
+}
+
+size_t bcp47_canonical_many(const bcp47_registry *registry, const char *texts, const size_t *ends, size_t begin,
+                            size_t count, bcp47_outcome *outcomes, char *buffer, size_t room) {
+    size_t used = 0, i;
+    if (!outcomes) return 0;
+    int status = !is_open(registry) ? BCP47_NOT_OPEN : !ends || !is_text(buffer, room) ? BCP47_BAD_CALL : BCP47_DONE;
+    slot *s = status ? NULL : take(registry);
+    if (!status && !s) status = BCP47_BUSY;
+    for (i = 0; i < count; i++) {
+        outcomes[i] = status ? ended(status) : write_next(s, texts, begin, ends[i], buffer ? buffer + used : NULL, room - used);
+        if (outcomes[i].status == BCP47_BUFFER_TOO_SMALL) break;
+        used += outcomes[i].length;
+        if (!status) begin = ends[i];
+    }
+    if (s) give(s);
+    return i;
+}

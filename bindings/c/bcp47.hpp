@@ -1,0 +1,251 @@
+/* SPDX-License-Identifier: MIT OR Apache-2.0 */
+/* BCP 47 language tags by a registry of language subtags, for C++17 and later, over bcp47.h. docs/C.md shows its use. */
+#ifndef BCP47_HPP
+#define BCP47_HPP
+
+#include "bcp47.h"
+#include <cstddef>
+#include <cstdio>
+#include <memory>
+#include <stdexcept>
+#include <string>
+#include <string_view>
+#include <utility>
+#include <variant>
+#include <vector>
+
+namespace bcp47 {
+
+/* Why a call was refused. */
+struct refusal {
+    bcp47_outcome outcome{};
+    std::string text; /* the line of a registry that is refused, or the variant of BCP47_REPLACEMENT_REPEATS */
+
+    int status() const noexcept { return outcome.status; }
+
+    /* Of a fault: the subtag, the line, the record or the step, counted from 1; else 0. */
+    std::size_t place() const noexcept { return outcome.place; }
+
+    /* The name of the fault, as "BadByte"; that of the status where there is no fault. */
+    std::string_view name() const noexcept {
+        return outcome.detail ? bcp47_fault_name(outcome.detail) : bcp47_status_name(outcome.status);
+    }
+
+    /* What it means, and what to do. */
+    std::string_view help() const noexcept {
+        return outcome.detail ? bcp47_fault_help(outcome.detail) : bcp47_status_help(outcome.status);
+    }
+
+    /* What the program prints after `! `, as "BadByte 1". */
+    std::string line() const {
+        if (outcome.status == BCP47_REPLACEMENT_REPEATS) return std::string(name()) + " " + text;
+        if (!text.empty()) return text;
+        return outcome.place ? std::string(name()) + " " + std::to_string(outcome.place) : std::string(name());
+    }
+};
+
+/* What result::value throws where there is none. */
+class error : public std::runtime_error {
+  public:
+    explicit error(refusal why) : std::runtime_error(why.line()), why_(std::move(why)) {}
+    const refusal &why() const noexcept { return why_; }
+
+  private:
+    refusal why_;
+};
+
+/* A value, or why there is none: as std::expected<T, refusal> of C++23. */
+template <class T> class [[nodiscard]] result {
+  public:
+    result(T value) : held_(std::in_place_index<0>, std::move(value)) {}
+    result(refusal why) : held_(std::in_place_index<1>, std::move(why)) {}
+
+    bool has_value() const noexcept { return held_.index() == 0; }
+    explicit operator bool() const noexcept { return has_value(); }
+
+    const T &value() const & {
+        if (!has_value()) throw bcp47::error(error());
+        return std::get<0>(held_);
+    }
+    T &&value() && {
+        if (!has_value()) throw bcp47::error(error());
+        return std::get<0>(std::move(held_));
+    }
+    const T &operator*() const & noexcept { return *std::get_if<0>(&held_); }
+    T &&operator*() && noexcept { return std::move(*std::get_if<0>(&held_)); }
+    const T *operator->() const noexcept { return std::get_if<0>(&held_); }
+    template <class U> T value_or(U &&other) const & { return has_value() ? **this : static_cast<T>(std::forward<U>(other)); }
+
+    /* There is one where there is no value. */
+    const refusal &error() const noexcept { return *std::get_if<1>(&held_); }
+
+  private:
+    std::variant<T, refusal> held_;
+};
+
+/* Nothing, or why a call was refused. */
+template <> class [[nodiscard]] result<void> {
+  public:
+    result() = default;
+    result(refusal why) : held_(std::move(why)) {}
+
+    bool has_value() const noexcept { return held_.index() == 0; }
+    explicit operator bool() const noexcept { return has_value(); }
+    void value() const {
+        if (!has_value()) throw bcp47::error(error());
+    }
+    const refusal &error() const noexcept { return *std::get_if<1>(&held_); }
+
+  private:
+    std::variant<std::monostate, refusal> held_;
+};
+
+/* A tag in conventional case, and its class: BCP47_LANGTAG, BCP47_PRIVATE_USE or BCP47_GRANDFATHERED. */
+struct tag {
+    std::string text;
+    int kind;
+};
+
+namespace detail {
+
+/* A call that writes a text, which is made again where the text did not fit. */
+template <class Call> bcp47_outcome write(Call call, std::string &text) {
+    char buffer[256];
+    bcp47_outcome outcome = call(buffer, sizeof buffer);
+    if (outcome.status != BCP47_BUFFER_TOO_SMALL) {
+        text.assign(buffer, outcome.length);
+        return outcome;
+    }
+    text.resize(outcome.length);
+    outcome = call(&text[0], text.size());
+    text.resize(outcome.length);
+    return outcome;
+}
+
+/* The text that a call writes, or why it is refused. */
+template <class Call> result<std::string> text_of(Call call) {
+    std::string text;
+    bcp47_outcome outcome = write(call, text);
+    if (outcome.status == BCP47_DONE) return text;
+    return refusal{outcome, std::move(text)};
+}
+
+inline result<void> nothing_of(bcp47_outcome outcome) {
+    if (outcome.status == BCP47_DONE) return {};
+    return refusal{outcome, {}};
+}
+
+} // namespace detail
+
+/* The tag of a text, which needs no registry. */
+inline result<tag> classify(std::string_view text) {
+    std::string shown;
+    bcp47_outcome outcome = detail::write(
+        [&](char *buffer, std::size_t room) { return bcp47_classify(nullptr, text.data(), text.size(), buffer, room); }, shown);
+    if (outcome.status == BCP47_DONE) return tag{std::move(shown), outcome.detail};
+    return refusal{outcome, {}};
+}
+
+/* A registry that is open until its object ends. Any number of threads may make const calls at once. */
+class registry {
+  public:
+    /* The registry whose text the bytes are. */
+    static result<registry> from_bytes(std::string_view bytes) {
+        bcp47_registry *opened;
+        char line[BCP47_LINE];
+        bcp47_outcome outcome = bcp47_open(&opened, bytes.data(), bytes.size(), line, sizeof line);
+        if (outcome.status == BCP47_DONE) return registry(opened);
+        return refusal{outcome, std::string(line, outcome.length)};
+    }
+
+    /* The registry of a file: BCP47_BAD_FILE where it can't be read. */
+    static result<registry> from_file(const std::string &path) {
+        std::unique_ptr<std::FILE, int (*)(std::FILE *)> file(std::fopen(path.c_str(), "rb"), &std::fclose);
+        std::string bytes;
+        char piece[1 << 16];
+        for (std::size_t got = 1; file && got; bytes.append(piece, got)) got = std::fread(piece, 1, sizeof piece, file.get());
+        if (!file || std::ferror(file.get())) return refusal{{BCP47_BAD_FILE, 0, 0, 0, 0, 0}, "the file can't be read"};
+        return from_bytes(bytes);
+    }
+
+    /* The canonical text of a tag. */
+    result<std::string> canonical(std::string_view tag) const { return written(bcp47_canonical, tag); }
+
+    /* The same, with the extlang prefix. */
+    result<std::string> extlang(std::string_view tag) const { return written(bcp47_extlang, tag); }
+
+    /* Nothing, if the tag is valid. */
+    result<void> validate(std::string_view tag) const {
+        return detail::nothing_of(bcp47_validate(opened_.get(), tag.data(), tag.size()));
+    }
+
+    bool is_valid(std::string_view tag) const noexcept {
+        return bcp47_validate(opened_.get(), tag.data(), tag.size()).status == BCP47_DONE;
+    }
+
+    /* Whether two tags are equivalent; `outcome.text` of a refusal says which of them it is of, 1 or 2. */
+    result<bool> equal(std::string_view first, std::string_view second) const {
+        char variant[9];
+        bcp47_outcome outcome =
+            bcp47_equal(opened_.get(), first.data(), first.size(), second.data(), second.size(), variant, sizeof variant);
+        if (outcome.status == BCP47_DONE || outcome.status == BCP47_DIFFERENT) return outcome.status == BCP47_DONE;
+        return refusal{outcome, std::string(variant, outcome.length)};
+    }
+
+    /* The lines that `langtag explain` prints: BCP47_TOO_MANY_STEPS where there are more steps than `most`. */
+    result<std::string> explain(std::string_view tag, std::size_t most = static_cast<std::size_t>(-1)) const {
+        char *lines;
+        bcp47_outcome outcome = bcp47_explanation(opened_.get(), tag.data(), tag.size(), most, &lines);
+        std::unique_ptr<char, void (*)(void *)> freed(lines, &bcp47_free);
+        if (outcome.status == BCP47_DONE) return std::string(lines, outcome.length);
+        if (outcome.status == BCP47_REPLACEMENT_REPEATS) return canonical(tag); /* which has the variant */
+        return refusal{outcome, {}};
+    }
+
+    /* Nothing, if the steps lead from a valid tag, one after another, to the last. */
+    result<void> verify(std::string_view tag, const std::vector<bcp47_step> &steps, std::string_view last) const {
+        return detail::nothing_of(
+            bcp47_verify(opened_.get(), tag.data(), tag.size(), steps.data(), steps.size(), last.data(), last.size()));
+    }
+
+    /* Nothing, if a newer registry keeps what this one promised. */
+    result<void> upgrade_check(const registry &newer) const {
+        return detail::nothing_of(bcp47_upgrade_check(opened_.get(), newer.opened_.get()));
+    }
+
+    /* The canonical text of each tag, or why there is none. */
+    std::vector<result<std::string>> canonical_many(const std::vector<std::string_view> &tags) const {
+        std::vector<result<std::string>> answers;
+        answers.reserve(tags.size());
+        for (std::string_view tag : tags) answers.push_back(canonical(tag));
+        return answers;
+    }
+
+    /* File-Date, number of entries and digest; those of no registry where this one was moved away. */
+    bcp47_info info() const noexcept {
+        bcp47_info info{};
+        bcp47_registry_info(opened_.get(), &info);
+        return info;
+    }
+
+    /* For calls of bcp47.h. */
+    const bcp47_registry *get() const noexcept { return opened_.get(); }
+
+  private:
+    struct closer {
+        void operator()(bcp47_registry *opened) const noexcept { bcp47_close(opened); }
+    };
+
+    explicit registry(bcp47_registry *opened) : opened_(opened) {}
+
+    template <class Call> result<std::string> written(Call *call, std::string_view tag) const {
+        return detail::text_of(
+            [&](char *buffer, std::size_t room) { return call(opened_.get(), tag.data(), tag.size(), buffer, room); });
+    }
+
+    std::unique_ptr<bcp47_registry, closer> opened_;
+};
+
+} // namespace bcp47
+
+#endif

@@ -1,0 +1,246 @@
+/* SPDX-License-Identifier: MIT OR Apache-2.0 */
+/* The calls of bcp47.h for Node.js, by Node-API: index.js makes classes and exceptions of them. A call answers what it gives,
+   or where it refuses an array: status, number of the fault, place, text, and which of two tags. */
+#define NAPI_VERSION 8
+#include <bcp47.h>
+#include <limits.h>
+#include <node_api.h>
+#include <stdlib.h>
+
+/* Room for the text of any tag, and for its canonical text; a longer one is no tag, which the library says of its front. */
+enum { ROOM = 4096, STEPS = 1000000 };
+
+/* A registry, which its object holds until it is closed or collected. */
+typedef struct {
+    bcp47_registry *registry;
+} holder;
+
+static const napi_type_tag tag_of_holder = {0x8ac1e2d30f4b4d0aULL, 0x9d5e6f7081928374ULL};
+
+static void finalize(napi_env env, void *data, void *hint) {
+    (void)env, (void)hint;
+    bcp47_close(((holder *)data)->registry);
+    free(data);
+}
+
+/* The holder of an object that open() gave; NULL for any other, with a TypeError. */
+static holder *held(napi_env env, napi_value value) {
+    void *data;
+    bool is_one = false;
+    if (napi_check_object_type_tag(env, value, &tag_of_holder, &is_one) == napi_ok && is_one &&
+        napi_unwrap(env, value, &data) == napi_ok)
+        return data;
+    napi_throw_type_error(env, NULL, "a Registry is wanted");
+    return NULL;
+}
+
+/* The bytes of a string; false, with a TypeError, where it is none. */
+static bool text_of(napi_env env, napi_value value, char text[ROOM], size_t *length) {
+    if (napi_get_value_string_utf8(env, value, text, ROOM, length) == napi_ok) return true;
+    napi_throw_type_error(env, NULL, "a tag is a string or a Tag");
+    return false;
+}
+
+static napi_value string_of(napi_env env, const char *text, size_t length) {
+    napi_value made = NULL;
+    napi_create_string_latin1(env, text, length, &made);
+    return made;
+}
+
+static napi_value number_of(napi_env env, double number) {
+    napi_value made = NULL;
+    napi_create_double(env, number, &made);
+    return made;
+}
+
+static napi_value refusal(napi_env env, bcp47_outcome outcome, const char *text) {
+    napi_value made = NULL, parts[] = {
+        number_of(env, outcome.status), number_of(env, outcome.detail), number_of(env, (double)outcome.place),
+        string_of(env, text ? text : "", text ? outcome.length : 0), number_of(env, outcome.text),
+    };
+    napi_create_array(env, &made);
+    for (uint32_t i = 0; i < sizeof parts / sizeof *parts; i++) napi_set_element(env, made, i, parts[i]);
+    return made;
+}
+
+/* The arguments of a call, as many as it has. */
+static bool takes(napi_env env, napi_callback_info info, size_t count, napi_value *values) {
+    return napi_get_cb_info(env, info, &count, values, NULL, NULL) == napi_ok;
+}
+
+/* open(bytes): an object that holds a registry */
+static napi_value open_registry(napi_env env, napi_callback_info info) {
+    napi_value bytes, made;
+    char line[BCP47_LINE];
+    void *data;
+    size_t length;
+    if (!takes(env, info, 1, &bytes)) return NULL;
+    if (napi_get_typedarray_info(env, bytes, NULL, &length, &data, NULL, NULL) != napi_ok) {
+        napi_throw_type_error(env, NULL, "a registry is read from a Uint8Array");
+        return NULL;
+    }
+    holder *it = calloc(1, sizeof *it);
+    if (!it) return refusal(env, (bcp47_outcome){BCP47_OUT_OF_MEMORY, 0, 0, 0, 0, 0}, NULL);
+    bcp47_outcome outcome = bcp47_open(&it->registry, data, length, line, sizeof line);
+    if (outcome.status != BCP47_DONE) {
+        free(it);
+        return refusal(env, outcome, line);
+    }
+    if (napi_create_object(env, &made) != napi_ok || napi_type_tag_object(env, made, &tag_of_holder) != napi_ok ||
+        napi_wrap(env, made, it, finalize, NULL, NULL) != napi_ok) {
+        finalize(env, it, NULL);
+        return NULL;
+    }
+    return made;
+}
+
+static napi_value close_registry(napi_env env, napi_callback_info info) {
+    napi_value object;
+    holder *it = takes(env, info, 1, &object) ? held(env, object) : NULL;
+    if (it) {
+        bcp47_close(it->registry);
+        it->registry = NULL;
+    }
+    return NULL;
+}
+
+typedef bcp47_outcome writer(const bcp47_registry *, const char *, size_t, char *, size_t);
+
+/* (registry, tag): the text that a call writes */
+static napi_value text_by(napi_env env, napi_callback_info info, writer *writes) {
+    napi_value values[2];
+    char text[ROOM], buffer[ROOM];
+    size_t length;
+    if (!takes(env, info, 2, values)) return NULL;
+    holder *it = held(env, values[0]);
+    if (!it || !text_of(env, values[1], text, &length)) return NULL;
+    bcp47_outcome outcome = writes(it->registry, text, length, buffer, sizeof buffer);
+    return outcome.status == BCP47_DONE ? string_of(env, buffer, outcome.length) : refusal(env, outcome, buffer);
+}
+
+static napi_value canonical(napi_env env, napi_callback_info info) {
+    return text_by(env, info, bcp47_canonical);
+}
+
+static napi_value extlang(napi_env env, napi_callback_info info) {
+    return text_by(env, info, bcp47_extlang);
+}
+
+/* classify(tag): the class and the text in conventional case, with a point between them */
+static napi_value classify(napi_env env, napi_callback_info info) {
+    napi_value value;
+    char text[ROOM], buffer[ROOM];
+    size_t length;
+    if (!takes(env, info, 1, &value) || !text_of(env, value, text, &length)) return NULL;
+    bcp47_outcome outcome = bcp47_classify(NULL, text, length, buffer + 1, sizeof buffer - 1);
+    if (outcome.status != BCP47_DONE) return refusal(env, outcome, NULL);
+    buffer[0] = (char)('0' + outcome.detail);
+    return string_of(env, buffer, outcome.length + 1);
+}
+
+/* explain(registry, tag, most): the lines that the program prints */
+static napi_value explain(napi_env env, napi_callback_info info) {
+    napi_value values[3];
+    char text[ROOM], *lines;
+    size_t length;
+    uint32_t most = STEPS;
+    if (!takes(env, info, 3, values)) return NULL;
+    holder *it = held(env, values[0]);
+    if (!it || !text_of(env, values[1], text, &length)) return NULL;
+    napi_get_value_uint32(env, values[2], &most);
+    bcp47_outcome outcome = bcp47_explanation(it->registry, text, length, most, &lines);
+    if (outcome.status != BCP47_DONE) return refusal(env, outcome, NULL);
+    napi_value made = string_of(env, lines, outcome.length);
+    bcp47_free(lines);
+    return made;
+}
+
+/* validate(registry, tag): nothing */
+static napi_value validate(napi_env env, napi_callback_info info) {
+    napi_value values[2];
+    char text[ROOM];
+    size_t length;
+    if (!takes(env, info, 2, values)) return NULL;
+    holder *it = held(env, values[0]);
+    if (!it || !text_of(env, values[1], text, &length)) return NULL;
+    bcp47_outcome outcome = bcp47_validate(it->registry, text, length);
+    return outcome.status == BCP47_DONE ? NULL : refusal(env, outcome, NULL);
+}
+
+/* equal(registry, first, second): whether they are */
+static napi_value equal(napi_env env, napi_callback_info info) {
+    napi_value values[3], made = NULL;
+    char first[ROOM], second[ROOM], variant[BCP47_LINE];
+    size_t length, other;
+    if (!takes(env, info, 3, values)) return NULL;
+    holder *it = held(env, values[0]);
+    if (!it || !text_of(env, values[1], first, &length) || !text_of(env, values[2], second, &other)) return NULL;
+    bcp47_outcome outcome = bcp47_equal(it->registry, first, length, second, other, variant, sizeof variant);
+    if (outcome.status != BCP47_DONE && outcome.status != BCP47_DIFFERENT) return refusal(env, outcome, variant);
+    napi_get_boolean(env, outcome.status == BCP47_DONE, &made);
+    return made;
+}
+
+/* upgrade(older, newer): nothing */
+static napi_value upgrade(napi_env env, napi_callback_info info) {
+    napi_value values[2];
+    if (!takes(env, info, 2, values)) return NULL;
+    holder *older = held(env, values[0]), *newer = older ? held(env, values[1]) : NULL;
+    if (!newer) return NULL;
+    bcp47_outcome outcome = bcp47_upgrade_check(older->registry, newer->registry);
+    return outcome.status == BCP47_DONE ? NULL : refusal(env, outcome, NULL);
+}
+
+/* facts(registry): File-Date, number of entries, SHA-256 in hexadecimal digits */
+static napi_value facts(napi_env env, napi_callback_info info) {
+    static const char digits[] = "0123456789abcdef";
+    napi_value object, made = NULL;
+    char hex[64];
+    bcp47_info of;
+    holder *it = takes(env, info, 1, &object) ? held(env, object) : NULL;
+    if (!it) return NULL;
+    bcp47_outcome outcome = bcp47_registry_info(it->registry, &of);
+    if (outcome.status != BCP47_DONE) return refusal(env, outcome, NULL);
+    for (int i = 0; i < 32; i++) hex[2 * i] = digits[of.sha256[i] >> 4], hex[2 * i + 1] = digits[of.sha256[i] & 15];
+    napi_value date = NULL;
+    napi_create_string_latin1(env, of.file_date, NAPI_AUTO_LENGTH, &date);
+    napi_value parts[] = {date, number_of(env, (double)of.entries), string_of(env, hex, sizeof hex)};
+    napi_create_object(env, &made);
+    napi_set_named_property(env, made, "fileDate", parts[0]);
+    napi_set_named_property(env, made, "entries", parts[1]);
+    napi_set_named_property(env, made, "sha256", parts[2]);
+    return made;
+}
+
+/* name(kind of name, number): the name that the number has */
+static napi_value name(napi_env env, napi_callback_info info) {
+    static const char *(*const names[])(int) = {bcp47_status_name, bcp47_fault_name, bcp47_fault_help, bcp47_kind_name};
+    napi_value values[2], made = NULL;
+    uint32_t which = 0;
+    int32_t number = 0;
+    if (!takes(env, info, 2, values)) return NULL;
+    napi_get_value_uint32(env, values[0], &which);
+    napi_get_value_int32(env, values[1], &number);
+    napi_create_string_utf8(env, names[which % 4](number), NAPI_AUTO_LENGTH, &made);
+    return made;
+}
+
+NAPI_MODULE_INIT() {
+    static const struct {
+        const char *name;
+        napi_callback calls;
+    } functions[] = {
+        {"open", open_registry}, {"close", close_registry}, {"canonical", canonical}, {"extlang", extlang},
+        {"classify", classify},  {"explain", explain},      {"validate", validate},   {"equal", equal},
+        {"upgrade", upgrade},    {"facts", facts},          {"name", name},
+    };
+    for (size_t i = 0; i < sizeof functions / sizeof *functions; i++) {
+        napi_value made = NULL;
+        napi_create_function(env, functions[i].name, NAPI_AUTO_LENGTH, functions[i].calls, NULL, &made);
+        napi_set_named_property(env, exports, functions[i].name, made);
+    }
+    napi_value version = NULL;
+    napi_create_string_utf8(env, bcp47_version(), NAPI_AUTO_LENGTH, &version);
+    napi_set_named_property(env, exports, "version", version);
+    return exports;
+}

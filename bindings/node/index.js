@@ -1,0 +1,141 @@
+// SPDX-License-Identifier: MIT OR Apache-2.0
+'use strict';
+
+const { readFileSync } = require('node:fs');
+const native = require('./bcp47.node');
+
+const [STATUS, FAULT, HELP] = [0, 1, 2];
+const OUT_OF_MEMORY = 4;
+const REPEATS = 3;
+const CLASSES = ['', 'langtag', 'privateuse', 'grandfathered'];
+
+class Refused extends Error {
+  constructor([status, fault, place, text], tag) {
+    const name = native.name(STATUS, status);
+    const faultName = fault ? native.name(FAULT, fault) : name;
+    const line = status === REPEATS ? `${name} ${text}` : text || (fault || place ? `${faultName} ${place}` : name);
+    super(line);
+    this.status = name;
+    this.fault = faultName;
+    this.place = place;
+    this.help = fault ? native.name(HELP, fault) : '';
+    if (tag !== undefined) this.tag = String(tag);
+    if (status === REPEATS) this.variant = text;
+  }
+
+  get name() {
+    return this.constructor.name;
+  }
+}
+
+class RefusedTag extends Refused {}
+class RefusedRegistry extends Refused {}
+class RefusedUpgrade extends Refused {}
+
+/** Throws what a call refuses, and gives what it answers. */
+function answered(answer, kind, ...tags) {
+  if (!Array.isArray(answer)) return answer;
+  if (answer[0] === OUT_OF_MEMORY) throw new RangeError('out of memory');
+  throw new kind(answer, tags[answer[4] === 2 ? 1 : 0]);
+}
+
+const textOf = (tag) => (tag instanceof Tag ? tag.toString() : tag);
+
+class Tag {
+  #text;
+  #kind;
+
+  constructor(text) {
+    const shown = answered(native.classify(textOf(text)), RefusedTag, text);
+    this.#kind = CLASSES[Number(shown[0])];
+    this.#text = shown.slice(1);
+    Object.freeze(this);
+  }
+
+  get kind() {
+    return this.#kind;
+  }
+
+  toString() {
+    return this.#text;
+  }
+
+  toJSON() {
+    return this.#text;
+  }
+}
+
+class Registry {
+  #held;
+
+  constructor(bytes) {
+    this.#held = answered(native.open(bytes), RefusedRegistry);
+  }
+
+  static fromFile(path) {
+    return new Registry(readFileSync(path));
+  }
+
+  get #open() {
+    if (!this.#held) throw new TypeError('the registry is closed');
+    return this.#held;
+  }
+
+  close() {
+    if (this.#held) native.close(this.#held);
+    this.#held = null;
+  }
+
+  canonical(tag) {
+    return answered(native.canonical(this.#open, textOf(tag)), RefusedTag, tag);
+  }
+
+  extlang(tag) {
+    return answered(native.extlang(this.#open, textOf(tag)), RefusedTag, tag);
+  }
+
+  canonicalMany(tags) {
+    const held = this.#open;
+    return Array.from(tags, (tag) => {
+      if (tag === null || tag === undefined) return null;
+      const answer = native.canonical(held, textOf(tag));
+      return Array.isArray(answer) ? new RefusedTag(answer, tag) : answer;
+    });
+  }
+
+  validate(tag) {
+    answered(native.validate(this.#open, textOf(tag)), RefusedTag, tag);
+  }
+
+  isValid(tag) {
+    return !Array.isArray(native.validate(this.#open, textOf(tag)));
+  }
+
+  equivalent(first, second) {
+    return answered(native.equal(this.#open, textOf(first), textOf(second)), RefusedTag, first, second);
+  }
+
+  explain(tag, most = 1_000_000) {
+    const answer = native.explain(this.#open, textOf(tag), most);
+    // the variant that would be repeated
+    if (Array.isArray(answer) && answer[0] === REPEATS) this.canonical(tag);
+    const lines = answered(answer, RefusedTag, tag).trimEnd().split('\n');
+    const canonical = lines.pop().slice(2);
+    const steps = lines.map((line) => {
+      const [kind, place, number, after] = line.split(' ');
+      return { kind, place: Number(place), number: Number(number), tag: after };
+    });
+    return { steps, canonical };
+  }
+
+  upgradeCheck(newer) {
+    if (!(newer instanceof Registry)) throw new TypeError('a Registry is wanted');
+    answered(native.upgrade(this.#open, newer.#open), RefusedUpgrade);
+  }
+
+  get info() {
+    return answered(native.facts(this.#open), Refused);
+  }
+}
+
+module.exports = { Refused, RefusedRegistry, RefusedTag, RefusedUpgrade, Registry, Tag, version: native.version };

@@ -1,0 +1,99 @@
+// Tests of the package. They take the registries of examples/.
+import assert from 'node:assert/strict';
+import { createHash } from 'node:crypto';
+import { readFileSync } from 'node:fs';
+import { createRequire } from 'node:module';
+import { test } from 'node:test';
+import { Worker } from 'node:worker_threads';
+import { Refused, RefusedRegistry, RefusedTag, RefusedUpgrade, Registry, Tag, version } from '../index.mjs';
+
+const sample = new URL('../../../examples/sample-registry.txt', import.meta.url);
+const registry = Registry.fromFile(sample);
+
+test('texts are made canonical', () => {
+  assert.equal(registry.canonical('zh-yue'), 'yue');
+  assert.equal(registry.canonical('en-t-iw-t0-und'), 'en-t-he-t0-und');
+  assert.equal(registry.extlang('yue'), 'zh-yue');
+  assert.equal(registry.equivalent('I-KLINGON', new Tag('tlh')), true);
+  assert.equal(registry.equivalent('zh', 'yue'), false);
+  const answers = registry.canonicalMany(['iw', null, 'en_US', undefined, new Tag('YUE')]);
+  assert.deepEqual(answers.map((it) => it && (it.message ?? it)), ['he', null, 'BadByte 1', null, 'yue']);
+});
+
+test('refusals say why', () => {
+  assert.throws(() => registry.canonical('en_US'), (error) =>
+    error instanceof RefusedTag && error instanceof Refused && error instanceof Error && error.name === 'RefusedTag' &&
+    error.message === 'BadByte 1' && error.fault === 'BadByte' && error.place === 1 && error.status === 'NotATag' &&
+    error.tag === 'en_US' && error.help.includes('hyphen'));
+  assert.throws(() => registry.validate('xx'), { message: 'UnknownLanguage 1', status: 'Invalid' });
+  assert.throws(() => registry.equivalent('en', 'e_n'), { tag: 'e_n' });
+  assert.throws(() => registry.canonical('a'.repeat(100000)), { message: 'TooLong 0' });
+  assert.throws(() => registry.canonical('en\ud800'), { message: 'BadByte 1' });
+  assert.equal(registry.isValid('zh-yue'), true);
+  assert.equal(registry.isValid('xx'), false);
+  for (const wrong of [null, undefined, 7, {}, ['en']]) assert.throws(() => registry.canonical(wrong), TypeError);
+  assert.throws(() => new Registry(Buffer.from('no registry\n')), (error) =>
+    error instanceof RefusedRegistry && error.message === 'jar BadLine line 1');
+  assert.throws(() => new Registry('text'), TypeError);
+  assert.throws(() => Registry.fromFile('/no/such/file'), { code: 'ENOENT' });
+});
+
+test('explanations', () => {
+  assert.deepEqual(registry.explain('sgn-dd'), {
+    steps: [{ kind: 'Region', place: 2, number: 27, tag: 'sgn-DE' }, { kind: 'Whole', place: 1, number: 44, tag: 'gsg' }],
+    canonical: 'gsg',
+  });
+  assert.deepEqual(registry.explain('en'), { steps: [], canonical: 'en' });
+  assert.throws(() => registry.explain('sgn-dd', 1), { message: 'TooManySteps' });
+});
+
+test('tags', () => {
+  const tag = new Tag('ZH-yue-hANT-hk');
+  assert.deepEqual([`${tag}`, tag.kind, JSON.stringify({ tag })], ['zh-yue-Hant-HK', 'langtag', '{"tag":"zh-yue-Hant-HK"}']);
+  assert.deepEqual(['X-own', 'i-klingon'].map((text) => new Tag(text).kind), ['privateuse', 'grandfathered']);
+  assert.throws(() => { tag.kind = 'x'; }, TypeError);
+  assert.throws(() => new Tag('e'), RefusedTag);
+});
+
+test('upgrades, and which registry it is', () => {
+  const other = new Registry(Buffer.from('File-Date: 2000-01-01\n'));
+  registry.upgradeCheck(registry);
+  assert.throws(() => registry.upgradeCheck(other), (error) => error instanceof RefusedUpgrade && error.fault === 'U1');
+  assert.throws(() => registry.upgradeCheck('registry'), TypeError);
+  const content = readFileSync(sample);
+  assert.deepEqual(registry.info, {
+    fileDate: '2024-01-01', entries: content.toString().split('%%').length - 1,
+    sha256: createHash('sha256').update(content).digest('hex'),
+  });
+  assert.match(version, /^\d+\.\d+\.\d+$/);
+});
+
+test('a registry that is closed', () => {
+  const own = Registry.fromFile(sample);
+  own.close();
+  own.close();
+  for (const ask of [() => own.canonical('en'), () => own.explain('en'), () => own.info, () => registry.upgradeCheck(own)])
+    assert.throws(ask, { name: 'TypeError', message: 'the registry is closed' });
+});
+
+test('CommonJS', () => {
+  const bcp47 = createRequire(import.meta.url)('../index.js');
+  assert.equal(bcp47.Registry, Registry);
+});
+
+test('workers', async () => {
+  const source = `
+    const { parentPort, workerData } = require('node:worker_threads');
+    const { Registry } = require(workerData.module);
+    const registry = Registry.fromFile(workerData.sample);
+    let wrong = 0;
+    for (let i = 0; i < 20000; i++) if (registry.canonical('zh-yue') !== 'yue') wrong++;
+    parentPort.postMessage(wrong);`;
+  const workerData = { module: new URL('../index.js', import.meta.url).pathname, sample: sample.pathname };
+  const answers = await Promise.all(Array.from({ length: 4 }, () => new Promise((done, failed) => {
+    const worker = new Worker(source, { eval: true, workerData });
+    worker.on('message', done);
+    worker.on('error', failed);
+  })));
+  assert.deepEqual(answers, [0, 0, 0, 0]);
+});

@@ -1,0 +1,563 @@
+/* SPDX-License-Identifier: MIT OR Apache-2.0 */
+/* The calls of bcp47.h for the package bcp47, by the limited API of Python 3.9. A text is copied to Python before any code of
+   Python runs, and no buffer outlives a call. A call that may take long lets go of the interpreter's lock; close() then
+   waits for its end. */
+#define PY_SSIZE_T_CLEAN
+#define Py_LIMITED_API 0x03090000
+#include <Python.h>
+
+#include <bcp47.h>
+#include <math.h>
+#include <stdlib.h>
+#include <string.h>
+
+/* Room for the text of any tag: at most 1,024 bytes lead to one of at most 1,024, and a subtag more. */
+#define ROOM 2048
+
+/* How many texts are answered between two looks at signals. */
+#define CHUNK 4096
+
+/* What the package gives: what makes an exception of a refusal, and the type of a tag that was read. */
+static PyObject *refuse, *tag_type;
+
+typedef struct {
+    PyObject_HEAD
+    bcp47_registry *registry;
+    size_t calls;     /* those that are under way without the interpreter's lock */
+    int is_to_close;  /* the last of them closes the registry */
+} registry_object;
+
+/* ---- texts */
+
+/* The bytes of a tag, a str or a Tag: a new bytes object. */
+static PyObject *bytes_of(PyObject *tag) {
+    if (PyUnicode_Check(tag)) return PyUnicode_AsUTF8String(tag);
+    int is_tag = PyObject_IsInstance(tag, tag_type);
+    if (is_tag < 0) return NULL;
+    if (!is_tag) {
+        PyObject *name = PyObject_GetAttrString((PyObject *)Py_TYPE(tag), "__name__");
+        if (name) PyErr_Format(PyExc_TypeError, "a tag is a str or a Tag, not %U", name);
+        Py_XDECREF(name);
+        return NULL;
+    }
+    PyObject *text = PyObject_Str(tag);
+    PyObject *bytes = text ? PyUnicode_AsUTF8String(text) : NULL;
+    Py_XDECREF(text);
+    return bytes;
+}
+
+/* The exception for an outcome: one of the package's class of this name, or one of Python's. A new reference. */
+static PyObject *refusal(const char *name, bcp47_outcome outcome, const char *text, PyObject *tag) {
+    if (outcome.status == BCP47_OUT_OF_MEMORY) return PyErr_NoMemory();
+    if (outcome.status == BCP47_BUSY) {
+        PyErr_SetString(PyExc_RuntimeError, "too many threads ask this registry at once");
+        return NULL;
+    }
+    return PyObject_CallFunction(refuse, "siiKs#O", name, outcome.status, outcome.detail, (unsigned long long)outcome.place,
+                                 text, text ? (Py_ssize_t)outcome.length : (Py_ssize_t)0, tag);
+}
+
+static PyObject *raise_refusal(const char *name, bcp47_outcome outcome, const char *text, PyObject *tag) {
+    PyObject *made = refusal(name, outcome, text, tag);
+    if (made) PyErr_SetObject((PyObject *)Py_TYPE(made), made);
+    Py_XDECREF(made);
+    return NULL;
+}
+
+/* ---- registries that are open */
+
+static registry_object *opened(PyObject *self) {
+    registry_object *it = (registry_object *)self;
+    if (it->registry && !it->is_to_close) return it;
+    PyErr_SetString(PyExc_ValueError, "the registry is closed");
+    return NULL;
+}
+
+static void close_now(registry_object *it) {
+    bcp47_registry *registry = it->registry;
+    it->registry = NULL;
+    bcp47_close(registry);
+}
+
+static void end_call(registry_object *it) {
+    it->calls--;
+    if (!it->calls && it->is_to_close) close_now(it);
+}
+
+static PyObject *registry_new(PyTypeObject *type, PyObject *arguments, PyObject *words) {
+    (void)type, (void)arguments, (void)words;
+    PyErr_SetString(PyExc_TypeError, "use Registry.from_file or Registry.from_bytes");
+    return NULL;
+}
+
+/* open(type, bytes): an object of the type, which holds the registry. */
+static PyObject *module_open(PyObject *module, PyObject *arguments) {
+    char line[BCP47_LINE], *bytes;
+    Py_ssize_t length;
+    PyObject *type, *content;
+    (void)module;
+    if (!PyArg_ParseTuple(arguments, "OS", &type, &content) || PyBytes_AsStringAndSize(content, &bytes, &length)) return NULL;
+    allocfunc allocate = (allocfunc)PyType_GetSlot((PyTypeObject *)type, Py_tp_alloc);
+    registry_object *it = (registry_object *)allocate((PyTypeObject *)type, 0);
+    if (!it) return NULL;
+    bcp47_outcome outcome;
+    bcp47_registry *registry;
+    Py_BEGIN_ALLOW_THREADS
+    outcome = bcp47_open(&registry, bytes, (size_t)length, line, sizeof line);
+    Py_END_ALLOW_THREADS
+    it->registry = registry;
+    if (outcome.status == BCP47_DONE) return (PyObject *)it;
+    Py_DECREF(it);
+    return raise_refusal("RefusedRegistry", outcome, line, Py_None);
+}
+
+static PyObject *registry_close(PyObject *self, PyObject *none) {
+    registry_object *it = (registry_object *)self;
+    (void)none;
+    if (it->calls) it->is_to_close = 1;
+    else close_now(it);
+    Py_RETURN_NONE;
+}
+
+static void registry_free(PyObject *self) {
+    PyTypeObject *type = Py_TYPE(self);
+    close_now((registry_object *)self);
+    ((freefunc)PyType_GetSlot(type, Py_tp_free))(self);
+    Py_DECREF(type);
+}
+
+static PyObject *registry_is_closed(PyObject *self, void *closure) {
+    registry_object *it = (registry_object *)self;
+    (void)closure;
+    return PyBool_FromLong(!it->registry || it->is_to_close);
+}
+
+/* File-Date, number of entries and SHA-256. */
+static PyObject *registry_facts(PyObject *self, PyObject *none) {
+    bcp47_info info;
+    registry_object *it = opened(self);
+    (void)none;
+    if (!it) return NULL;
+    bcp47_registry_info(it->registry, &info);
+    return Py_BuildValue("sny#", info.file_date, (Py_ssize_t)info.entries, (const char *)info.sha256,
+                         (Py_ssize_t)sizeof info.sha256);
+}
+
+/* ---- one text */
+
+typedef bcp47_outcome writer(const bcp47_registry *, const char *, size_t, char *, size_t);
+
+/* What a call writes for a tag, as a str. */
+static PyObject *text_by(writer *writes, PyObject *self, PyObject *tag) {
+    char buffer[ROOM], *text;
+    Py_ssize_t length;
+    PyObject *bytes = bytes_of(tag);
+    registry_object *it = bytes ? opened(self) : NULL;
+    PyObject *made = NULL;
+    if (it && !PyBytes_AsStringAndSize(bytes, &text, &length)) {
+        bcp47_outcome outcome = writes(it->registry, text, (size_t)length, buffer, sizeof buffer);
+        made = outcome.status == BCP47_DONE ? PyUnicode_FromStringAndSize(buffer, (Py_ssize_t)outcome.length)
+                                            : raise_refusal("RefusedTag", outcome, buffer, tag);
+    }
+    Py_XDECREF(bytes);
+    return made;
+}
+
+static PyObject *registry_canonical(PyObject *self, PyObject *tag) {
+    return text_by(bcp47_canonical, self, tag);
+}
+
+static PyObject *registry_extlang(PyObject *self, PyObject *tag) {
+    return text_by(bcp47_extlang, self, tag);
+}
+
+/* The class and the text of a tag in conventional case, by no registry. */
+static PyObject *module_classify(PyObject *module, PyObject *tag) {
+    char buffer[ROOM], *text;
+    Py_ssize_t length;
+    PyObject *bytes = bytes_of(tag), *made = NULL;
+    (void)module;
+    if (bytes && !PyBytes_AsStringAndSize(bytes, &text, &length)) {
+        bcp47_outcome outcome = bcp47_classify(NULL, text, (size_t)length, buffer, sizeof buffer);
+        made = outcome.status == BCP47_DONE ? Py_BuildValue("is#", outcome.detail, buffer, (Py_ssize_t)outcome.length)
+                                            : raise_refusal("RefusedTag", outcome, NULL, tag);
+    }
+    Py_XDECREF(bytes);
+    return made;
+}
+
+/* A list of the parts of a tag, each its kind and its text. */
+static PyObject *listed(const bcp47_part *parts, size_t count, const char *text) {
+    PyObject *list = PyList_New((Py_ssize_t)count);
+    for (size_t i = 0; list && i < count; i++) {
+        PyObject *part = Py_BuildValue("ss#", bcp47_part_kind_name(parts[i].kind), text + parts[i].start,
+                                       (Py_ssize_t)parts[i].length);
+        if (part && !PyList_SetItem(list, (Py_ssize_t)i, part)) continue;
+        Py_DECREF(list);
+        list = NULL;
+    }
+    return list;
+}
+
+/* The parts of a tag, by no registry. */
+static PyObject *module_parts(PyObject *module, PyObject *tag) {
+    bcp47_part parts[BCP47_PARTS];
+    char buffer[ROOM], *text;
+    Py_ssize_t length;
+    PyObject *bytes = bytes_of(tag), *made = NULL;
+    (void)module;
+    if (bytes && !PyBytes_AsStringAndSize(bytes, &text, &length)) {
+        bcp47_outcome outcome = bcp47_parts(text, (size_t)length, buffer, sizeof buffer, parts, BCP47_PARTS);
+        made = outcome.status == BCP47_DONE ? listed(parts, outcome.place, buffer) : raise_refusal("RefusedTag", outcome, NULL, tag);
+    }
+    Py_XDECREF(bytes);
+    return made;
+}
+
+static PyObject *registry_validate(PyObject *self, PyObject *tag) {
+    char *text;
+    Py_ssize_t length;
+    PyObject *bytes = bytes_of(tag), *made = NULL;
+    registry_object *it = bytes ? opened(self) : NULL;
+    if (it && !PyBytes_AsStringAndSize(bytes, &text, &length)) {
+        bcp47_outcome outcome = bcp47_validate(it->registry, text, (size_t)length);
+        made = outcome.status == BCP47_DONE ? Py_BuildValue("") : raise_refusal("RefusedTag", outcome, NULL, tag);
+    }
+    Py_XDECREF(bytes);
+    return made;
+}
+
+/* explain_lines(tag, most): the lines that the program prints, of at most so many steps. */
+static PyObject *registry_explain_lines(PyObject *self, PyObject *arguments) {
+    char *text, *lines;
+    Py_ssize_t length, most;
+    PyObject *tag;
+    if (!PyArg_ParseTuple(arguments, "On", &tag, &most)) return NULL;
+    PyObject *bytes = bytes_of(tag), *made = NULL;
+    registry_object *it = bytes ? opened(self) : NULL;
+    if (it && !PyBytes_AsStringAndSize(bytes, &text, &length)) {
+        char variant[BCP47_LINE];
+        bcp47_outcome outcome;
+        it->calls++;
+        Py_BEGIN_ALLOW_THREADS
+        outcome = bcp47_explanation(it->registry, text, (size_t)length, most < 0 ? 0 : (size_t)most, &lines);
+        /* the variant that would be repeated */
+        if (outcome.status == BCP47_REPLACEMENT_REPEATS)
+            outcome = bcp47_canonical(it->registry, text, (size_t)length, variant, sizeof variant);
+        Py_END_ALLOW_THREADS
+        end_call(it);
+        made = outcome.status == BCP47_DONE ? PyUnicode_FromStringAndSize(lines, (Py_ssize_t)outcome.length)
+                                            : raise_refusal("RefusedTag", outcome, variant, tag);
+        bcp47_free(lines);
+    }
+    Py_XDECREF(bytes);
+    return made;
+}
+
+/* ---- two texts */
+
+static PyObject *registry_equivalent(PyObject *self, PyObject *arguments) {
+    char variant[BCP47_LINE], *first, *second;
+    Py_ssize_t first_length, second_length;
+    PyObject *one, *other, *made = NULL;
+    if (!PyArg_ParseTuple(arguments, "OO", &one, &other)) return NULL;
+    PyObject *bytes = bytes_of(one), *more = bytes ? bytes_of(other) : NULL;
+    registry_object *it = more ? opened(self) : NULL;
+    if (it && !PyBytes_AsStringAndSize(bytes, &first, &first_length) &&
+        !PyBytes_AsStringAndSize(more, &second, &second_length)) {
+        bcp47_outcome outcome = bcp47_equal(it->registry, first, (size_t)first_length, second, (size_t)second_length, variant,
+                                            sizeof variant);
+        if (outcome.status == BCP47_DONE || outcome.status == BCP47_DIFFERENT)
+            made = PyBool_FromLong(outcome.status == BCP47_DONE);
+        else
+            made = raise_refusal("RefusedTag", outcome, variant, outcome.text == 2 ? other : one);
+    }
+    Py_XDECREF(bytes);
+    Py_XDECREF(more);
+    return made;
+}
+
+/* The steps of a sequence of (kind, place, number), for free() to let go of. */
+static bcp47_step *steps_of(PyObject *sequence, Py_ssize_t count) {
+    bcp47_step *steps = calloc((size_t)count + 1, sizeof *steps);
+    if (!steps) return (bcp47_step *)PyErr_NoMemory();
+    for (Py_ssize_t i = 0; i < count; i++) {
+        unsigned char kind;
+        unsigned int place, number;
+        PyObject *step = PySequence_GetItem(sequence, i);
+        int is_step = step && PyArg_ParseTuple(step, "bII", &kind, &place, &number);
+        Py_XDECREF(step);
+        if (!is_step) {
+            free(steps);
+            return NULL;
+        }
+        steps[i].kind = kind, steps[i].place = place, steps[i].number = number;
+    }
+    return steps;
+}
+
+/* verify_steps(tag, steps, last) */
+static PyObject *registry_verify_steps(PyObject *self, PyObject *arguments) {
+    char *text, *end;
+    Py_ssize_t length, end_length;
+    PyObject *tag, *sequence, *last, *made = NULL;
+    if (!PyArg_ParseTuple(arguments, "OOO", &tag, &sequence, &last)) return NULL;
+    Py_ssize_t count = PySequence_Size(sequence);
+    bcp47_step *steps = count < 0 ? NULL : steps_of(sequence, count);
+    PyObject *bytes = steps ? bytes_of(tag) : NULL, *more = bytes ? bytes_of(last) : NULL;
+    registry_object *it = more ? opened(self) : NULL;
+    if (it && !PyBytes_AsStringAndSize(bytes, &text, &length) && !PyBytes_AsStringAndSize(more, &end, &end_length)) {
+        bcp47_outcome outcome;
+        it->calls++;
+        Py_BEGIN_ALLOW_THREADS
+        outcome = bcp47_verify(it->registry, text, (size_t)length, steps, (size_t)count, end, (size_t)end_length);
+        Py_END_ALLOW_THREADS
+        end_call(it);
+        if (outcome.status == BCP47_DONE)
+            made = Py_BuildValue("");
+        else if (outcome.status == BCP47_NO_SUCH_STEP || outcome.status == BCP47_WRONG_END)
+            made = raise_refusal("RefusedTrace", outcome, NULL, tag);
+        else
+            made = raise_refusal("RefusedTag", outcome, NULL, outcome.text == 2 ? last : tag);
+    }
+    free(steps);
+    Py_XDECREF(bytes);
+    Py_XDECREF(more);
+    return made;
+}
+
+static PyObject *registry_upgrade_to(PyObject *self, PyObject *other) {
+    registry_object *it = opened(self), *newer = it ? opened(other) : NULL;
+    bcp47_outcome outcome;
+    if (!newer) return NULL;
+    it->calls++, newer->calls++;
+    Py_BEGIN_ALLOW_THREADS
+    outcome = bcp47_upgrade_check(it->registry, newer->registry);
+    Py_END_ALLOW_THREADS
+    end_call(newer);
+    end_call(it);
+    return outcome.status == BCP47_DONE ? Py_BuildValue("") : raise_refusal("RefusedUpgrade", outcome, NULL, Py_None);
+}
+
+/* ---- many texts */
+
+/* Texts that follow one another, and what they are answered by. The texts of Python's objects are copied first, so that the
+   interpreter's lock can go. */
+typedef struct {
+    char *texts, *buffer;
+    size_t length, capacity, room, count, written;
+    size_t ends[CHUNK];
+    bcp47_outcome outcomes[CHUNK];
+    char is_missing[CHUNK];
+} chunk;
+
+/* Makes room for at least so many bytes. */
+static int grow(char **bytes, size_t *room, size_t wanted) {
+    if (wanted <= *room) return 1;
+    char *more = realloc(*bytes, 2 * wanted);
+    if (!more) return PyErr_NoMemory() != NULL;
+    *bytes = more;
+    *room = 2 * wanted;
+    return 1;
+}
+
+/* Whether an object stands for a value that is missing: None, a NaN, or NA and NaT of pandas. */
+static int is_missing(PyObject *object) {
+    if (object == Py_None) return 1;
+    if (PyUnicode_Check(object)) return 0;
+    if (PyFloat_Check(object)) return isnan(PyFloat_AsDouble(object)) != 0;
+    PyObject *name = PyObject_GetAttrString((PyObject *)Py_TYPE(object), "__name__");
+    int is_one = name && (!PyUnicode_CompareWithASCIIString(name, "NAType") || !PyUnicode_CompareWithASCIIString(name, "NaTType"));
+    Py_XDECREF(name);
+    return name ? is_one : -1;
+}
+
+/* Takes a tag, if there is one. */
+static int take(chunk *it, PyObject *tag) {
+    char *text;
+    Py_ssize_t length;
+    int missing = is_missing(tag);
+    if (missing < 0) return 0;
+    PyObject *bytes = missing ? NULL : bytes_of(tag);
+    int is_taken = missing || (bytes && !PyBytes_AsStringAndSize(bytes, &text, &length));
+    if (is_taken && !missing && (is_taken = grow(&it->texts, &it->capacity, it->length + (size_t)length))) {
+        memcpy(it->texts + it->length, text, (size_t)length);
+        it->length += (size_t)length;
+    }
+    Py_XDECREF(bytes);
+    it->is_missing[it->count] = (char)missing;
+    it->ends[it->count] = it->length;
+    it->count += (size_t)is_taken;
+    return is_taken;
+}
+
+/* Answers the texts that were taken. */
+static int answer(chunk *it, registry_object *registry) {
+    size_t done = 0;
+    it->written = 0;
+    if (!grow(&it->buffer, &it->room, ROOM)) return 0;
+    while (done < it->count) {
+        registry->calls++;
+        Py_BEGIN_ALLOW_THREADS
+        size_t begin = done ? it->ends[done - 1] : 0;
+        size_t more = bcp47_canonical_many(registry->registry, it->texts, it->ends + done, begin, it->count - done,
+                                           it->outcomes + done, it->buffer + it->written, it->room - it->written);
+        for (size_t i = done; i < done + more; i++) it->written += it->outcomes[i].length;
+        done += more;
+        Py_END_ALLOW_THREADS
+        end_call(registry);
+        if (done < it->count && !grow(&it->buffer, &it->room, it->written + it->outcomes[done].length + ROOM)) return 0;
+        if (done < it->count && !opened((PyObject *)registry)) return 0;
+    }
+    return 1;
+}
+
+/* What a list gets for a text that was refused: the exception, or its line. */
+static PyObject *told(bcp47_outcome outcome, const char *text, PyObject *tag, int is_line) {
+    PyObject *made = refusal("RefusedTag", outcome, text, tag);
+    PyObject *line = made && is_line ? PyObject_Str(made) : NULL;
+    if (!is_line) return made;
+    Py_XDECREF(made);
+    return line;
+}
+
+/* Puts an object into a list, which takes the reference. */
+static int put(PyObject *list, Py_ssize_t index, PyObject *object) {
+    return object && !PyList_SetItem(list, index, object);
+}
+
+static PyObject *same(PyObject *object) {
+    Py_INCREF(object);
+    return object;
+}
+
+/* Puts what was answered into the lists: the second, if there is one, gets the lines of the refusals. */
+static int put_all(chunk *it, PyObject *tags, Py_ssize_t first, PyObject *missing, PyObject *texts, PyObject *faults) {
+    const char *text = it->buffer;
+    for (size_t i = 0; i < it->count; i++) {
+        Py_ssize_t at = first + (Py_ssize_t)i;
+        bcp47_outcome outcome = it->outcomes[i];
+        int is_done = outcome.status == BCP47_DONE, well = 1;
+        PyObject *tag = PyList_GetItem(tags, at);
+        if (it->is_missing[i]) well = put(texts, at, same(missing));
+        else if (is_done) well = put(texts, at, PyUnicode_FromStringAndSize(text, (Py_ssize_t)outcome.length));
+        else well = put(texts, at, faults ? same(missing) : told(outcome, text, tag, 0));
+        if (well && faults) well = put(faults, at, it->is_missing[i] || is_done ? same(Py_None) : told(outcome, text, tag, 1));
+        if (!well) return 0;
+        text += outcome.length;
+    }
+    return 1;
+}
+
+/* Answers a list of tags into the lists. */
+static int answer_all(registry_object *registry, PyObject *tags, PyObject *missing, PyObject *texts, PyObject *faults) {
+    Py_ssize_t count = PyList_Size(tags), first = 0;
+    chunk *it = calloc(1, sizeof *it);
+    int well = it || PyErr_NoMemory();
+    while (well && first < count) {
+        it->count = it->length = 0;
+        while (well && it->count < CHUNK && first + (Py_ssize_t)it->count < count)
+            well = take(it, PyList_GetItem(tags, first + (Py_ssize_t)it->count));
+        well = well && opened((PyObject *)registry) && answer(it, registry) &&
+               put_all(it, tags, first, missing, texts, faults) && !PyErr_CheckSignals();
+        first += (Py_ssize_t)it->count;
+    }
+    if (it) free(it->texts), free(it->buffer);
+    free(it);
+    return well;
+}
+
+/* answer_many(tags, missing, is_in_columns): a list of texts and exceptions, or a list of texts and one of lines. */
+static PyObject *registry_answer_many(PyObject *self, PyObject *arguments) {
+    PyObject *tags, *missing, *list, *texts = NULL, *faults = NULL, *made = NULL;
+    int is_in_columns;
+    if (!PyArg_ParseTuple(arguments, "OOp", &tags, &missing, &is_in_columns) || !opened(self)) return NULL;
+    /* a list of its own: no code of Python can change it */
+    if (!(list = PySequence_List(tags))) return NULL;
+    texts = PyList_New(PyList_Size(list));
+    if (is_in_columns) faults = PyList_New(PyList_Size(list));
+    if (texts && (faults || !is_in_columns) && answer_all((registry_object *)self, list, missing, texts, faults))
+        made = is_in_columns ? Py_BuildValue("OO", texts, faults) : same(texts);
+    Py_DECREF(list);
+    Py_XDECREF(texts);
+    Py_XDECREF(faults);
+    return made;
+}
+
+/* ---- the module */
+
+/* setup(refuse, tag_type): what the package gives. */
+static PyObject *module_setup(PyObject *module, PyObject *arguments) {
+    PyObject *makes, *type;
+    (void)module;
+    if (!PyArg_ParseTuple(arguments, "OO", &makes, &type)) return NULL;
+    Py_XDECREF(refuse);
+    Py_XDECREF(tag_type);
+    refuse = same(makes);
+    tag_type = same(type);
+    Py_RETURN_NONE;
+}
+
+/* names(number): those of a status, a fault and a kind of step, and what the fault means. */
+static PyObject *module_names(PyObject *module, PyObject *argument) {
+    long number = PyLong_AsLong(argument);
+    (void)module;
+    if (number == -1 && PyErr_Occurred()) return NULL;
+    return Py_BuildValue("ssss", bcp47_status_name((int)number), bcp47_fault_name((int)number), bcp47_kind_name((int)number),
+                         bcp47_fault_help((int)number));
+}
+
+static PyMethodDef registry_methods[] = {
+    {"canonical", registry_canonical, METH_O,
+     "canonical($self, tag, /)\n--\n\nThe canonical text of a tag (RFC 5646, 4.5). Raises RefusedTag."},
+    {"extlang", registry_extlang, METH_O,
+     "extlang($self, tag, /)\n--\n\nThe canonical text of a tag with its extlang prefix. Raises RefusedTag."},
+    {"validate", registry_validate, METH_O,
+     "validate($self, tag, /)\n--\n\nReturns where a tag is valid (RFC 5646, 2.2.9). Raises RefusedTag where it is not."},
+    {"equivalent", registry_equivalent, METH_VARARGS,
+     "equivalent($self, first, second, /)\n--\n\nWhether two tags are equivalent. Raises RefusedTag for the first tag, or else "
+     "for the second."},
+    {"close", registry_close, METH_NOARGS,
+     "close($self, /)\n--\n\nFrees the registry, once the calls of other threads have ended. No call but this one may follow."},
+    {"_explain_lines", registry_explain_lines, METH_VARARGS, NULL},
+    {"_verify_steps", registry_verify_steps, METH_VARARGS, NULL},
+    {"_upgrade_to", registry_upgrade_to, METH_O, NULL},
+    {"_answer_many", registry_answer_many, METH_VARARGS, NULL},
+    {"_facts", registry_facts, METH_NOARGS, NULL},
+    {NULL, NULL, 0, NULL},
+};
+
+static PyGetSetDef registry_fields[] = {
+    {"closed", registry_is_closed, NULL, "Whether the registry is closed.", NULL},
+    {NULL, NULL, NULL, NULL, NULL},
+};
+
+static PyType_Slot registry_slots[] = {
+    {Py_tp_new, registry_new},         {Py_tp_dealloc, registry_free}, {Py_tp_methods, registry_methods},
+    {Py_tp_getset, registry_fields},   {0, NULL},
+};
+
+static PyType_Spec registry_spec = {
+    "bcp47._bcp47.Registry", sizeof(registry_object), 0, Py_TPFLAGS_DEFAULT | Py_TPFLAGS_BASETYPE, registry_slots,
+};
+
+static PyMethodDef module_methods[] = {
+    {"setup", module_setup, METH_VARARGS, NULL},   {"open", module_open, METH_VARARGS, NULL},
+    {"classify", module_classify, METH_O, NULL},   {"names", module_names, METH_O, NULL},
+    {"parts", module_parts, METH_O, NULL},
+    {NULL, NULL, 0, NULL},
+};
+
+static struct PyModuleDef module = {PyModuleDef_HEAD_INIT, "_bcp47", NULL, -1, module_methods, NULL, NULL, NULL, NULL};
+
+PyMODINIT_FUNC PyInit__bcp47(void) {
+    PyObject *made = PyModule_Create(&module);
+    PyObject *type = made ? PyType_FromSpec(&registry_spec) : NULL;
+    if (type && !PyModule_AddObject(made, "Registry", type)) {
+        if (!PyModule_AddStringConstant(made, "version", bcp47_version())) return made;
+        type = NULL;
+    }
+    Py_XDECREF(type);
+    Py_XDECREF(made);
+    return NULL;
+}

@@ -1,0 +1,328 @@
+"""What users of Python do by habit: copies, pools of processes, forks, signals, threads, columns. Argument: the sample registry."""
+import concurrent.futures
+import copy
+import math
+import multiprocessing
+import os
+import pickle
+import signal
+import sys
+import threading
+import time
+import unittest
+import warnings
+
+import bcp47
+
+SAMPLE = sys.argv[1]
+registry = bcp47.Registry.from_file(SAMPLE)
+
+
+def ask(tag):
+    return registry.canonical(tag)
+
+
+def ask_many(tags):
+    return bcp47.Registry.from_file(SAMPLE).canonical_many(tags)
+
+
+def wait_for(child):
+    """The status of a child process that ends within 20 seconds."""
+    for _ in range(2000):
+        done, status = os.waitpid(child, os.WNOHANG)
+        if done:
+            return os.waitstatus_to_exitcode(status)
+        time.sleep(0.01)
+    os.kill(child, signal.SIGKILL)
+    os.waitpid(child, 0)
+    return "it hangs"
+
+
+class Copies(unittest.TestCase):
+    def test_a_registry_is_not_copied(self):
+        for copies in (copy.copy, copy.deepcopy, pickle.dumps):
+            with self.assertRaisesRegex(TypeError, "open it in each process"):
+                copies(registry)
+        self.assertEqual(registry.canonical("zh-yue"), "yue")
+
+    def test_each_exception_is_copied(self):
+        raised = []
+        for call in (lambda: registry.canonical("en_US"), lambda: bcp47.Registry.from_bytes(b"\xff"),
+                     lambda: registry.upgrade_check(bcp47.Registry.from_bytes(b"File-Date: 2000-01-01\n")),
+                     lambda: registry.verify("sgn-dd", [bcp47.Step("Whole", 1, 44, "gsg")])):
+            with self.assertRaises(bcp47.Refused) as caught:
+                call()
+            raised.append(caught.exception)
+        raised[0].variant = "arevela"
+        for one in raised:
+            for other in (pickle.loads(pickle.dumps(one)), copy.copy(one), copy.deepcopy(one)):
+                self.assertEqual((type(other), other.args, vars(other), str(other)), (type(one), one.args, vars(one), str(one)))
+        self.assertEqual([type(one).__name__ for one in raised],
+                         ["RefusedTag", "RefusedRegistry", "RefusedUpgrade", "RefusedTrace"])
+
+    def test_tags(self):
+        tag = bcp47.Tag("zh-hant")
+        self.assertEqual(pickle.loads(pickle.dumps(tag)), tag)
+        self.assertEqual(copy.deepcopy([tag]), [tag])
+        for change in (lambda: setattr(tag, "kind", "x"), lambda: setattr(tag, "new", 1), lambda: delattr(tag, "kind")):
+            self.assertRaises(AttributeError, change)
+        tags = sorted(map(bcp47.Tag, ["yue", "EN", "de-at"]))
+        self.assertEqual([str(tag) for tag in tags], ["de-AT", "en", "yue"])
+        self.assertTrue(bcp47.Tag("de") < bcp47.Tag("en") and bcp47.Tag("en") >= bcp47.Tag("EN"))
+        with self.assertRaises(TypeError):
+            bcp47.Tag("de") < "en"
+
+
+# Python's warning that a fork beside threads may hang is what is tested.
+warnings.filterwarnings("ignore", category=DeprecationWarning, message=".*fork")
+
+
+class Parts(unittest.TestCase):
+    """By the examples of RFC 5646, RFC 6067 and RFC 6497."""
+
+    def test_of_a_langtag(self):
+        tag = bcp47.Tag("zh-YUE-hant-hk-1994-a-bbb-u-ATTR-co-phonebk-ca-buddhist-foo-x-own")
+        self.assertEqual((tag.language, tag.extlangs, tag.script, tag.region, tag.variants),
+                         ("zh", ("yue",), "Hant", "HK", ("1994",)))
+        self.assertEqual(tag.extensions, {"a": ("bbb",), "u": ("attr", "co", "phonebk", "ca", "buddhist", "foo")})
+        self.assertEqual((tag.attributes, tag.keywords), (("attr",), {"co": ("phonebk",), "ca": ("buddhist", "foo")}))
+        self.assertEqual((tag.private, tag.kind), (("own",), "langtag"))
+        self.assertEqual("-".join(part.text for part in tag.parts), str(tag))
+        self.assertEqual(tag.parts[2], bcp47.Part("Script", "Hant"))
+
+    def test_of_others(self):
+        tag = bcp47.Tag("und-t-und-cyrl-m0-ungegn")
+        self.assertEqual((tag.script, tag.extensions), (None, {"t": ("und", "cyrl", "m0", "ungegn")}))
+        self.assertEqual([part.kind for part in tag.parts],
+                         ["Language", "Singleton", "SourceLanguage", "SourceScript", "Separator", "Value"])
+        tag = bcp47.Tag("x-own-use")
+        self.assertEqual((tag.language, tag.private, tag.keywords), (None, ("own", "use"), {}))
+        tag = bcp47.Tag("i-klingon")
+        self.assertEqual((tag.language, tag.parts), (None, (("Grandfathered", "i-klingon"),)))
+        self.assertEqual(bcp47.Tag("en-u-co-co-aaa").keywords, {"co": ()})
+        for wrong in ("e", "en_US"):
+            self.assertRaises(bcp47.RefusedTag, bcp47._bcp47.parts, wrong)
+        self.assertRaises(TypeError, bcp47._bcp47.parts, 7)
+
+
+class Processes(unittest.TestCase):
+    def test_pools(self):
+        for method in ("fork", "spawn"):
+            with multiprocessing.get_context(method).Pool(2) as pool:
+                with self.assertRaises(bcp47.RefusedTag) as raised:
+                    pool.map_async(ask, ["en", "en_US"]).get(60)
+                self.assertEqual(raised.exception.place, 1)
+                self.assertEqual(pool.map_async(ask, ["iw", "zh-yue"]).get(60), ["he", "yue"])
+
+    def test_executors(self):
+        with concurrent.futures.ProcessPoolExecutor(2) as pool:
+            self.assertIsInstance(pool.submit(ask, "en_US").exception(60), bcp47.RefusedTag)
+            answers = pool.submit(ask_many, ["iw", "en_US"]).result(60)
+            self.assertEqual([str(answer) for answer in answers], ["he", "BadByte 1"])
+
+    def test_forks_in_the_midst_of_calls(self):
+        is_to_end = threading.Event()
+
+        def busy():
+            while not is_to_end.is_set():
+                registry.canonical_many(["zh-yue", "en-t-iw-t0-und"] * 2000)
+
+        threads = [threading.Thread(target=busy) for _ in range(4)]
+        for thread in threads:
+            thread.start()
+        statuses = []
+        for _ in range(30):
+            child = os.fork()
+            if not child:
+                os._exit(0 if registry.canonical("zh-yue") == "yue" and registry.canonical_many(["iw"]) == ["he"] else 1)
+            statuses.append(wait_for(child))
+        is_to_end.set()
+        for thread in threads:
+            thread.join()
+        self.assertEqual(statuses, [0] * 30)
+
+
+class Signals(unittest.TestCase):
+    def ask_beside(self, handler, seconds, call):
+        """Calls again and again, while a handler runs each millisecond."""
+        before = signal.signal(signal.SIGALRM, handler)
+        signal.setitimer(signal.ITIMER_REAL, 0.001, 0.001)
+        wrong, count, end = 0, 0, time.monotonic() + seconds
+        try:
+            while time.monotonic() < end:
+                wrong, count = wrong + call(), count + 1
+        finally:
+            signal.setitimer(signal.ITIMER_REAL, 0)
+            signal.signal(signal.SIGALRM, before)
+        self.assertEqual(wrong, 0)
+        self.assertGreater(count, 10)
+
+    def test_handlers_that_ask(self):
+        answers = []
+        self.ask_beside(lambda *_: answers.append(registry.canonical("iw")), 1.5,
+                        lambda: registry.canonical("zh-yue") != "yue")
+        self.assertGreater(len(answers), 100)
+        self.assertEqual({*answers}, {"he"})
+        tags = ["zh-yue", "en_US"] * 500
+        self.ask_beside(lambda *_: registry.canonical_many(["iw", "x"]), 1,
+                        lambda: [str(it) for it in registry.canonical_many(tags)] != ["yue", "BadByte 1"] * 500)
+
+    def test_handlers_that_close(self):
+        for _ in range(20):
+            own = bcp47.Registry.from_file(SAMPLE)
+            before = signal.signal(signal.SIGALRM, lambda *_: own.close())
+            signal.setitimer(signal.ITIMER_REAL, 0.002)
+            try:
+                with self.assertRaisesRegex(ValueError, "the registry is closed"):
+                    while True:
+                        own.explain("en-u-" + "-".join(f"z{n:02}" for n in range(30, 0, -1)))
+            finally:
+                signal.signal(signal.SIGALRM, before)
+
+
+class Threads(unittest.TestCase):
+    def test_a_registry_is_closed_in_the_midst_of_calls(self):
+        tags = ["zh-yue", "en_US"] * 20000
+        for _ in range(10):
+            own = bcp47.Registry.from_file(SAMPLE)
+            with concurrent.futures.ThreadPoolExecutor(4) as pool:
+                calls = [pool.submit(own.canonical_many, tags) for _ in range(4)]
+                time.sleep(0.003)
+                own.close()
+                for call in calls:
+                    try:
+                        self.assertEqual(len(call.result(60)), len(tags))
+                    except ValueError as error:
+                        self.assertEqual(str(error), "the registry is closed")
+            self.assertTrue(own.closed)
+
+    def test_other_threads_go_on(self):
+        """A thread runs while another one's call is under way."""
+        turns = []
+        tags = ["zh-yue"] * 1_000_000
+        thread = threading.Thread(target=lambda: registry.canonical_many(tags))
+        thread.start()
+        while thread.is_alive():
+            turns.append(time.monotonic())
+            time.sleep(0.001)
+        self.assertGreater(len(turns), 5)
+
+
+class Columns(unittest.TestCase):
+    def test_missing_values(self):
+        tags = ["zh-yue", None, math.nan, "en_US", bcp47.Tag("iw")]
+        self.assertEqual([it if it is None else str(it) for it in registry.canonical_many(tags)],
+                         ["yue", None, None, "BadByte 1", "he"])
+        self.assertEqual(registry.canonical_many([None], missing="?"), ["?"])
+        self.assertEqual(registry.canonical_columns(tags), (["yue", None, None, None, "he"], [None, None, None, "BadByte 1", None]))
+        self.assertEqual(registry.canonical_columns(["en_US"], missing=""), ([""], ["BadByte 1"]))
+        self.assertEqual(registry.canonical_columns(iter([])), ([], []))
+        for wrong in (1, b"en", 1.5, ["en"]):
+            self.assertRaises(TypeError, registry.canonical_many, [wrong])
+        for wrong in ("zh-yue", b"zh", bcp47.Tag("zh"), 7, None):
+            self.assertRaises(TypeError, registry.canonical_many, wrong)
+        self.assertRaises(UnicodeEncodeError, registry.canonical_many, ["\udc80"])
+
+    def test_long_columns(self):
+        """More than one part, and texts that outgrow the first buffer."""
+        long = "en-x-" + "-".join(["abcdefgh"] * 100)
+        tags = ["iw", long, "en_US", None] * 5000
+        self.assertEqual([it if it is None else str(it) for it in registry.canonical_many(tags)],
+                         ["he", long, "BadByte 1", None] * 5000)
+
+    def test_pandas(self):
+        try:
+            import pandas
+        except ImportError:
+            self.skipTest("there is no pandas")
+        frame = pandas.DataFrame({"tag": ["zh-yue", None, pandas.NA, pandas.NaT, "en_US"] * 200_000})
+        frame["canonical"], frame["fault"] = registry.canonical_columns(frame["tag"])
+        self.assertEqual(frame["canonical"][:5].tolist(), ["yue", None, None, None, None])
+        self.assertEqual(frame["fault"].value_counts().to_dict(), {"BadByte 1": 200_000})
+        self.assertEqual(frame.sort_values("canonical")["canonical"].iloc[0], "yue")
+
+
+class Memory(unittest.TestCase):
+    def test_nothing_is_lost(self):
+        def held():
+            with open("/proc/self/statm") as file:
+                return int(file.read().split()[1]) * os.sysconf("SC_PAGE_SIZE")
+
+        tags = ["zh-yue", "en_US", None, bcp47.Tag("iw")] * 250
+
+        def ask_all():
+            registry.canonical_many(tags)
+            registry.canonical_columns(tags)
+            for tag in ("zh-yue", "en_US", "sgn-dd"):
+                for call in (registry.canonical, registry.extlang, registry.validate, registry.explain, bcp47.Tag):
+                    try:
+                        call(tag)
+                    except bcp47.RefusedTag:
+                        pass
+            registry.equivalent("zh-yue", "YUE")
+            registry.verify("sgn-dd", registry.explain("sgn-dd").steps)
+            registry.upgrade_check(registry)
+            registry.info
+            for wrong in (7, "\udc80"):
+                for call in (registry.canonical, lambda it: registry.canonical_many([it])):
+                    try:
+                        call(wrong)
+                    except (TypeError, UnicodeError):
+                        pass
+
+        for _ in range(20):
+            ask_all()
+            bcp47.Registry.from_file(SAMPLE)
+        before = held()
+        for _ in range(200):
+            ask_all()
+            bcp47.Registry.from_file(SAMPLE)
+        self.assertLess(held() - before, 2 << 20)
+
+
+class Facts(unittest.TestCase):
+    def test_info(self):
+        import hashlib
+        with open(SAMPLE, "rb") as file:
+            content = file.read()
+        info = registry.info
+        self.assertEqual(info.sha256, hashlib.sha256(content).hexdigest())
+        self.assertEqual(info.entries, content.count(b"%%"))
+        self.assertEqual(f"File-Date: {info.file_date}\n", content.decode().splitlines(True)[0])
+        self.assertIn(str(info.file_date), repr(registry))
+        empty = bcp47.Registry.from_bytes(b"")
+        self.assertEqual((empty.info.entries, empty.info.file_date), (0, None))
+        empty.close()
+        self.assertRaises(ValueError, lambda: empty.info)
+        self.assertIn("closed", repr(empty))
+
+    def test_replacements_that_repeat(self):
+        records = ("Type: language\nSubtag: ja", "Type: variant\nSubtag: alalc97", "Type: variant\nSubtag: heploc\nPreferred-Value: alalc97")
+        own = bcp47.Registry.from_bytes("\n%%\n".join(("File-Date: 2000-01-01",) + records).encode() + b"\n")
+        for call in (own.canonical, own.extlang, own.explain, lambda tag: own.equivalent("ja", tag)):
+            with self.assertRaises(bcp47.RefusedTag) as raised:
+                call("ja-heploc-alalc97")
+            self.assertEqual((str(raised.exception), raised.exception.variant), ("ReplacementRepeats alalc97", "alalc97"))
+        self.assertEqual(own.canonical_columns(["ja-alalc97-heploc"]), ([None], ["ReplacementRepeats alalc97"]))
+        self.assertEqual(own.canonical("ja-heploc"), "ja-alalc97")
+
+    def test_steps_that_are_none(self):
+        with self.assertRaises(TypeError):
+            registry._verify_steps("en", [(1, 2)], "en")
+
+    def test_validity_and_faults(self):
+        self.assertTrue(registry.is_valid("zh-yue"))
+        self.assertFalse(registry.is_valid("xx"))
+        with self.assertRaises(bcp47.RefusedTag) as raised:
+            registry.equivalent("en", "e_n")
+        self.assertEqual(raised.exception.tag, "e_n")
+        self.assertIn("hyphen", raised.exception.help)
+        with self.assertRaises(bcp47.RefusedTag) as raised:
+            registry.explain("en-u-" + "-".join(f"z{n:02}" for n in range(60, 0, -1)), most=100)
+        self.assertEqual(raised.exception.status, "TooManySteps")
+        self.assertEqual(bcp47.__version__.count("."), 2)
+        self.assertEqual({*bcp47.__all__} - {*dir(bcp47)}, set())
+
+
+if __name__ == "__main__":
+    unittest.main(argv=sys.argv[:1])

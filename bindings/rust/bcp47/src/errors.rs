@@ -1,0 +1,183 @@
+//! Why something is refused.
+use crate::name;
+use bcp47_sys as sys;
+use std::{error, fmt, io};
+
+/// The cause of a refusal: the name of a fault, as the program `langtag` prints it, and its place.
+#[derive(Clone, Copy, Debug, PartialEq, Eq, Hash)]
+pub struct Cause {
+    fault: &'static str,
+    help: &'static str,
+    place: usize,
+}
+
+impl Cause {
+    pub(crate) fn of(outcome: &sys::bcp47_outcome) -> Cause {
+        // SAFETY: the calls answer each number.
+        let (fault, help) = unsafe {
+            (
+                sys::bcp47_fault_name(outcome.detail),
+                sys::bcp47_fault_help(outcome.detail),
+            )
+        };
+        Cause {
+            fault: name(fault),
+            help: name(help),
+            place: outcome.place,
+        }
+    }
+
+    /// The name of the fault, as `BadByte`.
+    pub fn fault(&self) -> &'static str {
+        self.fault
+    }
+
+    /// What the fault means, and what to do.
+    pub fn help(&self) -> &'static str {
+        self.help
+    }
+
+    /// The number of the subtag, the line or the record at fault, counted from 1; 0 for a text that is too long.
+    pub fn place(&self) -> usize {
+        self.place
+    }
+}
+
+impl fmt::Display for Cause {
+    fn fmt(&self, f: &mut fmt::Formatter<'_>) -> fmt::Result {
+        write!(f, "{} {}", self.fault, self.place)
+    }
+}
+
+/// Why a tag is refused. It is shown as the program shows it, without `! `.
+#[derive(Clone, Debug, PartialEq, Eq, Hash)]
+#[non_exhaustive]
+pub enum TagError {
+    /// The text is no tag (RFC 5646, 2.1).
+    NotATag(Cause),
+    /// The tag is not valid (RFC 5646, 2.2.9).
+    Invalid(Cause),
+    /// Replacements can repeat this variant.
+    ReplacementRepeats(String),
+    /// The explanation has more steps than were asked for.
+    TooManySteps,
+    /// Memory ran out, or more threads than the library serves asked at once.
+    Unavailable,
+}
+
+impl TagError {
+    /// The cause, where it is a fault with a place.
+    pub fn cause(&self) -> Option<&Cause> {
+        match self {
+            TagError::NotATag(cause) | TagError::Invalid(cause) => Some(cause),
+            _ => None,
+        }
+    }
+}
+
+impl fmt::Display for TagError {
+    fn fmt(&self, f: &mut fmt::Formatter<'_>) -> fmt::Result {
+        match self {
+            TagError::NotATag(cause) | TagError::Invalid(cause) => cause.fmt(f),
+            TagError::ReplacementRepeats(variant) => write!(f, "ReplacementRepeats {variant}"),
+            TagError::TooManySteps => f.write_str("TooManySteps"),
+            TagError::Unavailable => f.write_str("OutOfMemory"),
+        }
+    }
+}
+
+impl error::Error for TagError {}
+
+/// Why bytes are no registry that passes the check: the line that the program prints, as `jar BadLine line 1`.
+#[derive(Clone, Debug, PartialEq, Eq, Hash)]
+pub struct RegistryError {
+    pub(crate) line: String,
+    pub(crate) cause: Cause,
+}
+
+impl RegistryError {
+    /// The fault, and the line or the record of it.
+    pub fn cause(&self) -> &Cause {
+        &self.cause
+    }
+}
+
+impl fmt::Display for RegistryError {
+    fn fmt(&self, f: &mut fmt::Formatter<'_>) -> fmt::Result {
+        f.write_str(&self.line)
+    }
+}
+
+impl error::Error for RegistryError {}
+
+/// Why a file gives no registry.
+#[derive(Debug)]
+pub enum OpenError {
+    /// The file can't be read.
+    Io(io::Error),
+    /// It is no registry that passes the check.
+    Refused(RegistryError),
+}
+
+impl fmt::Display for OpenError {
+    fn fmt(&self, f: &mut fmt::Formatter<'_>) -> fmt::Result {
+        match self {
+            OpenError::Io(error) => error.fmt(f),
+            OpenError::Refused(error) => error.fmt(f),
+        }
+    }
+}
+
+impl error::Error for OpenError {
+    fn source(&self) -> Option<&(dyn error::Error + 'static)> {
+        Some(match self {
+            OpenError::Io(error) => error,
+            OpenError::Refused(error) => error,
+        })
+    }
+}
+
+/// Why a newer registry is no upgrade: the condition, as `U1`, and the number of the record at fault.
+#[derive(Clone, Debug, PartialEq, Eq, Hash)]
+pub struct UpgradeError(pub(crate) Option<Cause>);
+
+impl UpgradeError {
+    /// The condition and the record; none where memory ran out.
+    pub fn cause(&self) -> Option<&Cause> {
+        self.0.as_ref()
+    }
+}
+
+impl fmt::Display for UpgradeError {
+    fn fmt(&self, f: &mut fmt::Formatter<'_>) -> fmt::Result {
+        match &self.0 {
+            Some(cause) => cause.fmt(f),
+            None => f.write_str("OutOfMemory"),
+        }
+    }
+}
+
+impl error::Error for UpgradeError {}
+
+/// Why steps do not lead from a tag to another.
+#[derive(Clone, Debug, PartialEq, Eq, Hash)]
+pub enum TraceError {
+    /// The step of this number, counted from 1, is the first that does not lead on.
+    NoSuchStep(usize),
+    /// The steps lead to another tag.
+    WrongEnd,
+    /// The first tag is refused, or else the last.
+    Tag(TagError),
+}
+
+impl fmt::Display for TraceError {
+    fn fmt(&self, f: &mut fmt::Formatter<'_>) -> fmt::Result {
+        match self {
+            TraceError::NoSuchStep(number) => write!(f, "NoSuchStep {number}"),
+            TraceError::WrongEnd => f.write_str("WrongEnd"),
+            TraceError::Tag(error) => error.fmt(f),
+        }
+    }
+}
+
+impl error::Error for TraceError {}

@@ -1,0 +1,41 @@
+// SPDX-License-Identifier: MIT OR Apache-2.0
+//! BCP 47 language tags (RFC 5646, with the extensions `u` of RFC 6067 and `t` of RFC 6497), read and made canonical by a
+//! registry of language subtags in the format of IANA's. Each answer is that of a library of which every call is proved.
+//!
+//! ```
+//! # let content = std::fs::read(concat!(env!("CARGO_MANIFEST_DIR"), "/../../../examples/sample-registry.txt")).unwrap();
+//! use bcp47::{Registry, Tag};
+//!
+//! let registry = Registry::from_bytes(&content)?;
+//! assert_eq!(registry.canonical("zh-yue")?, "yue");
+//! assert!(registry.equivalent("I-KLINGON", "tlh")?);
+//! assert_eq!(registry.canonical("en_US").unwrap_err().to_string(), "BadByte 1");
+//! let tag: Tag = "ZH-hant-tw".parse()?;
+//! assert_eq!(tag.to_string(), "zh-Hant-TW");
+//! # Ok::<(), Box<dyn std::error::Error>>(())
+//! ```
+#![deny(missing_docs)]
+
+mod errors;
+mod explanations;
+mod registry;
+mod tag;
+
+pub use errors::{Cause, OpenError, RegistryError, TagError, TraceError, UpgradeError};
+pub use explanations::{Explanation, Step};
+pub use registry::{Info, Registry};
+pub use tag::{Class, Tag};
+
+use std::ffi::{c_char, CStr};
+
+/// The version of the library.
+pub fn version() -> &'static str {
+    // SAFETY: the call gives a constant.
+    name(unsafe { bcp47_sys::bcp47_version() })
+}
+
+/// A constant of the library.
+fn name(text: *const c_char) -> &'static str {
+    // SAFETY: each name of the library is a constant in ASCII with a zero after it.
+    unsafe { CStr::from_ptr(text) }.to_str().unwrap_or_default()
+}

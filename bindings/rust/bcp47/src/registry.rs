@@ -1,0 +1,303 @@
+//! Registries that are open.
+use crate::errors::{Cause, OpenError, RegistryError, TagError, TraceError, UpgradeError};
+use crate::explanations::{Explanation, Step};
+use bcp47_sys as sys;
+use std::ffi::{c_char, CStr};
+use std::fmt;
+use std::mem::MaybeUninit;
+use std::path::Path;
+use std::ptr::{self, NonNull};
+
+/// Room for any text that a call writes.
+pub(crate) struct Buffer([MaybeUninit<u8>; 1280]);
+
+impl Buffer {
+    pub(crate) fn new() -> Buffer {
+        Buffer([MaybeUninit::uninit(); 1280])
+    }
+
+    pub(crate) fn as_mut_ptr(&mut self) -> *mut c_char {
+        self.0.as_mut_ptr().cast()
+    }
+
+    pub(crate) fn room(&self) -> usize {
+        self.0.len()
+    }
+
+    /// The first bytes, which a call wrote: a text in ASCII.
+    pub(crate) fn text(&self, length: usize) -> &str {
+        let length = length.min(self.room());
+        // SAFETY: a call that answers a length that fits has written as many bytes.
+        let bytes = unsafe { std::slice::from_raw_parts(self.0.as_ptr().cast::<u8>(), length) };
+        std::str::from_utf8(bytes).unwrap_or_default()
+    }
+}
+
+/// Why a tag is refused.
+pub(crate) fn refusal(outcome: &sys::bcp47_outcome, buffer: &Buffer) -> TagError {
+    match outcome.status {
+        sys::BCP47_NOT_A_TAG => TagError::NotATag(Cause::of(outcome)),
+        sys::BCP47_INVALID => TagError::Invalid(Cause::of(outcome)),
+        sys::BCP47_REPLACEMENT_REPEATS => {
+            TagError::ReplacementRepeats(buffer.text(outcome.length).to_owned())
+        }
+        16 => TagError::TooManySteps,
+        _ => TagError::Unavailable,
+    }
+}
+
+/// Which registry answers.
+#[derive(Clone, Debug, PartialEq, Eq, Hash)]
+pub struct Info {
+    /// The `File-Date` of the header, as `2025-05-15`; empty where there is none of that form.
+    pub file_date: String,
+    /// How many entries there are: one for each record but the header.
+    pub entries: usize,
+    /// The SHA-256 of the bytes that were read.
+    pub sha256: [u8; 32],
+}
+
+/// A registry that passes the check. Any number of threads may ask it at once.
+pub struct Registry {
+    raw: NonNull<sys::bcp47_registry>,
+}
+
+// SAFETY: bcp47.h: any number of threads may ask a registry at once, and it may be closed by any of them.
+unsafe impl Send for Registry {}
+unsafe impl Sync for Registry {}
+
+type Writer = unsafe extern "C" fn(
+    *const sys::bcp47_registry,
+    *const c_char,
+    usize,
+    *mut c_char,
+    usize,
+) -> sys::bcp47_outcome;
+
+impl Registry {
+    /// The registry whose text the bytes are, if it passes the check.
+    pub fn from_bytes(bytes: &[u8]) -> Result<Registry, RegistryError> {
+        let mut raw = ptr::null_mut();
+        let mut line = Buffer::new();
+        // SAFETY: the pointers and lengths are those of the bytes and of a buffer.
+        let outcome = unsafe {
+            sys::bcp47_open(
+                &mut raw,
+                bytes.as_ptr().cast(),
+                bytes.len(),
+                line.as_mut_ptr(),
+                line.room(),
+            )
+        };
+        match NonNull::new(raw) {
+            Some(raw) if outcome.status == sys::BCP47_DONE => Ok(Registry { raw }),
+            _ => Err(RegistryError {
+                line: line.text(outcome.length).to_owned(),
+                cause: Cause::of(&outcome),
+            }),
+        }
+    }
+
+    /// The registry of a file.
+    pub fn open(path: impl AsRef<Path>) -> Result<Registry, OpenError> {
+        let bytes = std::fs::read(path).map_err(OpenError::Io)?;
+        Registry::from_bytes(&bytes).map_err(OpenError::Refused)
+    }
+
+    fn append(&self, writer: Writer, tag: &[u8], text: &mut String) -> Result<(), TagError> {
+        let mut buffer = Buffer::new();
+        // SAFETY: the registry is open, and the pointers and lengths are those of a text and of a buffer.
+        let outcome = unsafe {
+            writer(
+                self.raw.as_ptr(),
+                tag.as_ptr().cast(),
+                tag.len(),
+                buffer.as_mut_ptr(),
+                buffer.room(),
+            )
+        };
+        if outcome.status != sys::BCP47_DONE {
+            return Err(refusal(&outcome, &buffer));
+        }
+        text.push_str(buffer.text(outcome.length));
+        Ok(())
+    }
+
+    fn text(&self, writer: Writer, tag: &[u8]) -> Result<String, TagError> {
+        let mut text = String::new();
+        self.append(writer, tag, &mut text)?;
+        Ok(text)
+    }
+
+    /// The canonical text of a tag, which is a text or bytes (RFC 5646, 4.5): `yue` for `zh-yue`.
+    pub fn canonical(&self, tag: impl AsRef<[u8]>) -> Result<String, TagError> {
+        self.text(sys::bcp47_canonical, tag.as_ref())
+    }
+
+    /// Appends the canonical text of a tag to a text, which is as it was where the tag is refused.
+    pub fn append_canonical(
+        &self,
+        tag: impl AsRef<[u8]>,
+        text: &mut String,
+    ) -> Result<(), TagError> {
+        self.append(sys::bcp47_canonical, tag.as_ref(), text)
+    }
+
+    /// The canonical text with its extlang prefix (RFC 5646, 4.5): `zh-yue` for `yue`.
+    pub fn extlang(&self, tag: impl AsRef<[u8]>) -> Result<String, TagError> {
+        self.text(sys::bcp47_extlang, tag.as_ref())
+    }
+
+    /// Whether a text is a tag that is valid (RFC 5646, 2.2.9), and why it is not.
+    pub fn validate(&self, tag: impl AsRef<[u8]>) -> Result<(), TagError> {
+        let tag = tag.as_ref();
+        // SAFETY: as in `append`.
+        let outcome =
+            unsafe { sys::bcp47_validate(self.raw.as_ptr(), tag.as_ptr().cast(), tag.len()) };
+        match outcome.status {
+            sys::BCP47_DONE => Ok(()),
+            _ => Err(refusal(&outcome, &Buffer::new())),
+        }
+    }
+
+    /// Whether two tags are equivalent: their canonical texts are equal. Refused for the first tag, or else for the second.
+    pub fn equivalent(
+        &self,
+        first: impl AsRef<[u8]>,
+        second: impl AsRef<[u8]>,
+    ) -> Result<bool, TagError> {
+        let (first, second) = (first.as_ref(), second.as_ref());
+        let mut buffer = Buffer::new();
+        // SAFETY: as in `append`.
+        let outcome = unsafe {
+            sys::bcp47_equal(
+                self.raw.as_ptr(),
+                first.as_ptr().cast(),
+                first.len(),
+                second.as_ptr().cast(),
+                second.len(),
+                buffer.as_mut_ptr(),
+                buffer.room(),
+            )
+        };
+        match outcome.status {
+            sys::BCP47_DONE => Ok(true),
+            sys::BCP47_DIFFERENT => Ok(false),
+            _ => Err(refusal(&outcome, &buffer)),
+        }
+    }
+
+    /// The steps from a tag to its canonical form, at most so many.
+    pub fn explain(&self, tag: impl AsRef<[u8]>, most: usize) -> Result<Explanation, TagError> {
+        let tag = tag.as_ref();
+        let mut lines = ptr::null_mut();
+        // SAFETY: as in `append`; `lines` is what bcp47_free lets go of.
+        let outcome = unsafe {
+            sys::bcp47_explanation(
+                self.raw.as_ptr(),
+                tag.as_ptr().cast(),
+                tag.len(),
+                most,
+                &mut lines,
+            )
+        };
+        if outcome.status == sys::BCP47_REPLACEMENT_REPEATS {
+            return Err(self.canonical(tag).err().unwrap_or(TagError::Unavailable));
+        }
+        if outcome.status != sys::BCP47_DONE {
+            return Err(refusal(&outcome, &Buffer::new()));
+        }
+        // SAFETY: a zero follows the text, which is in ASCII.
+        let text = unsafe { CStr::from_ptr(lines) }
+            .to_string_lossy()
+            .into_owned();
+        // SAFETY: the call gave it, and nothing borrows it.
+        unsafe { sys::bcp47_free(lines.cast()) };
+        let (steps, last) = text
+            .trim_end()
+            .rsplit_once('\n')
+            .unwrap_or(("", text.trim_end()));
+        Ok(Explanation {
+            steps: steps.lines().filter_map(Step::of_line).collect(),
+            canonical: last.trim_start_matches("= ").to_owned(),
+        })
+    }
+
+    /// Whether steps lead from a valid tag, one after another, to another tag, which is then equivalent to it.
+    pub fn verify(
+        &self,
+        tag: impl AsRef<[u8]>,
+        steps: &[Step],
+        last: impl AsRef<[u8]>,
+    ) -> Result<(), TraceError> {
+        let (tag, last) = (tag.as_ref(), last.as_ref());
+        let numbers: Vec<_> = steps.iter().map(Step::numbers).collect();
+        // SAFETY: as in `append`.
+        let outcome = unsafe {
+            sys::bcp47_verify(
+                self.raw.as_ptr(),
+                tag.as_ptr().cast(),
+                tag.len(),
+                numbers.as_ptr(),
+                numbers.len(),
+                last.as_ptr().cast(),
+                last.len(),
+            )
+        };
+        match outcome.status {
+            sys::BCP47_DONE => Ok(()),
+            11 => Err(TraceError::NoSuchStep(outcome.place)),
+            12 => Err(TraceError::WrongEnd),
+            _ => Err(TraceError::Tag(refusal(&outcome, &Buffer::new()))),
+        }
+    }
+
+    /// Whether a newer registry keeps what this one promised.
+    pub fn upgrade_check(&self, newer: &Registry) -> Result<(), UpgradeError> {
+        // SAFETY: both are open.
+        let outcome = unsafe { sys::bcp47_upgrade_check(self.raw.as_ptr(), newer.raw.as_ptr()) };
+        match outcome.status {
+            sys::BCP47_DONE => Ok(()),
+            10 => Err(UpgradeError(Some(Cause::of(&outcome)))),
+            _ => Err(UpgradeError(None)),
+        }
+    }
+
+    /// Which registry it is.
+    pub fn info(&self) -> Info {
+        let mut info = sys::bcp47_info {
+            entries: 0,
+            sha256: [0; 32],
+            file_date: [0; 11],
+        };
+        // SAFETY: the registry is open, and `info` is one.
+        unsafe { sys::bcp47_registry_info(self.raw.as_ptr(), &mut info) };
+        // SAFETY: a zero ends it within its 11 bytes.
+        let file_date = unsafe { CStr::from_ptr(info.file_date.as_ptr()) }
+            .to_string_lossy()
+            .into_owned();
+        Info {
+            file_date,
+            entries: info.entries,
+            sha256: info.sha256,
+        }
+    }
+}
+
+impl Drop for Registry {
+    fn drop(&mut self) {
+        // SAFETY: no borrow is left, so no call is under way and none comes after.
+        unsafe { sys::bcp47_close(self.raw.as_ptr()) }
+    }
+}
+
+impl fmt::Debug for Registry {
+    fn fmt(&self, f: &mut fmt::Formatter<'_>) -> fmt::Result {
+        let info = self.info();
+        write!(
+            f,
+            "Registry {{ file_date: {:?}, entries: {} }}",
+            info.file_date, info.entries
+        )
+    }
+}

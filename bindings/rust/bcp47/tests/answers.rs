@@ -1,0 +1,173 @@
+//! What the registry of examples/ answers, as the program does.
+use bcp47::{Class, OpenError, Registry, Step, Tag, TagError, TraceError};
+use std::collections::HashSet;
+use std::thread;
+
+fn path(name: &str) -> String {
+    format!("{}/../../../examples/{name}", env!("CARGO_MANIFEST_DIR"))
+}
+
+fn sample() -> Registry {
+    Registry::open(path("sample-registry.txt")).expect("it passes the check")
+}
+
+#[test]
+fn texts_are_made_canonical() {
+    let registry = sample();
+    for (tag, canonical) in [
+        ("zh-yue", "yue"),
+        ("I-KLINGON", "tlh"),
+        ("en-t-iw-t0-und", "en-t-he-t0-und"),
+    ] {
+        assert_eq!(registry.canonical(tag).as_deref(), Ok(canonical));
+        assert!(registry.equivalent(tag, canonical).unwrap());
+    }
+    assert_eq!(registry.extlang("yue").unwrap(), "zh-yue");
+    assert!(!registry.equivalent("zh", "yue").unwrap());
+    let mut text = String::from("<");
+    registry.append_canonical("iw", &mut text).unwrap();
+    registry.append_canonical("e_n", &mut text).unwrap_err();
+    assert_eq!(text, "<he");
+}
+
+#[test]
+fn refusals_say_why() {
+    let registry = sample();
+    let error = registry.canonical("en_US").unwrap_err();
+    assert_eq!(
+        (error.to_string().as_str(), error.cause().unwrap().place()),
+        ("BadByte 1", 1)
+    );
+    assert!(error.cause().unwrap().help().contains("hyphen"));
+    assert!(
+        matches!(registry.validate("xx"), Err(TagError::Invalid(cause)) if cause.fault() == "UnknownLanguage")
+    );
+    assert_eq!(
+        registry
+            .canonical("a".repeat(100_000))
+            .unwrap_err()
+            .to_string(),
+        "TooLong 0"
+    );
+    assert_eq!(registry.validate("zh-yue"), Ok(()));
+    assert_eq!(
+        registry.equivalent("en", "").unwrap_err().to_string(),
+        "EmptySubtag 1"
+    );
+    assert_eq!(
+        registry.canonical(b"\xff").unwrap_err().to_string(),
+        "BadByte 1"
+    );
+    assert_eq!(
+        registry.canonical("é").unwrap_err().to_string(),
+        "BadByte 1"
+    );
+    assert_eq!(
+        Registry::from_bytes(b"no registry\n")
+            .unwrap_err()
+            .to_string(),
+        "jar BadLine line 1"
+    );
+    assert!(matches!(
+        Registry::open("/no/such/file"),
+        Err(OpenError::Io(_))
+    ));
+}
+
+#[test]
+fn explanations_are_verified() {
+    let registry = sample();
+    let explanation = registry.explain("sgn-dd", 100).unwrap();
+    assert_eq!(
+        explanation.to_string(),
+        "Region 2 27 sgn-DE\nWhole 1 44 gsg\n= gsg"
+    );
+    assert_eq!(registry.explain("en", 0).unwrap().to_string(), "= en");
+    assert_eq!(registry.explain("sgn-dd", 1), Err(TagError::TooManySteps));
+    assert_eq!(registry.verify("sgn-dd", &explanation.steps, "gsg"), Ok(()));
+    assert_eq!(
+        registry.verify("sgn-dd", &explanation.steps[..1], "gsg"),
+        Err(TraceError::WrongEnd)
+    );
+    let wrong = Step {
+        kind: "region".to_owned(),
+        ..explanation.steps[0].clone()
+    };
+    assert_eq!(
+        registry.verify("sgn-dd", &[wrong], "gsg"),
+        Err(TraceError::NoSuchStep(1))
+    );
+    assert!(matches!(
+        registry.verify("e_n", &[], "en"),
+        Err(TraceError::Tag(TagError::NotATag(_)))
+    ));
+}
+
+#[test]
+fn tags_are_in_conventional_case() {
+    let tag: Tag = "ZH-yue-hANT-hk".parse().unwrap();
+    assert_eq!(
+        (tag.as_str(), tag.class()),
+        ("zh-yue-Hant-HK", Class::Langtag)
+    );
+    assert_eq!(format!("{tag:>16}"), "  zh-yue-Hant-HK");
+    assert_eq!("X-own".parse::<Tag>().unwrap().class(), Class::PrivateUse);
+    assert_eq!(
+        "i-klingon".parse::<Tag>().unwrap().class(),
+        Class::Grandfathered
+    );
+    assert_eq!("e".parse::<Tag>().unwrap_err().to_string(), "BadLanguage 1");
+    let tags: HashSet<Tag> = ["EN", "en", "de"]
+        .iter()
+        .map(|tag| tag.parse().unwrap())
+        .collect();
+    assert_eq!(tags.len(), 2);
+    assert_eq!(
+        sample()
+            .canonical("ZH-YUE".parse::<Tag>().unwrap())
+            .unwrap(),
+        "yue"
+    );
+}
+
+#[test]
+fn upgrades_are_judged() {
+    let (registry, other) = (
+        sample(),
+        Registry::from_bytes(b"File-Date: 2000-01-01\n").unwrap(),
+    );
+    assert_eq!(registry.upgrade_check(&registry), Ok(()));
+    assert_eq!(
+        registry
+            .upgrade_check(&other)
+            .unwrap_err()
+            .cause()
+            .unwrap()
+            .fault(),
+        "U1"
+    );
+    assert_eq!(
+        (other.info().file_date.as_str(), other.info().entries),
+        ("2000-01-01", 0)
+    );
+    assert_eq!(
+        format!("{registry:?}"),
+        "Registry { file_date: \"2024-01-01\", entries: 46 }"
+    );
+    assert_eq!(bcp47::version(), env!("CARGO_PKG_VERSION"));
+}
+
+#[test]
+fn threads_share_a_registry() {
+    let registry = sample();
+    thread::scope(|scope| {
+        for _ in 0..8 {
+            scope.spawn(|| {
+                for _ in 0..2_000 {
+                    assert_eq!(registry.canonical("zh-yue").unwrap(), "yue");
+                    assert_eq!(registry.canonical("en-u-kn-true").unwrap(), "en-u-kn");
+                }
+            });
+        }
+    });
+}

@@ -1,0 +1,3 @@
+pub mod PlaceLemmas
+pub mod KindLemmas
+pub mod SpellLemmas

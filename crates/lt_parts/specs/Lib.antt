@@ -1,0 +1,3 @@
+pub mod PartKinds
+pub mod Names
+pub mod Places

@@ -1,0 +1,121 @@
+//! Lines that are put into a table and found there again.
+use lt_recent::{Recent, ShortText};
+use std::alloc::{AllocError, Global};
+use std::test::Fail;
+
+const LINES: [(&str, &str, bool); 4] = [
+    ("zh-yue", "yue\n", false),
+    ("", "! EmptySubtag 1\n", true),
+    ("EN-us", "en-US\n", false),
+    ("zh-yu", "zh-YU\n", false),
+];
+
+/// Lines of one hash.
+const NEIGHBOURS: [&str; 3] = ["de-AB", "fr-IO", "it-SA"];
+
+const LONG: &str = "de-1901-x-abcdefgh-abcdefgh-abcde";
+
+/// What a table has for the front of a text.
+fn found(
+    alloc: Global,
+    table: &Recent,
+    text: &str,
+    count: usize,
+) -> Result<Option<(Vec<u8>, bool)>, AllocError> {
+    let mut answer = Vec::new(alloc);
+    match table.find(text.as_bytes(), count.min(text.len())) {
+        Some(there) => {
+            there.answer.append_to(&mut answer)?;
+            Ok(Some((answer, there.refused)))
+        }
+        None => Ok(None),
+    }
+}
+
+#[test]
+fn finds_what_was_put(rt: HostRuntime) -> Result<(), Fail> {
+    let mut table = Recent::new(rt.alloc());
+    for (line, answer, refused) in &LINES {
+        assert!(rt;
+            found(rt.alloc(), &table, line, line.len())?.is_none(),
+            "{line}"
+        );
+        table.put(line.as_bytes(), answer.as_bytes(), *refused);
+    }
+    for (line, answer, refused) in &LINES {
+        let there = found(rt.alloc(), &table, line, line.len())?;
+        let is_right = there.is_some_and(|(text, no)| text.as_slice() == answer.as_bytes()
+            && no == *refused);
+        assert!(rt; is_right, "{line}");
+    }
+    Ok(())
+}
+
+#[test]
+fn finds_the_front_of_a_text(rt: HostRuntime) -> Result<(), Fail> {
+    let mut table = Recent::new(rt.alloc());
+    table.put(b"zh-yue", b"yue\n", false);
+    let text = "zh-yue\nen\nand thirty-two bytes more";
+    assert!(rt; found(rt.alloc(), &table, text, 6)?.is_some());
+    assert!(rt; found(rt.alloc(), &table, text, 5)?.is_none());
+    assert!(rt; found(rt.alloc(), &table, text, 7)?.is_none());
+    Ok(())
+}
+
+#[test]
+fn keeps_two_lines_of_one_hash(rt: HostRuntime) -> Result<(), Fail> {
+    let mut table = Recent::new(rt.alloc());
+    for line in &NEIGHBOURS {
+        table.put(line.as_bytes(), line.as_bytes(), false);
+    }
+    for (line, stays) in NEIGHBOURS.iter().zip([false, true, true]) {
+        let there = found(rt.alloc(), &table, line, line.len())?;
+        assert!(rt; there.is_some() == stays, "{line}");
+        let is_right = there.map_or(true, |(text, _)| text.as_slice() == line.as_bytes());
+        assert!(rt; is_right, "{line}");
+    }
+    Ok(())
+}
+
+#[test]
+fn keeps_no_long_line(rt: HostRuntime) -> Result<(), Fail> {
+    let mut table = Recent::new(rt.alloc());
+    table.put(LONG.as_bytes(), b"de\n", false);
+    table.put(b"de", LONG.as_bytes(), false);
+    assert!(rt; found(rt.alloc(), &table, LONG, LONG.len())?.is_none());
+    assert!(rt; found(rt.alloc(), &table, LONG, 2)?.is_none());
+    Ok(())
+}
+
+#[test]
+fn compares_each_byte(rt: HostRuntime) -> Result<(), Fail> {
+    for place in 0..32usize {
+        let mut other = [b'a'; 32];
+        other[place] = b'b';
+        let Some(first) = ShortText::front(&[b'a'; 32], 32) else {
+            return Err("short".into());
+        };
+        let Some(second) = ShortText::front(&other, 32) else {
+            return Err("short".into());
+        };
+        assert!(rt; !first.is(&second) && first.is(&first));
+    }
+    Ok(())
+}
+
+#[test]
+fn appends_each_length(rt: HostRuntime) -> Result<(), Fail> {
+    for count in 0..33usize {
+        let Some(text) = ShortText::front(&[b'a'; 40], count) else {
+            return Err("short".into());
+        };
+        let mut texts = vec![in rt.alloc(); b'-'; count]?;
+        text.append_to(&mut texts)?;
+        text.append_to(&mut texts)?;
+        let is_right = texts.len() == 3 * count
+            && texts[..count].iter().all(|byte| *byte == b'-')
+            && texts[count..].iter().all(|byte| *byte == b'a');
+        assert!(rt; is_right, "{count}");
+    }
+    Ok(())
+}

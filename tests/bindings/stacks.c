@@ -1,0 +1,124 @@
+/* How much of a thread's stack each call touches: at most the kilobytes that docs/C.md promises, on tags that are made
+   against it too. Arguments: a registry, the kilobytes. */
+#include "support.h"
+#include <pthread.h>
+
+#define STACK (64 << 10)
+static _Alignas(4096) unsigned char stack[STACK];
+static bcp47_registry *registry;
+static char *bytes, line[BCP47_LINE], *buffer;
+static size_t length, room = 1 << 24;
+static const char *text;
+
+static void ask_nothing(void) {}
+
+static void ask_open(void) {
+    bcp47_registry *other;
+    CHECK(!bcp47_open(&other, bytes, length, line, sizeof line).status);
+    bcp47_close(other);
+}
+
+static void ask_open_refused(void) {
+    bcp47_registry *other;
+    CHECK(bcp47_open(&other, "%%\nType: tongue\n", 16, line, sizeof line).status == BCP47_BAD_RECORD);
+}
+
+static void ask_upgrade(void) {
+    CHECK(!bcp47_upgrade_check(registry, registry).status);
+}
+
+static void ask_canonical(void) {
+    bcp47_canonical(registry, text, strlen(text), buffer, room);
+}
+
+static void ask_extlang(void) {
+    bcp47_extlang(registry, text, strlen(text), buffer, room);
+}
+
+static void ask_classify(void) {
+    bcp47_classify(registry, text, strlen(text), buffer, room);
+    bcp47_classify(NULL, text, strlen(text), buffer, room);
+}
+
+static void ask_explain(void) {
+    bcp47_explain(registry, text, strlen(text), buffer, room);
+}
+
+static void ask_explanation(void) {
+    char *lines;
+    bcp47_explanation(registry, text, strlen(text), 1000, &lines);
+    bcp47_free(lines);
+}
+
+static void ask_others(void) {
+    bcp47_step step = {BCP47_REGION, 2, 1};
+    bcp47_validate(registry, text, strlen(text));
+    bcp47_equal(registry, text, strlen(text), "sgn-DD", 6, NULL, 0);
+    bcp47_verify(registry, text, strlen(text), &step, 1, text, strlen(text));
+}
+
+static void *run(void *data) {
+    (*(void (**)(void))data)();
+    return NULL;
+}
+
+/* The bytes of the stack of a thread that a call touches. */
+static size_t touched(void (*call)(void)) {
+    pthread_t id;
+    pthread_attr_t attributes;
+    size_t left = 0;
+    memset(stack, 0xA5, sizeof stack);
+    pthread_attr_init(&attributes);
+    if (pthread_attr_setstack(&attributes, stack, sizeof stack) || pthread_create(&id, &attributes, run, &call)) exit(4);
+    pthread_join(id, NULL);
+    pthread_attr_destroy(&attributes);
+    while (left < sizeof stack && stack[left] == 0xA5) left++;
+    return sizeof stack - left;
+}
+
+int main(int count, char **words) {
+    static char keys[1100] = "en", variants[1100] = "de", fields[1100] = "en-t-de", singletons[1100] = "en", parts[1100] = "x";
+    static const char *const few[] = {"en", "zh-yue", "I-KLINGON", "sgn-DD", "en-u-kn-true", "en_US", "xx", "hy-arevela",
+                                      "de-1901-1996-x-a", "en-t-iw-m0-names", "en-GB-oed", "sl-rozaj-biske-1994"};
+    if (count < 3) return 3;
+    size_t promised = (size_t)atol(words[2]) << 10, most = 0, alone;
+    strcat(keys, "-u");
+    for (int i = 329; i > 0; i--) sprintf(keys + strlen(keys), "-%c%c", 'a' + i / 26 % 26, 'a' + i % 26);
+    for (int i = 0; i < 165; i++) sprintf(variants + strlen(variants), "-v%04d", i);
+    for (int i = 0; i < 100; i++) sprintf(fields + strlen(fields), "-%c%d-abcde", 'z' - i / 10, i % 10);
+    for (char c = 'a'; c < 'x'; c++) sprintf(singletons + strlen(singletons), "-%c-abc-def", c == 'u' || c == 't' ? '1' + (c == 'u') : c);
+    for (int i = 0; i < 110; i++) strcat(parts, "-abcdefgh");
+    const char *const made[] = {keys, variants, fields, singletons, parts};
+    bytes = read_all(words[1], &length);
+    registry = opened(words[1]);
+    if (!(buffer = malloc(room))) return 4;
+    alone = touched(ask_nothing);
+    static const struct {
+        const char *name;
+        void (*call)(void);
+    } of_none[] = {{"open", ask_open}, {"open refused", ask_open_refused}, {"upgrade_check", ask_upgrade}},
+      of_text[] = {{"canonical", ask_canonical}, {"extlang", ask_extlang},         {"classify", ask_classify},
+                   {"explain", ask_explain},     {"explanation", ask_explanation}, {"others", ask_others}};
+    for (size_t i = 0; i < sizeof of_none / sizeof *of_none; i++) {
+        size_t bytes_touched = touched(of_none[i].call);
+        if (bytes_touched > most) most = bytes_touched;
+        printf("%s: %zu bytes\n", of_none[i].name, bytes_touched);
+        CHECK(bytes_touched <= promised);
+    }
+    for (size_t i = 0; i < sizeof of_text / sizeof *of_text; i++) {
+        size_t most_here = 0;
+        for (size_t k = 0; k < sizeof few / sizeof *few + sizeof made / sizeof *made; k++) {
+            text = k < sizeof few / sizeof *few ? few[k] : made[k - sizeof few / sizeof *few];
+            size_t bytes_touched = touched(of_text[i].call);
+            if (bytes_touched > most_here) most_here = bytes_touched;
+        }
+        if (most_here > most) most = most_here;
+        printf("%s: %zu bytes\n", of_text[i].name, most_here);
+        CHECK(most_here <= promised);
+    }
+    bcp47_close(registry);
+    free(bytes);
+    free(buffer);
+    printf("stacks: at most %zu bytes, of which a thread that calls nothing has %zu\n", most, alone);
+    return failures != 0;
+}

@@ -1,0 +1,73 @@
+#!/bin/bash
+# Compares what stands in several places of the repository: the version with VERSION, the licence with LICENSE, the picture
+# of the layers with crates.txt. It needs no toolchain. The last line counts; the status is 1 if any of them differs.
+cd "$(dirname "$0")/.." || exit 1
+passed=0
+failed=0
+
+# passes NAME COMMAND..: runs a command, and counts it.
+passes() {
+    local name=$1
+    shift
+    if "$@"; then
+        passed=$((passed + 1))
+    else
+        failed=$((failed + 1))
+        echo "failed: $name"
+    fi
+}
+
+# says FILE VERSION PATTERN: the only line of the file that fits the pattern has this version where the pattern has a group.
+says() {
+    passes "$1: $2" test "$(sed -nE "s@^$3\$@\\1@p" "$1")" = "$2"
+}
+
+version=$(cat VERSION)
+passes "VERSION has three numbers" grep -qxE '[0-9]+\.[0-9]+\.[0-9]+' VERSION
+says crates/lt_words/src/program.rt "$version" 'const VERSION: &str = "([0-9.]+) \(.*\)";'
+says docs/langtag.1 "$version" '\.TH LANGTAG 1 [0-9-]+ "langtag ([0-9.]+)" "User Commands"'
+says bindings/c/bcp47.pc.in "$version" 'Version: ([0-9.]+)'
+says bindings/c/bcp47.h "$version" '#define BCP47_VERSION "([0-9.]+)"'
+says bindings/python/wheel_of_package.py "$version" 'NAME, VERSION = "bcp47", "([0-9.]+)"'
+says bindings/python/pyproject.toml "$version" 'version = "([0-9.]+)"'
+says bindings/rust/Cargo.toml "$version" 'version = "([0-9.]+)"'
+says bindings/rust/bcp47/Cargo.toml "$version" 'bcp47-sys = \{ .*version = "([0-9.]+)" \}'
+says bindings/node/package.json "$version" '  "version": "([0-9.]+)",'
+says CHANGELOG.md "$version" "## ($version)"
+[ -e packaging/debian/changelog ] && says packaging/debian/changelog "$version" "langtag \\(($version)-[0-9]+\\) .*"
+
+# The extension of PostgreSQL has a version of its own, which changes where its functions do: each script leads to one.
+says bindings/postgresql/bcp47.control "${version%.*}" "default_version = '([0-9.]+)'"
+passes "a script of PostgreSQL's version" ls bindings/postgresql/bcp47--*"${version%.*}.sql" > /dev/null
+
+licence='MIT OR Apache-2.0'
+passes "LICENSE names its licence" test "$(head -n 1 LICENSE)" = "SPDX-License-Identifier: $licence"
+passes "LICENSE-MIT is of the holder" grep -qx 'Copyright (c) 2026 Tiugasem maintainers' LICENSE-MIT
+passes "LICENSE-APACHE is whole" test "$(sha256sum < LICENSE-APACHE)" = \
+    'cfc7749b96f63bd31c3c42b5c471bf756814053e847c10f3eb003417bc523d30  -'
+for file in bindings/c/bcp47.h bindings/c/bcp47.pc.in bindings/python/pyproject.toml bindings/postgresql/bcp47.control; do
+    passes "$file has the licence" grep -q "SPDX-License-Identifier: $licence" "$file"
+done
+
+# What is built has crates of the kit in it: LICENSE, the packages' copyright and a release's list name each with its licence.
+passes "the licences of the kit's crates" python3 -B - << 'END'
+import re, sys
+from pathlib import Path
+
+sys.path.insert(0, "packaging")
+import parts
+
+found = parts.uses()
+inside = parts.kit_below("langtag", found) | parts.kit_below("bcp47_c", found)
+inside -= {"core", "std", "std_alloc", "std_collections", "std_heap", "std_io"}
+named = re.findall(r"^  (\w+) +((?:MIT|Apache).*?)  ", Path("LICENSE").read_text(), re.M)
+copyright = Path("packaging/debian/copyright").read_text()
+packaged = {name for line in re.findall(r"^Files: (\w.*)", copyright, re.M) for name in line.split()}
+if not dict(named) == parts.LICENCES or not set(parts.LICENCES) == inside == packaged:
+    sys.exit(f"crates.txt: {sorted(inside)}, LICENSE: {named}, copyright: {sorted(packaged)}")
+END
+
+passes "CONTRIBUTING.md has the picture of crates.txt" tools/layers_picture.py --check
+
+echo "repository: $passed passed, $failed failed"
+[ "$failed" = 0 ]
