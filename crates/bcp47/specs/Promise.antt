@@ -5,11 +5,10 @@ use Rattle.lt_jar.specs.Views.{IsFaultOf}
 use Rattle.lt_jar.specs.declared.devices.Device.{Device}
 use Rattle.lt_jar.specs.declared.faults.JarFaultKind.TheVariants as jar_kinds
 use Rattle.lt_registry.specs.Parts.{EntryParts}
-use Rattle.lt_registry.specs.ReadRegistry.{ReadsRegistry}
+use Rattle.lt_registry.specs.ReadRegistry.{Reading, ReadsRegistry}
 use Rattle.lt_registry.specs.Records.{HasEntries}
 use Rattle.lt_registry.specs.RecordRefusals.{IsRecordRefusal}
 use Rattle.lt_registry.specs.declared.faults.RecordFaultKind.TheVariants as record_kinds
-use Rattle.lt_registry.specs.declared.faults.RegistryFault.{RegistryFault}
 use Rattle.lt_registry.specs.declared.faults.RegistryFault.TheVariants as faults
 use Rattle.lt_check.specs.Conditions.{IsChecked, IsFinding}
 use Rattle.lt_canon.specs.Laws.{CanonicalOrRepeats, CanonicalTwiceIsOnce, CanonicalTextTwiceIsOnce}
@@ -38,10 +37,6 @@ pub record Promise (R : List EntryParts) : Type 0 where
   pub equivalence : EquivalenceIsEqualText R
 
 -- ---- how it is read (RFC 5646, 3.1)
-
--- what was read: entries, or why there are none
-abbrev pub Reading : Type 0
-Reading = Result (List EntryParts) RegistryFault
 
 -- what bytes are read as; nothing is owed where memory ran out
 abbrev pub IsReadingOf : List ℕ → Reading → Type 0

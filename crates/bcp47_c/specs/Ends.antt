@@ -19,7 +19,8 @@ use Rattle.bcp47.specs.declared.errors.RegistryError.TheVariants as errors
 use Rattle.bcp47_c.specs.Handles.{Held}
 use Rattle.bcp47_c.specs.Numbers.{class, condition, file_fault, record_fault, upgrade_condition}
 use Rattle.bcp47_c.specs.Outcomes.{ended, outcome, IsDelivered, IsRefusedAsOwed}
-use Rattle.bcp47_c.specs.Texts.{IsEqualityOf, IsPairRefusal, IsReadingRefusal, IsStepCount, IsValidityRefusal, IsValidText}
+use Rattle.lt_canon.specs.TextAnswers.{IsEqualityOf, IsPairRefusal, IsValidityRefusal}
+use Rattle.bcp47_c.specs.Texts.{IsReadingRefusal, IsStepCount, IsValidText}
 use Rattle.bcp47_c.specs.declared.outcomes.Outcome.{Outcome}
 use Rattle.bcp47_c.specs.declared.outcomes.Said.{Said}
 

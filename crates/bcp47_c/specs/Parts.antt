@@ -2,7 +2,8 @@
 use Rattle.std.specs.Prelude.{ℕ, ◌≡◌, ◌≢◌, ◌≤◌, ◌<◌, ◌⊎◌, List, [], take, drop, length, map, Option, Some, None}
 use Rattle.lt_tag.specs.Faults.{HasTag}
 use Rattle.lt_tag.specs.Parts.{TagForm}
-use Rattle.lt_parts.specs.Places.{parts_of, text_of}
+use Rattle.lt_tag.specs.Texts.{text_of}
+use Rattle.lt_parts.specs.Places.{parts_of}
 use Rattle.lt_parts.specs.declared.kinds.PartKind.{PartKind}
 use Rattle.lt_parts.specs.declared.kinds.PartKind.TheVariants as kinds
 use Rattle.lt_parts.specs.declared.placing.Part.{Part}

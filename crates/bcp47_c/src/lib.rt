@@ -11,12 +11,12 @@ ghost use Rattle.lt_registry.specs.Parts.{EntryParts};
 ghost use Rattle.lt_rewrite.specs.Names.{name_of};
 ghost use Rattle.lt_rewrite.specs.declared.steps.StepKind.{StepKind};
 ghost use Rattle.lt_canon.specs.ExplanationTexts.{IsExplanationTextOf};
+ghost use Rattle.lt_canon.specs.TextAnswers.{IsExtlangTextOf};
 ghost use Rattle.lt_canon.specs.Texts.{IsCanonicalTextOf, IsTextRefusal};
 ghost use Rattle.bcp47_c.specs.Ends.{ChecksUpgrade, Classifies, Compares, CountsSteps, Opens, Shares, Validates};
 ghost use Rattle.bcp47_c.specs.Names.{fault_names, status_names};
 ghost use Rattle.bcp47_c.specs.Numbers as number_of;
 ghost use Rattle.bcp47_c.specs.Outcomes.{Answers, IsDelivered, ended};
-ghost use Rattle.bcp47_c.specs.Texts.{IsExtlangTextOf};
 ghost use Rattle.bcp47_c.specs.Traces.{Verifies};
 
 mod blocks;

@@ -5,7 +5,7 @@ ghost use Rattle.lt_canon.specs.Texts.{IsCanonicalTextOf, IsTextRefusal};
 ghost use Rattle.bcp47.specs.Promise.{ReadsBytes};
 ghost use Rattle.bcp47_c.specs.Ends.{ChecksUpgrade, Classifies, Compares, CountsSteps, Validates};
 ghost use Rattle.bcp47_c.specs.Outcomes.{Answers};
-ghost use Rattle.bcp47_c.specs.Texts.{IsExtlangTextOf};
+ghost use Rattle.lt_canon.specs.TextAnswers.{IsExtlangTextOf};
 ghost use Rattle.bcp47_c.specs.Traces.{Verifies};
 
 use crate::errors::upgrade_said;

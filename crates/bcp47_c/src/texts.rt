@@ -3,7 +3,8 @@ ghost use Rattle.std.specs.Prelude.{◌≡◌, IfOk, IfErr, OnOk};
 ghost use Rattle.lt_tag.specs.Faults.{HasTag};
 ghost use Rattle.lt_canon.specs.Texts.{IsTextRefusal};
 ghost use Rattle.bcp47_c.specs.Ends.{Classifies};
-ghost use Rattle.bcp47_c.specs.Texts.{IsEqualityOf, IsExtlangTextOf, IsPairRefusal, IsStepCount, IsValidityRefusal, IsValidText};
+ghost use Rattle.lt_canon.specs.TextAnswers.{IsEqualityOf, IsExtlangTextOf, IsPairRefusal, IsValidityRefusal};
+ghost use Rattle.bcp47_c.specs.Texts.{IsStepCount, IsValidText};
 ghost use Rattle.bcp47_c.specs.Traces.{IsPairReadingRefusal};
 
 use crate::numbers::{DONE, class};

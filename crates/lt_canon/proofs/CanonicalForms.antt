@@ -88,7 +88,8 @@ use Rattle.lt_canon.specs.TraceLaws.{TracesReachTheirEnd, TracesHaveOneEnd}
 use Rattle.lt_canon.specs.Traces.{IsValidTrace, IsMisstep, IsTraceFault, IsFollowFault, of_invalid, no_trace_memory}
 use Rattle.lt_canon.specs.declared.traces.TraceFault.{TraceFault}
 use Rattle.lt_canon.specs.declared.traces.TraceFault.TheVariants as faults
-use Rattle.lt_canon.specs.ExplanationTexts.{AppendsSteps, AreStepLines, step_line}
+use Rattle.lt_tag.specs.Texts.{text_of}
+use Rattle.lt_canon.specs.ExplanationTexts.{AppendsSteps, AreStepLines, step_line, tag_line}
 use Rattle.std.proofs.lemmas.Bool.Decides.{nat_tests}
 use Rattle.lt_rewrite.specs.Applying.{CoreLeads, ExtensionsLeads}
 use Rattle.lt_rewrite.specs.Runs.{rank_of, kind_rank, extension_rank, IsNoLater, IsFirst, NoneLeads, IsRun, Adds, AddsOnCore, AddsOnExtensions}
@@ -354,10 +355,6 @@ module _ (R : List EntryParts) (C : IsChecked R) where
     some = λ t V r. elim (form_or_repeat R C t V) [ inl F ↦ absurd (F.repeats_none r) | inr n ↦ (n.0, n.1.named) ];
     one = one;
   }
-
--- the text of a tag
-abbrev text_of : TagForm → List ℕ
-text_of t = conventional (spell t)
 
 same_form_text : (R : List EntryParts) (t u c d : TagForm) → IsCanonicalFormOf R t c → IsCanonicalFormOf R u d → (text_of c ≡ text_of d) ↔ (c ≡ d)
 same_form_text R t u c d h k = same_text c d h.canonical.valid.proper.tag.tag k.canonical.valid.proper.tag.tag
@@ -702,7 +699,7 @@ pub record LinesSoFar (R : List EntryParts) (t : TagForm) (steps : List Step) (e
 
 -- a step led on, and its line was appended
 pub explaining_more : (R : List EntryParts) (t : TagForm) (steps : List Step) (end : TagForm) (old new more : List ℕ) (i : ℕ) (default : Step) (here next : TagForm) → i < length steps
-    → LinesSoFar R t steps end old new i here → LeadsBy R here (get_or steps i default) next → IsProper R next → more ≡ new ++ step_line (get_or steps i default) next
+    → LinesSoFar R t steps end old new i here → LeadsBy R here (get_or steps i default) next → IsProper R next → more ≡ new ++ step_line (get_or steps i default) (tag_line next)
     → LinesSoFar R t steps end old more (i + 1) next
 explaining_more R t steps end old new more i default here next h now on proper grown =
     let step = get_or steps i default in
@@ -711,8 +708,8 @@ explaining_more R t steps end old new more i default here next h now on proper g
     record {
       proper = proper;
       ahead = rw same at ahead.2;
-      completes = λ rest printed. rw (grown, append_assoc new (step_line step next) rest)
-          (now.completes (step_line step next ++ rest) (rw (drop_more steps i default h) (record { after = next; leads = on; rest = rest; printed = printed; line_is = refl })));
+      completes = λ rest printed. rw (grown, append_assoc new (step_line step (tag_line next)) rest)
+          (now.completes (step_line step (tag_line next) ++ rest) (rw (drop_more steps i default h) (record { after = next; leads = on; rest = rest; printed = printed; line_is = refl })));
     }
 
 -- all steps led on

@@ -5,3 +5,4 @@ pub mod Distinctness
 pub mod TagRepeats
 pub mod CanonicalForms
 pub mod StayingTags
+pub mod TextRefusals

@@ -1,10 +1,9 @@
 -- The text of an explanation: the steps to the canonical form of a tag, one a line, and that form.
 use Rattle.std.specs.Prelude.{◌≡◌, ℕ, List, [], ◌∷◌, ◌++◌, codes}
 use Rattle.std.specs.Fmt.{decimal}
-use Rattle.lt_tag.specs.Conventional.{conventional}
 use Rattle.lt_tag.specs.Faults.{HasTag}
 use Rattle.lt_tag.specs.Parts.{TagForm}
-use Rattle.lt_tag.specs.WellFormed.{spell}
+use Rattle.lt_tag.specs.Texts.{text_of}
 use Rattle.lt_registry.specs.Parts.{EntryParts}
 use Rattle.lt_rewrite.specs.Labels.{LeadsBy}
 use Rattle.lt_rewrite.specs.Names.{name_of}
@@ -13,12 +12,11 @@ use Rattle.lt_canon.specs.Explaining.{IsExplanation}
 
 -- the text of a tag, ended by a line feed
 abbrev pub tag_line : TagForm → List ℕ
-tag_line t = conventional (spell t) ++ 10 ∷ []
+tag_line t = text_of t ++ 10 ∷ []
 
--- the kind, the place and the number of a step, and the text to which it leads
-abbrev pub step_line : Step → TagForm → List ℕ
-step_line step after =
-    name_of step.kind ++ 32 ∷ [] ++ decimal step.place ++ 32 ∷ [] ++ decimal step.number ++ 32 ∷ [] ++ tag_line after
+-- the kind, the place and the number of a step, with a space after each, and then a text
+abbrev pub step_line : Step → List ℕ → List ℕ
+step_line step text = name_of step.kind ++ 32 ∷ (decimal step.place ++ 32 ∷ (decimal step.number ++ 32 ∷ text))
 
 -- a step leads from a tag to one from which the steps after it lead on, and its line is before theirs
 pub record StepPrinted (R : List EntryParts) (t : TagForm) (step : Step)
@@ -27,7 +25,7 @@ pub record StepPrinted (R : List EntryParts) (t : TagForm) (step : Step)
   pub leads : LeadsBy R t step after
   pub rest : List ℕ
   pub printed : Rest after rest
-  pub line_is : lines ≡ step_line step after ++ rest
+  pub line_is : lines ≡ step_line step (tag_line after) ++ rest
 
 -- the steps lead one after another from the tag to the end, and these are their lines
 abbrev pub AreStepLines : List EntryParts → List Step → TagForm → TagForm → List ℕ → Type 0

@@ -3,6 +3,7 @@ pub mod Refusals
 pub mod Names
 pub mod Settled
 pub mod Texts
+pub mod TextAnswers
 pub mod Equivalence
 pub mod ExtlangForm
 pub mod Laws

@@ -30,7 +30,7 @@ fn append_step(
     step: &Step,
     after: &Tag,
 ) -> Result<(), OutOfMemory>
-    ensures { OnOk result (lines.new.items ≡ lines.old.items ++ step_line step.now after.now) }
+    ensures { OnOk result (lines.new.items ≡ lines.old.items ++ step_line step.now (tag_line after.now)) }
 {
     let (name, place, number) = (step.kind.name(), step.place, step.number);
     let label = format!(in alloc; "{name} {place} {number} ")?;

@@ -52,7 +52,7 @@ pub record IsFresh (s : JarSource) : Type 0 where
 abbrev pub LastGave : {R : Type 0} → JarSource → Device R → Type 0
 LastGave s device = 0 < s.turns → 0 < last_given_of device
 
--- this many reads were made, which gave these bytes, at most 65,536 each
+-- this many reads were made, which gave these bytes, together at most 65,536 for each read
 pub record IsRead {R : Type 0} (remaining : R → Option (List ℕ)) (old new : JarSource)
     (before after : Device R) (read : List ℕ) (reads : ℕ) : Type 0 where
   pub consumes : Consumes (remaining (inner_of before)) (remaining (inner_of after)) read

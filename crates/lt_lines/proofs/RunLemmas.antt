@@ -8,7 +8,7 @@ use Rattle.lt_jar.specs.declared.devices.Device.{Device}
 use Rattle.lt_lines.specs.DeviceOutput.{IsFrontOf}
 use Rattle.lt_lines.specs.declared.quotes.Place.TheVariants as places
 use Rattle.lt_lines.specs.Answering.{CountsFeed, IsTaken, TakesPiece, WritesOwed, place_then, part_kept, AreRecent, FinishesLines, HasRoom, IsStop}
-use Rattle.lt_lines.specs.Owed.{IsOneLine, Terms, EndsInQuotes, IsBegun, IsOwed, units_of}
+use Rattle.lt_lines.specs.Owed.{Terms, EndsInQuotes, IsBegun, IsOwed, units_of}
 use Rattle.lt_lines.specs.declared.answering.Answering.{Answering}
 use Rattle.lt_lines.specs.declared.faults.ToolFault.{ToolFault}
 use Rattle.lt_lines.proofs.DeviceLemmas.{failed_from}

@@ -11,7 +11,7 @@ use Rattle.lt_lines.specs.Refusals.{IsTold}
 use Rattle.lt_lines.specs.Quotes.{is_quoted, place_at}
 use Rattle.lt_lines.specs.declared.quotes.Place.{Place}
 use Rattle.lt_lines.specs.declared.quotes.Place.TheVariants as places
-use Rattle.lt_lines.specs.Owed.{AreReplies, EndsInQuotes, IsBegun, IsOneLine, IsOwed, IsReplyTo, IsRowReply, IsTextReply, IsUnit, IsWhole, Reply, Terms, bytes_in, ended, feeds_in, is_open, place_of, refused_in, reply, row_line, units_of}
+use Rattle.lt_lines.specs.Owed.{AreReplies, EndsInQuotes, IsBegun, IsOwed, IsReplyTo, IsRowReply, IsTextReply, IsUnit, IsWhole, Reply, Terms, bytes_in, ended, feeds_in, is_open, place_of, refused_in, reply, row_line, units_of}
 use Rattle.lt_lines.specs.DeviceOutput.{IsFrontOf}
 use Rattle.lt_recent.specs.declared.Kept.{Kept}
 use Rattle.lt_ends.specs.Ends.{AreEnds}

@@ -2,7 +2,7 @@
 use Rattle.std.specs.Prelude.{◌≡◌, ◌≢◌, ◌⊎◌, ◌+◌, ◌==◌, ◌&&◌, ℕ, Bool, true, false, List, [], ◌∷◌, ◌++◌, if◌then◌else◌, length, codes}
 use Rattle.std.specs.List.{All, AllByRecursion, count_by}
 use Rattle.std.specs.Io.BufRead.{ends_with_byte}
-use Rattle.lt_jar.specs.Lines.{content_of, lines_of}
+use Rattle.lt_jar.specs.Lines.{IsOneLine, content_of, lines_of}
 use Rattle.lt_registry.specs.Parts.{EntryParts}
 use Rattle.lt_canon.specs.Texts.{IsCanonicalTextOf, IsTextRefusal}
 use Rattle.lt_canon.specs.declared.refusals.TextRefusal.{TextRefusal}
@@ -146,10 +146,6 @@ bytes_in (r ∷ replies) = r.bytes ++ bytes_in replies
 -- how many of them refuse what they answer
 abbrev pub refused_in : List Reply → ℕ
 refused_in replies = count_by (λ r. r.refused) replies
-
--- no line feed
-abbrev pub IsOneLine : List ℕ → Type 0
-IsOneLine text = All (λ byte. byte ≢ 10) text
 
 -- the lines of a text, as their form says; those of CSV are its records
 abbrev pub units_of : LineForm → List ℕ → List (List ℕ)

@@ -1,6 +1,7 @@
 //! Answering lines that come in pieces.
 ghost use Rattle.std.specs.Prelude.{◌≡◌, ◌≤◌, ◌+◌, ◌-◌, ◌++◌, ◌∷◌, List, ℕ, [], false, IfOk, OnOk, length, take, vec_len};
-ghost use Rattle.lt_lines.specs.Owed.{IsOneLine, Terms, feeds_in, terms};
+ghost use Rattle.lt_jar.specs.Lines.{IsOneLine};
+ghost use Rattle.lt_lines.specs.Owed.{Terms, feeds_in, terms};
 ghost use Rattle.lt_lines.specs.Quotes.{is_quoted};
 ghost use Rattle.lt_lines.specs.Answering as spec;
 

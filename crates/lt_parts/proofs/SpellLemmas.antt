@@ -17,7 +17,8 @@ use Rattle.lt_tag.proofs.LetterLemmas.{join_pieces}
 use Rattle.lt_tag.proofs.OneTagLemmas.{text_of_tag}
 use Rattle.lt_tag.proofs.PartsLaws.{u_decided, t_decided}
 use Rattle.lt_parts.specs.PartKinds.{each, core_kinds, keyword_kinds, u_kinds, in_source, source_kinds, field_kinds, t_kinds, subtag_kinds, extension_kinds, private_kinds, part_kinds}
-use Rattle.lt_parts.specs.Places.{text_of, placed, parts_of, cut_of, Spell}
+use Rattle.lt_tag.specs.Texts.{text_of}
+use Rattle.lt_parts.specs.Places.{placed, parts_of, cut_of, Spell}
 use Rattle.lt_parts.specs.declared.kinds.PartKind.{PartKind}
 use Rattle.lt_parts.specs.declared.kinds.PartKind.TheVariants as kinds
 use Rattle.lt_parts.specs.declared.placing.Part.{Part}

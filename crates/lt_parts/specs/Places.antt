@@ -1,17 +1,12 @@
 -- Where the parts of a tag are in its text.
 use Rattle.std.specs.Prelude.{ℕ, ◌≡◌, ◌+◌, List, [], ◌∷◌, length, map, take, drop}
 use Rattle.std.specs.List.{join_with_byte}
-use Rattle.lt_tag.specs.Conventional.{conventional}
 use Rattle.lt_tag.specs.Lists.{pieces}
 use Rattle.lt_tag.specs.Parts.{TagForm, LangTag, PrivateUse, Grandfathered}
-use Rattle.lt_tag.specs.WellFormed.{spell}
+use Rattle.lt_tag.specs.Texts.{text_of}
 use Rattle.lt_parts.specs.PartKinds.{part_kinds}
 use Rattle.lt_parts.specs.declared.kinds.PartKind.{PartKind}
 use Rattle.lt_parts.specs.declared.placing.Part.{Part}
-
--- the text of a tag in conventional case (RFC 5646, 2.1.1)
-abbrev pub text_of : TagForm → List ℕ
-text_of tag = conventional (spell tag)
 
 -- what the parts of a tag are in its text: what is between hyphens; a grandfathered tag is one part (RFC 5646, 2.1 and
 -- 2.2.8)

@@ -1,7 +1,8 @@
 //! Where the parts of a tag are in its text.
 ghost use Rattle.std.specs.Prelude.{◌≡◌, ◌==◌, IfOk, position};
 ghost use Rattle.lt_tag.specs.Lists.{pieces};
-ghost use Rattle.lt_parts.specs.Places.{parts_of, placed, text_of, Spell};
+ghost use Rattle.lt_tag.specs.Texts.{text_of};
+ghost use Rattle.lt_parts.specs.Places.{parts_of, placed, Spell};
 
 use crate::kinds::PartKind;
 use crate::walks::part_kinds;

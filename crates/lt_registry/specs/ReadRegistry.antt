@@ -18,6 +18,10 @@ use Rattle.lt_registry.specs.RecordRefusals.{IsRecordRefusal}
 use Rattle.lt_registry.specs.declared.faults.RegistryFault.{RegistryFault}
 use Rattle.lt_registry.specs.declared.faults.RegistryFault.TheVariants as faults
 
+-- what a reading gave: the entries, or why there are none
+abbrev pub Reading : Type 0
+Reading = Result (List EntryParts) RegistryFault
+
 -- the bytes have these records, nothing is left to read, and the device did not fail
 pub record IsReadWhole {R : Type 0} (remaining : R → Option (List ℕ))
     (before after : Device R) (bytes : List ℕ) (records : List (List Field)) : Type 0 where
@@ -39,7 +43,7 @@ pub record IsJarRefusal {R : Type 0} (remaining : R → Option (List ℕ))
 
 -- the entries of the records, or the fault of the lowest record at fault; a fault of the text goes first
 abbrev pub AnswersAs : {R : Type 0} → (R → Option (List ℕ)) → (before after : Device R)
-    → List ℕ → ℕ → Result (List EntryParts) RegistryFault → Type 0
+    → List ℕ → ℕ → Reading → Type 0
 AnswersAs remaining before after bytes reads (Ok registry) =
     (records : List (List Field)) × IsReadWhole remaining before after bytes records × HasEntries records registry
 AnswersAs remaining before after bytes reads (Err (faults.Record fault)) =
@@ -48,15 +52,15 @@ AnswersAs remaining before after bytes reads (Err (faults.Jar fault)) =
     IsJarRefusal remaining before after bytes reads fault
 
 -- the answer is that a read failed
-abbrev pub IsReadFailure : Result (List EntryParts) RegistryFault → Type 0
+abbrev pub IsReadFailure : Reading → Type 0
 IsReadFailure (Ok registry) = ⊥
 IsReadFailure (Err (faults.Record fault)) = ⊥
 IsReadFailure (Err (faults.Jar fault)) = fault.kind ≡ jars.Read
 
--- This many reads gave these bytes, at most 65,536 each, and the answer is theirs. The device fails only where it
--- is reported.
+-- This many reads gave these bytes, together at most 65,536 for each read, and the answer is theirs. The device fails
+-- only where it is reported.
 pub record ReadsRegistry {R : Type 0} (remaining : R → Option (List ℕ))
-    (before after : Device R) (result : Result (List EntryParts) RegistryFault) : Type 0 where
+    (before after : Device R) (result : Reading) : Type 0 where
   pub bytes : List ℕ
   pub reads : ℕ
   pub consumes : Consumes (remaining (inner_of before)) (remaining (inner_of after)) bytes

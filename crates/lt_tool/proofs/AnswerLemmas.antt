@@ -2,10 +2,11 @@
 use Rattle.std.proofs.Common.{◌≡◌, inl, inr, ℕ, List, Result, Ok, Err, IfOk}
 use Rattle.lt_tag.specs.declared.faults.OutOfMemory.{OutOfMemory}
 use Rattle.lt_registry.specs.Parts.{EntryParts}
+use Rattle.lt_registry.specs.ReadRegistry.{Reading}
 use Rattle.lt_lines.specs.DeviceOutput.{WritesText}
 use Rattle.lt_lines.specs.declared.faults.ToolFault.{ToolFault}
 use Rattle.lt_tool.specs.Printed.{PrintsOrLacks, PrintsResult}
-use Rattle.lt_tool.specs.Registries.{Answers, ByRegistry, IsJudged, IsRegistryLine, IsRegistryRefusal, Reading, ReadsFile, RefusesRegistry, refused_end}
+use Rattle.lt_tool.specs.Registries.{Answers, ByRegistry, IsJudged, IsRegistryLine, IsRegistryRefusal, ReadsFile, RefusesRegistry, refused_end}
 use Rattle.lt_tool.specs.Streams.{Stream}
 use Rattle.lt_tool.specs.UpgradeCommand.{IsMarkedLine, RefusesMarked, UpgradesFiles}
 use Rattle.lt_tool.specs.Written.{Says}

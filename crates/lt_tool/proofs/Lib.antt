@@ -1,4 +1,3 @@
 -- Lemmas on the program's calls.
 pub mod AnswerLemmas
-pub mod PairLemmas
 pub mod VerdictLemmas

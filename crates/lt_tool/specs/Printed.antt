@@ -9,6 +9,7 @@ use Rattle.lt_tag.specs.declared.faults.TagFault.{TagFault}
 use Rattle.lt_tag.specs.declared.tags.Class.{Class}
 use Rattle.lt_tag.specs.declared.tags.Class.TheVariants as classes
 use Rattle.lt_registry.specs.Parts.{EntryParts}
+use Rattle.lt_registry.specs.ReadRegistry.{Reading}
 use Rattle.lt_canon.specs.declared.refusals.TextRefusal.TheVariants as refusals
 use Rattle.lt_lines.specs.Faults.{fault_said}
 use Rattle.lt_lines.specs.Refusals.{IsRefusalLine}
@@ -23,7 +24,7 @@ use Rattle.lt_words.specs.declared.commands.Command.TheVariants as command
 use Rattle.lt_words.specs.declared.faults.WordsFault.{WordsFault}
 use Rattle.lt_words.specs.declared.faults.WordsFault.TheVariants as fault
 use Rattle.lt_tool.specs.Codes.{code_of}
-use Rattle.lt_tool.specs.Registries.{ByRegistry, Checks, HoldsRegistry, Reading, ReadsFile, RefusesRegistry}
+use Rattle.lt_tool.specs.Registries.{ByRegistry, Checks, HoldsRegistry, ReadsFile, RefusesRegistry}
 use Rattle.lt_tool.specs.declared.lines.Answer.{Answer}
 use Rattle.lt_tag.specs.declared.faults.OutOfMemory.{OutOfMemory}
 use Rattle.lt_tool.specs.TagCommands.{Compares, Explains, FormsExtlang}

@@ -7,9 +7,8 @@ use Rattle.lt_jar.specs.declared.faults.JarFaultKind.TheVariants as jar_kinds
 use Rattle.lt_tag.specs.declared.faults.OutOfMemory.{OutOfMemory}
 use Rattle.lt_registry.specs.Names as record_names
 use Rattle.lt_registry.specs.Parts.{EntryParts}
-use Rattle.lt_registry.specs.ReadRegistry.{ReadsRegistry}
+use Rattle.lt_registry.specs.ReadRegistry.{Reading, ReadsRegistry}
 use Rattle.lt_registry.specs.declared.faults.RecordFaultKind.TheVariants as record_kinds
-use Rattle.lt_registry.specs.declared.faults.RegistryFault.{RegistryFault}
 use Rattle.lt_registry.specs.declared.faults.RegistryFault.TheVariants as faults
 use Rattle.lt_check.specs.declared.conditions.Condition.{Condition}
 use Rattle.lt_check.specs.Codes as condition_codes
@@ -20,10 +19,6 @@ use Rattle.lt_tool.specs.declared.registries.RegistryRefusal.{RegistryRefusal}
 use Rattle.lt_tool.specs.declared.registries.RegistryRefusal.TheVariants as refusals
 use Rattle.lt_tool.specs.declared.status.Status.{Status}
 use Rattle.lt_tool.specs.declared.status.Status.TheVariants as status
-
--- what a reading of a file gave: the entries, or why there are none
-abbrev pub Reading : Type 0
-Reading = Result (List EntryParts) RegistryFault
 
 -- A file was read, and this holds of what the reading gave. `ReadsRegistry` says what that is for the bytes that
 -- were read.

@@ -1,50 +1,13 @@
 -- What the commands on one or two tags print by a registry.
 use Rattle.std.specs.Prelude.{◌≡◌, ◌⊎◌, ℕ, Bool, true, false, List, [], ◌∷◌, ◌++◌, codes}
-use Rattle.lt_tag.specs.Conventional.{conventional}
-use Rattle.lt_tag.specs.Faults.{HasFault, HasTag}
-use Rattle.lt_tag.specs.Parts.{TagForm}
-use Rattle.lt_tag.specs.WellFormed.{spell}
 use Rattle.lt_registry.specs.Parts.{EntryParts}
-use Rattle.lt_canon.specs.Equivalence.{IsEquivalenceAnswer, IsFirstRefusal}
 use Rattle.lt_canon.specs.ExplanationTexts.{IsExplanationTextOf}
-use Rattle.lt_canon.specs.ExtlangForm.{IsExtlangFormOf}
-use Rattle.lt_canon.specs.Texts.{ReadsAs}
-use Rattle.lt_canon.specs.declared.refusals.Refusal.TheVariants as tag_refusals
+use Rattle.lt_canon.specs.TextAnswers.{IsEqualityOf, IsExtlangTextOf, IsPairRefusal}
 use Rattle.lt_canon.specs.declared.refusals.TextRefusal.{TextRefusal}
-use Rattle.lt_canon.specs.declared.refusals.TextRefusal.TheVariants as refusals
 use Rattle.lt_lines.specs.Owed.{RefusesText}
 use Rattle.lt_lines.specs.Refusals.{IsRefusalLine}
 use Rattle.lt_tool.specs.declared.status.Status.{Status}
 use Rattle.lt_tool.specs.declared.status.Status.TheVariants as status
-
--- the text is read as a tag, and this is the text of its extlang form
-pub record IsExtlangTextOf (R : List EntryParts) (text extlang : List ℕ) : Type 0 where
-  pub tag : TagForm
-  pub read : HasTag text tag
-  pub form : TagForm
-  pub is_form : IsExtlangFormOf R tag form
-  pub written : extlang ≡ conventional (spell form)
-
--- the texts are read as tags, and this is whether they are equivalent
-pub record IsEqualityOf (R : List EntryParts) (first second : List ℕ) (answer : Bool) : Type 0 where
-  pub tag : TagForm
-  pub read : HasTag first tag
-  pub other : TagForm
-  pub read_other : HasTag second other
-  pub is_answer : IsEquivalenceAnswer R tag other answer
-
--- the first text is read as a tag, then the second, and then the tags are compared; running out of memory aside
-abbrev pub IsPairRefusal : List EntryParts → List ℕ → List ℕ → TextRefusal → Type 0
-IsPairRefusal R first second (refusals.NotATag fault) =
-    HasFault first fault.kind fault.place ⊎ ReadsAs first (λ tag. HasFault second fault.kind fault.place)
-IsPairRefusal R first second (refusals.Invalid fault) =
-    ReadsAs first (λ tag. ReadsAs second (λ other. IsFirstRefusal R tag other (tag_refusals.Invalid fault)))
-IsPairRefusal R first second (refusals.ReplacementRepeats variant) =
-    ReadsAs first (λ tag. ReadsAs second
-    (λ other. IsFirstRefusal R tag other (tag_refusals.ReplacementRepeats variant)))
-IsPairRefusal R first second refusals.OutOfMemory = Unit {0}
-
--- ---- what is printed
 
 -- the extlang form, ended by a line feed
 pub record PrintsExtlang (R : List EntryParts) (text line : List ℕ) : Type 0 where

@@ -2,10 +2,11 @@
 use Rattle.std.specs.Prelude.{◌≡◌, ◌⊎◌, ℕ, List, [], ◌∷◌, ◌++◌, codes}
 use Rattle.std.specs.Fmt.{decimal}
 use Rattle.lt_registry.specs.Parts.{EntryParts}
+use Rattle.lt_registry.specs.ReadRegistry.{Reading}
 use Rattle.lt_upgrade.specs.Codes.{upgrade_code_of}
 use Rattle.lt_upgrade.specs.Upgrade.{Upgrades, IsUpgradeFinding}
 use Rattle.lt_upgrade.specs.declared.conditions.UpgradeCondition.{UpgradeCondition}
-use Rattle.lt_tool.specs.Registries.{HoldsRegistry, IsRegistryLine, Reading, ReadsFile, RefusesRegistry}
+use Rattle.lt_tool.specs.Registries.{HoldsRegistry, IsRegistryLine, ReadsFile, RefusesRegistry}
 use Rattle.lt_tool.specs.Streams.{IsUntouched, Stream}
 use Rattle.lt_tool.specs.declared.registries.RegistryRefusal.{RegistryRefusal}
 use Rattle.lt_tool.specs.declared.status.Status.{Status}

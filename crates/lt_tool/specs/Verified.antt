@@ -1,14 +1,13 @@
 -- What the command `verify` reads, and what it prints.
 use Rattle.std.specs.Prelude.{◌≡◌, ◌⊎◌, ℕ, List, [], ◌∷◌, ◌++◌, Result, Ok, Err, codes}
 use Rattle.std.specs.Fmt.{decimal}
-use Rattle.lt_tag.specs.Faults.{HasFault, HasTag}
+use Rattle.lt_tag.specs.Faults.{HasTag}
 use Rattle.lt_tag.specs.Parts.{TagForm}
-use Rattle.lt_registry.specs.Faults.{IsFirstFault}
 use Rattle.lt_registry.specs.Parts.{EntryParts}
+use Rattle.lt_registry.specs.ReadRegistry.{Reading}
 use Rattle.lt_registry.specs.Validity.{IsValid}
-use Rattle.lt_canon.specs.Texts.{ReadsAs}
+use Rattle.lt_canon.specs.TextAnswers.{IsValidityRefusal}
 use Rattle.lt_canon.specs.declared.refusals.TextRefusal.{TextRefusal}
-use Rattle.lt_canon.specs.declared.refusals.TextRefusal.TheVariants as refusals
 use Rattle.lt_lines.specs.Faults.{fault_said}
 use Rattle.lt_lines.specs.Refusals.{IsRefusalLine}
 use Rattle.lt_lines.specs.declared.faults.ToolFault.{ToolFault}
@@ -16,7 +15,7 @@ use Rattle.lt_verify.specs.Verifying.{VerifiesLines}
 use Rattle.lt_verify.specs.declared.verdicts.Verdict.{Verdict}
 use Rattle.lt_verify.specs.declared.verdicts.Verdict.TheVariants as verdicts
 use Rattle.lt_tool.specs.Codes.{code_of}
-use Rattle.lt_tool.specs.Registries.{HoldsRegistry, Reading, RefusesRegistry}
+use Rattle.lt_tool.specs.Registries.{HoldsRegistry, RefusesRegistry}
 use Rattle.lt_tool.specs.Streams.{IsUntouched, Stream}
 use Rattle.lt_tool.specs.Written.{Says}
 use Rattle.lt_tool.specs.declared.status.Status.{Status}
@@ -26,17 +25,10 @@ use Rattle.lt_tool.specs.declared.status.Status.TheVariants as status
 abbrev pub Printing : Type 1
 Printing = (List ℕ → Status → Type 0) → Type 0
 
--- the text is no tag, or that of a tag that is not valid; running out of memory aside
-abbrev pub IsVerifyRefusal : List EntryParts → List ℕ → TextRefusal → Type 0
-IsVerifyRefusal R text (refusals.NotATag fault) = HasFault text fault.kind fault.place
-IsVerifyRefusal R text (refusals.Invalid fault) = ReadsAs text (λ tag. IsFirstFault R tag fault.kind fault.place)
-IsVerifyRefusal R text (refusals.ReplacementRepeats variant) = ⊥
-IsVerifyRefusal R text refusals.OutOfMemory = Unit {0}
-
 -- the tag is refused, and this is the line that says so
 pub record RefusesTag (R : List EntryParts) (text line : List ℕ) (end : Status) : Type 0 where
   pub refusal : TextRefusal
-  pub is_refusal : IsVerifyRefusal R text refusal
+  pub is_refusal : IsValidityRefusal R text refusal
   pub line_is : IsRefusalLine refusal line
   pub ends : end ≡ status.Refused
 

@@ -2,7 +2,8 @@
 ghost use Rattle.std.specs.Prelude.{◌≡◌, IfOk, IfErr};
 ghost use Rattle.lt_canon.specs.Texts.{IsTextRefusal};
 ghost use Rattle.lt_tool.specs.Registries.{Answers, ByRegistry};
-ghost use Rattle.lt_tool.specs.TagCommands.{Compares, Explains, FormsExtlang, IsEqualityOf, IsExtlangTextOf, IsPairRefusal};
+ghost use Rattle.lt_canon.specs.TextAnswers.{IsEqualityOf, IsExtlangTextOf, IsPairRefusal};
+ghost use Rattle.lt_tool.specs.TagCommands.{Compares, Explains, FormsExtlang};
 ghost use Rattle.lt_tool.specs.Streams.{stream};
 
 use crate::lines::{Answer, answer_refusal};

@@ -2,11 +2,12 @@
 ghost use Rattle.std.specs.Prelude.{◌≡◌, IfErr, IfOk};
 ghost use Rattle.lt_tag.specs.Faults.{HasTag};
 ghost use Rattle.lt_registry.specs.Validity.{IsValid};
+ghost use Rattle.lt_canon.specs.TextAnswers.{IsValidityRefusal};
 ghost use Rattle.lt_tool.specs.Codes.{code_of};
 ghost use Rattle.lt_tool.specs.Printed.{PrintsOrLacks};
 ghost use Rattle.lt_tool.specs.Registries.{ReadsFile};
 ghost use Rattle.lt_tool.specs.Streams.{stream};
-ghost use Rattle.lt_tool.specs.Verified.{EndsVerifying, IsVerifyRefusal, PrintsVerdict, Verifies, VerifiesText};
+ghost use Rattle.lt_tool.specs.Verified.{EndsVerifying, PrintsVerdict, Verifies, VerifiesText};
 
 use crate::lines::{Answer, answer_refusal};
 use crate::printing::{print_answer, say_fault};
@@ -29,7 +30,7 @@ fn valid_tag<L: Lookup>(
 ) -> Result<Tag, TextRefusal>
     ensures read { IfOk result (HasTag text.now) }
     ensures valid { IfOk result (IsValid (L.listed checked.now)) }
-    ensures refusal { IfErr result (IsVerifyRefusal (L.listed checked.now) text.now) }
+    ensures refusal { IfErr result (IsValidityRefusal (L.listed checked.now) text.now) }
 {
     let tag = read_tag(alloc, text)?;
     let _ = tag.extensions();

@@ -11,7 +11,7 @@ use Rattle.lt_lines.specs.Splitting.{IsFreeOf}
 use Rattle.lt_rewrite.specs.Names.{name_of}
 use Rattle.lt_rewrite.specs.declared.steps.Step.{Step}
 use Rattle.lt_rewrite.specs.declared.steps.StepKind.{StepKind}
-use Rattle.lt_verify.specs.StepLines.{HasWords, IsStepLine, step_line, IsNoName, NamesNoEnd, text_of, end_line}
+use Rattle.lt_verify.specs.StepLines.{HasWords, IsStepLine, IsNoName, NamesNoEnd, end_line}
 use Rattle.lt_tag.specs.Parts.{TagForm, CoreParts, ExtensionParts, UForm, TForm, LangTag}
 use Rattle.lt_registry.specs.Parts.{EntryParts}
 use Rattle.lt_rewrite.specs.Labels.{LeadsBy, core_label, extension_label, extensions_label, list_label, tag_label, transform_label, unicode_label}
@@ -53,6 +53,8 @@ use Rattle.lt_rewrite.proofs.PartLists.{some_long, flat_length}
 use Rattle.lt_rewrite.specs.declared.steps.StepKind.TheVariants as kinds
 use Rattle.lt_verify.specs.declared.judging.Flow.TheVariants as flows
 use Rattle.lt_verify.specs.declared.verdicts.Verdict.TheVariants as verdicts
+use Rattle.lt_tag.specs.Texts.{text_of}
+use Rattle.lt_canon.specs.ExplanationTexts.{step_line}
 use Rattle.lt_canon.specs.ExplanationTexts as printed
 use Rattle.lt_lines.specs.declared.faults.ToolFault.TheVariants as faults
 use Rattle.lt_rewrite.specs.Runs.{rank_of}

@@ -1,9 +1,9 @@
 -- What is judged of lines one after another, each with the tag to which those before it lead.
 use Rattle.std.specs.Prelude.{◌≡◌, ◌≢◌, ◌≤◌, ◌<◌, ◌+◌, ◌⊎◌, ℕ, List, [], ◌∷◌, ◌++◌, length, Option, Some, None}
 use Rattle.lt_tag.specs.Parts.{TagForm}
+use Rattle.lt_tag.specs.Texts.{text_of}
 use Rattle.lt_registry.specs.Parts.{EntryParts}
 use Rattle.lt_registry.specs.Validity.{IsProper}
-use Rattle.lt_verify.specs.StepLines.{text_of}
 use Rattle.lt_verify.specs.Verdicts.{EndsElsewhere, EndsHere, HasOtherText, LeadsOn, NamesNoStep, NamesNothing}
 use Rattle.lt_verify.specs.declared.judging.Flow.{Flow}
 use Rattle.lt_verify.specs.declared.judging.Flow.TheVariants as flows

@@ -1,21 +1,11 @@
 -- The lines of an explanation.
 use Rattle.std.specs.Prelude.{◌≡◌, ◌<◌, ◌^◌, ℕ, List, ◌∷◌, ◌++◌}
 use Rattle.std.specs.Fmt.{decimal}
-use Rattle.lt_tag.specs.Conventional.{conventional}
-use Rattle.lt_tag.specs.Parts.{TagForm}
-use Rattle.lt_tag.specs.WellFormed.{spell}
 use Rattle.lt_lines.specs.Splitting.{IsFreeOf}
 use Rattle.lt_rewrite.specs.Names.{name_of}
 use Rattle.lt_rewrite.specs.declared.steps.Step.{Step}
 use Rattle.lt_rewrite.specs.declared.steps.StepKind.{StepKind}
-
--- the text of a tag
-abbrev pub text_of : TagForm → List ℕ
-text_of t = conventional (spell t)
-
--- the kind, the place and the number of a step, with a space after each, and then a text
-abbrev pub step_line : Step → List ℕ → List ℕ
-step_line step text = name_of step.kind ++ 32 ∷ (decimal step.place ++ 32 ∷ (decimal step.number ++ 32 ∷ text))
+use Rattle.lt_canon.specs.ExplanationTexts.{step_line}
 
 -- the line of the end
 abbrev pub end_line : List ℕ → List ℕ

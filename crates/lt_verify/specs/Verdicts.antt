@@ -1,10 +1,11 @@
 -- What is judged of the lines of an explanation of a tag (RFC 5646, 4.5): that they explain it, or their first fault.
 use Rattle.std.specs.Prelude.{◌≡◌, ◌≢◌, ◌+◌, ◌⊎◌, ℕ, List, [], ◌∷◌, ◌++◌, length}
 use Rattle.lt_tag.specs.Parts.{TagForm}
+use Rattle.lt_tag.specs.Texts.{text_of}
 use Rattle.lt_registry.specs.Parts.{EntryParts}
 use Rattle.lt_rewrite.specs.Labels.{LeadsBy}
 use Rattle.lt_rewrite.specs.declared.steps.Step.{Step}
-use Rattle.lt_verify.specs.StepLines.{IsNoName, IsStepLine, NamesNoEnd, end_line, text_of}
+use Rattle.lt_verify.specs.StepLines.{IsNoName, IsStepLine, NamesNoEnd, end_line}
 use Rattle.lt_verify.specs.declared.verdicts.Verdict.{Verdict}
 use Rattle.lt_verify.specs.declared.verdicts.Verdict.TheVariants as verdicts
 

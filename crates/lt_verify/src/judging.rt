@@ -1,8 +1,8 @@
 //! Judging one line.
 ghost use Rattle.std.specs.Prelude.{◌≡◌, ◌≢◌, ◌<◌, ◌≤◌, IfOk, MatchBool, length};
+ghost use Rattle.lt_tag.specs.Texts.{text_of};
 ghost use Rattle.lt_registry.specs.Validity.{IsProper};
 ghost use Rattle.lt_verify.specs.Judging.{EndFlow, FlowIs, SettlesFront};
-ghost use Rattle.lt_verify.specs.StepLines.{text_of};
 
 use crate::labels::{read_end, read_step};
 use crate::verdicts::Verdict;

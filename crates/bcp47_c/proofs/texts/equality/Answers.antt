@@ -1,6 +1,6 @@
 use Rattle.std.proofs.lemmas.Result.{err_from_is_err_and}
 use Rattle.lt_tag.specs.Faults.{HasTag}
-use Rattle.bcp47_c.proofs.Refusals.{pair_refused}
+use Rattle.lt_canon.proofs.TextRefusals.{pair_refused}
 use Rattle.bcp47_c.proofs.texts.equality.Goals as goal
 
 pub returns-in_err-equivalent-clause-refusal : goal.returns-in_err-equivalent-clause-refusal

@@ -1,5 +1,5 @@
 use Rattle.lt_tag.specs.Faults.{HasTag}
-use Rattle.bcp47_c.proofs.Refusals.{validity_refused}
+use Rattle.lt_canon.proofs.TextRefusals.{validity_refused}
 use Rattle.bcp47_c.proofs.texts.validity.Goals as goal
 
 pub returns-clause-refusal : goal.returns-clause-refusal

@@ -2,7 +2,7 @@ use Rattle.std.proofs.KnownBytes.{Appends-nil}
 use Rattle.std.proofs.Common.{[], inr, ◌≡◌, ◌++◌, ◌∷◌, ◌∙◌, ℕ, refl, ap, arith, length, length-append}
 use Rattle.std.proofs.lemmas.Result.{err_from_is_err_and}
 use Rattle.lt_lines.specs.Answering.{part_kept}
-use Rattle.lt_lines.specs.Owed.{IsOneLine, terms}
+use Rattle.lt_lines.specs.Owed.{terms}
 use Rattle.lt_lines.specs.declared.answering.Answering.{Answering}
 use Rattle.lt_lines.proofs.RunLemmas.{PieceTurn, turn_fails, turn_kept, turn_stops, turn_last, turn_line, turn_written}
 use Rattle.lt_lines.proofs.answering.Answering.take_piece.Goals as goal
