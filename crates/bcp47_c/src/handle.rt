@@ -1,4 +1,5 @@
-//! What C holds.
+//! What C holds. A handle has no `Drop`, and its fields are private to this file: what could lose a registry stands here
+//! alone.
 ghost use Rattle.std.specs.Prelude.{◌≡◌, List, Some, None};
 ghost use Rattle.lt_registry.specs.Parts.{EntryParts};
 ghost use Rattle.bcp47_c.specs.Handles.{Held, held_owns, held_coded};

@@ -1,4 +1,4 @@
-//! Subtags as numbers, which are compared at once.
+//! Subtags as numbers of 64 bits, which are compared at once.
 ghost use Rattle.std.specs.Prelude.{◌≡◌, ◌≤◌, ◌<◌, ◌^◌, true, length, map, slice_index_or};
 ghost use Rattle.std.specs.List.{IsDistinct};
 ghost use Rattle.std.specs.Ordering.{nat_cmp, eq_by_cmp};

@@ -1,4 +1,6 @@
-//! Shortcuts along the chains of values of a table's records (RFC 5646, 3.1.7).
+//! Shortcuts along the chains of values of a table's records (RFC 5646, 3.1.7): where each ends, by the place of a record.
+//! They are doubled in as many rounds as the number of records has binary digits, so that a cycle is found as fast as
+//! an end, however long the chains are.
 ghost use Rattle.std.specs.Prelude.{◌≡◌, ◌+◌, ◌≤◌, ◌<◌, true, false, Some, ℕ, List, All, IfOk, OnErr, Contains, length, map, IsTrue, ◌↔◌};
 ghost use Rattle.std.specs.List.{slice_get, AllByRecursion, AllWithin};
 ghost use Rattle.std.specs.List.Sorted.{IsNonDecreasingBy};
