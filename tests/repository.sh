@@ -1,6 +1,7 @@
 #!/bin/bash
 # Compares what stands in several places of the repository: the version with VERSION, the licence with LICENSE, the picture
-# of the layers with crates.txt. It needs no toolchain. The last line counts; the status is 1 if any of them differs.
+# of the layers with crates.txt, the examples of docs/LIBRARY.md with the code. It needs no toolchain. The last line counts;
+# the status is 1 if any of them differs.
 cd "$(dirname "$0")/.." || exit 1
 passed=0
 failed=0
@@ -68,6 +69,21 @@ if not dict(named) == parts.LICENCES or not set(parts.LICENCES) == inside == pac
 END
 
 passes "CONTRIBUTING.md has the picture of crates.txt" tools/layers_picture.py --check
+
+# Each example of docs/LIBRARY.md stands so in the file that it names, item by item; the first is a whole program.
+passes "docs/LIBRARY.md's examples are those of its crates" python3 -B - << 'END'
+import re, sys
+from pathlib import Path
+
+blocks = re.findall(r"^```rust\n(.*?)^```$", Path("docs/LIBRARY.md").read_text(), re.M | re.S)
+named = [re.match(r"// (crates/\S+)\n(.*)", block, re.S) for block in blocks[1:]]
+if len(blocks) < 5 or None in named or blocks[0] != Path("crates/same_language/src/main.rt").read_text():
+    sys.exit(f"{len(blocks)} examples, and one names no file")
+for path, text in (match.groups() for match in named):
+    for item in re.split(r"\n\n(?=\S)", text.strip()):
+        if item + "\n" not in Path(path).read_text():
+            sys.exit(f"{path} doesn't have: {item}")
+END
 
 echo "repository: $passed passed, $failed failed"
 [ "$failed" = 0 ]
