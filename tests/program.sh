@@ -215,6 +215,9 @@ on_terminal csv "$sample" 1; is 'csv at a terminal' 1 'zh-yue,langtag_fault\nxx,
 yes en | head -n 2500000 > input
 on_terminal canon "$sample"; ended=$?; tr '\r' '\n' < err | sed 's/[0-9]\{5\} lines$/..... lines/' > told; mv told err; cmp -s input out && : > out
 (exit "$ended"); is 'a long run at a terminal' 0 '' '10..... lines\n20..... lines\n2500000 lines, 0 refused\n'
+{ head -c 3000000 /dev/zero | tr '\0' a; printf '\tzh-yue\n\tIW\n'; } > input
+on_terminal tsv "$sample" 2; ended=$?; { head -c 3000000 /dev/zero | tr '\0' a; printf '\tyue\t\n\the\t\n'; } | cmp -s - out && : > out
+(exit "$ended"); is 'a long row at a terminal' 0 '' '2 lines, 0 refused\n'
 on_terminal check "$sample"; is 'check at a terminal' 0 'ok 46\n' ''
 on_terminal classify xx-; ended=$?; cut -c1-12 err > told; mv told err
 (exit "$ended"); is 'classify at a terminal' 1 '! EmptySubtag 2\n' 'EmptySubtag:\n'
