@@ -1,6 +1,7 @@
 use Rattle.std.proofs.KnownBytes.{Appends-nil}
 use Rattle.std.proofs.Common.{[], inr, ◌≡◌, ◌++◌, ◌∷◌, ◌∙◌, ℕ, refl, ap, arith, length, length-append}
 use Rattle.std.proofs.lemmas.Result.{err_from_is_err_and}
+use Rattle.lt_jar.specs.Lines.{IsOneLine}
 use Rattle.lt_lines.specs.Answering.{part_kept}
 use Rattle.lt_lines.specs.Owed.{terms}
 use Rattle.lt_lines.specs.declared.answering.Answering.{Answering}
