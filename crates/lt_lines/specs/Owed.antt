@@ -1,6 +1,6 @@
 -- What is owed for the bytes of a reader: an answer to each of its lines.
-use Rattle.std.specs.Prelude.{◌≡◌, ◌≢◌, ◌⊎◌, ◌+◌, ◌==◌, ◌&&◌, ℕ, Bool, true, false, List, [], ◌∷◌, ◌++◌, if◌then◌else◌, length, codes}
-use Rattle.std.specs.List.{All, AllByRecursion, count_by}
+use Rattle.std.specs.Prelude.{◌≡◌, ◌⊎◌, ◌+◌, ◌==◌, ◌&&◌, ℕ, Bool, true, false, List, [], ◌∷◌, ◌++◌, if◌then◌else◌, length, codes}
+use Rattle.std.specs.List.{AllByRecursion, count_by}
 use Rattle.std.specs.Io.BufRead.{ends_with_byte}
 use Rattle.lt_jar.specs.Lines.{IsOneLine, content_of, lines_of}
 use Rattle.lt_registry.specs.Parts.{EntryParts}
