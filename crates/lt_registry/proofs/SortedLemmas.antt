@@ -39,7 +39,8 @@ use Rattle.lt_tag.specs.Order.{subtag_cmp, list_cmp, extension_cmp, tag_cmp}
 use Rattle.lt_tag.proofs.TagLemmas.{AllByRecursion-weaker}
 use Rattle.lt_registry.specs.Entries.{has_form, letters_le, IsPrefix, has_prefix, is_whole_kind, FitsName, IsEntry, is_named, holds, is_whole, entry, whole}
 use Rattle.lt_registry.specs.Validity.{Distinct}
-use Rattle.lt_registry.specs.Sorted.{filled, number, rank, IsRowAt, AreRows, IsIndex, single_number, single_row, place_of, tag_in, tag_at, language_number, whole_row, whole_key, key_cmp, IsSingles, IsWholes, index_of, RowsRise, beginning, IsInSpan, AreStarts, is_within, first_within, place_in, StartsRise, AreStretches, AreMerged, starts_first, ends, range_row, range_rows}
+use Rattle.lt_subtag.specs.Lanes.{padded}
+use Rattle.lt_registry.specs.Sorted.{number, rank, IsRowAt, AreRows, IsIndex, single_number, single_row, place_of, tag_in, tag_at, language_number, whole_row, whole_key, key_cmp, IsSingles, IsWholes, index_of, RowsRise, beginning, IsInSpan, AreStarts, is_within, first_within, place_in, StartsRise, AreStretches, AreMerged, starts_first, ends, range_row, range_rows}
 use Rattle.lt_registry.specs.declared.entries.Kind.{Kind}
 use Rattle.lt_registry.specs.Prefixes.{single_of, AreSingles}
 use Rattle.lt_registry.specs.Same.{same_list, same_extension, same_tag, same_kind}
@@ -99,8 +100,8 @@ byte_below [] i h = omega arith
 byte_below (b ∷ bs) zero h = h.0
 byte_below (b ∷ bs) (suc i) h = byte_below bs i h.1
 
-small : (s : List ℕ) → IsFew s → (i : ℕ) → get_or (filled s) i 0 < 256
-small s h i = byte_below (filled s) i (filled_bytes s (8 - length s) h.bytes)
+small : (s : List ℕ) → IsFew s → (i : ℕ) → get_or (padded s) i 0 < 256
+small s h i = byte_below (padded s) i (filled_bytes s (8 - length s) h.bytes)
 
 -- no byte is zero, so the bytes are what is not
 unfilled : (s : List ℕ) (n : ℕ) → list_all is_subtag_byte s ≡ true → filter (ltb 0) (s ++ replicate n 0) ≡ s
@@ -110,12 +111,12 @@ unfilled (b ∷ s) n h =
     let both = and_parts (is_subtag_byte b) (list_all is_subtag_byte s) h in
     ap (λ t. cond t (b ∷ filter (ltb 0) (s ++ replicate n 0)) (filter (ltb 0) (s ++ replicate n 0))) (lt-ltb 0 b (byte_bounds b both.0).0) ∙ ap (λ bs. b ∷ bs) (unfilled s n both.1)
 
-filled_length : (s : List ℕ) → length s ≤ 8 → length (filled s) ≡ 8
+filled_length : (s : List ℕ) → length s ≤ 8 → length (padded s) ≡ 8
 filled_length s l = length-append s (replicate (8 - length s) 0) ∙ omega (arith, length-replicate {A = ℕ} (8 - length s) 0)
 
-bytes_of : (s : List ℕ) → IsFew s → to_be_bytes w64 (number s) ≡ filled s
+bytes_of : (s : List ℕ) → IsFew s → to_be_bytes w64 (number s) ≡ padded s
 unfolding number
-bytes_of s h = be_bytes_8 (filled s) (number s) (filled_length s h.few) (small s h) refl
+bytes_of s h = be_bytes_8 (padded s) (number s) (filled_length s h.few) (small s h) refl
 
 pub same_number : (s t : List ℕ) → IsFew s → IsFew t → number s ≡ number t → s ≡ t
 same_number s t h k e =
@@ -134,7 +135,7 @@ numbers_equal s t h k =
 
 -- each byte, and zeros after the last
 pub filled_by_index : (s : List ℕ) → length s ≤ 8
-    → filled s ≡ get_or s 0 0 ∷ get_or s 1 0 ∷ get_or s 2 0 ∷ get_or s 3 0 ∷ get_or s 4 0 ∷ get_or s 5 0 ∷ get_or s 6 0 ∷ get_or s 7 0 ∷ []
+    → padded s ≡ get_or s 0 0 ∷ get_or s 1 0 ∷ get_or s 2 0 ∷ get_or s 3 0 ∷ get_or s 4 0 ∷ get_or s 5 0 ∷ get_or s 6 0 ∷ get_or s 7 0 ∷ []
 filled_by_index (a ∷ b ∷ c ∷ d ∷ e ∷ f ∷ g ∷ h ∷ i ∷ s) l = absurd (omega (arith, l))
 filled_by_index _ l = refl
 
@@ -177,7 +178,7 @@ letters_filled (x ∷ s) (y ∷ t) n one = ap (λ b. cond (eqb x y) b (ltb x y))
 letters_filled _ _ n one = absurd (omega (arith, one))
 
 -- the number of a subtag, by its bytes
-number_through : (s : List ℕ) → length s ≤ 8 → from_be_bytes w64 (filled s) ≡ through 0 (filled s)
+number_through : (s : List ℕ) → length s ≤ 8 → from_be_bytes w64 (padded s) ≡ through 0 (padded s)
 number_through s l = rw (filled_by_index s l) (omega arith)
 
 pub number_below : (s : List ℕ) → IsFew s → number s < 2 ^ 64
@@ -187,10 +188,10 @@ number_below s h = let at = small s h in omega (arith, at 0, at 1, at 2, at 3, a
 pub numbers_ordered : (s t : List ℕ) → IsFew s → IsFew t → length s ≡ length t → letters_le s t ≡ leb (number s) (number t)
 unfolding number
 numbers_ordered s t h k one =
-    let filling : filled t ≡ t ++ replicate (8 - length s) 0 = ap (λ m. t ++ replicate (8 - m) 0) (sym one) in
-    sym (letters_filled s t (8 - length s) one) ∙ ap (letters_le (filled s)) (sym filling)
-    ∙ through_ordered 0 (filled s) (filled t) (filled_length s h.few ∙ sym (filled_length t k.few)) (filled_bytes s (8 - length s) h.bytes) (filled_bytes t (8 - length t) k.bytes)
-    ∙ ap (leb (through 0 (filled s))) (sym (number_through t k.few)) ∙ ap (λ m. leb m (number t)) (sym (number_through s h.few))
+    let filling : padded t ≡ t ++ replicate (8 - length s) 0 = ap (λ m. t ++ replicate (8 - m) 0) (sym one) in
+    sym (letters_filled s t (8 - length s) one) ∙ ap (letters_le (padded s)) (sym filling)
+    ∙ through_ordered 0 (padded s) (padded t) (filled_length s h.few ∙ sym (filled_length t k.few)) (filled_bytes s (8 - length s) h.bytes) (filled_bytes t (8 - length t) k.bytes)
+    ∙ ap (leb (through 0 (padded s))) (sym (number_through t k.few)) ∙ ap (λ m. leb m (number t)) (sym (number_through s h.few))
 
 -- and ranks by the lengths first
 

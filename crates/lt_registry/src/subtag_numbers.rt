@@ -3,6 +3,7 @@ ghost use Rattle.std.specs.Prelude.{◌≡◌, ◌≤◌, ◌<◌, ◌^◌, true
 ghost use Rattle.std.specs.List.{IsDistinct};
 ghost use Rattle.std.specs.Ordering.{nat_cmp, eq_by_cmp};
 ghost use Rattle.lt_subtag.specs.Bytes.{is_subtag};
+ghost use Rattle.lt_subtag.specs.Lanes.{padded};
 ghost use Rattle.lt_registry.specs.Sorted as sorted;
 ghost use Rattle.lt_registry.specs.Validity.{Distinct};
 
@@ -51,7 +52,7 @@ fn byte_at(bytes: &[u8], index: usize) -> u8
 #[tactic(auto, using(crate::proofs::SortedLemmas::filled_by_index))]
 fn filled(bytes: &[u8]) -> [u8; 8]
     requires { length bytes.now ≤ 8 }
-    ensures { result ≡ sorted.filled bytes.now }
+    ensures { result ≡ padded bytes.now }
 {
     [
         byte_at(bytes, 0),
