@@ -3,8 +3,7 @@
 a quote, a comma, a carriage return, a line feed and `iw`, and on 20,000 files that are made by chance, by a fixed seed.
 
 The definition stands here once more (`cut`). Its records are compared with those of the two readers, and the bytes that the
-program writes with those that are owed for its records. Each difference of the readers is of one of these classes, which
-docs/DECISIONS.md names:
+program writes with those that are owed for its records. Each difference of the readers is of one of these classes:
 
 - a carriage return outside of quotes that ends no record: a byte of its field here and in sqlite3, the end of a record or
   an error in Python's csv;
