@@ -6,7 +6,7 @@ use Rattle.lt_tag.specs.Conventional.{conventional}
 use Rattle.lt_registry.specs.Parts.{EntryParts}
 use Rattle.lt_registry.specs.Validity.{IsProper, IsValid}
 use Rattle.lt_rewrite.specs.Rewriting.{Rests, IsConfluent}
-use Rattle.lt_rewrite.specs.TagSteps.{TagStep, IsReached, AreEquivalent, IsCanonical, CanRepeat}
+use Rattle.lt_rewrite.specs.TagSteps.{TagStep, IsReached, AreEquivalent, CanRepeat}
 use Rattle.lt_canon.specs.Answers.{IsCanonicalFormOf}
 use Rattle.lt_canon.specs.Texts.{IsCanonicalTextOf}
 use Rattle.lt_tag.specs.Lists.{longest_text}
