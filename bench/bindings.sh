@@ -8,11 +8,9 @@ registry=$(realpath "${1:-examples/iana-2025-05-15.txt}")
 folder=$(mktemp -d)
 trap 'rm -rf "$folder"' EXIT
 /usr/bin/python3 bench/make_tags.py "$registry" mixed > "$folder/tags"
-gcc -std=c11 -D_GNU_SOURCE -O2 -Ibindings/c -o "$folder/library" bench/bindings/library.c build/libbcp47.a
 # shellcheck disable=SC2046
-gcc -std=c11 -D_GNU_SOURCE -O2 -Ibindings/c -o "$folder/icu" bench/bindings/icu.c $(pkg-config --cflags --libs icu-uc)
-"$folder/library" "$registry" "$folder/tags"
-"$folder/icu" "$folder/tags"
+gcc -std=c11 -D_GNU_SOURCE -O2 -Ibindings/c -o "$folder/c" bench/bindings/c.c build/libbcp47.a $(pkg-config --cflags --libs icu-uc)
+"$folder/c" "$registry" "$folder/tags"
 /usr/bin/python3 -m pip install -q --no-index --root-user-action=ignore --target "$folder/python" bindings/python
 export PYTHONPATH=$folder/python
 /usr/bin/python3 -B bench/bindings/python.py "$registry" "$folder/tags"

@@ -73,7 +73,7 @@ made() {
 }
 
 # The header, alone, by each standard.
-for standard in c99 c11 c17 c2x; do
+for standard in c90 c99 c11 c17 c2x; do
     for cc in gcc clang; do
         passes "header by $cc, $standard" $cc -std=$standard -Wall -Wextra -Werror -pedantic-errors -Wstrict-prototypes \
             -fsyntax-only -x c bindings/c/bcp47.h
@@ -84,6 +84,12 @@ for standard in c++98 c++11 c++14 c++17 c++20 c++2b; do
         passes "header by $cc, $standard" $cc -std=$standard -Wall -Wextra -Werror -pedantic-errors -fsyntax-only -x c++ \
             bindings/c/bcp47.h
     done
+done
+
+# What is no text, no buffer and no registry does not compile.
+for words in "(int *)0, 0, 0, 0" "0, 0, (unsigned *)0, 0"; do
+    printf '#include <bcp47.h>\nbcp47_outcome f(bcp47_registry *r) { return bcp47_canonical(r, %s); }\n' "$words" > "$folder/wrong.c"
+    passes "a wrong pointer: $words" sh -c '! gcc -Werror -Ibindings/c -fsyntax-only "$1" 2> "$1.said" && grep -q "incompatible" "$1.said"' - "$folder/wrong.c"
 done
 
 # The library as it is shipped: static and shared, and under valgrind.
@@ -209,11 +215,42 @@ passes "Python: types of the package" env -C "$folder/python" MYPYPATH=. mypy --
 passes "Python: types of a program" env MYPYPATH="$folder/python" mypy --strict --cache-dir="$folder/mypy" "$folder/examples/example.py"
 writes "Python answers as the program" "$folder/wanted" $python bindings/python/tests/answers.py "$registry" "$folder/tags"
 writes "Python explains as the program" "$folder/explained" $python bindings/python/tests/answers.py "$registry" "$folder/explained-tags" explain
+# Under sanitizers, which see the extension and what it frees; what the interpreter keeps to its end is no leak of it.
+CFLAGS="-O1 -g -fsanitize=address,undefined -fno-sanitize-recover=all" passes "pip install, for sanitizers" $python -m pip install -q \
+    --no-index --root-user-action=ignore --target "$folder/python-memory" bindings/python
+under="env PYTHONPATH=$folder/python-memory PYTHONMALLOC=malloc ASAN_OPTIONS=detect_leaks=0 LD_PRELOAD=$(gcc -print-file-name=libasan.so):$(gcc -print-file-name=libubsan.so) $python -B"
+# shellcheck disable=SC2086
+{
+    passes "Python's tests under sanitizers" $under bindings/python/tests/test_bcp47.py "$sample" "$registry"
+    passes "Python: growths, signals, threads, columns under sanitizers" $under bindings/python/tests/test_habits.py "$sample" Growths \
+        Signals Facts Parts Columns.test_missing_values Columns.test_long_columns Threads.test_a_registry_is_closed_in_the_midst_of_calls
+}
+# Each line of the extension but seven: where memory runs out at the import, and where too many threads ask.
+passes "compile the extension for gcov" gcc -O0 --coverage -std=c11 -fPIC -fvisibility=hidden -Ibindings/c \
+    "-I$($python -c 'import sysconfig; print(sysconfig.get_paths()["include"])')" -c bindings/python/_bcp47.c -o "$folder/coverage/_bcp47.o"
+cp -r bindings/python/bcp47 "$folder/coverage/bcp47"
+passes "link the extension for gcov" gcc -shared --coverage "$folder/coverage/_bcp47.o" build/libbcp47.a -Wl,--exclude-libs,ALL \
+    -o "$folder/coverage/bcp47/_bcp47.abi3.so"
+for test in "test_bcp47.py $sample $registry" "test_habits.py $sample Growths Copies Parts Columns Threads Facts"; do
+    # shellcheck disable=SC2086
+    passes "Python for gcov: ${test%% *}" env PYTHONPATH="$folder/coverage" $python -B bindings/python/tests/$test
+done
+(cd "$folder/coverage" && gcov -o . _bcp47.o > report 2>&1)
+passes "lines of the extension are run" test "$(grep -c '#####' "$folder/coverage/_bcp47.c.gcov")" -le 7
 unset PYTHONPATH LD_LIBRARY_PATH
 
 # ---- SQLite
 passes "compile for SQLite" gcc -O2 -fPIC -shared -fvisibility=hidden -Wl,--exclude-libs,ALL -Wall -Wextra -Werror -Ibindings/c \
     -o "$folder/bcp47_sqlite.so" bindings/sqlite/bcp47_sqlite.c build/libbcp47.a
+made sqlite tests/bindings/sqlite.c bindings/sqlite/bcp47_sqlite.c $files $memory -DSQLITE_CORE -lsqlite3 "$wrapped,--wrap=bcp47_canonical"
+passes "SQLite: each growth refused under sanitizers" "$folder/sqlite" "$sample"
+cat "$folder/out"
+# shellcheck disable=SC2086
+passes "compile SQLite's file for gcov" gcc $flags -O0 --coverage -DSQLITE_CORE -c bindings/sqlite/bcp47_sqlite.c -o "$folder/coverage/bcp47_sqlite.o"
+made coverage/sqlite tests/bindings/sqlite.c "$folder/coverage/bcp47_sqlite.o" build/libbcp47.a --coverage -lsqlite3 "$wrapped,--wrap=bcp47_canonical"
+passes "SQLite for gcov" "$folder/coverage/sqlite" "$sample"
+(cd "$folder/coverage" && gcov -o . bcp47_sqlite.o > report 2>&1)
+passes "each line of SQLite's file is run" grep -qz "bcp47_sqlite.c'.Lines executed:100.00%" "$folder/coverage/report"
 passes "SQLite's tests" bindings/sqlite/test.sh "$folder" "$sample"
 passes "SQLite: indexes, registries, connections, threads" $python -W error bindings/sqlite/test_habits.py "$folder" "$sample" build/libbcp47.so.1
 passes "SQLite answers as the program" bindings/sqlite/answers.sh "$folder" "$registry"

@@ -24,10 +24,12 @@ chmod 755 "$1" "$folder/dates"
 chmod 644 "$folder"/registry "$folder"/tags "$folder"/dates/*
 [ "$(id -u)" != 0 ] || chown "$user" "$folder"
 stop() {
-    as_user "$tools/pg_ctl" -D "$folder/data" -m immediate stop > /dev/null 2>&1
+    [ ! -e "$folder/data" ] || as_user "$tools/pg_ctl" -D "$folder/data" -m immediate stop > /dev/null 2>&1
     $as_root rm -f "$libraries/bcp47.so" "$shared/bcp47.control" "$shared"/bcp47--*.sql
 }
 trap stop EXIT
+# One at a time: the server's folders are the system's.
+exec 9< "$shared" && flock 9 || exit 1
 $as_root install -m 755 "$folder/built/bcp47.so" "$libraries/bcp47.so" || exit 1
 $as_root install -m 644 "$here/bcp47.control" "$here"/bcp47--*.sql "$shared" || exit 1
 cd "$folder" || exit 1

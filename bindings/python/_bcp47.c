@@ -1,6 +1,6 @@
 /* SPDX-License-Identifier: MIT OR Apache-2.0 */
-/* The calls of bcp47.h for the package bcp47, by the limited API of Python 3.9. A text is copied to Python before any code of
-   Python runs, and no buffer outlives a call. A call that may take long lets go of the interpreter's lock; close() then
+/* The calls of bcp47.h for the package bcp47, by the limited API of Python 3.9. An answer is copied to Python before any code
+   of Python runs, and no buffer outlives a call. A call that may take long lets go of the interpreter's lock; close() then
    waits for its end. */
 #define PY_SSIZE_T_CLEAN
 #define Py_LIMITED_API 0x03090000
@@ -11,11 +11,17 @@
 #include <stdlib.h>
 #include <string.h>
 
+/* Python 3.9 has it too, but not yet in its limited API. */
+#if Py_LIMITED_API < 0x030A0000
+PyAPI_FUNC(const char *) PyUnicode_AsUTF8AndSize(PyObject *, Py_ssize_t *);
+#endif
+
 /* Room for the text of any tag: at most 1,024 bytes lead to one of at most 1,024, and a subtag more. */
 #define ROOM 2048
 
-/* How many texts are answered between two looks at signals. */
-#define CHUNK 4096
+/* How many texts are answered between two looks at signals, and room for what is written of them. */
+#define CHUNK 2048
+#define CHUNK_ROOM (32 * CHUNK + ROOM)
 
 /* What the package gives: what makes an exception of a refusal, and the type of a tag that was read. */
 static PyObject *refuse, *tag_type;
@@ -29,36 +35,62 @@ typedef struct {
 
 /* ---- texts */
 
-/* The bytes of a tag, a str or a Tag: a new bytes object. */
-static PyObject *bytes_of(PyObject *tag) {
-    if (PyUnicode_Check(tag)) return PyUnicode_AsUTF8String(tag);
+static PyObject *same(PyObject *object) {
+    Py_INCREF(object);
+    return object;
+}
+
+/* The str of a tag, a str or a Tag: a new reference. */
+static PyObject *str_of(PyObject *tag) {
+    if (PyUnicode_CheckExact(tag) || PyUnicode_Check(tag)) return same(tag);
     int is_tag = PyObject_IsInstance(tag, tag_type);
-    if (is_tag < 0) return NULL;
-    if (!is_tag) {
-        PyObject *name = PyObject_GetAttrString((PyObject *)Py_TYPE(tag), "__name__");
-        if (name) PyErr_Format(PyExc_TypeError, "a tag is a str or a Tag, not %U", name);
-        Py_XDECREF(name);
-        return NULL;
-    }
-    PyObject *text = PyObject_Str(tag);
-    PyObject *bytes = text ? PyUnicode_AsUTF8String(text) : NULL;
-    Py_XDECREF(text);
-    return bytes;
+    if (is_tag > 0) return PyObject_Str(tag);
+    PyObject *name = is_tag ? NULL : PyObject_GetAttrString((PyObject *)Py_TYPE(tag), "__name__");
+    if (name) PyErr_Format(PyExc_TypeError, "a tag is a str or a Tag, not %U", name);
+    Py_XDECREF(name);
+    return NULL;
+}
+
+/* A text in UTF-8, and the str that holds it. */
+typedef struct {
+    PyObject *str;
+    const char *bytes;
+    size_t length;
+} text;
+
+/* Whether a tag has a text, which end_text() then lets go of. */
+static int has_text(PyObject *tag, text *it) {
+    Py_ssize_t length;
+    it->str = str_of(tag);
+    it->bytes = it->str ? PyUnicode_AsUTF8AndSize(it->str, &length) : NULL;
+    if (it->bytes) it->length = (size_t)length;
+    else Py_XDECREF(it->str);
+    return it->bytes != NULL;
+}
+
+static void end_text(text *it) {
+    Py_DECREF(it->str);
+}
+
+/* What was written for a text: the str itself where it is the same. */
+static inline PyObject *answered(const text *it, const char *answer, size_t length) {
+    if (length == it->length && !memcmp(it->bytes, answer, length) && PyUnicode_CheckExact(it->str)) return same(it->str);
+    return PyUnicode_FromStringAndSize(answer, (Py_ssize_t)length);
 }
 
 /* The exception for an outcome: one of the package's class of this name, or one of Python's. A new reference. */
-static PyObject *refusal(const char *name, bcp47_outcome outcome, const char *text, PyObject *tag) {
+static PyObject *refusal(const char *name, bcp47_outcome outcome, const char *line, PyObject *tag) {
     if (outcome.status == BCP47_OUT_OF_MEMORY) return PyErr_NoMemory();
     if (outcome.status == BCP47_BUSY) {
         PyErr_SetString(PyExc_RuntimeError, "too many threads ask this registry at once");
         return NULL;
     }
     return PyObject_CallFunction(refuse, "siiKs#O", name, outcome.status, outcome.detail, (unsigned long long)outcome.place,
-                                 text, text ? (Py_ssize_t)outcome.length : (Py_ssize_t)0, tag);
+                                 line, line ? (Py_ssize_t)outcome.length : (Py_ssize_t)0, tag);
 }
 
-static PyObject *raise_refusal(const char *name, bcp47_outcome outcome, const char *text, PyObject *tag) {
-    PyObject *made = refusal(name, outcome, text, tag);
+static PyObject *raise_refusal(const char *name, bcp47_outcome outcome, const char *line, PyObject *tag) {
+    PyObject *made = refusal(name, outcome, line, tag);
     if (made) PyErr_SetObject((PyObject *)Py_TYPE(made), made);
     Py_XDECREF(made);
     return NULL;
@@ -148,18 +180,18 @@ static PyObject *registry_facts(PyObject *self, PyObject *none) {
 typedef bcp47_outcome writer(const bcp47_registry *, const char *, size_t, char *, size_t);
 
 /* What a call writes for a tag, as a str. */
-static PyObject *text_by(writer *writes, PyObject *self, PyObject *tag) {
-    char buffer[ROOM], *text;
-    Py_ssize_t length;
-    PyObject *bytes = bytes_of(tag);
-    registry_object *it = bytes ? opened(self) : NULL;
+static inline PyObject *text_by(writer *writes, PyObject *self, PyObject *tag) {
+    char buffer[ROOM];
+    text it;
     PyObject *made = NULL;
-    if (it && !PyBytes_AsStringAndSize(bytes, &text, &length)) {
-        bcp47_outcome outcome = writes(it->registry, text, (size_t)length, buffer, sizeof buffer);
-        made = outcome.status == BCP47_DONE ? PyUnicode_FromStringAndSize(buffer, (Py_ssize_t)outcome.length)
+    if (!has_text(tag, &it)) return NULL;
+    registry_object *registry = opened(self);
+    if (registry) {
+        bcp47_outcome outcome = writes(registry->registry, it.bytes, it.length, buffer, sizeof buffer);
+        made = outcome.status == BCP47_DONE ? answered(&it, buffer, outcome.length)
                                             : raise_refusal("RefusedTag", outcome, buffer, tag);
     }
-    Py_XDECREF(bytes);
+    end_text(&it);
     return made;
 }
 
@@ -173,16 +205,14 @@ static PyObject *registry_extlang(PyObject *self, PyObject *tag) {
 
 /* The class and the text of a tag in conventional case, by no registry. */
 static PyObject *module_classify(PyObject *module, PyObject *tag) {
-    char buffer[ROOM], *text;
-    Py_ssize_t length;
-    PyObject *bytes = bytes_of(tag), *made = NULL;
+    char buffer[ROOM];
+    text it;
     (void)module;
-    if (bytes && !PyBytes_AsStringAndSize(bytes, &text, &length)) {
-        bcp47_outcome outcome = bcp47_classify(NULL, text, (size_t)length, buffer, sizeof buffer);
-        made = outcome.status == BCP47_DONE ? Py_BuildValue("is#", outcome.detail, buffer, (Py_ssize_t)outcome.length)
-                                            : raise_refusal("RefusedTag", outcome, NULL, tag);
-    }
-    Py_XDECREF(bytes);
+    if (!has_text(tag, &it)) return NULL;
+    bcp47_outcome outcome = bcp47_classify(NULL, it.bytes, it.length, buffer, sizeof buffer);
+    PyObject *made = outcome.status == BCP47_DONE ? Py_BuildValue("is#", outcome.detail, buffer, (Py_ssize_t)outcome.length)
+                                                  : raise_refusal("RefusedTag", outcome, NULL, tag);
+    end_text(&it);
     return made;
 }
 
@@ -202,78 +232,82 @@ static PyObject *listed(const bcp47_part *parts, size_t count, const char *text)
 /* The parts of a tag, by no registry. */
 static PyObject *module_parts(PyObject *module, PyObject *tag) {
     bcp47_part parts[BCP47_PARTS];
-    char buffer[ROOM], *text;
-    Py_ssize_t length;
-    PyObject *bytes = bytes_of(tag), *made = NULL;
+    char buffer[ROOM];
+    text it;
     (void)module;
-    if (bytes && !PyBytes_AsStringAndSize(bytes, &text, &length)) {
-        bcp47_outcome outcome = bcp47_parts(text, (size_t)length, buffer, sizeof buffer, parts, BCP47_PARTS);
-        made = outcome.status == BCP47_DONE ? listed(parts, outcome.place, buffer) : raise_refusal("RefusedTag", outcome, NULL, tag);
-    }
-    Py_XDECREF(bytes);
+    if (!has_text(tag, &it)) return NULL;
+    bcp47_outcome outcome = bcp47_parts(it.bytes, it.length, buffer, sizeof buffer, parts, BCP47_PARTS);
+    PyObject *made = outcome.status == BCP47_DONE ? listed(parts, outcome.place, buffer)
+                                                  : raise_refusal("RefusedTag", outcome, NULL, tag);
+    end_text(&it);
     return made;
 }
 
 static PyObject *registry_validate(PyObject *self, PyObject *tag) {
-    char *text;
-    Py_ssize_t length;
-    PyObject *bytes = bytes_of(tag), *made = NULL;
-    registry_object *it = bytes ? opened(self) : NULL;
-    if (it && !PyBytes_AsStringAndSize(bytes, &text, &length)) {
-        bcp47_outcome outcome = bcp47_validate(it->registry, text, (size_t)length);
-        made = outcome.status == BCP47_DONE ? Py_BuildValue("") : raise_refusal("RefusedTag", outcome, NULL, tag);
+    text it;
+    PyObject *made = NULL;
+    if (!has_text(tag, &it)) return NULL;
+    registry_object *registry = opened(self);
+    if (registry) {
+        bcp47_outcome outcome = bcp47_validate(registry->registry, it.bytes, it.length);
+        made = outcome.status == BCP47_DONE ? same(Py_None) : raise_refusal("RefusedTag", outcome, NULL, tag);
     }
-    Py_XDECREF(bytes);
+    end_text(&it);
     return made;
 }
 
 /* explain_lines(tag, most): the lines that the program prints, of at most so many steps. */
 static PyObject *registry_explain_lines(PyObject *self, PyObject *arguments) {
-    char *text, *lines;
-    Py_ssize_t length, most;
-    PyObject *tag;
-    if (!PyArg_ParseTuple(arguments, "On", &tag, &most)) return NULL;
-    PyObject *bytes = bytes_of(tag), *made = NULL;
-    registry_object *it = bytes ? opened(self) : NULL;
-    if (it && !PyBytes_AsStringAndSize(bytes, &text, &length)) {
-        char variant[BCP47_LINE];
+    char *lines, variant[BCP47_LINE];
+    Py_ssize_t most;
+    PyObject *tag, *made = NULL;
+    text it;
+    if (!PyArg_ParseTuple(arguments, "On", &tag, &most) || !has_text(tag, &it)) return NULL;
+    registry_object *registry = opened(self);
+    if (registry) {
         bcp47_outcome outcome;
-        it->calls++;
+        registry->calls++;
         Py_BEGIN_ALLOW_THREADS
-        outcome = bcp47_explanation(it->registry, text, (size_t)length, most < 0 ? 0 : (size_t)most, &lines);
+        outcome = bcp47_explanation(registry->registry, it.bytes, it.length, most < 0 ? 0 : (size_t)most, &lines);
         /* the variant that would be repeated */
         if (outcome.status == BCP47_REPLACEMENT_REPEATS)
-            outcome = bcp47_canonical(it->registry, text, (size_t)length, variant, sizeof variant);
+            outcome = bcp47_canonical(registry->registry, it.bytes, it.length, variant, sizeof variant);
         Py_END_ALLOW_THREADS
-        end_call(it);
+        end_call(registry);
         made = outcome.status == BCP47_DONE ? PyUnicode_FromStringAndSize(lines, (Py_ssize_t)outcome.length)
                                             : raise_refusal("RefusedTag", outcome, variant, tag);
         bcp47_free(lines);
     }
-    Py_XDECREF(bytes);
+    end_text(&it);
     return made;
 }
 
 /* ---- two texts */
 
+/* Whether two tags have texts, both of which end_text() then lets go of. */
+static int have_texts(PyObject *one, PyObject *other, text *first, text *second) {
+    if (!has_text(one, first)) return 0;
+    if (has_text(other, second)) return 1;
+    end_text(first);
+    return 0;
+}
+
 static PyObject *registry_equivalent(PyObject *self, PyObject *arguments) {
-    char variant[BCP47_LINE], *first, *second;
-    Py_ssize_t first_length, second_length;
+    char variant[BCP47_LINE];
     PyObject *one, *other, *made = NULL;
-    if (!PyArg_ParseTuple(arguments, "OO", &one, &other)) return NULL;
-    PyObject *bytes = bytes_of(one), *more = bytes ? bytes_of(other) : NULL;
-    registry_object *it = more ? opened(self) : NULL;
-    if (it && !PyBytes_AsStringAndSize(bytes, &first, &first_length) &&
-        !PyBytes_AsStringAndSize(more, &second, &second_length)) {
-        bcp47_outcome outcome = bcp47_equal(it->registry, first, (size_t)first_length, second, (size_t)second_length, variant,
+    text first, second;
+    if (!PyArg_ParseTuple(arguments, "OO", &one, &other) || !have_texts(one, other, &first, &second)) return NULL;
+    registry_object *registry = opened(self);
+    if (registry) {
+        bcp47_outcome outcome = bcp47_equal(registry->registry, first.bytes, first.length, second.bytes, second.length, variant,
                                             sizeof variant);
         if (outcome.status == BCP47_DONE || outcome.status == BCP47_DIFFERENT)
             made = PyBool_FromLong(outcome.status == BCP47_DONE);
         else
             made = raise_refusal("RefusedTag", outcome, variant, outcome.text == 2 ? other : one);
     }
-    Py_XDECREF(bytes);
-    Py_XDECREF(more);
+    end_text(&first);
+    end_text(&second);
     return made;
 }
 
@@ -298,31 +332,29 @@ static bcp47_step *steps_of(PyObject *sequence, Py_ssize_t count) {
 
 /* verify_steps(tag, steps, last) */
 static PyObject *registry_verify_steps(PyObject *self, PyObject *arguments) {
-    char *text, *end;
-    Py_ssize_t length, end_length;
     PyObject *tag, *sequence, *last, *made = NULL;
-    if (!PyArg_ParseTuple(arguments, "OOO", &tag, &sequence, &last)) return NULL;
+    text it, end;
+    if (!PyArg_ParseTuple(arguments, "OOO", &tag, &sequence, &last) || !have_texts(tag, last, &it, &end)) return NULL;
     Py_ssize_t count = PySequence_Size(sequence);
     bcp47_step *steps = count < 0 ? NULL : steps_of(sequence, count);
-    PyObject *bytes = steps ? bytes_of(tag) : NULL, *more = bytes ? bytes_of(last) : NULL;
-    registry_object *it = more ? opened(self) : NULL;
-    if (it && !PyBytes_AsStringAndSize(bytes, &text, &length) && !PyBytes_AsStringAndSize(more, &end, &end_length)) {
+    registry_object *registry = steps ? opened(self) : NULL;
+    if (registry) {
         bcp47_outcome outcome;
-        it->calls++;
+        registry->calls++;
         Py_BEGIN_ALLOW_THREADS
-        outcome = bcp47_verify(it->registry, text, (size_t)length, steps, (size_t)count, end, (size_t)end_length);
+        outcome = bcp47_verify(registry->registry, it.bytes, it.length, steps, (size_t)count, end.bytes, end.length);
         Py_END_ALLOW_THREADS
-        end_call(it);
+        end_call(registry);
         if (outcome.status == BCP47_DONE)
-            made = Py_BuildValue("");
+            made = same(Py_None);
         else if (outcome.status == BCP47_NO_SUCH_STEP || outcome.status == BCP47_WRONG_END)
             made = raise_refusal("RefusedTrace", outcome, NULL, tag);
         else
             made = raise_refusal("RefusedTag", outcome, NULL, outcome.text == 2 ? last : tag);
     }
     free(steps);
-    Py_XDECREF(bytes);
-    Py_XDECREF(more);
+    end_text(&it);
+    end_text(&end);
     return made;
 }
 
@@ -336,35 +368,23 @@ static PyObject *registry_upgrade_to(PyObject *self, PyObject *other) {
     Py_END_ALLOW_THREADS
     end_call(newer);
     end_call(it);
-    return outcome.status == BCP47_DONE ? Py_BuildValue("") : raise_refusal("RefusedUpgrade", outcome, NULL, Py_None);
+    return outcome.status == BCP47_DONE ? same(Py_None) : raise_refusal("RefusedUpgrade", outcome, NULL, Py_None);
 }
 
 /* ---- many texts */
 
-/* Texts that follow one another, and what they are answered by. The texts of Python's objects are copied first, so that the
-   interpreter's lock can go. */
+/* Texts of strs in a list, those that are missing NULL, and their answers, which follow one another in the buffer. */
 typedef struct {
-    char *texts, *buffer;
-    size_t length, capacity, room, count, written;
-    size_t ends[CHUNK];
+    text texts[CHUNK];
     bcp47_outcome outcomes[CHUNK];
-    char is_missing[CHUNK];
+    size_t count;
+    char buffer[CHUNK_ROOM];
 } chunk;
-
-/* Makes room for at least so many bytes. */
-static int grow(char **bytes, size_t *room, size_t wanted) {
-    if (wanted <= *room) return 1;
-    char *more = realloc(*bytes, 2 * wanted);
-    if (!more) return PyErr_NoMemory() != NULL;
-    *bytes = more;
-    *room = 2 * wanted;
-    return 1;
-}
 
 /* Whether an object stands for a value that is missing: None, a NaN, or NA and NaT of pandas. */
 static int is_missing(PyObject *object) {
+    if (PyUnicode_CheckExact(object)) return 0;
     if (object == Py_None) return 1;
-    if (PyUnicode_Check(object)) return 0;
     if (PyFloat_Check(object)) return isnan(PyFloat_AsDouble(object)) != 0;
     PyObject *name = PyObject_GetAttrString((PyObject *)Py_TYPE(object), "__name__");
     int is_one = name && (!PyUnicode_CompareWithASCIIString(name, "NAType") || !PyUnicode_CompareWithASCIIString(name, "NaTType"));
@@ -372,49 +392,41 @@ static int is_missing(PyObject *object) {
     return name ? is_one : -1;
 }
 
-/* Takes a tag, if there is one. */
-static int take(chunk *it, PyObject *tag) {
-    char *text;
-    Py_ssize_t length;
-    int missing = is_missing(tag);
-    if (missing < 0) return 0;
-    PyObject *bytes = missing ? NULL : bytes_of(tag);
-    int is_taken = missing || (bytes && !PyBytes_AsStringAndSize(bytes, &text, &length));
-    if (is_taken && !missing && (is_taken = grow(&it->texts, &it->capacity, it->length + (size_t)length))) {
-        memcpy(it->texts + it->length, text, (size_t)length);
-        it->length += (size_t)length;
-    }
-    Py_XDECREF(bytes);
-    it->is_missing[it->count] = (char)missing;
-    it->ends[it->count] = it->length;
-    it->count += (size_t)is_taken;
-    return is_taken;
-}
-
-/* Answers the texts that were taken. */
-static int answer(chunk *it, registry_object *registry) {
-    size_t done = 0;
-    it->written = 0;
-    if (!grow(&it->buffer, &it->room, ROOM)) return 0;
-    while (done < it->count) {
-        registry->calls++;
-        Py_BEGIN_ALLOW_THREADS
-        size_t begin = done ? it->ends[done - 1] : 0;
-        size_t more = bcp47_canonical_many(registry->registry, it->texts, it->ends + done, begin, it->count - done,
-                                           it->outcomes + done, it->buffer + it->written, it->room - it->written);
-        for (size_t i = done; i < done + more; i++) it->written += it->outcomes[i].length;
-        done += more;
-        Py_END_ALLOW_THREADS
-        end_call(registry);
-        if (done < it->count && !grow(&it->buffer, &it->room, it->written + it->outcomes[done].length + ROOM)) return 0;
-        if (done < it->count && !opened((PyObject *)registry)) return 0;
+/* Takes the texts of a list from a place on. The list holds the str of each, from here on in place of a Tag. */
+static int take(chunk *it, PyObject *tags, Py_ssize_t first) {
+    Py_ssize_t count = PyList_Size(tags);
+    for (it->count = 0; it->count < CHUNK && first < count; it->count++, first++) {
+        text *one = &it->texts[it->count];
+        PyObject *tag = PyList_GetItem(tags, first);
+        int missing = is_missing(tag);
+        one->bytes = NULL;
+        if (missing < 0 || (!missing && !has_text(tag, one))) return 0;
+        if (missing) continue;
+        if (one->str == tag) end_text(one);
+        else if (PyList_SetItem(tags, first, one->str)) return 0;
     }
     return 1;
 }
 
+/* Answers the texts that were taken, as many as there is room for. */
+static void answer(chunk *it, registry_object *registry) {
+    size_t used = 0, i;
+    registry->calls++;
+    Py_BEGIN_ALLOW_THREADS
+    for (i = 0; i < it->count && CHUNK_ROOM - used >= ROOM; i++) {
+        const text *one = &it->texts[i];
+        if (!one->bytes) continue;
+        it->outcomes[i] = bcp47_canonical(registry->registry, one->bytes, one->length, it->buffer + used, CHUNK_ROOM - used);
+        used += it->outcomes[i].length;
+    }
+    Py_END_ALLOW_THREADS
+    it->count = i;
+    end_call(registry);
+}
+
 /* What a list gets for a text that was refused: the exception, or its line. */
-static PyObject *told(bcp47_outcome outcome, const char *text, PyObject *tag, int is_line) {
-    PyObject *made = refusal("RefusedTag", outcome, text, tag);
+static PyObject *told(bcp47_outcome outcome, const char *variant, PyObject *tag, int is_line) {
+    PyObject *made = refusal("RefusedTag", outcome, variant, tag);
     PyObject *line = made && is_line ? PyObject_Str(made) : NULL;
     if (!is_line) return made;
     Py_XDECREF(made);
@@ -426,25 +438,20 @@ static int put(PyObject *list, Py_ssize_t index, PyObject *object) {
     return object && !PyList_SetItem(list, index, object);
 }
 
-static PyObject *same(PyObject *object) {
-    Py_INCREF(object);
-    return object;
-}
-
 /* Puts what was answered into the lists: the second, if there is one, gets the lines of the refusals. */
-static int put_all(chunk *it, PyObject *tags, Py_ssize_t first, PyObject *missing, PyObject *texts, PyObject *faults) {
-    const char *text = it->buffer;
+static int put_all(const chunk *it, Py_ssize_t first, PyObject *missing, PyObject *texts, PyObject *faults) {
+    const char *answer = it->buffer;
     for (size_t i = 0; i < it->count; i++) {
         Py_ssize_t at = first + (Py_ssize_t)i;
-        bcp47_outcome outcome = it->outcomes[i];
-        int is_done = outcome.status == BCP47_DONE, well = 1;
-        PyObject *tag = PyList_GetItem(tags, at);
-        if (it->is_missing[i]) well = put(texts, at, same(missing));
-        else if (is_done) well = put(texts, at, PyUnicode_FromStringAndSize(text, (Py_ssize_t)outcome.length));
-        else well = put(texts, at, faults ? same(missing) : told(outcome, text, tag, 0));
-        if (well && faults) well = put(faults, at, it->is_missing[i] || is_done ? same(Py_None) : told(outcome, text, tag, 1));
-        if (!well) return 0;
-        text += outcome.length;
+        const text *one = &it->texts[i];
+        bcp47_outcome outcome = {0};
+        if (one->bytes) outcome = it->outcomes[i];
+        int is_refused = outcome.status != BCP47_DONE;
+        PyObject *made = is_refused && !faults ? told(outcome, answer, one->str, 0)
+                         : is_refused || !one->bytes ? same(missing) : answered(one, answer, outcome.length);
+        if (!put(texts, at, made)) return 0;
+        if (faults && !put(faults, at, is_refused ? told(outcome, answer, one->str, 1) : same(Py_None))) return 0;
+        answer += outcome.length;
     }
     return 1;
 }
@@ -452,17 +459,15 @@ static int put_all(chunk *it, PyObject *tags, Py_ssize_t first, PyObject *missin
 /* Answers a list of tags into the lists. */
 static int answer_all(registry_object *registry, PyObject *tags, PyObject *missing, PyObject *texts, PyObject *faults) {
     Py_ssize_t count = PyList_Size(tags), first = 0;
-    chunk *it = calloc(1, sizeof *it);
+    chunk *it = malloc(sizeof *it);
     int well = it || PyErr_NoMemory();
     while (well && first < count) {
-        it->count = it->length = 0;
-        while (well && it->count < CHUNK && first + (Py_ssize_t)it->count < count)
-            well = take(it, PyList_GetItem(tags, first + (Py_ssize_t)it->count));
-        well = well && opened((PyObject *)registry) && answer(it, registry) &&
-               put_all(it, tags, first, missing, texts, faults) && !PyErr_CheckSignals();
+        well = take(it, tags, first) && opened((PyObject *)registry);
+        if (!well) break;
+        answer(it, registry);
+        well = put_all(it, first, missing, texts, faults) && !PyErr_CheckSignals();
         first += (Py_ssize_t)it->count;
     }
-    if (it) free(it->texts), free(it->buffer);
     free(it);
     return well;
 }

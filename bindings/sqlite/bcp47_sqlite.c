@@ -12,8 +12,9 @@ SQLITE_EXTENSION_INIT1
 /* Room for any canonical text, and more. */
 enum { BUFFER = 4096 };
 
-/* The most steps that are told, and the most bytes of a registry: IANA's has some 730,000. */
-enum { STEPS = 100000, LONGEST = 64 << 20 };
+/* The most steps that are told, the most bytes of a registry, of which IANA's has some 730,000, and how often a comparison asks
+   again, every 5 milliseconds. */
+enum { STEPS = 100000, LONGEST = 64 << 20, TRIES = 200 };
 
 /* ---- registries of the process */
 
@@ -286,18 +287,30 @@ static void equal(sqlite3_context *context, int count, sqlite3_value **values) {
         sqlite3_result_int(context, outcome.status == BCP47_DONE);
 }
 
-/* Texts compare by their canonical texts, where they have one; those that have none come last, by their bytes. A collation
-   can't answer an error: where memory runs out, the statement is interrupted. */
+/* The canonical text of a text to compare. A collation can't answer an error, and the order of an index must not change: where
+   memory runs out, or too many calls are under way, it asks for a second again, and then the statement is interrupted. */
+static bcp47_outcome canonical_to_compare(connection *c, const void *text, size_t length, char *buffer) {
+    bcp47_outcome outcome = bcp47_canonical(c->held->registry, text, length, buffer, BUFFER);
+    for (int tries = 0; outcome.status == BCP47_OUT_OF_MEMORY || outcome.status >= BCP47_NOT_OPEN; tries++) {
+        if (tries == TRIES) {
+            sqlite3_interrupt(c->database);
+            break;
+        }
+        sqlite3_sleep(5);
+        outcome = bcp47_canonical(c->held->registry, text, length, buffer, BUFFER);
+    }
+    return outcome;
+}
+
+/* Texts compare by their canonical texts, where they have one; those that have none come last, by their bytes. */
 static int collate(void *data, int first_length, const void *first, int second_length, const void *second) {
-    connection *c = data;
     char buffers[2][BUFFER];
     const void *texts[2] = {first, second};
     size_t lengths[2] = {(size_t)first_length, (size_t)second_length};
     int refused[2];
     for (int i = 0; i < 2; i++) {
-        bcp47_outcome outcome = bcp47_canonical(c->held->registry, texts[i], lengths[i], buffers[i], BUFFER);
+        bcp47_outcome outcome = canonical_to_compare(data, texts[i], lengths[i], buffers[i]);
         refused[i] = outcome.status != BCP47_DONE;
-        if (outcome.status == BCP47_OUT_OF_MEMORY || outcome.status >= BCP47_NOT_OPEN) sqlite3_interrupt(c->database);
         if (refused[i]) continue;
         texts[i] = buffers[i];
         lengths[i] = outcome.length;

@@ -28,14 +28,28 @@ Missing = TypeVar("Missing")
 
 
 class Refused(ValueError):
-    """What is refused: `status` and `fault` are names, `place` a number, `help` says what to do, and `str` is one line."""
+    """What is refused: `status` and `fault` are names, `place` a number, `help` says what to do, and `str` is one line. These
+    five are `args`, the line first."""
 
-    def __init__(self, line: str, status: str, fault: str, place: int, help: str = "") -> None:
-        super().__init__(line, status, fault, place, help)
-        self.status = status
-        self.fault = fault
-        self.place = place
-        self.help = help
+    @property
+    def status(self) -> str:
+        """How the call ended, as "Invalid"."""
+        return str(self.args[1])
+
+    @property
+    def fault(self) -> str:
+        """What is wrong, as "UnknownScript"."""
+        return str(self.args[2])
+
+    @property
+    def place(self) -> int:
+        """Where it is wrong, counted from 1; else 0."""
+        return int(self.args[3])
+
+    @property
+    def help(self) -> str:
+        """What to do."""
+        return "".join(self.args[4:])
 
     def __str__(self) -> str:
         return str(self.args[0])
@@ -60,7 +74,7 @@ class RefusedTrace(Refused):
     """Steps do not lead from a tag to another: NoSuchStep, with the number of a step as the place, or WrongEnd."""
 
 
-_KINDS_OF_REFUSAL = {it.__name__: it for it in (RefusedTag, RefusedRegistry, RefusedUpgrade, RefusedTrace)}
+_KINDS_OF_REFUSAL: Dict[str, Type[Refused]] = {it.__name__: it for it in (RefusedTag, RefusedRegistry, RefusedUpgrade, RefusedTrace)}
 
 
 class Step(NamedTuple):
@@ -94,19 +108,24 @@ class Info(NamedTuple):
     sha256: str
 
 
+# The names of statuses; those of faults, with what to do.
+_STATUSES = tuple(_bcp47.names(number)[0] for number in range(17))
+_FAULTS = tuple(_bcp47.names(number)[1::2] for number in range(53))
+
+
 def _refusal(name: str, status: int, fault: int, place: int, text: Optional[str], tag: object) -> Refused:
     """The exception for what the library answered."""
-    status_name = _bcp47.names(status)[0]
-    if status == _REPEATS:
-        refused: Refused = RefusedTag(f"{status_name} {text}", status_name, status_name, 0)
-        refused.variant = text  # type: ignore[attr-defined]
-    elif fault:
-        _, fault_name, _, help = _bcp47.names(fault)
+    status_name = _STATUSES[status]
+    if fault:
+        fault_name, help = _FAULTS[fault]
         refused = _KINDS_OF_REFUSAL[name](text or f"{fault_name} {place}", status_name, fault_name, place, help)
     else:
-        refused = _KINDS_OF_REFUSAL[name](f"{status_name} {place}" if place else status_name, status_name, status_name, place)
+        line = f"{status_name} {text if status == _REPEATS else place or ''}".rstrip()
+        refused = _KINDS_OF_REFUSAL[name](line, status_name, status_name, place)
     if isinstance(refused, RefusedTag):
         refused.tag = str(tag)
+        if status == _REPEATS:
+            refused.variant = text
     return refused
 
 

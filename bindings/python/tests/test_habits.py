@@ -1,4 +1,5 @@
-"""What users of Python do by habit: copies, pools of processes, forks, signals, threads, columns. Argument: the sample registry."""
+"""What users of Python do by habit: copies, pools of processes, forks, signals, threads, columns. Arguments: the sample registry,
+and names of tests, if not all are wanted."""
 import concurrent.futures
 import copy
 import math
@@ -216,6 +217,9 @@ class Columns(unittest.TestCase):
         self.assertEqual(registry.canonical_many([None], missing="?"), ["?"])
         self.assertEqual(registry.canonical_columns(tags), (["yue", None, None, None, "he"], [None, None, None, "BadByte 1", None]))
         self.assertEqual(registry.canonical_columns(["en_US"], missing=""), ([""], ["BadByte 1"]))
+        for call in (registry.equivalent, lambda one, other: registry.verify(one, [], other)):
+            self.assertRaises(TypeError, call, "en", 7)
+            self.assertRaises(TypeError, call, 7, "en")
         self.assertEqual(registry.canonical_columns(iter([])), ([], []))
         for wrong in (1, b"en", 1.5, ["en"]):
             self.assertRaises(TypeError, registry.canonical_many, [wrong])
@@ -229,6 +233,20 @@ class Columns(unittest.TestCase):
         tags = ["iw", long, "en_US", None] * 5000
         self.assertEqual([it if it is None else str(it) for it in registry.canonical_many(tags)],
                          ["he", long, "BadByte 1", None] * 5000)
+
+    def test_answers_that_are_the_same(self):
+        """Of a str that is canonical the answer is that str; one of a class of its own, or a Tag, is not answered."""
+        class Text(str):
+            pass
+
+        tag = "".join(["en-", "GB"])
+        self.assertIs(registry.canonical(tag), tag)
+        self.assertIs(registry.canonical_many([tag])[0], tag)
+        for other in (Text(tag), bcp47.Tag(tag)):
+            for answer in (registry.canonical(other), registry.canonical_many([other])[0]):
+                self.assertEqual((type(answer), answer), (str, tag))
+        answer = registry.canonical("EN-gb")
+        self.assertEqual(answer, tag)
 
     def test_pandas(self):
         try:
@@ -280,6 +298,39 @@ class Memory(unittest.TestCase):
         self.assertLess(held() - before, 2 << 20)
 
 
+class Growths(unittest.TestCase):
+    def test_each_is_refused_in_turn(self):
+        """An answer is the one that is wanted, or there is a MemoryError: by Python's own means of testing."""
+        try:
+            from _testcapi import remove_mem_hooks, set_nomemory
+        except ImportError:
+            self.skipTest("this Python has no _testcapi")
+        tag, steps = bcp47.Tag("zh-yue"), registry.explain("sgn-dd").steps
+        calls = [
+            (lambda: registry.canonical("zh-yue"), "yue"), (lambda: registry.extlang("yue"), "zh-yue"),
+            (lambda: registry.canonical(tag), "yue"), (lambda: registry.is_valid("en_US"), False),
+            (lambda: str(bcp47.Tag("EN-us")), "en-US"), (lambda: tag.parts, (("Language", "zh"), ("Extlang", "yue"))),
+            (lambda: registry.equivalent("zh-yue", tag), True), (lambda: registry.explain("sgn-dd").canonical, "gsg"),
+            (lambda: registry.verify("sgn-dd", steps), None), (lambda: registry.upgrade_check(registry), None),
+            (lambda: registry.info.entries, registry.info.entries),
+            (lambda: registry.canonical_many(["iw", None, tag]), ["he", None, "yue"]),
+            (lambda: registry.canonical_columns(["e_n", "iw"]), ([None, "he"], ["BadByte 1", None])),
+            (lambda: bcp47.Registry.from_bytes(b"").info.entries, 0),
+        ]
+        refused = 0
+        for place, (call, wanted) in enumerate(calls):
+            for number in range(80):
+                set_nomemory(number, number + 1)
+                try:
+                    answer = call()
+                    remove_mem_hooks()
+                    self.assertEqual((place, number, answer), (place, number, wanted))
+                except MemoryError:
+                    remove_mem_hooks()
+                    refused += 1
+        self.assertGreater(refused, 50)
+
+
 class Facts(unittest.TestCase):
     def test_info(self):
         import hashlib
@@ -325,4 +376,4 @@ class Facts(unittest.TestCase):
 
 
 if __name__ == "__main__":
-    unittest.main(argv=sys.argv[:1])
+    unittest.main(argv=[sys.argv[0], *sys.argv[2:]])

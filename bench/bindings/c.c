@@ -1,0 +1,65 @@
+/* Calls a second of bcp47_canonical and of ICU, in turns: the best round of each. With ICU a tag is read, made canonical and
+   written as a tag. Arguments: registry, tags. */
+#include "../../tests/bindings/support.h"
+#include <time.h>
+#include <unicode/uloc.h>
+
+enum { MOST = 1 << 20, ROUNDS = 9 };
+static const char *texts[MOST];
+static size_t lengths[MOST], count = 0;
+static bcp47_registry *registry;
+
+static double now(void) {
+    struct timespec t;
+    clock_gettime(CLOCK_PROCESS_CPUTIME_ID, &t);
+    return (double)t.tv_sec + (double)t.tv_nsec * 1e-9;
+}
+
+static size_t ask(void) {
+    size_t done = 0;
+    char buffer[4096];
+    for (size_t i = 0; i < count; i++)
+        done += bcp47_canonical(registry, texts[i], lengths[i], buffer, sizeof buffer).status == BCP47_DONE;
+    return done;
+}
+
+static size_t ask_icu(void) {
+    size_t done = 0;
+    char read[4096], canonical[4096], written[4096];
+    for (size_t i = 0; i < count; i++) {
+        UErrorCode error = U_ZERO_ERROR;
+        int32_t parsed = 0;
+        uloc_forLanguageTag(texts[i], read, sizeof read, &parsed, &error);
+        uloc_canonicalize(read, canonical, sizeof canonical, &error);
+        uloc_toLanguageTag(canonical, written, sizeof written, 0, &error);
+        done += U_SUCCESS(error);
+    }
+    return done;
+}
+
+int main(int words_count, char **words) {
+    size_t n, done[2] = {0, 0};
+    double best[2] = {1e9, 1e9};
+    static size_t (*const asked[2])(void) = {ask, ask_icu};
+    if (words_count < 3) return 3;
+    char *tags = read_all(words[2], &n);
+    registry = opened(words[1]);
+    for (size_t i = 0; i < n && count < MOST; i += lengths[count++] + 1) {
+        texts[count] = tags + i;
+        lengths[count] = (size_t)((char *)memchr(tags + i, '\n', n - i) - texts[count]);
+        tags[i + lengths[count]] = 0;
+    }
+    for (int round = 0; round < ROUNDS; round++)
+        for (int k = 0; k < 2; k++) {
+            double begun = now();
+            done[k] = asked[k]();
+            double seconds = now() - begun;
+            if (seconds < best[k]) best[k] = seconds;
+        }
+    printf("C, bcp47_canonical: %.2f million calls a second (%zu of %zu canonical)\n", (double)count / best[0] / 1e6, done[0], count);
+    printf("C, ICU: %.2f million calls a second (%zu without an error): %.1f times as many by bcp47_canonical\n",
+           (double)count / best[1] / 1e6, done[1], best[1] / best[0]);
+    bcp47_close(registry);
+    free(tags);
+    return 0;
+}
