@@ -195,7 +195,7 @@ sed -n '/tags.cpp \$(pkg-config/,/^$/{/^    \$/!s/^    //p}' docs/C.md > "$folde
 writes "docs/C.md's example in C++" "$folder/example-answers" "$folder/example-cpp" "$sample" zh-yue en_US
 for cc in g++ clang++; do
     for standard in c++17 c++20 c++2b; do
-        passes "compile objects by $cc, $standard" $cc -std=$standard -O1 -g -Wall -Wextra -Werror -pedantic-errors -pthread \
+        passes "compile objects by $cc, $standard" $cc -std=$standard -O0 -Wall -Wextra -Werror -pedantic-errors -pthread \
             -Ibindings/c -o "$folder/objects" tests/bindings/objects.cpp build/libbcp47.a
         passes "objects by $cc, $standard" "$folder/objects" "$sample" "${of_sample##* }"
     done

@@ -10,7 +10,7 @@ folder=$1/postgresql
 mkdir -p "$folder/dates" "$folder/built"
 cp "$here"/Makefile "$here"/*.c "$here"/*.map "$here"/*.sql "$here"/*.control "$folder/built"
 cp -r "$here/sql" "$here/expected" "$folder/built"
-pgxs() { make -s -C "$folder/built" ROOT="$(realpath "$here/../..")" with_llvm=no COPT='-Wall -Wextra -Werror -Wno-unused-parameter' "$@"; }
+pgxs() { make -s -C "$folder/built" ROOT="$(realpath "$here/../..")" with_llvm=no COPT="-Wall -Wextra -Werror -Wno-unused-parameter ${flags:-}" "$@"; }
 pgxs || exit 1
 user=postgres
 as_user() { if [ "$(id -u)" = 0 ]; then setpriv --reuid "$user" --regid "$user" --clear-groups env -u LD_LIBRARY_PATH "$@"; else "$@"; fi; }
@@ -22,7 +22,7 @@ cp "$registry" "$folder/dates/$(sed -n '1s/File-Date: //p' "$registry").txt"
 cp "$1/tags" "$folder"
 chmod 755 "$1" "$folder/dates"
 chmod 644 "$folder"/registry "$folder"/tags "$folder"/dates/*
-[ "$(id -u)" != 0 ] || chown "$user" "$folder"
+[ "$(id -u)" != 0 ] || chown "$user" "$folder" "$folder/built"
 stop() {
     [ ! -e "$folder/data" ] || as_user "$tools/pg_ctl" -D "$folder/data" -m immediate stop > /dev/null 2>&1
     $as_root rm -f "$libraries/bcp47.so" "$shared/bcp47.control" "$shared"/bcp47--*.sql

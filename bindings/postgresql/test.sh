@@ -2,6 +2,8 @@
 # Tests the extension on a server in a folder of its own. Arguments: the folder of `tags`, `wanted`, `explained-tags` and
 # `explained`, IANA's registry, the sample registry.
 registry=$2
+# what each session runs is counted as it ends
+flags=--coverage
 # shellcheck source=bindings/postgresql/server.sh
 . "$(dirname "$(realpath "$0")")/server.sh"
 cp "$3" sample
@@ -29,6 +31,13 @@ NULL|EmptySubtag 1|TooLong 0' ask -c "SELECT bcp47_canonical('zh-yue'), bcp47_eq
 is parts 'HK|1994-nedis|NULL|NULL
 ERROR:  there is no kind of part "regions"' ask -c "SELECT bcp47_part('zh-hant-hk-1994-nedis', 'region'), bcp47_part('zh-hant-hk-1994-nedis', 'Variant'), bcp47_part('en', 'region'), bcp47_part('e_n', 'region')" \
     -c "SELECT bcp47_part('en', 'regions')"
+
+is 'what is shown to others' '' sh -c 'nm -D --defined-only "$1" | grep -vE " (Pg_magic_func|_PG_init|pg_finfo_[a-z]+_of|[a-z]+_of)$"' - "$folder/built/bcp47.so"
+# A session takes no memory for the registry, which is the server's.
+is 'memory of a session' 'en-u-ca-buddhist-nu-latn
+t' ask -c "CREATE FUNCTION private_kilobytes() RETURNS int LANGUAGE sql AS \$\$ SELECT substring(pg_read_file('/proc/self/smaps_rollup') FROM 'Private_Dirty: *([0-9]+)')::int \$\$" \
+    -c 'CREATE TEMP TABLE before AS SELECT private_kilobytes() AS kilobytes' -c "SELECT bcp47_canonical('en-u-nu-latn-ca-buddhist')" \
+    -c 'SELECT private_kilobytes() - kilobytes < 1500 FROM before' -c 'DROP FUNCTION private_kilobytes'
 
 # docs/SQL.md's example
 page=$here/../../docs/SQL.md
@@ -74,6 +83,7 @@ cp sample "$folder/registry"
 is 'a replaced file' "$date" ask -c "SELECT split_part(bcp47_registry(), ' ', 1)"
 again || fail "$(cat start.log log)"
 is 'another registry' "2024-01-01|$(grep -cx yue wanted)" ask -c 'SET enable_seqscan = off' -c "SELECT split_part(bcp47_registry(), ' ', 1), ($of_yue)"
+is 'a replacement that repeats' 'ReplacementRepeats alalc97' ask -c "SELECT bcp47_fault('ja-Latn-hepburn-alalc97-heploc')"
 is 'a dump' '' as_user "$tools/pg_dump" -h "$folder" -f "$folder/dump" postgres
 ask -c 'CREATE DATABASE restored' || exit 1
 database=restored ask -f "$folder/dump" > restored 2>&1 || fail "$(cat restored)"
@@ -89,13 +99,27 @@ as_user env PATH="$PATH" bash -c "cd '$folder/built' && true"
 hostile=en-u-$(for letter in z y x w v; do seq -f "$letter%02g" -s - 65 -1 10; done | paste -sd - | cut -c 1-980)
 is 'a long explanation' 'ERROR:  the explanation has more than 20000 steps' ask -c "SET statement_timeout = '20s'" -c "SELECT length(bcp47_explain('${hostile%-}'))"
 printf 'no registry\n' > bad
-mkdir wrong && cp sample wrong/2020-01-01.txt && chmod 755 wrong
-for flag in "-c bcp47.registry=/no/such/file" "-c bcp47.registry=$folder/bad" "-c bcp47.folder=$folder/wrong"; do
+mkdir wrong many && cp sample wrong/2020-01-01.txt && chmod 755 wrong many
+truncate -s 70M long
+for year in $(seq 2001 2065); do echo "File-Date: $year-01-01" > "many/$year-01-01.txt"; done
+chmod 644 long many/*
+for flag in "-c bcp47.registry=/no/such/file" "-c bcp47.registry=$folder/bad" "-c bcp47.folder=$folder/wrong" \
+    "-c bcp47.registry=$folder/long" "-c bcp47.folder=$folder/many"; do
     again "$flag" && fail "the server starts with $flag"
 done
-for line in 'could not read the registry "/no/such/file": No such file or directory' 'is refused: jar BadLine line 1' 'has the File-Date "2024-01-01"'; do
+for line in 'could not read the registry "/no/such/file": No such file or directory' 'is refused: jar BadLine line 1' 'has the File-Date "2024-01-01"' \
+    '/long" is too long' '/many" has more than 64 registries'; do
     grep -qF "$line" log || fail "the log has no $line"
 done
+start -c bcp47.registry= || fail "$(cat log)"
+is 'no registry' 'ERROR:  bcp47.registry names no file|he' sh -c 'echo "$1|$2"' - "$(ask -v VERBOSITY=terse -c "SELECT bcp47_canonical('en')" 2>&1)" \
+    "$(ask -c "SELECT bcp47_canonical('iw', '$date')")"
+as_user "$tools/pg_ctl" -D "$folder/data" -m fast -w stop > /dev/null 2>&1
 start -c shared_preload_libraries= -c bcp47.registry= || fail "$(cat log)"
 is 'not loaded by the server' 'ERROR:  bcp47 is not loaded by the server' ask -v VERBOSITY=terse -c "SELECT bcp47_canonical('en')"
+as_user "$tools/pg_ctl" -D "$folder/data" -m fast -w stop > /dev/null 2>&1
+(cd "$folder/built" && gcov -o . bcp47_postgresql.o > report 2>&1)
+# Each line is run, but for a file that ends early and too many calls at once.
+not_run=$(grep -hE '^ +#####' "$folder/built/bcp47_postgresql.c.gcov")
+[ "$(echo "$not_run" | wc -l)" -le 2 ] || fail "not run: $not_run"
 echo "PostgreSQL: 200,000 rows loaded and indexed in $(((ended - begun) / 1000000)) ms"
