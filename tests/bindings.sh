@@ -200,6 +200,8 @@ for cc in g++ clang++; do
         passes "objects by $cc, $standard" "$folder/objects" "$sample" "${of_sample##* }"
     done
 done
+writes "C++ answers as the program" "$folder/wanted" "$folder/objects" "$registry" canonical "$folder/tags"
+writes "C++ explains as the program" "$folder/explained" "$folder/objects" "$registry" explain "$folder/explained-tags"
 # shellcheck disable=SC2086
 passes "compile objects for sanitizers" g++ -std=c++17 -g $memory -pthread -Ibindings/c -o "$folder/objects" \
     tests/bindings/objects.cpp build/libbcp47.a

@@ -40,7 +40,8 @@ struct refusal {
     std::string line() const {
         if (outcome.status == BCP47_REPLACEMENT_REPEATS) return std::string(name()) + " " + text;
         if (!text.empty()) return text;
-        return outcome.place ? std::string(name()) + " " + std::to_string(outcome.place) : std::string(name());
+        const bool has_place = outcome.detail || outcome.place;
+        return has_place ? std::string(name()) + " " + std::to_string(outcome.place) : std::string(name());
     }
 };
 

@@ -1,6 +1,9 @@
-/* bcp47.hpp: each call once, and what is refused. Arguments: the sample registry, a file that is none. */
+/* bcp47.hpp: each call once, and what is refused. Arguments: the sample registry, and its File-Date. Or a registry, `canonical` or
+   `explain`, and a file, of which each line is answered as the program does. */
 #include <bcp47.hpp>
 #include <cstring>
+#include <fstream>
+#include <iostream>
 #include <thread>
 #include <type_traits>
 
@@ -43,9 +46,21 @@ static void refusals(const bcp47::registry &registry) {
     CHECK(registry.verify("sgn-DD", {{BCP47_REGION, 3, 27}}, "gsg").error().line() == "NoSuchStep 1");
     CHECK(bcp47::registry::from_bytes("no registry\n").error().line() == "jar BadLine line 1");
     CHECK(bcp47::classify("e").error().line() == "BadLanguage 1");
+    CHECK(registry.canonical(std::string(2000, 'a')).error().line() == "TooLong 0");
+}
+
+static int answer(const bcp47::registry &registry, bool is_explained, const char *path) {
+    std::ifstream lines(path);
+    for (std::string line; std::getline(lines, line);) {
+        auto answer = is_explained ? registry.explain(line) : registry.canonical(line);
+        if (!answer) std::cout << "! " << answer.error().line() << '\n';
+        else std::cout << *answer << (is_explained ? "" : "\n");
+    }
+    return 0;
 }
 
 int main(int count, char **words) {
+    if (count == 4) return answer(bcp47::registry::from_file(words[1]).value(), !std::strcmp(words[2], "explain"), words[3]);
     if (count < 3) return 3;
     auto read = bcp47::registry::from_file(words[1]);
     CHECK(read.has_value());

@@ -1,4 +1,5 @@
-"""Answers each line of a file as `langtag canon` does. Arguments: registry, lines; and `explain`, to answer as that does."""
+"""Answers each line of a file as `langtag canon` does, by a call for all of them, which answers as a call for each. Arguments:
+registry, lines; and `explain`, to answer as that command does."""
 import sys
 
 import bcp47
@@ -15,11 +16,21 @@ def explained(tag):
     return "\n".join([*lines, f"= {explanation.canonical}"])
 
 
+def canonical(tag):
+    """The line of one tag."""
+    try:
+        return registry.canonical(tag)
+    except bcp47.RefusedTag as refused:
+        return f"! {refused}"
+
+
 registry = bcp47.Registry.from_file(sys.argv[1])
 tags = open(sys.argv[2]).read().split("\n")[:-1]
 if sys.argv[3:] == ["explain"]:
     answers = map(explained, tags)
 else:
-    answers = (answer if isinstance(answer, str) else f"! {answer}" for answer in registry.canonical_many(tags))
+    answers = [answer if isinstance(answer, str) else f"! {answer}" for answer in registry.canonical_many(tags)]
+    if answers != [canonical(tag) for tag in tags]:
+        sys.exit("a call for each tag answers otherwise")
 for answer in answers:
     print(answer)
