@@ -5,7 +5,7 @@ LIBDIR ?= $(PREFIX)/lib
 PARTS ?= program library
 export DESTDIR PREFIX LIBDIR
 
-.PHONY: all lib lib-aarch64 sqlite test statement bench hostile growth install uninstall deb dist fresh-debian clean gate
+.PHONY: all lib lib-aarch64 sqlite test scripts growths statement bench hostile growth install uninstall deb dist fresh-debian clean gate
 
 # Proves each crate that changed, and builds the program: `rt run` proves, builds and runs it.
 all:
@@ -36,18 +36,22 @@ sqlite: lib
 # real files and streams, README's commands, what is linked to the library for C, and what is packaged.
 test: statement
 	tests/repository.sh
-	tests/edits_test.py
 	tests/gate.py
-	tests/trusted.py
 	mkdir -p build
 	cp crates/langtag/out/langtag build/langtag
+	+$(MAKE) --jobs=4 --output-sync=target --no-print-directory scripts
+
+# The scripts of `make test`, side by side, over what the gate proved and built. What is packaged is what the bindings' script
+# built, over the checks of tests/trusted.py.
+scripts: packaging.sh edits_test.py csv_readers.py program.sh messages.sh fresh.sh growths
+packaging.sh: bindings.sh
+bindings.sh: trusted.py
+%.sh:
+	tests/$@
+%.py:
+	tests/$@
+growths:
 	bench/growth.py lt_jar_tests lt_registry_tests
-	tests/program.sh
-	tests/csv_readers.py
-	tests/messages.sh
-	tests/fresh.sh
-	tests/bindings.sh
-	tests/packaging.sh
 
 # The gate of the kit, for a release: as the first part of `make test`, but it tries each wrong body alone, which takes hours.
 gate:
