@@ -22,6 +22,7 @@ same; --anew tries it all the same. What is kept lies in $XDG_CACHE_HOME/langtag
 `rt check` keeps in out/ the first round of a crate is quick, and else it proves the crate.
 """
 
+import functools
 import hashlib
 import importlib.machinery
 import importlib.util
@@ -38,7 +39,7 @@ ROOT = os.path.dirname(os.path.dirname(os.path.abspath(__file__)))
 CLAUSE, NAME, NOT_REFUSED, BAD = KINDS = ["clause", "name", "NOT REFUSED", "BAD EDIT"]
 NEEDED = {
     "rt": ["edits_of", "read_edit", "unread", "need", "in_lanes"],
-    "rtlib": ["KIT", "RATTLE", "PARTS", "KEPT", "STALE", "crates_below", "guarded"],
+    "rtlib": ["KIT", "RATTLE", "PARTS", "KEPT", "STALE", "Crate", "crates_below", "guarded"],
     "rt-plant-bodies": ["Source"],
 }
 GOAL = re.compile(r"note: (?:\./)?(\S+?):(\d+):\d+: it is not proved that (.*) \(`([^`]+)`\)(.*)")
@@ -75,6 +76,8 @@ def command():
     rt = load("rt")
     if [it for it in NEEDED["rtlib"] if not hasattr(getattr(rt, "rtlib", None), it)]:
         sys.exit("edits.py: this kit's rt has no rtlib with %s, which are used here" % ", ".join(NEEDED["rtlib"]))
+    # (rt sums up a crate once for each way that leads to it, which in a long chain are many)
+    rt.rtlib.Crate.stamp = functools.cache(rt.rtlib.Crate.stamp)
     return rt, rt.rtlib, load("rt-plant-bodies")
 
 

@@ -8,6 +8,7 @@ A library is proved as `rt lib` proves it, and only where it or one below it has
 proved.
 """
 
+import functools
 import importlib.machinery
 import importlib.util
 import os
@@ -49,6 +50,8 @@ def main():
         print("build.py: this kit's rt is not the one that is known here: it builds one library after another")
         return 0
     rt.rtlib.guarded()
+    # (rt sums up a crate once for each way that leads to it, which in a long chain are many)
+    rt.rtlib.Crate.stamp = functools.cache(rt.rtlib.Crate.stamp)
     crates = {it.name: it for it in rt.rtlib.crates_below(ROOT)}
     unknown = [it for it in sys.argv[1:] if it not in crates]
     if unknown or not sys.argv[1:]:
