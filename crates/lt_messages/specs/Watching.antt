@@ -42,9 +42,3 @@ report_left s given = Some (drop given (report_of s))
 abbrev pub after_first_line : List ℕ → List ℕ
 after_first_line [] = []
 after_first_line (byte ∷ rest) = if byte == 10 then rest else after_first_line rest
-
--- what a person is told after a run that wrote this to its output and that to its errors: how many lines were answered
--- and refused, where they are counted, and what the first fault of each means
-abbrev pub lines_of : (counted : Bool) → (shown said : Seen) → List ℕ
-lines_of counted shown said =
-    (if counted then report_of shown else after_first_line (report_of shown)) ++ after_first_line (report_of said)
