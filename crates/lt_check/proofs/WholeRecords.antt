@@ -18,7 +18,7 @@ use Rattle.lt_rewrite.proofs.Entries.{find_has}
 use Rattle.lt_rewrite.proofs.NormalForms.{star_keeps}
 use Rattle.lt_rewrite.proofs.ProperTags.{step_proper, proper_not_grandfathered}
 use Rattle.lt_check.specs.Conditions.{IsValidCoreAlone, HasValidWhole, OfWhole}
-use Rattle.lt_check.specs.WholeChecks.{MeetsBelow, HasNoValue, Rests, ComesTo, Agrees}
+use Rattle.lt_check.specs.WholeChecks.{MeetsBelow, HasNoValue, RestsAlone, ComesTo, Agrees}
 use Rattle.lt_check.specs.declared.conditions.Condition.TheVariants as conditions
 use Rattle.lt_check.proofs.CheckedRegistry.{valued_whole, whole_has, found_name, whole_kind, no_value}
 use Rattle.lt_check.proofs.Deciding.{same_tag_itself}
@@ -112,7 +112,7 @@ pub invalid_whole : (R : List EntryParts) (e : EntryParts) (t u : TagForm) → e
 invalid_whole R e t u n v b d f = ((λ h. absurd (let k : true ≡ false = sym h ∙ f in cc)), (λ w. d.1 (w t u n v).0))
 
 -- a core that repeats no variant rests exactly if no value is found for it
-pub rest_verdict : (R : List EntryParts) → MeetsBelow 10 R → IsRegistry R → (c : CoreParts) → Distinct c.variants → (o : Option (Bor TagForm)) → option_copied o ≡ whole_value R (core_alone c) → (b : Bool) → is_some o ≡ not b → Decides b (Rests R c)
+pub rest_verdict : (R : List EntryParts) → MeetsBelow 10 R → IsRegistry R → (c : CoreParts) → Distinct c.variants → (o : Option (Bor TagForm)) → option_copied o ≡ whole_value R (core_alone c) → (b : Bool) → is_some o ≡ not b → Decides b (RestsAlone R c)
 rest_verdict R M I c D None w b n = ((λ h. (D, none_has_value R M I (core_alone c) (sym w))), (λ k. not-false b (sym n)))
 rest_verdict R M I c D (Some u) w b n =
     ((λ h. let f = not-true b (sym n) in cc), (λ k. let none : whole_value R (core_alone c) ≡ None = no_value R (core_alone c) k.1 in let f = w ∙ none in cc))

@@ -19,8 +19,8 @@ abbrev pub HasNoValue : List EntryParts → TagForm → Type 0
 HasNoValue R t = All (λ (f : EntryParts). f.name ≡ names.Whole t → tag_of f.value ≡ None) R
 
 -- a core repeats no variant and has no value
-abbrev pub Rests : List EntryParts → CoreParts → Type 0
-Rests R d = Distinct d.variants × HasNoValue R (core_alone d)
+abbrev pub RestsAlone : List EntryParts → CoreParts → Type 0
+RestsAlone R d = Distinct d.variants × HasNoValue R (core_alone d)
 
 -- a core comes to an end: it is that, or its value comes to it
 abbrev pub ComesTo : List EntryParts → CoreParts → CoreParts → Type 0

@@ -11,7 +11,7 @@ ghost use Rattle.lt_registry.specs.declared.entries.EntryName.TheVariants as nam
 ghost use Rattle.lt_rewrite.specs.CoreSteps.{IsCoreNormalForm};
 ghost use Rattle.lt_rewrite.specs.Shortcuts.{AreShortcuts};
 ghost use Rattle.lt_check.specs.Conditions.{OfWhole, IsValidCoreAlone, Meets};
-ghost use Rattle.lt_check.specs.WholeChecks.{MeetsBelow, Rests, Agrees};
+ghost use Rattle.lt_check.specs.WholeChecks.{MeetsBelow, RestsAlone, Agrees};
 ghost use Rattle.lt_check.specs.declared.conditions.Condition.TheVariants as conditions;
 
 use lt_registry::{Entry, Kind, Lookup, are_distinct, validate};
@@ -97,7 +97,7 @@ fn plain_value_of<L: Lookup>(alloc: Global, table: &L, core: Core) -> Option<&Co
 fn rests<L: Lookup>(alloc: Global, table: &L, core: Core) -> bool
     requires lower { MeetsBelow 10 (L.listed table.now) }
     requires spelled { IsNotGrandfathered (spell_core core) }
-    ensures { IsTrue result ↔ Rests (L.listed table.now) core }
+    ensures { IsTrue result ↔ RestsAlone (L.listed table.now) core }
 {
     know_entries(table);
     are_distinct(core.variants()) && value_of(alloc, table, core).is_none()

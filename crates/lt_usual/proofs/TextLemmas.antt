@@ -11,7 +11,7 @@ use Rattle.lt_registry.specs.declared.entries.Kind.{Kind}
 use Rattle.lt_registry.specs.declared.entries.Kind.TheVariants as kinds
 use Rattle.lt_usual.specs.Places.{script_4, place}
 use Rattle.lt_usual.specs.Flags.{flag, AreFlags}
-use Rattle.lt_usual.specs.Shown.{lower, upper, after_if, after_language, nine_before, shown_two}
+use Rattle.lt_usual.specs.Shown.{lower, upper_byte, after_if, after_language, nine_before, shown_two}
 use Rattle.lt_usual.specs.declared.texts.AfterLanguage.{AfterLanguage}
 use Rattle.lt_usual.specs.declared.texts.Shown.{Shown}
 use Rattle.std.specs.Char.{is_ascii_lowercase, to_ascii_lowercase, to_ascii_uppercase}
@@ -61,10 +61,10 @@ lowered s = map lower s
 -- a script, and a region of letters, in conventional case
 abbrev pub titled : List ℕ → List ℕ
 titled [] = []
-titled (a ∷ s) = upper a ∷ lowered s
+titled (a ∷ s) = upper_byte a ∷ lowered s
 
 abbrev pub raised : List ℕ → List ℕ
-raised (a ∷ b ∷ []) = upper a ∷ upper b ∷ []
+raised (a ∷ b ∷ []) = upper_byte a ∷ upper_byte b ∷ []
 raised s = s
 
 -- what is shown of a script and a region
@@ -183,9 +183,9 @@ lower_is : (b : ℕ) → is_ascii_lowercase (to_ascii_lowercase b) ≡ true → 
 lower_is b h =
     eqb-true _ _ (rw h at (agree_below_at (λ x. not (is_ascii_lowercase (to_ascii_lowercase x)) || eqb (lower x) (to_ascii_lowercase x)) (λ _. true) 128 b refl (grind (arith, nat_tests))))
 
-upper_is : (b : ℕ) → is_ascii_lowercase (to_ascii_lowercase b) ≡ true → to_ascii_uppercase (to_ascii_lowercase b) ≡ upper b
+upper_is : (b : ℕ) → is_ascii_lowercase (to_ascii_lowercase b) ≡ true → to_ascii_uppercase (to_ascii_lowercase b) ≡ upper_byte b
 upper_is b h =
-    eqb-true _ _ (rw h at (agree_below_at (λ x. not (is_ascii_lowercase (to_ascii_lowercase x)) || eqb (to_ascii_uppercase (to_ascii_lowercase x)) (upper x)) (λ _. true) 128 b refl (grind (arith, nat_tests))))
+    eqb-true _ _ (rw h at (agree_below_at (λ x. not (is_ascii_lowercase (to_ascii_lowercase x)) || eqb (to_ascii_uppercase (to_ascii_lowercase x)) (upper_byte x)) (λ _. true) 128 b refl (grind (arith, nat_tests))))
 
 lowered_is : (s : List ℕ) → is_alphabetic (folded s) ≡ true → lowered s ≡ folded s
 lowered_is [] h = refl

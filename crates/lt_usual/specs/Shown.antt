@@ -10,8 +10,8 @@ use Rattle.lt_usual.specs.declared.texts.Shown.{Shown}
 abbrev pub lower : ℕ → ℕ
 lower b = bit_or b 32
 
-abbrev pub upper : ℕ → ℕ
-upper b = bit_and b 223
+abbrev pub upper_byte : ℕ → ℕ
+upper_byte b = bit_and b 223
 
 -- bytes after the language, where a test holds
 abbrev pub after_if : Bool → ℕ → List ℕ → Option AfterLanguage
@@ -20,7 +20,7 @@ after_if holds count bytes = if holds then Some (record { count = count; bytes =
 -- a script in conventional case, and what follows it (RFC 5646, 2.1.1)
 abbrev pub script_before : ℕ → ℕ → ℕ → ℕ → List ℕ → List ℕ
 script_before a b c d rest =
-    45 ∷ upper a ∷ lower b ∷ lower c ∷ lower d ∷ rest
+    45 ∷ upper_byte a ∷ lower b ∷ lower c ∷ lower d ∷ rest
 
 -- what follows the language: a script, and a region where there is one
 abbrev pub from_script : List ℕ → List ℕ → Option AfterLanguage
@@ -28,7 +28,7 @@ from_script F (h ∷ a ∷ b ∷ c ∷ d ∷ []) = after_if ((h == 45) && flag F
     (script_before a b c d (0 ∷ 0 ∷ 0 ∷ 0 ∷ []))
 from_script F (h ∷ a ∷ b ∷ c ∷ d ∷ i ∷ e ∷ f ∷ []) =
     after_if (((h == 45) && (i == 45)) && (flag F (script_4 a b c d) && flag F (region_2 e f))) 8
-    (script_before a b c d (45 ∷ upper e ∷ upper f ∷ 0 ∷ []))
+    (script_before a b c d (45 ∷ upper_byte e ∷ upper_byte f ∷ 0 ∷ []))
 from_script F (h ∷ a ∷ b ∷ c ∷ d ∷ i ∷ e ∷ f ∷ g ∷ []) =
     after_if (((h == 45) && (i == 45)) && (flag F (script_4 a b c d) && flag F (region_3 e f g))) 9
     (script_before a b c d (45 ∷ e ∷ f ∷ g ∷ []))
@@ -38,7 +38,7 @@ from_script F _ = None
 abbrev pub after_language : List ℕ → List ℕ → Option AfterLanguage
 after_language F [] = after_if true 0 (0 ∷ 0 ∷ 0 ∷ 0 ∷ 0 ∷ 0 ∷ 0 ∷ 0 ∷ 0 ∷ [])
 after_language F (h ∷ a ∷ b ∷ []) = after_if ((h == 45) && flag F (region_2 a b)) 3
-    (45 ∷ upper a ∷ upper b ∷ 0 ∷ 0 ∷ 0 ∷ 0 ∷ 0 ∷ 0 ∷ [])
+    (45 ∷ upper_byte a ∷ upper_byte b ∷ 0 ∷ 0 ∷ 0 ∷ 0 ∷ 0 ∷ 0 ∷ [])
 after_language F (h ∷ a ∷ b ∷ c ∷ []) = after_if ((h == 45) && flag F (region_3 a b c)) 4
     (45 ∷ a ∷ b ∷ c ∷ 0 ∷ 0 ∷ 0 ∷ 0 ∷ 0 ∷ [])
 after_language F rest = from_script F rest

@@ -42,7 +42,7 @@ fn lower(byte: u8) -> u8
 /// A letter in upper case; what another byte becomes doesn't matter.
 #[inline(always)]
 fn upper(byte: u8) -> u8
-    ensures { result ≡ shown.upper byte }
+    ensures { result ≡ shown.upper_byte byte }
 {
     byte & 0xdf
 }

@@ -1,5 +1,5 @@
 use Rattle.std.proofs.lemmas.Bool.Decides.{Decides-like}
-use Rattle.lt_check.specs.WholeChecks.{Rests, Agrees}
+use Rattle.lt_check.specs.WholeChecks.{RestsAlone, Agrees}
 use Rattle.lt_check.proofs.WholeRecords.{tag_proper, value_proper, at_end}
 use Rattle.lt_check.proofs.whole_checks.judge_whole.Goals as goal
 
@@ -14,7 +14,7 @@ pub returns : goal.returns
 returns g c =
     let at = at_end (g.L.Lookup.listed c.args.table.now) c.requires.lower c.args.entry.now _ _ _ _ c.in-Some.ensures.0 c.in-Some.ensures.1 c.in-Some-core_alone.ensures.value c.in_ok-end.ensures.normal in
     record {
-      rests = at (λ _. Rests (g.L.Lookup.listed c.args.table.now)) _ c.rests-rests.ensures;
+      rests = at (λ _. RestsAlone (g.L.Lookup.listed c.args.table.now)) _ c.rests-rests.ensures;
       agrees = Decides-like _
           (λ f t u n v c s p d tc up m moved l. f t u n v p d up l c s tc m moved)
           (λ f t u n v p d up l c s tc m moved. f t u n v c s p d tc up m moved l)
