@@ -6,20 +6,36 @@ mod growths;
 mod one_by_one;
 mod passing;
 
-use lt_jar::{Jar, JarField, read_jar};
+use lt_jar::{Jar, JarFault, JarField, Record, read_jar};
 use lt_testing::{returned_text, sample_text};
 use std::alloc::{AllocError, Global};
 use std::test::Fail;
 
+/// Puts the field of this number after the text, with `;` after another, and `=` after the name.
+fn push_field(text: &mut String, number: usize, name: &str, body: &str) -> Result<(), AllocError> {
+    if number > 0 {
+        text.push(';')?;
+    }
+    text.push_str(name)?;
+    text.push('=')?;
+    text.push_str(body)
+}
+
 /// Puts fields after the text, with `;` between two of them, and `=` after a name.
 fn push_fields(text: &mut String, fields: &[JarField]) -> Result<(), AllocError> {
-    for (i, field) in fields.iter().enumerate() {
-        if i > 0 {
-            text.push(';')?;
+    for (number, field) in fields.iter().enumerate() {
+        push_field(text, number, field.name(), field.body())?;
+    }
+    Ok(())
+}
+
+/// Puts records after the text, with `|` between two of them.
+fn push_records(text: &mut String, records: &[Record]) -> Result<(), AllocError> {
+    for (number, record) in records.iter().enumerate() {
+        if number > 0 {
+            text.push('|')?;
         }
-        text.push_str(field.name())?;
-        text.push('=')?;
-        text.push_str(field.body())?;
+        push_fields(text, record.fields())?;
     }
     Ok(())
 }
@@ -27,12 +43,7 @@ fn push_fields(text: &mut String, fields: &[JarField]) -> Result<(), AllocError>
 /// The records, with `|` between two of them.
 fn shown(alloc: Global, jar: &Jar) -> Result<String, AllocError> {
     let mut text = String::new(alloc);
-    for (i, record) in jar.records().iter().enumerate() {
-        if i > 0 {
-            text.push('|')?;
-        }
-        push_fields(&mut text, record.fields())?;
-    }
+    push_records(&mut text, jar.records())?;
     Ok(text)
 }
 
@@ -129,14 +140,29 @@ fn has_fields(alloc: Global, jar: &Jar, number: usize, fields: &str) -> Result<b
     Ok(text.as_str() == fields)
 }
 
+/// Whether a text is read as the sample's records.
+fn is_sample(alloc: Global, text: &str) -> Result<bool, Fail> {
+    let jar = read_jar(alloc, text.as_bytes())?;
+    Ok(jar.records().len() == 47 && has_fields(alloc, &jar, 0, "File-Date=2024-01-01")?)
+}
+
 #[test]
 fn sample_is_read(rt: HostRuntime) -> Result<(), Fail> {
     let text = sample_text(rt.alloc())?;
     assert!(rt; text.len() == 1_946);
-    let jar = read_jar(rt.alloc(), text.as_bytes())?;
-    assert!(rt; jar.records().len() == 47);
-    assert!(rt; has_fields(rt.alloc(), &jar, 0, "File-Date=2024-01-01")?);
+    assert!(rt; is_sample(rt.alloc(), &text)?);
     Ok(())
+}
+
+/// Whether a fault is shown with this name and line.
+fn is_fault_shown(
+    alloc: Global,
+    fault: JarFault,
+    name: &str,
+    line: u64,
+) -> Result<bool, AllocError> {
+    let told = format!(in alloc; "{name} in line {line}")?;
+    Ok(format!(in alloc; "{fault}")?.as_str() == told.as_str())
 }
 
 #[test]
@@ -145,9 +171,7 @@ fn faults_are_shown(rt: HostRuntime) -> Result<(), Fail> {
         let Err(fault) = read_jar(rt.alloc(), text) else {
             return Err(Fail::from("the text has no fault"));
         };
-        let shown = format!(in rt.alloc(); "{fault}")?;
-        let told = format!(in rt.alloc(); "{name} in line {line}")?;
-        assert!(rt; shown.as_str() == told.as_str(), "{told}");
+        assert!(rt; is_fault_shown(rt.alloc(), fault, name, *line)?, "{name}");
     }
     Ok(())
 }

@@ -1,10 +1,36 @@
 //! Readers that end, and readers that fail.
 use super::one_by_one::lent_text;
-use lt_jar::{Device, JarReader, Pieces};
+use lt_jar::{Device, JarFault, JarReader, Pieces, RecordRef};
 use lt_testing::sample_text;
-use std::alloc::Global;
+use std::alloc::{AllocError, Global};
 use std::io::Read;
 use std::test::Fail;
+
+/// Puts what a call answers after the text.
+fn push_answer(
+    alloc: Global,
+    text: &mut String,
+    answer: &Result<Option<RecordRef<'_>>, JarFault>,
+) -> Result<(), AllocError> {
+    match answer {
+        Ok(Some(_)) => text.push_str("record;"),
+        Ok(None) => text.push_str("none;"),
+        Err(fault) => text.push_str(&format!(in alloc; "{} {};", fault.kind.name(), fault.line)?),
+    }
+}
+
+/// Puts what this many calls answer after the text.
+fn push_answers<R: Read>(
+    alloc: Global,
+    text: &mut String,
+    reader: &mut JarReader<'_, R>,
+    calls: usize,
+) -> Result<(), AllocError> {
+    for _ in 0..calls {
+        push_answer(alloc, text, &reader.next())?;
+    }
+    Ok(())
+}
 
 /// What this many calls answer.
 pub fn told<R: Read>(alloc: Global, device: &mut Device<R>, calls: usize) -> Result<String, Fail> {
@@ -12,16 +38,7 @@ pub fn told<R: Read>(alloc: Global, device: &mut Device<R>, calls: usize) -> Res
         return Err(Fail::from("no reader"));
     };
     let mut text = String::new(alloc);
-    for _ in 0..calls {
-        match reader.next() {
-            Ok(Some(_)) => text.push_str("record;")?,
-            Ok(None) => text.push_str("none;")?,
-            Err(fault) => {
-                let (name, line) = (fault.kind.name(), fault.line);
-                text.push_str(&format!(in alloc; "{name} {line};")?)?;
-            }
-        }
-    }
+    push_answers(alloc, &mut text, &mut reader, calls)?;
     Ok(text)
 }
 
@@ -40,11 +57,16 @@ const ENDS: [(&[u8], usize, &str); 3] = [
     ),
 ];
 
+/// Whether this many calls answer so for a text in pieces of 3.
+fn is_told(alloc: Global, text: &[u8], calls: usize, answers: &str) -> Result<bool, Fail> {
+    let mut device = Device::new(Pieces::once(text, 3));
+    Ok(told(alloc, &mut device, calls)?.as_str() == answers)
+}
+
 #[test]
 fn ends_stay(rt: HostRuntime) -> Result<(), Fail> {
     for (text, calls, answers) in &ENDS {
-        let mut device = Device::new(Pieces::once(text, 3));
-        assert!(rt; told(rt.alloc(), &mut device, *calls)?.as_str() == *answers);
+        assert!(rt; is_told(rt.alloc(), text, *calls, answers)?);
     }
     Ok(())
 }
@@ -69,18 +91,15 @@ fn readers_that_fail(rt: HostRuntime) -> Result<(), Fail> {
     Ok(())
 }
 
-/// Whether the sample in pieces of 64, whose read of this number fails after these bytes, is reported
-/// as a record for each separator, that the read failed, and again that there was this fault.
-fn fails_behind(alloc: Global, text: &[u8], call: u64, read: &[u8]) -> Result<bool, Fail> {
-    let mut expected = String::new(alloc);
-    let (mut calls, mut line, mut percents) = (2usize, 1u64, 0u8);
+/// How many separators these bytes have, and the number of the line after them.
+fn separators(read: &[u8]) -> (usize, u64) {
+    let (mut count, mut line, mut percents) = (0usize, 1u64, 0u8);
     for byte in read {
         match *byte {
             b'%' => percents = percents.saturating_add(1),
             b'\n' => {
                 if percents == 2 {
-                    expected.push_str("record;")?;
-                    calls = calls.saturating_add(1);
+                    count = count.saturating_add(1);
                 }
                 line = line.saturating_add(1);
                 percents = 0;
@@ -88,21 +107,41 @@ fn fails_behind(alloc: Global, text: &[u8], call: u64, read: &[u8]) -> Result<bo
             _ => {}
         }
     }
-    expected.push_str(&format!(in alloc; "Read {line};Failed {line};")?)?;
+    (count, line)
+}
+
+/// What calls answer that give so many records, then that a read failed in a line, and again that there was
+/// this fault.
+fn expected(alloc: Global, records: usize, line: u64) -> Result<String, AllocError> {
+    let mut text = String::new(alloc);
+    for _ in 0..records {
+        text.push_str("record;")?;
+    }
+    text.push_str(&format!(in alloc; "Read {line};Failed {line};")?)?;
+    Ok(text)
+}
+
+/// Whether the sample in pieces of 64, whose read of this number fails after these bytes, is reported
+/// as a record for each separator, that the read failed, and again that there was this fault.
+fn fails_behind(alloc: Global, text: &[u8], call: u64, read: &[u8]) -> Result<bool, Fail> {
+    let (records, line) = separators(read);
+    let expected = expected(alloc, records, line)?;
     let mut device = Device::new(Pieces::once(text, 64).failing_at(call));
-    Ok(told(alloc, &mut device, calls)?.as_str() == expected.as_str())
+    Ok(told(alloc, &mut device, records.saturating_add(2))?.as_str() == expected.as_str())
+}
+
+/// Whether the sample whose read of this number fails is reported so.
+fn fails_in_read(alloc: Global, text: &[u8], call: u8) -> Result<bool, Fail> {
+    let end = usize::from(call).saturating_sub(1).saturating_mul(64);
+    let read = text.get(..end.min(text.len())).unwrap_or(&[]);
+    fails_behind(alloc, text, u64::from(call), read)
 }
 
 #[test]
 fn sample_with_each_read_failing(rt: HostRuntime) -> Result<(), Fail> {
     let text = sample_text(rt.alloc())?;
     for call in 1..=32u8 {
-        let end = usize::from(call).saturating_sub(1).saturating_mul(64);
-        let read = text.as_bytes().get(..end.min(text.len())).unwrap_or(&[]);
-        assert!(rt;
-            fails_behind(rt.alloc(), text.as_bytes(), u64::from(call), read)?,
-            "{call}"
-        );
+        assert!(rt; fails_in_read(rt.alloc(), text.as_bytes(), call)?, "{call}");
     }
     Ok(())
 }

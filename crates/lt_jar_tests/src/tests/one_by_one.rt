@@ -1,5 +1,5 @@
 //! Records one by one, from pieces of a text.
-use super::{FAULTS, TEXTS, long_line, many_records, push_fields, shown};
+use super::{FAULTS, TEXTS, long_line, many_records, push_field, push_fields, shown};
 use lt_jar::{Device, JarFault, JarReader, Pieces, RecordRef, Takes, read_jar};
 use lt_testing::{returned_text, sample_text};
 use std::alloc::{AllocError, Global};
@@ -11,13 +11,8 @@ pub const SIZES: [usize; 5] = [1, 2, 3, 7, 1_000_000];
 
 /// Puts the fields of a record after the text, as `shown` has them.
 fn push_record(text: &mut String, record: RecordRef<'_>) -> Result<(), AllocError> {
-    for i in 0..record.len() {
-        if i > 0 {
-            text.push(';')?;
-        }
-        text.push_str(record.name(i))?;
-        text.push('=')?;
-        text.push_str(record.body(i))?;
+    for number in 0..record.len() {
+        push_field(text, number, record.name(number), record.body(number))?;
     }
     Ok(())
 }
