@@ -1,0 +1,263 @@
+package bcp47
+
+import (
+	"bytes"
+	"crypto/sha256"
+	"errors"
+	"fmt"
+	"os"
+	"reflect"
+	"runtime"
+	"sort"
+	"strings"
+	"sync"
+	"testing"
+	"time"
+)
+
+var sample = func() string {
+	if path := os.Getenv("BCP47_SAMPLE"); path != "" {
+		return path
+	}
+	return "../../examples/sample-registry.txt"
+}()
+
+func opened(t testing.TB) *Registry {
+	t.Helper()
+	registry, err := Open(sample)
+	if err != nil {
+		t.Fatal(err)
+	}
+	return registry
+}
+
+func is(t *testing.T, wanted, got any) {
+	t.Helper()
+	if !reflect.DeepEqual(wanted, got) {
+		t.Errorf("wanted %#v, got %#v", wanted, got)
+	}
+}
+
+// What an answer says: its text, or the error after a mark.
+func said(text any, err error) string {
+	if err != nil {
+		return "! " + err.Error()
+	}
+	return fmt.Sprint(text)
+}
+
+func TestTexts(t *testing.T) {
+	registry := opened(t)
+	defer registry.Close()
+	is(t, "yue", said(registry.Canonical("zh-yue")))
+	is(t, "en-t-he-t0-und", said(registry.Canonical("en-t-iw-t0-und")))
+	is(t, "zh-yue", said(registry.Extlang("yue")))
+	is(t, "true", said(registry.Equal("I-KLINGON", "tlh")))
+	is(t, "false", said(registry.Equal("zh", "yue")))
+	is(t, nil, registry.Validate("zh-yue"))
+	is(t, 3, strings.Count(Version()+".", "."))
+}
+
+func TestMany(t *testing.T) {
+	registry := opened(t)
+	defer registry.Close()
+	long := "en-x-" + strings.Repeat("abcdefgh-", 112) + "end"
+	tags := []string{"iw", "en_US", "", "YUE"}
+	for len(tags) < 5000 {
+		tags = append(tags, long, "zh-yue")
+	}
+	for _, few := range [][]string{tags, tags[:4], nil} {
+		answers, err := registry.CanonicalMany(few)
+		is(t, nil, err)
+		is(t, len(few), len(answers))
+		for i, answer := range answers {
+			is(t, said(registry.Canonical(few[i])), said(answer.Text, answer.Err))
+		}
+	}
+}
+
+func TestRefusals(t *testing.T) {
+	registry := opened(t)
+	defer registry.Close()
+	_, err := registry.Canonical("en_US")
+	var refused *TagError
+	is(t, true, errors.As(err, &refused))
+	is(t, "BadByte 1/NotATag/BadByte/1/en_US/", fmt.Sprintf("%v/%s/%s/%d/%s/%s", err, refused.Status, refused.Fault, refused.Place,
+		refused.Tag, refused.Variant))
+	is(t, true, strings.Contains(refused.Help, "hyphen"))
+	is(t, "UnknownLanguage 1", registry.Validate("xx").Error())
+	_, err = registry.Equal("en", "e_n")
+	is(t, true, errors.As(err, &refused))
+	is(t, "e_n", refused.Tag)
+	for tag, wanted := range map[string]string{
+		strings.Repeat("a", 100_000): "! TooLong 0", strings.Repeat("é", 513): "! TooLong 0", strings.Repeat("é", 512): "! BadByte 1",
+		"": "! EmptySubtag 1", "en\x00": "! BadByte 1", "\xff": "! BadByte 1", "en\n": "! BadByte 1",
+	} {
+		is(t, wanted, said(registry.Canonical(tag)))
+		is(t, wanted, said(registry.Extlang(tag)))
+		_, _, err := Parts(tag)
+		is(t, wanted, said("", err))
+	}
+	_, err = Read([]byte("no registry\n"))
+	var none *RegistryError
+	is(t, true, errors.As(err, &none))
+	is(t, "jar BadLine line 1/BadFile/BadLine/1", fmt.Sprintf("%v/%s/%s/%d", err, none.Status, none.Fault, none.Place))
+	_, err = Open("/no/such/file")
+	is(t, true, errors.Is(err, os.ErrNotExist))
+	repeats := "ja-Latn-hepburn-alalc97-heploc"
+	_, canonical := registry.Canonical(repeats)
+	_, explain := registry.Explain(repeats, 9)
+	_, equal := registry.Equal("ja", repeats)
+	answers, _ := registry.CanonicalMany([]string{"de", repeats, "DE"})
+	for _, err := range []error{canonical, explain, equal, answers[1].Err} {
+		is(t, true, errors.As(err, &refused))
+		is(t, "ReplacementRepeats alalc97/alalc97", err.Error()+"/"+refused.Variant)
+	}
+	is(t, "{de <nil>} {de <nil>}", fmt.Sprint(answers[0], answers[2]))
+}
+
+func TestExplanations(t *testing.T) {
+	registry := opened(t)
+	defer registry.Close()
+	explanation, err := registry.Explain("sgn-dd", 100)
+	is(t, nil, err)
+	is(t, "Region 2 27 sgn-DE\nWhole 1 44 gsg\n= gsg", explanation.String())
+	is(t, "= en", said(registry.Explain("en", 0)))
+	is(t, "! TooManySteps", said(registry.Explain("sgn-dd", 1)))
+	is(t, "! TooManySteps", said(registry.Explain("sgn-dd", -1)))
+	is(t, nil, registry.Verify("sgn-dd", explanation.Steps, "gsg"))
+	is(t, nil, registry.Verify("en", nil, "en"))
+	var trace *TraceError
+	is(t, true, errors.As(registry.Verify("sgn-dd", explanation.Steps[:1], "gsg"), &trace))
+	is(t, "WrongEnd 0", fmt.Sprintln(trace.Fault, trace.Place)[:10])
+	wrong := Step{"region", 2, 27, "sgn-DE"}
+	is(t, true, errors.As(registry.Verify("sgn-dd", []Step{wrong}, "gsg"), &trace))
+	is(t, "NoSuchStep 1", trace.Error())
+	is(t, "BadByte 1", registry.Verify("e_n", nil, "en").Error())
+}
+
+func TestParts(t *testing.T) {
+	tag, parts, err := Parts("ZH-yue-hANT-hk-1996-U-co-phonebk-T-de-X-own")
+	is(t, nil, err)
+	is(t, Tag("zh-yue-Hant-HK-1996-u-co-phonebk-t-de-x-own"), tag)
+	is(t, "[{Language zh} {Extlang yue} {Script Hant} {Region HK} {Variant 1996} {Singleton u} {Key co} {Type phonebk} "+
+		"{Singleton t} {SourceLanguage de} {PrivateUseSingleton x} {PrivateUse own}]", fmt.Sprint(parts))
+	_, parts, _ = Parts("i-KLINGON")
+	is(t, []Part{{"Grandfathered", "i-klingon"}}, parts)
+	tags := []Tag{"en", "de"}
+	sort.Slice(tags, func(i, j int) bool { return tags[i] < tags[j] })
+	is(t, []Tag{"de", "en"}, tags)
+}
+
+func TestUpgrades(t *testing.T) {
+	registry := opened(t)
+	defer registry.Close()
+	is(t, nil, registry.UpgradeCheck(registry))
+	other, err := Read([]byte("File-Date: 2000-01-01\n"))
+	is(t, nil, err)
+	defer other.Close()
+	var refused *UpgradeError
+	is(t, true, errors.As(registry.UpgradeCheck(other), &refused))
+	is(t, "U1", refused.Fault)
+	content, err := os.ReadFile(sample)
+	is(t, nil, err)
+	info, err := registry.Info()
+	is(t, nil, err)
+	is(t, Info{"2024-01-01", bytes.Count(content, []byte("%%")), fmt.Sprintf("%x", sha256.Sum256(content))}, info)
+	_, err = Read(nil)
+	is(t, nil, err)
+}
+
+func TestClosed(t *testing.T) {
+	registry, own := opened(t), opened(t)
+	defer registry.Close()
+	is(t, nil, own.Close())
+	is(t, nil, own.Close())
+	_, canonical := own.Canonical("en")
+	_, extlang := own.Extlang("en")
+	_, equal := own.Equal("en", "en")
+	_, explain := own.Explain("en", 1)
+	_, many := own.CanonicalMany([]string{"en"})
+	_, info := own.Info()
+	for _, err := range []error{canonical, extlang, equal, explain, many, info, own.Validate("en"), own.Verify("en", nil, "en"),
+		own.UpgradeCheck(registry), registry.UpgradeCheck(own)} {
+		is(t, ErrClosed, err)
+	}
+}
+
+// Goroutines ask a registry, and others that are closed meanwhile.
+func TestGoroutines(t *testing.T) {
+	registry := opened(t)
+	defer registry.Close()
+	var all sync.WaitGroup
+	for i := 0; i < 200; i++ {
+		all.Add(1)
+		go func() {
+			defer all.Done()
+			for n := 0; n < 500; n++ {
+				if text, err := registry.Canonical("zh-yue"); text != "yue" {
+					t.Error(text, err)
+				}
+			}
+		}()
+	}
+	for round := 0; round < 50; round++ {
+		own := opened(t)
+		begun := make(chan bool, 4)
+		var asking sync.WaitGroup
+		for i := 0; i < 4; i++ {
+			asking.Add(1)
+			go func() {
+				defer asking.Done()
+				for n := 0; ; n++ {
+					_, err := own.Explain("sgn-dd", 100)
+					if err == nil {
+						err = registry.UpgradeCheck(own)
+					}
+					if n == 0 {
+						begun <- true
+					}
+					if err != nil {
+						is(t, ErrClosed, err)
+						return
+					}
+				}
+			}()
+		}
+		<-begun
+		own.Close()
+		asking.Wait()
+	}
+	all.Wait()
+}
+
+// How many bytes the process has in memory.
+func resident(t *testing.T) int {
+	var all, pages int
+	content, err := os.ReadFile("/proc/self/statm")
+	is(t, nil, err)
+	fmt.Sscan(string(content), &all, &pages)
+	return pages * os.Getpagesize()
+}
+
+func TestCollected(t *testing.T) {
+	before := resident(t)
+	for i := 0; i < 3000; i++ {
+		opened(t)
+		if i%100 == 99 {
+			runtime.GC()
+			time.Sleep(time.Millisecond)
+		}
+	}
+	if grown := resident(t) - before; grown > 100_000_000 {
+		t.Errorf("registries are not collected: %d bytes", grown)
+	}
+}
+
+func BenchmarkCanonical(b *testing.B) {
+	registry := opened(b)
+	defer registry.Close()
+	for i := 0; i < b.N; i++ {
+		registry.Canonical("zh-Hant-TW")
+	}
+}

@@ -1,0 +1,55 @@
+// Canon answers each line of its input as `langtag canon` does; with -explain, as `langtag explain` does for each.
+package main
+
+import (
+	"bufio"
+	"flag"
+	"fmt"
+	"io"
+	"log"
+	"os"
+	"strings"
+
+	"bcp47"
+)
+
+func main() {
+	explain := flag.Bool("explain", false, "print the steps to each canonical form")
+	flag.Parse()
+	registry, err := bcp47.Open(flag.Arg(0))
+	if err != nil {
+		log.Fatal(err)
+	}
+	defer registry.Close()
+	input, err := io.ReadAll(os.Stdin)
+	if err != nil {
+		log.Fatal(err)
+	}
+	output := bufio.NewWriter(os.Stdout)
+	defer output.Flush()
+	tags := strings.Split(strings.TrimSuffix(string(input), "\n"), "\n")
+	if *explain {
+		for _, tag := range tags {
+			explanation, err := registry.Explain(tag, 1_000_000)
+			if err == nil {
+				err = registry.Verify(tag, explanation.Steps, explanation.Canonical)
+			}
+			write(output, explanation.String(), err)
+		}
+		return
+	}
+	answers, err := registry.CanonicalMany(tags)
+	if err != nil {
+		log.Fatal(err)
+	}
+	for _, answer := range answers {
+		write(output, answer.Text, answer.Err)
+	}
+}
+
+func write(output io.Writer, text string, err error) {
+	if err != nil {
+		text = "! " + err.Error()
+	}
+	fmt.Fprintln(output, text)
+}

@@ -1,0 +1,3 @@
+module bcp47
+
+go 1.19

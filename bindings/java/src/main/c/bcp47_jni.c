@@ -1,0 +1,175 @@
+/* SPDX-License-Identifier: MIT OR Apache-2.0 */
+/* The calls of bcp47.h for Java: Native.java has their signatures. A call answers what it gives, or an Outcome where it is
+   refused; nothing is allocated but by the library and the virtual machine. */
+#include <bcp47.h>
+#include <jni.h>
+#include <stdlib.h>
+
+/* Room for the text of any tag, and for its canonical text; a longer one is no tag, which the library says of its front. */
+enum { ROOM = 4096 };
+
+#define NATIVE(kind, name) JNIEXPORT kind JNICALL Java_bcp47_Native_##name
+
+static jclass outcome_class, long_class;
+static jmethodID outcome_made, long_made;
+
+static jclass kept_class(JNIEnv *env, const char *name) {
+    jclass found = (*env)->FindClass(env, name);
+    return found ? (*env)->NewGlobalRef(env, found) : NULL;
+}
+
+JNIEXPORT jint JNICALL JNI_OnLoad(JavaVM *machine, void *reserved) {
+    JNIEnv *env;
+    (void)reserved;
+    if ((*machine)->GetEnv(machine, (void **)&env, JNI_VERSION_10)) return JNI_ERR;
+    if (!(outcome_class = kept_class(env, "bcp47/Outcome")) || !(long_class = kept_class(env, "java/lang/Long"))) return JNI_ERR;
+    outcome_made = (*env)->GetMethodID(env, outcome_class, "<init>", "(IIJLjava/lang/String;I)V");
+    long_made = (*env)->GetMethodID(env, long_class, "<init>", "(J)V");
+    return outcome_made && long_made ? JNI_VERSION_10 : JNI_ERR;
+}
+
+static const bcp47_registry *registry_of(jlong registry) {
+    return (const bcp47_registry *)(intptr_t)registry;
+}
+
+/* The bytes of an array, or the front of a long one. */
+static size_t text_of(JNIEnv *env, jbyteArray bytes, char text[ROOM]) {
+    jsize length = (*env)->GetArrayLength(env, bytes);
+    if (length > ROOM) length = ROOM;
+    (*env)->GetByteArrayRegion(env, bytes, 0, length, (jbyte *)text);
+    return (size_t)length;
+}
+
+/* An Outcome; the text ends with a zero, and is NULL where there is none. */
+static jobject refusal(JNIEnv *env, bcp47_outcome outcome, const char *text) {
+    jstring told = text && outcome.length ? (*env)->NewStringUTF(env, text) : NULL;
+    return (*env)->NewObject(env, outcome_class, outcome_made, (jint)outcome.status, (jint)outcome.detail,
+                             (jlong)outcome.place, told, (jint)outcome.text);
+}
+
+NATIVE(jstring, version)(JNIEnv *env, jclass self) {
+    (void)self;
+    return (*env)->NewStringUTF(env, bcp47_version());
+}
+
+NATIVE(jstring, name)(JNIEnv *env, jclass self, jint which, jint number) {
+    static const char *(*const names[])(int) = {bcp47_status_name, bcp47_fault_name, bcp47_status_help,
+                                                bcp47_fault_help,  bcp47_kind_name,  bcp47_part_kind_name};
+    (void)self;
+    return (*env)->NewStringUTF(env, names[which](number));
+}
+
+NATIVE(jobject, open)(JNIEnv *env, jclass self, jbyteArray bytes) {
+    bcp47_registry *opened;
+    char line[BCP47_LINE];
+    jbyte *copy = (*env)->GetByteArrayElements(env, bytes, NULL);
+    (void)self;
+    if (!copy) return NULL;
+    bcp47_outcome outcome = bcp47_open(&opened, copy, (size_t)(*env)->GetArrayLength(env, bytes), line, sizeof line);
+    (*env)->ReleaseByteArrayElements(env, bytes, copy, JNI_ABORT);
+    if (outcome.status != BCP47_DONE) return refusal(env, outcome, line);
+    jobject made = (*env)->NewObject(env, long_class, long_made, (jlong)(intptr_t)opened);
+    if (!made) bcp47_close(opened);
+    return made;
+}
+
+NATIVE(void, close)(JNIEnv *env, jclass self, jlong registry) {
+    (void)env, (void)self;
+    bcp47_close((bcp47_registry *)(intptr_t)registry);
+}
+
+typedef bcp47_outcome writer(const bcp47_registry *, const char *, size_t, char *, size_t);
+
+static jobject text_by(JNIEnv *env, jlong registry, jbyteArray tag, writer *writes) {
+    char text[ROOM], buffer[ROOM];
+    size_t length = text_of(env, tag, text);
+    bcp47_outcome outcome = writes(registry_of(registry), text, length, buffer, sizeof buffer);
+    return outcome.status == BCP47_DONE ? (*env)->NewStringUTF(env, buffer) : refusal(env, outcome, buffer);
+}
+
+NATIVE(jobject, canonical)(JNIEnv *env, jclass self, jlong registry, jbyteArray tag) {
+    (void)self;
+    return text_by(env, registry, tag, bcp47_canonical);
+}
+
+NATIVE(jobject, extlang)(JNIEnv *env, jclass self, jlong registry, jbyteArray tag) {
+    (void)self;
+    return text_by(env, registry, tag, bcp47_extlang);
+}
+
+/* The text of a tag, a point, and a character for each part: the number of its kind and 64. */
+NATIVE(jobject, parts)(JNIEnv *env, jclass self, jbyteArray tag) {
+    char text[ROOM], buffer[BCP47_TEXT + BCP47_PARTS + 1];
+    bcp47_part parts[BCP47_PARTS];
+    size_t length = text_of(env, tag, text);
+    (void)self;
+    bcp47_outcome outcome = bcp47_parts(text, length, buffer, BCP47_TEXT, parts, BCP47_PARTS);
+    if (outcome.status != BCP47_DONE) return refusal(env, outcome, NULL);
+    char *end = buffer + outcome.length;
+    *end++ = '.';
+    for (size_t i = 0; i < outcome.place; i++) *end++ = (char)(64 + parts[i].kind);
+    *end = 0;
+    return (*env)->NewStringUTF(env, buffer);
+}
+
+NATIVE(jobject, validate)(JNIEnv *env, jclass self, jlong registry, jbyteArray tag) {
+    char text[ROOM];
+    size_t length = text_of(env, tag, text);
+    (void)self;
+    bcp47_outcome outcome = bcp47_validate(registry_of(registry), text, length);
+    return outcome.status == BCP47_DONE ? NULL : refusal(env, outcome, NULL);
+}
+
+NATIVE(jobject, equal)(JNIEnv *env, jclass self, jlong registry, jbyteArray first, jbyteArray second) {
+    char text[ROOM], other[ROOM], variant[BCP47_LINE];
+    size_t length = text_of(env, first, text), other_length = text_of(env, second, other);
+    (void)self;
+    return refusal(env, bcp47_equal(registry_of(registry), text, length, other, other_length, variant, sizeof variant), variant);
+}
+
+NATIVE(jobject, explain)(JNIEnv *env, jclass self, jlong registry, jbyteArray tag, jlong most) {
+    char text[ROOM], *lines;
+    size_t length = text_of(env, tag, text);
+    (void)self;
+    bcp47_outcome outcome = bcp47_explanation(registry_of(registry), text, length, (size_t)most, &lines);
+    if (outcome.status != BCP47_DONE) return refusal(env, outcome, NULL);
+    jstring made = (*env)->NewStringUTF(env, lines);
+    bcp47_free(lines);
+    return made;
+}
+
+/* The steps are kind, place and number of each, one after another. */
+NATIVE(jobject, verify)(JNIEnv *env, jclass self, jlong registry, jbyteArray tag, jintArray numbers, jbyteArray last) {
+    char text[ROOM], end[ROOM];
+    size_t length = text_of(env, tag, text), end_length = text_of(env, last, end);
+    size_t count = (size_t)(*env)->GetArrayLength(env, numbers) / 3;
+    bcp47_outcome outcome = {BCP47_OUT_OF_MEMORY, 0, 0, 0, 0, 0};
+    bcp47_step *steps = calloc(count + 1, sizeof *steps);
+    jint *of = steps ? (*env)->GetIntArrayElements(env, numbers, NULL) : NULL;
+    (void)self;
+    if (of) {
+        for (size_t i = 0; i < count; i++)
+            steps[i] = (bcp47_step){(uint8_t)of[3 * i], (uint32_t)of[3 * i + 1], (uint32_t)of[3 * i + 2]};
+        (*env)->ReleaseIntArrayElements(env, numbers, of, JNI_ABORT);
+        outcome = bcp47_verify(registry_of(registry), text, length, steps, count, end, end_length);
+    }
+    free(steps);
+    if ((*env)->ExceptionCheck(env) || outcome.status == BCP47_DONE) return NULL;
+    return refusal(env, outcome, NULL);
+}
+
+NATIVE(jobject, upgrade)(JNIEnv *env, jclass self, jlong older, jlong newer) {
+    (void)self;
+    bcp47_outcome outcome = bcp47_upgrade_check(registry_of(older), registry_of(newer));
+    return outcome.status == BCP47_DONE ? NULL : refusal(env, outcome, NULL);
+}
+
+/* The File-Date goes to the first of two bytes arrays, and the digest to the other; the entries are what is answered. */
+NATIVE(jlong, info)(JNIEnv *env, jclass self, jlong registry, jbyteArray date, jbyteArray sha256) {
+    bcp47_info info = {0};
+    (void)self;
+    bcp47_registry_info(registry_of(registry), &info);
+    (*env)->SetByteArrayRegion(env, date, 0, sizeof info.file_date, (const jbyte *)info.file_date);
+    (*env)->SetByteArrayRegion(env, sha256, 0, sizeof info.sha256, (const jbyte *)info.sha256);
+    return (jlong)info.entries;
+}

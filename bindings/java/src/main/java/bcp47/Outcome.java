@@ -1,0 +1,35 @@
+// SPDX-License-Identifier: MIT OR Apache-2.0
+package bcp47;
+
+/** How a call of the library ended: the status, the number of a fault, its place, a text or null, and which of two tags it is of. */
+record Outcome(int status, int fault, long place, String text, int which) {
+    static final int DONE = 0, REPLACEMENT_REPEATS = 3, OUT_OF_MEMORY = 4, DIFFERENT = 6;
+
+    /** The name of the fault, or of the status where there is none. */
+    String faultName() {
+        return fault == 0 ? Native.name(Native.STATUS, status) : Native.name(Native.FAULT, fault);
+    }
+
+    String help() {
+        return fault == 0 ? Native.name(Native.STATUS_HELP, status) : Native.name(Native.FAULT_HELP, fault);
+    }
+
+    /** What the program prints after <code>! </code>. */
+    String line() {
+        if (status == REPLACEMENT_REPEATS) {
+            return faultName() + " " + text;
+        }
+        if (text != null) {
+            return text;
+        }
+        return fault != 0 || place != 0 ? faultName() + " " + place : faultName();
+    }
+
+    /** Throws where memory ran out, which is no refusal. */
+    Outcome checked() {
+        if (status == OUT_OF_MEMORY) {
+            throw new OutOfMemoryError("bcp47: OutOfMemory");
+        }
+        return this;
+    }
+}

@@ -1,0 +1,10 @@
+// SPDX-License-Identifier: MIT OR Apache-2.0
+package bcp47;
+
+/**
+ * A part of a tag.
+ *
+ * @param kind its kind, as <code>Script</code>
+ * @param text its text, as <code>Hant</code>
+ */
+public record Part(String kind, String text) {}

@@ -1,0 +1,224 @@
+package bcp47;
+
+import java.io.IOException;
+import java.nio.charset.StandardCharsets;
+import java.nio.file.Files;
+import java.nio.file.NoSuchFileException;
+import java.nio.file.Path;
+import java.security.MessageDigest;
+import java.util.ArrayList;
+import java.util.Arrays;
+import java.util.HexFormat;
+import java.util.List;
+import java.util.Map;
+import java.util.TreeSet;
+import java.util.concurrent.Callable;
+import java.util.concurrent.Executors;
+import java.util.concurrent.Future;
+import java.util.concurrent.atomic.AtomicBoolean;
+
+/** Each call of the package. Argument: examples/sample-registry.txt. */
+final class Calls {
+    private static int checks = 0;
+
+    private static void is(Object wanted, Object got) {
+        checks++;
+        if (!wanted.equals(got)) {
+            throw new AssertionError("wanted " + wanted + ", got " + got);
+        }
+    }
+
+    /** What a call throws, which is of this class. */
+    private static <T extends Throwable> T thrown(Class<T> kind, Callable<?> call) {
+        Throwable thrown = null;
+        try {
+            call.call();
+        } catch (Throwable any) {
+            thrown = any;
+        }
+        checks++;
+        if (!kind.isInstance(thrown)) {
+            throw new AssertionError("wanted " + kind + ", got " + thrown);
+        }
+        return kind.cast(thrown);
+    }
+
+    private static Callable<?> nothing(Runnable call) {
+        return Executors.callable(call);
+    }
+
+    private static void texts(Registry registry) {
+        is("yue", registry.canonical("zh-yue"));
+        is("en-t-he-t0-und", registry.canonical("en-t-iw-t0-und"));
+        is("zh-yue", registry.extlang("yue"));
+        is(true, registry.equivalent("I-KLINGON", Tag.of("tlh")));
+        is(false, registry.equivalent("zh", "yue"));
+        List<Answer> answers = registry.canonicalMany(Arrays.asList("iw", null, "en_US", Tag.of("YUE")));
+        is("[he, null, ! BadByte 1, yue]", answers.toString());
+        is("BadByte 1", answers.get(2).fault());
+    }
+
+    private static void refusals(Registry registry) {
+        RefusedTag refused = thrown(RefusedTag.class, () -> registry.canonical("en_US"));
+        is("BadByte 1", refused.getMessage());
+        is("NotATag BadByte 1 en_US", refused.status() + " " + refused.fault() + " " + refused.place() + " " + refused.tag());
+        is(true, refused.help().contains("hyphen"));
+        is(true, refused.variant() == null);
+        is("UnknownLanguage 1", thrown(RefusedTag.class, nothing(() -> registry.validate("xx"))).getMessage());
+        is("Invalid", thrown(RefusedTag.class, nothing(() -> registry.validate("xx"))).status());
+        is("e_n", thrown(RefusedTag.class, () -> registry.equivalent("en", "e_n")).tag());
+        is("TooLong 0", thrown(RefusedTag.class, () -> registry.canonical("a".repeat(100_000))).getMessage());
+        is("TooLong 0", thrown(RefusedTag.class, () -> registry.canonical("é".repeat(513))).getMessage());
+        is("BadByte 1", thrown(RefusedTag.class, () -> registry.canonical("é".repeat(512))).getMessage());
+        for (String text : List.of("en\ud800", "en\0", "é", "en\n")) {
+            is("BadByte 1", thrown(RefusedTag.class, () -> registry.extlang(text)).getMessage());
+        }
+        is("EmptySubtag 1", thrown(RefusedTag.class, () -> Tag.of("")).getMessage());
+        is(true, registry.isValid("zh-yue"));
+        is(false, registry.isValid("xx"));
+        thrown(NullPointerException.class, () -> registry.canonical(null));
+        thrown(NullPointerException.class, () -> Tag.of(null));
+        RefusedRegistry none = thrown(RefusedRegistry.class, () -> Registry.of("no registry\n".getBytes(StandardCharsets.UTF_8)));
+        is("jar BadLine line 1/BadFile/BadLine/1", none.getMessage() + "/" + none.status() + "/" + none.fault() + "/" + none.place());
+        thrown(NoSuchFileException.class, () -> Registry.open(Path.of("/no/such/file")));
+        String repeats = "ja-Latn-hepburn-alalc97-heploc";
+        List<Callable<?>> calls = List.of(() -> registry.canonical(repeats), () -> registry.explain(repeats), () -> registry.equivalent("ja", repeats));
+        for (Callable<?> call : calls) {
+            RefusedTag repeated = thrown(RefusedTag.class, call);
+            is("ReplacementRepeats alalc97/alalc97/0", repeated.getMessage() + "/" + repeated.variant() + "/" + repeated.place());
+        }
+        is("ReplacementRepeats alalc97", registry.canonicalMany(List.of(repeats)).get(0).fault());
+    }
+
+    private static void explanations(Registry registry) {
+        Explanation explanation = registry.explain("sgn-dd");
+        is("Region 2 27 sgn-DE\nWhole 1 44 gsg\n= gsg", explanation.toString());
+        is("= en", registry.explain("en", 0).toString());
+        is("TooManySteps", thrown(RefusedTag.class, () -> registry.explain("sgn-dd", 1)).getMessage());
+        registry.verify("sgn-dd", explanation.steps(), "gsg");
+        registry.verify("en", List.of(), "en");
+        is("WrongEnd", thrown(RefusedTrace.class, nothing(() -> registry.verify("sgn-dd", explanation.steps().subList(0, 1), "gsg"))).getMessage());
+        Step wrong = new Step("region", 2, 27, "sgn-DE");
+        RefusedTrace trace = thrown(RefusedTrace.class, nothing(() -> registry.verify("sgn-dd", List.of(wrong), "gsg")));
+        is("NoSuchStep 1", trace.fault() + " " + trace.place());
+        is("BadByte", thrown(RefusedTrace.class, nothing(() -> registry.verify("e_n", List.of(), "en"))).fault());
+    }
+
+    private static void tags() {
+        Tag tag = Tag.of("ZH-yue-hANT-hk-1996-U-co-phonebk-T-de-X-own-1");
+        is("zh-yue-Hant-HK-1996-u-co-phonebk-t-de-x-own-1", tag.toString());
+        is("zh [yue] Hant HK [1996] {u=[co, phonebk], t=[de]} [own, 1] LANGTAG", tag.language() + " " + tag.extlangs() + " " + tag.script() + " "
+                + tag.region() + " " + tag.variants() + " " + tag.extensions() + " " + tag.privateUse() + " " + tag.kind());
+        is(new Part("SourceLanguage", "de"), tag.parts().get(9));
+        is(true, Tag.of("en").script() == null);
+        is(List.of(Tag.Kind.PRIVATE_USE, Tag.Kind.GRANDFATHERED), List.of(Tag.of("X-own").kind(), Tag.of("i-KLINGON").kind()));
+        is("[Part[kind=Grandfathered, text=i-klingon]]", Tag.of("i-KLINGON").parts().toString());
+        is("[de, en]", new TreeSet<>(List.of(Tag.of("EN"), Tag.of("de"), Tag.of("en"))).toString());
+        is(Tag.of("EN").hashCode(), Tag.of("en").hashCode());
+        is("n2n", Tag.of("EN").charAt(1) + "" + tag.subSequence(0, 2).length() + Tag.of("en").subSequence(1, 2));
+        thrown(UnsupportedOperationException.class, () -> tag.parts().remove(0));
+        thrown(UnsupportedOperationException.class, () -> tag.extensions().put("a", List.of()));
+        is(Map.of(), Tag.of("x-a-b").extensions());
+    }
+
+    private static void upgrades(Registry registry, byte[] content) throws Exception {
+        registry.upgradeCheck(registry);
+        try (Registry other = Registry.of("File-Date: 2000-01-01\n".getBytes(StandardCharsets.UTF_8))) {
+            RefusedUpgrade refused = thrown(RefusedUpgrade.class, nothing(() -> registry.upgradeCheck(other)));
+            is("U1", refused.fault());
+            is("NoUpgrade", refused.status());
+            is(0L, other.info().entries());
+        }
+        String sha256 = HexFormat.of().formatHex(MessageDigest.getInstance("SHA-256").digest(content));
+        is(new Info("2024-01-01", new String(content, StandardCharsets.UTF_8).split("%%", -1).length - 1, sha256), registry.info());
+        is(true, Registry.version().matches("\\d+\\.\\d+\\.\\d+"));
+    }
+
+    private static void closed(Registry registry, byte[] content) {
+        Registry own = Registry.of(content);
+        own.close();
+        own.close();
+        List<Callable<?>> calls = List.of(() -> own.canonical("en"), () -> own.canonicalMany(List.of("en")), () -> own.extlang("en"),
+                () -> own.isValid("en"), () -> own.equivalent("en", "en"), () -> own.explain("en"), own::info,
+                nothing(() -> own.verify("en", List.of(), "en")), nothing(() -> registry.upgradeCheck(own)),
+                nothing(() -> own.upgradeCheck(registry)));
+        calls.forEach(call -> is("the registry is closed", thrown(IllegalStateException.class, call).getMessage()));
+    }
+
+    /** Many threads ask registries which others close meanwhile, and which are collected. */
+    private static void threads(Registry shared, byte[] content) throws Exception {
+        var pool = Executors.newFixedThreadPool(70);
+        List<Future<?>> all = new ArrayList<>();
+        for (int i = 0; i < 70; i++) {
+            all.add(pool.submit(() -> {
+                for (int n = 0; n < 2_000; n++) {
+                    is("yue", shared.canonical("zh-yue"));
+                }
+                return null;
+            }));
+        }
+        for (int round = 0; round < 50; round++) {
+            Registry own = Registry.of(content);
+            AtomicBoolean begun = new AtomicBoolean();
+            List<Future<?>> asking = new ArrayList<>();
+            for (int i = 0; i < 4; i++) {
+                asking.add(pool.submit(() -> {
+                    try {
+                        while (true) {
+                            own.explain("sgn-dd");
+                            own.upgradeCheck(shared);
+                            begun.set(true);
+                        }
+                    } catch (IllegalStateException closed) {
+                        return null;
+                    }
+                }));
+            }
+            while (!begun.get()) {
+                Thread.onSpinWait();
+            }
+            own.close();
+            for (Future<?> one : asking) {
+                one.get();
+            }
+        }
+        for (Future<?> one : all) {
+            one.get();
+        }
+        pool.shutdown();
+    }
+
+    /** How many bytes the process has in memory. */
+    private static long resident() throws IOException {
+        return 4096 * Long.parseLong(Files.readString(Path.of("/proc/self/statm")).split(" ")[1]);
+    }
+
+    private static void collected(byte[] content) throws Exception {
+        long before = resident();
+        for (int i = 0; i < 3000; i++) {
+            Registry.of(content);
+            if (i % 100 == 99) {
+                System.gc();
+                Thread.sleep(5);
+            }
+        }
+        long grown = resident() - before;
+        is("collected", grown < 150_000_000 ? "collected" : "grown by " + grown);
+    }
+
+    public static void main(String[] words) throws Exception {
+        Path sample = Path.of(words[0]);
+        byte[] content = Files.readAllBytes(sample);
+        try (Registry registry = Registry.open(sample)) {
+            texts(registry);
+            refusals(registry);
+            explanations(registry);
+            tags();
+            upgrades(registry, content);
+            closed(registry, content);
+            threads(registry, content);
+            collected(content);
+        }
+        System.out.println(checks > 140_000 ? "ok" : "too few: " + checks);
+    }
+}
