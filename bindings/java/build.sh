@@ -4,13 +4,14 @@
 # Usage: build.sh [native]     `native` makes the library alone, for Maven
 #
 # LUCENE names lucene-core's jar (Debian's, if it names none): where it is there, bcp47-lucene-VERSION.jar is made too.
-# JAVA_HOME names the JDK; BCP47_LIBRARY another libbcp47.a; SOURCE_DATE_EPOCH the time of the files; CC and CFLAGS are as for make.
+# JAVA_HOME names the JDK; INTO another folder for the library; BCP47_LIBRARY another libbcp47.a; SOURCE_DATE_EPOCH the time of the
+# files; CC and CFLAGS are as for make.
 set -e
 cd "$(dirname "$0")"
 version=$(cat ../../VERSION)
 home=${JAVA_HOME:-$(dirname "$(dirname "$(readlink -f "$(command -v javac)")")")}
 lucene=${LUCENE:-$(ls /usr/share/java/lucene-core-[89]*.jar 2> /dev/null | head -n 1)}
-inside=target/native/bcp47/linux-amd64
+inside=${INTO:-target/native/bcp47/linux-amd64}
 time=$(date -u -d "@${SOURCE_DATE_EPOCH:-$(date +%s)}" +%Y-%m-%dT%H:%M:%SZ)
 
 # archive NAME FOLDER: the files of a folder as a jar, in the order of their names
