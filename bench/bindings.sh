@@ -1,6 +1,6 @@
 #!/bin/bash
-# Measures the library that `make lib` built, from C, Python, SQLite and PostgreSQL, beside ICU and PyICU, in one run, over
-# 200,000 tags (bench/make_tags.py). tests/packages.sh installs what it needs.
+# Measures the library that `make lib` built, from C, Python, SQLite, PostgreSQL, Rust, Node.js, Java and Go, beside ICU, PyICU, Intl,
+# java.util.Locale and x/text, in one run, over 200,000 tags (bench/make_tags.py). tests/packages.sh installs what it needs.
 # Argument: a registry (examples/iana-2025-05-15.txt, if there is none).
 set -e
 cd "$(dirname "$0")/.."
@@ -17,3 +17,17 @@ export PYTHONPATH=$folder/python
 gcc -O2 -fPIC -shared -fvisibility=hidden -Ibindings/c -o "$folder/bcp47_sqlite.so" bindings/sqlite/bcp47_sqlite.c build/libbcp47.a
 bench/bindings/sqlite.sh "$folder" "$registry"
 bench/bindings/postgresql.sh "$folder" "$registry"
+mkdir "$folder/rust" "$folder/go"
+printf '[package]\nname = "speed"\nversion = "1.0.0"\nedition = "2021"\n[dependencies]\nbcp47 = { path = "%s/bindings/rust/bcp47" }\n' "$PWD" > "$folder/rust/Cargo.toml"
+printf '[[bin]]\nname = "speed"\npath = "%s/bench/bindings/rust/main.rs"\n' "$PWD" >> "$folder/rust/Cargo.toml"
+(cd "$folder/rust" && cargo build --release --offline -q)
+"$folder/rust/target/release/speed" "$registry" "$folder/tags"
+NODE_HEADERS=${NODE_HEADERS:-/usr/include/node} bindings/node/build.sh
+node bench/bindings/node.mjs "$registry" "$folder/tags"
+TARGET=$folder/java bindings/java/build.sh
+java -cp "$(ls "$folder"/java/bcp47-[0-9]*.jar)" bench/bindings/Speed.java "$registry" "$folder/tags"
+cp bench/bindings/go/main.go "$folder/go"
+text=/usr/share/gocode/src/golang.org/x/text
+printf 'module speed\n\ngo 1.19\n\nrequire (\n\tbcp47 v0.0.0\n\tgolang.org/x/text v0.0.0\n)\n\nreplace bcp47 => %s/bindings/go\n\nreplace golang.org/x/text => %s\n' \
+    "$PWD" "$text" > "$folder/go/go.mod"
+(cd "$folder/go" && GOFLAGS=-mod=mod GOPROXY=off go build -o speed . && ./speed "$registry" "$folder/tags")

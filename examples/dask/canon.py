@@ -14,7 +14,8 @@ import subprocess
 import sys
 
 import dask.bag
-from distributed import Client, LocalCluster
+
+from local import client
 
 LINES = 10_000
 
@@ -42,14 +43,11 @@ def main():
     words.add_argument("registry")
     words.add_argument("tags")
     asked = words.parse_args()
-    where = asked.scheduler or LocalCluster(n_workers=asked.workers, threads_per_worker=1, dashboard_address=None)
-    with Client(where) as client:
+    with client(asked.scheduler, asked.workers) as asking:
         parts = parts_of(asked.tags)
         bag = dask.bag.from_sequence(parts, npartitions=max(1, len(parts)))
-        for answers in bag.map(lambda lines: canon(asked.program, asked.registry, lines)).compute(scheduler=client.get):
+        for answers in bag.map(lambda lines: canon(asked.program, asked.registry, lines)).compute(scheduler=asking.get):
             sys.stdout.buffer.write(answers)
-    if not asked.scheduler:
-        where.close()
 
 
 if __name__ == "__main__":

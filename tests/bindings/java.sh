@@ -3,20 +3,18 @@
 if command -v javac > /dev/null; then
     java=$folder/java
     mkdir "$java" "$java/tests" "$java/page"
-    passes "Java: build" env SOURCE_DATE_EPOCH=1700000000 bindings/java/build.sh
+    passes "Java: build" env TARGET="$java/target" bindings/java/build.sh
     cat "$folder/err"
-    cp bindings/java/target/*.jar "$java"
-    jar=$(ls "$java"/bcp47-[0-9]*.jar)
+    jar=$(ls "$java"/target/bcp47-[0-9]*.jar)
     passes "Java: compile the tests" javac --release 17 -Xlint:all -Werror -cp "$jar" -d "$java/tests" bindings/java/src/test/java/bcp47/*.java
     printf 'ok\n' > "$java/ok"
     writes "Java: calls" "$java/ok" java -Xcheck:jni -cp "$jar:$java/tests" bcp47.Calls "$sample"
     # the library of java.library.path, under the address sanitizer; the virtual machine has signals of its own
-    mkdir "$java/native"
-    passes "Java: compile for sanitizers" env CFLAGS="-O1 -fsanitize=address,undefined -fno-sanitize-recover=all" INTO="$java/native" \
+    passes "Java: compile for sanitizers" env CFLAGS="-O1 -fsanitize=address,undefined -fno-sanitize-recover=all" TARGET="$java/checked" \
         bindings/java/build.sh native
     writes "Java: calls under sanitizers" "$java/ok" env LD_PRELOAD="$(gcc -print-file-name=libasan.so) $(gcc -print-file-name=libubsan.so)" \
-        ASAN_OPTIONS=handle_segv=0:detect_leaks=0 java -Djava.library.path="$java/native" -cp "bindings/java/target/classes:$java/tests" \
-        bcp47.Calls "$sample"
+        ASAN_OPTIONS=handle_segv=0:detect_leaks=0 java \
+        -Djava.library.path="$java/checked/native/bcp47/linux-amd64" -cp "$jar:$java/tests" bcp47.Calls "$sample"
     writes "Java answers as the program" "$folder/wanted" java -cp "$jar:$java/tests" bcp47.Answers "$registry" "$folder/tags"
     writes "Java explains as the program" "$folder/explained" java -cp "$jar:$java/tests" bcp47.Answers "$registry" "$folder/explained-tags" explain
     passes "Java: documentation" javadoc -quiet -Xdoclint:all -Werror -d "$java/documentation" bindings/java/src/main/java/bcp47/*.java
@@ -35,7 +33,7 @@ if command -v javac > /dev/null; then
         cp -rs /usr/share/maven-repo "$java/repository"
         mkdir -p "$java/maven/target"
         cp -r bindings/java/pom.xml bindings/java/src "$java/maven"
-        cp -r bindings/java/target/native "$java/maven/target"
+        cp -r "$java/target/native" "$java/maven/target"
         passes "Java: Maven, offline" env -C "$java/maven" mvn -o -q -B -Dmaven.repo.local="$java/repository" package
         writes "Java: Maven's jar answers" "$java/page/wanted" env -C "$java/page" java -cp "$(ls "$java"/maven/target/bcp47-*.jar)" Page.java
     else
@@ -43,7 +41,7 @@ if command -v javac > /dev/null; then
     fi
     lucene=$(ls /usr/share/java/lucene-core-[89]*.jar /usr/share/java/lucene-analyzers-common-[89]*.jar 2> /dev/null | paste -s -d :)
     if [ -n "$lucene" ]; then
-        path=$jar:$(ls "$java"/bcp47-lucene-*.jar):$lucene:$java/lucene
+        path=$jar:$(ls "$java"/target/bcp47-lucene-*.jar):$lucene:$java/lucene
         passes "Lucene: compile the tests" javac --release 17 -cp "$path" -d "$java/lucene" bindings/java/lucene/test/Search.java
         writes "Lucene: a search" "$java/ok" java -cp "$path" Search "$sample"
     else
