@@ -4,7 +4,7 @@
 # Usage: packaging/dist.sh FOLDER
 #
 # The folder, which is made anew: the program and the libraries as archives, which are unpacked below /usr/local or another
-# folder; a wheel and the sources of the Python package; packages of Debian; a list of the parts in CycloneDX's form; and
+# folder; a wheel and the sources of the Python package; jars; the module for Go with the library; packages of Debian; a list of the parts in CycloneDX's form; and
 # SHA256SUMS. The same built files and the same SOURCE_DATE_EPOCH, which is the date of packaging/debian/changelog if it is
 # not set, give the same bytes. What is left out, because it is not built, is said on standard error.
 set -euo pipefail
@@ -74,6 +74,21 @@ if [ -d "$work/libbcp47-$version-aarch64-linux" ]; then
     build_python build_wheel "libbcp47-$version-aarch64-linux/lib/libbcp47.a" "aarch64-linux-gnu-gcc -I$work/headers"
 fi
 build_python build_sdist none gcc
+
+# The packages for Java and Go, with the library inside.
+if command -v javac > /dev/null; then
+    TARGET=$work/java BCP47_LIBRARY=$root/build/libbcp47.a "$root/bindings/java/build.sh"
+    cp "$work"/java/*.jar "$to"
+else
+    echo "no jar: there is no JDK here" >&2
+fi
+name=bcp47-go-$version-x86_64-linux
+mkdir -p "$work/$name/lib"
+cp "$root"/LICENSE* "$root/docs/GO.md" "$root/bindings/go/go.mod" "$work/$name"
+find "$root/bindings/go" -maxdepth 1 -name '*.go' ! -name '*_test.go' -exec cp {} "$work/$name" \;
+cp "$root/bindings/c/bcp47.h" "$root/build/libbcp47.a" "$work/$name/lib"
+archive "$name"
+
 "$root/packaging/deb.sh" "$to" > /dev/null
 /usr/bin/python3 "$root/packaging/parts.py" "$to" > "$work/parts.json"
 mv "$work/parts.json" "$to/langtag-$version.cdx.json"

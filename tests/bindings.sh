@@ -1,5 +1,5 @@
 #!/bin/bash
-# Builds the library for C and what stands on it, and runs their tests: C, Python, SQLite, PostgreSQL. Each has to
+# Builds the library for C and what stands on it, and runs their tests: C, Python, SQLite, PostgreSQL, Rust, Node.js, Java, Go. Each has to
 # answer 200,000 tags as the program does. Argument: the program (build/langtag, if there is none). The last line
 # counts; the status is 1 if any test failed.
 set -e
@@ -302,6 +302,12 @@ if command -v node > /dev/null && command -v npm > /dev/null && [ -e "${NODE_HEA
 else
     echo "no Node.js with headers here: its package is not tested"
 fi
+
+# ---- Java, Go and Dask
+for part in java go dask; do
+    # shellcheck source=/dev/null
+    . tests/bindings/$part.sh
+done
 
 echo "bindings: $passed passed, $failed failed"
 test "$failed" = 0

@@ -34,6 +34,7 @@ says bindings/python/pyproject.toml "$version" 'version = "([0-9.]+)"'
 says bindings/rust/Cargo.toml "$version" 'version = "([0-9.]+)"'
 says bindings/rust/bcp47/Cargo.toml "$version" 'bcp47-sys = \{ .*version = "([0-9.]+)" \}'
 says bindings/node/package.json "$version" '  "version": "([0-9.]+)",'
+says bindings/java/pom.xml "$version" '  <version>([0-9.]+)<.version>'
 says CHANGELOG.md "$version" "## ($version)"
 [ -e packaging/debian/changelog ] && says packaging/debian/changelog "$version" "langtag \\(($version)-[0-9]+\\) .*"
 

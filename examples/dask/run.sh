@@ -1,13 +1,14 @@
 #!/bin/sh
-# Runs canon.py and column.py on four workers over so many lines (200,000, if no number is given), and compares what they write with
-# what one process writes, byte for byte.
+# Runs canon.py and column.py on four workers, and compares what they write with what one process writes, byte for byte.
+#
+# Usage: run.sh [LINES [PROGRAM]]     200,000 lines, and build/langtag, if they are not named
 #
 # It needs a python with Dask's distributed scheduler and pandas, as Debian's with python3-distributed and python3-pandas, which
-# PYTHON may name; in it, or in the folder that PYTHONPATH names, the package bcp47; and the program that `make` built.
+# PYTHON may name; in it, or in the folder that PYTHONPATH names, the package bcp47; and the program.
 set -eu
 
 root=$(cd "$(dirname "$0")/../.." && pwd)
-program=$root/build/langtag
+program=${2:-$root/build/langtag}
 registry=$root/examples/iana-2025-05-15.txt
 lines=${1:-200000}
 folder=$(mktemp -d)

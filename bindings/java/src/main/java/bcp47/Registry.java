@@ -9,6 +9,7 @@ import java.nio.file.Path;
 import java.util.ArrayList;
 import java.util.HexFormat;
 import java.util.List;
+import java.util.Objects;
 
 /**
  * A registry of language subtags that passes the check. Any number of threads may ask it at once. It is freed by
@@ -24,7 +25,7 @@ public final class Registry implements AutoCloseable {
     private final Cleaner.Cleanable cleanable;
 
     private Registry(byte[] content) {
-        Object answer = Native.open(content);
+        Object answer = Native.open(Objects.requireNonNull(content));
         if (!(answer instanceof Long registry)) {
             throw new RefusedRegistry(((Outcome) answer).checked());
         }

@@ -78,6 +78,9 @@ final class Calls {
         is(false, registry.isValid("xx"));
         thrown(NullPointerException.class, () -> registry.canonical(null));
         thrown(NullPointerException.class, () -> Tag.of(null));
+        thrown(NullPointerException.class, () -> Registry.of(null));
+        thrown(NullPointerException.class, nothing(() -> registry.verify("en", null, "en")));
+        thrown(NullPointerException.class, nothing(() -> registry.upgradeCheck(null)));
         RefusedRegistry none = thrown(RefusedRegistry.class, () -> Registry.of("no registry\n".getBytes(StandardCharsets.UTF_8)));
         is("jar BadLine line 1/BadFile/BadLine/1", none.getMessage() + "/" + none.status() + "/" + none.fault() + "/" + none.place());
         thrown(NoSuchFileException.class, () -> Registry.open(Path.of("/no/such/file")));
