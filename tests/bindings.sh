@@ -1,43 +1,20 @@
 #!/bin/bash
-# Builds the library for C and what stands on it, and runs their tests: C, Python, SQLite, PostgreSQL, Rust, Node.js, Java, Go. Each has to
-# answer 200,000 tags as the program does. Argument: the program (build/langtag, if there is none). The last line
-# counts; the status is 1 if any test failed.
+# Builds the library for C and what stands on it, and runs their tests: C, Python, SQLite and PostgreSQL one after another, and beside
+# them Rust, Node.js, Java, Go and Dask. Each has to answer 200,000 tags as the program does. The last line counts; the status
+# is 1 if any test failed.
+#
+# Usage: tests/bindings.sh [PROGRAM [PART..]]     build/langtag, and all; the parts are rust, node, java, go and dask
 set -e
 cd "$(dirname "$0")/.."
-root=$PWD
 program=$(realpath "${1:-build/langtag}")
 tests/packages.sh
 make -s lib
 folder=$(mktemp -d)
 chmod 755 "$folder"
 trap 'rm -rf "$folder"' EXIT
-sample=$root/examples/sample-registry.txt
-registry=$root/examples/iana-2025-05-15.txt
-python=/usr/bin/python3
-passed=0
-failed=0
 set +e
-
-# passes NAME COMMAND..: runs a command, and counts it.
-passes() {
-    local name=$1
-    shift
-    if "$@" > "$folder/out" 2> "$folder/err"; then
-        passed=$((passed + 1))
-    else
-        failed=$((failed + 1))
-        echo "failed: $name"
-        head -n 20 "$folder/out" "$folder/err"
-    fi
-}
-
-# writes NAME FILE COMMAND..: a command has to write what the file has.
-writes() {
-    local name=$1 wanted=$2
-    shift 2
-    "$@" > "$folder/written" 2> "$folder/err"
-    passes "$name" cmp "$wanted" "$folder/written"
-}
+# shellcheck source=tests/bindings/counting.sh
+. tests/bindings/counting.sh
 
 $python bench/make_tags.py "$registry" mixed > "$folder/tags"
 "$program" canon "$registry" < "$folder/tags" > "$folder/wanted"
@@ -48,6 +25,33 @@ paste -d '\t' "$folder/tags" "$folder/wanted" | awk -F '\t' '$1 ~ /^[-A-Za-z0-9_
     head -n 400 > "$folder/explained-tags"
 passes "400 tags to explain" test "$(wc -l < "$folder/explained-tags")" = 400
 while read -r tag; do "$program" explain "$registry" "$tag"; done < "$folder/explained-tags" > "$folder/explained" 2> "$folder/err"
+
+# A script for each, beside what is below.
+if [ $# -gt 1 ]; then parts=${*:2}; else parts="rust node java go dask"; fi
+for part in $parts; do
+    mkdir "$folder/$part"
+    tests/bindings/"$part".sh "$folder" "$program" > "$folder/$part.told" 2>&1 &
+done
+
+# Waits for them, and counts what they counted.
+count_parts() {
+    wait
+    for part in $parts; do
+        cat "$folder/$part.told"
+        read -r name ours _ theirs _ < <(tail -n 1 "$folder/$part.told")
+        if [ "$name" = "$part:" ]; then
+            passed=$((passed + ours))
+            failed=$((failed + theirs))
+        else
+            failed=$((failed + 1))
+        fi
+    done
+    counted bindings
+}
+if [ $# -gt 1 ]; then
+    count_parts
+    exit
+fi
 
 # The programs at the heads of the pages.
 mkdir "$folder/examples"
@@ -264,50 +268,4 @@ cat "$folder/out"
 passes "PostgreSQL's tests" bindings/postgresql/test.sh "$folder" "$registry" "$sample"
 cat "$folder/out"
 
-# ---- Rust
-if command -v cargo > /dev/null; then
-    export CARGO_TARGET_DIR=$folder/cargo
-    passes "Rust: tests" cargo test --offline -q --manifest-path bindings/rust/Cargo.toml
-    if cargo clippy --version > /dev/null 2>&1; then
-        passes "Rust: clippy" cargo clippy --offline -q --all-targets --manifest-path bindings/rust/Cargo.toml -- -D warnings
-    else
-        echo "no clippy here: its lints are not run"
-    fi
-    passes "Rust: an example" cargo build --release --offline -q --manifest-path bindings/rust/Cargo.toml --example canon
-    writes "Rust answers as the program" "$folder/wanted" sh -c '"$1/release/examples/canon" "$2" < "$3"' - "$CARGO_TARGET_DIR" "$registry" "$folder/tags"
-    mkdir "$folder/rust" "$folder/rust/src"
-    printf '[package]\nname = "page"\nversion = "1.0.0"\nedition = "2021"\n[dependencies]\nbcp47 = { path = "%s/bindings/rust/bcp47" }\n' "$root" > "$folder/rust/Cargo.toml"
-    sed -n '/^```rust$/,/^```$/{/^```/!p}' docs/RUST.md > "$folder/rust/src/main.rs"
-    printf '%s\n' yue true 'BadByte 1' zh-Hant-TW 'Region 2 27 sgn-DE' 'Whole 1 44 gsg' '= gsg' > "$folder/rust/wanted"
-    passes "Rust: docs/RUST.md's program" env -C "$folder/rust" BCP47_LIB_DIR="$root/build" cargo build --offline -q
-    writes "Rust: what it prints" "$folder/rust/wanted" env -C "$folder/examples" "$CARGO_TARGET_DIR/debug/page"
-    unset CARGO_TARGET_DIR
-else
-    echo "no cargo here: the crates for Rust are not tested"
-fi
-
-# ---- Node.js
-if command -v node > /dev/null && command -v npm > /dev/null && [ -e "${NODE_HEADERS:=/usr/include/node}/node_api.h" ]; then
-    export NODE_HEADERS
-    passes "Node.js: build" bindings/node/build.sh
-    passes "Node.js: tests" node --test bindings/node/test/bcp47.test.mjs
-    writes "Node.js answers as the program" "$folder/wanted" node bindings/node/test/answers.mjs "$registry" "$folder/tags"
-    mkdir "$folder/node"
-    passes "Node.js: npm pack" env -C bindings/node npm pack --silent --pack-destination "$folder/node"
-    passes "Node.js: npm install" env -C "$folder/node" npm install --silent --offline --no-audit --no-fund "$folder"/node/bcp47-*.tgz
-    sed -n '/^```js$/,/^```$/{/^```/!p}' docs/NODE.md > "$folder/node/page.mjs"
-    cp "$sample" "$folder/node/registry.txt"
-    printf '%s\n' yue true "[ 'he', null ]" 'BadByte 1 BadByte 1' '2 zh-Hant-TW' > "$folder/node/wanted"
-    writes "Node.js: docs/NODE.md's program" "$folder/node/wanted" env -C "$folder/node" node page.mjs
-else
-    echo "no Node.js with headers here: its package is not tested"
-fi
-
-# ---- Java, Go and Dask
-for part in java go dask; do
-    # shellcheck source=/dev/null
-    . tests/bindings/$part.sh
-done
-
-echo "bindings: $passed passed, $failed failed"
-test "$failed" = 0
+count_parts

@@ -1,0 +1,37 @@
+# shellcheck shell=bash disable=SC2034
+# Counts the tests of a script that reads this by `.` and has set `folder`; the repository's places are set here.
+root=$(cd "$(dirname "${BASH_SOURCE[0]}")/../.." && pwd)
+sample=$root/examples/sample-registry.txt
+registry=$root/examples/iana-2025-05-15.txt
+python=/usr/bin/python3
+passed=0
+failed=0
+cd "$root" || exit 1
+
+# passes NAME COMMAND..: runs a command, and counts it.
+passes() {
+    local name=$1
+    shift
+    if "$@" > "$folder/out" 2> "$folder/err"; then
+        passed=$((passed + 1))
+    else
+        failed=$((failed + 1))
+        echo "failed: $name"
+        head -n 20 "$folder/out" "$folder/err"
+        return 1
+    fi
+}
+
+# writes NAME FILE COMMAND..: a command has to write what the file has.
+writes() {
+    local name=$1 wanted=$2
+    shift 2
+    "$@" > "$folder/written" 2> "$folder/told"
+    passes "$name" cmp "$wanted" "$folder/written" || head -n 20 "$folder/told"
+}
+
+# counted NAME: how many passed; the status is 1 if any failed.
+counted() {
+    echo "$1: $passed passed, $failed failed, $SECONDS s"
+    [ "$failed" = 0 ]
+}
