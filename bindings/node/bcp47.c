@@ -138,6 +138,24 @@ static napi_value classify(napi_env env, napi_callback_info info) {
     return string_of(env, buffer, outcome.length + 1);
 }
 
+/* parts(tag): kind and text of each part, one after another */
+static napi_value parts(napi_env env, napi_callback_info info) {
+    napi_value value, made = NULL;
+    char text[ROOM], buffer[BCP47_TEXT];
+    bcp47_part found[BCP47_PARTS];
+    size_t length;
+    if (!takes(env, info, 1, &value) || !text_of(env, value, text, &length)) return NULL;
+    bcp47_outcome outcome = bcp47_parts(text, length, buffer, sizeof buffer, found, BCP47_PARTS);
+    if (outcome.status != BCP47_DONE) return refusal(env, outcome, NULL);
+    napi_create_array(env, &made);
+    for (uint32_t i = 0; i < outcome.place; i++) {
+        const char *kind = bcp47_part_kind_name(found[i].kind);
+        napi_set_element(env, made, 2 * i, string_of(env, kind, NAPI_AUTO_LENGTH));
+        napi_set_element(env, made, 2 * i + 1, string_of(env, buffer + found[i].start, found[i].length));
+    }
+    return made;
+}
+
 /* explain(registry, tag, most): the lines that the program prints */
 static napi_value explain(napi_env env, napi_callback_info info) {
     napi_value values[3];
@@ -232,7 +250,7 @@ NAPI_MODULE_INIT() {
     } functions[] = {
         {"open", open_registry}, {"close", close_registry}, {"canonical", canonical}, {"extlang", extlang},
         {"classify", classify},  {"explain", explain},      {"validate", validate},   {"equal", equal},
-        {"upgrade", upgrade},    {"facts", facts},          {"name", name},
+        {"upgrade", upgrade},    {"facts", facts},          {"name", name},           {"parts", parts},
     };
     for (size_t i = 0; i < sizeof functions / sizeof *functions; i++) {
         napi_value made = NULL;

@@ -23,6 +23,8 @@ export class Tag {
   /** @throws RefusedTag */
   constructor(text: string | Tag);
   readonly kind: 'langtag' | 'privateuse' | 'grandfathered';
+  /** Its parts, one for each subtag, in their order, as { kind: 'Script', text: 'Hant' }; a grandfathered tag is one part. */
+  readonly parts: { readonly kind: string; readonly text: string }[];
   toString(): string;
   toJSON(): string;
 }

@@ -56,6 +56,11 @@ class Tag {
     return this.#kind;
   }
 
+  get parts() {
+    const answer = native.parts(this.#text);
+    return Array.from({ length: answer.length / 2 }, (_, i) => ({ kind: answer[2 * i], text: answer[2 * i + 1] }));
+  }
+
   toString() {
     return this.#text;
   }

@@ -50,6 +50,8 @@ test('explanations', () => {
 test('tags', () => {
   const tag = new Tag('ZH-yue-hANT-hk');
   assert.deepEqual([`${tag}`, tag.kind, JSON.stringify({ tag })], ['zh-yue-Hant-HK', 'langtag', '{"tag":"zh-yue-Hant-HK"}']);
+  assert.deepEqual(tag.parts.map(({ kind, text }) => `${kind} ${text}`), ['Language zh', 'Extlang yue', 'Script Hant', 'Region HK']);
+  assert.deepEqual(new Tag('I-klingon').parts, [{ kind: 'Grandfathered', text: 'i-klingon' }]);
   assert.deepEqual(['X-own', 'i-klingon'].map((text) => new Tag(text).kind), ['privateuse', 'grandfathered']);
   assert.throws(() => { tag.kind = 'x'; }, TypeError);
   assert.throws(() => new Tag('e'), RefusedTag);

@@ -32,6 +32,15 @@ pub struct bcp47_step {
     pub number: u32,
 }
 
+/// A part of a tag, and where it is in the text.
+#[repr(C)]
+#[derive(Clone, Copy, Debug, PartialEq, Eq)]
+pub struct bcp47_part {
+    pub kind: u8,
+    pub start: usize,
+    pub length: usize,
+}
+
 /// What a registry is.
 #[repr(C)]
 #[derive(Clone, Copy, Debug)]
@@ -49,6 +58,8 @@ pub const BCP47_OUT_OF_MEMORY: c_int = 4;
 pub const BCP47_BUFFER_TOO_SMALL: c_int = 5;
 pub const BCP47_DIFFERENT: c_int = 6;
 pub const BCP47_BUSY: c_int = 15;
+/// Room for the parts of any tag.
+pub const BCP47_PARTS: usize = 512;
 /// Room for the line of any registry that is refused.
 pub const BCP47_LINE: usize = 80;
 
@@ -87,6 +98,15 @@ extern "C" {
         buffer: *mut c_char,
         room: usize,
     ) -> bcp47_outcome;
+    pub fn bcp47_parts(
+        text: *const c_char,
+        length: usize,
+        buffer: *mut c_char,
+        room: usize,
+        parts: *mut bcp47_part,
+        count: usize,
+    ) -> bcp47_outcome;
+    pub fn bcp47_part_kind_name(kind: c_int) -> *const c_char;
     pub fn bcp47_validate(
         registry: *const bcp47_registry,
         text: *const c_char,

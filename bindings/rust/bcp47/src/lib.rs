@@ -24,7 +24,7 @@ mod tag;
 pub use errors::{Cause, OpenError, RegistryError, TagError, TraceError, UpgradeError};
 pub use explanations::{Explanation, Step};
 pub use registry::{Info, Registry};
-pub use tag::{Class, Tag};
+pub use tag::{Class, Part, Tag};
 
 use std::ffi::{c_char, CStr};
 

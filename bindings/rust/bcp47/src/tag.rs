@@ -1,6 +1,6 @@
 //! Tags by no registry.
 use crate::registry::{refusal, Buffer};
-use crate::TagError;
+use crate::{name, TagError};
 use bcp47_sys as sys;
 use std::fmt;
 use std::ptr;
@@ -17,6 +17,15 @@ pub enum Class {
     Grandfathered,
 }
 
+/// A part of a tag: its kind, as `Script`, and its text, as `Hant`.
+#[derive(Clone, Debug, PartialEq, Eq, Hash)]
+pub struct Part<'a> {
+    /// The kind.
+    pub kind: &'static str,
+    /// The text.
+    pub text: &'a str,
+}
+
 /// A tag in conventional case (RFC 5646, 2.1.1). Tags are equal, and in order, as their texts are: `Registry::equivalent`
 /// compares what they mean.
 #[derive(Clone, Debug, PartialEq, Eq, PartialOrd, Ord, Hash)]
@@ -29,6 +38,34 @@ impl Tag {
     /// Its text in conventional case.
     pub fn as_str(&self) -> &str {
         &self.text
+    }
+
+    /// Its parts, one for each subtag, in their order; a grandfathered tag is one part.
+    pub fn parts(&self) -> Vec<Part<'_>> {
+        let mut buffer = Buffer::new();
+        let none = sys::bcp47_part {
+            kind: 0,
+            start: 0,
+            length: 0,
+        };
+        let mut parts = [none; sys::BCP47_PARTS];
+        // SAFETY: the pointers and lengths are those of a text, of a buffer and of an array.
+        let outcome = unsafe {
+            sys::bcp47_parts(
+                self.text.as_ptr().cast(),
+                self.text.len(),
+                buffer.as_mut_ptr(),
+                buffer.room(),
+                parts.as_mut_ptr(),
+                parts.len(),
+            )
+        };
+        let part_of = |part: &sys::bcp47_part| Part {
+            // SAFETY: the call answers each number.
+            kind: name(unsafe { sys::bcp47_part_kind_name(part.kind.into()) }),
+            text: &self.text[part.start..part.start + part.length],
+        };
+        parts[..outcome.place].iter().map(part_of).collect()
     }
 
     /// Its class.

@@ -111,6 +111,21 @@ fn tags_are_in_conventional_case() {
         ("zh-yue-Hant-HK", Class::Langtag)
     );
     assert_eq!(format!("{tag:>16}"), "  zh-yue-Hant-HK");
+    let parts: Vec<_> = tag
+        .parts()
+        .iter()
+        .map(|part| (part.kind, part.text))
+        .collect();
+    let wanted = [
+        ("Language", "zh"),
+        ("Extlang", "yue"),
+        ("Script", "Hant"),
+        ("Region", "HK"),
+    ];
+    assert_eq!(parts, wanted);
+    let whole: Tag = "I-klingon".parse().unwrap();
+    assert_eq!(whole.parts()[0].text, "i-klingon");
+    assert_eq!(whole.parts().len(), 1);
     assert_eq!("X-own".parse::<Tag>().unwrap().class(), Class::PrivateUse);
     assert_eq!(
         "i-klingon".parse::<Tag>().unwrap().class(),
