@@ -16,13 +16,14 @@ import java.util.concurrent.Callable;
 import java.util.concurrent.Executors;
 import java.util.concurrent.Future;
 import java.util.concurrent.atomic.AtomicBoolean;
+import java.util.concurrent.atomic.AtomicInteger;
 
 /** Each call of the package. Argument: examples/sample-registry.txt. */
 final class Calls {
-    private static int checks = 0;
+    private static final AtomicInteger CHECKS = new AtomicInteger();
 
     private static void is(Object wanted, Object got) {
-        checks++;
+        CHECKS.incrementAndGet();
         if (!wanted.equals(got)) {
             throw new AssertionError("wanted " + wanted + ", got " + got);
         }
@@ -36,7 +37,7 @@ final class Calls {
         } catch (Throwable any) {
             thrown = any;
         }
-        checks++;
+        CHECKS.incrementAndGet();
         if (!kind.isInstance(thrown)) {
             throw new AssertionError("wanted " + kind + ", got " + thrown);
         }
@@ -222,6 +223,6 @@ final class Calls {
             threads(registry, content);
             collected(content);
         }
-        System.out.println(checks > 140_000 ? "ok" : "too few: " + checks);
+        System.out.println(CHECKS.get() > 140_000 ? "ok" : "too few: " + CHECKS);
     }
 }
