@@ -242,15 +242,24 @@ func resident(t *testing.T) int {
 
 func TestCollected(t *testing.T) {
 	before := resident(t)
+	var kept [300]*Registry
+	for i := range kept {
+		kept[i] = opened(t)
+	}
+	of300 := resident(t) - before
+	for _, registry := range kept {
+		registry.Close()
+	}
+	before = resident(t)
 	for i := 0; i < 3000; i++ {
 		opened(t)
 		if i%100 == 99 {
 			runtime.GC()
-			time.Sleep(time.Millisecond)
+			time.Sleep(20 * time.Millisecond)
 		}
 	}
-	if grown := resident(t) - before; grown > 100_000_000 {
-		t.Errorf("registries are not collected: %d bytes", grown)
+	if grown := resident(t) - before; of300 < 10_000_000 || grown > 3*of300 {
+		t.Errorf("registries are not collected: 300 have %d bytes, 3000 that are not kept %d", of300, grown)
 	}
 }
 

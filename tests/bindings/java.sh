@@ -17,7 +17,7 @@ if command -v javac > /dev/null; then
     passes "Java: compile for sanitizers" env CFLAGS="-O1 -fsanitize=address,undefined -fno-sanitize-recover=all" TARGET="$folder/checked" \
         bindings/java/build.sh native
     writes "Java: calls under sanitizers" "$folder/ok" env LD_PRELOAD="$(gcc -print-file-name=libasan.so) $(gcc -print-file-name=libubsan.so)" \
-        ASAN_OPTIONS=handle_segv=0:detect_leaks=0 java \
+        ASAN_OPTIONS=handle_segv=0:detect_leaks=0:quarantine_size_mb=1 java \
         -Djava.library.path="$folder/checked/native/bcp47/linux-amd64" -cp "$jar:$folder/tests" bcp47.Calls "$sample"
     writes "Java answers as the program" "$shared/wanted" java -cp "$jar:$folder/tests" bcp47.Answers "$registry" "$shared/tags"
     writes "Java explains as the program" "$shared/explained" java -cp "$jar:$folder/tests" bcp47.Answers "$registry" "$shared/explained-tags" explain

@@ -197,17 +197,25 @@ final class Calls {
         return 4096 * Long.parseLong(Files.readString(Path.of("/proc/self/statm")).split(" ")[1]);
     }
 
+    /** Of 3000 registries that nobody closes, far less is left in memory than ten times what 300 take. */
     private static void collected(byte[] content) throws Exception {
         long before = resident();
+        Registry[] kept = new Registry[300];
+        Arrays.setAll(kept, i -> Registry.of(content));
+        long of300 = resident() - before;
+        for (Registry registry : kept) {
+            registry.close();
+        }
+        before = resident();
         for (int i = 0; i < 3000; i++) {
             Registry.of(content);
             if (i % 100 == 99) {
                 System.gc();
-                Thread.sleep(5);
+                Thread.sleep(20);
             }
         }
         long grown = resident() - before;
-        is("collected", grown < 150_000_000 ? "collected" : "grown by " + grown);
+        is("collected", of300 > 10_000_000 && grown < 3 * of300 ? "collected" : "grown by " + grown + ", where 300 take " + of300);
     }
 
     public static void main(String[] words) throws Exception {
