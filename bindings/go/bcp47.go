@@ -140,10 +140,13 @@ func chars(buffer *[room]byte) *C.char { return (*C.char)(unsafe.Pointer(buffer)
 
 // The text in a buffer to which a call wrote it, or why there is none.
 func textOf(outcome C.bcp47_outcome, buffer *[room]byte, tag string) (string, error) {
-	if outcome.status == C.BCP47_DONE {
-		return string(buffer[:outcome.length]), nil
+	if outcome.status != C.BCP47_DONE {
+		return "", refusedTag(outcome, buffer[:], tag)
 	}
-	return "", refusedTag(outcome, buffer[:], tag)
+	if text := buffer[:outcome.length]; string(text) != tag {
+		return string(text), nil
+	}
+	return tag, nil // which takes no memory
 }
 
 // Canonical gives the canonical text of a tag (RFC 5646, 4.5): yue for zh-yue. The error is a *TagError where the tag is refused.

@@ -4,6 +4,7 @@
 #include <bcp47.h>
 #include <jni.h>
 #include <stdlib.h>
+#include <string.h>
 
 /* Room for the text of any tag, and for its canonical text; a longer one is no tag, which the library says of its front. */
 enum { ROOM = 4096 };
@@ -80,11 +81,13 @@ NATIVE(void, close)(JNIEnv *env, jclass self, jlong registry) {
 
 typedef bcp47_outcome writer(const bcp47_registry *, const char *, size_t, char *, size_t);
 
+/* The text that a call writes; null where it is the text of the tag. */
 static jobject text_by(JNIEnv *env, jlong registry, jbyteArray tag, writer *writes) {
     char text[ROOM], buffer[ROOM];
     size_t length = text_of(env, tag, text);
     bcp47_outcome outcome = writes(registry_of(registry), text, length, buffer, sizeof buffer);
-    return outcome.status == BCP47_DONE ? (*env)->NewStringUTF(env, buffer) : refusal(env, outcome, buffer);
+    if (outcome.status != BCP47_DONE) return refusal(env, outcome, buffer);
+    return outcome.length == length && !memcmp(text, buffer, length) ? NULL : (*env)->NewStringUTF(env, buffer);
 }
 
 NATIVE(jobject, canonical)(JNIEnv *env, jclass self, jlong registry, jbyteArray tag) {

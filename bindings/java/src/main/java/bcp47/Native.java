@@ -27,6 +27,7 @@ final class Native {
 
     static native void close(long registry);
 
+    /** Null where the text is that of the tag, and so below. */
     static native Object canonical(long registry, byte[] tag);
 
     static native Object extlang(long registry, byte[] tag);

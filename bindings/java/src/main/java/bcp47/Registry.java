@@ -68,6 +68,9 @@ public final class Registry implements AutoCloseable {
     }
 
     private static String text(Object answer, CharSequence tag) {
+        if (answer == null) {
+            return tag.toString();
+        }
         if (answer instanceof String text) {
             return text;
         }
@@ -104,14 +107,13 @@ public final class Registry implements AutoCloseable {
     public List<Answer> canonicalMany(Iterable<? extends CharSequence> tags) {
         List<Answer> answers = new ArrayList<>();
         for (CharSequence tag : tags) {
-            Object answer = tag == null ? null : asked(tag);
-            if (answer == null) {
+            if (tag == null) {
                 answers.add(null);
-            } else if (answer instanceof String text) {
-                answers.add(new Answer(text, null));
-            } else {
-                answers.add(new Answer(null, ((Outcome) answer).checked().line()));
+                continue;
             }
+            Object answer = asked(tag);
+            boolean isRefused = answer instanceof Outcome;
+            answers.add(isRefused ? new Answer(null, ((Outcome) answer).checked().line()) : new Answer(text(answer, tag), null));
         }
         return answers;
     }
