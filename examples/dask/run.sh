@@ -32,7 +32,9 @@ timed() {
     echo "$name: $((($(date +%s%N) - begin) / 100000000)) tenths of a second" >&2
 }
 
-"$python" "$root/bench/make_tags.py" "$registry" mixed "$lines" | grep -v '[",]' > "$folder/tags"
+few=$((lines < 1000000 ? lines : 1000000))
+"$python" "$root/bench/make_tags.py" "$registry" mixed "$few" | grep -v '[",]' > "$folder/few"
+while cat "$folder/few"; do :; done 2> /dev/null | head -n "$lines" > "$folder/tags"
 (echo id,tag && awk '{print NR "," $0}' "$folder/tags") > "$folder/rows.csv"
 "$program" canon "$registry" < "$folder/tags" > "$folder/one" || [ $? = 1 ]
 timed "the program, 4 workers" "$python" "$root/examples/dask/canon.py" "$program" "$registry" "$folder/tags" > "$folder/many"
