@@ -30,6 +30,8 @@ ${CC:-cc} -std=c11 ${CFLAGS:--O2} -fPIC -shared -fvisibility=hidden -Wall -Wextr
 rm -rf "$target/classes" "$target/lucene"
 "$home/bin/javac" --release 17 -Xlint:all -Werror -d "$target/classes" src/main/java/bcp47/*.java
 cp -r "$target/native/bcp47" "$target/classes"
+mkdir "$target/classes/META-INF"
+cp ../../LICENSE* "$target/classes/META-INF"
 archive bcp47 classes
 if [ -n "$lucene" ]; then
     "$home/bin/javac" --release 17 -Xlint:all,-path,-classfile -Werror -cp "$target/classes:$lucene" -d "$target/lucene" lucene/bcp47/lucene/*.java
