@@ -3,13 +3,13 @@
 
 Usage: canon.py [--workers N] [--scheduler ADDRESS] PROGRAM REGISTRY TAGS
 
-The lines of TAGS are a bag of partitions; a worker runs `PROGRAM canon REGISTRY` over each. The answers are printed in the
-order of the lines. Without an address it starts a scheduler and N workers (4, if none is named), each a process of its own.
-On other machines PROGRAM and REGISTRY have to be at the same paths. Status 1 of the program, that a tag was refused, is no
-failure.
+TAGS is parted at ends of lines into a bag; a worker reads its part and runs `PROGRAM canon REGISTRY` over it. The answers are printed in
+the order of the lines. Without an address it starts a scheduler and N workers (4, if none is named), each a process of its own.
+On other machines all three paths have to lead to the same files. Status 1 of the program, that a tag was refused, is no failure.
 """
 
 import argparse
+import os
 import subprocess
 import sys
 
@@ -17,19 +17,25 @@ import dask.bag
 
 from local import client
 
-LINES = 10_000
+SIZE = 1_000_000
 
 
 def parts_of(path):
-    """The lines of a file, in parts."""
+    """The parts of a file, each from a byte to another, where lines end."""
+    ends = [0]
     with open(path, "rb") as file:
-        lines = file.read().splitlines(keepends=True)
-    return [lines[start:start + LINES] for start in range(0, len(lines), LINES)]
+        while file.seek(ends[-1] + SIZE) and file.readline():
+            ends.append(file.tell())
+        ends.append(file.seek(0, os.SEEK_END))
+    return list(zip(ends, ends[1:]))
 
 
-def canon(program, registry, lines):
+def canon(program, registry, path, part):
     """What the program answers to the lines of a part."""
-    run = subprocess.run([program, "canon", registry], input=b"".join(lines), stdout=subprocess.PIPE)
+    with open(path, "rb") as file:
+        file.seek(part[0])
+        lines = file.read(part[1] - part[0])
+    run = subprocess.run([program, "canon", registry], input=lines, stdout=subprocess.PIPE)
     if run.returncode not in (0, 1):
         raise RuntimeError("%s ended with status %d" % (program, run.returncode))
     return run.stdout
@@ -45,8 +51,8 @@ def main():
     asked = words.parse_args()
     with client(asked.scheduler, asked.workers) as asking:
         parts = parts_of(asked.tags)
-        bag = dask.bag.from_sequence(parts, npartitions=max(1, len(parts)))
-        for answers in bag.map(lambda lines: canon(asked.program, asked.registry, lines)).compute(scheduler=asking.get):
+        bag = dask.bag.from_sequence(parts, npartitions=len(parts))
+        for answers in bag.map(lambda part: canon(asked.program, asked.registry, asked.tags, part)).compute(scheduler=asking.get):
             sys.stdout.buffer.write(answers)
 
 
