@@ -1,9 +1,9 @@
 #!/bin/bash
 # Builds the library for C and what stands on it, and runs their tests: C, Python, SQLite and PostgreSQL one after another, and beside
-# them Rust, Node.js, Java, Go and Dask. Each has to answer 200,000 tags as the program does. The last line counts; the status
+# them C++, Rust, Node.js, Java, Go and Dask. Each has to answer 200,000 tags as the program does. The last line counts; the status
 # is 1 if any test failed.
 #
-# Usage: tests/bindings.sh [PROGRAM [PART..]]     build/langtag, and all; the parts are rust, node, java, go and dask
+# Usage: tests/bindings.sh [PROGRAM [PART..]]     build/langtag, and all; the parts are cpp, rust, node, java, go and dask
 set -e
 cd "$(dirname "$0")/.."
 program=$(realpath "${1:-build/langtag}")
@@ -27,7 +27,7 @@ passes "400 tags to explain" test "$(wc -l < "$folder/explained-tags")" = 400
 while read -r tag; do "$program" explain "$registry" "$tag"; done < "$folder/explained-tags" > "$folder/explained" 2> "$folder/err"
 
 # A script for each, beside what is below.
-if [ $# -gt 1 ]; then parts=${*:2}; else parts="rust node java go dask"; fi
+if [ $# -gt 1 ]; then parts=${*:2}; else parts="cpp rust node java go dask"; fi
 for part in $parts; do
     mkdir "$folder/$part"
     tests/bindings/"$part".sh "$folder" "$program" > "$folder/$part.told" 2>&1 &
@@ -57,7 +57,6 @@ fi
 mkdir "$folder/examples"
 cp "$sample" "$folder/examples/registry.txt"
 sed -n '/^```c$/,/^```$/{/^```/!p}' docs/C.md > "$folder/examples/example.c"
-sed -n '/^```cpp$/,/^```$/{/^```/!p}' docs/C.md > "$folder/examples/example.cpp"
 sed -n '/^```python$/,/^```$/{/^```/!p}' docs/PYTHON.md > "$folder/examples/example.py"
 
 # ---- C
@@ -191,25 +190,6 @@ sed -n 's/^    "\(.*\)",$/\1/p' crates/lt_messages/src/meanings.rt > "$folder/me
 grep -vE '^(None|Failed|Done|NotATag|Invalid|BufferTooSmall|Different|BadFile|BadRecord|Rejected|NoUpgrade|NoSuchStep|WrongEnd|NotOpen|BadCall|Busy|TooManySteps): ' \
     "$folder/out" > "$folder/helps"
 passes "meanings" test "$(grep -cvxFf "$folder/messages" "$folder/helps")" = 0 -a "$(wc -l < "$folder/helps")" = 53
-
-# ---- C++
-passes "compile docs/C.md's example in C++" g++ -std=c++17 -Wall -Wextra -Werror -Ibindings/c -o "$folder/example-cpp" \
-    "$folder/examples/example.cpp" build/libbcp47.a
-sed -n '/tags.cpp \$(pkg-config/,/^$/{/^    \$/!s/^    //p}' docs/C.md > "$folder/example-answers"
-writes "docs/C.md's example in C++" "$folder/example-answers" "$folder/example-cpp" "$sample" zh-yue en_US
-for cc in g++ clang++; do
-    for standard in c++17 c++20 c++2b; do
-        passes "compile objects by $cc, $standard" $cc -std=$standard -O0 -Wall -Wextra -Werror -pedantic-errors -pthread \
-            -Ibindings/c -o "$folder/objects" tests/bindings/objects.cpp build/libbcp47.a
-        passes "objects by $cc, $standard" "$folder/objects" "$sample" "${of_sample##* }"
-    done
-done
-writes "C++ answers as the program" "$folder/wanted" "$folder/objects" "$registry" canonical "$folder/tags"
-writes "C++ explains as the program" "$folder/explained" "$folder/objects" "$registry" explain "$folder/explained-tags"
-# shellcheck disable=SC2086
-passes "compile objects for sanitizers" g++ -std=c++17 -g $memory -pthread -Ibindings/c -o "$folder/objects" \
-    tests/bindings/objects.cpp build/libbcp47.a
-passes "objects under sanitizers" "$folder/objects" "$sample" "${of_sample##* }"
 
 # ---- Python
 passes "pip install" $python -m pip install -q --no-index --root-user-action=ignore --target "$folder/python" bindings/python
