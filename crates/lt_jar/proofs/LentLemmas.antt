@@ -6,7 +6,7 @@ use Rattle.lt_jar.specs.Lines.{IsOneLine, lines_of, whole_lines, HoldsOfWhole}
 use Rattle.lt_jar.specs.LineKinds.{Line, Separator}
 use Rattle.lt_jar.specs.Limits.{most_records}
 use Rattle.lt_jar.specs.Records.{Field, HasRecords, IsWithin, Written, has_field, is_shown, lines_of_ended, lines_of_group, record_of, shown}
-use Rattle.lt_jar.specs.Faults.{Fault, IsReached, IsTheFault, IsWrong, IsWrongAt, begun, is_inside}
+use Rattle.lt_jar.specs.Faults.{Fault, IsLineReached, IsTheFault, IsWrong, IsWrongAt, begun, is_inside}
 use Rattle.lt_jar.specs.Lending.{AreEnded, CutsRecord, EndsRecord, IsSound, BreaksOff, IsCutShort}
 use Rattle.lt_jar.proofs.GroupLemmas.{finished-going_of, past_ended, records_of, records_of-append}
 use Rattle.lt_jar.proofs.ReadLemmas.{count_of, each_fault, shown-append, within_of}
@@ -104,7 +104,7 @@ fault_on {lines} {earlier = earlier} {rest = rest} {fault = fault} {number} {at}
     }
 
 pub reached_on : {lines : List (List ℕ)} {records : List (List Field)} {earlier line : ℕ} {text rest : List ℕ} {number at : ℕ} → Behind lines records earlier line → text ≡ whole_lines lines ++ rest
-    → IsReached earlier rest number → at + 1 ≡ line + number → IsReached 0 text at
+    → IsLineReached earlier rest number → at + 1 ≡ line + number → IsLineReached 0 text at
 reached_on {lines} {rest = rest} front bytes is count = record {
   from = omega (arith, is.from, count, front.line_is);
   to = omega (arith, is.to, count, front.line_is, ap length (lines_behind rest front bytes), length-append lines (lines_of rest));
@@ -206,8 +206,8 @@ lent_fault {bytes} {old = old} read new lent is line =
     ]
 
 -- A line that a call reached is one of the whole text.
-pub lent_reached : {bytes : List ℕ} {records : List (List Field)} {old : JarSource} {number : ℕ} (read : List ℕ) (new : JarSource) → HasLent bytes records old → IsReached (lent_by old) (kept_in old ++ read) number
-    → line_of_kept new + 1 ≡ line_of_kept old + number → IsReached 0 (bytes ++ read) (line_of_kept new)
+pub lent_reached : {bytes : List ℕ} {records : List (List Field)} {old : JarSource} {number : ℕ} (read : List ℕ) (new : JarSource) → HasLent bytes records old → IsLineReached (lent_by old) (kept_in old ++ read) number
+    → line_of_kept new + 1 ≡ line_of_kept old + number → IsLineReached 0 (bytes ++ read) (line_of_kept new)
 lent_reached read new lent is line = reached_on (front_of lent) (text_is read lent) is line
 
 -- Where a call broke off, the whole text does.
@@ -268,7 +268,7 @@ text_more {text} {rest} {after} new turn takes begun same =
 
 -- memory ran out at the line that ended the record
 pub text_refused : {text rest after : List ℕ} {records : List (List Field)} {now mid : Engine} (number : ℕ) → TextTurn text rest records now → TakesRecord now mid rest after → number + 1 ≡ mid.line
-    → IsReached 0 text number
+    → IsLineReached 0 text number
 text_refused {text} {rest} {after} number turn takes counted =
     let out = runs_out (text_runs turn) takes in
     let bytes = whole_joined text rest after turn.lines out.lines turn.bytes out.cuts.bytes in
@@ -294,7 +294,7 @@ said_of {now = now} {new} {kind} turn r =
 pub record TextEnds (text : List ℕ) (records more : List (List Field)) (new : Engine) : Type 0 where
   pub has : (all : List (List Field)) → all ≡ records ++ more → HasRecords text all × IsWithin text all
   pub few : new.ended + length more ≤ most_records
-  pub reached : (number : ℕ) → number + 1 ≡ new.line → 1 ≤ length more → IsReached 0 text number
+  pub reached : (number : ℕ) → number + 1 ≡ new.line → 1 ≤ length more → IsLineReached 0 text number
 
 pub text_ends : {text rest : List ℕ} {records : List (List Field)} {now mid : Engine} (new : Engine) {some : Bool} → TextTurn text rest records now → TakesAll now mid rest → Finishes mid new some
     → TextEnds text records (if some then fields_in new ∷ [] else []) new

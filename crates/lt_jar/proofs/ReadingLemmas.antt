@@ -5,7 +5,7 @@ use Rattle.std.proofs.lemmas.Bool.{cond_both, lt-ltb}
 use Rattle.lt_jar.specs.LineKinds.{Line, Blank, Separator, Continuation, Start, Bad, line_of}
 use Rattle.lt_jar.specs.Limits.{longest_line, most_records}
 use Rattle.lt_jar.specs.Records.{Field, HasRecords, Written, lines_of_ended, shown}
-use Rattle.lt_jar.specs.Faults.{Fault, LineTooLong, IsReached, IsTheFault, begun}
+use Rattle.lt_jar.specs.Faults.{Fault, LineTooLong, IsLineReached, IsTheFault, begun}
 use Rattle.lt_jar.specs.Reading.{Ends, GoesOn, Taken, continued, lengthened, take_kind, take_line, with_text, Going, finished, going_on, rest_of, on_going, on_taken, steps, start, step}
 use Rattle.std.specs.List.{AllByRecursion, flat_map}
 use Rattle.std.proofs.lemmas.Grind.{flat_map-append}
@@ -335,7 +335,7 @@ fault_told {earlier} {text} {lines = lines} {fields} {kind} fault r first is =
 
 -- and it is reached
 pub reached_told : {earlier : ℕ} {text rest : List ℕ} {lines : List (List ℕ)} {fields : List Field} {kind : JarFaultKind} → Ran earlier text lines rest fields → RefusesFirst earlier fields rest kind
-    → IsReached earlier text (length lines + 1)
+    → IsLineReached earlier text (length lines + 1)
 reached_told {earlier} {text} {lines = lines} r first =
     let read = read_ran r first.cut in
     record {

@@ -67,7 +67,7 @@ pub record IsTheFault (earlier : ℕ) (text : List ℕ) (fault : Fault) (number 
   pub first : (other : Fault) → IsWrongAt earlier text other number → rank fault ≤ rank other
 
 -- a line of the text before which nothing is wrong
-pub record IsReached (earlier : ℕ) (text : List ℕ) (number : ℕ) : Type 0 where
+pub record IsLineReached (earlier : ℕ) (text : List ℕ) (number : ℕ) : Type 0 where
   pub from : 1 ≤ number
   pub to : number ≤ length (lines_of text)
   pub clean : (other : Fault) (at : ℕ) → IsWrongAt earlier text other at → number ≤ at

@@ -54,10 +54,10 @@ abbrev pub start_of : List ℕ → Line
 start_of text = let name = name_at_front text in start_by name (trim_start (drop (length name) text))
 
 -- two percent signs, with nothing but spaces and tabs after them
-abbrev pub is_separator : List ℕ → Bool
-is_separator [] = false
-is_separator (a ∷ []) = false
-is_separator (a ∷ b ∷ rest) = (a == 37) && ((b == 37) && list_all is_blank rest)
+abbrev pub separates : List ℕ → Bool
+separates [] = false
+separates (a ∷ []) = false
+separates (a ∷ b ∷ rest) = (a == 37) && ((b == 37) && list_all is_blank rest)
 
 -- a space or a tab comes first
 abbrev pub begins_blank : List ℕ → Bool
@@ -67,7 +67,7 @@ begins_blank (byte ∷ rest) = is_blank byte
 -- what a line is that holds more than spaces and tabs
 abbrev pub kind_of_content : List ℕ → Line
 kind_of_content text =
-    if begins_blank text then Continuation (trim text) else (if is_separator text then Separator else start_of text)
+    if begins_blank text then Continuation (trim text) else (if separates text then Separator else start_of text)
 
 -- what a line is
 abbrev pub line_of : List ℕ → Line

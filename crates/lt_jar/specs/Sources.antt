@@ -140,7 +140,8 @@ pub record Stops {R : Type 0} (remaining : R → Option (List ℕ)) (old new : J
       × (line_of_kept new + 1 ≡ line_of_kept old + number)
       × EndsNoneAbove (kept_in old ++ read) number
   pub memory : kind ≡ kinds.OutOfMemory → (number : ℕ)
-      × faults.IsReached (lent_by old) (kept_in old ++ read) number × (line_of_kept new + 1 ≡ line_of_kept old + number)
+      × faults.IsLineReached (lent_by old) (kept_in old ++ read) number
+      × (line_of_kept new + 1 ≡ line_of_kept old + number)
   pub device : kind ≡ kinds.Read → HasFailed before after
       × ((number : ℕ) × IsCutShort (lent_by old) (kept_in old ++ read) number
       × (line_of_kept new + 1 ≡ line_of_kept old + number))

@@ -36,7 +36,7 @@ fault_in Failed = None
 abbrev pub IsFaultOf : List ℕ → JarFault → Type 0
 IsFaultOf text said =
     ((fault : faults.Fault) × (fault_in said.kind ≡ Some fault) × faults.IsTheFault 0 text fault said.line)
-    ⊎ ((said.kind ≡ OutOfMemory) × faults.IsReached 0 text said.line)
+    ⊎ ((said.kind ≡ OutOfMemory) × faults.IsLineReached 0 text said.line)
 
 -- what is said of a line was computed, or memory ran out
 abbrev pub IsSaid : {A : Type 0} → JarFaultKind → Result A faults.Fault → Type 0

@@ -73,7 +73,7 @@ fn are_blank(bytes: &[u8]) -> bool
 }
 
 fn is_separator(bytes: &[u8]) -> bool
-    ensures { result ≡ lines.is_separator bytes.now }
+    ensures { result ≡ lines.separates bytes.now }
 {
     match bytes {
         [b'%', b'%', rest @ ..] => are_blank(rest),

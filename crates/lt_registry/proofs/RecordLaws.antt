@@ -21,7 +21,7 @@ use Rattle.lt_tag.proofs.OneTagLemmas.{one_tag}
 use Rattle.lt_jar.specs.Records.{Field, HasRecords}
 use Rattle.lt_jar.specs.Devices.{failures_of, greatest_count, inner_of}
 use Rattle.lt_jar.specs.Lines.{HoldsOfWhole}
-use Rattle.lt_jar.specs.Faults.{IsReached, IsTheFault}
+use Rattle.lt_jar.specs.Faults.{IsLineReached, IsTheFault}
 use Rattle.lt_jar.specs.Lending.{BreaksOff, IsSound}
 use Rattle.lt_jar.specs.LentSoFar.{HasLent}
 use Rattle.lt_jar.specs.Sources.{Advances, IsFresh, IsRead, LastGave, LendsEnded, LendsLast, ReadsRecord, lent_by, line_of_kept, record_in}
@@ -767,7 +767,7 @@ read_stops {R} remaining first old new before now after d fault so advances = by
           format = λ kind is.
               let there = stops.format kind is in
               subst (λ n. HoldsOfWhole (λ t. IsTheFault 0 t kind n) (IsAtEnd (remaining (inner_of after))) text) (sym line) (lent_fault r.read new lent there.1 there.2);
-          memory = λ is. let there = stops.memory is in subst (IsReached 0 text) (sym line) (lent_reached r.read new lent there.1 there.2);
+          memory = λ is. let there = stops.memory is in subst (IsLineReached 0 text) (sym line) (lent_reached r.read new lent there.1 there.2);
           device = λ is.
               let there = stops.device is in
               (subst (λ (n : ℕ). (n < failures_of after) ⊎ (failures_of after ≡ greatest_count)) so.failures there.0, subst (BreaksOff 0 text) (sym line) (lent_cut r.read new lent there.1.1 there.1.2));

@@ -40,7 +40,7 @@ use Rattle.lt_tag.proofs.TagLemmas.{AllByRecursion-weaker}
 use Rattle.lt_registry.specs.Entries.{has_form, letters_le, IsPrefix, has_prefix, is_whole_kind, FitsName, IsEntry, is_named, holds, is_whole, entry, whole}
 use Rattle.lt_registry.specs.Validity.{Distinct}
 use Rattle.lt_subtag.specs.Lanes.{padded}
-use Rattle.lt_registry.specs.Sorted.{number, rank, IsRowAt, AreRows, IsIndex, single_number, single_row, place_of, tag_in, tag_at, language_number, whole_row, whole_key, key_cmp, IsSingles, IsWholes, index_of, RowsRise, beginning, IsInSpan, AreStarts, is_within, first_within, place_in, StartsRise, AreStretches, AreMerged, starts_first, ends, range_row, range_rows}
+use Rattle.lt_registry.specs.Sorted.{number, rank, IsRowAt, AreRows, IsIndex, single_number, single_row, place_of, tag_in, tag_at, language_number, whole_row, whole_key, whole_key_cmp, IsSingles, IsWholes, index_of, RowsRise, beginning, IsInSpan, AreStarts, is_within, first_within, place_in, StartsRise, AreStretches, AreMerged, starts_first, ends, range_row, range_rows}
 use Rattle.lt_registry.specs.declared.entries.Kind.{Kind}
 use Rattle.lt_registry.specs.Prefixes.{single_of, AreSingles}
 use Rattle.lt_registry.specs.Same.{same_list, same_extension, same_tag, same_kind}
@@ -582,16 +582,16 @@ module _ (R : List EntryParts) (kind : Kind) (rows : List Row) (s : List ℕ) (i
 pub whole_placed : (p : ℕ) (e : EntryParts) (w : Row) → whole_row p e ≡ Some w → w.place ≡ p
 whole_placed p e w h = placed_at (λ (r : Row). r.place) (λ (t : TagForm). record { number = language_number t; place = p }) p (λ t. refl) true (tag_in e.name) w h
 
-pub key_total : IsTotalOrder key_cmp
+pub key_total : IsTotalOrder whole_key_cmp
 key_total = then_total (on_total (λ (k : ℕ × Option TagForm). k.0) nat_cmp_total) (on_total (λ (k : ℕ × Option TagForm). k.1) (options_total tag_total))
 
-keys_equal : (u t : TagForm) → is_eq (key_cmp (language_number u, Some u) (language_number t, Some t)) ≡ same_tag u t
+keys_equal : (u t : TagForm) → is_eq (whole_key_cmp (language_number u, Some u) (language_number t, Some t)) ≡ same_tag u t
 keys_equal u t =
-    same_test (is_eq (key_cmp (language_number u, Some u) (language_number t, Some t))) (same_tag u t)
+    same_test (is_eq (whole_key_cmp (language_number u, Some u) (language_number t, Some t))) (same_tag u t)
     (λ e. sym (tags_equal u t) ∙ (and_parts (is_eq (nat_cmp (language_number u) (language_number t))) (is_eq (tag_cmp u t)) (sym (then_equal (nat_cmp (language_number u) (language_number t)) (tag_cmp u t)) ∙ e)).1)
     (λ e.
     let same : u ≡ t = tags_apart u t ((Equal-is (tag_cmp u t)).0 (tags_equal u t ∙ e)) in
-    subst (λ z. is_eq (key_cmp (language_number u, Some u) (language_number z, Some z)) ≡ true) same (ap is_eq (tied_itself key_total (language_number u, Some u))))
+    subst (λ z. is_eq (whole_key_cmp (language_number u, Some u) (language_number z, Some z)) ≡ true) same (ap is_eq (tied_itself key_total (language_number u, Some u))))
 
 module _ (R : List EntryParts) (rows : List Row) (t : TagForm) (ix : IsWholes R rows) where
   abbrev is_that : EntryParts → Bool
@@ -600,19 +600,19 @@ module _ (R : List EntryParts) (rows : List Row) (t : TagForm) (ix : IsWholes R 
   abbrev sought : ℕ × Option TagForm
   sought = (language_number t, Some t)
 
-  tag_agrees : (p : ℕ) (e : EntryParts) (name : EntryName) → name ≡ e.name → slice_get R p ≡ Some e → is_whole t name ≡ matches key_cmp (whole_key R) sought (option_map (λ (u : TagForm). record { number = language_number u; place = p }) (tag_in name))
+  tag_agrees : (p : ℕ) (e : EntryParts) (name : EntryName) → name ≡ e.name → slice_get R p ≡ Some e → is_whole t name ≡ matches whole_key_cmp (whole_key R) sought (option_map (λ (u : TagForm). record { number = language_number u; place = p }) (tag_in name))
   tag_agrees p e (names.Whole u) is there =
       let here : tag_at R p ≡ Some u = ap (option_and_then (λ (f : EntryParts). tag_in f.name)) there ∙ sym (ap tag_in is) in
-      sym (ap (λ o. is_eq (key_cmp (language_number u, o) sought)) here ∙ keys_equal u t)
+      sym (ap (λ o. is_eq (whole_key_cmp (language_number u, o) sought)) here ∙ keys_equal u t)
   tag_agrees p e _ is there = refl
 
-  pub whole_found : (i : ℕ) (w : Row) → i < length rows → w ≡ get_or rows i w → HoldsAt (λ (v : Row). key_cmp (whole_key R v) sought ≡ Equal) rows i → whole R t ≡ slice_get R w.place
+  pub whole_found : (i : ℕ) (w : Row) → i < length rows → w ≡ get_or rows i w → HoldsAt (λ (v : Row). whole_key_cmp (whole_key R v) sought ≡ Equal) rows i → whole R t ≡ slice_get R w.place
   whole_found i w l is tied =
       found key_total (whole_key R) (λ (v : Row). v.place) whole_row whole_placed R rows ix sought is_that (λ p e there. tag_agrees p e e.name refl there) i w l is
-      (ap (λ (v : Row). key_cmp (whole_key R v) sought) is ∙ tied w)
+      (ap (λ (v : Row). whole_key_cmp (whole_key R v) sought) is ∙ tied w)
 
   pub whole_absent : (i : ℕ)
-      → (IsNonDecreasingBy (λ (v : Row). ordering_index (key_cmp (whole_key R v) sought)) rows → IsPartitionPoint (λ (v : Row). key_cmp (whole_key R v) sought ≡ Less) (λ (v : Row). key_cmp (whole_key R v) sought ≡ Greater) rows i)
+      → (IsNonDecreasingBy (λ (v : Row). ordering_index (whole_key_cmp (whole_key R v) sought)) rows → IsPartitionPoint (λ (v : Row). whole_key_cmp (whole_key R v) sought ≡ Less) (λ (v : Row). whole_key_cmp (whole_key R v) sought ≡ Greater) rows i)
       → whole R t ≡ None
   whole_absent i point =
       absent key_total (whole_key R) (λ (v : Row). v.place) whole_row whole_placed R rows ix sought is_that (λ p e there. tag_agrees p e e.name refl there) i

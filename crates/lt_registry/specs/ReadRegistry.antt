@@ -5,7 +5,7 @@ use Rattle.std.specs.Io.KnownBytes.{Consumes, IsAtEnd}
 use Rattle.lt_jar.specs.Devices.{HasFailed, after_reads, failures_of, inner_of, last_given_of, reads_of}
 use Rattle.lt_jar.specs.Lines.{HoldsOfWhole}
 use Rattle.lt_jar.specs.Records.{Field, HasRecords, IsWithin}
-use Rattle.lt_jar.specs.Faults.{Fault, IsReached, IsTheFault}
+use Rattle.lt_jar.specs.Faults.{Fault, IsLineReached, IsTheFault}
 use Rattle.lt_jar.specs.Lending.{BreaksOff}
 use Rattle.lt_jar.specs.Sources.{most_reads}
 use Rattle.lt_jar.specs.Views.{fault_in}
@@ -35,7 +35,7 @@ pub record IsJarRefusal {R : Type 0} (remaining : R → Option (List ℕ))
     (before after : Device R) (bytes : List ℕ) (reads : ℕ) (fault : JarFault) : Type 0 where
   pub format : (kind : Fault) → fault_in fault.kind ≡ Some kind
       → HoldsOfWhole (λ text. IsTheFault 0 text kind fault.line) (IsAtEnd (remaining (inner_of after))) bytes
-  pub memory : fault.kind ≡ jars.OutOfMemory → IsReached 0 bytes fault.line
+  pub memory : fault.kind ≡ jars.OutOfMemory → IsLineReached 0 bytes fault.line
   pub device : fault.kind ≡ jars.Read → HasFailed before after × BreaksOff 0 bytes fault.line
   pub all_made : fault.kind ≡ jars.TooManyTurns → (reads ≡ most_reads)
       × (reads ≤ length bytes) × (0 < last_given_of after) × BreaksOff 0 bytes fault.line

@@ -1,7 +1,7 @@
 -- Why records give no entries; running out of memory aside.
 use Rattle.std.specs.Prelude.{◌≡◌, ◌⊎◌, List}
 use Rattle.lt_jar.specs.Records.{Field}
-use Rattle.lt_registry.specs.Records.{IsFirstOfRecord, IsFirstRecordFault, IsReached}
+use Rattle.lt_registry.specs.Records.{IsFirstOfRecord, IsFirstRecordFault, IsRecordReached}
 use Rattle.lt_registry.specs.declared.faults.RecordFault.{RecordFault}
 use Rattle.lt_registry.specs.declared.faults.RecordFaultKind.{RecordFaultKind}
 use Rattle.lt_registry.specs.declared.faults.RecordFaultKind.TheVariants as faults
@@ -14,5 +14,5 @@ IsRefused r kind = (kind ≡ faults.OutOfMemory) ⊎ IsFirstOfRecord r kind
 -- which none has one
 abbrev pub IsRecordRefusal : List (List Field) → RecordFault → Type 0
 IsRecordRefusal records fault =
-    ((fault.kind ≡ faults.OutOfMemory) × IsReached records fault.number)
+    ((fault.kind ≡ faults.OutOfMemory) × IsRecordReached records fault.number)
     ⊎ IsFirstRecordFault records fault.kind fault.number

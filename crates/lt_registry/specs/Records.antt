@@ -277,7 +277,7 @@ pub record IsFirstRecordFault (records : List (List Field)) (kind : RecordFaultK
   pub earliest : (other : RecordFaultKind) → HasFaultAt records other number → record_rank kind ≤ record_rank other
 
 -- the record of this number is not the header, and no record below it has a fault
-pub record IsReached (records : List (List Field)) (number : ℕ) : Type 0 where
+pub record IsRecordReached (records : List (List Field)) (number : ℕ) : Type 0 where
   pub before : List (List Field)
   pub here : List Field
   pub after : List (List Field)

@@ -113,8 +113,8 @@ abbrev pub tag_at : List EntryParts → ℕ → Option TagForm
 tag_at R place = option_and_then (λ (e : EntryParts). tag_in e.name) (slice_get R place)
 
 -- the numbers of languages decide first, then the tags
-abbrev pub key_cmp : ℕ × Option TagForm → ℕ × Option TagForm → Ordering
-key_cmp a b = ordering_then (nat_cmp a.0 b.0) (option_cmp tag_cmp a.1 b.1)
+abbrev pub whole_key_cmp : ℕ × Option TagForm → ℕ × Option TagForm → Ordering
+whole_key_cmp a b = ordering_then (nat_cmp a.0 b.0) (option_cmp tag_cmp a.1 b.1)
 
 -- what whole records are sorted by: the number of the language, and the tag
 abbrev pub whole_key : List EntryParts → Row → ℕ × Option TagForm
@@ -122,7 +122,7 @@ whole_key R w = (w.number, tag_at R w.place)
 
 -- the order of whole records, and of equal tags that of their places
 abbrev pub whole_cmp : List EntryParts → Row → Row → Ordering
-whole_cmp R v w = ordering_then (key_cmp (whole_key R v) (whole_key R w)) (nat_cmp v.place w.place)
+whole_cmp R v w = ordering_then (whole_key_cmp (whole_key R v) (whole_key R w)) (nat_cmp v.place w.place)
 
 -- the row is that of the entry at its place
 abbrev pub IsRowAt : {W : Type 0} → (ℕ → EntryParts → Option W) → (W → ℕ) → List EntryParts → W → Type 0
@@ -149,7 +149,7 @@ IsSingles R kind rows = IsIndex (single_row kind) (λ (w : Row). w.place) (λ (w
 
 -- the whole records, sorted by their languages and tags; of equal tags the first alone
 abbrev pub IsWholes : List EntryParts → List Row → Type 0
-IsWholes R rows = IsIndex whole_row (λ (w : Row). w.place) (whole_key R) key_cmp R rows
+IsWholes R rows = IsIndex whole_row (λ (w : Row). w.place) (whole_key R) whole_key_cmp R rows
 
 -- each row has a greater number than those before it
 abbrev pub RowsRise : List Row → Type 0

@@ -96,7 +96,7 @@ fn tag_at(entries: &[Entry], place: usize) -> Option<&Tag>
 
 /// The order of two records by their languages and tags.
 fn compare_keys(entries: &[Entry], one: Row, other: Row) -> Ordering
-    ensures { result ≡ sorted.key_cmp (sorted.whole_key entries.now one) (sorted.whole_key entries.now other) }
+    ensures { result ≡ sorted.whole_key_cmp (sorted.whole_key entries.now one) (sorted.whole_key entries.now other) }
 {
     one.number.cmp(&other.number).then_with(|| {
         compare_optional_tags(tag_at(entries, one.place), tag_at(entries, other.place))
@@ -111,14 +111,15 @@ fn compare_rows(entries: &[Entry], one: Row, other: Row) -> Ordering
 }
 
 fn name_same_tag(entries: &[Entry], one: Row, other: Row) -> bool
-    ensures { result ≡ is_eq (sorted.key_cmp (sorted.whole_key entries.now one) (sorted.whole_key entries.now other)) }
+    ensures { result ≡ is_eq (sorted.whole_key_cmp (sorted.whole_key entries.now one)
+        (sorted.whole_key entries.now other)) }
 {
     compare_keys(entries, one, other).is_eq()
 }
 
 /// The order of a record and a tag, given the number of the tag's language.
 fn compare_with(entries: &[Entry], row: Row, number: u64, tag: &Tag) -> Ordering
-    ensures { result ≡ sorted.key_cmp (sorted.whole_key entries.now row) (number, Some tag.now) }
+    ensures { result ≡ sorted.whole_key_cmp (sorted.whole_key entries.now row) (number, Some tag.now) }
 {
     row.number.cmp(&number).then_with(|| compare_optional_tags(
         tag_at(entries, row.place),
