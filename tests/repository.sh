@@ -78,7 +78,7 @@ from pathlib import Path
 
 blocks = re.findall(r"^```rust\n(.*?)^```$", Path("docs/LIBRARY.md").read_text(), re.M | re.S)
 named = [re.match(r"// (crates/\S+)\n(.*)", block, re.S) for block in blocks[1:]]
-if len(blocks) < 5 or None in named or blocks[0] != Path("crates/same_language/src/main.rt").read_text():
+if len(blocks) < 4 or None in named or blocks[0] != Path("crates/same_language/src/main.rt").read_text():
     sys.exit(f"{len(blocks)} examples, and one names no file")
 for path, text in (match.groups() for match in named):
     for item in re.split(r"\n\n(?=\S)", text.strip()):
