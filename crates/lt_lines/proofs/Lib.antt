@@ -2,5 +2,7 @@
 pub mod DeviceLemmas
 pub mod RowLemmas
 pub mod TakenLemmas
+mod TalliedLemmas
+mod KeptLemmas
 pub mod TextLemmas
 pub mod RunLemmas

@@ -1,7 +1,8 @@
 //! Answering lines that come in pieces.
-ghost use Rattle.std.specs.Prelude.{◌≡◌, ◌≤◌, ◌+◌, ◌-◌, ◌++◌, ◌∷◌, List, ℕ, [], false, IfOk, OnOk, length, take, vec_len};
+ghost use Rattle.std.specs.Prelude.{◌≡◌, ◌≤◌, ◌+◌, ◌-◌, ◌++◌, ◌∷◌, List, ℕ, [], false, IfOk, OnOk, drop, length, take, vec_len};
 ghost use Rattle.lt_lines.specs.Owed.{IsOneLine, Terms, feeds_in, terms};
 ghost use Rattle.lt_lines.specs.Quotes.{is_quoted};
+ghost use Rattle.lt_lines.specs.Tallied.{CountsIf, line_at};
 ghost use Rattle.lt_lines.specs.Answering as spec;
 
 use crate::answer_lines::without_return;
@@ -14,10 +15,12 @@ use crate::recent_answers::{RecentAnswers, append_again};
 use crate::rows::Separator;
 use crate::runs::Counts;
 use crate::splitting::split_first;
+use crate::tallying::count_line;
 use lt_canon::Checked;
 use lt_jar::Device;
 use lt_registry::Lookup;
 use lt_tag::OutOfMemory;
+use lt_tallies::Tallies;
 use std::alloc::{AllocError, Global};
 use std::io::Write;
 
@@ -40,6 +43,8 @@ pub(crate) struct Answering {
     /// Lines that are owed and not yet written.
     owed: Vec<u8>,
     counts: Counts,
+    /// The lines that were refused, by their faults.
+    pub(crate) tallies: Tallies,
     /// Answers that were given lately.
     recent: RecentAnswers,
 }
@@ -129,6 +134,7 @@ fn append_line<L: Lookup>(
     requires { count ≤ length text.now }
     ensures owed { IfOk result (λ refused. spec.AreRecent (terms (L.listed checked.now) form) recent.old
         → spec.AppendsLine (terms (L.listed checked.now) form) is_first kept.old.items (take count text.now) lines.old.items lines.new.items refused) }
+    ensures kept { OnOk result (spec.KeepsPart form kept.old.items (take count text.now) kept.new.items) }
     ensures recent { OnOk result (spec.AreRecent (terms (L.listed checked.now) form) recent.old → spec.AreRecent (terms (L.listed checked.now) form) recent.new) }
 {
     if kept.is_empty() {
@@ -153,6 +159,7 @@ impl Answering {
         ensures items { (result.kept.items ≡ []) × (result.owed.items ≡ []) }
         ensures place { (result.place ≡ Place.Fresh) × (result.feeds ≡ 0) }
         ensures counts { (result.counts.lines ≡ 0) × (result.counts.refused ≡ 0) }
+        ensures tallies { result.tallies ≡ [] }
         ensures recent { (terms : Terms) → spec.AreRecent terms result.recent }
     {
         Answering {
@@ -164,8 +171,45 @@ impl Answering {
                 lines: 0,
                 refused: 0,
             },
+            tallies: Tallies::new(alloc),
             recent: RecentAnswers::new(alloc),
         }
+    }
+
+    /// Counts the line that was answered, if it was refused: what is kept, or the first `count` bytes of a text where
+    /// nothing is. Its answer begins at this place of those that are owed.
+    #[inline(always)]
+    fn tally(
+        &mut self,
+        alloc: Global,
+        form: LineForm,
+        text: &[u8],
+        count: usize,
+        start: usize,
+        refused: bool,
+    ) -> Result<(), AllocError>
+        requires room { spec.HasRoom self.old 1 }
+        requires count { count ≤ length text.now }
+        ensures counted { OnOk result (CountsIf form (self.old.counts.lines + 1) (line_at self.old.kept.items (take count text.now))
+            (drop start self.old.owed.items) refused self.old.tallies self.new.tallies) }
+        ensures same { spec.KeepsAll self.old self.new }
+    {
+        if !refused {
+            return Ok(());
+        }
+        let line = if self.kept.is_empty() {
+            &text[..count]
+        } else {
+            &self.kept
+        };
+        count_line(
+            &mut self.tallies,
+            alloc,
+            form,
+            self.counts.lines + 1,
+            line,
+            &self.owed[start.min(self.owed.len())..],
+        )
     }
 
     /// Answers the line that the first `count` bytes of a text end.
@@ -185,6 +229,7 @@ impl Answering {
         ensures kept { OnOk result (self.new.kept.items ≡ []) }
         ensures counted { OnOk result (spec.CountsFeed self.old self.new) }
     {
+        let start = self.owed.len();
         let refused = append_line(
             &mut self.owed,
             alloc,
@@ -196,6 +241,7 @@ impl Answering {
             text,
             count,
         )?;
+        self.tally(alloc, form, text, count, start, refused)?;
         self.counts.count(refused);
         self.kept.clear();
         self.place = Place::Fresh;
@@ -320,7 +366,7 @@ impl Answering {
     ) -> Result<Counts, ToolFault>
         requires room { spec.HasRoom self.old 1 }
         requires closed { is_quoted self.old.place ≡ false }
-        ensures { spec.FinishesLines (terms (L.listed checked.now) form) W.contents self.old output.old output.new result }
+        ensures { spec.FinishesLines (terms (L.listed checked.now) form) W.contents self.old self.new output.old output.new result }
     {
         self.end_last(alloc, checked, form)?;
         self.write(output)?;
@@ -336,7 +382,7 @@ impl Answering {
         output: &mut Device<W>,
     ) -> Result<Counts, ToolFault>
         requires { spec.HasRoom self.old 1 }
-        ensures { spec.FinishesLines (terms (L.listed checked.now) form) W.contents self.old output.old output.new result }
+        ensures { spec.FinishesLines (terms (L.listed checked.now) form) W.contents self.old self.new output.old output.new result }
     {
         if self.place.is_quoted() {
             return Err(ToolFault::BadCsv(self.kept_from()));

@@ -1,1 +1,1 @@
-mod TallyLemmas
+pub mod TallyLemmas

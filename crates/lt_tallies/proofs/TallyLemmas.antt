@@ -1,5 +1,5 @@
 -- One line more that was refused.
-use Rattle.std.proofs.Common.{◌≡◌, ◌≤◌, ◌<◌, ◌+◌, ◌++◌, ◌∷◌, ◌∙◌, inl, inr, ℕ, zero, suc, List, [], true, false, Some, None, cond, length, min, nat_lt, take, sym, ap, refl, subst, arith, get_or, set}
+use Rattle.std.proofs.Common.{◌≡◌, ◌≤◌, ◌<◌, ◌+◌, ◌++◌, ◌∷◌, ◌∙◌, inl, inr, ℕ, zero, suc, List, [], true, false, Some, None, cond, length, min, nat_lt, sym, ap, refl, subst, arith, get_or, set}
 use Rattle.std.specs.List.{AllByRecursion, IsDistinct, count_by, find, position, position_or_len}
 use Rattle.std.specs.Option.{option_or}
 use Rattle.std.specs.Set.{is_member}
@@ -12,8 +12,13 @@ use Rattle.std.proofs.lemmas.List.Quantifiers.{position-Some}
 use Rattle.std.proofs.lemmas.List.Sums.{count_by-le-length, sum_by-append}
 use Rattle.std.proofs.lemmas.Map.Keys.{IsDistinct-head, IsDistinct-push, IsDistinct-tail}
 use Rattle.std.proofs.lemmas.Slice.Eq.{bytes_eq-Decides}
-use Rattle.lt_tallies.specs.Tallies.{AreTallies, IsTally, Refused, faults_of, is_by, most_shown}
+use Rattle.lt_tallies.specs.Tallies.{AreTallies, IsTally, Refused, faults_of, is_by}
 use Rattle.lt_tallies.specs.declared.Tally.{Tally}
+
+-- of no lines
+pub no_tallies : AreTallies [] []
+unfolding IsDistinct
+no_tallies = record { each = tt; once = tt; all = tt }
 
 -- a name that another differs from differs from it
 differs : (a b : List ℕ) → bytes_eq a b ≡ false → bytes_eq b a ≡ false
@@ -32,7 +37,7 @@ stays lines line tally other h = record {
   earliest = h.earliest;
   is_earliest = find-append (is_by tally.fault.items) lines (line ∷ []) ∙ ap (λ f. option_or f (find (is_by tally.fault.items) (line ∷ []))) h.is_earliest;
   number = h.number;
-  front = h.front;
+  text = h.text;
 }
 
 others_stay : (lines : List Refused) (line : Refused) (tallies : List Tally) → AllByRecursion (λ fault. bytes_eq line.fault fault ≡ false) (faults_of tallies)
@@ -53,7 +58,7 @@ grows lines line tally count same more h = record {
   earliest = h.earliest;
   is_earliest = find-append (is_by tally.fault.items) lines (line ∷ []) ∙ ap (λ f. option_or f (find (is_by tally.fault.items) (line ∷ []))) h.is_earliest;
   number = h.number;
-  front = h.front;
+  text = h.text;
 }
 
 -- the tally at a place grows, and the others stay
@@ -160,9 +165,9 @@ no_line fault faults (line ∷ lines) none h =
 
 -- a line was refused by a fault that has none
 pub begun : (lines : List Refused) (line : Refused) (tallies : List Tally) (tally : Tally) → position (λ (other : Tally). bytes_eq line.fault other.fault.items) tallies ≡ None
-    → tally.fault.items ≡ line.fault → tally.lines ≡ 1 → tally.first ≡ line.number → tally.text.items ≡ take most_shown line.text
+    → tally.fault.items ≡ line.fault → tally.lines ≡ 1 → tally.first ≡ line.number → tally.text.items ≡ line.text
     → AreTallies lines tallies → AreTallies (lines ++ line ∷ []) (tallies ++ tally ∷ [])
-begun lines line tallies tally none name one number front t =
+begun lines line tallies tally none name one number text t =
     let others = unless_there line.fault tallies none in
     let absent = no_member line.fault (faults_of tallies) others in
     let before = no_line line.fault (faults_of tallies) lines absent t.all in
@@ -175,7 +180,7 @@ begun lines line tallies tally none name one number front t =
         earliest = line;
         is_earliest = rw name (find-append (is_by line.fault) lines (line ∷ []) ∙ rw (before.1, itself) refl);
         number = number;
-        front = front;
+        text = text;
       });
       once = rw names (IsDistinct-push nat_list_eq_equiv (faults_of tallies) line.fault t.once absent);
       all = rw names (all_more (λ l. is_member bytes_eq (faults_of tallies ++ line.fault ∷ []) l.fault ≡ true) lines line (kept lines t.all)

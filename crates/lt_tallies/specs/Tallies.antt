@@ -1,5 +1,5 @@
 -- How many lines were refused by each fault, and which was the first.
-use Rattle.std.specs.Prelude.{◌≡◌, ℕ, Bool, true, List, map, Some, bytes_eq, find, take}
+use Rattle.std.specs.Prelude.{◌≡◌, ℕ, Bool, true, List, map, Some, bytes_eq, find}
 use Rattle.std.specs.List.{AllByRecursion, IsDistinct, count_by}
 use Rattle.std.specs.Set.{is_member}
 use Rattle.lt_tallies.specs.declared.Tally.{Tally}
@@ -14,21 +14,17 @@ pub record Refused : Type 0 where
 abbrev pub refused : ℕ → (fault text : List ℕ) → Refused
 refused number fault text = record { number = number; fault = fault; text = text }
 
--- the most bytes that are kept of a text
-abbrev pub most_shown : ℕ
-most_shown = 64
-
 -- whether a line was refused by the fault of this name
 abbrev pub is_by : (fault : List ℕ) → Refused → Bool
 is_by fault line = bytes_eq fault line.fault
 
--- how many of these lines were refused by the fault, and the number and the front of the text of the first of them
+-- how many of these lines were refused by the fault, and the number and the text of the first of them
 pub record IsTally (lines : List Refused) (tally : Tally) : Type 0 where
   pub count : tally.lines ≡ count_by (is_by tally.fault.items) lines
   pub earliest : Refused
   pub is_earliest : find (is_by tally.fault.items) lines ≡ Some earliest
   pub number : tally.first ≡ earliest.number
-  pub front : tally.text.items ≡ take most_shown earliest.text
+  pub text : tally.text.items ≡ earliest.text
 
 -- the names of the faults
 abbrev pub faults_of : List Tally → List (List ℕ)

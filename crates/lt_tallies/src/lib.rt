@@ -2,14 +2,11 @@
 //! of your own begins with the crate `bcp47`.
 #![tactic(auto)]
 
-ghost use Rattle.std.specs.Prelude.{◌≡◌, ◌+◌, ◌<◌, ◌^◌, [], ◌∷◌, ◌++◌, List, IfOk, OnErr, OnOk, bytes_eq, length, position, take};
-ghost use Rattle.lt_tallies.specs.Tallies.{AreTallies, Refused, most_shown, refused};
+ghost use Rattle.std.specs.Prelude.{◌≡◌, ◌+◌, ◌<◌, ◌^◌, [], ◌∷◌, ◌++◌, List, IfOk, OnErr, OnOk, bytes_eq, length, position};
+ghost use Rattle.lt_tallies.specs.Tallies.{AreTallies, Refused, refused};
 
 use std::alloc::{AllocError, Global};
 use std::marker::Model;
-
-/// The most bytes that are kept of a text that was refused.
-const MOST_SHOWN: usize = 64;
 
 /// The lines that were refused by one fault.
 #[derive(Drop)]
@@ -20,7 +17,7 @@ pub struct Tally {
     pub lines: u64,
     /// The number of the first of them.
     pub first: u64,
-    /// The front of the text that was refused there, 64 bytes at most.
+    /// What was refused there.
     pub text: Vec<u8>,
 }
 
@@ -43,13 +40,13 @@ impl Model for Tallies {
 fn new_tally(alloc: Global, fault: &[u8], number: u64, text: &[u8]) -> Result<Tally, AllocError>
     ensures fault { IfOk result (λ tally. tally.fault.items ≡ fault.now) }
     ensures numbers { IfOk result (λ tally. (tally.lines ≡ 1) × (tally.first ≡ number)) }
-    ensures front { IfOk result (λ tally. tally.text.items ≡ take most_shown text.now) }
+    ensures text { IfOk result (λ tally. tally.text.items ≡ text.now) }
 {
     Ok(Tally {
         fault: Vec::from_slice(alloc, fault)?,
         lines: 1,
         first: number,
-        text: Vec::from_slice(alloc, &text[..text.len().min(MOST_SHOWN)])?,
+        text: Vec::from_slice(alloc, text)?,
     })
 }
 

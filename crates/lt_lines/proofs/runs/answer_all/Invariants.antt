@@ -1,7 +1,7 @@
 use Rattle.std.proofs.Common.{◌≡◌, length}
 use Rattle.lt_lines.specs.Owed.{terms}
 use Rattle.lt_lines.proofs.RunLemmas.{RunTurn}
-use Rattle.lt_lines.proofs.runs.run_lines.Given as goal
+use Rattle.lt_lines.proofs.runs.answer_all.Given as goal
 
 abbrev pub invariant-loop-read : goal.invariant-loop-read
 invariant-loop-read g l = record {

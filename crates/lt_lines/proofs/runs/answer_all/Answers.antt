@@ -2,19 +2,18 @@ use Rattle.std.proofs.Common.{◌≡◌, ◌≤◌, ◌<◌, ◌∙◌, length, 
 use Rattle.std.proofs.lemmas.Result.{err_from_is_err_and}
 use Rattle.lt_lines.specs.Owed.{terms}
 use Rattle.lt_lines.proofs.RunLemmas.{ReadsPiece, refilled, run_failed, run_finished, run_first, run_lacks, run_next, run_room, run_stopped, run_turns}
-use Rattle.lt_lines.proofs.runs.run_lines.Goals as goal
-use Rattle.lt_lines.proofs.runs.run_lines.Goals.{After-deref}
+use Rattle.lt_lines.proofs.runs.answer_all.Goals as goal
+use Rattle.lt_lines.proofs.runs.answer_all.Goals.{After-deref}
 
 pub returns-in_err-buffer : goal.returns-in_err-buffer
 returns-in_err-buffer g c =
     let p = err_from_is_err_and c.from_residual.result c.from_residual.ensures.1 in
-    rw (p.1, p.2) (run_lacks (terms (g.L.Lookup.listed c.args.checked.now) c.args.form) g.R.Read.remaining g.W.Write.contents c.args.input.now c.args.output.now)
+    rw (p.1, p.2) (run_lacks (terms (g.L.Lookup.listed c.args.checked.now) c.args.form) g.R.Read.remaining g.W.Write.contents c.args.input.now c.args.output.now c.args.answering.now.tallies)
 
 pub loop-read-init : goal.loop-read-init
 loop-read-init g c =
-    let new = c.new-answering.ensures in
     record {
-      turn = run_first _ g.R.Read.remaining g.W.Write.contents c.args.input.now c.args.output.now c.new-answering.result new.items new.place new.counts new.recent;
+      turn = run_first _ g.R.Read.remaining g.W.Write.contents c.args.input.now c.args.output.now c.args.answering.now c.requires;
       buffer = sym c.in_ok-buffer.buffer.ok.0 ∙ c.in_ok-buffer.ensures.len;
     }
 
@@ -27,7 +26,7 @@ returns-in-Ok-eq0 g c =
     let ensures = c.in-Ok-eq0.ensures in
     let none = c.in-Ok-eq0.field-0-test in
     let some : 0 < length buffer = omega (arith, c.read.auto.buf, ap length c.deref_mut.ensures.value, c.loop-read.invariant.buffer) in
-    run_finished _ _ _ _ _ _ _ _ _ c.loop-read.invariant.turn _ _ c.finish.result c.loop-read-test.true
+    run_finished _ _ _ _ _ _ _ _ _ c.loop-read.invariant.turn _ _ c.finish.new.self c.finish.result c.loop-read-test.true
     (record { consumes = rw none at ensures.bytes.0; calls = ensures.reads; failures = ensures.works }) (ensures.bytes.1 none some) c.finish.ensures
 
 pub take_piece-requires : goal.take_piece-requires
@@ -53,7 +52,7 @@ returns-in_err-take_piece-in-Ok g c =
     let turn = c.loop-read.invariant.turn in
     let read = reads g (goal.at.returns-in_err-take_piece-in-Ok g c).After-deref in
     let takes = rw read.2 at c.in_err-take_piece-in-Ok.ensures in
-    rw (p.1, p.2) (run_stopped _ _ _ _ _ _ _ _ _ turn _ _ _ takes.written _ c.loop-read-test.true read.1 takes.appends takes.stopped.0 (takes.stopped.1 turn.read turn.written turn.taken))
+    rw (p.1, p.2) (run_stopped _ _ _ _ _ _ _ _ _ turn _ _ _ takes.written _ _ c.loop-read-test.true read.1 takes.appends takes.stopped.0 (takes.stopped.1 turn.read turn.written turn.taken))
 
 pub returns-in-Err : goal.returns-in-Err
 returns-in-Err g c =
