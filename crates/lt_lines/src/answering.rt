@@ -2,7 +2,7 @@
 ghost use Rattle.std.specs.Prelude.{◌≡◌, ◌≤◌, ◌+◌, ◌-◌, ◌++◌, ◌∷◌, List, ℕ, [], false, IfOk, OnOk, drop, length, take, vec_len};
 ghost use Rattle.lt_lines.specs.Owed.{IsOneLine, Terms, feeds_in, terms};
 ghost use Rattle.lt_lines.specs.Quotes.{is_quoted};
-ghost use Rattle.lt_lines.specs.Tallied.{CountsIf, line_at};
+ghost use Rattle.lt_lines.specs.Tallied.{CountsIf, line_at as at_line};
 ghost use Rattle.lt_lines.specs.Answering as spec;
 
 use crate::answer_lines::without_return;
@@ -153,6 +153,13 @@ fn append_line<L: Lookup>(
     )
 }
 
+/// A line of which this is kept, or this part of a piece where nothing is kept.
+fn line_at<'a>(kept: &'a [u8], part: &'a [u8]) -> &'a [u8]
+    ensures { result.now ≡ at_line kept.now part.now }
+{
+    if kept.is_empty() { part } else { kept }
+}
+
 impl Answering {
     /// Nothing taken so far.
     pub(crate) fn new(alloc: Global) -> Answering
@@ -190,24 +197,19 @@ impl Answering {
     ) -> Result<(), AllocError>
         requires room { spec.HasRoom self.old 1 }
         requires count { count ≤ length text.now }
-        ensures counted { OnOk result (CountsIf form (self.old.counts.lines + 1) (line_at self.old.kept.items (take count text.now))
+        ensures counted { OnOk result (CountsIf form (self.old.counts.lines + 1) (at_line self.old.kept.items (take count text.now))
             (drop start self.old.owed.items) refused self.old.tallies self.new.tallies) }
         ensures same { spec.KeepsAll self.old self.new }
     {
         if !refused {
             return Ok(());
         }
-        let line = if self.kept.is_empty() {
-            &text[..count]
-        } else {
-            &self.kept
-        };
         count_line(
             &mut self.tallies,
             alloc,
             form,
             self.counts.lines + 1,
-            line,
+            line_at(&self.kept, &text[..count]),
             &self.owed[start.min(self.owed.len())..],
         )
     }

@@ -13,7 +13,7 @@ use std::alloc::{AllocError, Global};
 const MOST_SHOWN: usize = 64;
 
 /// The name of the fault for which an answer refuses a line.
-fn fault_in(form: LineForm, line: &[u8], answer: &[u8]) -> &[u8]
+fn fault_in<'a>(form: LineForm, line: &[u8], answer: &'a [u8]) -> &'a [u8]
     ensures { result.now ≡ spec.fault_in form line.now answer.now }
 {
     let before = match form {

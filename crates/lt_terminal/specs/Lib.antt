@@ -1,0 +1,5 @@
+pub mod Meanings
+pub mod Watching
+pub mod Progress
+pub mod Table
+pub mod People
