@@ -1,1 +1,2 @@
 mod WatchingLemmas
+mod WordLemmas

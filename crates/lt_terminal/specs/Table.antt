@@ -1,11 +1,11 @@
 -- What a person is told of the lines that a run refused: for each fault how many there are, the first of them, and what
 -- to do.
-use Rattle.std.specs.Prelude.{ℕ, ◌+◌, ◌&&◌, ◌++◌, List, [], ◌∷◌, Option, Some, None, if◌then◌else◌, codes, drop, length, map, nat_le}
+use Rattle.std.specs.Prelude.{ℕ, ◌&&◌, ◌++◌, List, [], ◌∷◌, Option, Some, None, if◌then◌else◌, codes, map, nat_le}
 use Rattle.std.specs.List.{flat_map}
 use Rattle.std.specs.Fmt.{decimal}
 use Rattle.lt_lines.specs.declared.runs.Counts.{Counts}
 use Rattle.lt_tallies.specs.declared.Tally.{Tally}
-use Rattle.lt_terminal.specs.Meanings.{message_of}
+use Rattle.lt_terminal.specs.Advice.{advice_line}
 
 -- how many lines or records were answered, and how many of them refused
 abbrev pub counts_line : (unit : List ℕ) → Option Counts → List ℕ
@@ -28,14 +28,9 @@ tally_line unit tally =
     decimal tally.lines ++ 32 ∷ tally.fault.items ++ codes ", first in " ++ unit ++ 32 ∷ decimal tally.first
     ++ shown_text tally.text.items ++ 10 ∷ []
 
--- what to do: the message without the name of the fault
-abbrev pub advice_line : (fault : List ℕ) → Option (List ℕ) → List ℕ
-advice_line fault None = []
-advice_line fault (Some message) = 32 ∷ drop (length fault + 1) message ++ 10 ∷ []
-
 -- a tally, and what to do
 abbrev pub tally_told : (unit : List ℕ) → Tally → List ℕ
-tally_told unit tally = tally_line unit tally ++ advice_line tally.fault.items (message_of tally.fault.items)
+tally_told unit tally = tally_line unit tally ++ advice_line tally.fault.items tally.text.items
 
 -- all tallies, in the order in which the faults came
 abbrev pub tallies_told : (unit : List ℕ) → List Tally → List ℕ

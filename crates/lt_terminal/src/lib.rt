@@ -2,6 +2,8 @@
 //! program of your own begins with the crate `bcp47`, whose errors say what is wrong by `{}`.
 #![tactic(auto)]
 
+mod advice;
+mod codes;
 mod meanings;
 mod openings;
 mod progress;

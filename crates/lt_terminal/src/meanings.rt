@@ -82,7 +82,7 @@ fn is_of(message: &[u8], word: &[u8]) -> bool
 }
 
 /// The first of some messages that is that of the fault that a word names.
-fn first_of(messages: &[&'static str], word: &[u8]) -> Option<&'static str>
+pub(crate) fn first_of(messages: &[&'static str], word: &[u8]) -> Option<&'static str>
     ensures { option_map (λ message. message.now) result ≡ find (λ message. spec.is_of message word.now) (map (λ message. message.now) messages.now) }
 {
     for message in messages {

@@ -5,17 +5,18 @@ ghost use Rattle.lt_tool.specs.Program.{opener_of, texts_of};
 ghost use Rattle.lt_tool.specs.Streams.{stream};
 
 use crate::openings::Openings;
-use crate::telling::{answers_lines, tell};
+use crate::telling::{asked_by, tell};
+use crate::watched::Watched;
 use lt_jar::Device;
-use lt_terminal::Watched;
-use lt_tool::run_program;
+use lt_tool::{Answered, run_program};
 use std::alloc::Global;
 use std::io::{self, Read, Write};
 
-/// Runs the program as [`run_program`] does, and then tells a person on `people` what it came to: for `canon` and `tsv`
-/// how many lines were answered and how many of them refused, and what the first fault on `output` and the first on
-/// `errors` mean and what to do. Where a file can't be opened, a line says which and why, if `opener` kept that in
-/// `openings`.
+/// Runs the program as [`run_program`] does, and then tells a person on `people` what it came to. Of `canon`, `tsv` and
+/// `csv`: how many lines or records were answered and how many refused, if all of them were answered; and for each fault
+/// how many it refused, which was the first, and what to do. Of a run with one answer: what the fault means that the
+/// answer tells, and what to do; and the same of the fault on `errors`. Where a file can't be opened, a line says which
+/// and why, if `opener` kept that in `openings`.
 pub fn run_for_people<
     F: Read + Drop,
     P: FnMut(&str) -> io::Result<F>,
@@ -39,15 +40,25 @@ pub fn run_for_people<
         ⟦<Watched<O> as Write>⟧.contents output ⟦<Watched<E> as Write>⟧.contents errors
         (stream T.contents people.old people.new) result }
 {
-    let answers_lines = answers_lines(alloc, &words);
-    let mut output = Device::new(Watched::new(alloc, output));
-    let mut errors = Device::new(Watched::new(alloc, errors));
-    let status = run_program(alloc, words, opener, input, &mut output, &mut errors);
+    let asked = asked_by(alloc, &words);
+    let mut output = Device::new(Watched::new(output));
+    let mut errors = Device::new(Watched::new(errors));
+    let mut answered = Answered::new(alloc);
+    let status = run_program(
+        alloc,
+        words,
+        opener,
+        input,
+        &mut output,
+        &mut errors,
+        &mut answered,
+    );
     let refusal = openings.take().unwrap_or(String::new(alloc));
     tell(
         alloc,
-        answers_lines,
+        asked,
         status,
+        &answered,
         refusal.as_str(),
         &mut output,
         &mut errors,

@@ -1,9 +1,8 @@
 //! What a person is told of the lines that a run refused.
 ghost use Rattle.std.specs.Prelude.{◌≡◌, ◌++◌, OnOk, map};
-ghost use Rattle.lt_terminal.specs.Meanings.{message_of as message_for};
 ghost use Rattle.lt_terminal.specs.Table as spec;
 
-use crate::meanings::message_of;
+use crate::advice::append_advice;
 use lt_lines::{Counts, Tallies, Tally};
 use std::alloc::{AllocError, Global};
 
@@ -74,20 +73,6 @@ fn append_tally(
     Ok(())
 }
 
-/// Appends what to do about a fault.
-fn append_advice(told: &mut Vec<u8>, fault: &[u8]) -> Result<(), AllocError>
-    ensures { OnOk result (told.new.items ≡ told.old.items ++ spec.advice_line fault.now (message_for fault.now)) }
-{
-    let Some(message) = message_of(fault) else {
-        return Ok(());
-    };
-    let message = message.as_bytes();
-    told.push(b' ')?;
-    told.extend_from_slice(&message[(fault.len() + 1).min(message.len())..])?;
-    told.push(b'\n')?;
-    Ok(())
-}
-
 /// Appends what a person is told of all the lines that were refused.
 pub(crate) fn append_tallies(
     told: &mut Vec<u8>,
@@ -99,7 +84,7 @@ pub(crate) fn append_tallies(
 {
     for tally in tallies.faults() {
         append_tally(told, alloc, unit, tally)?;
-        append_advice(told, &tally.fault)?;
+        append_advice(told, &tally.fault, &tally.text)?;
     }
     Ok(())
 }

@@ -1,87 +1,152 @@
 //! What a person is told after a run.
-ghost use Rattle.std.specs.Prelude.{◌≡◌, ◌++◌, IfOk, OnOk};
+ghost use Rattle.std.specs.Prelude.{◌≡◌, ◌==◌, ◌++◌, IfOk, OnOk, option_map};
+ghost use Rattle.std.specs.List.{before_first, slice_split};
 ghost use Rattle.lt_jar.specs.Devices.{inner_of};
-ghost use Rattle.lt_terminal.specs.People.{IsAsked, IsReport, Tells, TellsOf, told_lines};
+ghost use Rattle.lt_terminal.specs.People.{IsAsked, IsFront, Tells, told_lines, told_of};
 ghost use Rattle.lt_terminal.specs.People as spec;
 ghost use Rattle.lt_tool.specs.Program.{texts_of};
 ghost use Rattle.lt_tool.specs.Streams.{stream};
 ghost use Rattle.lt_tool.specs.Written.{Says};
 
+use crate::meanings::message_of;
+use crate::table::{append_counts, append_tallies};
+use crate::watched::Watched;
 use lt_jar::Device;
-use lt_lines::write_text;
-use lt_terminal::{Watched, after_first_line};
-use lt_tool::{Status, read_words};
+use lt_lines::{split_first, write_text};
+use lt_tool::{Answered, Command, Status, read_words};
 use std::alloc::{AllocError, Global};
 use std::io::{self, Read, Write};
 
-/// Whether the command that the words name answers the lines of the input; nothing where they name none.
-pub(crate) fn answers_lines(alloc: Global, words: &io::Result<Vec<String>>) -> Option<bool>
-    ensures { IsAsked (texts_of words.now) result }
+/// What a command answers one by one, if it does.
+pub(crate) fn unit_of(command: &Command) -> Option<&'static str>
+    ensures { option_map (λ unit. unit.now) result ≡ spec.unit_of command.now }
+{
+    match command {
+        Command::Canon(_) | Command::Tsv(_, _) => Some("line"),
+        Command::Csv(_, _) => Some("record"),
+        _ => None,
+    }
+}
+
+/// The same of the command that the words name; nothing where they name none.
+pub(crate) fn asked_by(
+    alloc: Global,
+    words: &io::Result<Vec<String>>,
+) -> Option<Option<&'static str>>
+    ensures { IsAsked (texts_of words.now) (option_map (λ unit. option_map (λ text. text.now) unit) result) }
 {
     match words {
         Ok(words) => match read_words(alloc, words) {
-            Ok(command) => Some(command.answers_lines()),
+            Ok(command) => Some(unit_of(&command)),
             Err(_) => None,
         },
         Err(_) => None,
     }
 }
 
-/// What is reported of the bytes that a device took.
-fn report_of<W: Write>(alloc: Global, device: &mut Device<Watched<W>>) -> io::Result<Vec<u8>>
-    ensures { IfOk result (λ report. IsReport (⟦<Watched<W> as Write>⟧.contents (inner_of device.old)) report.items) }
+/// The message for the first word of a line that names a fault.
+#[tactic(auto, using(crate::proofs::WordLemmas::last_word, crate::proofs::WordLemmas::next_word))]
+fn first_message(line: &[u8]) -> Option<&'static str>
+    ensures { option_map (λ message. message.now) result ≡ spec.first_message (slice_split (λ byte. byte == 32) line.now) }
 {
-    let mut report = Vec::new(alloc);
-    device.read_to_end(&mut report)?;
-    Ok(report)
+    let mut rest = line;
+    while let Some((word, after)) = split_first(b' ', rest) {
+        if let Some(message) = message_of(word) {
+            return Some(message);
+        }
+        rest = after;
+    }
+    message_of(rest)
 }
 
-/// Appends the lines that a person is told by the reports on the output and on the errors.
-fn append_lines(
-    lines: &mut Vec<u8>,
-    counted: bool,
-    refusal: &str,
-    shown: &[u8],
-    said: &[u8],
-) -> Result<(), AllocError>
-    ensures { OnOk result (lines.new.items ≡ lines.old.items ++ told_lines counted refusal.now shown.now said.now) }
+/// The message for a line: for the whole of it, as for `ok 0`, or for the first of its words that names a fault.
+fn line_message(line: &[u8]) -> Option<&'static str>
+    ensures { option_map (λ message. message.now) result ≡ spec.line_message line.now }
 {
-    let answered = if counted {
-        shown
-    } else {
-        after_first_line(shown)
-    };
-    let meaning = after_first_line(said);
-    lines.extend_from_slice(answered)?;
-    lines.extend_from_slice(meaning)?;
-    if meaning.starts_with(b"File: ") {
-        lines.extend_from_slice(refusal.as_bytes())?;
+    match message_of(line) {
+        Some(message) => Some(message),
+        None => first_message(line),
+    }
+}
+
+/// The first line of what was written, as far as it is kept.
+fn first_line(front: &[u8]) -> &[u8]
+    ensures { result.now ≡ before_first (λ byte. byte == 10) front.now }
+{
+    match front.iter().position(|byte| *byte == b'\n') {
+        Some(end) => &front[..end],
+        None => front,
+    }
+}
+
+/// Appends the message for the first line of what was written, if it tells a fault.
+fn append_meaning(told: &mut Vec<u8>, front: &[u8]) -> Result<(), AllocError>
+    ensures { OnOk result (told.new.items ≡ told.old.items ++ spec.meaning_of front.now) }
+{
+    if let Some(message) = line_message(first_line(front)) {
+        told.extend_from_slice(message.as_bytes())?;
+        told.push(b'\n')?;
     }
     Ok(())
 }
 
-/// The lines that a person is told after a run that wrote to these.
-fn lines_of<O: Write, E: Write>(
+/// Appends what is said of what was printed.
+fn append_output(
+    told: &mut Vec<u8>,
     alloc: Global,
-    counted: bool,
-    refusal: &str,
-    output: &mut Device<Watched<O>>,
-    errors: &mut Device<Watched<E>>,
-) -> io::Result<Vec<u8>>
-    ensures { IfOk result (λ lines. TellsOf counted refusal.now (⟦<Watched<O> as Write>⟧.contents (inner_of output.old)) (⟦<Watched<E> as Write>⟧.contents (inner_of errors.old)) lines.items) }
+    unit: Option<&str>,
+    status: u8,
+    answered: &Answered,
+    shown: &[u8],
+) -> Result<(), AllocError>
+    ensures { OnOk result (told.new.items ≡ told.old.items ++ told_of (option_map (λ text. text.now) unit) status answered.now shown.now) }
 {
-    let shown = report_of(alloc, output)?;
-    let said = report_of(alloc, errors)?;
-    let mut lines = Vec::new(alloc);
-    append_lines(&mut lines, counted, refusal, &shown, &said)?;
-    Ok(lines)
+    match unit {
+        Some(unit) if status != Status::RegistryRefused.code() => {
+            append_counts(told, alloc, unit, answered.counts)?;
+            append_tallies(told, alloc, unit, &answered.tallies)
+        }
+        _ => append_meaning(told, shown),
+    }
 }
 
-/// Whether the lines of a run that ended so are counted: all of them were answered.
-fn are_counted(answers_lines: bool, status: u8) -> bool
-    ensures { result ≡ spec.are_counted answers_lines status }
+/// Appends what is said of the errors.
+fn append_errors(told: &mut Vec<u8>, refusal: &str, said: &[u8]) -> Result<(), AllocError>
+    ensures { OnOk result (told.new.items ≡ told.old.items ++ (spec.meaning_of said.now ++ spec.refusal_of refusal.now (spec.meaning_of said.now))) }
 {
-    answers_lines && status <= Status::Refused.code()
+    let start = told.len();
+    append_meaning(told, said)?;
+    if told[start..].starts_with(b"File: ") {
+        told.extend_from_slice(refusal.as_bytes())?;
+    }
+    Ok(())
+}
+
+/// The front of the bytes that a device took.
+fn front_of<W: Write>(alloc: Global, device: &mut Device<Watched<W>>) -> io::Result<Vec<u8>>
+    ensures { IfOk result (λ front. IsFront (⟦<Watched<W> as Write>⟧.contents (inner_of device.old)) front.items) }
+{
+    let mut front = Vec::new(alloc);
+    device.read_to_end(&mut front)?;
+    Ok(front)
+}
+
+/// The lines that a person is told by these fronts.
+fn lines_of(
+    alloc: Global,
+    unit: Option<&str>,
+    status: u8,
+    answered: &Answered,
+    refusal: &str,
+    shown: &[u8],
+    said: &[u8],
+) -> Result<Vec<u8>, AllocError>
+    ensures { IfOk result (λ lines. lines.items ≡ told_lines (option_map (λ text. text.now) unit) status answered.now refusal.now shown.now said.now) }
+{
+    let mut told = Vec::new(alloc);
+    append_output(&mut told, alloc, unit, status, answered, shown)?;
+    append_errors(&mut told, refusal, said)?;
+    Ok(told)
 }
 
 /// Writes a text, up to the first write that fails, which the device counts.
@@ -91,23 +156,27 @@ pub(crate) fn say<T: Write>(text: &[u8], people: &mut Device<T>)
     let _ = write_text(text, people);
 }
 
-/// Tells a person what a run that ended so wrote, if the words name a command and there is memory for it.
+/// Tells a person what a run that ended so came to, if the words name a command and there is memory for it.
 pub(crate) fn tell<O: Write, E: Write, T: Write>(
     alloc: Global,
-    answers_lines: Option<bool>,
+    asked: Option<Option<&str>>,
     status: u8,
+    answered: &Answered,
     refusal: &str,
     output: &mut Device<Watched<O>>,
     errors: &mut Device<Watched<E>>,
     people: &mut Device<T>,
 )
-    ensures { Tells answers_lines status (⟦<Watched<O> as Write>⟧.contents (inner_of output.old)) (⟦<Watched<E> as Write>⟧.contents (inner_of errors.old)) (stream T.contents people.old people.new) }
+    ensures { Tells (option_map (λ unit. option_map (λ text. text.now) unit) asked) status answered.now (⟦<Watched<O> as Write>⟧.contents (inner_of output.old))
+        (⟦<Watched<E> as Write>⟧.contents (inner_of errors.old)) (stream T.contents people.old people.new) }
 {
-    let Some(answers_lines) = answers_lines else {
+    let Some(unit) = asked else {
         return;
     };
-    let counted = are_counted(answers_lines, status);
-    if let Ok(lines) = lines_of(alloc, counted, refusal, output, errors) {
+    let (Ok(shown), Ok(said)) = (front_of(alloc, output), front_of(alloc, errors)) else {
+        return;
+    };
+    if let Ok(lines) = lines_of(alloc, unit, status, answered, refusal, &shown, &said) {
         say(&lines, people);
     }
 }
