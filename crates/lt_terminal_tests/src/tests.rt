@@ -1,7 +1,6 @@
 //! Runs of the program, what they write, and what a person is told after each.
 use lt_jar::{Device, Takes};
-use lt_messages::message_of;
-use lt_people::{Openings, Progress, run_for_people};
+use lt_terminal::{Openings, Progress, message_of, run_for_people};
 use lt_tool::Status;
 use std::alloc::{AllocError, Global};
 use std::io::{self, ErrorKind, Write};
@@ -70,7 +69,7 @@ const BAD_LINE: &str =
     "BadLine: Neither a field, %%, nor a continuation. This is no registry, or not its plain text: get one from https://www.iana.org/assignments/language-subtag-registry/language-subtag-registry, or remove a byte order mark.\n";
 
 /// Runs over lines, rows and records.
-const COUNTED: [Run; 9] = [
+const COUNTED: [Run; 14] = [
     (
         &["canon", "new"],
         "EN\nen\n",
@@ -92,7 +91,7 @@ const COUNTED: [Run; 9] = [
         "EN\nen_US\nde\n\n",
         "en\n! BadByte 1\n! UnknownLanguage 1\n! EmptySubtag 1\n",
         "",
-        "4 lines, 3 refused\nBadByte: A byte that is no ASCII letter, digit or hyphen: write zh-Hant for zh_Hant; remove quotes, spaces, a byte order mark.\n",
+        "4 lines, 3 refused\n1 BadByte, first in line 2: en_US\n  A byte that is no ASCII letter, digit or hyphen: write zh-Hant for zh_Hant; remove quotes, spaces, a byte order mark.\n1 UnknownLanguage, first in line 3: de\n  The registry lacks the language: correct it, or get a newer registry.\n1 EmptySubtag, first in line 4\n  Nothing between two hyphens, or an empty text: remove a hyphen too many, or the empty line.\n",
         Status::Refused,
     ),
     (
@@ -100,7 +99,7 @@ const COUNTED: [Run; 9] = [
         "BadByte 1\ten\nok 0\tde\r\n1\n",
         "BadByte 1\ten\t\nok 0\tde\tUnknownLanguage 1\r\n1\tNoColumn\n",
         "",
-        "3 lines, 2 refused\nUnknownLanguage: The registry lacks the language: correct it, or get a newer registry.\n",
+        "3 lines, 2 refused\n1 UnknownLanguage, first in line 2: de\n  The registry lacks the language: correct it, or get a newer registry.\n1 NoColumn, first in line 3\n  The row has too few fields (tsv, csv): name another column, or mend the row.\n",
         Status::Refused,
     ),
     (
@@ -116,7 +115,7 @@ const COUNTED: [Run; 9] = [
         "ok 0,tag\nBadByte 1,\"de\"\r\n1\n",
         "ok 0,tag,langtag_fault\nBadByte 1,\"de\",UnknownLanguage 1\r\n1,NoColumn\n",
         "",
-        "UnknownLanguage: The registry lacks the language: correct it, or get a newer registry.\n",
+        "3 records, 2 refused\n1 UnknownLanguage, first in record 2: de\n  The registry lacks the language: correct it, or get a newer registry.\n1 NoColumn, first in record 3\n  The row has too few fields (tsv, csv): name another column, or mend the row.\n",
         Status::Refused,
     ),
     (
@@ -126,6 +125,46 @@ const COUNTED: [Run; 9] = [
         "! BadCsv line 2\n",
         "BadCsv: The input ends within the quotes of a record (csv), which begins in the line that is named: close them, or double a quote that stands for itself.\n",
         Status::Failed,
+    ),
+    (
+        &["csv", "new", "3"],
+        "id,note,tag\n1,\"Sit, Read\nand File\",EN\n",
+        "id,note,tag,langtag_fault\n1,\"Sit, Read\nand File\",en,\n",
+        "",
+        "2 records, 0 refused\n",
+        Status::Done,
+    ),
+    (
+        &["csv", "new", "2"],
+        "id,tag,note\n1,EN,\"a Read\nb\"\n2,en_US,x\n",
+        "id,tag,note,langtag_fault\n1,en,\"a Read\nb\",\n2,en_US,x,BadByte 1\n",
+        "",
+        "3 records, 1 refused\n1 BadByte, first in record 3: en_US\n  A byte that is no ASCII letter, digit or hyphen: write zh-Hant for zh_Hant; remove quotes, spaces, a byte order mark.\n",
+        Status::Refused,
+    ),
+    (
+        &["csv", "new", "1"],
+        "tag\nde\n\"en",
+        "tag,langtag_fault\nde,UnknownLanguage 1\n",
+        "! BadCsv line 3\n",
+        "1 UnknownLanguage, first in record 2: de\n  The registry lacks the language: correct it, or get a newer registry.\nBadCsv: The input ends within the quotes of a record (csv), which begins in the line that is named: close them, or double a quote that stands for itself.\n",
+        Status::Failed,
+    ),
+    (
+        &["canon", "new"],
+        "eng\nEnglish\nen-UK\n",
+        "! UnknownLanguage 1\n! UnknownLanguage 1\n! UnknownRegion 2\n",
+        "",
+        "3 lines, 3 refused\n2 UnknownLanguage, first in line 1: eng\n  eng: BCP 47 writes en.\n1 UnknownRegion, first in line 3: en-UK\n  UK: BCP 47 writes GB.\n",
+        Status::Refused,
+    ),
+    (
+        &["canon", "new"],
+        "deutsch\n\u{1b}[2J\n",
+        "! UnknownLanguage 1\n! BadByte 1\n",
+        "",
+        "2 lines, 2 refused\n1 UnknownLanguage, first in line 1: deutsch\n  This is a name of a language and not a code: write en for English, de for German.\n1 BadByte, first in line 2: ?[2J\n  A byte that is no ASCII letter, digit or hyphen: write zh-Hant for zh_Hant; remove quotes, spaces, a byte order mark.\n",
+        Status::Refused,
     ),
     (
         &["canon", "other"],
@@ -282,7 +321,7 @@ fn words_that_name_no_command(rt: HostRuntime) {
 }
 
 /// The names of faults that the program prints, and `ok 0`.
-const NAMES: [&str; 60] = [
+const NAMES: [&str; 61] = [
     "BadByte",
     "EmptySubtag",
     "LongSubtag",
@@ -343,6 +382,7 @@ const NAMES: [&str; 60] = [
     "TooManyTurns",
     "Write",
     "OutOfMemory",
+    "BadCsv",
 ];
 
 /// What a person is told while this many lines are written at once, so many times.
