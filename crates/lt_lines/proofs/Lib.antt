@@ -6,3 +6,4 @@ mod TalliedLemmas
 mod KeptLemmas
 pub mod TextLemmas
 pub mod RunLemmas
+pub mod FaultLemmas

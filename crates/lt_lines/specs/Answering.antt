@@ -170,15 +170,6 @@ pub record GoesOn (form : LineForm) (part : List ℕ) (old new : Answering) : Ty
   pub tallies : new.tallies ≡ old.tallies
   pub recent : new.recent ≡ old.recent
 
--- all but the tallies is the same
-pub record KeepsAll (old new : Answering) : Type 0 where
-  pub kept : new.kept.items ≡ old.kept.items
-  pub goes_on : new.place ≡ old.place
-  pub feeds : new.feeds ≡ old.feeds
-  pub owed : new.owed.items ≡ old.owed.items
-  pub counts : new.counts ≡ old.counts
-  pub recent : new.recent ≡ old.recent
-
 -- nothing was taken so far
 pub record IsFresh (state : Answering) : Type 0 where
   pub items : (state.kept.items ≡ []) × (state.owed.items ≡ [])

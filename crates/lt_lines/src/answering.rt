@@ -1,8 +1,8 @@
 //! Answering lines that come in pieces.
-ghost use Rattle.std.specs.Prelude.{◌≡◌, ◌≤◌, ◌+◌, ◌-◌, ◌++◌, ◌∷◌, List, ℕ, [], false, IfOk, OnOk, drop, length, take, vec_len};
+ghost use Rattle.std.specs.Prelude.{◌≡◌, ◌≤◌, ◌+◌, ◌-◌, ◌++◌, ◌∷◌, List, ℕ, [], false, IfOk, OnOk, length, take, vec_len};
 ghost use Rattle.lt_lines.specs.Owed.{IsOneLine, Terms, feeds_in, terms};
 ghost use Rattle.lt_lines.specs.Quotes.{is_quoted};
-ghost use Rattle.lt_lines.specs.Tallied.{CountsIf, line_at as at_line};
+ghost use Rattle.lt_lines.specs.Tallied.{line_at as at_line};
 ghost use Rattle.lt_lines.specs.Answering as spec;
 
 use crate::answer_lines::without_return;
@@ -15,7 +15,7 @@ use crate::recent_answers::{RecentAnswers, append_again};
 use crate::rows::Separator;
 use crate::runs::Counts;
 use crate::splitting::split_first;
-use crate::tallying::count_line;
+use crate::tallying::count_if;
 use lt_canon::Checked;
 use lt_jar::Device;
 use lt_registry::Lookup;
@@ -183,37 +183,6 @@ impl Answering {
         }
     }
 
-    /// Counts the line that was answered, if it was refused: what is kept, or the first `count` bytes of a text where
-    /// nothing is. Its answer begins at this place of those that are owed.
-    #[inline(always)]
-    fn tally(
-        &mut self,
-        alloc: Global,
-        form: LineForm,
-        text: &[u8],
-        count: usize,
-        start: usize,
-        refused: bool,
-    ) -> Result<(), AllocError>
-        requires room { spec.HasRoom self.old 1 }
-        requires count { count ≤ length text.now }
-        ensures counted { OnOk result (CountsIf form (self.old.counts.lines + 1) (at_line self.old.kept.items (take count text.now))
-            (drop start self.old.owed.items) refused self.old.tallies self.new.tallies) }
-        ensures same { spec.KeepsAll self.old self.new }
-    {
-        if !refused {
-            return Ok(());
-        }
-        count_line(
-            &mut self.tallies,
-            alloc,
-            form,
-            self.counts.lines + 1,
-            line_at(&self.kept, &text[..count]),
-            &self.owed[start.min(self.owed.len())..],
-        )
-    }
-
     /// Answers the line that the first `count` bytes of a text end.
     #[inline(always)]
     fn answer_line<L: Lookup>(
@@ -243,7 +212,15 @@ impl Answering {
             text,
             count,
         )?;
-        self.tally(alloc, form, text, count, start, refused)?;
+        count_if(
+            &mut self.tallies,
+            alloc,
+            form,
+            self.counts.lines + 1,
+            line_at(&self.kept, &text[..count]),
+            &self.owed[start.min(self.owed.len())..],
+            refused,
+        )?;
         self.counts.count(refused);
         self.kept.clear();
         self.place = Place::Fresh;
