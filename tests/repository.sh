@@ -68,6 +68,7 @@ if not dict(named) == parts.LICENCES or not set(parts.LICENCES) == inside == pac
 END
 
 passes "CONTRIBUTING.md has the picture of crates.txt" tools/layers_picture.py --check
+passes "the codes of three letters" tools/language_codes.py
 
 echo "repository: $passed passed, $failed failed"
 [ "$failed" = 0 ]

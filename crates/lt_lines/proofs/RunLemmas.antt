@@ -6,9 +6,8 @@ use Rattle.std.proofs.Math.Seq.{take-append_seam}
 use Rattle.lt_jar.specs.Devices.{failures_of, inner_of, HasFailed, after_reads, last_given_of, one_more, reads_of}
 use Rattle.lt_jar.specs.declared.devices.Device.{Device}
 use Rattle.lt_lines.specs.DeviceOutput.{IsFrontOf}
-use Rattle.lt_lines.specs.declared.quotes.Place.TheVariants as places
 use Rattle.lt_lines.specs.Answering.{CountsFeed, IsTaken, TakesPiece, WritesOwed, place_then, part_kept, FinishesLines, HasRoom, IsFresh, IsStop, OwesAll}
-use Rattle.lt_lines.specs.Owed.{IsOneLine, Terms, EndsInQuotes, IsBegun, IsOwed, units_of}
+use Rattle.lt_lines.specs.Owed.{IsOneLine, Terms, EndsInQuotes, IsBegun, units_of}
 use Rattle.lt_lines.specs.declared.answering.Answering.{Answering}
 use Rattle.lt_lines.specs.declared.faults.ToolFault.{ToolFault}
 use Rattle.lt_lines.proofs.DeviceLemmas.{failed_from}

@@ -1,6 +1,5 @@
 //! What to do about a fault that refused a text.
-ghost use Rattle.std.specs.Prelude.{◌≡◌, ◌==◌, ◌++◌, OnOk, map, option_map};
-ghost use Rattle.std.specs.List.{before_first};
+ghost use Rattle.std.specs.Prelude.{◌≡◌, ◌==◌, ◌++◌, OnOk, map, option_map, position};
 ghost use Rattle.lt_terminal.specs.Advice as spec;
 ghost use Rattle.lt_terminal.specs.Codes.{two_letters};
 
@@ -27,11 +26,19 @@ fn code_message(code: &[u8]) -> Option<&'static str>
     first_of(codes(), code)
 }
 
+/// Where the first hyphen is.
+fn hyphen(text: &[u8]) -> Option<usize>
+    ensures { result ≡ position (λ byte. byte == 45) text.now }
+{
+    text.iter().position(|byte| *byte == b'-')
+}
+
 /// What is before the first hyphen.
+#[tactic(auto, using(lt_lines::proofs::FaultLemmas::before_found, lt_lines::proofs::FaultLemmas::before_none))]
 fn first_subtag(text: &[u8]) -> &[u8]
     ensures { result.now ≡ spec.first_subtag text.now }
 {
-    match text.iter().position(|byte| *byte == b'-') {
+    match hyphen(text) {
         Some(end) => &text[..end],
         None => text,
     }

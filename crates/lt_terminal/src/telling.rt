@@ -1,5 +1,5 @@
 //! What a person is told after a run.
-ghost use Rattle.std.specs.Prelude.{◌≡◌, ◌==◌, ◌++◌, IfOk, OnOk, option_map};
+ghost use Rattle.std.specs.Prelude.{◌≡◌, ◌==◌, ◌++◌, IfOk, OnOk, option_map, position};
 ghost use Rattle.std.specs.List.{before_first, slice_split};
 ghost use Rattle.lt_jar.specs.Devices.{inner_of};
 ghost use Rattle.lt_terminal.specs.People.{IsAsked, IsFront, Tells, told_lines, told_of};
@@ -69,11 +69,19 @@ fn line_message(line: &[u8]) -> Option<&'static str>
     }
 }
 
+/// Where the first line feed is.
+fn line_end(front: &[u8]) -> Option<usize>
+    ensures { result ≡ position (λ byte. byte == 10) front.now }
+{
+    front.iter().position(|byte| *byte == b'\n')
+}
+
 /// The first line of what was written, as far as it is kept.
+#[tactic(auto, using(lt_lines::proofs::FaultLemmas::before_found, lt_lines::proofs::FaultLemmas::before_none))]
 fn first_line(front: &[u8]) -> &[u8]
     ensures { result.now ≡ before_first (λ byte. byte == 10) front.now }
 {
-    match front.iter().position(|byte| *byte == b'\n') {
+    match line_end(front) {
         Some(end) => &front[..end],
         None => front,
     }

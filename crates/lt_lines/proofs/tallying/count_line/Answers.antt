@@ -1,4 +1,4 @@
-use Rattle.std.proofs.Common.{arith, ◌≡◌, ◌∙◌, ℕ, ap, length, min, refl, take}
+use Rattle.std.proofs.Common.{arith, ◌≡◌, ◌∙◌, ap, length, min, refl, take}
 use Rattle.std.proofs.lemmas.List.{take_min}
 use Rattle.std.proofs.lemmas.Result.{on_ok_weaker}
 use Rattle.lt_tallies.specs.Tallies.{refused}
