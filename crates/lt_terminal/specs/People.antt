@@ -64,15 +64,22 @@ told_lines unit result answered refusal shown said =
 abbrev pub IsFront : Option (List ℕ) → List ℕ → Type 0
 IsFront contents front = (bytes : List ℕ) → contents ≡ Some bytes → front ≡ take most_kept bytes
 
--- a person is told these lines, unless there is no memory for them
-pub record SaysLines {T : Type 0} (unit : Option (List ℕ)) (result : ℕ) (answered : Answered) (shown said : Option (List ℕ))
-    (people : Stream T) : Type 0 where
-  pub refusal : List ℕ
+-- the lines that a person is told of these bytes on the output and those on the errors
+pub record AreTold (unit : Option (List ℕ)) (result : ℕ) (answered : Answered) (refusal : List ℕ) (shown said : Option (List ℕ))
+    (lines : List ℕ) : Type 0 where
   pub output_front : List ℕ
   pub errors_front : List ℕ
   pub of_output : IsFront shown output_front
   pub of_errors : IsFront said errors_front
-  pub says : Says people (told_lines unit result answered refusal output_front errors_front)
+  pub lines_are : lines ≡ told_lines unit result answered refusal output_front errors_front
+
+-- a person is told these lines, unless there is no memory for them
+pub record SaysLines {T : Type 0} (unit : Option (List ℕ)) (result : ℕ) (answered : Answered) (shown said : Option (List ℕ))
+    (people : Stream T) : Type 0 where
+  pub refusal : List ℕ
+  pub lines : List ℕ
+  pub are_told : AreTold unit result answered refusal shown said lines
+  pub says : Says people lines
 
 -- what a person is told after a run that ended so, where the words name a command
 abbrev pub Tells : {T : Type 0} → Option (Option (List ℕ)) → (result : ℕ) → Answered → (shown said : Option (List ℕ)) → Stream T → Type 0

@@ -2,7 +2,7 @@
 ghost use Rattle.std.specs.Prelude.{◌≡◌, ◌==◌, ◌++◌, IfOk, OnOk, option_map, position};
 ghost use Rattle.std.specs.List.{before_first, slice_split};
 ghost use Rattle.lt_jar.specs.Devices.{inner_of};
-ghost use Rattle.lt_terminal.specs.People.{IsAsked, IsFront, Tells, told_lines, told_of};
+ghost use Rattle.lt_terminal.specs.People.{AreTold, IsAsked, IsFront, Tells, told_lines, told_of};
 ghost use Rattle.lt_terminal.specs.People as spec;
 ghost use Rattle.lt_tool.specs.Program.{texts_of};
 ghost use Rattle.lt_tool.specs.Streams.{stream};
@@ -157,6 +157,24 @@ fn lines_of(
     Ok(told)
 }
 
+/// The lines that a person is told after a run that wrote to these.
+fn told_of_run<O: Write, E: Write>(
+    alloc: Global,
+    unit: Option<&str>,
+    status: u8,
+    answered: &Answered,
+    refusal: &str,
+    output: &mut Device<Watched<O>>,
+    errors: &mut Device<Watched<E>>,
+) -> io::Result<Vec<u8>>
+    ensures { IfOk result (λ lines. AreTold (option_map (λ text. text.now) unit) status answered.now refusal.now (⟦<Watched<O> as Write>⟧.contents (inner_of output.old))
+        (⟦<Watched<E> as Write>⟧.contents (inner_of errors.old)) lines.items) }
+{
+    let shown = front_of(alloc, output)?;
+    let said = front_of(alloc, errors)?;
+    Ok(lines_of(alloc, unit, status, answered, refusal, &shown, &said)?)
+}
+
 /// Writes a text, up to the first write that fails, which the device counts.
 pub(crate) fn say<T: Write>(text: &[u8], people: &mut Device<T>)
     ensures { Says (stream T.contents people.old people.new) text.now }
@@ -181,10 +199,7 @@ pub(crate) fn tell<O: Write, E: Write, T: Write>(
     let Some(unit) = asked else {
         return;
     };
-    let (Ok(shown), Ok(said)) = (front_of(alloc, output), front_of(alloc, errors)) else {
-        return;
-    };
-    if let Ok(lines) = lines_of(alloc, unit, status, answered, refusal, &shown, &said) {
+    if let Ok(lines) = told_of_run(alloc, unit, status, answered, refusal, output, errors) {
         say(&lines, people);
     }
 }
