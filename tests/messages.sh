@@ -7,7 +7,7 @@ program=$(mktemp)
 trap 'rm -f "$manual" "$program"' EXIT
 sed -n '/^\.SH NAMES OF FAULTS/,/^\.SH AT A TERMINAL/p' docs/langtag.1 |
     awk '/^\.TP/ { getline; name = substr($0, 4); getline; print name ": " $0 }' | sed 's/\\-/-/g; s/\\e/\\/g' > "$manual"
-sed -n '/^const MESSAGES/,/^\];/p' crates/lt_messages/src/meanings.rt | sed -n 's/^    "\(.*\)",$/\1/p' > "$program"
+sed -n '/^const MESSAGES/,/^\];/p' crates/lt_terminal/src/meanings.rt | sed -n 's/^    "\(.*\)",$/\1/p' > "$program"
 if ! diff "$manual" "$program"; then
     echo 'the manual and the program differ'
     exit 1

@@ -70,6 +70,7 @@ if not dict(named) == parts.LICENCES or not set(parts.LICENCES) == inside == pac
 END
 
 passes "CONTRIBUTING.md has the picture of crates.txt" tools/layers_picture.py --check
+passes "the codes of three letters" tools/language_codes.py
 
 # Each example of docs/LIBRARY.md stands so in the file that it names, item by item; the first is a whole program.
 passes "docs/LIBRARY.md's examples are those of its crates" python3 -B - << 'END'

@@ -2,8 +2,8 @@
 #![tactic(auto)]
 
 use lt_jar::Device;
-use lt_people::{Openings, Progress, run_for_people};
-use lt_tool::run_program;
+use lt_terminal::{Openings, Progress, run_for_people};
+use lt_tool::{Answered, run_program};
 use std::io::IsTerminal;
 use std::process::ExitCode;
 use std::{env, fs};
@@ -36,6 +36,7 @@ fn main(rt: HostRuntime) -> ExitCode {
             &mut input,
             &mut output,
             &mut errors,
+            &mut Answered::new(rt.alloc()),
         )
     };
     ExitCode::from(status)

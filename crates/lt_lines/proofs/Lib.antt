@@ -2,5 +2,8 @@
 pub mod DeviceLemmas
 pub mod RowLemmas
 pub mod TakenLemmas
+mod TalliedLemmas
+mod KeptLemmas
 pub mod TextLemmas
 pub mod RunLemmas
+pub mod FaultLemmas

@@ -7,15 +7,17 @@ use Rattle.lt_jar.specs.Devices.{failures_of, inner_of, HasFailed, after_reads, 
 use Rattle.lt_jar.specs.declared.devices.Device.{Device}
 use Rattle.lt_jar.specs.Lines.{IsOneLine}
 use Rattle.lt_lines.specs.DeviceOutput.{IsFrontOf}
-use Rattle.lt_lines.specs.declared.quotes.Place.TheVariants as places
-use Rattle.lt_lines.specs.Answering.{CountsFeed, IsTaken, TakesPiece, WritesOwed, place_then, part_kept, AreRecent, FinishesLines, HasRoom, IsStop}
-use Rattle.lt_lines.specs.Owed.{Terms, EndsInQuotes, IsBegun, IsOwed, units_of}
+use Rattle.lt_lines.specs.Answering.{CountsFeed, IsTaken, TakesPiece, WritesOwed, place_then, part_kept, FinishesLines, HasRoom, IsFresh, IsStop, OwesAll}
+use Rattle.lt_lines.specs.Owed.{Terms, EndsInQuotes, IsBegun, units_of}
 use Rattle.lt_lines.specs.declared.answering.Answering.{Answering}
 use Rattle.lt_lines.specs.declared.faults.ToolFault.{ToolFault}
 use Rattle.lt_lines.proofs.DeviceLemmas.{failed_from}
 use Rattle.lt_lines.proofs.TakenLemmas.{begun_front, begun_nothing, taken_part, taken_write, begun_to_last_feed, owed_to_last_feed, taken_room, of_none}
 use Rattle.lt_jar.specs.Sources.{most_reads}
 use Rattle.lt_lines.specs.Running.{EndsAs, HasRead, RunsLines}
+use Rattle.lt_lines.specs.Tallied.{AreTalliesOf}
+use Rattle.lt_tallies.proofs.TallyLemmas.{no_tallies}
+use Rattle.lt_tallies.specs.declared.Tally.{Tally}
 use Rattle.lt_lines.specs.declared.runs.Counts.{Counts}
 use Rattle.lt_lines.specs.declared.faults.ToolFault.TheVariants as faults
 
@@ -84,16 +86,16 @@ module _ {W : Type 0} (T : Terms) (contents : W → Option (List ℕ)) (piece re
 
   -- the rest of the piece is kept
   pub turn_kept : (mid : Answering) → IsOneLine rest → mid.kept.items ≡ now.kept.items ++ part_kept T.form (length now.kept.items) rest
-      → mid.place ≡ place_then T.form now.place rest → mid.feeds ≡ now.feeds → mid.owed.items ≡ now.owed.items → mid.counts ≡ now.counts → mid.recent ≡ now.recent
+      → mid.place ≡ place_then T.form now.place rest → mid.feeds ≡ now.feeds → mid.owed.items ≡ now.owed.items → mid.counts ≡ now.counts → mid.tallies ≡ now.tallies → mid.recent ≡ now.recent
       → PieceTurn T contents piece [] old mid before between
-  turn_kept mid one kept inside feeds owed counts recent = record {
+  turn_kept mid one kept inside feeds owed counts tallies recent = record {
     front = piece;
     split = sym (append-nil piece);
     written = t.written;
     appends = t.appends;
     failures = t.failures;
     taken = λ bytes out old_taken. rw (t.split, ← append_assoc bytes t.front rest)
-        (taken_part T (bytes ++ t.front) (out ++ t.written) rest now mid (t.taken bytes out old_taken) one kept inside feeds owed counts recent);
+        (taken_part T (bytes ++ t.front) (out ++ t.written) rest now mid (t.taken bytes out old_taken) one kept inside feeds owed counts tallies recent);
     room = rw counts (omega (arith, t.room));
     feeds = omega (arith, t.feeds, feeds);
     refused = rw counts t.refused;
@@ -135,9 +137,8 @@ pub record ReadsPiece {I : Type 0} (remaining : I → Option (List ℕ)) (before
   pub failures : failures_of after ≡ failures_of before
 
 pub run_first : {I O : Type 0} (T : Terms) (remaining : I → Option (List ℕ)) (contents : O → Option (List ℕ)) (input : Device I) (output : Device O) (state : Answering)
-    → (state.kept.items ≡ []) × (state.owed.items ≡ []) → (state.place ≡ places.Fresh) × (state.feeds ≡ 0) → (state.counts.lines ≡ 0) × (state.counts.refused ≡ 0) → ((T : Terms) → AreRecent T state.recent)
-    → RunTurn T remaining contents input input output output state 0
-run_first T remaining contents input output state items place counts recent = record {
+    → IsFresh state → RunTurn T remaining contents input input output output state 0
+run_first T remaining contents input output state fresh = record {
   read = [];
   written = [];
   consumes = Consumes-nil _;
@@ -148,17 +149,18 @@ run_first T remaining contents input output state items place counts recent = re
     cut = refl;
     each_one = tt;
     last_one = (of_none T.form).unit;
-    kept = items.0 ∙ sym (of_none T.form).kept;
-    goes_on = place.0 ∙ sym (of_none T.form).closed;
-    feeds = place.1;
+    kept = fresh.items.0 ∙ sym (of_none T.form).kept;
+    goes_on = fresh.place.0 ∙ sym (of_none T.form).closed;
+    feeds = fresh.place.1;
     owed = [];
     each = tt;
-    all = items.1;
-    count = counts.0;
-    refused = counts.1;
-    recent = recent T;
+    all = fresh.items.1;
+    count = fresh.counts.0;
+    refused = fresh.counts.1;
+    tallied = record { refusals = []; are_refused = refl; tallied = rw fresh.tallies no_tallies };
+    recent = fresh.recent T;
   };
-  emptied = items.1;
+  emptied = fresh.items.1;
   calls = refl;
   some = omega arith;
   last_gave = λ some. absurd (omega (arith, some));
@@ -172,9 +174,9 @@ pub read_more : {I : Type 0} (input before after : Device I) (turn : ℕ) → Ha
 read_more input before after turn has more = more ∙ ap one_more has ∙ ap (after_reads (reads_of input)) (sym (add-one turn))
 
 -- memory ran out for the pieces
-pub run_lacks : {I O : Type 0} (T : Terms) (remaining : I → Option (List ℕ)) (contents : O → Option (List ℕ)) (input : Device I) (output : Device O)
-    → RunsLines T remaining contents input input output output (Err faults.OutOfMemory)
-run_lacks T remaining contents input output = record {
+pub run_lacks : {I O : Type 0} (T : Terms) (remaining : I → Option (List ℕ)) (contents : O → Option (List ℕ)) (input : Device I) (output : Device O) (tallies : List Tally)
+    → RunsLines T remaining contents input input output output tallies (Err faults.OutOfMemory)
+run_lacks T remaining contents input output tallies = record {
   read = [];
   written = [];
   reads = 0;
@@ -214,7 +216,7 @@ module _ {I O : Type 0} (T : Terms) (remaining : I → Option (List ℕ)) (conte
 
   -- a read failed
   pub run_failed : (after : Device I) → turn < most_reads → Keeps (remaining (inner_of before)) (remaining (inner_of after)) → reads_of after ≡ one_more (reads_of before)
-      → HasFailed before after → RunsLines T remaining contents input after output between (Err faults.Read)
+      → HasFailed before after → RunsLines T remaining contents input after output between state.tallies (Err faults.Read)
   run_failed after few kept more failed = record {
     read = t.read;
     written = t.written;
@@ -224,13 +226,13 @@ module _ {I O : Type 0} (T : Terms) (remaining : I → Option (List ℕ)) (conte
     begun = begun_nothing T t.read t.written [] t.read state t.taken (sym (append-nil t.read));
     calls = read_more input before after turn t.calls more;
     bounded = omega (arith, few);
-    ends = record { failed = failed_from input before after t.read_failures failed; owed = owed_to_last_feed T t.read t.written state t.taken t.emptied };
+    ends = record { failed = failed_from input before after t.read_failures failed; owed = owed_to_last_feed T t.read t.written state t.taken t.emptied; tallied = t.taken.tallied };
     read_rises = λ lt. refl;
     write_rises = λ lt. absurd (omega (arith, lt, t.write_failures));
   }
 
   -- all reads were made
-  pub run_turns : turn ≡ most_reads → RunsLines T remaining contents input before output between (Err faults.TooManyTurns)
+  pub run_turns : turn ≡ most_reads → RunsLines T remaining contents input before output between state.tallies (Err faults.TooManyTurns)
   run_turns all = record {
     read = t.read;
     written = t.written;
@@ -240,16 +242,16 @@ module _ {I O : Type 0} (T : Terms) (remaining : I → Option (List ℕ)) (conte
     begun = begun_nothing T t.read t.written [] t.read state t.taken (sym (append-nil t.read));
     calls = t.calls;
     bounded = omega (arith, all);
-    ends = record { all_made = all; gave_bytes = omega (arith, all, t.some); last_gave = t.last_gave (omega (arith, all)); owed = owed_to_last_feed T t.read t.written state t.taken t.emptied };
+    ends = record { all_made = all; gave_bytes = omega (arith, all, t.some); last_gave = t.last_gave (omega (arith, all)); owed = owed_to_last_feed T t.read t.written state t.taken t.emptied; tallied = t.taken.tallied };
     read_rises = λ lt. absurd (omega (arith, lt, t.read_failures));
     write_rises = λ lt. absurd (omega (arith, lt, t.write_failures));
   }
 
   -- a run that ends after a read
-  run_after : (after : Device I) (last : Device O) (piece part : List ℕ) (r : Result Counts ToolFault) → turn < most_reads → ReadsPiece remaining before after piece
-      → Appends (contents (inner_of between)) (contents (inner_of last)) part → IsBegun T (t.read ++ piece) (t.written ++ part) → EndsAs T remaining input after output last (turn + 1) (t.read ++ piece) (t.written ++ part) r
-      → (failures_of output < failures_of last → r ≡ Err faults.Write) → RunsLines T remaining contents input after output last r
-  run_after after last piece part r few reads appends begun ends rises = record {
+  run_after : (after : Device I) (last : Device O) (piece part : List ℕ) (tallies : List Tally) (r : Result Counts ToolFault) → turn < most_reads → ReadsPiece remaining before after piece
+      → Appends (contents (inner_of between)) (contents (inner_of last)) part → IsBegun T (t.read ++ piece) (t.written ++ part) → EndsAs T remaining input after output last (turn + 1) (t.read ++ piece) (t.written ++ part) tallies r
+      → (failures_of output < failures_of last → r ≡ Err faults.Write) → RunsLines T remaining contents input after output last tallies r
+  run_after after last piece part tallies r few reads appends begun ends rises = record {
     read = t.read ++ piece;
     written = t.written ++ part;
     reads = turn + 1;
@@ -264,27 +266,29 @@ module _ {I O : Type 0} (T : Terms) (remaining : I → Option (List ℕ)) (conte
   }
 
   -- a run over lines that could not all be answered or written
-  pub run_stopped : (after : Device I) (last : Device O) (piece part : List ℕ) (f : ToolFault) → turn < most_reads → ReadsPiece remaining before after piece
-      → Appends (contents (inner_of between)) (contents (inner_of last)) part → IsStop between last f → IsBegun T (t.read ++ piece) (t.written ++ part) → RunsLines T remaining contents input after output last (Err f)
-  run_stopped after last piece part f few reads appends (inl wrote) begun = rw wrote.0
-      (run_after after last piece part _ few reads appends begun (failed_from output between last t.write_failures wrote.1) (λ _. refl))
-  run_stopped after last piece part f few reads appends (inr lacks) begun = rw lacks.0
-      (run_after after last piece part _ few reads appends begun tt (λ lt. absurd (omega (arith, lt, t.write_failures, lacks.1))))
+  pub run_stopped : (after : Device I) (last : Device O) (piece part : List ℕ) (tallies : List Tally) (f : ToolFault) → turn < most_reads → ReadsPiece remaining before after piece
+      → Appends (contents (inner_of between)) (contents (inner_of last)) part → IsStop between last f → IsBegun T (t.read ++ piece) (t.written ++ part) → RunsLines T remaining contents input after output last tallies (Err f)
+  run_stopped after last piece part tallies f few reads appends (inl wrote) begun = rw wrote.0
+      (run_after after last piece part tallies _ few reads appends begun (failed_from output between last t.write_failures wrote.1) (λ _. refl))
+  run_stopped after last piece part tallies f few reads appends (inr lacks) begun = rw lacks.0
+      (run_after after last piece part tallies _ few reads appends begun tt (λ lt. absurd (omega (arith, lt, t.write_failures, lacks.1))))
 
   -- the reader was at its end
-  pub run_finished : (after : Device I) (last : Device O) (r : Result Counts ToolFault) → turn < most_reads → ReadsPiece remaining before after [] → IsAtEnd (remaining (inner_of after))
-      → FinishesLines T contents state between last r → RunsLines T remaining contents input after output last r
-  run_finished after last (Ok counts) few reads end f =
-      let owed : IsOwed T (t.read ++ []) (t.written ++ f.written) counts = rw (append-nil t.read) (f.done.1 t.read t.written t.taken) in
-      run_after after last [] f.written (Ok counts) few reads f.appends
+  pub run_finished : (after : Device I) (last : Device O) (new : Answering) (r : Result Counts ToolFault) → turn < most_reads → ReadsPiece remaining before after [] → IsAtEnd (remaining (inner_of after))
+      → FinishesLines T contents state new between last r → RunsLines T remaining contents input after output last new.tallies r
+  run_finished after last new (Ok counts) few reads end f =
+      let all : OwesAll T (t.read ++ []) (t.written ++ f.written) counts new.tallies = rw (append-nil t.read) (f.done.1 t.read t.written t.taken) in
+      let owed = all.all in
+      run_after after last [] f.written new.tallies (Ok counts) few reads f.appends
       (record { lines = units_of T.form (t.read ++ []); others = []; cut = sym (append-nil (units_of T.form (t.read ++ []))); owed = owed.owed; each = owed.each; rest = []; front = sym owed.all ∙ sym (append-nil _) })
-      (record { end = end; owed = owed }) (λ lt. absurd (omega (arith, lt, f.done.0, t.write_failures)))
-  run_finished after last (Err e) few reads end f = elim f.stopped [
+      (record { end = end; owed = owed; tallied = all.tallied }) (λ lt. absurd (omega (arith, lt, f.done.0, t.write_failures)))
+  run_finished after last new (Err e) few reads end f = elim f.stopped [
     | inl q ↦
-        let quotes : EndsInQuotes T (t.read ++ []) (t.written ++ f.written) q.line = rw (append-nil t.read) (q.ends t.read t.written t.taken t.emptied) in
-        rw q.fault (run_after after last [] f.written (Err (faults.BadCsv q.line)) few reads f.appends (begun_to_last_feed T (t.read ++ []) (t.written ++ f.written) quotes.owed)
-        (record { end = end; ends = quotes }) (λ lt. absurd (omega (arith, lt, q.same, t.write_failures))))
-    | inr stop ↦ run_stopped after last [] f.written e few reads f.appends stop.0 (rw (append-nil t.read) (stop.1 t.read t.written t.taken))
+        let quotes : (e : EndsInQuotes T (t.read ++ []) (t.written ++ f.written) q.line) × AreTalliesOf T.form e.owed.lines e.owed.owed new.tallies =
+            rw (append-nil t.read) (q.ends t.read t.written t.taken t.emptied) in
+        rw q.fault (run_after after last [] f.written new.tallies (Err (faults.BadCsv q.line)) few reads f.appends (begun_to_last_feed T (t.read ++ []) (t.written ++ f.written) quotes.0.owed)
+        (record { end = end; ends = quotes.0; tallied = quotes.1 }) (λ lt. absurd (omega (arith, lt, q.same, t.write_failures))))
+    | inr stop ↦ run_stopped after last [] f.written new.tallies e few reads f.appends stop.0 (rw (append-nil t.read) (stop.1 t.read t.written t.taken))
   ]
 
   -- the counts have room for the lines of a piece

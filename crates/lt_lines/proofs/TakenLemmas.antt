@@ -5,10 +5,11 @@ use Rattle.std.specs.List.{AllByRecursion}
 use Rattle.std.proofs.lemmas.List.Elements.{All-append, All-head, All-tail}
 use Rattle.std.proofs.lemmas.List.Sums.{sum_by-append, count_by-le-length}
 use Rattle.lt_jar.proofs.CutLemmas.{lines_of-ended, lines_of-last}
-use Rattle.lt_jar.specs.Lines.{IsOneLine}
-use Rattle.lt_lines.specs.Answering.{kept_of, one_if, place_then, AreRecent, GoesOn, IsAnswered, IsTaken, IsWholeAfter, KeepsLine, longest_kept, part_kept}
-use Rattle.lt_lines.specs.Owed.{AreRepliesFrom, IsReplyTo, IsUnit, IsWhole, Reply, Terms, bytes_in, ended, feeds_in, is_open, place_of, refused_in, units_of, EndsInQuotes, IsBegun, IsOwed, IsOwedToLastFeed}
+use Rattle.lt_lines.specs.Answering.{kept_of, one_if, place_then, AreRecent, GoesOn, IsAnswered, IsTaken, IsWholeAfter, KeepsLine, OwesAll, longest_kept, part_kept}
+use Rattle.lt_lines.specs.Owed.{AreRepliesFrom, IsReplyTo, IsUnit, IsWhole, Reply, Terms, bytes_in, ended, feeds_in, is_open, place_of, refused_in, units_of, EndsInQuotes, IsBegun, IsOwedToLastFeed}
 use Rattle.lt_lines.specs.Quotes.{is_quoted, place_at}
+use Rattle.lt_lines.specs.Tallied.{AreTalliesOf, CountsIf}
+use Rattle.lt_lines.proofs.TalliedLemmas.{tallied_more}
 use Rattle.lt_lines.specs.declared.quotes.Place.{Place}
 use Rattle.lt_lines.specs.declared.quotes.Place.TheVariants as places
 use Rattle.lt_lines.specs.declared.forms.LineForm.{LineForm}
@@ -167,8 +168,10 @@ kept_open form kept last is inside = is
 pub taken_line : (T : Terms) (bytes out part : List ℕ) (r : Reply) (old new : Answering) → IsTaken T bytes out old → IsWholeAfter T.form old.place part
     → ((last : List ℕ) → old.kept.items ≡ kept_of T.form last → IsReplyTo T (old.counts.lines == 0) (last ++ part) r)
     → new.owed.items ≡ old.owed.items ++ r.bytes → new.kept.items ≡ [] → new.place ≡ places.Fresh → new.feeds ≡ old.feeds + 1 → new.counts.lines ≡ old.counts.lines + 1
-    → new.counts.refused ≡ old.counts.refused + one_if r.refused → AreRecent T new.recent → IsTaken T (bytes ++ (part ++ 10 ∷ [])) out new
-taken_line T bytes out part r old new t one owed_for grown none closed feeds lines refusals recent =
+    → new.counts.refused ≡ old.counts.refused + one_if r.refused → old.counts.lines + 1 < 18446744073709551616
+    → ((last : List ℕ) → old.kept.items ≡ kept_of T.form last → CountsIf T.form (old.counts.lines + 1) (last ++ part) r.bytes r.refused old.tallies new.tallies)
+    → AreRecent T new.recent → IsTaken T (bytes ++ (part ++ 10 ∷ [])) out new
+taken_line T bytes out part r old new t one owed_for grown none closed feeds lines refusals room tally recent =
     let whole = t.last ++ part in
     record {
       lines = t.lines ++ whole ∷ [];
@@ -187,13 +190,15 @@ taken_line T bytes out part r old new t one owed_for grown none closed feeds lin
       all = ap (λ (l : List ℕ). out ++ l) grown ∙ sym (append_assoc out old.owed.items r.bytes) ∙ ap (λ (l : List ℕ). l ++ r.bytes) t.all ∙ sym (bytes_in-last t.owed r);
       count = omega (arith, lines, t.count, length-append t.owed (r ∷ []));
       refused = refusals ∙ ap (λ (n : ℕ). n + one_if r.refused) t.refused ∙ sym (refused_in-last t.owed r);
+      tallied = tallied_more T t.lines t.owed whole r old.tallies new.tallies t.each (omega (arith, room, t.count)) t.tallied
+          (subst (λ (n : ℕ). CountsIf T.form (n + 1) whole r.bytes r.refused old.tallies new.tallies) t.count (tally t.last t.kept));
       recent = recent;
     }
 
 -- a line went on
 taken_more : (T : Terms) (bytes out more : List ℕ) (old new : Answering) (t : IsTaken T bytes out old) → IsUnit T.form (t.last ++ more) → new.kept.items ≡ kept_of T.form (t.last ++ more)
-    → new.place ≡ place_of T.form (t.last ++ more) → new.feeds ≡ old.feeds + feeds_in more → new.owed.items ≡ old.owed.items → new.counts ≡ old.counts → new.recent ≡ old.recent → IsTaken T (bytes ++ more) out new
-taken_more T bytes out more old new t one kept inside feeds owed counts recent = record {
+    → new.place ≡ place_of T.form (t.last ++ more) → new.feeds ≡ old.feeds + feeds_in more → new.owed.items ≡ old.owed.items → new.counts ≡ old.counts → new.tallies ≡ old.tallies → new.recent ≡ old.recent → IsTaken T (bytes ++ more) out new
+taken_more T bytes out more old new t one kept inside feeds owed counts tallies recent = record {
   lines = t.lines;
   last = t.last ++ more;
   cut = ap (λ (l : List ℕ). l ++ more) t.cut ∙ append_assoc (ended t.lines) t.last more;
@@ -207,6 +212,7 @@ taken_more T bytes out more old new t one kept inside feeds owed counts recent =
   all = rw owed t.all;
   count = rw counts t.count;
   refused = rw counts t.refused;
+  tallied = rw tallies t.tallied;
   recent = rw recent t.recent;
 }
 
@@ -221,15 +227,15 @@ taken_within T bytes out part old new t one inside g =
     let front = old.kept.items ++ part_kept T.form (length old.kept.items) part in
     taken_more T bytes out (part ++ 10 ∷ []) old new t (subst (IsUnit T.form) split fed.0)
     (kept_more T.form front whole (10 ∷ []) new.kept.items (kept_more T.form old.kept.items t.last part front t.kept refl) g.kept ∙ ap (kept_of T.form) split)
-    (g.goes_on ∙ sym fed.1 ∙ ap (place_of T.form) split) (g.feeds ∙ ap (λ n. old.feeds + n) (sym (one_feed [] part one))) g.owed g.counts g.recent
+    (g.goes_on ∙ sym fed.1 ∙ ap (place_of T.form) split) (g.feeds ∙ ap (λ n. old.feeds + n) (sym (one_feed [] part one))) g.owed g.counts g.tallies g.recent
 
 -- with no line feed
 pub taken_part : (T : Terms) (bytes out part : List ℕ) (old new : Answering) → IsTaken T bytes out old → IsOneLine part
     → new.kept.items ≡ old.kept.items ++ part_kept T.form (length old.kept.items) part → new.place ≡ place_then T.form old.place part → new.feeds ≡ old.feeds
-    → new.owed.items ≡ old.owed.items → new.counts ≡ old.counts → new.recent ≡ old.recent → IsTaken T (bytes ++ part) out new
-taken_part T bytes out part old new t one kept inside feeds owed counts recent =
+    → new.owed.items ≡ old.owed.items → new.counts ≡ old.counts → new.tallies ≡ old.tallies → new.recent ≡ old.recent → IsTaken T (bytes ++ part) out new
+taken_part T bytes out part old new t one kept inside feeds owed counts tallies recent =
     taken_more T bytes out part old new t (unit-append T.form t.last part t.last_one one) (kept_more T.form old.kept.items t.last part new.kept.items t.kept kept)
-    (inside ∙ ap (λ p. place_then T.form p part) t.goes_on ∙ sym (place_of-append T.form t.last part)) (omega (arith, feeds, no_feeds part one)) owed counts recent
+    (inside ∙ ap (λ p. place_then T.form p part) t.goes_on ∙ sym (place_of-append T.form t.last part)) (omega (arith, feeds, no_feeds part one)) owed counts tallies recent
 
 -- some of what is owed was written
 pub taken_write : (T : Terms) (bytes out part : List ℕ) (old new : Answering) → IsTaken T bytes out old → KeepsLine old new
@@ -248,6 +254,7 @@ taken_write T bytes out part old new t same wrote = record {
   all = append_assoc out part new.owed.items ∙ ap (λ (l : List ℕ). out ++ l) (sym wrote) ∙ t.all;
   count = rw same.counts t.count;
   refused = rw same.counts t.refused;
+  tallied = rw same.tallies t.tallied;
   recent = rw same.recent t.recent;
 }
 
@@ -286,6 +293,7 @@ answered_by T bytes others out state t closed all = record {
   all = t.all;
   count = t.count;
   refused = t.refused;
+  tallied = rw all t.tallied;
 }
 
 -- no line feed is at the end, or all lines are ended
@@ -321,14 +329,17 @@ last_answered T old new (Err _) some closed taken none = tt
 
 -- all that is owed was written
 pub owed_all : (T : Terms) (bytes out part : List ℕ) (state new : Answering) → IsAnswered T bytes out state → KeepsLine state new
-    → state.owed.items ≡ part ++ new.owed.items → new.owed.items ≡ [] → IsOwed T bytes (out ++ part) new.counts
+    → state.owed.items ≡ part ++ new.owed.items → new.owed.items ≡ [] → OwesAll T bytes (out ++ part) new.counts new.tallies
 owed_all T bytes out part state new a same wrote none = record {
-  closed = a.closed;
-  owed = a.owed;
-  each = a.each;
-  all = ap (λ (l : List ℕ). out ++ l) (sym (append-nil part) ∙ ap (λ (l : List ℕ). part ++ l) (sym none) ∙ sym wrote) ∙ a.all;
-  lines = rw same.counts a.count;
-  refused = rw same.counts a.refused;
+  all = record {
+    closed = a.closed;
+    owed = a.owed;
+    each = a.each;
+    all = ap (λ (l : List ℕ). out ++ l) (sym (append-nil part) ∙ ap (λ (l : List ℕ). part ++ l) (sym none) ∙ sym wrote) ∙ a.all;
+    lines = rw same.counts a.count;
+    refused = rw same.counts a.refused;
+  };
+  tallied = rw same.tallies a.tallied;
 }
 
 -- what is answered is a front of what is owed
@@ -367,15 +378,15 @@ owed_to_last_feed T read written state t none = record {
 
 -- a quote is open at the end
 pub ends_in_quotes : (T : Terms) (bytes out : List ℕ) (state : Answering) (line : ℕ) → IsTaken T bytes out state → state.owed.items ≡ [] → is_quoted state.place ≡ true
-    → line ≡ (state.feeds - feeds_in state.kept.items) + 1 → EndsInQuotes T bytes out line
+    → line ≡ (state.feeds - feeds_in state.kept.items) + 1 → (e : EndsInQuotes T bytes out line) × AreTalliesOf T.form e.owed.lines e.owed.owed state.tallies
 ends_in_quotes T bytes out state line t none inside begins =
     let last : state.kept.items ≡ t.last = kept_open T.form state.kept.items t.last t.kept (ap is_quoted (sym t.goes_on) ∙ inside) in
     let all : feeds_in bytes ≡ feeds_in (ended t.lines) + feeds_in t.last = ap feeds_in t.cut ∙ feeds_in-append (ended t.lines) t.last in
-    record {
+    (record {
       owed = owed_to_last_feed T bytes out state t none;
       inside = ap is_quoted (sym t.goes_on) ∙ inside;
       begins = omega (arith, begins, t.feeds, all, ap feeds_in last);
-    }
+    }, t.tallied)
 
 -- what is owed up to the last line feed is a front of what is owed
 pub begun_to_last_feed : (T : Terms) (bytes written : List ℕ) → IsOwedToLastFeed T bytes written → IsBegun T bytes written

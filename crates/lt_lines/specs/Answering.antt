@@ -14,6 +14,7 @@ use Rattle.lt_lines.specs.declared.quotes.Place.{Place}
 use Rattle.lt_lines.specs.declared.quotes.Place.TheVariants as places
 use Rattle.lt_lines.specs.Owed.{AreReplies, EndsInQuotes, IsBegun, IsOwed, IsReplyTo, IsRowReply, IsTextReply, IsUnit, IsWhole, Reply, Terms, bytes_in, ended, feeds_in, is_open, place_of, refused_in, reply, row_line, units_of}
 use Rattle.lt_lines.specs.DeviceOutput.{IsFrontOf}
+use Rattle.lt_lines.specs.Tallied.{AreTalliesOf}
 use Rattle.lt_recent.specs.declared.Kept.{Kept}
 use Rattle.lt_ends.specs.Ends.{AreEnds}
 use Rattle.lt_lines.specs.declared.recent_answers.RecentAnswers.{RecentAnswers}
@@ -22,6 +23,7 @@ use Rattle.lt_lines.specs.declared.forms.LineForm.{LineForm}
 use Rattle.lt_lines.specs.declared.forms.LineForm.TheVariants as forms
 use Rattle.lt_lines.specs.declared.rows.Separator.{Separator}
 use Rattle.lt_lines.specs.declared.runs.Counts.{Counts}
+use Rattle.lt_tallies.specs.declared.Tally.{Tally}
 use Rattle.lt_lines.specs.declared.faults.ToolFault.{ToolFault}
 use Rattle.lt_lines.specs.declared.faults.ToolFault.TheVariants as faults
 
@@ -49,6 +51,11 @@ abbrev pub part_kept : LineForm → ℕ → List ℕ → List ℕ
 part_kept forms.Tag count part = take (longest_kept - count) part
 part_kept (forms.Row before) count part = part
 part_kept (forms.Csv before) count part = part
+
+-- what is kept of a line once it is whole: nothing where nothing was kept of it before its last bytes
+abbrev pub KeepsPart : LineForm → (old part new : List ℕ) → Type 0
+KeepsPart form [] part new = new ≡ []
+KeepsPart form (byte ∷ old) part new = new ≡ (byte ∷ old) ++ part_kept form (length (byte ∷ old)) part
 
 -- the place after more bytes of a line, by that before them
 abbrev pub place_then : LineForm → Place → List ℕ → Place
@@ -128,6 +135,7 @@ pub record IsTaken (T : Terms) (bytes written : List ℕ) (state : Answering) : 
   pub all : written ++ state.owed.items ≡ bytes_in owed
   pub count : state.counts.lines ≡ length owed
   pub refused : state.counts.refused ≡ refused_in owed
+  pub tallied : AreTalliesOf T.form lines owed state.tallies
   pub recent : AreRecent T state.recent
 
 -- what is owed for these bytes is written or still kept
@@ -138,6 +146,7 @@ pub record IsAnswered (T : Terms) (bytes written : List ℕ) (state : Answering)
   pub all : written ++ state.owed.items ≡ bytes_in owed
   pub count : state.counts.lines ≡ length owed
   pub refused : state.counts.refused ≡ refused_in owed
+  pub tallied : AreTalliesOf T.form (units_of T.form bytes) owed state.tallies
 
 -- the counts have room for this many lines more
 pub record HasRoom (state : Answering) (lines : ℕ) : Type 0 where
@@ -159,7 +168,16 @@ pub record GoesOn (form : LineForm) (part : List ℕ) (old new : Answering) : Ty
   pub feeds : new.feeds ≡ old.feeds + 1
   pub owed : new.owed.items ≡ old.owed.items
   pub counts : new.counts ≡ old.counts
+  pub tallies : new.tallies ≡ old.tallies
   pub recent : new.recent ≡ old.recent
+
+-- nothing was taken so far
+pub record IsFresh (state : Answering) : Type 0 where
+  pub items : (state.kept.items ≡ []) × (state.owed.items ≡ [])
+  pub place : (state.place ≡ places.Fresh) × (state.feeds ≡ 0)
+  pub counts : (state.counts.lines ≡ 0) × (state.counts.refused ≡ 0)
+  pub tallies : state.tallies ≡ []
+  pub recent : (T : Terms) → AreRecent T state.recent
 
 -- all but what is owed is the same
 pub record KeepsLine (old new : Answering) : Type 0 where
@@ -167,6 +185,7 @@ pub record KeepsLine (old new : Answering) : Type 0 where
   pub goes_on : new.place ≡ old.place
   pub feeds : new.feeds ≡ old.feeds
   pub counts : new.counts ≡ old.counts
+  pub tallies : new.tallies ≡ old.tallies
   pub recent : new.recent ≡ old.recent
 
 -- some of the lines that are owed were written
@@ -194,24 +213,29 @@ pub record TakesPiece {W : Type 0} (T : Terms) (contents : W → Option (List �
       × ((bytes out : List ℕ) → IsTaken T bytes out old → IsBegun T (bytes ++ piece) (out ++ written)))
 
 -- a quote is open at the end, nothing more was written, and the record begins in the line that the fault tells
-pub record StopsInQuotes {W : Type 0} (T : Terms) (old : Answering) (before after : Device W) (written : List ℕ)
+pub record StopsInQuotes {W : Type 0} (T : Terms) (old new : Answering) (before after : Device W) (written : List ℕ)
     (f : ToolFault) : Type 0 where
   pub line : ℕ
   pub fault : f ≡ faults.BadCsv line
   pub same : failures_of after ≡ failures_of before
   pub ends : (bytes out : List ℕ) → IsTaken T bytes out old → old.owed.items ≡ []
-      → EndsInQuotes T bytes (out ++ written) line
+      → (e : EndsInQuotes T bytes (out ++ written) line) × AreTalliesOf T.form e.owed.lines e.owed.owed new.tallies
 
 -- what ends a run early after its reader: that, or a write or memory failed
-abbrev pub IsLastStop : {W : Type 0} → Terms → Answering → Device W → Device W → List ℕ → ToolFault → Type 0
-IsLastStop T old before after written f = StopsInQuotes T old before after written f
+abbrev pub IsLastStop : {W : Type 0} → Terms → (old new : Answering) → Device W → Device W → List ℕ → ToolFault → Type 0
+IsLastStop T old new before after written f = StopsInQuotes T old new before after written f
     ⊎ (IsStop before after f × ((bytes out : List ℕ) → IsTaken T bytes out old → IsBegun T bytes (out ++ written)))
 
+-- all that is owed for the bytes was written and counted, and what was refused of them is in the tallies
+pub record OwesAll (T : Terms) (bytes written : List ℕ) (counts : Counts) (tallies : List Tally) : Type 0 where
+  pub all : IsOwed T bytes written counts
+  pub tallied : AreTalliesOf T.form (units_of T.form bytes) all.owed tallies
+
 -- a last line that no line feed ends was answered too, and what is owed was written
-pub record FinishesLines {W : Type 0} (T : Terms) (contents : W → Option (List ℕ)) (old : Answering)
+pub record FinishesLines {W : Type 0} (T : Terms) (contents : W → Option (List ℕ)) (old new : Answering)
     (before after : Device W) (result : Result Counts ToolFault) : Type 0 where
   pub written : List ℕ
   pub appends : Appends (contents (inner_of before)) (contents (inner_of after)) written
   pub done : IfOk result (λ counts. (failures_of after ≡ failures_of before)
-      × ((bytes out : List ℕ) → IsTaken T bytes out old → IsOwed T bytes (out ++ written) counts))
-  pub stopped : IfErr result (IsLastStop T old before after written)
+      × ((bytes out : List ℕ) → IsTaken T bytes out old → OwesAll T bytes (out ++ written) counts new.tallies))
+  pub stopped : IfErr result (IsLastStop T old new before after written)

@@ -6,5 +6,6 @@ pub mod Quotes
 pub mod Refusals
 pub mod Rows
 pub mod Owed
+pub mod Tallied
 pub mod Answering
 pub mod Running

@@ -4,58 +4,67 @@ use Rattle.std.specs.Io.KnownBytes.{Appends, Consumes, IsAtEnd}
 use Rattle.lt_jar.specs.Devices.{HasFailed, after_reads, failures_of, inner_of, last_given_of, reads_of}
 use Rattle.lt_jar.specs.Sources.{most_reads}
 use Rattle.lt_jar.specs.declared.devices.Device.{Device}
-use Rattle.lt_lines.specs.Owed.{EndsInQuotes, IsBegun, IsOwed, IsOwedToLastFeed, Terms}
+use Rattle.lt_lines.specs.Owed.{EndsInQuotes, IsBegun, IsOwed, IsOwedToLastFeed, Terms, units_of}
+use Rattle.lt_lines.specs.Tallied.{AreTalliesOf}
 use Rattle.lt_lines.specs.declared.faults.ToolFault.{ToolFault}
 use Rattle.lt_lines.specs.declared.faults.ToolFault.TheVariants as faults
 use Rattle.lt_lines.specs.declared.runs.Counts.{Counts}
+use Rattle.lt_tallies.specs.declared.Tally.{Tally}
 
 -- this many reads were made
 abbrev pub HasRead : {T : Type 0} → Device T → Device T → ℕ → Type 0
 HasRead before after reads = reads_of after ≡ after_reads (reads_of before) reads
 
--- the reader was read to its end, and all that is owed was written
+-- the reader was read to its end, all that is owed was written, and what was refused is in the tallies
 pub record IsDone {I : Type 0} (T : Terms) (remaining : I → Option (List ℕ)) (input' : Device I)
-    (read written : List ℕ) (counts : Counts) : Type 0 where
+    (read written : List ℕ) (tallies : List Tally) (counts : Counts) : Type 0 where
   pub end : IsAtEnd (remaining (inner_of input'))
   pub owed : IsOwed T read written counts
+  pub tallied : AreTalliesOf T.form (units_of T.form read) owed.owed tallies
 
 -- the reader failed, and what is owed up to the last line feed was written
-pub record IsStoppedByRead {I : Type 0} (T : Terms) (input input' : Device I) (read written : List ℕ) : Type 0 where
+pub record IsStoppedByRead {I : Type 0} (T : Terms) (input input' : Device I) (read written : List ℕ)
+    (tallies : List Tally) : Type 0 where
   pub failed : HasFailed input input'
   pub owed : IsOwedToLastFeed T read written
+  pub tallied : AreTalliesOf T.form owed.lines owed.owed tallies
 
 -- the most reads were made, the last of them gave bytes, and what is owed up to the last line feed was written
 pub record IsStoppedByTurns {I : Type 0} (T : Terms)
-    (input' : Device I) (reads : ℕ) (read written : List ℕ) : Type 0 where
+    (input' : Device I) (reads : ℕ) (read written : List ℕ) (tallies : List Tally) : Type 0 where
   pub all_made : reads ≡ most_reads
   pub gave_bytes : most_reads ≤ length read
   pub last_gave : 0 < last_given_of input'
   pub owed : IsOwedToLastFeed T read written
+  pub tallied : AreTalliesOf T.form owed.lines owed.owed tallies
 
 -- the reader was read to its end, which is within quotes, and what is owed for the records before was written
 pub record IsStoppedByQuotes {I : Type 0} (T : Terms) (remaining : I → Option (List ℕ)) (input' : Device I)
-    (read written : List ℕ) (line : ℕ) : Type 0 where
+    (read written : List ℕ) (tallies : List Tally) (line : ℕ) : Type 0 where
   pub end : IsAtEnd (remaining (inner_of input'))
   pub ends : EndsInQuotes T read written line
+  pub tallied : AreTalliesOf T.form ends.owed.lines ends.owed.owed tallies
 
 -- how the run ended
 abbrev pub EndsAs : {I O : Type 0} → Terms → (I → Option (List ℕ))
     → (input input' : Device I) → (output output' : Device O)
-    → ℕ → (read written : List ℕ) → Result Counts ToolFault → Type 0
-EndsAs T remaining input input' output output' reads read written (Ok counts) =
-    IsDone T remaining input' read written counts
-EndsAs T remaining input input' output output' reads read written (Err faults.Read) =
-    IsStoppedByRead T input input' read written
-EndsAs T remaining input input' output output' reads read written (Err faults.TooManyTurns) =
-    IsStoppedByTurns T input' reads read written
-EndsAs T remaining input input' output output' reads read written (Err (faults.BadCsv line)) =
-    IsStoppedByQuotes T remaining input' read written line
-EndsAs T remaining input input' output output' reads read written (Err faults.Write) = HasFailed output output'
-EndsAs T remaining input input' output output' reads read written (Err faults.OutOfMemory) = Unit {0}
+    → ℕ → (read written : List ℕ) → List Tally → Result Counts ToolFault → Type 0
+EndsAs T remaining input input' output output' reads read written tallies (Ok counts) =
+    IsDone T remaining input' read written tallies counts
+EndsAs T remaining input input' output output' reads read written tallies (Err faults.Read) =
+    IsStoppedByRead T input input' read written tallies
+EndsAs T remaining input input' output output' reads read written tallies (Err faults.TooManyTurns) =
+    IsStoppedByTurns T input' reads read written tallies
+EndsAs T remaining input input' output output' reads read written tallies (Err (faults.BadCsv line)) =
+    IsStoppedByQuotes T remaining input' read written tallies line
+EndsAs T remaining input input' output output' reads read written tallies (Err faults.Write) = HasFailed output output'
+EndsAs T remaining input input' output output' reads read written tallies (Err faults.OutOfMemory) = Unit {0}
 
--- A run over the lines of a reader. Whatever ended it, what was written is a front of what is owed.
+-- A run over the lines of a reader. Whatever ended it, what was written is a front of what is owed. The tallies are those
+-- of the lines that were answered, but where a write or memory failed.
 pub record RunsLines {I O : Type 0} (T : Terms) (remaining : I → Option (List ℕ)) (contents : O → Option (List ℕ))
-    (input input' : Device I) (output output' : Device O) (result : Result Counts ToolFault) : Type 0 where
+    (input input' : Device I) (output output' : Device O) (tallies : List Tally)
+    (result : Result Counts ToolFault) : Type 0 where
   pub read : List ℕ
   pub written : List ℕ
   pub reads : ℕ
@@ -64,6 +73,6 @@ pub record RunsLines {I O : Type 0} (T : Terms) (remaining : I → Option (List 
   pub begun : IsBegun T read written
   pub calls : HasRead input input' reads
   pub bounded : reads ≤ most_reads
-  pub ends : EndsAs T remaining input input' output output' reads read written result
+  pub ends : EndsAs T remaining input input' output output' reads read written tallies result
   pub read_rises : failures_of input < failures_of input' → result ≡ Err faults.Read
   pub write_rises : failures_of output < failures_of output' → result ≡ Err faults.Write

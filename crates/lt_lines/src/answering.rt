@@ -3,6 +3,7 @@ ghost use Rattle.std.specs.Prelude.{◌≡◌, ◌≤◌, ◌+◌, ◌-◌, ◌+
 ghost use Rattle.lt_jar.specs.Lines.{IsOneLine};
 ghost use Rattle.lt_lines.specs.Owed.{Terms, feeds_in, terms};
 ghost use Rattle.lt_lines.specs.Quotes.{is_quoted};
+ghost use Rattle.lt_lines.specs.Tallied.{line_at as at_line};
 ghost use Rattle.lt_lines.specs.Answering as spec;
 
 use crate::answer_lines::without_return;
@@ -15,10 +16,12 @@ use crate::recent_answers::{RecentAnswers, append_again};
 use crate::rows::Separator;
 use crate::runs::Counts;
 use crate::splitting::split_first;
+use crate::tallying::count_if;
 use lt_canon::Checked;
 use lt_jar::Device;
 use lt_registry::Lookup;
 use lt_tag::OutOfMemory;
+use lt_tallies::Tallies;
 use std::alloc::{AllocError, Global};
 use std::io::Write;
 
@@ -41,6 +44,8 @@ pub(crate) struct Answering {
     /// Lines that are owed and not yet written.
     owed: Vec<u8>,
     counts: Counts,
+    /// The lines that were refused, by their faults.
+    pub(crate) tallies: Tallies,
     /// Answers that were given lately.
     recent: RecentAnswers,
 }
@@ -130,6 +135,7 @@ fn append_line<L: Lookup>(
     requires { count ≤ length text.now }
     ensures owed { IfOk result (λ refused. spec.AreRecent (terms (L.listed checked.now) form) recent.old
         → spec.AppendsLine (terms (L.listed checked.now) form) is_first kept.old.items (take count text.now) lines.old.items lines.new.items refused) }
+    ensures kept { OnOk result (spec.KeepsPart form kept.old.items (take count text.now) kept.new.items) }
     ensures recent { OnOk result (spec.AreRecent (terms (L.listed checked.now) form) recent.old → spec.AreRecent (terms (L.listed checked.now) form) recent.new) }
 {
     if kept.is_empty() {
@@ -148,12 +154,20 @@ fn append_line<L: Lookup>(
     )
 }
 
+/// A line of which this is kept, or this part of a piece where nothing is kept.
+fn line_at<'a>(kept: &'a [u8], part: &'a [u8]) -> &'a [u8]
+    ensures { result.now ≡ at_line kept.now part.now }
+{
+    if kept.is_empty() { part } else { kept }
+}
+
 impl Answering {
     /// Nothing taken so far.
     pub(crate) fn new(alloc: Global) -> Answering
         ensures items { (result.kept.items ≡ []) × (result.owed.items ≡ []) }
         ensures place { (result.place ≡ Place.Fresh) × (result.feeds ≡ 0) }
         ensures counts { (result.counts.lines ≡ 0) × (result.counts.refused ≡ 0) }
+        ensures tallies { result.tallies ≡ [] }
         ensures recent { (terms : Terms) → spec.AreRecent terms result.recent }
     {
         Answering {
@@ -165,6 +179,7 @@ impl Answering {
                 lines: 0,
                 refused: 0,
             },
+            tallies: Tallies::new(alloc),
             recent: RecentAnswers::new(alloc),
         }
     }
@@ -186,6 +201,7 @@ impl Answering {
         ensures kept { OnOk result (self.new.kept.items ≡ []) }
         ensures counted { OnOk result (spec.CountsFeed self.old self.new) }
     {
+        let start = self.owed.len();
         let refused = append_line(
             &mut self.owed,
             alloc,
@@ -196,6 +212,15 @@ impl Answering {
             &mut self.kept,
             text,
             count,
+        )?;
+        count_if(
+            &mut self.tallies,
+            alloc,
+            form,
+            self.counts.lines + 1,
+            line_at(&self.kept, &text[..count]),
+            &self.owed[start.min(self.owed.len())..],
+            refused,
         )?;
         self.counts.count(refused);
         self.kept.clear();
@@ -321,7 +346,7 @@ impl Answering {
     ) -> Result<Counts, ToolFault>
         requires room { spec.HasRoom self.old 1 }
         requires closed { is_quoted self.old.place ≡ false }
-        ensures { spec.FinishesLines (terms (L.listed checked.now) form) W.contents self.old output.old output.new result }
+        ensures { spec.FinishesLines (terms (L.listed checked.now) form) W.contents self.old self.new output.old output.new result }
     {
         self.end_last(alloc, checked, form)?;
         self.write(output)?;
@@ -337,7 +362,7 @@ impl Answering {
         output: &mut Device<W>,
     ) -> Result<Counts, ToolFault>
         requires { spec.HasRoom self.old 1 }
-        ensures { spec.FinishesLines (terms (L.listed checked.now) form) W.contents self.old output.old output.new result }
+        ensures { spec.FinishesLines (terms (L.listed checked.now) form) W.contents self.old self.new output.old output.new result }
     {
         if self.place.is_quoted() {
             return Err(ToolFault::BadCsv(self.kept_from()));

@@ -13,10 +13,12 @@ mod recent_answers;
 mod rows;
 mod runs;
 mod splitting;
+mod tallying;
 
 pub use answer_lines::append_refusal;
 pub use device_output::{write_fault, write_text};
 pub use faults::ToolFault;
 pub use forms::LineForm;
+pub use lt_tallies::{Tallies, Tally};
 pub use runs::{Counts, run_lines};
 pub use splitting::split_first;

@@ -1,6 +1,6 @@
 //! Runs over the lines of a reader.
 ghost use Rattle.std.specs.Prelude.{◌≡◌, ◌<◌, ◌+◌, ◌^◌};
-ghost use Rattle.lt_lines.specs.Answering.{one_if};
+ghost use Rattle.lt_lines.specs.Answering.{IsFresh, one_if};
 ghost use Rattle.lt_lines.specs.Owed.{terms};
 ghost use Rattle.lt_lines.specs.Running.{RunsLines};
 
@@ -10,8 +10,10 @@ use crate::forms::LineForm;
 use lt_canon::Checked;
 use lt_jar::Device;
 use lt_registry::Lookup;
+use lt_tallies::Tallies;
 use std::alloc::Global;
 use std::io::{Read, Write};
+use std::mem;
 
 /// The most reads of one run.
 const MOST_READS: u32 = 10_000_000;
@@ -48,7 +50,8 @@ impl Counts {
 ///
 /// A line feed ends a line, in CSV where it is not within quotes, and what follows the last one is a line if it is anything. What is owed for the
 /// lines of the bytes that were read is written before the next read. A row or a record is kept whole until it is
-/// answered.
+/// answered. `tallies` is what was refused of the lines that were answered, by fault; it says nothing after `Write` and
+/// `OutOfMemory`.
 ///
 /// - `BadCsv`, if the reader's bytes end within the quotes of a record: the records before it have been answered.
 /// - `Read`, if a read fails: what is owed for each line whose line feed was read has been written.
@@ -61,11 +64,29 @@ pub fn run_lines<L: Lookup, R: Read, W: Write>(
     form: LineForm,
     input: &mut Device<R>,
     output: &mut Device<W>,
+    tallies: &mut Tallies,
 ) -> Result<Counts, ToolFault>
-    ensures { RunsLines (terms (L.listed checked.now) form) R.remaining W.contents input.old input.new output.old output.new result }
+    ensures { RunsLines (terms (L.listed checked.now) form) R.remaining W.contents input.old input.new output.old output.new tallies.new result }
+{
+    let mut answering = Answering::new(alloc);
+    let end = answer_all(alloc, checked, form, input, output, &mut answering);
+    mem::swap(tallies, &mut answering.tallies);
+    end
+}
+
+/// Answers each line of a reader.
+fn answer_all<L: Lookup, R: Read, W: Write>(
+    alloc: Global,
+    checked: &Checked<L>,
+    form: LineForm,
+    input: &mut Device<R>,
+    output: &mut Device<W>,
+    answering: &mut Answering,
+) -> Result<Counts, ToolFault>
+    requires { IsFresh answering.old }
+    ensures { RunsLines (terms (L.listed checked.now) form) R.remaining W.contents input.old input.new output.old output.new answering.new.tallies result }
 {
     let mut buffer = vec![in alloc; 0u8; PIECE]?;
-    let mut answering = Answering::new(alloc);
     for _read in 0..MOST_READS {
         match input.read(&mut buffer) {
             Ok(0) => return answering.finish(alloc, checked, form, output),

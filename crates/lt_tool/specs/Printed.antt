@@ -1,5 +1,6 @@
 -- What the program prints, and how it ends.
 use Rattle.std.specs.Prelude.{◌≡◌, ◌⊎◌, ◌-◌, ℕ, List, [], ◌∷◌, ◌++◌, ◌==◌, if◌then◌else◌, Result, Ok, Err, codes, string_bytes}
+use Rattle.std.specs.Result.{result_ok}
 use Rattle.lt_tag.specs.Classes.{class_of}
 use Rattle.lt_tag.specs.Conventional.{conventional}
 use Rattle.lt_tag.specs.Faults.{HasFault, HasTag}
@@ -30,7 +31,7 @@ use Rattle.lt_tag.specs.declared.faults.OutOfMemory.{OutOfMemory}
 use Rattle.lt_tool.specs.TagCommands.{Compares, Explains, FormsExtlang}
 use Rattle.lt_tool.specs.UpgradeCommand.{UpgradesFiles}
 use Rattle.lt_tool.specs.Verified.{Verifies}
-use Rattle.lt_tool.specs.Streams.{IsUntouched, Stream}
+use Rattle.lt_tool.specs.Streams.{IsUntouched, HandsNone, Stream, Handed}
 use Rattle.lt_tool.specs.Written.{LacksMemory, Prints, Says}
 use Rattle.lt_tool.specs.declared.status.Status.{Status}
 use Rattle.lt_tool.specs.declared.status.Status.TheVariants as status
@@ -80,19 +81,20 @@ EndsRun errors (Err fault) result = Says errors (fault_said fault) × (result �
 
 -- the lines of the input were answered by the registry of the file
 pub record RunsCanon {I O E : Type 0} (form : LineForm) (reading : Reading)
-    (input : Stream I) (output : Stream O) (errors : Stream E) (result : ℕ) : Type 0 where
+    (input : Stream I) (output : Stream O) (errors : Stream E) (answered : Handed) (result : ℕ) : Type 0 where
   pub entries : List EntryParts
   pub registry : HoldsRegistry reading entries
   pub end : Result Counts ToolFault
   pub runs : RunsLines (terms entries form) input.bytes output.bytes
-      input.before input.after output.before output.after end
+      input.before input.after output.before output.after answered.after.tallies end
+  pub counts : answered.after.counts ≡ result_ok end
   pub ends : EndsRun errors end result
 
 -- what a run wrote that answers lines, by what the reading of the file gave
-abbrev pub Canonicalises : {I O E : Type 0} → LineForm → Stream I → Stream O → Stream E → ℕ → Reading → Type 0
-Canonicalises form input output errors result reading =
-    (IsUntouched input × PrintsOrLacks (RefusesRegistry reading) output errors result)
-    ⊎ RunsCanon form reading input output errors result
+abbrev pub Canonicalises : {I O E : Type 0} → LineForm → Stream I → Stream O → Stream E → Handed → ℕ → Reading → Type 0
+Canonicalises form input output errors answered result reading =
+    (IsUntouched input × HandsNone answered × PrintsOrLacks (RefusesRegistry reading) output errors result)
+    ⊎ RunsCanon form reading input output errors answered result
 
 -- a run that by what the reading of a file gave prints a line of which this holds
 abbrev pub PrintsByFile : {F O E : Type 0} → (Reading → List ℕ → Status → Type 0)
@@ -100,35 +102,35 @@ abbrev pub PrintsByFile : {F O E : Type 0} → (Reading → List ℕ → Status 
 PrintsByFile IsAnswer file output errors result =
     ReadsFile file (λ reading. PrintsOrLacks (IsAnswer reading) output errors result)
 
--- what a run of a command read of the files and of its input, what it wrote to its output and its errors, and its
--- exit status
-abbrev pub Performs : {F G I O E : Type 0} → Command → Stream F → Stream G → Stream I → Stream O → Stream E → ℕ → Type 0
-Performs (command.Classify tag) first second input output errors result =
-    IsUntouched first × IsUntouched second × IsUntouched input
+-- what a run of a command read of the files and of its input, what it wrote to its output and its errors, what it
+-- refused of its lines, and its exit status
+abbrev pub Performs : {F G I O E : Type 0} → Command → Stream F → Stream G → Stream I → Stream O → Stream E → Handed → ℕ → Type 0
+Performs (command.Classify tag) first second input output errors answered result =
+    HandsNone answered × IsUntouched first × IsUntouched second × IsUntouched input
     × PrintsOrLacks (Classifies (string_bytes tag)) output errors result
-Performs (command.Check name) first second input output errors result =
-    IsUntouched second × IsUntouched input × PrintsByFile Checks first output errors result
-Performs (command.Canon name) first second input output errors result =
-    IsUntouched second × ReadsFile first (Canonicalises forms.Tag input output errors result)
-Performs (command.Tsv name column) first second input output errors result =
-    IsUntouched second × ReadsFile first (Canonicalises (forms.Row (column - 1)) input output errors result)
-Performs (command.Csv name column) first second input output errors result =
-    IsUntouched second × ReadsFile first (Canonicalises (forms.Csv (column - 1)) input output errors result)
-Performs (command.Extlang name tag) first second input output errors result =
-    IsUntouched second × IsUntouched input
+Performs (command.Check name) first second input output errors answered result =
+    HandsNone answered × IsUntouched second × IsUntouched input × PrintsByFile Checks first output errors result
+Performs (command.Canon name) first second input output errors answered result =
+    IsUntouched second × ReadsFile first (Canonicalises forms.Tag input output errors answered result)
+Performs (command.Tsv name column) first second input output errors answered result =
+    IsUntouched second × ReadsFile first (Canonicalises (forms.Row (column - 1)) input output errors answered result)
+Performs (command.Csv name column) first second input output errors answered result =
+    IsUntouched second × ReadsFile first (Canonicalises (forms.Csv (column - 1)) input output errors answered result)
+Performs (command.Extlang name tag) first second input output errors answered result =
+    HandsNone answered × IsUntouched second × IsUntouched input
     × PrintsByFile (ByRegistry (λ R. FormsExtlang R (string_bytes tag))) first output errors result
-Performs (command.Equal name tag other) first second input output errors result =
-    IsUntouched second × IsUntouched input
+Performs (command.Equal name tag other) first second input output errors answered result =
+    HandsNone answered × IsUntouched second × IsUntouched input
     × PrintsByFile (ByRegistry (λ R. Compares R (string_bytes tag) (string_bytes other))) first output errors result
-Performs (command.Explain name tag) first second input output errors result =
-    IsUntouched second × IsUntouched input
+Performs (command.Explain name tag) first second input output errors answered result =
+    HandsNone answered × IsUntouched second × IsUntouched input
     × PrintsByFile (ByRegistry (λ R. Explains R (string_bytes tag))) first output errors result
-Performs (command.Verify name tag) first second input output errors result =
-    IsUntouched second
+Performs (command.Verify name tag) first second input output errors answered result =
+    HandsNone answered × IsUntouched second
     × ReadsFile first (Verifies (λ IsAnswer. PrintsOrLacks IsAnswer output errors result)
     (string_bytes tag) input output errors result)
-Performs (command.Upgrade old new) first second input output errors result =
-    IsUntouched input × UpgradesFiles first second (λ IsAnswer. PrintsOrLacks IsAnswer output errors result)
+Performs (command.Upgrade old new) first second input output errors answered result =
+    HandsNone answered × IsUntouched input × UpgradesFiles first second (λ IsAnswer. PrintsOrLacks IsAnswer output errors result)
 
 -- a run whose words are not those of a command says why on its errors
 pub record SaysUsage {O E : Type 0} (output : Stream O) (errors : Stream E) (text : List ℕ) (result : ℕ) : Type 0 where

@@ -14,7 +14,7 @@ use Rattle.lt_words.specs.declared.faults.WordsFault.{WordsFault}
 use Rattle.lt_words.specs.declared.faults.WordsFault.TheVariants as fault
 use Rattle.lt_tool.specs.Codes.{code_of}
 use Rattle.lt_tool.specs.Printed.{Performs, Reports}
-use Rattle.lt_tool.specs.Streams.{IsUntouched, Stream, stream}
+use Rattle.lt_tool.specs.Streams.{IsUntouched, HandsNone, Stream, Handed, stream}
 use Rattle.lt_tool.specs.Written.{Says, file_line, memory_line}
 use Rattle.lt_tool.specs.declared.status.Status.TheVariants as status
 
@@ -66,10 +66,11 @@ open_line kind = file_line
 
 -- a file can't be opened: nothing is read, and the errors say why
 pub record RefusesFile {I O E : Type 0} (error : Error) (input : Stream I)
-    (output : Stream O) (errors : Stream E) (result : ℕ) : Type 0 where
+    (output : Stream O) (errors : Stream E) (answered : Handed) (result : ℕ) : Type 0 where
   pub failed : result ≡ code_of status.Failed
   pub read : IsUntouched input
   pub printed : IsUntouched output
+  pub kept : HandsNone answered
   pub said : Says errors (open_line (error_kind error))
 
 -- by what the opening of a file answered, the run goes on with a device of the file, or ends for this reason
@@ -98,45 +99,45 @@ pub record Opens {P F : Type 0} (calls : P → List ℕ → Result F Error → P
 pub record PerformsOn {P F G I O E : Type 0} (command : Command)
     (of_first : F → Option (List ℕ)) (of_second : G → Option (List ℕ))
     (state after : P) (first : Device F) (second : Device G) (input : Stream I)
-    (output : Stream O) (errors : Stream E) (result : ℕ) : Type 0 where
+    (output : Stream O) (errors : Stream E) (answered : Handed) (result : ℕ) : Type 0 where
   pub opened : after ≡ state
   pub first' : Device F
   pub second' : Device G
   pub performs : Performs command (stream of_first first first')
-      (stream of_second second second') input output errors result
+      (stream of_second second second') input output errors answered result
 
 -- no file is opened after this state, and the run ends since the one before can't be
 pub record EndsAt {P I O E : Type 0} (state after : P) (input : Stream I)
-    (output : Stream O) (errors : Stream E) (result : ℕ) (error : Error) : Type 0 where
+    (output : Stream O) (errors : Stream E) (answered : Handed) (result : ℕ) (error : Error) : Type 0 where
   pub opened : after ≡ state
-  pub refuses : RefusesFile error input output errors result
+  pub refuses : RefusesFile error input output errors answered result
 
 -- the file that the command names second, if it names one, is opened, and the command performed on both
 abbrev pub RunsOnFirst : {P F N I O E : Type 0} → Command → Opener P F
-    → (N → Option (List ℕ)) → Stream I → Stream O → Stream E → ℕ
+    → (N → Option (List ℕ)) → Stream I → Stream O → Stream E → Handed → ℕ
     → Device F → Option (List ℕ) → Type 0
-RunsOnFirst {P} {F} {N} command opener of_none input output errors result first None =
+RunsOnFirst {P} {F} {N} command opener of_none input output errors answered result first None =
     (none : Device N) × PerformsOn command opener.bytes of_none
-    opener.before opener.after first none input output errors result
-RunsOnFirst command opener of_none input output errors result first (Some name) =
+    opener.before opener.after first none input output errors answered result
+RunsOnFirst command opener of_none input output errors answered result first (Some name) =
     Opens opener.calls opener.before (reads_input_of command) name
     (λ between second. PerformsOn command opener.bytes opener.bytes
-    between opener.after first second input output errors result)
-    (λ between error. EndsAt between opener.after input output errors result error)
+    between opener.after first second input output errors answered result)
+    (λ between error. EndsAt between opener.after input output errors answered result error)
 
 -- The file that the command names first, if it names one, is opened, and then the second.
 abbrev pub RunsOnFiles : {P F N I O E : Type 0} → Command → Opener P F
-    → (N → Option (List ℕ)) → Stream I → Stream O → Stream E → ℕ
+    → (N → Option (List ℕ)) → Stream I → Stream O → Stream E → Handed → ℕ
     → Option (List ℕ) → Type 0
-RunsOnFiles {P} {F} {N} command opener of_none input output errors result None =
+RunsOnFiles {P} {F} {N} command opener of_none input output errors answered result None =
     (none : Device N) × (other : Device N)
-    × PerformsOn command of_none of_none opener.before opener.after none other input output errors result
-RunsOnFiles command opener of_none input output errors result (Some name) =
+    × PerformsOn command of_none of_none opener.before opener.after none other input output errors answered result
+RunsOnFiles command opener of_none input output errors answered result (Some name) =
     Opens opener.calls opener.before (reads_input_of command) name
     (λ between first. RunsOnFirst command
-    (opener_of opener.calls opener.bytes between opener.after) of_none input output errors result
+    (opener_of opener.calls opener.bytes between opener.after) of_none input output errors answered result
     first (second_file_of command))
-    (λ between error. EndsAt between opener.after input output errors result error)
+    (λ between error. EndsAt between opener.after input output errors answered result error)
 
 -- the input was read once, into a buffer of no bytes, and answered this; it failed where that is an error
 pub record Asks {I : Type 0} (input : Stream I) (answer : Result ℕ Error) : Type 0 where
@@ -153,60 +154,62 @@ input_line = codes "! Read" ++ 10 ∷ []
 
 -- an input that can't be read: no file is opened, and the errors say so
 pub record RefusesInput {P F O E : Type 0} (opener : Opener P F)
-    (output : Stream O) (errors : Stream E) (result : ℕ) : Type 0 where
+    (output : Stream O) (errors : Stream E) (answered : Handed) (result : ℕ) : Type 0 where
   pub failed : result ≡ code_of status.Failed
   pub opened : opener.after ≡ opener.before
   pub printed : IsUntouched output
+  pub kept : HandsNone answered
   pub said : Says errors input_line
 
 -- by what the input answered when it was asked for no bytes, the run goes on, or ends
 abbrev pub GoesOnWith : {P F N I O E : Type 0} → Command → Opener P F
-    → (N → Option (List ℕ)) → (between : Device I) → Stream I → Stream O → Stream E → ℕ
+    → (N → Option (List ℕ)) → (between : Device I) → Stream I → Stream O → Stream E → Handed → ℕ
     → Result ℕ Error → Type 0
-GoesOnWith command opener of_none between input output errors result (Ok n) =
+GoesOnWith command opener of_none between input output errors answered result (Ok n) =
     RunsOnFiles command opener of_none
-    (stream input.bytes between input.after) output errors result (first_file_of command)
-GoesOnWith command opener of_none between input output errors result (Err error) =
-    (input.after ≡ between) × RefusesInput opener output errors result
+    (stream input.bytes between input.after) output errors answered result (first_file_of command)
+GoesOnWith command opener of_none between input output errors answered result (Err error) =
+    (input.after ≡ between) × RefusesInput opener output errors answered result
 
 -- A command that reads the input asks it first for no bytes, which fails where it is closed.
 pub record AsksAndRuns {P F N I O E : Type 0} (command : Command)
     (opener : Opener P F) (of_none : N → Option (List ℕ)) (input : Stream I)
-    (output : Stream O) (errors : Stream E) (result : ℕ) : Type 0 where
+    (output : Stream O) (errors : Stream E) (answered : Handed) (result : ℕ) : Type 0 where
   pub answer : Result ℕ Error
   pub between : Device I
   pub asks : Asks (stream input.bytes input.before between) answer
-  pub goes_on : GoesOnWith command opener of_none between input output errors result answer
+  pub goes_on : GoesOnWith command opener of_none between input output errors answered result answer
 
 -- a run of a command: which files it opened in which order, and what it then did
 abbrev pub RunsCommand : {P F N I O E : Type 0} → Command → Opener P F
-    → (N → Option (List ℕ)) → Stream I → Stream O → Stream E → ℕ
+    → (N → Option (List ℕ)) → Stream I → Stream O → Stream E → Handed → ℕ
     → (reads_input : Bool) → Type 0
-RunsCommand command opener of_none input output errors result true =
-    AsksAndRuns command opener of_none input output errors result
-RunsCommand command opener of_none input output errors result false =
-    RunsOnFiles command opener of_none input output errors result (first_file_of command)
+RunsCommand command opener of_none input output errors answered result true =
+    AsksAndRuns command opener of_none input output errors answered result
+RunsCommand command opener of_none input output errors answered result false =
+    RunsOnFiles command opener of_none input output errors answered result (first_file_of command)
 
 -- the words name a command, and it is run
 pub record RunsWords {P F N I O E : Type 0} (words : GivenWords)
     (opener : Opener P F) (of_none : N → Option (List ℕ)) (input : Stream I)
-    (output : Stream O) (errors : Stream E) (result : ℕ) : Type 0 where
+    (output : Stream O) (errors : Stream E) (answered : Handed) (result : ℕ) : Type 0 where
   pub command : Command
   pub names : NamesCommand words command
-  pub runs : RunsCommand command opener of_none input output errors result (reads_input_of command)
+  pub runs : RunsCommand command opener of_none input output errors answered result (reads_input_of command)
 
 -- the words name none: nothing is opened or read, and the run says why
 pub record RefusesWords {P F I O E : Type 0} (words : GivenWords)
-    (opener : Opener P F) (input : Stream I) (output : Stream O) (errors : Stream E)
+    (opener : Opener P F) (input : Stream I) (output : Stream O) (errors : Stream E) (answered : Handed)
     (result : ℕ) : Type 0 where
   pub why : WordsFault
   pub is_fault : IsProgramFault words why
   pub opened : opener.after ≡ opener.before
   pub read : IsUntouched input
+  pub kept : HandsNone answered
   pub reports : Reports why output errors result
 
 -- a run of the program: what it opened, read and wrote, and its exit status
 abbrev pub RunsProgram : {P F N I O E : Type 0} → GivenWords → Opener P F
-    → (N → Option (List ℕ)) → Stream I → Stream O → Stream E → ℕ → Type 0
-RunsProgram words opener of_none input output errors result =
-    RunsWords words opener of_none input output errors result ⊎ RefusesWords words opener input output errors result
+    → (N → Option (List ℕ)) → Stream I → Stream O → Stream E → Handed → ℕ → Type 0
+RunsProgram words opener of_none input output errors answered result =
+    RunsWords words opener of_none input output errors answered result ⊎ RefusesWords words opener input output errors answered result

@@ -2,12 +2,13 @@
 ghost use Rattle.std.specs.Prelude.{◌≡◌};
 ghost use Rattle.lt_lines.specs.Faults.{fault_said};
 ghost use Rattle.lt_tool.specs.Codes.{code_of};
-ghost use Rattle.lt_tool.specs.Streams.{stream};
+ghost use Rattle.lt_tool.specs.Streams.{handed, stream};
 ghost use Rattle.lt_tool.specs.Written.{Prints, Says, file_line, memory_line};
 ghost use Rattle.lt_tool.specs.Registries.{ReadsFile};
 ghost use Rattle.lt_tool.specs.Printed.{Canonicalises, EndsRun, Performs, PrintsResult, Reports};
 ghost use Rattle.lt_tool.specs.declared.status.Status.TheVariants.{Failed};
 
+use crate::answered::Answered;
 use crate::lines::{Answer, classify};
 use crate::registries::{check, read_registry, refuse};
 use crate::status::Status;
@@ -98,12 +99,18 @@ fn answer_lines<F: Read, I: Read, O: Write, E: Write>(
     input: &mut Device<I>,
     output: &mut Device<O>,
     errors: &mut Device<E>,
+    answered: &mut Answered,
 ) -> Status
     ensures { ReadsFile (stream F.remaining file.old file.new) (Canonicalises form (stream I.remaining input.old input.new)
-        (stream O.contents output.old output.new) (stream E.contents errors.old errors.new) (code_of result)) }
+        (stream O.contents output.old output.new) (stream E.contents errors.old errors.new) (handed answered.old answered.new) (code_of result)) }
 {
     match read_registry(alloc, file) {
-        Ok(checked) => end_run(run_lines(alloc, &checked, form, input, output), errors),
+        Ok(checked) => {
+            let tallies = &mut answered.tallies;
+            let end = run_lines(alloc, &checked, form, input, output, tallies);
+            answered.counts = end.ok();
+            end_run(end, errors)
+        }
         Err(refusal) => print_answer(refuse(alloc, &refusal), output, errors),
     }
 }
@@ -117,22 +124,23 @@ fn run<F: Read, G: Read, I: Read, O: Write, E: Write>(
     input: &mut Device<I>,
     output: &mut Device<O>,
     errors: &mut Device<E>,
+    answered: &mut Answered,
 ) -> Status
     ensures { Performs command.now (stream F.remaining first.old first.new) (stream G.remaining second.old second.new)
         (stream I.remaining input.old input.new) (stream O.contents output.old output.new)
-        (stream E.contents errors.old errors.new) (code_of result) }
+        (stream E.contents errors.old errors.new) (handed answered.old answered.new) (code_of result) }
 {
     match command {
         Command::Classify(tag) => print_answer(classify(alloc, tag.as_bytes()), output, errors),
         Command::Check(_) => print_answer(check(alloc, first), output, errors),
-        Command::Canon(_) => answer_lines(alloc, LineForm::Tag, first, input, output, errors),
+        Command::Canon(_) => answer_lines(alloc, LineForm::Tag, first, input, output, errors, answered),
         Command::Tsv(_, column) => {
             let form = LineForm::Row(column.saturating_sub(1));
-            answer_lines(alloc, form, first, input, output, errors)
+            answer_lines(alloc, form, first, input, output, errors, answered)
         }
         Command::Csv(_, column) => {
             let form = LineForm::Csv(column.saturating_sub(1));
-            answer_lines(alloc, form, first, input, output, errors)
+            answer_lines(alloc, form, first, input, output, errors, answered)
         }
         Command::Extlang(_, tag) => {
             print_answer(extlang(alloc, first, tag.as_bytes()), output, errors)
@@ -159,6 +167,8 @@ fn run<F: Read, G: Read, I: Read, O: Write, E: Write>(
 /// A read of a file that fails, or is one too many, is answered as a fault of the file. A write to `output`
 /// that fails, a read of `input` that fails, its end within quotes, and an allocation that fails are named on `errors`; a write there
 /// that fails is counted by the device alone.
+///
+/// `answered` is set to what [`run_lines`] says of the lines of `input`, and stays where none were to be answered.
 pub fn perform<F: Read, G: Read, I: Read, O: Write, E: Write>(
     alloc: Global,
     command: &Command,
@@ -167,12 +177,16 @@ pub fn perform<F: Read, G: Read, I: Read, O: Write, E: Write>(
     input: &mut Device<I>,
     output: &mut Device<O>,
     errors: &mut Device<E>,
+    answered: &mut Answered,
 ) -> u8
     ensures { Performs command.now (stream F.remaining first.old first.new) (stream G.remaining second.old second.new)
         (stream I.remaining input.old input.new) (stream O.contents output.old output.new)
-        (stream E.contents errors.old errors.new) result }
+        (stream E.contents errors.old errors.new) (handed answered.old answered.new) result }
 {
-    run(alloc, command, first, second, input, output, errors).code()
+    run(
+        alloc, command, first, second, input, output, errors, answered,
+    )
+    .code()
 }
 
 /// Says that a file can't be opened, by `! File` on `errors`, and answers the exit status, 4.

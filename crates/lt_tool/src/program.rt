@@ -5,10 +5,11 @@ ghost use Rattle.std.specs.IoError.{error_kind};
 ghost use Rattle.lt_words.specs.Reading.{first_file_of, reads_input_of, second_file_of};
 ghost use Rattle.lt_tool.specs.Codes.{code_of};
 ghost use Rattle.lt_tool.specs.Program.{IsPath, IsProgramFault, NamesCommand, RunsCommand, RunsOnFiles, RunsOnFirst, RunsProgram, input_line, open_line, opener_of, texts_of};
-ghost use Rattle.lt_tool.specs.Streams.{stream};
+ghost use Rattle.lt_tool.specs.Streams.{handed, stream};
 ghost use Rattle.lt_tool.specs.Written.{Says};
 ghost use Rattle.lt_tool.specs.declared.status.Status.TheVariants.{Failed};
 
+use crate::answered::Answered;
 use crate::printing::{perform, report, report_file, report_memory, say};
 use crate::status::Status;
 use lt_jar::Device;
@@ -74,11 +75,12 @@ fn run_on_first<F: Read + Drop, P: FnMut(&str) -> io::Result<F>, I: Read, O: Wri
     input: &mut Device<I>,
     output: &mut Device<O>,
     errors: &mut Device<E>,
+    answered: &mut Answered,
 ) -> u8
     requires { P.IsAlwaysCallable opener.old }
     ensures { RunsOnFirst command.now (opener_of (CalledAt P.FnMut) F.remaining opener.old opener.new)
         ⟦<&'static [u8] as Read>⟧.remaining (stream I.remaining input.old input.new) (stream O.contents output.old output.new)
-        (stream E.contents errors.old errors.new) result first (second_file_of command.now) }
+        (stream E.contents errors.old errors.new) (handed answered.old answered.new) result first (second_file_of command.now) }
 {
     let Some(name) = command.second_file() else {
         return perform(
@@ -89,6 +91,7 @@ fn run_on_first<F: Read + Drop, P: FnMut(&str) -> io::Result<F>, I: Read, O: Wri
             input,
             output,
             errors,
+            answered,
         );
     };
     match opener(path_of(name, command.reads_input())) {
@@ -100,6 +103,7 @@ fn run_on_first<F: Read + Drop, P: FnMut(&str) -> io::Result<F>, I: Read, O: Wri
             input,
             output,
             errors,
+            answered,
         ),
         Err(error) => refuse_file(&error, errors),
     }
@@ -113,15 +117,18 @@ fn run_on_files<F: Read + Drop, P: FnMut(&str) -> io::Result<F>, I: Read, O: Wri
     input: &mut Device<I>,
     output: &mut Device<O>,
     errors: &mut Device<E>,
+    answered: &mut Answered,
 ) -> u8
     requires { P.IsAlwaysCallable opener.old }
     ensures { RunsOnFiles command.now (opener_of (CalledAt P.FnMut) F.remaining opener.old opener.new)
         ⟦<&'static [u8] as Read>⟧.remaining (stream I.remaining input.old input.new) (stream O.contents output.old output.new)
-        (stream E.contents errors.old errors.new) result (first_file_of command.now) }
+        (stream E.contents errors.old errors.new) (handed answered.old answered.new) result (first_file_of command.now) }
 {
     let Some(name) = command.first_file() else {
         let (mut none, mut other) = (Device::new(NO_FILE), Device::new(NO_FILE));
-        return perform(alloc, command, &mut none, &mut other, input, output, errors);
+        return perform(
+            alloc, command, &mut none, &mut other, input, output, errors, answered,
+        );
     };
     match opener(path_of(name, command.reads_input())) {
         Ok(first) => run_on_first(
@@ -132,6 +139,7 @@ fn run_on_files<F: Read + Drop, P: FnMut(&str) -> io::Result<F>, I: Read, O: Wri
             input,
             output,
             errors,
+            answered,
         ),
         Err(error) => refuse_file(&error, errors),
     }
@@ -145,17 +153,18 @@ fn run_command<F: Read + Drop, P: FnMut(&str) -> io::Result<F>, I: Read, O: Writ
     input: &mut Device<I>,
     output: &mut Device<O>,
     errors: &mut Device<E>,
+    answered: &mut Answered,
 ) -> u8
     requires { P.IsAlwaysCallable opener.old }
     ensures { RunsCommand command.now (opener_of (CalledAt P.FnMut) F.remaining opener.old opener.new)
         ⟦<&'static [u8] as Read>⟧.remaining (stream I.remaining input.old input.new) (stream O.contents output.old output.new)
-        (stream E.contents errors.old errors.new) result (reads_input_of command.now) }
+        (stream E.contents errors.old errors.new) (handed answered.old answered.new) result (reads_input_of command.now) }
 {
     if !command.reads_input() {
-        return run_on_files(alloc, command, opener, input, output, errors);
+        return run_on_files(alloc, command, opener, input, output, errors, answered);
     }
     match input.read(&mut []) {
-        Ok(_) => run_on_files(alloc, command, opener, input, output, errors),
+        Ok(_) => run_on_files(alloc, command, opener, input, output, errors, answered),
         Err(_) => refuse_input(errors),
     }
 }
@@ -168,7 +177,7 @@ fn run_command<F: Read + Drop, P: FnMut(&str) -> io::Result<F>, I: Read, O: Writ
 /// input where the command doesn't read `input`. Where the command reads `input`, it is asked for no bytes
 /// before a file is opened, so that one that is closed is not taken for a file that is opened in its place: it
 /// ends the run by `! Read`, and the status 4. Then [`perform`] does what the command asks for, or [`report`]
-/// says why the words name none.
+/// says why the words name none. `answered` is set as [`perform`] sets it, and stays where nothing is performed.
 pub fn run_program<F: Read + Drop, P: FnMut(&str) -> io::Result<F>, I: Read, O: Write, E: Write>(
     alloc: Global,
     words: io::Result<Vec<String>>,
@@ -176,14 +185,15 @@ pub fn run_program<F: Read + Drop, P: FnMut(&str) -> io::Result<F>, I: Read, O: 
     input: &mut Device<I>,
     output: &mut Device<O>,
     errors: &mut Device<E>,
+    answered: &mut Answered,
 ) -> u8
     requires { P.IsAlwaysCallable opener.old }
     ensures { RunsProgram (texts_of words) (opener_of (CalledAt P.FnMut) F.remaining opener.old opener.new)
         ⟦<&'static [u8] as Read>⟧.remaining (stream I.remaining input.old input.new) (stream O.contents output.old output.new)
-        (stream E.contents errors.old errors.new) result }
+        (stream E.contents errors.old errors.new) (handed answered.old answered.new) result }
 {
     match command_of(alloc, words) {
-        Ok(command) => run_command(alloc, &command, opener, input, output, errors),
+        Ok(command) => run_command(alloc, &command, opener, input, output, errors, answered),
         Err(fault) => report(&fault, output, errors),
     }
 }

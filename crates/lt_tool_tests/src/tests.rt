@@ -6,6 +6,7 @@ mod records;
 mod registries;
 mod rows;
 mod tags;
+mod tallies;
 mod upgrades;
 mod verified;
 
@@ -14,8 +15,8 @@ use lt_jar::Device;
 use lt_registry::SortedTable;
 use lt_test_tables::sorted_sample;
 use lt_tool::{
-    Command, Counts, LineForm, Status, ToolFault, WordsFault, perform, read_words, report,
-    report_file, run_lines,
+    Answered, Command, Counts, LineForm, Status, Tallies, ToolFault, WordsFault, perform,
+    read_words, report, report_file, run_lines,
 };
 use std::alloc::{AllocError, Global};
 use std::io::{self, ErrorKind, Read, Write};
@@ -64,6 +65,7 @@ fn ends<F: Read + Drop, G: Read + Drop, I: Read + Drop, O: Write, E: Write>(
         &mut Device::new(input),
         &mut Device::new(output),
         &mut Device::new(errors),
+        &mut Answered::new(alloc),
     )
 }
 
@@ -76,7 +78,15 @@ fn answer_lines<R: Read + Drop, W: Write>(
     writer: &mut W,
 ) -> Result<Counts, ToolFault> {
     let mut output = Device::new(writer);
-    run_lines(alloc, checked, form, &mut Device::new(reader), &mut output)
+    let tallies = &mut Tallies::new(alloc);
+    run_lines(
+        alloc,
+        checked,
+        form,
+        &mut Device::new(reader),
+        &mut output,
+        tallies,
+    )
 }
 
 /// The sample, which passes the check.

@@ -1,7 +1,7 @@
 //! The whole program, over files that are texts.
 use super::command_line;
 use lt_jar::{Device, Pieces};
-use lt_tool::{Status, run_program};
+use lt_tool::{Answered, Status, run_program};
 use std::alloc::Global;
 use std::io::{self, ErrorKind};
 
@@ -33,6 +33,7 @@ fn runs(alloc: Global, words: &[&str], shown: &str, said: &str, end: Status) -> 
         &mut Device::new(b"EN\nde\n".as_slice()),
         &mut Device::new(&mut output),
         &mut Device::new(&mut errors),
+        &mut Answered::new(alloc),
     );
     status == end.code()
         && output.as_slice() == shown.as_bytes()
@@ -95,6 +96,7 @@ fn runs_closed(alloc: Global, words: &[&str], shown: &str, said: &str, end: Stat
         &mut Device::new(Pieces::once(b"EN\n", 4).failing_at(1)),
         &mut Device::new(&mut output),
         &mut Device::new(&mut errors),
+        &mut Answered::new(alloc),
     );
     status == end.code()
         && output.as_slice() == shown.as_bytes()
@@ -125,6 +127,7 @@ fn ends_without_words(alloc: Global, kind: ErrorKind, said: &str, end: Status) -
         &mut Device::new(b"".as_slice()),
         &mut Device::new(&mut output),
         &mut Device::new(&mut errors),
+        &mut Answered::new(alloc),
     );
     status == end.code() && output.is_empty() && errors.as_slice().starts_with(said.as_bytes())
 }

@@ -4,7 +4,7 @@ use lt_canon::Checked;
 use lt_jar::{Device, Pieces};
 use lt_registry::SortedTable;
 use lt_testing::{push_record, returned_text, sample_text};
-use lt_tool::{LineForm, ToolFault, perform};
+use lt_tool::{Answered, LineForm, ToolFault, perform};
 use std::alloc::{AllocError, Global};
 use std::io::{self, ErrorKind, Write};
 use std::test::Fail;
@@ -231,6 +231,7 @@ pub fn prints_of_reader(
         &mut input,
         &mut Device::new(&mut output),
         &mut Device::new(&mut errors),
+        &mut Answered::new(alloc),
     );
     end == status
         && errors.is_empty()

@@ -2,7 +2,7 @@
 use super::{ends, read};
 use lt_jar::{Device, Pieces};
 use lt_testing::{changed_text, push_record, sample_text};
-use lt_tool::{Command, WordsFault, perform};
+use lt_tool::{Answered, Command, WordsFault, perform};
 use std::alloc::Global;
 use std::io;
 use std::test::Fail;
@@ -115,6 +115,7 @@ fn fails(
         &mut Device::new(io::empty()),
         &mut Device::new(&mut output),
         &mut Device::new(&mut errors),
+        &mut Answered::new(alloc),
     );
     end == status
         && errors.is_empty()

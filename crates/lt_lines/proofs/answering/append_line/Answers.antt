@@ -1,8 +1,9 @@
 use Rattle.std.proofs.Common.{◌≡◌, ◌++◌, ◌∙◌, ℕ, List, sym, ap, subst, arith, length, take, take_all, vec_len}
-use Rattle.std.proofs.lemmas.Result.{IfOk-weaker}
+use Rattle.std.proofs.lemmas.Result.{IfOk-weaker, on_ok_weaker}
 use Rattle.lt_lines.specs.Answering.{part_kept}
 use Rattle.lt_lines.specs.Owed.{IsReplyTo, reply, terms}
-use Rattle.lt_lines.proofs.TakenLemmas.{kept_more, no_items, nothing_kept}
+use Rattle.lt_lines.proofs.KeptLemmas.{keeps_none, keeps_some}
+use Rattle.lt_lines.proofs.TakenLemmas.{kept_more, no_items, nothing_kept, some_items}
 use Rattle.lt_lines.proofs.TextLemmas.{reply_for_kept}
 use Rattle.lt_lines.proofs.answering.append_line.Goals as goal
 
@@ -32,3 +33,19 @@ returns-clause-owed g c =
       owed = λ last is. reply_for_kept R c.args.form c.args.is_first (last ++ part) _ (subst (λ (l : List ℕ). IsReplyTo (terms R c.args.form) c.args.is_first l (reply a.bytes refused))
           (whole ∙ c.deref.ensures.value ∙ kept_more c.args.form old.items last part c.keep.new.kept.items is kept) a.owed);
     }) c.append_reply-2.ensures.owed
+
+-- what is kept of the line
+pub returns-then-is_empty-clause-kept : goal.returns-then-is_empty-clause-kept
+returns-then-is_empty-clause-kept g c =
+    let kept = c.args.kept.now in
+    let none = no_items kept.items (vec_len kept) kept.ok.0 (sym c.is_empty.ensures ∙ c.if-is_empty.true) in
+    on_ok_weaker c.append_reply.result (λ _. keeps_none c.args.form kept.items (take c.args.count c.args.text.now) none) c.append_reply.ensures.recent
+
+pub returns-clause-kept : goal.returns-clause-kept
+returns-clause-kept g c =
+    let part = take c.args.count c.args.text.now in
+    let old = c.args.kept.now in
+    let kept : c.keep.new.kept.items ≡ old.items ++ part_kept c.args.form (length old.items) part =
+    c.in_ok-keep.ensures ∙ ap (λ (n : ℕ). old.items ++ part_kept c.args.form n part) old.ok.0 in
+    let some = some_items old.items (vec_len old) old.ok.0 (sym c.is_empty.ensures ∙ c.if-is_empty.false) in
+    on_ok_weaker c.append_reply-2.result (λ _. keeps_some c.args.form old.items part c.keep.new.kept.items some kept) c.append_reply-2.ensures.recent

@@ -9,12 +9,14 @@ returns-in-Ok g c = read_more _ _ _ c.in-Ok.ensures (λ reading holds. inr (reco
   registry = holds;
   end = c.run_lines.result;
   runs = c.run_lines.ensures;
+  counts = refl;
   ends = c.end_run.ensures;
 }))
 
 pub returns-in-Err : goal.returns-in-Err
 returns-in-Err g c = read_more _ _ _ c.in-Err.ensures (λ reading is.
     inl (
+      refl,
       refl,
       printed_answer (RefusesRegistry reading) _ _ c.refuse.result _
           (refused_answer reading c.in-Err.refusal c.refuse.result is c.refuse.ensures.line c.refuse.ensures.status) c.print_answer.ensures,

@@ -8,11 +8,11 @@ use Rattle.lt_tool.proofs.printing.run.Goals as goal
 pub returns-in-Classify : goal.returns-in-Classify
 returns-in-Classify g c =
     let printed = printed_answer (Classifies c.as_bytes.result.now) _ _ c.classify.result _ c.classify.ensures c.print_answer.ensures in
-    rw c.in-Classify.is (refl, refl, refl, rw c.as_bytes.ensures.value at printed)
+    rw c.in-Classify.is (refl, refl, refl, refl, rw c.as_bytes.ensures.value at printed)
 
 pub returns-in-Check : goal.returns-in-Check
 returns-in-Check g c =
-    rw c.in-Check.is (refl, refl, printed_by _ Checks _ _ c.check.result _ c.check.ensures c.print_answer-in-Check.ensures)
+    rw c.in-Check.is (refl, refl, refl, printed_by _ Checks _ _ c.check.result _ c.check.ensures c.print_answer-in-Check.ensures)
 
 pub returns-in-Canon : goal.returns-in-Canon
 returns-in-Canon g c = rw c.in-Canon.is (refl, c.answer_lines.ensures)
@@ -31,26 +31,27 @@ pub returns-in-Extlang : goal.returns-in-Extlang
 returns-in-Extlang g c =
     let answers = ByRegistry (λ R. FormsExtlang R c.as_bytes-in-Extlang.result.now) in
     let printed = printed_by _ answers _ _ c.extlang.result _ c.extlang.ensures c.print_answer-in-Extlang.ensures in
-    rw c.in-Extlang.is (refl, refl, rw c.as_bytes-in-Extlang.ensures.value at printed)
+    rw c.in-Extlang.is (refl, refl, refl, rw c.as_bytes-in-Extlang.ensures.value at printed)
 
 pub returns-in-Equal : goal.returns-in-Equal
 returns-in-Equal g c =
     let answers = ByRegistry (λ R. Compares R c.as_bytes-in-Equal.result.now c.as_bytes-in-Equal-2.result.now) in
     let printed = printed_by _ answers _ _ c.equal-answer.result _ c.equal-answer.ensures c.print_answer-in-Equal.ensures in
-    rw c.in-Equal.is (refl, refl, rw (c.as_bytes-in-Equal.ensures.value, c.as_bytes-in-Equal-2.ensures.value) at printed)
+    rw c.in-Equal.is (refl, refl, refl, rw (c.as_bytes-in-Equal.ensures.value, c.as_bytes-in-Equal-2.ensures.value) at printed)
 
 pub returns-in-Explain : goal.returns-in-Explain
 returns-in-Explain g c =
     let answers = ByRegistry (λ R. Explains R c.as_bytes-in-Explain.result.now) in
     let printed = printed_by _ answers _ _ c.explain.result _ c.explain.ensures c.print_answer-in-Explain.ensures in
-    rw c.in-Explain.is (refl, refl, rw c.as_bytes-in-Explain.ensures.value at printed)
+    rw c.in-Explain.is (refl, refl, refl, rw c.as_bytes-in-Explain.ensures.value at printed)
 
 pub returns-in-Verify : goal.returns-in-Verify
-returns-in-Verify g c = rw c.in-Verify.is (refl, rw c.as_bytes-in-Verify.ensures.value at c.verify.ensures)
+returns-in-Verify g c = rw c.in-Verify.is (refl, refl, rw c.as_bytes-in-Verify.ensures.value at c.verify.ensures)
 
 pub returns-in-Upgrade : goal.returns-in-Upgrade
 returns-in-Upgrade g c =
     rw c.in-Upgrade.is (
+      refl,
       refl,
       upgrades_more _ _ _ _ c.upgrade.ensures
           (λ IsAnswer made. printed_answer IsAnswer _ _ c.upgrade.result _ made c.print_answer-in-Upgrade.ensures),

@@ -40,6 +40,6 @@ returns-in_err-keep g c =
 pub returns : goal.returns
 returns g c =
     let now = c.loop-line.self in
-    let mid : Answering = record { kept = c.keep.new.kept; place = c.place_then-self.result; feeds = now.feeds; owed = now.owed; counts = now.counts; recent = now.recent } in
+    let mid : Answering = record { kept = c.keep.new.kept; place = c.place_then-self.result; feeds = now.feeds; owed = now.owed; counts = now.counts; tallies = now.tallies; recent = now.recent } in
     let kept = c.in_ok-keep.ensures ∙ ap (λ (n : ℕ). now.kept.items ++ part_kept c.args.form n c.loop-line.rest.now) now.kept.ok.0 in
-    turn_last _ _ _ _ mid _ _ _ _ c.write.result (turn_kept _ _ _ _ _ now _ _ c.loop-line.invariant mid c.in_default.ensures kept c.place_then-self.ensures refl refl refl refl) c.write.ensures.writes c.write.ensures.emptied
+    turn_last _ _ _ _ mid _ _ _ _ c.write.result (turn_kept _ _ _ _ _ now _ _ c.loop-line.invariant mid c.in_default.ensures kept c.place_then-self.ensures refl refl refl refl refl) c.write.ensures.writes c.write.ensures.emptied

@@ -1,0 +1,59 @@
+-- What is counted of a line of which a front is kept.
+use Rattle.std.proofs.Common.{◌≡◌, ◌<◌, ◌-◌, ◌++◌, ◌∷◌, ◌∙◌, inl, inr, ℕ, List, [], Bool, true, false, length, take, sym, ap, refl, subst, arith, if◌then◌else◌, take_all, length-take-le}
+use Rattle.std.proofs.lemmas.Bool.Decides.{leb_tells}
+use Rattle.std.proofs.lemmas.List.{take-take}
+use Rattle.std.specs.Io.BufRead.{ends_with_byte}
+use Rattle.lt_jar.specs.Lines.{content_of}
+use Rattle.lt_tallies.specs.declared.Tally.{Tally}
+use Rattle.lt_lines.specs.Answering.{KeepsPart, kept_of, longest_kept, part_kept}
+use Rattle.lt_lines.specs.Tallied.{CountsIf, line_at, most_shown}
+use Rattle.lt_lines.specs.declared.forms.LineForm.{LineForm}
+use Rattle.lt_lines.specs.declared.forms.LineForm.TheVariants as forms
+use Rattle.lt_lines.proofs.TakenLemmas.{kept_more, nothing_kept}
+
+-- the front of the content of a long line is its own
+content_front : (line : List ℕ) → most_shown < length line → take most_shown (content_of line) ≡ take most_shown line
+content_front line long = elim (ends_with_byte 13 line) as (λ t. take most_shown (if t then take (length line - 1) line else line) ≡ take most_shown line) [
+  | true ↦ take-take most_shown (length line - 1) line (omega (arith, long))
+  | false ↦ refl
+]
+
+front_kept : (line : List ℕ) → take most_shown (content_of (take longest_kept line)) ≡ take most_shown (content_of line)
+front_kept line = elim (leb_tells (length line) longest_kept) [
+  | inl short ↦ ap (λ (l : List ℕ). take most_shown (content_of l)) (take_all longest_kept line short.1)
+  | inr long ↦
+      content_front (take longest_kept line) (omega (arith, length-take-le longest_kept line (omega (arith, long.1))))
+      ∙ take-take most_shown longest_kept line (omega arith) ∙ sym (content_front line (omega (arith, long.1)))
+]
+
+-- what is counted of the front of a line, as far as it is kept, is counted of the line
+counts_for_kept : (form : LineForm) (number : ℕ) (line bytes : List ℕ) (refused : Bool) (old new : List Tally) → CountsIf form number (kept_of form line) bytes refused old new → CountsIf form number line bytes refused old new
+counts_for_kept form number line bytes false old new same = same
+counts_for_kept forms.Tag number line bytes true old new c =
+    let f = c.is_refused in
+    record {
+      one = c.one;
+      is_refused = record { number_is = f.number_is; fault = f.fault; text = content_of line; is_text = refl; front = f.front ∙ ap (take most_shown) f.is_text ∙ front_kept line };
+      counted = c.counted;
+    }
+counts_for_kept form number line bytes true old new c = c
+
+-- what is counted of what is kept of a whole line, or of its last bytes where nothing is, is counted of the line
+pub counts_line : (form : LineForm) (number : ℕ) (last part bytes before kept : List ℕ) (refused : Bool) (old new : List Tally) → before ≡ kept_of form last → KeepsPart form before part kept
+    → CountsIf form number (line_at kept part) bytes refused old new → CountsIf form number (last ++ part) bytes refused old new
+counts_line form number last part bytes [] kept refused old new is keeps c =
+    subst (λ (l : List ℕ). CountsIf form number (l ++ part) bytes refused old new) (sym (nothing_kept form [] last is refl))
+    (subst (λ (l : List ℕ). CountsIf form number (line_at l part) bytes refused old new) keeps c)
+counts_line form number last part bytes (byte ∷ before) kept refused old new is keeps c =
+    let whole = (byte ∷ before) ++ part_kept form (length (byte ∷ before)) part in
+    counts_for_kept form number (last ++ part) bytes refused old new
+    (subst (λ (l : List ℕ). CountsIf form number l bytes refused old new) (kept_more form (byte ∷ before) last part whole is refl)
+    (subst (λ (l : List ℕ). CountsIf form number (line_at l part) bytes refused old new) keeps c))
+
+-- what is kept of a line once it is whole
+pub keeps_none : (form : LineForm) (old part : List ℕ) → old ≡ [] → KeepsPart form old part old
+keeps_none form old part none = subst (λ (l : List ℕ). KeepsPart form l part l) (sym none) refl
+
+pub keeps_some : (form : LineForm) (old part new : List ℕ) → (old ≡ [] → ⊥) → new ≡ old ++ part_kept form (length old) part → KeepsPart form old part new
+keeps_some form [] part new some is = absurd (some refl)
+keeps_some form (byte ∷ old) part new some is = is

@@ -1,0 +1,86 @@
+-- Which lines are refused, by which fault, and what is counted of them.
+use Rattle.std.specs.Prelude.{◌≡◌, ◌⊎◌, ◌+◌, ◌<◌, ◌^◌, ℕ, Bool, true, false, List, [], ◌∷◌, ◌++◌, drop, length, nat_le, take}
+use Rattle.std.specs.List.{before_first}
+use Rattle.lt_jar.specs.Lines.{content_of}
+use Rattle.lt_tallies.specs.Tallies.{AreTallies, Refused}
+use Rattle.lt_tallies.specs.declared.Tally.{Tally}
+use Rattle.lt_lines.specs.Owed.{Reply}
+use Rattle.lt_lines.specs.Rows.{HasFewer, HasField, IsTextIn}
+use Rattle.lt_lines.specs.declared.forms.LineForm.{LineForm}
+use Rattle.lt_lines.specs.declared.forms.LineForm.TheVariants as forms
+use Rattle.lt_lines.specs.declared.rows.Separator.{Separator}
+use Rattle.lt_lines.specs.declared.rows.Separator.TheVariants as separators
+
+-- what the answer tells that refuses a line: it follows `! `, or the row as it was and a separator
+abbrev pub told_in : LineForm → (line bytes : List ℕ) → List ℕ
+told_in forms.Tag line bytes = drop 2 bytes
+told_in (forms.Row before) line bytes = drop (length (content_of line) + 1) bytes
+told_in (forms.Csv before) line bytes = drop (length (content_of line) + 1) bytes
+
+-- the name of the fault: what is before the first space (32) or end of line
+abbrev pub fault_in : LineForm → (line bytes : List ℕ) → List ℕ
+fault_in form line bytes = before_first (λ byte. nat_le byte 32) (told_in form line bytes)
+
+-- the text of the field of a row
+pub record IsFieldText (S : Separator) (before : ℕ) (row text : List ℕ) : Type 0 where
+  pub front : List ℕ
+  pub field : List ℕ
+  pub after : List ℕ
+  pub at : HasField S before row front field after
+  pub quotes : List ℕ
+  pub is_text : IsTextIn S field quotes text
+
+-- the same, or nothing where there is no such field
+abbrev pub IsFieldOrNone : Separator → ℕ → (row text : List ℕ) → Type 0
+IsFieldOrNone S before row text = IsFieldText S before row text ⊎ (HasFewer S before row × (text ≡ []))
+
+-- the text of a line that is read as a tag
+abbrev pub IsTagIn : LineForm → (line text : List ℕ) → Type 0
+IsTagIn forms.Tag line text = text ≡ content_of line
+IsTagIn (forms.Row before) line text = IsFieldOrNone separators.Tab before (content_of line) text
+IsTagIn (forms.Csv before) line text = IsFieldOrNone separators.Comma before (content_of line) text
+
+-- the most bytes that are shown of a text
+abbrev pub most_shown : ℕ
+most_shown = 64
+
+-- a line of this number was refused by this answer: its fault, and the front of its text
+pub record IsRefusedAs (form : LineForm) (number : ℕ) (line bytes : List ℕ) (f : Refused) : Type 0 where
+  pub number_is : f.number ≡ number
+  pub fault : f.fault ≡ fault_in form line bytes
+  pub text : List ℕ
+  pub is_text : IsTagIn form line text
+  pub front : f.text ≡ take most_shown text
+
+-- those of these lines that their answers refuse, in order; the first line has this number
+abbrev pub AreRefused : LineForm → ℕ → List (List ℕ) → List Reply → List Refused → Type 0
+AreRefused form number (line ∷ lines) (r ∷ replies) refusals =
+    ((r.refused ≡ false) × AreRefused form (number + 1) lines replies refusals)
+    ⊎ ((f : Refused) × (more : List Refused) × (r.refused ≡ true) × (refusals ≡ f ∷ more)
+    × IsRefusedAs form number line r.bytes f × AreRefused form (number + 1) lines replies more)
+AreRefused form number lines replies refusals = refusals ≡ []
+
+-- the tallies of the lines that their answers refuse; the first line has the number 1
+pub record AreTalliesOf (form : LineForm) (lines : List (List ℕ)) (replies : List Reply) (tallies : List Tally) : Type 0 where
+  pub refusals : List Refused
+  pub are_refused : AreRefused form 1 lines replies refusals
+  pub tallied : AreTallies refusals tallies
+
+-- ---- the steps
+
+-- one line more was counted
+pub record CountsLine (form : LineForm) (number : ℕ) (line bytes : List ℕ) (old new : List Tally) : Type 0 where
+  pub one : Refused
+  pub is_refused : IsRefusedAs form number line bytes one
+  pub counted : (refusals : List Refused) → length refusals + 1 < 2 ^ 64
+      → AreTallies refusals old → AreTallies (refusals ++ one ∷ []) new
+
+-- one line more was counted if it was refused
+abbrev pub CountsIf : LineForm → ℕ → (line bytes : List ℕ) → Bool → (old new : List Tally) → Type 0
+CountsIf form number line bytes false old new = new ≡ old
+CountsIf form number line bytes true old new = CountsLine form number line bytes old new
+
+-- a line of which this is kept, or this part of a piece where nothing is kept
+abbrev pub line_at : (kept part : List ℕ) → List ℕ
+line_at [] part = part
+line_at (byte ∷ kept) part = byte ∷ kept

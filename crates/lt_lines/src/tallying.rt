@@ -1,0 +1,102 @@
+//! What is counted of a line that is refused.
+ghost use Rattle.std.specs.Prelude.{◌≡◌, OnOk, nat_le, position};
+ghost use Rattle.lt_lines.specs.Tallied as spec;
+ghost use Rattle.lt_lines.specs.Tallied.{CountsIf, CountsLine, IsFieldOrNone, IsTagIn};
+
+use crate::answer_lines::without_return;
+use crate::forms::LineForm;
+use crate::rows::{Separator, find_field, text_in};
+use lt_tallies::Tallies;
+use std::alloc::{AllocError, Global};
+
+/// The most bytes that are shown of a text that is refused.
+const MOST_SHOWN: usize = 64;
+
+/// What the answer tells that refuses a line: the name of its fault, and a place or a variant.
+#[tactic(auto, using(crate::proofs::FaultLemmas::after_front))]
+fn told_in<'a>(form: LineForm, line: &[u8], answer: &'a [u8]) -> &'a [u8]
+    ensures { result.now ≡ spec.told_in form line.now answer.now }
+{
+    let before = match form {
+        LineForm::Tag => 2,
+        LineForm::Row(_) | LineForm::Csv(_) => without_return(line).len() + 1,
+    };
+    &answer[before.min(answer.len())..]
+}
+
+/// Where a name ends.
+fn name_end(told: &[u8]) -> Option<usize>
+    ensures { result ≡ position (λ byte. nat_le byte 32) told.now }
+{
+    told.iter().position(|byte| *byte <= b' ')
+}
+
+/// The name of the fault for which an answer refuses a line.
+#[tactic(auto, using(crate::proofs::FaultLemmas::before_found, crate::proofs::FaultLemmas::before_none))]
+fn fault_in<'a>(form: LineForm, line: &[u8], answer: &'a [u8]) -> &'a [u8]
+    ensures { result.now ≡ spec.fault_in form line.now answer.now }
+{
+    let told = told_in(form, line, answer);
+    match name_end(told) {
+        Some(end) => &told[..end],
+        None => told,
+    }
+}
+
+/// The text of a field of a row, or nothing where there is no such field.
+fn field_text(separator: Separator, before: usize, row: &[u8]) -> &[u8]
+    ensures { IsFieldOrNone separator before row.now result.now }
+{
+    match find_field(separator, row, before) {
+        Some((_, field, _)) => text_in(separator, field).1,
+        None => &[],
+    }
+}
+
+/// The text of a line that is read as a tag.
+fn tag_in(form: LineForm, line: &[u8]) -> &[u8]
+    ensures { IsTagIn form line.now result.now }
+{
+    let row = without_return(line);
+    match form {
+        LineForm::Tag => row,
+        LineForm::Row(before) => field_text(Separator::Tab, before, row),
+        LineForm::Csv(before) => field_text(Separator::Comma, before, row),
+    }
+}
+
+/// Counts a line of this number that this answer refuses.
+#[inline(never)]
+fn count_line(
+    tallies: &mut Tallies,
+    alloc: Global,
+    form: LineForm,
+    number: u64,
+    line: &[u8],
+    answer: &[u8],
+) -> Result<(), AllocError>
+    ensures { OnOk result (CountsLine form number line.now answer.now tallies.old tallies.new) }
+{
+    let text = tag_in(form, line);
+    let shown = &text[..text.len().min(MOST_SHOWN)];
+    tallies.count(alloc, fault_in(form, line, answer), number, shown)
+}
+
+/// The same of a line that was answered, if it was refused.
+#[inline(always)]
+pub(crate) fn count_if(
+    tallies: &mut Tallies,
+    alloc: Global,
+    form: LineForm,
+    number: u64,
+    line: &[u8],
+    answer: &[u8],
+    refused: bool,
+) -> Result<(), AllocError>
+    ensures { OnOk result (CountsIf form number line.now answer.now refused tallies.old tallies.new) }
+{
+    if refused {
+        count_line(tallies, alloc, form, number, line, answer)?;
+    }
+    Ok(())
+}

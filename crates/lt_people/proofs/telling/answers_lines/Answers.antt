@@ -1,5 +1,0 @@
-use Rattle.lt_people.proofs.telling.answers_lines.Goals as goal
-
-pub returns-in-Ok-read_words : goal.returns-in-Ok-read_words
-returns-in-Ok-read_words c =
-    (c.in-Ok-read_words.command, rw c.in-Ok.is (rw c.deref.ensures.value at c.in-Ok-read_words.ensures.read), c.answers_lines.ensures)

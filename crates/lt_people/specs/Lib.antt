@@ -1,2 +1,0 @@
-pub mod People
-pub mod Progress

@@ -1,0 +1,2 @@
+mod WatchingLemmas
+mod WordLemmas

@@ -1,0 +1,55 @@
+-- What is known of a writer stays known while its first bytes are kept.
+use Rattle.std.proofs.Common.{◌≡◌, ◌≤◌, ◌-◌, ◌∙◌, ap, arith, inl, inr, sym, ℕ, true, false, length, List, ◌++◌, ◌==◌, ◌&&◌, Option, Some, None, bytes_eq, if◌then◌else◌, refl, take, take_all, length-take-le}
+use Rattle.std.proofs.lemmas.Bool.{and_from, and_parts, eqb-true}
+use Rattle.std.proofs.lemmas.Bool.Decides.{leb_tells}
+use Rattle.std.proofs.lemmas.List.{take-append-le}
+use Rattle.std.proofs.lemmas.Slice.Eq.{bytes_eq-Decides}
+use Rattle.std.specs.Io.KnownBytes.{Appends}
+use Rattle.lt_terminal.specs.Watching.{front_then, most_kept, watched_contents}
+
+-- the first of bytes and more
+front_more : (bytes more : List ℕ) → front_then (take most_kept bytes) more ≡ take most_kept (bytes ++ more)
+front_more bytes more = elim (leb_tells (length bytes) most_kept) [
+  | inl short ↦ ap (λ (l : List ℕ). take most_kept (l ++ more)) (take_all most_kept bytes short.1)
+  | inr long ↦
+      let full = length-take-le most_kept bytes (omega (arith, long.1)) in
+      take-append-le most_kept (take most_kept bytes) more (omega (arith, full)) ∙ take_all most_kept (take most_kept bytes) (omega (arith, full))
+      ∙ sym (take-append-le most_kept bytes more (omega (arith, long.1)))
+]
+
+kept_more : (front bytes more : List ℕ) → bytes_eq front (take most_kept bytes) ≡ true → bytes_eq (front_then front more) (take most_kept (bytes ++ more)) ≡ true
+kept_more front bytes more h =
+    let same = (bytes_eq-Decides front (take most_kept bytes)).0 h in
+    (bytes_eq-Decides (front_then front more) (take most_kept (bytes ++ more))).1 (ap (λ (l : List ℕ). front_then l more) same ∙ front_more bytes more)
+
+pub contents_grow : (old new : Option (List ℕ)) (front : List ℕ) (given : ℕ) (more : List ℕ) → Appends old new more
+    → Appends (watched_contents old front given) (watched_contents new (front_then front more) given) more
+contents_grow None new front given more a = tt
+contents_grow (Some bytes) None front given more a = elim a [ ]
+contents_grow (Some bytes) (Some longer) front given more a =
+    (elim (bytes_eq front (take most_kept bytes) && given == 0) as
+    (λ v. (bytes_eq front (take most_kept bytes) && given == 0) ≡ v
+    → Appends (if v then Some bytes else None) (watched_contents (Some longer) (front_then front more) given) more) [
+      | false ↦ λ h. tt
+      | true ↦ λ h.
+          let both = and_parts _ _ h in
+          rw (a, and_from _ _ (kept_more front bytes more both.0) both.1) refl
+    ]) refl
+
+-- what is known of the bytes
+pub record IsKnown (bytes front : List ℕ) (given : ℕ) : Type 0 where
+  pub front_is : front ≡ take most_kept bytes
+  pub none_given : given ≡ 0
+
+pub contents_known : (inner : Option (List ℕ)) (front : List ℕ) (given : ℕ) (bytes : List ℕ) → watched_contents inner front given ≡ Some bytes
+    → IsKnown bytes front given
+contents_known None front given bytes h = cc
+contents_known (Some held) front given bytes h =
+    (elim (bytes_eq front (take most_kept held) && given == 0) as
+    (λ v. (bytes_eq front (take most_kept held) && given == 0) ≡ v → (if v then Some held else None) ≡ Some bytes → IsKnown bytes front given) [
+      | false ↦ λ e k. cc
+      | true ↦ λ e k.
+          let same : held ≡ bytes = cc in
+          let both = and_parts _ _ e in
+          record { front_is = rw (sym same) ((bytes_eq-Decides front (take most_kept held)).0 both.0); none_given = eqb-true given 0 both.1 }
+    ]) refl h

@@ -1,0 +1,115 @@
+-- A run of the program for a person at a terminal.
+use Rattle.std.specs.Prelude.{◌≡◌, ◌⊎◌, ◌==◌, ◌++◌, ℕ, true, false, if◌then◌else◌, List, [], ◌∷◌, Option, Some, None, codes, nat_eq, option_or, take}
+use Rattle.std.specs.List.{before_first, slice_split, starts_with}
+use Rattle.lt_jar.specs.Devices.{inner_of}
+use Rattle.lt_jar.specs.declared.devices.Device.{Device}
+use Rattle.lt_terminal.specs.Meanings.{message_of}
+use Rattle.lt_terminal.specs.Table.{counts_line, tallies_told}
+use Rattle.lt_terminal.specs.Watching.{most_kept}
+use Rattle.lt_terminal.specs.declared.watched.Watched.{Watched}
+use Rattle.lt_words.specs.declared.commands.Command.{Command}
+use Rattle.lt_words.specs.declared.commands.Command.TheVariants as command
+use Rattle.lt_words.specs.declared.faults.WordsFault.{WordsFault}
+use Rattle.lt_tool.specs.Program.{GivenWords, IsNew, IsProgramFault, NamesCommand, Opener, RunsProgram}
+use Rattle.lt_tool.specs.Streams.{IsUntouched, Stream, handed, stream}
+use Rattle.lt_tool.specs.Written.{Says}
+use Rattle.lt_tool.specs.declared.answered.Answered.{Answered}
+
+-- what a command answers one by one, if it does: lines, or records
+abbrev pub unit_of : Command → Option (List ℕ)
+unit_of (command.Canon name) = Some (codes "line")
+unit_of (command.Tsv name column) = Some (codes "line")
+unit_of (command.Csv name column) = Some (codes "record")
+unit_of _ = None
+
+-- the same of the command that the words name; nothing where they name none
+abbrev pub IsAsked : GivenWords → Option (Option (List ℕ)) → Type 0
+IsAsked words (Some unit) = (command : Command) × NamesCommand words command × (unit ≡ unit_of command)
+IsAsked words None = (why : WordsFault) × IsProgramFault words why
+
+-- the message for the first word that names a fault
+abbrev pub first_message : List (List ℕ) → Option (List ℕ)
+first_message [] = None
+first_message (word ∷ words) = option_or (message_of word) (first_message words)
+
+-- the message for a line: for the whole of it, as for `ok 0`, or for the first of its words that names a fault
+abbrev pub line_message : List ℕ → Option (List ℕ)
+line_message line = option_or (message_of line) (first_message (slice_split (λ byte. byte == 32) line))
+
+-- the message for the first line of what was written, if it tells a fault
+abbrev pub meaning_of : (front : List ℕ) → List ℕ
+meaning_of front = message_line (line_message (before_first (λ byte. byte == 10) front))
+  where
+    message_line : Option (List ℕ) → List ℕ
+    message_line None = []
+    message_line (Some message) = message ++ 10 ∷ []
+
+-- why a file could not be opened, if the errors mean that one could not
+abbrev pub refusal_of : (refusal meaning : List ℕ) → List ℕ
+refusal_of refusal meaning = if starts_with nat_eq meaning (codes "File: ") then refusal else []
+
+-- what is said of what was printed: of answers to lines or records how many were refused, and by which faults; of the one
+-- answer of another run, and where a registry was refused, what it means
+abbrev pub told_of : Option (List ℕ) → (result : ℕ) → Answered → (shown : List ℕ) → List ℕ
+told_of None result answered shown = meaning_of shown
+told_of (Some unit) result answered shown =
+    if result == 2 then meaning_of shown else counts_line unit answered.counts ++ tallies_told unit answered.tallies
+
+-- the lines that a person is told by the front of the output and that of the errors
+abbrev pub told_lines : Option (List ℕ) → (result : ℕ) → Answered → (refusal shown said : List ℕ) → List ℕ
+told_lines unit result answered refusal shown said =
+    told_of unit result answered shown ++ meaning_of said ++ refusal_of refusal (meaning_of said)
+
+-- the front of the bytes that a writer holds, where they are known
+abbrev pub IsFront : Option (List ℕ) → List ℕ → Type 0
+IsFront contents front = (bytes : List ℕ) → contents ≡ Some bytes → front ≡ take most_kept bytes
+
+-- the lines that a person is told of these bytes on the output and those on the errors
+pub record AreTold (unit : Option (List ℕ)) (result : ℕ) (answered : Answered) (refusal : List ℕ) (shown said : Option (List ℕ))
+    (lines : List ℕ) : Type 0 where
+  pub output_front : List ℕ
+  pub errors_front : List ℕ
+  pub of_output : IsFront shown output_front
+  pub of_errors : IsFront said errors_front
+  pub lines_are : lines ≡ told_lines unit result answered refusal output_front errors_front
+
+-- a person is told these lines, unless there is no memory for them
+pub record SaysLines {T : Type 0} (unit : Option (List ℕ)) (result : ℕ) (answered : Answered) (shown said : Option (List ℕ))
+    (people : Stream T) : Type 0 where
+  pub refusal : List ℕ
+  pub lines : List ℕ
+  pub are_told : AreTold unit result answered refusal shown said lines
+  pub says : Says people lines
+
+-- what a person is told after a run that ended so, where the words name a command
+abbrev pub Tells : {T : Type 0} → Option (Option (List ℕ)) → (result : ℕ) → Answered → (shown said : Option (List ℕ)) → Stream T → Type 0
+Tells None result answered shown said people = IsUntouched people
+Tells (Some unit) result answered shown said people =
+    IsUntouched people ⊎ SaysLines unit result answered shown said people
+
+-- a device whose writer is watched, and was not written so far
+pub record IsWatched {W : Type 0} (inner : W) (device : Device (Watched W)) : Type 0 where
+  pub holds : (inner_of device).inner ≡ inner
+  pub none_kept : (inner_of device).front.items ≡ []
+  pub new : IsNew (inner_of device) device
+
+-- The program is run, on devices that pass on what it writes, and then a person is told what it came to.
+pub record RunsForPeople {P F N I O E T : Type 0} (words : GivenWords)
+    (opener : Opener P F) (of_none : N → Option (List ℕ)) (input : Stream I)
+    (of_output : Watched O → Option (List ℕ)) (output : O) (of_errors : Watched E → Option (List ℕ)) (errors : E)
+    (people : Stream T) (result : ℕ) : Type 0 where
+  pub output_before : Device (Watched O)
+  pub output_after : Device (Watched O)
+  pub errors_before : Device (Watched E)
+  pub errors_after : Device (Watched E)
+  pub watches_output : IsWatched output output_before
+  pub watches_errors : IsWatched errors errors_before
+  pub none_answered : Answered
+  pub answered : Answered
+  pub none_counted : none_answered.counts ≡ None
+  pub none_refused : none_answered.tallies ≡ []
+  pub runs : RunsProgram words opener of_none input (stream of_output output_before output_after)
+      (stream of_errors errors_before errors_after) (handed none_answered answered) result
+  pub asked : Option (Option (List ℕ))
+  pub is_asked : IsAsked words asked
+  pub tells : Tells asked result answered (of_output (inner_of output_after)) (of_errors (inner_of errors_after)) people

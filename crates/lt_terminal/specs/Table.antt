@@ -1,0 +1,37 @@
+-- What a person is told of the lines that a run refused: for each fault how many there are, the first of them, and what
+-- to do.
+use Rattle.std.specs.Prelude.{ℕ, ◌&&◌, ◌++◌, List, [], ◌∷◌, Option, Some, None, if◌then◌else◌, codes, map, nat_le}
+use Rattle.std.specs.List.{flat_map}
+use Rattle.std.specs.Fmt.{decimal}
+use Rattle.lt_lines.specs.declared.runs.Counts.{Counts}
+use Rattle.lt_tallies.specs.declared.Tally.{Tally}
+use Rattle.lt_terminal.specs.Advice.{advice_line}
+
+-- how many lines or records were answered, and how many of them refused
+abbrev pub counts_line : (unit : List ℕ) → Option Counts → List ℕ
+counts_line unit None = []
+counts_line unit (Some counts) =
+    decimal counts.lines ++ 32 ∷ unit ++ codes "s, " ++ decimal counts.refused ++ codes " refused" ++ 10 ∷ []
+
+-- a byte of a text that was refused: a question mark (63) stands for one that is no printable byte of ASCII
+abbrev pub shown_byte : ℕ → ℕ
+shown_byte byte = if nat_le 32 byte && nat_le byte 126 then byte else 63
+
+-- a text that was refused, if it is anything
+abbrev pub shown_text : List ℕ → List ℕ
+shown_text [] = []
+shown_text (byte ∷ text) = codes ": " ++ map shown_byte (byte ∷ text)
+
+-- the lines that a fault refused
+abbrev pub tally_line : (unit : List ℕ) → Tally → List ℕ
+tally_line unit tally =
+    decimal tally.lines ++ 32 ∷ tally.fault.items ++ codes ", first in " ++ unit ++ 32 ∷ decimal tally.first
+    ++ shown_text tally.text.items ++ 10 ∷ []
+
+-- a tally, and what to do
+abbrev pub tally_told : (unit : List ℕ) → Tally → List ℕ
+tally_told unit tally = tally_line unit tally ++ advice_line tally.fault.items tally.text.items
+
+-- all tallies, in the order in which the faults came
+abbrev pub tallies_told : (unit : List ℕ) → List Tally → List ℕ
+tallies_told unit tallies = flat_map (tally_told unit) tallies

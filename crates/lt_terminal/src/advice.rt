@@ -1,0 +1,110 @@
+//! What to do about a fault that refused a text.
+ghost use Rattle.std.specs.Prelude.{◌≡◌, ◌==◌, ◌++◌, OnOk, map, option_map, position};
+ghost use Rattle.lt_terminal.specs.Advice as spec;
+ghost use Rattle.lt_terminal.specs.Codes.{two_letters};
+
+use crate::codes::CODES;
+use crate::meanings::{first_of, message_of};
+use std::alloc::AllocError;
+
+/// What is said of a language that is longer than a code.
+const NAME_MESSAGE: &str =
+    "This is a name of a language and not a code: write en for English, de for German.";
+
+/// The codes of three letters that BCP 47 does not register.
+fn codes() -> &'static [&'static str]
+    ensures { map (λ message. message.now) result.now ≡ two_letters }
+{
+    &CODES
+}
+
+/// The code of two letters that BCP 47 writes for one of three.
+#[tactic(auto, unfolding(crate::specs::Advice::code_message))]
+fn code_message(code: &[u8]) -> Option<&'static str>
+    ensures { option_map (λ message. message.now) result ≡ spec.code_message code.now }
+{
+    first_of(codes(), code)
+}
+
+/// Where the first hyphen is.
+fn hyphen(text: &[u8]) -> Option<usize>
+    ensures { result ≡ position (λ byte. byte == 45) text.now }
+{
+    text.iter().position(|byte| *byte == b'-')
+}
+
+/// What is before the first hyphen.
+#[tactic(auto, using(lt_lines::proofs::FaultLemmas::before_found, lt_lines::proofs::FaultLemmas::before_none))]
+fn first_subtag(text: &[u8]) -> &[u8]
+    ensures { result.now ≡ spec.first_subtag text.now }
+{
+    match hyphen(text) {
+        Some(end) => &text[..end],
+        None => text,
+    }
+}
+
+/// What to do about a language that is unknown.
+fn language_advice(subtag: &[u8]) -> Option<&'static str>
+    ensures { option_map (λ advice. advice.now) result ≡ spec.language_advice subtag.now }
+{
+    match code_message(subtag) {
+        Some(message) => Some(message),
+        None if subtag.len() > 4 => Some(NAME_MESSAGE),
+        None => None,
+    }
+}
+
+/// What to do about a region that is unknown.
+fn region_advice(text: &[u8]) -> Option<&'static str>
+    ensures { option_map (λ advice. advice.now) result ≡ spec.region_advice text.now }
+{
+    if text.ends_with(b"-UK") || text.ends_with(b"-uk") {
+        Some("UK: BCP 47 writes GB.")
+    } else {
+        None
+    }
+}
+
+/// What to do about this text, if more is known of it than the fault.
+fn advice_for(fault: &[u8], text: &[u8]) -> Option<&'static str>
+    ensures { option_map (λ advice. advice.now) result ≡ spec.advice_for fault.now text.now }
+{
+    if fault == b"UnknownLanguage".as_slice() {
+        language_advice(first_subtag(text))
+    } else if fault == b"UnknownRegion".as_slice() {
+        region_advice(text)
+    } else {
+        None
+    }
+}
+
+/// Appends a line of advice.
+fn append_line(told: &mut Vec<u8>, advice: &[u8]) -> Result<(), AllocError>
+    ensures { OnOk result (told.new.items ≡ told.old.items ++ spec.said advice.now) }
+{
+    told.extend_from_slice(b"  ")?;
+    told.extend_from_slice(advice)?;
+    told.push(b'\n')?;
+    Ok(())
+}
+
+/// Appends what to do about a fault that refused this text.
+pub(crate) fn append_advice(
+    told: &mut Vec<u8>,
+    fault: &[u8],
+    text: &[u8],
+) -> Result<(), AllocError>
+    ensures { OnOk result (told.new.items ≡ told.old.items ++ spec.advice_line fault.now text.now) }
+{
+    if let Some(advice) = advice_for(fault, text) {
+        return append_line(told, advice.as_bytes());
+    }
+    match message_of(fault) {
+        Some(message) => {
+            let after = (fault.len() + 2).min(message.len());
+            append_line(told, &message.as_bytes()[after..])
+        }
+        None => Ok(()),
+    }
+}

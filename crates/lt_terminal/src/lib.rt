@@ -1,0 +1,19 @@
+//! A run of the program `langtag` for a person at a terminal: what is said there besides what the program prints. A
+//! program of your own begins with the crate `bcp47`, whose errors say what is wrong by `{}`.
+#![tactic(auto)]
+
+mod advice;
+mod codes;
+mod meanings;
+mod openings;
+mod progress;
+mod run;
+mod table;
+mod telling;
+mod watched;
+
+pub use meanings::message_of;
+pub use openings::Openings;
+pub use progress::Progress;
+pub use run::run_for_people;
+pub use watched::Watched;

@@ -1,0 +1,106 @@
+//! How far a long run is.
+ghost use Rattle.std.specs.Prelude.{◌≡◌, ◌+◌, ◌-◌, ◌^◌, IfOk, OnErr, min, take};
+ghost use Rattle.lt_jar.specs.Devices.{HasFailed, failures_of, inner_of};
+ghost use Rattle.std.specs.Io.KnownBytes.{Keeps, WriteAppends};
+ghost use Rattle.std.specs.Io.{WritesAtMost};
+ghost use Rattle.lt_lines.specs.Owed.{feeds_in};
+ghost use Rattle.lt_terminal.specs.Progress as spec;
+ghost use Rattle.lt_terminal.specs.Progress.{TellsProgress};
+ghost use Rattle.lt_tool.specs.Streams.{stream};
+
+use crate::telling::say;
+use lt_jar::Device;
+use std::alloc::Global;
+use std::io::{self, Write};
+
+/// A person is told the lines of a run each time that so many are full.
+const MILLION: u64 = 1_000_000;
+
+/// A writer that hands on what it takes, and tells a person how many lines that were, each time that a million more
+/// is full.
+#[derive(Drop)]
+pub struct Progress<W, T> {
+    alloc: Global,
+    inner: Device<W>,
+    people: Device<T>,
+    is_told: bool,
+    lines: u64,
+}
+
+/// Whether another million of lines is full.
+fn fills_million(before: u64, after: u64) -> bool
+    ensures { result ≡ spec.fills_million before after }
+{
+    after / MILLION != before / MILLION
+}
+
+impl<W, T> Progress<W, T> {
+    /// A writer that took nothing so far. Where the output is a terminal itself, its lines tell how far the run is, and
+    /// `is_told` is false.
+    pub fn new(alloc: Global, inner: W, people: T, is_told: bool) -> Progress<W, T>
+        ensures inner { (inner_of result.inner ≡ inner) × (failures_of result.inner ≡ 0) }
+        ensures told { (result.is_told ≡ is_told) × (result.lines ≡ 0) }
+    {
+        Progress {
+            alloc,
+            inner: Device::new(inner),
+            people: Device::new(people),
+            is_told,
+            lines: 0,
+        }
+    }
+}
+
+/// Tells a person how many lines there are, if a million more is full since there were fewer.
+fn tell_progress<T: Write>(
+    alloc: Global,
+    is_told: bool,
+    before: u64,
+    after: u64,
+    people: &mut Device<T>,
+)
+    ensures { TellsProgress is_told before after (stream T.contents people.old people.new) }
+{
+    if is_told && fills_million(before, after) {
+        if let Ok(line) = format!(in alloc; "{after} lines\r") {
+            say(line.as_bytes(), people);
+        }
+    }
+}
+
+impl<W: Write, T: Write> Write for Progress<W, T> {
+    ghost contents = { λ progress. W.contents (inner_of progress.inner) };
+
+    /// What one call of the writer with this slice answers.
+    fn write(&mut self, buf: &[u8]) -> io::Result<usize>
+        ensures bound { WritesAtMost result buf.now }
+        ensures bytes { WriteAppends (W.contents (inner_of self.old.inner)) (W.contents (inner_of self.new.inner)) result buf.now }
+        ensures fails { OnErr result (HasFailed self.old.inner self.new.inner) }
+        ensures counted { IfOk result (λ count. self.new.lines ≡ min (self.old.lines + feeds_in (take count buf.now)) (2 ^ 64 - 1)) }
+        ensures told { TellsProgress self.old.is_told self.old.lines self.new.lines (stream T.contents self.old.people self.new.people) }
+    {
+        match self.inner.write(buf) {
+            Ok(count) => {
+                let before = self.lines;
+                let feeds = buf[..count].iter().filter(|byte| **byte == b'\n').count();
+                self.lines = before.saturating_add(feeds as u64);
+                tell_progress(
+                    self.alloc,
+                    self.is_told,
+                    before,
+                    self.lines,
+                    &mut self.people,
+                );
+                Ok(count)
+            }
+            Err(error) => Err(error),
+        }
+    }
+
+    /// What one call of the writer's `flush` answers.
+    fn flush(&mut self) -> io::Result<()>
+        ensures bytes { Keeps (W.contents (inner_of self.old.inner)) (W.contents (inner_of self.new.inner)) }
+    {
+        self.inner.flush()
+    }
+}

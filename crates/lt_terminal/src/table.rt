@@ -1,0 +1,90 @@
+//! What a person is told of the lines that a run refused.
+ghost use Rattle.std.specs.Prelude.{◌≡◌, ◌++◌, OnOk, map};
+ghost use Rattle.lt_terminal.specs.Table as spec;
+
+use crate::advice::append_advice;
+use lt_lines::{Counts, Tallies, Tally};
+use std::alloc::{AllocError, Global};
+
+/// Appends how many lines were answered and refused, if all of them were answered.
+pub(crate) fn append_counts(
+    told: &mut Vec<u8>,
+    alloc: Global,
+    unit: &str,
+    counts: Option<Counts>,
+) -> Result<(), AllocError>
+    ensures { OnOk result (told.new.items ≡ told.old.items ++ spec.counts_line unit.now counts) }
+{
+    let Some(counts) = counts else {
+        return Ok(());
+    };
+    let (lines, refused) = (counts.lines, counts.refused);
+    let line = format!(in alloc; "{lines} {unit}s, {refused} refused\n")?;
+    told.extend_from_slice(line.as_bytes())
+}
+
+/// The byte that is shown for one of a text that was refused.
+fn shown_byte(byte: u8) -> u8
+    ensures { result ≡ spec.shown_byte byte }
+{
+    if byte >= b' ' && byte <= b'~' {
+        byte
+    } else {
+        b'?'
+    }
+}
+
+/// Appends the bytes that are shown for a text.
+fn append_shown(told: &mut Vec<u8>, text: &[u8]) -> Result<(), AllocError>
+    ensures { OnOk result (told.new.items ≡ told.old.items ++ map spec.shown_byte text.now) }
+{
+    for byte in text {
+        told.push(shown_byte(*byte))?;
+    }
+    Ok(())
+}
+
+/// Appends a text that was refused, if it is anything.
+fn append_text(told: &mut Vec<u8>, text: &[u8]) -> Result<(), AllocError>
+    ensures { OnOk result (told.new.items ≡ told.old.items ++ spec.shown_text text.now) }
+{
+    if text.is_empty() {
+        return Ok(());
+    }
+    told.extend_from_slice(b": ")?;
+    append_shown(told, text)
+}
+
+/// Appends the line of the lines that a fault refused.
+fn append_tally(
+    told: &mut Vec<u8>,
+    alloc: Global,
+    unit: &str,
+    tally: &Tally,
+) -> Result<(), AllocError>
+    ensures { OnOk result (told.new.items ≡ told.old.items ++ spec.tally_line unit.now tally.now) }
+{
+    let (lines, first) = (tally.lines, tally.first);
+    told.extend_from_slice(format!(in alloc; "{lines} ")?.as_bytes())?;
+    told.extend_from_slice(&tally.fault)?;
+    told.extend_from_slice(format!(in alloc; ", first in {unit} {first}")?.as_bytes())?;
+    append_text(told, &tally.text)?;
+    told.push(b'\n')?;
+    Ok(())
+}
+
+/// Appends what a person is told of all the lines that were refused.
+pub(crate) fn append_tallies(
+    told: &mut Vec<u8>,
+    alloc: Global,
+    unit: &str,
+    tallies: &Tallies,
+) -> Result<(), AllocError>
+    ensures { OnOk result (told.new.items ≡ told.old.items ++ spec.tallies_told unit.now tallies.now) }
+{
+    for tally in tallies.faults() {
+        append_tally(told, alloc, unit, tally)?;
+        append_advice(told, &tally.fault, &tally.text)?;
+    }
+    Ok(())
+}

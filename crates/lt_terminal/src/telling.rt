@@ -1,0 +1,205 @@
+//! What a person is told after a run.
+ghost use Rattle.std.specs.Prelude.{◌≡◌, ◌==◌, ◌++◌, IfOk, OnOk, option_map, position};
+ghost use Rattle.std.specs.List.{before_first, slice_split};
+ghost use Rattle.lt_jar.specs.Devices.{inner_of};
+ghost use Rattle.lt_terminal.specs.People.{AreTold, IsAsked, IsFront, Tells, told_lines, told_of};
+ghost use Rattle.lt_terminal.specs.People as spec;
+ghost use Rattle.lt_tool.specs.Program.{texts_of};
+ghost use Rattle.lt_tool.specs.Streams.{stream};
+ghost use Rattle.lt_tool.specs.Written.{Says};
+
+use crate::meanings::message_of;
+use crate::table::{append_counts, append_tallies};
+use crate::watched::Watched;
+use lt_jar::Device;
+use lt_lines::{split_first, write_text};
+use lt_tool::{Answered, Command, Status, read_words};
+use std::alloc::{AllocError, Global};
+use std::io::{self, Read, Write};
+
+/// What a command answers one by one, if it does.
+pub(crate) fn unit_of(command: &Command) -> Option<&'static str>
+    ensures { option_map (λ unit. unit.now) result ≡ spec.unit_of command.now }
+{
+    match command {
+        Command::Canon(_) | Command::Tsv(_, _) => Some("line"),
+        Command::Csv(_, _) => Some("record"),
+        _ => None,
+    }
+}
+
+/// The same of the command that the words name; nothing where they name none.
+pub(crate) fn asked_by(
+    alloc: Global,
+    words: &io::Result<Vec<String>>,
+) -> Option<Option<&'static str>>
+    ensures { IsAsked (texts_of words.now) (option_map (λ unit. option_map (λ text. text.now) unit) result) }
+{
+    match words {
+        Ok(words) => match read_words(alloc, words) {
+            Ok(command) => Some(unit_of(&command)),
+            Err(_) => None,
+        },
+        Err(_) => None,
+    }
+}
+
+/// The message for the first word of a line that names a fault.
+#[tactic(auto, using(crate::proofs::WordLemmas::last_word, crate::proofs::WordLemmas::next_word))]
+fn first_message(line: &[u8]) -> Option<&'static str>
+    ensures { option_map (λ message. message.now) result ≡ spec.first_message (slice_split (λ byte. byte == 32) line.now) }
+{
+    let mut rest = line;
+    while let Some((word, after)) = split_first(b' ', rest) {
+        if let Some(message) = message_of(word) {
+            return Some(message);
+        }
+        rest = after;
+    }
+    message_of(rest)
+}
+
+/// The message for a line: for the whole of it, as for `ok 0`, or for the first of its words that names a fault.
+fn line_message(line: &[u8]) -> Option<&'static str>
+    ensures { option_map (λ message. message.now) result ≡ spec.line_message line.now }
+{
+    match message_of(line) {
+        Some(message) => Some(message),
+        None => first_message(line),
+    }
+}
+
+/// Where the first line feed is.
+fn line_end(front: &[u8]) -> Option<usize>
+    ensures { result ≡ position (λ byte. byte == 10) front.now }
+{
+    front.iter().position(|byte| *byte == b'\n')
+}
+
+/// The first line of what was written, as far as it is kept.
+#[tactic(auto, using(lt_lines::proofs::FaultLemmas::before_found, lt_lines::proofs::FaultLemmas::before_none))]
+fn first_line(front: &[u8]) -> &[u8]
+    ensures { result.now ≡ before_first (λ byte. byte == 10) front.now }
+{
+    match line_end(front) {
+        Some(end) => &front[..end],
+        None => front,
+    }
+}
+
+/// Appends the message for the first line of what was written, if it tells a fault.
+fn append_meaning(told: &mut Vec<u8>, front: &[u8]) -> Result<(), AllocError>
+    ensures { OnOk result (told.new.items ≡ told.old.items ++ spec.meaning_of front.now) }
+{
+    if let Some(message) = line_message(first_line(front)) {
+        told.extend_from_slice(message.as_bytes())?;
+        told.push(b'\n')?;
+    }
+    Ok(())
+}
+
+/// Appends what is said of what was printed.
+fn append_output(
+    told: &mut Vec<u8>,
+    alloc: Global,
+    unit: Option<&str>,
+    status: u8,
+    answered: &Answered,
+    shown: &[u8],
+) -> Result<(), AllocError>
+    ensures { OnOk result (told.new.items ≡ told.old.items ++ told_of (option_map (λ text. text.now) unit) status answered.now shown.now) }
+{
+    match unit {
+        Some(unit) if status != Status::RegistryRefused.code() => {
+            append_counts(told, alloc, unit, answered.counts)?;
+            append_tallies(told, alloc, unit, &answered.tallies)
+        }
+        _ => append_meaning(told, shown),
+    }
+}
+
+/// Appends what is said of the errors.
+fn append_errors(told: &mut Vec<u8>, refusal: &str, said: &[u8]) -> Result<(), AllocError>
+    ensures { OnOk result (told.new.items ≡ told.old.items ++ (spec.meaning_of said.now ++ spec.refusal_of refusal.now (spec.meaning_of said.now))) }
+{
+    let start = told.len();
+    append_meaning(told, said)?;
+    if told[start..].starts_with(b"File: ") {
+        told.extend_from_slice(refusal.as_bytes())?;
+    }
+    Ok(())
+}
+
+/// The front of the bytes that a device took.
+fn front_of<W: Write>(alloc: Global, device: &mut Device<Watched<W>>) -> io::Result<Vec<u8>>
+    ensures { IfOk result (λ front. IsFront (⟦<Watched<W> as Write>⟧.contents (inner_of device.old)) front.items) }
+{
+    let mut front = Vec::new(alloc);
+    device.read_to_end(&mut front)?;
+    Ok(front)
+}
+
+/// The lines that a person is told by these fronts.
+fn lines_of(
+    alloc: Global,
+    unit: Option<&str>,
+    status: u8,
+    answered: &Answered,
+    refusal: &str,
+    shown: &[u8],
+    said: &[u8],
+) -> Result<Vec<u8>, AllocError>
+    ensures { IfOk result (λ lines. lines.items ≡ told_lines (option_map (λ text. text.now) unit) status answered.now refusal.now shown.now said.now) }
+{
+    let mut told = Vec::new(alloc);
+    append_output(&mut told, alloc, unit, status, answered, shown)?;
+    append_errors(&mut told, refusal, said)?;
+    Ok(told)
+}
+
+/// The lines that a person is told after a run that wrote to these.
+fn told_of_run<O: Write, E: Write>(
+    alloc: Global,
+    unit: Option<&str>,
+    status: u8,
+    answered: &Answered,
+    refusal: &str,
+    output: &mut Device<Watched<O>>,
+    errors: &mut Device<Watched<E>>,
+) -> io::Result<Vec<u8>>
+    ensures { IfOk result (λ lines. AreTold (option_map (λ text. text.now) unit) status answered.now refusal.now (⟦<Watched<O> as Write>⟧.contents (inner_of output.old))
+        (⟦<Watched<E> as Write>⟧.contents (inner_of errors.old)) lines.items) }
+{
+    let shown = front_of(alloc, output)?;
+    let said = front_of(alloc, errors)?;
+    Ok(lines_of(alloc, unit, status, answered, refusal, &shown, &said)?)
+}
+
+/// Writes a text, up to the first write that fails, which the device counts.
+pub(crate) fn say<T: Write>(text: &[u8], people: &mut Device<T>)
+    ensures { Says (stream T.contents people.old people.new) text.now }
+{
+    let _ = write_text(text, people);
+}
+
+/// Tells a person what a run that ended so came to, if the words name a command and there is memory for it.
+pub(crate) fn tell<O: Write, E: Write, T: Write>(
+    alloc: Global,
+    asked: Option<Option<&str>>,
+    status: u8,
+    answered: &Answered,
+    refusal: &str,
+    output: &mut Device<Watched<O>>,
+    errors: &mut Device<Watched<E>>,
+    people: &mut Device<T>,
+)
+    ensures { Tells (option_map (λ unit. option_map (λ text. text.now) unit) asked) status answered.now (⟦<Watched<O> as Write>⟧.contents (inner_of output.old))
+        (⟦<Watched<E> as Write>⟧.contents (inner_of errors.old)) (stream T.contents people.old people.new) }
+{
+    let Some(unit) = asked else {
+        return;
+    };
+    if let Ok(lines) = told_of_run(alloc, unit, status, answered, refusal, output, errors) {
+        say(&lines, people);
+    }
+}

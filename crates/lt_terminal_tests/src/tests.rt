@@ -1,0 +1,439 @@
+//! Runs of the program, what they write, and what a person is told after each.
+use lt_jar::{Device, Takes};
+use lt_terminal::{Openings, Progress, message_of, run_for_people};
+use lt_tool::Status;
+use std::alloc::{AllocError, Global};
+use std::io::{self, ErrorKind, Write};
+
+/// A registry of two languages.
+const OLD: &[u8] =
+    b"File-Date: 2024-01-01\n%%\nType: language\nSubtag: en\n%%\nType: language\nSubtag: fr\n";
+
+/// A registry without the second of them.
+const NEW: &[u8] = b"File-Date: 2024-02-01\n%%\nType: language\nSubtag: en\n";
+
+/// Opens the file of this name.
+fn open_text(name: &str) -> io::Result<&'static [u8]> {
+    match name {
+        "old" => Ok(OLD),
+        "new" => Ok(NEW),
+        "empty" => Ok(b""),
+        "other" => Ok(b"no registry\n"),
+        _ => Err(io::Error::from(ErrorKind::NotFound)),
+    }
+}
+
+/// The program's name, and the words after it.
+fn command_line(alloc: Global, words: &[&str]) -> Result<Vec<String>, AllocError> {
+    let mut all = Vec::new(alloc);
+    all.push(String::from_str(alloc, "langtag")?)?;
+    for word in words {
+        all.push(String::from_str(alloc, word)?)?;
+    }
+    Ok(all)
+}
+
+/// A run: its words and its input; what it prints, says to the errors and tells a person; and how it ends.
+type Run = (
+    &'static [&'static str],
+    &'static str,
+    &'static str,
+    &'static str,
+    &'static str,
+    Status,
+);
+
+/// Whether a run goes so.
+fn goes(alloc: Global, run: &Run) -> bool {
+    let (words, input, shown, said, told, end) = run;
+    let words = command_line(alloc, words).map_err(io::Error::from);
+    let (mut output, mut errors, mut people) = (Vec::new(alloc), Vec::new(alloc), Vec::new(alloc));
+    let openings = Openings::new();
+    let status = run_for_people(
+        alloc,
+        words,
+        &mut |name| openings.kept(alloc, name, open_text(name)),
+        &openings,
+        &mut Device::new(input.as_bytes()),
+        &mut output,
+        &mut errors,
+        &mut Device::new(&mut people),
+    );
+    status == end.code()
+        && output.as_slice() == shown.as_bytes()
+        && errors.as_slice() == said.as_bytes()
+        && people.as_slice() == told.as_bytes()
+}
+
+const BAD_LINE: &str =
+    "BadLine: Neither a field, %%, nor a continuation. This is no registry, or not its plain text: get one from https://www.iana.org/assignments/language-subtag-registry/language-subtag-registry, or remove a byte order mark.\n";
+
+/// Runs over lines, rows and records.
+const COUNTED: [Run; 14] = [
+    (
+        &["canon", "new"],
+        "EN\nen\n",
+        "en\nen\n",
+        "",
+        "2 lines, 0 refused\n",
+        Status::Done,
+    ),
+    (
+        &["canon", "new"],
+        "",
+        "",
+        "",
+        "0 lines, 0 refused\n",
+        Status::Done,
+    ),
+    (
+        &["canon", "new"],
+        "EN\nen_US\nde\n\n",
+        "en\n! BadByte 1\n! UnknownLanguage 1\n! EmptySubtag 1\n",
+        "",
+        "4 lines, 3 refused\n1 BadByte, first in line 2: en_US\n  A byte that is no ASCII letter, digit or hyphen: write zh-Hant for zh_Hant; remove quotes, spaces, a byte order mark.\n1 UnknownLanguage, first in line 3: de\n  The registry lacks the language: correct it, or get a newer registry.\n1 EmptySubtag, first in line 4\n  Nothing between two hyphens, or an empty text: remove a hyphen too many, or the empty line.\n",
+        Status::Refused,
+    ),
+    (
+        &["tsv", "new", "2"],
+        "BadByte 1\ten\nok 0\tde\r\n1\n",
+        "BadByte 1\ten\t\nok 0\tde\tUnknownLanguage 1\r\n1\tNoColumn\n",
+        "",
+        "3 lines, 2 refused\n1 UnknownLanguage, first in line 2: de\n  The registry lacks the language: correct it, or get a newer registry.\n1 NoColumn, first in line 3\n  The row has too few fields (tsv, csv): name another column, or mend the row.\n",
+        Status::Refused,
+    ),
+    (
+        &["tsv", "new", "1"],
+        "en\n",
+        "en\t\n",
+        "",
+        "1 lines, 0 refused\n",
+        Status::Done,
+    ),
+    (
+        &["csv", "new", "2"],
+        "ok 0,tag\nBadByte 1,\"de\"\r\n1\n",
+        "ok 0,tag,langtag_fault\nBadByte 1,\"de\",UnknownLanguage 1\r\n1,NoColumn\n",
+        "",
+        "3 records, 2 refused\n1 UnknownLanguage, first in record 2: de\n  The registry lacks the language: correct it, or get a newer registry.\n1 NoColumn, first in record 3\n  The row has too few fields (tsv, csv): name another column, or mend the row.\n",
+        Status::Refused,
+    ),
+    (
+        &["csv", "new", "1"],
+        "tag\n\"en",
+        "tag,langtag_fault\n",
+        "! BadCsv line 2\n",
+        "BadCsv: The input ends within the quotes of a record (csv), which begins in the line that is named: close them, or double a quote that stands for itself.\n",
+        Status::Failed,
+    ),
+    (
+        &["csv", "new", "3"],
+        "id,note,tag\n1,\"Sit, Read\nand File\",EN\n",
+        "id,note,tag,langtag_fault\n1,\"Sit, Read\nand File\",en,\n",
+        "",
+        "2 records, 0 refused\n",
+        Status::Done,
+    ),
+    (
+        &["csv", "new", "2"],
+        "id,tag,note\n1,EN,\"a Read\nb\"\n2,en_US,x\n",
+        "id,tag,note,langtag_fault\n1,en,\"a Read\nb\",\n2,en_US,x,BadByte 1\n",
+        "",
+        "3 records, 1 refused\n1 BadByte, first in record 3: en_US\n  A byte that is no ASCII letter, digit or hyphen: write zh-Hant for zh_Hant; remove quotes, spaces, a byte order mark.\n",
+        Status::Refused,
+    ),
+    (
+        &["csv", "new", "1"],
+        "tag\nde\n\"en",
+        "tag,langtag_fault\nde,UnknownLanguage 1\n",
+        "! BadCsv line 3\n",
+        "1 UnknownLanguage, first in record 2: de\n  The registry lacks the language: correct it, or get a newer registry.\nBadCsv: The input ends within the quotes of a record (csv), which begins in the line that is named: close them, or double a quote that stands for itself.\n",
+        Status::Failed,
+    ),
+    (
+        &["canon", "new"],
+        "eng\nEnglish\nen-UK\n",
+        "! UnknownLanguage 1\n! UnknownLanguage 1\n! UnknownRegion 2\n",
+        "",
+        "3 lines, 3 refused\n2 UnknownLanguage, first in line 1: eng\n  eng: BCP 47 writes en.\n1 UnknownRegion, first in line 3: en-UK\n  UK: BCP 47 writes GB.\n",
+        Status::Refused,
+    ),
+    (
+        &["canon", "new"],
+        "deutsch\n\u{1b}[2J\n",
+        "! UnknownLanguage 1\n! BadByte 1\n",
+        "",
+        "2 lines, 2 refused\n1 UnknownLanguage, first in line 1: deutsch\n  This is a name of a language and not a code: write en for English, de for German.\n1 BadByte, first in line 2: ?[2J\n  A byte that is no ASCII letter, digit or hyphen: write zh-Hant for zh_Hant; remove quotes, spaces, a byte order mark.\n",
+        Status::Refused,
+    ),
+    (
+        &["canon", "other"],
+        "EN\n",
+        "jar BadLine line 1\n",
+        "",
+        BAD_LINE,
+        Status::RegistryRefused,
+    ),
+    (
+        &["canon", "missing"],
+        "EN\n",
+        "",
+        "! File\n",
+        "File: A file can't be opened: see whether its name is right, and whether you may read it.\nmissing: entity not found\n",
+        Status::Failed,
+    ),
+];
+
+#[test]
+fn runs_over_lines(rt: HostRuntime) {
+    for run in &COUNTED {
+        assert!(rt; goes(rt.alloc(), run));
+    }
+}
+
+/// Runs that answer one line.
+const SINGLE: [Run; 10] = [
+    (
+        &["classify", "EN"],
+        "",
+        "langtag en\n",
+        "",
+        "",
+        Status::Done,
+    ),
+    (
+        &["classify", "en-a"],
+        "",
+        "! Unfinished 3\n",
+        "",
+        "Unfinished: The text ends after a singleton or x: add what follows it, or remove it.\n",
+        Status::Refused,
+    ),
+    (&["check", "old"], "", "ok 2\n", "", "", Status::Done),
+    (
+        &["check", "empty"],
+        "",
+        "ok 0\n",
+        "",
+        "ok 0: There is no entry. This is no registry, or an empty file: get one from https://www.iana.org/assignments/language-subtag-registry/language-subtag-registry.\n",
+        Status::Done,
+    ),
+    (
+        &["check", "other"],
+        "",
+        "jar BadLine line 1\n",
+        "",
+        BAD_LINE,
+        Status::RegistryRefused,
+    ),
+    (
+        &["equal", "old", "en", "fr"],
+        "",
+        "different\n",
+        "",
+        "",
+        Status::Refused,
+    ),
+    (
+        &["verify", "new", "en"],
+        "= en\n",
+        "ok\n",
+        "",
+        "",
+        Status::Done,
+    ),
+    (
+        &["verify", "new", "en"],
+        "= fr\n",
+        "! WrongEnd\n",
+        "",
+        "WrongEnd: The line of the end has another tag than the steps lead to (verify): mend the line, or the steps.\n",
+        Status::Refused,
+    ),
+    (
+        &["upgrade", "old", "new"],
+        "",
+        "upgrade U1 record 3\n",
+        "",
+        "U1: The newer registry lacks a subtag, or a part of a range, of the older one: register it.\n",
+        Status::RegistryRefused,
+    ),
+    (
+        &["upgrade", "other", "new"],
+        "",
+        "old jar BadLine line 1\n",
+        "",
+        BAD_LINE,
+        Status::RegistryRefused,
+    ),
+];
+
+#[test]
+fn runs_with_one_answer(rt: HostRuntime) {
+    for run in &SINGLE {
+        assert!(rt; goes(rt.alloc(), run));
+    }
+}
+
+/// What a person is told after a run by these words whose output fails at this call, and how it ends.
+fn told_after_failure(alloc: Global, words: &[&str], call: u64) -> (Vec<u8>, u8) {
+    let words = command_line(alloc, words).map_err(io::Error::from);
+    let (mut output, mut errors, mut people) = (
+        Takes::new(alloc, 1),
+        Vec::new(alloc),
+        Vec::new(alloc),
+    );
+    output.fail_at(call);
+    let openings = Openings::new();
+    let status = run_for_people(
+        alloc,
+        words,
+        &mut |name| openings.kept(alloc, name, open_text(name)),
+        &openings,
+        &mut Device::new(b"EN\nde\n".as_slice()),
+        &mut output,
+        &mut errors,
+        &mut Device::new(&mut people),
+    );
+    (people, status)
+}
+
+#[test]
+fn outputs_that_fail(rt: HostRuntime) {
+    let (told, status) = told_after_failure(rt.alloc(), &["canon", "new"], 1);
+    assert!(rt; status == Status::Failed.code());
+    assert!(rt; told.as_slice().starts_with(b"Write: "));
+    let (told, status) = told_after_failure(rt.alloc(), &["--help"], 1);
+    assert!(rt; status == Status::Failed.code());
+    assert!(rt; told.is_empty());
+}
+
+/// Whether words that name no command tell a person nothing more than the run says.
+fn tells_nothing(alloc: Global, words: &[&str], end: Status) -> bool {
+    let (told, status) = told_after_failure(alloc, words, 1000000);
+    told.is_empty() && status == end.code()
+}
+
+#[test]
+fn words_that_name_no_command(rt: HostRuntime) {
+    assert!(rt; tells_nothing(rt.alloc(), &["--help"], Status::Done));
+    assert!(rt; tells_nothing(rt.alloc(), &["Read", "File"], Status::Usage));
+}
+
+/// The names of faults that the program prints, and `ok 0`.
+const NAMES: [&str; 61] = [
+    "BadByte",
+    "EmptySubtag",
+    "LongSubtag",
+    "TooLong",
+    "BadLanguage",
+    "Misplaced",
+    "Unfinished",
+    "UnknownLanguage",
+    "UnknownExtlang",
+    "UnknownScript",
+    "UnknownRegion",
+    "UnknownVariant",
+    "ExtlangPrefix",
+    "TooManyExtlangs",
+    "DuplicateVariant",
+    "DuplicateSingleton",
+    "BadTransform",
+    "ReplacementRepeats",
+    "NoColumn",
+    "NoSuchStep",
+    "WrongEnd",
+    "BadStep",
+    "BadLine",
+    "NotUtf8",
+    "LineTooLong",
+    "LeadingContinuation",
+    "TooManyRecords",
+    "ok 0",
+    "RepeatedField",
+    "MissingType",
+    "UnknownType",
+    "MissingName",
+    "BadRange",
+    "BadSubtag",
+    "BadTag",
+    "BadPreferred",
+    "BadPrefix",
+    "C1",
+    "C2",
+    "C3",
+    "C4",
+    "C5",
+    "C6",
+    "C7",
+    "C8",
+    "C9",
+    "C10",
+    "C11",
+    "C12",
+    "U1",
+    "U2",
+    "U3",
+    "U4",
+    "U5",
+    "U6",
+    "File",
+    "Read",
+    "TooManyTurns",
+    "Write",
+    "OutOfMemory",
+    "BadCsv",
+];
+
+/// What a person is told while this many lines are written at once, so many times.
+fn told_of_lines(
+    alloc: Global,
+    at_once: usize,
+    times: usize,
+    is_told: bool,
+) -> io::Result<Vec<u8>> {
+    let piece = Vec::from_elem(alloc, b'\n', at_once)?;
+    let mut people = Vec::new(alloc);
+    let mut progress = Progress::new(alloc, Vec::new(alloc), &mut people, is_told);
+    for _ in 0..times {
+        progress.write_all(&piece)?;
+    }
+    drop(progress);
+    Ok(people)
+}
+
+#[test]
+fn lines_are_told_at_each_million(rt: HostRuntime) {
+    let rows: [(usize, usize, bool, &[u8]); 5] = [
+        (999_999, 1, true, b""),
+        (500_000, 2, true, b"1000000 lines\r"),
+        (700_000, 3, true, b"1400000 lines\r2100000 lines\r"),
+        (3_500_000, 1, true, b"3500000 lines\r"),
+        (3_500_000, 1, false, b""),
+    ];
+    for (at_once, times, is_told, told) in rows {
+        let answer = told_of_lines(rt.alloc(), at_once, times, is_told).expect(&rt, "memory");
+        assert!(rt; answer.as_slice() == told);
+    }
+}
+
+/// Whether the message for a name begins with it and a colon.
+fn is_told(name: &str) -> bool {
+    match message_of(name.as_bytes()) {
+        Some(message) => match message.strip_prefix(name) {
+            Some(rest) => rest.starts_with(": "),
+            None => false,
+        },
+        None => false,
+    }
+}
+
+#[test]
+fn each_name_has_its_message(rt: HostRuntime) {
+    for name in &NAMES {
+        assert!(rt; is_told(name));
+    }
+    assert!(rt; message_of(b"C").is_none());
+    assert!(rt; message_of(b"").is_none());
+    assert!(rt; message_of(b"BadBytes").is_none());
+}

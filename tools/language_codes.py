@@ -1,0 +1,67 @@
+#!/usr/bin/env python3
+"""Compares the codes of three letters that lt_terminal knows with tools/iso639-2.tsv; with --write it writes them anew.
+With the path of iso_639-2.json of Debian's iso-codes, also the table with that file."""
+import json
+import pathlib
+import sys
+
+TOP = pathlib.Path(__file__).resolve().parent.parent
+TABLE = TOP / "tools/iso639-2.tsv"
+CRATE = TOP / "crates/lt_terminal"
+
+
+def rows():
+    lines = TABLE.read_text().splitlines()
+    return [tuple(line.split("\t")) for line in lines if not line.startswith("#")]
+
+
+def source(path):
+    """The pairs of the file of Debian's package."""
+    pairs = []
+    for language in json.loads(pathlib.Path(path).read_text())["639-2"]:
+        if "alpha_2" in language:
+            names = {language["alpha_3"], language.get("bibliographic", language["alpha_3"])}
+            pairs += [(name, language["alpha_2"]) for name in names]
+    return sorted(pairs)
+
+
+def code(messages):
+    lines = "".join(f'    "{message}",\n' for message in messages)
+    return f"""//! The codes of three letters that BCP 47 does not register. tools/language_codes.py writes this file.
+
+/// The code of two letters beside each.
+pub(crate) static CODES: [&str; {len(messages)}] = [
+{lines}];
+"""
+
+
+def definition(messages):
+    lines = "".join(f'    codes "{message}" ∷\n' for message in messages)
+    return f"""-- The codes of three letters that BCP 47 does not register (RFC 5646, 2.2.1), since the language has one of two letters.
+-- tools/language_codes.py writes this file.
+use Rattle.std.specs.Prelude.{{ℕ, List, [], ◌∷◌, codes}}
+
+-- the code of two letters beside each
+abbrev pub two_letters : List (List ℕ)
+two_letters =
+{lines}    []
+"""
+
+
+def main():
+    words = sys.argv[1:]
+    if words and words[0] != "--write":
+        if source(words[0]) != rows():
+            sys.exit(f"{TABLE.name} and {words[0]} differ")
+        return
+    messages = [f"{three}: BCP 47 writes {two}." for three, two in rows()]
+    texts = {CRATE / "src/codes.rt": code(messages), CRATE / "specs/Codes.antt": definition(messages)}
+    for path, text in texts.items():
+        if words:
+            path.write_text(text)
+        elif path.read_text() != text:
+            sys.exit(f"{path.relative_to(TOP)} and {TABLE.name} differ")
+    print(f"{len(messages)} codes of three letters")
+
+
+main()
