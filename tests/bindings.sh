@@ -212,7 +212,7 @@ under="env PYTHONPATH=$folder/python-memory PYTHONMALLOC=malloc ASAN_OPTIONS=det
     passes "Python: growths, signals, threads, columns under sanitizers" $under bindings/python/tests/test_habits.py "$sample" Growths \
         Signals Facts Parts Columns.test_missing_values Columns.test_long_columns Threads.test_a_registry_is_closed_in_the_midst_of_calls
 }
-# Each line of the extension but seven: where memory runs out at the import, and where too many threads ask.
+# Each line of the extension but six: where memory runs out at the import, and where too many threads ask.
 passes "compile the extension for gcov" gcc -O0 --coverage -std=c11 -fPIC -fvisibility=hidden -Ibindings/c \
     "-I$($python -c 'import sysconfig; print(sysconfig.get_paths()["include"])')" -c bindings/python/_bcp47.c -o "$folder/coverage/_bcp47.o"
 cp -r bindings/python/bcp47 "$folder/coverage/bcp47"
@@ -223,7 +223,7 @@ for test in "test_bcp47.py $sample $registry" "test_habits.py $sample Growths Co
     passes "Python for gcov: ${test%% *}" env PYTHONPATH="$folder/coverage" $python -B bindings/python/tests/$test
 done
 (cd "$folder/coverage" && gcov -o . _bcp47.o > report 2>&1)
-passes "lines of the extension are run" test "$(grep -c '#####' "$folder/coverage/_bcp47.c.gcov")" -le 7
+passes "lines of the extension are run" test "$(grep -c '#####' "$folder/coverage/_bcp47.c.gcov")" -le 6
 unset PYTHONPATH LD_LIBRARY_PATH
 
 # ---- SQLite
