@@ -7,9 +7,9 @@ pub returns-in-Ok : goal.returns-in-Ok
 returns-in-Ok g c = read_more _ _ _ c.in-Ok.ensures (λ reading holds. inr (record {
   entries = c.in-Ok.checked;
   registry = holds;
-  end = c.run_lines.result;
-  runs = c.run_lines.ensures;
-  counts = refl;
+  end = c.run_lines-end.result;
+  runs = c.run_lines-end.ensures;
+  counts = c.ok.ensures.value;
   ends = c.end_run.ensures;
 }))
 
