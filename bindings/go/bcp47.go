@@ -1,7 +1,7 @@
 // SPDX-License-Identifier: MIT OR Apache-2.0
 
-// Package bcp47 reads BCP 47 language tags (RFC 5646, with the extensions u and t) and makes them canonical by a registry of
-// language subtags in the format of IANA's. It calls the library for C, which it links statically.
+// Package bcp47 reads BCP 47 language tags (RFC 5646, with the extensions u and t) and makes them canonical by a
+// registry of language subtags in the format of IANA's. It calls the library for C, which it links statically.
 package bcp47
 
 // The library and its header stand in the folder lib of the module, or where `make lib` built them in the repository.
@@ -37,9 +37,10 @@ package bcp47
 // static bcp47_outcome registry_info(uintptr_t registry, bcp47_info *info) {
 //     return bcp47_registry_info((bcp47_registry *)registry, info);
 // }
-// static size_t canonical_many(uintptr_t registry, _GoString_ texts, const size_t *ends, size_t count, bcp47_outcome *outcomes,
-//                              char *buffer, size_t room) {
-//     return bcp47_canonical_many((bcp47_registry *)registry, _GoStringPtr(texts), ends, 0, count, outcomes, buffer, room);
+// static size_t canonical_many(uintptr_t registry, _GoString_ texts, const size_t *ends, size_t count,
+//                              bcp47_outcome *outcomes, char *buffer, size_t room) {
+//     return bcp47_canonical_many((bcp47_registry *)registry, _GoStringPtr(texts), ends, 0, count, outcomes, buffer,
+//                                 room);
 // }
 // static uintptr_t opened(_GoString_ content, char *line, size_t room, bcp47_outcome *outcome) {
 //     bcp47_registry *registry;
@@ -95,8 +96,8 @@ func (r *Registry) give() {
 	runtime.KeepAlive(r)
 }
 
-// Close lets go of the registry, once the calls that are under way have ended. Each later call gives ErrClosed, but for Close.
-// A registry that is not closed is let go of when it is collected.
+// Close lets go of the registry, once the calls that are under way have ended. Each later call gives ErrClosed, but
+// for Close. A registry that is not closed is let go of when it is collected.
 func (r *Registry) Close() error {
 	for {
 		count := r.calls.Load()
@@ -149,7 +150,8 @@ func textOf(outcome C.bcp47_outcome, buffer *[room]byte, tag string) (string, er
 	return tag, nil // which takes no memory
 }
 
-// Canonical gives the canonical text of a tag (RFC 5646, 4.5): yue for zh-yue. The error is a *TagError where the tag is refused.
+// Canonical gives the canonical text of a tag (RFC 5646, 4.5): yue for zh-yue. The error is a *TagError where the tag
+// is refused.
 func (r *Registry) Canonical(tag string) (string, error) {
 	raw, err := r.take()
 	if err != nil {
@@ -187,8 +189,8 @@ func (r *Registry) Validate(tag string) error {
 	return refusedTag(outcome, nil, tag)
 }
 
-// Equal tells whether two tags are equivalent: their canonical texts are equal. The *TagError is of the first, or else of the
-// second.
+// Equal tells whether two tags are equivalent: their canonical texts are equal. The *TagError is of the first, or
+// else of the second.
 func (r *Registry) Equal(first, second string) (bool, error) {
 	raw, err := r.take()
 	if err != nil {
@@ -230,8 +232,8 @@ func (r *Registry) Explain(tag string, most int) (Explanation, error) {
 	return explanationOf(C.GoStringN(lines, C.int(outcome.length))), nil
 }
 
-// Verify gives nil where steps lead from a valid tag, one after another, to another tag, which is then equivalent to it; and else a
-// *TraceError. Steps are judged by kind, place and number.
+// Verify gives nil where steps lead from a valid tag, one after another, to another tag, which is then equivalent to
+// it; and else a *TraceError. Steps are judged by kind, place and number.
 func (r *Registry) Verify(tag string, steps []Step, last string) error {
 	raw, err := r.take()
 	if err != nil {

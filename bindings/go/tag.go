@@ -17,7 +17,8 @@ import (
 // A Part of a tag: its kind, as "Script", and its text, as "Hant".
 type Part struct{ Kind, Text string }
 
-// A Tag is a text of a tag in conventional case (RFC 5646, 2.1.1): == and < compare texts, and Registry.Equal compares meanings.
+// A Tag is a text of a tag in conventional case (RFC 5646, 2.1.1): == and < compare texts, and Registry.Equal
+// compares meanings.
 type Tag string
 
 // A Step of an explanation.
@@ -79,8 +80,8 @@ func explanationOf(lines string) Explanation {
 	return Explanation{steps, strings.TrimPrefix(all[last], "= ")}
 }
 
-// Parts gives a tag in conventional case and its parts, one for each subtag, in their order; a grandfathered tag is one part. It asks
-// no registry. The error is a *TagError where the text is no tag.
+// Parts gives a tag in conventional case and its parts, one for each subtag, in their order; a grandfathered tag is
+// one part. It asks no registry. The error is a *TagError where the text is no tag.
 func Parts(tag string) (Tag, []Part, error) {
 	buffer := buffers.Get().(*[room]byte)
 	defer buffers.Put(buffer)

@@ -1,11 +1,12 @@
 #!/bin/bash
-# Builds bcp47-VERSION.jar with the library that `make lib` built inside, in the folder TARGET (target, if there is none), by the tools
-# of a JDK from 17 on.
+# Builds bcp47-VERSION.jar with the library that `make lib` built inside, in the folder TARGET (target, if there is
+# none), by the tools of a JDK from 17 on.
 #
 # Usage: build.sh [native]     `native` makes the library alone, for Maven
 #
-# LUCENE names lucene-core's jar (Debian's, if it names none): where it is there, bcp47-lucene-VERSION.jar is made too.
-# JAVA_HOME names the JDK; BCP47_LIBRARY another libbcp47.a; SOURCE_DATE_EPOCH the time of the files; CC and CFLAGS are as for make.
+# LUCENE names lucene-core's jar (Debian's, if it names none): where it is there, bcp47-lucene-VERSION.jar is made
+# too. JAVA_HOME names the JDK; BCP47_LIBRARY another libbcp47.a; SOURCE_DATE_EPOCH the time of the files; CC and
+# CFLAGS are as for make.
 set -e
 cd "$(dirname "$0")"
 version=$(cat ../../VERSION)
@@ -24,8 +25,8 @@ archive() {
 
 mkdir -p "$inside"
 ${CC:-cc} -std=c11 ${CFLAGS:--O2} -fPIC -shared -fvisibility=hidden -Wall -Wextra -Werror -I../c -I"$home/include" \
-    -I"$home/include/linux" -o "$inside/libbcp47jni.so" src/main/c/bcp47_jni.c "${BCP47_LIBRARY:-../../build/libbcp47.a}" \
-    -Wl,--exclude-libs,ALL -Wl,-z,now -s
+    -I"$home/include/linux" -o "$inside/libbcp47jni.so" src/main/c/bcp47_jni.c \
+    "${BCP47_LIBRARY:-../../build/libbcp47.a}" -Wl,--exclude-libs,ALL -Wl,-z,now -s
 [ "${1:-}" = native ] && exit
 rm -rf "$target/classes" "$target/lucene"
 "$home/bin/javac" --release 17 -Xlint:all -Werror -d "$target/classes" src/main/java/bcp47/*.java
@@ -34,7 +35,8 @@ mkdir "$target/classes/META-INF"
 cp ../../LICENSE* "$target/classes/META-INF"
 archive bcp47 classes
 if [ -n "$lucene" ]; then
-    "$home/bin/javac" --release 17 -Xlint:all,-path,-classfile -Werror -cp "$target/classes:$lucene" -d "$target/lucene" lucene/bcp47/lucene/*.java
+    "$home/bin/javac" --release 17 -Xlint:all,-path,-classfile -Werror -cp "$target/classes:$lucene" -d "$target/lucene" \
+        lucene/bcp47/lucene/*.java
     archive bcp47-lucene lucene
 else
     echo "no lucene-core here: bcp47-lucene is not built" >&2

@@ -3,9 +3,10 @@
 
 Usage: canon.py [--workers N] [--scheduler ADDRESS] PROGRAM REGISTRY TAGS
 
-TAGS is parted at ends of lines into a bag; a worker reads its part and runs `PROGRAM canon REGISTRY` over it. The answers are printed in
-the order of the lines. Without an address it starts a scheduler and N workers (4, if none is named), each a process of its own.
-On other machines all three paths have to lead to the same files. Status 1 of the program, that a tag was refused, is no failure.
+TAGS is parted at ends of lines into a bag; a worker reads its part and runs `PROGRAM canon REGISTRY` over it. The answers
+are printed in the order of the lines. Without an address it starts a scheduler and N workers (4, if none is named), each a
+process of its own. On other machines all three paths have to lead to the same files. Status 1 of the program, that a tag
+was refused, is no failure.
 """
 
 import argparse
@@ -52,7 +53,8 @@ def main():
     with client(asked.scheduler, asked.workers) as asking:
         parts = parts_of(asked.tags)
         bag = dask.bag.from_sequence(parts, npartitions=len(parts))
-        for answers in bag.map(lambda part: canon(asked.program, asked.registry, asked.tags, part)).compute(scheduler=asking.get):
+        made = bag.map(lambda part: canon(asked.program, asked.registry, asked.tags, part))
+        for answers in made.compute(scheduler=asking.get):
             sys.stdout.buffer.write(answers)
 
 

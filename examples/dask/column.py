@@ -3,9 +3,9 @@
 
 Usage: column.py [--workers N] [--scheduler ADDRESS] [--column NAME] REGISTRY ROWS FOLDER
 
-The answers are columns `canonical` and `fault`. FOLDER gets a file for each partition of ROWS, in the order of its rows: one after
-another they are the file that pandas writes of the whole, which --workers 0 does. Each worker needs the package bcp47, opens
-REGISTRY once, and on other machines has all three paths at the same places.
+The answers are columns `canonical` and `fault`. FOLDER gets a file for each partition of ROWS, in the order of its rows:
+one after another they are the file that pandas writes of the whole, which --workers 0 does. Each worker needs the package
+bcp47, opens REGISTRY once, and on other machines has all three paths at the same places.
 """
 
 import argparse

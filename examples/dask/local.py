@@ -6,7 +6,7 @@ from distributed import Client, LocalCluster, Nanny
 
 
 class PatientNanny(Nanny):
-    """A nanny that gives its worker a minute to end: distributed gives it some seconds, too few on a busy machine, and kills it."""
+    """A nanny that gives its worker a minute to end: the seconds that distributed gives are too few on a busy machine."""
 
     async def kill(self, timeout=2, **words):
         await super().kill(timeout=max(timeout, 60), **words)

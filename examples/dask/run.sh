@@ -3,8 +3,9 @@
 #
 # Usage: run.sh [LINES [PROGRAM]]     200,000 lines, and build/langtag, if they are not named
 #
-# It needs a python with Dask's distributed scheduler and pandas, as Debian's with python3-distributed and python3-pandas, which
-# PYTHON may name; in it, or in the folder that PYTHONPATH names, the package bcp47; and the program.
+# It needs a python with Dask's distributed scheduler and pandas, as Debian's with python3-distributed and
+# python3-pandas, which PYTHON may name; in it, or in the folder that PYTHONPATH names, the package bcp47; and the
+# program.
 set -eu
 
 root=$(cd "$(dirname "$0")/../.." && pwd)

@@ -1,5 +1,6 @@
 #!/bin/bash
-# Tests the package for Java. Arguments: the folder of tests/bindings.sh, which has tags and what the program answers; the program.
+# Tests the package for Java. Arguments: the folder of tests/bindings.sh, which has tags and what the program answers;
+# the program.
 shared=$1
 folder=$1/java
 # shellcheck source=tests/bindings/counting.sh

@@ -1,5 +1,6 @@
 #!/bin/bash
-# Tests the crates for Rust. Arguments: the folder of tests/bindings.sh, which has tags and what the program answers; the program.
+# Tests the crates for Rust. Arguments: the folder of tests/bindings.sh, which has tags and what the program answers;
+# the program.
 shared=$1
 folder=$1/rust
 # shellcheck source=tests/bindings/counting.sh

@@ -10,8 +10,8 @@ import org.apache.lucene.analysis.TokenStream;
 import org.apache.lucene.analysis.tokenattributes.CharTermAttribute;
 
 /**
- * Makes each token canonical by a registry, so that <code>zh-yue</code> is found by <code>yue</code>. A token that is refused stays
- * as it is. The registry is the caller's to close, after the last token.
+ * Makes each token canonical by a registry, so that <code>zh-yue</code> is found by <code>yue</code>. A token that is
+ * refused stays as it is. The registry is the caller's to close, after the last token.
  */
 public final class CanonicalTagFilter extends TokenFilter {
     private final Registry registry;

@@ -1,12 +1,12 @@
 /* SPDX-License-Identifier: MIT OR Apache-2.0 */
-/* The calls of bcp47.h for Java: Native.java has their signatures. A call answers what it gives, or an Outcome where it is
-   refused; nothing is allocated but by the library and the virtual machine. */
+/* The calls of bcp47.h for Java: Native.java has their signatures. A call answers what it gives, or an Outcome where it
+   is refused. */
 #include <bcp47.h>
 #include <jni.h>
 #include <stdlib.h>
 #include <string.h>
 
-/* Room for the text of any tag, and for its canonical text; a longer one is no tag, which the library says of its front. */
+/* Room for the text of any tag and for its canonical text; a longer one is no tag, as the library says of its front. */
 enum { ROOM = 4096 };
 
 #define NATIVE(kind, name) JNIEXPORT kind JNICALL Java_bcp47_Native_##name
@@ -23,7 +23,9 @@ JNIEXPORT jint JNICALL JNI_OnLoad(JavaVM *machine, void *reserved) {
     JNIEnv *env;
     (void)reserved;
     if ((*machine)->GetEnv(machine, (void **)&env, JNI_VERSION_10)) return JNI_ERR;
-    if (!(outcome_class = kept_class(env, "bcp47/Outcome")) || !(long_class = kept_class(env, "java/lang/Long"))) return JNI_ERR;
+    outcome_class = kept_class(env, "bcp47/Outcome");
+    long_class = outcome_class ? kept_class(env, "java/lang/Long") : NULL;
+    if (!long_class) return JNI_ERR;
     outcome_made = (*env)->GetMethodID(env, outcome_class, "<init>", "(IIJLjava/lang/String;I)V");
     long_made = (*env)->GetMethodID(env, long_class, "<init>", "(J)V");
     return outcome_made && long_made ? JNI_VERSION_10 : JNI_ERR;
@@ -127,7 +129,9 @@ NATIVE(jobject, equal)(JNIEnv *env, jclass self, jlong registry, jbyteArray firs
     char text[ROOM], other[ROOM], variant[BCP47_LINE];
     size_t length = text_of(env, first, text), other_length = text_of(env, second, other);
     (void)self;
-    return refusal(env, bcp47_equal(registry_of(registry), text, length, other, other_length, variant, sizeof variant), variant);
+    bcp47_outcome outcome =
+        bcp47_equal(registry_of(registry), text, length, other, other_length, variant, sizeof variant);
+    return refusal(env, outcome, variant);
 }
 
 NATIVE(jobject, explain)(JNIEnv *env, jclass self, jlong registry, jbyteArray tag, jlong most) {
@@ -167,7 +171,7 @@ NATIVE(jobject, upgrade)(JNIEnv *env, jclass self, jlong older, jlong newer) {
     return outcome.status == BCP47_DONE ? NULL : refusal(env, outcome, NULL);
 }
 
-/* The File-Date goes to the first of two bytes arrays, and the digest to the other; the entries are what is answered. */
+/* The File-Date goes to the first array of bytes, and the digest to the other; the entries are what is answered. */
 NATIVE(jlong, info)(JNIEnv *env, jclass self, jlong registry, jbyteArray date, jbyteArray sha256) {
     bcp47_info info = {0};
     (void)self;

@@ -58,7 +58,8 @@ final class Native {
         } catch (UnsatisfiedLinkError notThere) {
             // that of the jar
         }
-        String name = "/bcp47/" + System.getProperty("os.name").toLowerCase() + "-" + System.getProperty("os.arch") + "/libbcp47jni.so";
+        String system = System.getProperty("os.name").toLowerCase() + "-" + System.getProperty("os.arch");
+        String name = "/bcp47/" + system + "/libbcp47jni.so";
         try (InputStream inside = Native.class.getResourceAsStream(name)) {
             if (inside == null) {
                 throw new UnsatisfiedLinkError("no libbcp47jni in java.library.path, and no " + name + " in the jar");

@@ -1,7 +1,7 @@
 // SPDX-License-Identifier: MIT OR Apache-2.0
 package bcp47;
 
-/** How a call of the library ended: the status, the number of a fault, its place, a text or null, and which of two tags it is of. */
+/** How a call of the library ended: status, number of a fault, its place, a text or null, and which of two tags it is of. */
 record Outcome(int status, int fault, long place, String text, int which) {
     static final int DONE = 0, REPLACEMENT_REPEATS = 3, OUT_OF_MEMORY = 4, DIFFERENT = 6;
 

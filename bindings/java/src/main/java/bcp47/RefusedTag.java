@@ -1,7 +1,7 @@
 // SPDX-License-Identifier: MIT OR Apache-2.0
 package bcp47;
 
-/** A text is no tag, a tag is not valid, or its replacements can repeat a variant; or an explanation has too many steps. */
+/** A text is no tag, a tag is not valid, its replacements can repeat a variant, or its explanation has too many steps. */
 public final class RefusedTag extends Refused {
     private static final long serialVersionUID = 1;
 

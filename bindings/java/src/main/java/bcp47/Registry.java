@@ -112,8 +112,11 @@ public final class Registry implements AutoCloseable {
                 continue;
             }
             Object answer = asked(tag);
-            boolean isRefused = answer instanceof Outcome;
-            answers.add(isRefused ? new Answer(null, ((Outcome) answer).checked().line()) : new Answer(text(answer, tag), null));
+            if (answer instanceof Outcome refusal) {
+                answers.add(new Answer(null, refusal.checked().line()));
+            } else {
+                answers.add(new Answer(text(answer, tag), null));
+            }
         }
         return answers;
     }
@@ -230,8 +233,8 @@ public final class Registry implements AutoCloseable {
     }
 
     /**
-     * Judges whether steps lead from a valid tag, one after another, to another tag, which is then equivalent to it. They are
-     * judged by kind, place and number, not by the tags between.
+     * Judges whether steps lead from a valid tag, one after another, to another tag, which is then equivalent to it.
+     * They are judged by kind, place and number, not by the tags between.
      *
      * @param tag the valid tag
      * @param steps the steps
@@ -289,7 +292,8 @@ public final class Registry implements AutoCloseable {
         long registry = held.take();
         try {
             long entries = Native.info(registry, date, sha256);
-            return new Info(new String(date, StandardCharsets.US_ASCII).replace("\0", ""), entries, HexFormat.of().formatHex(sha256));
+            String fileDate = new String(date, StandardCharsets.US_ASCII).replace("\0", "");
+            return new Info(fileDate, entries, HexFormat.of().formatHex(sha256));
         } finally {
             held.give();
         }

@@ -8,8 +8,8 @@ import java.util.List;
 import java.util.Map;
 
 /**
- * A tag in conventional case (RFC 5646, 2.1.1), by no registry. It does not change. Tags are equal, and in order, as their
- * texts are: {@link Registry#equivalent} compares what they mean.
+ * A tag in conventional case (RFC 5646, 2.1.1), by no registry. It does not change. Tags are equal, and in order, as
+ * their texts are: {@link Registry#equivalent} compares what they mean.
  */
 public final class Tag implements CharSequence, Comparable<Tag> {
     /** The class of a tag (RFC 5646, 2.1). */
@@ -110,7 +110,7 @@ public final class Tag implements CharSequence, Comparable<Tag> {
         return all("Variant");
     }
 
-    /** @return the subtags of each extension, by its singleton (RFC 5646, 2.2.6); of two that are alike the first counts */
+    /** @return the subtags of each extension, by its singleton (RFC 5646, 2.2.6); of two alike the first counts */
     public Map<String, List<String>> extensions() {
         Map<String, List<String>> found = new LinkedHashMap<>();
         List<String> subtags = null;
