@@ -1,0 +1,3 @@
+pub mod Matched
+pub mod Refusals
+pub mod Laws

@@ -1,0 +1,52 @@
+-- Lemmas on what filtering selects.
+use Rattle.std.proofs.Common.{◌≡◌, ℕ, ◌<◌, ◌≤◌, ◌+◌, inl, inr, List, [], ◌∷◌, ◌++◌, length, get_or, take, drop, refl, sym, ap, ◌∙◌, subst}
+use Rattle.std.proofs.lemmas.List.{append_assoc, append-nil, drop_more, take_more}
+use Rattle.std.proofs.Math.ListN.{drop_of_length-le}
+use Rattle.lt_range.specs.Ranges.{RangeParts}
+use Rattle.lt_range.specs.Filtering.{ArePlaces, NoneMatches, Selects}
+
+-- the next of a list and what follows it
+next_is : {X : Type 0} (xs : List X) (i : ℕ) (x : X) → i < length xs → x ≡ get_or xs i x → drop i xs ≡ x ∷ drop (i + 1) xs
+next_is xs i x within is = drop_more xs i x within ∙ ap (λ y. y ∷ drop (i + 1) xs) (sym is)
+
+module _ (P : List (List ℕ) → Type 0) (tags : List (List (List ℕ))) where
+  -- the places so far, and any that are those of the other tags, are those of the tags
+  abbrev pub GoOn : ℕ → List ℕ → Type 0
+  GoOn i found = (more : List ℕ) → ArePlaces P i (drop i tags) more → ArePlaces P 0 tags (found ++ more)
+
+  pub places_yes : (i : ℕ) (t : List (List ℕ)) (found : List ℕ) → i < length tags → t ≡ get_or tags i t → P t → GoOn i found → GoOn (i + 1) (found ++ i ∷ [])
+  places_yes i t found within is p go = λ more h.
+      let here : ArePlaces P i (t ∷ drop (i + 1) tags) (i ∷ more) = inl (p, (more, refl, h)) in
+      subst (λ (l : List ℕ). ArePlaces P 0 tags l) (sym (append_assoc found (i ∷ []) more))
+      (go (i ∷ more) (subst (λ (l : List (List (List ℕ))). ArePlaces P i l (i ∷ more)) (sym (next_is tags i t within is)) here))
+
+  pub places_no : (i : ℕ) (t : List (List ℕ)) (found : List ℕ) → i < length tags → t ≡ get_or tags i t → (P t → ⊥) → GoOn i found → GoOn (i + 1) found
+  places_no i t found within is n go = λ more h.
+      let here : ArePlaces P i (t ∷ drop (i + 1) tags) more = inr (n, h) in
+      go more (subst (λ (l : List (List (List ℕ))). ArePlaces P i l more) (sym (next_is tags i t within is)) here)
+
+  pub places_end : (i : ℕ) (found : List ℕ) → length tags ≤ i → GoOn i found → ArePlaces P 0 tags found
+  places_end i found past go =
+      let none : drop i tags ≡ [] = drop_of_length-le tags past in
+      subst (λ (l : List ℕ). ArePlaces P 0 tags l) (append-nil found)
+      (go [] (subst (λ (l : List (List (List ℕ))). ArePlaces P i l []) (sym none) refl))
+
+module _ (M : RangeParts → List (List ℕ) → Type 0) (ranges : List RangeParts) (tags : List (List (List ℕ))) where
+  -- the places so far, and any that the other ranges select, are those that the ranges select
+  abbrev pub SelectsOn : ℕ → List ℕ → Type 0
+  SelectsOn i found = (more : List ℕ) → Selects M (take i ranges) (drop i ranges) tags more → Selects M [] ranges tags (found ++ more)
+
+  pub selects_next : (i : ℕ) (r : RangeParts) (found here : List ℕ) → i < length ranges → r ≡ get_or ranges i r
+      → ArePlaces (λ tag. M r tag × NoneMatches M (take i ranges) tag) 0 tags here → SelectsOn i found → SelectsOn (i + 1) (found ++ here)
+  selects_next i r found here within is places go = λ more h.
+      let before : take (i + 1) ranges ≡ take i ranges ++ r ∷ [] = take_more ranges i r within ∙ ap (λ y. take i ranges ++ y ∷ []) (sym is) in
+      let step : Selects M (take i ranges) (r ∷ drop (i + 1) ranges) tags (here ++ more) =
+      (here, more, refl, places, subst (λ (l : List RangeParts). Selects M l (drop (i + 1) ranges) tags more) before h) in
+      subst (λ (l : List ℕ). Selects M [] ranges tags l) (sym (append_assoc found here more))
+      (go (here ++ more) (subst (λ (l : List RangeParts). Selects M (take i ranges) l tags (here ++ more)) (sym (next_is ranges i r within is)) step))
+
+  pub selects_end : (i : ℕ) (found : List ℕ) → length ranges ≤ i → SelectsOn i found → Selects M [] ranges tags found
+  selects_end i found past go =
+      let none : drop i ranges ≡ [] = drop_of_length-le ranges past in
+      subst (λ (l : List ℕ). Selects M [] ranges tags l) (append-nil found)
+      (go [] (subst (λ (l : List RangeParts). Selects M (take i ranges) l tags []) (sym none) refl))

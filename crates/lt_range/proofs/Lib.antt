@@ -1,0 +1,4 @@
+pub mod FrontLemmas
+pub mod TurnLemmas
+pub mod PieceLemmas
+pub mod FilterLemmas

@@ -1,0 +1,10 @@
+use Rattle.std.proofs.Common.{drop}
+use Rattle.lt_range.specs.Matching.{AreInTurn}
+use Rattle.lt_range.proofs.matching.are_in_turn.Given as goal
+
+-- the subtags are in the list exactly if the others are in what is left
+abbrev pub invariant-loop-subtag : goal.invariant-loop-subtag
+invariant-loop-subtag l = record {
+  next : AreInTurn l.named l.list → AreInTurn (drop l.subtag-index l.named) l.rest;
+  back : AreInTurn (drop l.subtag-index l.named) l.rest → AreInTurn l.named l.list;
+}

@@ -1,0 +1,9 @@
+use Rattle.std.proofs.Common.{refl}
+use Rattle.lt_range.proofs.PieceLemmas.{are_subtags}
+use Rattle.lt_range.proofs.tag_subtags.read_subtags.Goals as goal
+
+pub loop-rest-init : goal.loop-rest-init
+loop-rest-init c = record {
+  read = rw c.new-subtags.ensures.items refl;
+  good = are_subtags _ c.requires;
+}

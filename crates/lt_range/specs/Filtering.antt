@@ -1,0 +1,39 @@
+-- What filtering selects from a list of tags by a language priority list (RFC 4647, 2.3 and 3.3).
+use Rattle.std.specs.Prelude.{ℕ, ◌≡◌, ◌+◌, ◌⊎◌, List, [], ◌∷◌, ◌++◌}
+use Rattle.std.specs.List.{AllByRecursion}
+use Rattle.lt_range.specs.Ranges.{RangeParts}
+use Rattle.lt_range.specs.Matching.{MatchesBasic, MatchesExtended}
+use Rattle.lt_range.specs.declared.filters.Scheme.{Scheme}
+use Rattle.lt_range.specs.declared.filters.Scheme.TheVariants as schemes
+
+-- when a range matches a tag
+abbrev pub Matching : Type 1
+Matching = RangeParts → List (List ℕ) → Type 0
+
+-- the two schemes of filtering (RFC 4647, 3.3.1 and 3.3.2)
+abbrev pub Matches : Scheme → RangeParts → List (List ℕ) → Type 0
+Matches schemes.Basic range tag = MatchesBasic range tag
+Matches schemes.Extended range tag = MatchesExtended range tag
+
+-- these are the places, counted from one, of the tags of which something holds, in their order
+abbrev pub ArePlaces : (List (List ℕ) → Type 0) → ℕ → List (List (List ℕ)) → List ℕ → Type 0
+ArePlaces P place [] found = found ≡ []
+ArePlaces P place (t ∷ ts) found =
+    (P t × ((rest : List ℕ) × (found ≡ place ∷ rest) × ArePlaces P (place + 1) ts rest))
+    ⊎ ((P t → ⊥) × ArePlaces P (place + 1) ts found)
+
+-- no range matches a tag
+abbrev pub NoneMatches : Matching → List RangeParts → List (List ℕ) → Type 0
+NoneMatches M ranges tag = AllByRecursion (λ range. M range tag → ⊥) ranges
+
+-- Each range in turn, by priority, selects the tags that it matches and none before it does (RFC 4647, 3.3).
+abbrev pub Selects : Matching → List RangeParts → List RangeParts → List (List (List ℕ)) → List ℕ → Type 0
+Selects M before [] tags found = found ≡ []
+Selects M before (r ∷ rs) tags found = (here rest : List ℕ) × (found ≡ here ++ rest)
+    × ArePlaces (λ tag. M r tag × NoneMatches M before tag) 0 tags here
+    × Selects M (before ++ r ∷ []) rs tags rest
+
+-- The places of the tags that a priority list matches: those of the range of highest priority first, and each time in
+-- the order of the tags (RFC 4647, 3.3).
+abbrev pub AreFiltered : Matching → List RangeParts → List (List (List ℕ)) → List ℕ → Type 0
+AreFiltered M ranges tags found = Selects M [] ranges tags found

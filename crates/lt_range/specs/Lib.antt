@@ -1,0 +1,6 @@
+pub mod Ranges
+pub mod Reading
+pub mod Matching
+pub mod Filtering
+pub mod Lookup
+pub mod Names

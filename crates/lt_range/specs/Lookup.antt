@@ -1,0 +1,44 @@
+-- Which tag lookup finds by a language priority list (RFC 4647, 3.4).
+use Rattle.std.specs.Prelude.{ℕ, ◌≡◌, ◌<◌, ◌≤◌, List, [], ◌∷◌, ◌++◌, length, slice_index_or}
+use Rattle.std.specs.List.{AllByRecursion}
+use Rattle.lt_range.specs.Ranges.{RangeParts}
+use Rattle.lt_range.specs.Matching.{FallsBackTo}
+
+-- the tag at a place
+abbrev pub tag_at : List (List (List ℕ)) → ℕ → List (List ℕ)
+tag_at tags place = slice_index_or tags place []
+
+-- a range finds none of the first so many tags, however far it is cut
+abbrev pub FindsNoneOf : ℕ → List (List (List ℕ)) → RangeParts → Type 0
+FindsNoneOf count tags range = (i : ℕ) → i < count → FallsBackTo range (tag_at tags i) → ⊥
+
+-- Of the first so many tags the one at a place is what a range falls back to, cut the least: no other such tag is longer,
+-- and none before it is as long (RFC 4647, 3.4).
+pub record FindsAmong (range : RangeParts) (tags : List (List (List ℕ))) (count place : ℕ) : Type 0 where
+  pub within : place < count
+  pub found : FallsBackTo range (tag_at tags place)
+  pub longest : (i : ℕ) → i < count → FallsBackTo range (tag_at tags i)
+      → length (tag_at tags i) ≤ length (tag_at tags place)
+  pub first : (i : ℕ) → i < place → FallsBackTo range (tag_at tags i)
+      → length (tag_at tags i) < length (tag_at tags place)
+
+-- a range finds no tag
+abbrev pub FindsNone : List (List (List ℕ)) → RangeParts → Type 0
+FindsNone tags range = FindsNoneOf (length tags) tags range
+
+-- a range finds the tag at a place
+abbrev pub Finds : RangeParts → List (List (List ℕ)) → ℕ → Type 0
+Finds range tags place = FindsAmong range tags (length tags) place
+
+-- the first range of a priority list that finds a tag finds this one
+pub record IsFound (ranges : List RangeParts) (tags : List (List (List ℕ))) (place : ℕ) : Type 0 where
+  pub before : List RangeParts
+  pub range : RangeParts
+  pub after : List RangeParts
+  pub there : ranges ≡ before ++ range ∷ after
+  pub none_before : AllByRecursion (FindsNone tags) before
+  pub finds : Finds range tags place
+
+-- no range finds a tag, so that a default is taken (RFC 4647, 3.4 and 3.4.1)
+abbrev pub IsDefault : List RangeParts → List (List (List ℕ)) → Type 0
+IsDefault ranges tags = AllByRecursion (FindsNone tags) ranges

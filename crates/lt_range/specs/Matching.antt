@@ -1,0 +1,70 @@
+-- When a language range matches a tag (RFC 4647, 3.3 and 3.4). Both are lists of subtags in lower case, since letter case
+-- is ignored (RFC 4647, 2).
+use Rattle.std.specs.Prelude.{ℕ, ◌≡◌, ◌<◌, ◌⊎◌, ◌-◌, ◌==◌, Bool, true, false, not, List, [], ◌∷◌, ◌++◌, length}
+use Rattle.std.specs.List.{list_all, slice_get, AllByRecursion}
+use Rattle.std.specs.Option.{option_map_or}
+use Rattle.lt_range.specs.Ranges.{RangeParts}
+
+-- A list begins with another: it equals it, or what follows it begins with a hyphen in the text (RFC 4647, 3.3.1).
+abbrev pub BeginsWith : List (List ℕ) → List (List ℕ) → Type 0
+BeginsWith front list = (rest : List (List ℕ)) × (list ≡ front ++ rest)
+
+-- Basic filtering: a range that begins with `*` matches each tag; another matches the tags that equal it or begin with it
+-- and a hyphen (RFC 4647, 3.3.1).
+abbrev pub MatchesBasic : RangeParts → List (List ℕ) → Type 0
+MatchesBasic range tag = (range.wild ≡ true) ⊎ BeginsWith range.named tag
+
+-- more than one letter or digit: no singleton (RFC 4647, 3.3.2)
+abbrev pub is_long : List ℕ → Bool
+is_long s = not (length s == 1)
+
+-- Subtags are in a list, one after another, and no singleton is among those that are passed over (RFC 4647, 3.3.2).
+abbrev pub AreInTurn : List (List ℕ) → List (List ℕ) → Type 0
+AreInTurn [] list = Unit {0}
+AreInTurn (s ∷ ss) list = (passed rest : List (List ℕ)) × (list ≡ passed ++ s ∷ rest)
+    × (list_all is_long passed ≡ true) × AreInTurn ss rest
+
+-- a subtag is in a list, and no singleton is before it
+pub record IsPassedTo (list : List (List ℕ)) (s : List ℕ) : Type 0 where
+  pub passed : List (List ℕ)
+  pub rest : List (List ℕ)
+  pub there : list ≡ passed ++ s ∷ rest
+  pub long : list_all is_long passed ≡ true
+
+-- what follows its first place there
+pub record FollowsFirst (list : List (List ℕ)) (s : List ℕ) (rest : List (List ℕ)) : Type 0 where
+  pub passed : List (List ℕ)
+  pub there : list ≡ passed ++ s ∷ rest
+  pub long : list_all is_long passed ≡ true
+  pub new : AllByRecursion (λ t. t ≡ s → ⊥) passed
+
+-- the first subtag of a range is that of the tag, and the others are in turn in what follows it (RFC 4647, 3.3.2)
+abbrev pub NamesInTurn : List (List ℕ) → List (List ℕ) → Type 0
+NamesInTurn (s ∷ ss) (t ∷ ts) = (s ≡ t) × AreInTurn ss ts
+NamesInTurn _ _ = ⊥
+
+-- `*` stands for the first subtag of the tag, and the others are in turn in what follows it (RFC 4647, 3.3.2)
+abbrev pub NamesAfterFirst : List (List ℕ) → List (List ℕ) → Type 0
+NamesAfterFirst ss (t ∷ ts) = AreInTurn ss ts
+NamesAfterFirst _ _ = ⊥
+
+-- extended filtering (RFC 4647, 3.3.2)
+abbrev pub MatchesExtended : RangeParts → List (List ℕ) → Type 0
+MatchesExtended range tag =
+    ((range.wild ≡ true) × NamesAfterFirst range.named tag) ⊎ ((range.wild ≡ false) × NamesInTurn range.named tag)
+
+-- the last subtag of a list is no singleton
+abbrev pub ends_long : List (List ℕ) → Bool
+ends_long list = option_map_or is_long (slice_get list (length list - 1)) false
+
+-- A list is what is left of a range where it is cut from the end: some subtag is left, and no singleton is left behind,
+-- since it goes with the subtag after it (RFC 4647, 3.4).
+pub record IsLeft (range left : List (List ℕ)) : Type 0 where
+  pub begins : BeginsWith left range
+  pub some : 0 < length left
+  pub whole : (left ≡ range) ⊎ (ends_long left ≡ true)
+
+-- Lookup: the tag is the range, or what is left where it is cut from the end; `*` by itself finds none (RFC 4647, 3.4).
+pub record FallsBackTo (range : RangeParts) (tag : List (List ℕ)) : Type 0 where
+  pub named : range.wild ≡ false
+  pub left : IsLeft range.named tag

@@ -1,0 +1,56 @@
+-- Language ranges (RFC 4647, 2.1 and 2.2).
+use Rattle.std.specs.Prelude.{ℕ, ◌≡◌, Bool, true, false, ◌&&◌, List, [], ◌∷◌, map, Option, Some, None}
+use Rattle.std.specs.List.{list_all}
+use Rattle.std.specs.Option.{option_map_or}
+use Rattle.lt_subtag.specs.Bytes.{is_subtag}
+use Rattle.lt_subtag.specs.Shapes.{is_alphabetic}
+use Rattle.lt_tag.specs.Lists.{list_of}
+
+-- the subtags of a range in their order; the special subtag `*` is None (RFC 4647, 2.2)
+abbrev pub RangeForm : Type 0
+RangeForm = List (Option (List ℕ))
+
+-- 1 to 8 letters (RFC 4647, 2.1)
+abbrev pub is_first : List ℕ → Bool
+is_first s = is_subtag s && is_alphabetic s
+
+-- An extended language range: its first subtag is of letters alone or `*`, and each other of letters and digits or `*`
+-- (RFC 4647, 2.2).
+abbrev pub IsRange : RangeForm → Type 0
+IsRange [] = ⊥
+IsRange (s ∷ ss) =
+    (option_map_or is_first s true ≡ true) × (list_all (λ o. option_map_or is_subtag o true) ss ≡ true)
+
+-- how a subtag of a range is written
+abbrev pub written : Option (List ℕ) → List ℕ
+written None = 42 ∷ []
+written (Some s) = s
+
+-- a text is a range, in any letter case (RFC 4647, 2)
+pub record HasRange (text : List ℕ) (form : RangeForm) : Type 0 where
+  pub range : IsRange form
+  pub spelled : map written form ≡ list_of text
+
+-- What of a range matters to a matching scheme: whether it begins with `*`, and its other subtags in their order. A `*`
+-- that is not first stands for nothing that would not be there without it (RFC 4647, 3.2, 3.3.2 and 3.4).
+pub record RangeParts : Type 0 where
+  pub wild : Bool
+  pub named : List (List ℕ)
+
+-- the subtags that are no `*`
+abbrev pub named_of : RangeForm → List (List ℕ)
+named_of [] = []
+named_of (None ∷ form) = named_of form
+named_of (Some s ∷ form) = s ∷ named_of form
+
+-- whether the first is `*`
+abbrev pub begins_wild : RangeForm → Bool
+begins_wild (None ∷ form) = true
+begins_wild _ = false
+
+abbrev pub parts_of : RangeForm → RangeParts
+parts_of form = record { wild = begins_wild form; named = named_of form }
+
+-- the range that a tag is: its subtags, with no `*` (RFC 4647, 2.1)
+abbrev pub range_of_tag : List (List ℕ) → RangeParts
+range_of_tag list = record { wild = false; named = list }

@@ -1,0 +1,98 @@
+//! Filtering a list of tags by a language priority list.
+ghost use Rattle.std.specs.Prelude.{◌≡◌, ◌++◌, ◌↔◌, List, ℕ, [], IsTrue, IfOk, OnOk};
+ghost use Rattle.lt_range.specs.Matching.{MatchesBasic, MatchesExtended};
+ghost use Rattle.lt_range.specs.Filtering.{Matches, ArePlaces, NoneMatches, AreFiltered};
+
+use crate::ranges::LanguageRange;
+use crate::tag_subtags::TagSubtags;
+use lt_tag::OutOfMemory;
+use std::alloc::Global;
+
+/// The two schemes of filtering.
+#[derive(Clone, Copy)]
+enum Scheme {
+    Basic,
+    Extended,
+}
+
+impl Scheme {
+    /// Whether a range matches a tag by the scheme.
+    fn matches(self, range: &LanguageRange, tag: &TagSubtags) -> bool
+        ensures { IsTrue result ↔ Matches self range.now tag.now }
+    {
+        match self {
+            Scheme::Basic => range.matches_basic(tag),
+            Scheme::Extended => range.matches_extended(tag),
+        }
+    }
+
+    /// Whether no range matches a tag.
+    fn none_matches(self, ranges: &[LanguageRange], tag: &TagSubtags) -> bool
+        ensures { IsTrue result ↔ NoneMatches (Matches self) ranges.now tag.now }
+    {
+        for range in ranges {
+            if self.matches(range, tag) {
+                return false;
+            }
+        }
+        true
+    }
+
+    /// Adds the places of the tags that a range matches, and none of those before it.
+    fn append_places(
+        self,
+        places: &mut Vec<usize>,
+        before: &[LanguageRange],
+        range: &LanguageRange,
+        tags: &[TagSubtags],
+    ) -> Result<(), OutOfMemory>
+        ensures { OnOk result ((found : List ℕ) × (places.new.items ≡ places.old.items ++ found) × ArePlaces (λ tag. Matches self range.now tag × NoneMatches (Matches self) before.now tag) 0 tags.now found) }
+    {
+        for (place, tag) in tags.iter().enumerate() {
+            if self.matches(range, tag) && self.none_matches(before, tag) {
+                places.push(place)?;
+            }
+        }
+        Ok(())
+    }
+
+    /// The places of the tags that a priority list matches.
+    fn filter(
+        self,
+        alloc: Global,
+        ranges: &[LanguageRange],
+        tags: &[TagSubtags],
+    ) -> Result<Vec<usize>, OutOfMemory>
+        ensures { IfOk result (λ places. AreFiltered (Matches self) ranges.now tags.now places.items) }
+    {
+        let mut places = Vec::new(alloc);
+        for (index, range) in ranges.iter().enumerate() {
+            self.append_places(&mut places, &ranges[..index], range, tags)?;
+        }
+        Ok(places)
+    }
+}
+
+/// The places, counted from 0, of the tags that a language priority list matches by basic filtering (RFC 4647, 3.3.1):
+/// first of those that its first range matches, in their order, then of the others that its second matches, and so on.
+/// The only refusal is running out of memory.
+pub fn filter_basic(
+    alloc: Global,
+    ranges: &[LanguageRange],
+    tags: &[TagSubtags],
+) -> Result<Vec<usize>, OutOfMemory>
+    ensures { IfOk result (λ places. AreFiltered MatchesBasic ranges.now tags.now places.items) }
+{
+    Scheme::Basic.filter(alloc, ranges, tags)
+}
+
+/// The same by extended filtering (RFC 4647, 3.3.2).
+pub fn filter_extended(
+    alloc: Global,
+    ranges: &[LanguageRange],
+    tags: &[TagSubtags],
+) -> Result<Vec<usize>, OutOfMemory>
+    ensures { IfOk result (λ places. AreFiltered MatchesExtended ranges.now tags.now places.items) }
+{
+    Scheme::Extended.filter(alloc, ranges, tags)
+}

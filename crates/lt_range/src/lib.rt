@@ -1,0 +1,17 @@
+//! Language ranges (RFC 4647): reading them, and the three ways in which they match tags. Which tags are equivalent
+//! is nothing here: the crate `lt_match` matches canonical forms.
+#![tactic(auto)]
+
+mod cuts;
+mod faults;
+mod filters;
+mod lookups;
+mod matching;
+mod ranges;
+mod tag_subtags;
+
+pub use faults::RangeFault;
+pub use filters::{filter_basic, filter_extended};
+pub use lookups::lookup;
+pub use ranges::LanguageRange;
+pub use tag_subtags::TagSubtags;

@@ -1,0 +1,139 @@
+//! Language ranges, and the reading of them.
+ghost use Rattle.std.specs.Prelude.{◌≡◌, Ok, IfOk, IfErr, OnOk};
+ghost use Rattle.lt_subtag.specs.Shapes as shapes;
+ghost use Rattle.lt_tag.specs.Rest.{pieces_left};
+ghost use Rattle.lt_range.specs.Ranges.{range_of_tag};
+ghost use Rattle.lt_range.specs.Reading as reading;
+ghost use Rattle.lt_range.specs.Reading.{range_of, later_pieces, AppendsRead, IsRefused, IsRangeFault};
+
+use crate::cuts::cut;
+use crate::faults::RangeFault;
+use crate::tag_subtags::TagSubtags;
+use lt_subtag::Subtag;
+use lt_tag::{OutOfMemory, copy_subtags};
+use std::alloc::Global;
+use std::marker::Model;
+
+/// A language range (RFC 4647, 2.1 and 2.2): `de-CH`, `*`, `de-*-DE`. A `*` that is not its first subtag says nothing
+/// in any of the three schemes, and is not kept; so `de-*-DE` is `de-DE`.
+#[derive(Debug, Drop)]
+pub struct LanguageRange {
+    wild: bool,
+    named: Vec<Subtag>,
+}
+
+// A contract sees whether the range begins with `*`, and its other subtags.
+impl Model for LanguageRange {
+    ghost use Rattle.lt_range.specs.Ranges.{RangeParts};
+
+    ghost Value = { RangeParts };
+
+    ghost view = { λ r. record { wild = r.wild; named = r.named.items } };
+}
+
+/// Whether a piece is the special subtag `*`.
+fn is_star(piece: &[u8]) -> bool
+    ensures { result ≡ reading.is_star piece.now }
+{
+    match piece {
+        [byte] => *byte == b'*',
+        _ => false,
+    }
+}
+
+/// Whether a subtag is of letters alone.
+fn is_alphabetic(subtag: &Subtag) -> bool
+    ensures { result ≡ shapes.is_alphabetic subtag.now }
+{
+    subtag.bytes().iter().all(|byte| byte.is_ascii_lowercase())
+}
+
+/// The subtag that a piece after the first is, or nothing where it is `*`.
+fn later_piece(piece: &[u8]) -> Result<Option<Subtag>, RangeFault>
+    ensures { result ≡ reading.later_piece piece.now }
+{
+    if is_star(piece) {
+        return Ok(None);
+    }
+    match Subtag::read(piece) {
+        Ok(subtag) => Ok(Some(subtag)),
+        Err(fault) => Err(RangeFault::BadSubtag(fault)),
+    }
+}
+
+/// The subtag that the first piece is, or nothing where it is `*`.
+fn first_piece(piece: &[u8]) -> Result<Option<Subtag>, RangeFault>
+    ensures { result ≡ reading.first_piece piece.now }
+{
+    if is_star(piece) {
+        return Ok(None);
+    }
+    match Subtag::read(piece) {
+        Ok(subtag) if is_alphabetic(&subtag) => Ok(Some(subtag)),
+        Ok(_) => Err(RangeFault::BadFirst),
+        Err(fault) => Err(RangeFault::BadSubtag(fault)),
+    }
+}
+
+/// Adds the subtags that pieces name.
+fn append_pieces(named: &mut Vec<Subtag>, pieces: Option<&[u8]>) -> Result<(), RangeFault>
+    ensures appended { OnOk result (AppendsRead named.old.items named.new.items (later_pieces (pieces_left pieces.entry))) }
+    ensures refused { IfErr result (IsRefused (later_pieces (pieces_left pieces.entry))) }
+{
+    let mut rest = pieces;
+    while let Some(bytes) = rest {
+        let (piece, after) = cut(bytes);
+        if let Some(subtag) = later_piece(piece)? {
+            named.push(subtag)?;
+        }
+        rest = after;
+    }
+    Ok(())
+}
+
+impl LanguageRange {
+    /// The range that a text is, in any letter case (RFC 4647, 2.2): its subtags are of 1 to 8 letters or digits or
+    /// are `*`, and the first has no digit.
+    ///
+    /// - `BadSubtag`, with the fault, where the leftmost piece between hyphens that can't be where it is is neither
+    ///   `*` nor a subtag.
+    /// - `BadFirst` where it is the first piece and has a digit.
+    /// - `OutOfMemory` where memory runs out.
+    pub fn read(alloc: Global, text: &[u8]) -> Result<LanguageRange, RangeFault>
+        ensures range { IfOk result (λ range. range_of text.now ≡ Ok range) }
+        ensures fault { IfErr result (IsRangeFault text.now) }
+    {
+        let (piece, rest) = cut(text);
+        let first = first_piece(piece)?;
+        let wild = first.is_none();
+        let mut named = Vec::new(alloc);
+        if let Some(subtag) = first {
+            named.push(subtag)?;
+        }
+        append_pieces(&mut named, rest)?;
+        Ok(LanguageRange { wild, named })
+    }
+
+    /// The range that a tag is: it has the subtags of the tag (RFC 4647, 2.1). The only refusal is running out of
+    /// memory.
+    pub fn of_tag(alloc: Global, tag: &TagSubtags) -> Result<LanguageRange, OutOfMemory>
+        ensures { IfOk result (λ range. range ≡ range_of_tag tag.now) }
+    {
+        let named = copy_subtags(alloc, tag.subtags())?;
+        Ok(LanguageRange { wild: false, named })
+    }
+
+    /// Whether the range begins with `*`.
+    pub fn begins_wild(&self) -> bool
+        ensures { result ≡ self.now.wild }
+    {
+        self.wild
+    }
+
+    /// The subtags of the range in their order, without `*`.
+    pub fn named(&self) -> &[Subtag]
+        ensures { result.now ≡ self.now.named }
+    {
+        &self.named
+    }
+}

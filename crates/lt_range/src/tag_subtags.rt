@@ -1,0 +1,66 @@
+//! The subtags of a tag, as they are matched.
+ghost use Rattle.std.specs.Prelude.{◌≡◌, IfOk};
+ghost use Rattle.lt_subtag.specs.Reading.{subtag_of};
+ghost use Rattle.lt_tag.specs.Lists.{list_of};
+ghost use Rattle.lt_tag.specs.Faults.{HasList};
+ghost use Rattle.lt_tag.specs.WellFormed.{spell};
+
+use crate::cuts::cut;
+use lt_subtag::Subtag;
+use lt_tag::laws::text_of_tag_has_its_list;
+use lt_tag::{OutOfMemory, Tag, write_tag};
+use std::alloc::Global;
+use std::marker::Model;
+
+/// The subtags of a tag in their order, in lower case, as a language range is matched with them (RFC 4647, 3.3.2).
+#[derive(Debug, Drop)]
+pub struct TagSubtags {
+    subtags: Vec<Subtag>,
+}
+
+// A contract sees the list of the subtags.
+impl Model for TagSubtags {
+    ghost use Rattle.std.specs.Prelude.{ℕ, List};
+
+    ghost Value = { List (List ℕ) };
+
+    ghost view = { λ t. t.subtags.items };
+}
+
+/// The subtags of a text of which each piece is one.
+fn read_subtags(alloc: Global, text: &[u8]) -> Result<Vec<Subtag>, OutOfMemory>
+    requires { HasList text.now }
+    ensures { IfOk result (λ subtags. subtags.items ≡ list_of text.now) }
+{
+    let mut subtags = Vec::new(alloc);
+    let mut rest = Some(text);
+    while let Some(bytes) = rest {
+        let (piece, after) = cut(bytes);
+        let Ok(subtag) = Subtag::read(piece) else {
+            unreachable!()
+        };
+        subtags.push(subtag)?;
+        rest = after;
+    }
+    Ok(subtags)
+}
+
+impl TagSubtags {
+    /// The subtags of a tag: `zh-Hant-x-ab` has four of them. The only refusal is running out of memory.
+    pub fn of(alloc: Global, tag: &Tag) -> Result<TagSubtags, OutOfMemory>
+        ensures { IfOk result (λ subtags. subtags ≡ spell tag.now) }
+    {
+        text_of_tag_has_its_list();
+        let _ = tag.private();
+        let text = write_tag(alloc, tag)?;
+        let subtags = read_subtags(alloc, &text)?;
+        Ok(TagSubtags { subtags })
+    }
+
+    /// The subtags in their order.
+    pub fn subtags(&self) -> &[Subtag]
+        ensures { result.now ≡ self.now }
+    {
+        &self.subtags
+    }
+}
