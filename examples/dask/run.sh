@@ -24,6 +24,7 @@ if [ -z "$python" ]; then
     exit 1
 fi
 
+export PYTHONDONTWRITEBYTECODE=1
 # timed NAME COMMAND..: runs a command, and says how long it took.
 timed() {
     name=$1
