@@ -68,7 +68,11 @@ const RUNS: [(LineForm, &[u8], &[Row<'static>]); 8] = [
     (
         LineForm::Csv(1),
         b"id,tag\n\"1, Read\nFile\",\"en_US\"\r\n2\n3,\"fr, de\"\n\"a\nb\",fr\n",
-        &[("BadByte", 2, 2, "en_US"), ("NoColumn", 1, 3, ""), ("UnknownLanguage", 1, 5, "fr")],
+        &[
+            ("BadByte", 2, 2, "en_US"),
+            ("NoColumn", 1, 3, ""),
+            ("UnknownLanguage", 1, 5, "fr"),
+        ],
     ),
     (
         LineForm::Csv(0),
@@ -78,7 +82,12 @@ const RUNS: [(LineForm, &[u8], &[Row<'static>]); 8] = [
     (
         LineForm::Tag,
         b"0123456789_0123456789_0123456789_0123456789_0123456789_0123456789_0123456789",
-        &[("BadByte", 1, 1, "0123456789_0123456789_0123456789_0123456789_0123456789_012345678")],
+        &[(
+            "BadByte",
+            1,
+            1,
+            "0123456789_0123456789_0123456789_0123456789_0123456789_012345678",
+        )],
     ),
 ];
 
@@ -107,8 +116,7 @@ fn lines_before_a_failed_read_are_counted(rt: HostRuntime) -> Result<(), Fail> {
 fn long_lines_are_counted(rt: HostRuntime) -> Result<(), Fail> {
     let checked = checked_sample(rt.alloc())?;
     let line = long_text(rt.alloc(), "en", "-aaaaaaaa\r")?;
-    let shown =
-        "en-aaaaaaaa-aaaaaaaa-aaaaaaaa-aaaaaaaa-aaaaaaaa-aaaaaaaa-aaaaaaa";
+    let shown = "en-aaaaaaaa-aaaaaaaa-aaaaaaaa-aaaaaaaa-aaaaaaaa-aaaaaaaa-aaaaaaa";
     let rows = [("TooLong", 1, 1, shown)];
     for size in [7, 1_026, 1_027, 65_536] {
         let reader = Pieces::once(line.as_bytes(), size);
