@@ -9,7 +9,7 @@ returns-in-Ok g c = read_more _ _ _ c.in-Ok.ensures (λ reading holds. inr (reco
   registry = holds;
   end = c.run_lines-end.result;
   runs = c.run_lines-end.ensures;
-  counts = c.ok.ensures.value;
+  counts = c.ok-answered.ensures.value;
   ends = c.end_run.ensures;
 }))
 
