@@ -4,6 +4,7 @@ use Rattle.std.proofs.Common.{Result, Ok, Err, OnOk, ◌&&◌, ◌≡◌, ◌≢
 use Rattle.std.specs.List.{AllByRecursion}
 use Rattle.std.proofs.lemmas.List.Elements.{All-append, All-head, All-tail}
 use Rattle.std.proofs.lemmas.List.Sums.{sum_by-append, count_by-le-length}
+use Rattle.lt_jar.specs.Lines.{IsOneLine}
 use Rattle.lt_jar.proofs.CutLemmas.{lines_of-ended, lines_of-last}
 use Rattle.lt_lines.specs.Answering.{kept_of, one_if, place_then, AreRecent, GoesOn, IsAnswered, IsTaken, IsWholeAfter, KeepsLine, OwesAll, longest_kept, part_kept}
 use Rattle.lt_lines.specs.Owed.{AreRepliesFrom, IsReplyTo, IsUnit, IsWhole, Reply, Terms, bytes_in, ended, feeds_in, is_open, place_of, refused_in, units_of, EndsInQuotes, IsBegun, IsOwedToLastFeed}
