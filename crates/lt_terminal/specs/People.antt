@@ -1,6 +1,7 @@
 -- A run of the program for a person at a terminal.
-use Rattle.std.specs.Prelude.{◌≡◌, ◌⊎◌, ◌==◌, ◌++◌, ℕ, true, false, if◌then◌else◌, List, [], ◌∷◌, Option, Some, None, codes, nat_eq, option_or, take}
+use Rattle.std.specs.Prelude.{◌≡◌, ◌⊎◌, ◌==◌, ◌++◌, ℕ, true, false, if◌then◌else◌, List, [], ◌∷◌, Option, Some, None, codes, nat_eq, take}
 use Rattle.std.specs.List.{before_first, slice_split, starts_with}
+use Rattle.std.specs.Option.{option_or}
 use Rattle.lt_jar.specs.Devices.{inner_of}
 use Rattle.lt_jar.specs.declared.devices.Device.{Device}
 use Rattle.lt_terminal.specs.Meanings.{message_of}
