@@ -5,14 +5,15 @@ a quote, a comma, a carriage return, a line feed and `iw`, and on 20,000 files t
 The definition stands here once more (`cut`). Its records are compared with those of the two readers, and the bytes that the
 program writes with those that are owed for its records. Each difference of the readers is of one of these classes:
 
-- a carriage return outside of quotes that ends no record: a byte of its field here and in sqlite3, the end of a record or
-  an error in Python's csv;
+- a carriage return outside of quotes that ends no record: `BadReturn` here, a byte of its field in sqlite3, the end of a
+  record or an error in Python's csv;
 - a text that ends within quotes: `! BadCsv` here, a record there;
 - an empty line: a record of one empty field here, none in Python's csv;
 - sqlite3 alone: text after a closing quote is within quotes there, and a last comma or carriage return is not read as one.
 
 Argument: the program (build/langtag, if there is none). The last line counts; the status is 1 if anything differs.
 """
+import codecs
 import csv
 import itertools
 import os
@@ -116,6 +117,8 @@ def owed(record):
     """The answer that is owed for a record."""
     fields, end = ended(record)
     row = b",".join(fields)
+    if record[1]:
+        return row + b",BadReturn" + end
     if len(fields) < COLUMN:
         return row + b",NoColumn" + end
     quotes, text = text_of(fields[COLUMN - 1])
@@ -162,7 +165,8 @@ def compare_together(kind, texts):
 
 
 def compare_alone(kind, text):
-    """Compares what the program makes of a file: its first record is the heading, and it may end within quotes."""
+    """Compares what the program makes of a file: its first record is the heading, it may end within quotes, and a byte
+    order mark before it is kept and no part of it."""
     records, opened = cut(text)
     learn_records(records[1:])
     wanted = b""
@@ -172,13 +176,14 @@ def compare_alone(kind, text):
             answer = owed(record)
         else:
             fields, end = ended(record)
-            answer = b",".join(fields) + b",langtag_fault" + end
-        refused = refused or number > 0 and not answer.rstrip(b"\r\n").endswith(b",")
+            answer = b",".join(fields) + (b",BadReturn" if record[1] else b",langtag_fault") + end
+        refused = refused or record[1] or number > 0 and not answer.rstrip(b"\r\n").endswith(b",")
         wanted += answer
     errors = b"! BadCsv line %d\n" % opened if opened else b""
-    found = run(text)
-    if found != (4 if opened else int(refused), wanted, errors):
-        fail(kind, text, (wanted, errors), found)
+    for mark in b"", codecs.BOM_UTF8:
+        found = run(mark + text)
+        if found != (4 if opened else int(refused), mark + wanted, errors):
+            fail(kind, mark + text, (mark + wanted, errors), found)
 
 
 # ---- the other readers
@@ -278,7 +283,7 @@ def main():
     compare_together("made files", made)
     for text in short_texts(4):
         compare_alone("short texts alone", text)
-    for text in made[:1000]:
+    for text in made[:500]:
         compare_alone("made files alone", text)
     for text in short:
         compare_python("short texts", text)

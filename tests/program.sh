@@ -116,6 +116,28 @@ printf 'id,title,tag\n1,12" LP,zh-yue\n2,7" EP,I-KLINGON\n3,"5"" d",iw\n' > inch
 "$program" csv "$sample" 3 < inches > out 2> err; is 'csv: quotes in plain fields' 0 'id,title,tag,langtag_fault\n1,12" LP,yue,\n2,7" EP,tlh,\n3,"5"" d",he,\n' ''
 dd bs=1 status=none < inches | "$program" csv "$sample" 3 > out 2> err; is 'csv: the same byte by byte' 0 'id,title,tag,langtag_fault\n1,12" LP,yue,\n2,7" EP,tlh,\n3,"5"" d",he,\n' ''
 printf 'id,tag\n"a"b,iw\nx, "q,iw\n' | "$program" csv "$sample" 2 > out 2> err; is 'csv: text after a quote, and a space before one' 1 'id,tag,langtag_fault\n"a"b,he,\nx, "q,iw,BadByte 1\n' ''
+printf 'id,tag\n1\rx,iw\n2,"a\rb"\r\n3,iw\r\r\n4,iw\r' | "$program" csv "$sample" 2 > out 2> err; is 'csv: a carriage return alone' 1 'id,tag,langtag_fault\n1\rx,iw,BadReturn\n2,"a\rb",BadByte 1\r\n3,iw\r,BadReturn\r\n4,he,\r\n' ''
+printf 'id,tag\r1,iw\r2,iw\r' | "$program" csv "$sample" 2 > out 2> err; is 'csv: carriage returns alone' 1 'id,tag\r1,iw\r2,iw,BadReturn\r\n' ''
+printf '\357\273\277"Title\n(German)",tag\nx,iw\n' > marked
+"$program" csv "$sample" 2 < marked > out 2> err; is 'csv: a mark before the heading' 0 '\357\273\277"Title\n(German)",tag,langtag_fault\nx,he,\n' ''
+dd bs=1 status=none < marked | "$program" csv "$sample" 2 > out 2> err; is 'csv: a mark, byte by byte' 0 '\357\273\277"Title\n(German)",tag,langtag_fault\nx,he,\n' ''
+printf '\357\273\277iw\tx\n' | "$program" tsv "$sample" 1 > out 2> err; is 'tsv: a mark before the first row' 0 '\357\273\277he\tx\t\n' ''
+printf '\357\273' | "$program" tsv "$sample" 2 > out 2> err; is 'tsv: a part of a mark' 1 '\357\273\tNoColumn\n' ''
+for order in LE BE; do
+    { test $order = LE && printf '\377\376' || printf '\376\377'; printf 'id,tag\n1,iw\n' | iconv -t UTF-16$order; } > wide
+    "$program" csv "$sample" 2 < wide > out 2> err; is "csv: UTF-16$order" 4 '' '! Utf16\n'
+    "$program" tsv "$sample" 1 < wide > out 2> err; is "tsv: UTF-16$order" 4 '' '! Utf16\n'
+    "$program" canon "$sample" < wide > out 2> err; is "canon: UTF-16$order" 4 '' '! Utf16\n'
+done
+{ printf 'id,tag\n1,iw\n2,"'; head -c 17825792 /dev/zero | tr '\0' 'a'; } > long
+"$program" csv "$sample" 2 < long > out 2> err; is 'csv: a quote that is never closed' 4 'id,tag,langtag_fault\n1,he,\n' '! BadCsv line 3\n'
+{ printf 'a\tiw\nb\t'; head -c 17825792 /dev/zero | tr '\0' 'a'; printf '\nc\tiw\n'; } > long
+"$program" tsv "$sample" 2 < long > out 2> err; is 'tsv: a row that is too long' 4 'a\the\t\n' '! BadTsv line 2\n'
+{ printf 'h,tag\n'; head -c 16777213 /dev/zero | tr '\0' 'a'; printf ',iw\n'; head -c 16777214 /dev/zero | tr '\0' 'a'; printf ',iw\n'; } > long
+"$program" csv "$sample" 2 < long > out 2> err; ended=$?
+tail -c 5 out > end; mv end out
+(exit "$ended"); is 'csv: the longest record' 4 ',he,\n' '! BadCsv line 3\n'
+rm long
 "$program" csv other 2 < records > out 2> err; is 'csv: the registry is refused' 2 'jar BadLine line 1\n' ''
 : > out
 "$program" csv "$sample" 2 < records > /dev/full 2> err; is 'csv: full output' 4 '' '! Write\n'

@@ -5,5 +5,8 @@ pub mod TakenLemmas
 mod TalliedLemmas
 mod KeptLemmas
 pub mod TextLemmas
+pub mod PieceLemmas
+pub mod MarkedLemmas
+pub mod TextRunLemmas
 pub mod RunLemmas
 pub mod FaultLemmas

@@ -1,128 +1,35 @@
--- What the turns over a piece of lines keep, and those of a run over lines, and how it ends.
-use Rattle.std.proofs.Common.{◌≡◌, ◌≤◌, ◌+◌, ◌++◌, ◌∷◌, ◌∙◌, inl, inr, ℕ, List, [], Option, Result, Ok, Err, OnOk, length, take, sym, ap, refl, subst, arith, append_assoc, append-nil, length-append, ◌<◌, ◌*◌, add-one, drop}
+-- What the turns of a run over lines keep, and how it ends.
+use Rattle.std.proofs.Common.{◌≡◌, ◌≤◌, ◌+◌, ◌++◌, ◌∷◌, ◌∙◌, inl, inr, ℕ, List, [], Option, Result, Ok, Err, length, take, sym, ap, refl, arith, append-nil, length-append, ◌<◌, ◌*◌, add-one, drop}
 use Rattle.std.specs.Io.KnownBytes.{Appends, Consumes, IsAtEnd, Keeps}
 use Rattle.std.proofs.KnownBytes.{Appends-nil, Appends-trans, Consumes-kept, Consumes-nil, Consumes-trans}
 use Rattle.std.proofs.Math.Seq.{take-append_seam}
 use Rattle.lt_jar.specs.Devices.{failures_of, inner_of, HasFailed, after_reads, last_given_of, one_more, reads_of}
-use Rattle.lt_jar.specs.declared.devices.Device.{Device}
-use Rattle.lt_jar.specs.Lines.{IsOneLine}
-use Rattle.lt_lines.specs.DeviceOutput.{IsFrontOf}
-use Rattle.lt_lines.specs.Answering.{CountsFeed, IsTaken, TakesPiece, WritesOwed, place_then, part_kept, FinishesLines, HasRoom, IsFresh, IsStop, OwesAll}
-use Rattle.lt_lines.specs.Owed.{Terms, EndsInQuotes, IsBegun, units_of}
-use Rattle.lt_lines.specs.declared.answering.Answering.{Answering}
-use Rattle.lt_lines.specs.declared.faults.ToolFault.{ToolFault}
-use Rattle.lt_lines.proofs.DeviceLemmas.{failed_from}
-use Rattle.lt_lines.proofs.TakenLemmas.{begun_front, begun_nothing, taken_part, taken_write, begun_to_last_feed, owed_to_last_feed, taken_room, of_none}
 use Rattle.lt_jar.specs.Sources.{most_reads}
-use Rattle.lt_lines.specs.Running.{EndsAs, HasRead, RunsLines}
-use Rattle.lt_lines.specs.Tallied.{AreTalliesOf}
-use Rattle.lt_tallies.proofs.TallyLemmas.{no_tallies}
+use Rattle.lt_jar.specs.declared.devices.Device.{Device}
+use Rattle.lt_lines.specs.Marked.{EndsText, FinishesText, HasRoomFor, IsNew, IsTakenText, TakesText}
+use Rattle.lt_lines.specs.Owed.{AfterMark, IsBegunText, Terms, long_fault, units_of}
+use Rattle.lt_lines.specs.Tallied.{OwesAll, TalliesInQuotes, TalliesTooLong}
 use Rattle.lt_tallies.specs.declared.Tally.{Tally}
+use Rattle.lt_lines.specs.Running.{EndsAs, HasRead, RunsLines}
+use Rattle.lt_lines.specs.declared.forms.LineForm.{LineForm}
+use Rattle.lt_lines.specs.declared.forms.LineForm.TheVariants as forms
+use Rattle.lt_lines.specs.declared.marked.Marked.{Marked}
 use Rattle.lt_lines.specs.declared.runs.Counts.{Counts}
+use Rattle.lt_lines.specs.declared.faults.ToolFault.{ToolFault}
 use Rattle.lt_lines.specs.declared.faults.ToolFault.TheVariants as faults
-
--- so far the front of the piece was taken
-pub record PieceTurn {W : Type 0} (T : Terms) (contents : W → Option (List ℕ)) (piece rest : List ℕ) (old now : Answering) (before after : Device W) : Type 0 where
-  pub front : List ℕ
-  pub split : piece ≡ front ++ rest
-  pub written : List ℕ
-  pub appends : Appends (contents (inner_of before)) (contents (inner_of after)) written
-  pub failures : failures_of after ≡ failures_of before
-  pub taken : (bytes out : List ℕ) → IsTaken T bytes out old → IsTaken T (bytes ++ front) (out ++ written) now
-  pub room : now.counts.lines + length rest ≤ old.counts.lines + length piece
-  pub feeds : now.feeds + length rest ≤ old.feeds + length piece
-  pub refused : now.counts.refused ≤ now.counts.lines
-
-module _ {W : Type 0} (T : Terms) (contents : W → Option (List ℕ)) (piece rest : List ℕ) (old now : Answering) (before between : Device W)
-    (t : PieceTurn T contents piece rest old now before between) where
-  -- a line of the piece was answered
-  pub turn_line : (line after : List ℕ) (mid : Answering) → IsOneLine line × (rest ≡ line ++ 10 ∷ after)
-      → ((bytes out : List ℕ) → IsOneLine (take (length line) rest) → IsTaken T bytes out now → IsTaken T (bytes ++ (take (length line) rest ++ 10 ∷ [])) out mid)
-      → CountsFeed now mid → PieceTurn T contents piece after old mid before between
-  turn_line line after mid split answered counted =
-      let whole : take (length line) rest ≡ line = ap (take (length line)) split.1 ∙ take-append_seam line (10 ∷ after) in
-      let long = ap length split.1 ∙ length-append line (10 ∷ after) in
-      record {
-        front = t.front ++ (line ++ 10 ∷ []);
-        split = t.split ∙ ap (λ (l : List ℕ). t.front ++ l) (split.1 ∙ sym (append_assoc line (10 ∷ []) after)) ∙ sym (append_assoc t.front (line ++ 10 ∷ []) after);
-        written = t.written;
-        appends = t.appends;
-        failures = t.failures;
-        taken = λ bytes out old_taken. subst (λ (l : List ℕ). IsTaken T l (out ++ t.written) mid) (append_assoc bytes t.front (line ++ 10 ∷ []))
-            (subst (λ (l : List ℕ). IsTaken T ((bytes ++ t.front) ++ (l ++ 10 ∷ [])) (out ++ t.written) mid) whole
-            (answered (bytes ++ t.front) (out ++ t.written) (subst IsOneLine (sym whole) split.0) (t.taken bytes out old_taken)));
-        room = omega (arith, t.room, counted.lines, long);
-        feeds = omega (arith, t.feeds, counted.feeds, long);
-        refused = counted.refused;
-      }
-
-  -- some of what is owed was written
-  pub turn_written : (new : Answering) (last : Device W) → WritesOwed contents now new between last (Ok tt) → PieceTurn T contents piece rest old new before last
-  turn_written new last w = record {
-    front = t.front;
-    split = t.split;
-    written = t.written ++ w.written;
-    appends = Appends-trans _ _ _ _ _ t.appends w.appends;
-    failures = w.done.1 ∙ t.failures;
-    taken = λ bytes out old_taken. subst (λ (l : List ℕ). IsTaken T (bytes ++ t.front) l new) (append_assoc out t.written w.written)
-        (taken_write T (bytes ++ t.front) (out ++ t.written) w.written now new (t.taken bytes out old_taken) w.same w.done.0);
-    room = rw w.same.counts t.room;
-    feeds = rw w.same.feeds t.feeds;
-    refused = rw w.same.counts t.refused;
-  }
-
-  -- memory ran out, or a write failed that wrote a part of what is owed
-  pub turn_stops : (new : Answering) (last : Device W) (f : ToolFault) (part : List ℕ) → Appends (contents (inner_of between)) (contents (inner_of last)) part → IsStop before last f
-      → IsFrontOf part now.owed.items → TakesPiece T contents piece old new before last (Err f)
-  turn_stops new last f part appends stop front = record {
-    written = t.written ++ part;
-    appends = Appends-trans _ _ _ _ _ t.appends appends;
-    done = tt;
-    stopped = (stop, λ bytes out taken. begun_front T _ _ part rest _ _ now (t.taken bytes out taken) front (rw (t.split, append_assoc bytes t.front rest) refl) (sym (append_assoc out t.written part)));
-  }
-
-  pub turn_fails : (new : Answering) (last : Device W) (f : ToolFault) → WritesOwed contents now new between last (Err f) → TakesPiece T contents piece old new before last (Err f)
-  turn_fails new last f w = turn_stops new last f w.written w.appends (inl (w.stopped.0, failed_from before between last t.failures w.stopped.1)) w.stopped.2
-
-  -- the rest of the piece is kept
-  pub turn_kept : (mid : Answering) → IsOneLine rest → mid.kept.items ≡ now.kept.items ++ part_kept T.form (length now.kept.items) rest
-      → mid.place ≡ place_then T.form now.place rest → mid.feeds ≡ now.feeds → mid.owed.items ≡ now.owed.items → mid.counts ≡ now.counts → mid.tallies ≡ now.tallies → mid.recent ≡ now.recent
-      → PieceTurn T contents piece [] old mid before between
-  turn_kept mid one kept inside feeds owed counts tallies recent = record {
-    front = piece;
-    split = sym (append-nil piece);
-    written = t.written;
-    appends = t.appends;
-    failures = t.failures;
-    taken = λ bytes out old_taken. rw (t.split, ← append_assoc bytes t.front rest)
-        (taken_part T (bytes ++ t.front) (out ++ t.written) rest now mid (t.taken bytes out old_taken) one kept inside feeds owed counts tallies recent);
-    room = rw counts (omega (arith, t.room));
-    feeds = omega (arith, t.feeds, feeds);
-    refused = rw counts t.refused;
-  }
-
--- the last write over the piece
-pub turn_last : {W : Type 0} (T : Terms) (contents : W → Option (List ℕ)) (piece : List ℕ) (old mid new : Answering) (before between last : Device W) (r : Result (Unit {0}) ToolFault)
-    → PieceTurn T contents piece [] old mid before between → WritesOwed contents mid new between last r → OnOk r (new.owed.items ≡ []) → TakesPiece T contents piece old new before last r
-turn_last T contents piece old mid new before between last (Ok u) t w none =
-    let n = turn_written T contents piece [] old mid before between t new last w in
-    record {
-      written = n.written;
-      appends = n.appends;
-      done = (n.failures, none, λ bytes out old_taken. subst (λ (l : List ℕ). IsTaken T (bytes ++ l) (out ++ n.written) new) (sym (append-nil n.front) ∙ sym n.split) (n.taken bytes out old_taken));
-      stopped = tt;
-    }
-turn_last T contents piece old mid new before between last (Err f) t w none = turn_fails T contents piece [] old mid before between t new last f w
+use Rattle.lt_lines.proofs.DeviceLemmas.{failed_from}
+use Rattle.lt_lines.proofs.TakenLemmas.{begun_to_last_feed, begun_too_long}
+use Rattle.lt_lines.proofs.MarkedLemmas.{begun_none, text_begun, text_room, text_to_last_feed}
 
 -- so far this was read and answered
 pub record RunTurn {I O : Type 0} (T : Terms) (remaining : I → Option (List ℕ)) (contents : O → Option (List ℕ))
-    (input input' : Device I) (output output' : Device O) (state : Answering) (turn : ℕ) : Type 0 where
+    (input input' : Device I) (output output' : Device O) (state : Marked) (turn : ℕ) : Type 0 where
   pub read : List ℕ
   pub written : List ℕ
   pub consumes : Consumes (remaining (inner_of input)) (remaining (inner_of input')) read
   pub appends : Appends (contents (inner_of output)) (contents (inner_of output')) written
-  pub taken : IsTaken T read written state
-  pub emptied : state.owed.items ≡ []
+  pub taken : IsTakenText T read written state
+  pub emptied : state.answering.owed.items ≡ []
   pub calls : HasRead input input' turn
   pub some : turn ≤ length read
   pub last_gave : 0 < turn → 0 < last_given_of input'
@@ -136,31 +43,15 @@ pub record ReadsPiece {I : Type 0} (remaining : I → Option (List ℕ)) (before
   pub calls : reads_of after ≡ one_more (reads_of before)
   pub failures : failures_of after ≡ failures_of before
 
-pub run_first : {I O : Type 0} (T : Terms) (remaining : I → Option (List ℕ)) (contents : O → Option (List ℕ)) (input : Device I) (output : Device O) (state : Answering)
-    → IsFresh state → RunTurn T remaining contents input input output output state 0
-run_first T remaining contents input output state fresh = record {
+pub run_first : {I O : Type 0} (T : Terms) (remaining : I → Option (List ℕ)) (contents : O → Option (List ℕ)) (input : Device I) (output : Device O) (state : Marked) → IsNew T state
+    → RunTurn T remaining contents input input output output state 0
+run_first T remaining contents input output state new = record {
   read = [];
   written = [];
   consumes = Consumes-nil _;
   appends = Appends-nil _;
-  taken = record {
-    lines = [];
-    last = [];
-    cut = refl;
-    each_one = tt;
-    last_one = (of_none T.form).unit;
-    kept = fresh.items.0 ∙ sym (of_none T.form).kept;
-    goes_on = fresh.place.0 ∙ sym (of_none T.form).closed;
-    feeds = fresh.place.1;
-    owed = [];
-    each = tt;
-    all = fresh.items.1;
-    count = fresh.counts.0;
-    refused = fresh.counts.1;
-    tallied = record { refusals = []; are_refused = refl; tallied = rw fresh.tallies no_tallies };
-    recent = fresh.recent T;
-  };
-  emptied = fresh.items.1;
+  taken = inr new.kept;
+  emptied = new.emptied;
   calls = refl;
   some = omega arith;
   last_gave = λ some. absurd (omega (arith, some));
@@ -182,7 +73,7 @@ run_lacks T remaining contents input output tallies = record {
   reads = 0;
   consumes = Consumes-nil _;
   appends = Appends-nil _;
-  begun = record { lines = []; others = units_of T.form []; cut = refl; owed = []; each = tt; rest = []; front = refl };
+  begun = begun_none T [];
   calls = refl;
   bounded = omega arith;
   ends = tt;
@@ -194,18 +85,50 @@ run_lacks T remaining contents input output tallies = record {
 pub refilled : (count : ℕ) (items buffer : List ℕ) → count ≡ length items → length buffer ≡ length items → take count (buffer ++ drop (length buffer) items) ≡ buffer
 refilled count items buffer is same = ap (λ (n : ℕ). take n (buffer ++ drop (length buffer) items)) (is ∙ sym same) ∙ take-append_seam buffer (drop (length buffer) items)
 
+-- ---- what was written is a front of what is owed
+
+begun_owed : (T : Terms) (read written : List ℕ) (counts : Counts) (tallies : List Tally) → AfterMark T (λ text more. OwesAll T text more counts tallies) read written → IsBegunText T read written
+begun_owed T read written counts tallies a = record {
+  mark = a.mark;
+  text = a.text;
+  split = a.split;
+  front = inr (
+    a.more,
+    a.written_is,
+    record { lines = units_of T.form a.text; others = []; cut = sym (append-nil (units_of T.form a.text)); owed = a.holds.all.owed; each = a.holds.all.each; rest = []; front = sym a.holds.all.all ∙ sym (append-nil a.more) },
+  );
+}
+
+begun_in_quotes : (T : Terms) (read written : List ℕ) (line : ℕ) (tallies : List Tally) → AfterMark T (TalliesInQuotes T line tallies) read written → IsBegunText T read written
+begun_in_quotes T read written line tallies a =
+    record { mark = a.mark; text = a.text; split = a.split; front = inr (a.more, a.written_is, begun_to_last_feed T a.text a.more a.holds.0.owed) }
+
+begun_after : (T : Terms) (read written : List ℕ) (line : ℕ) (tallies : List Tally) → AfterMark T (TalliesTooLong T line tallies) read written → IsBegunText T read written
+begun_after T read written line tallies a =
+    record { mark = a.mark; text = a.text; split = a.split; front = inr (a.more, a.written_is, begun_too_long T a.text a.more line a.holds.0) }
+
+-- a row or a record was too long
+ends_long : {I O : Type 0} (T : Terms) (remaining : I → Option (List ℕ)) (input input' : Device I) (output output' : Device O) (reads : ℕ) (read written : List ℕ) (tallies : List Tally) (line : ℕ)
+    → AfterMark T (TalliesTooLong T line tallies) read written → EndsAs T remaining input input' output output' reads read written tallies (Err (long_fault T.form line))
+ends_long T remaining input input' output output' reads read written tallies line a = by_form T.form refl
+  where
+    by_form : (form : LineForm) → T.form ≡ form → EndsAs T remaining input input' output output' reads read written tallies (Err (long_fault form line))
+    by_form forms.Tag is = record { named = sym (ap (λ (f : LineForm). long_fault f line) is); ends = a }
+    by_form (forms.Row before) is = record { named = sym (ap (λ (f : LineForm). long_fault f line) is); ends = a }
+    by_form (forms.Csv before delimiter) is = inr (record { named = sym (ap (λ (f : LineForm). long_fault f line) is); ends = a })
+
 module _ {I O : Type 0} (T : Terms) (remaining : I → Option (List ℕ)) (contents : O → Option (List ℕ)) (input before : Device I) (output between : Device O)
-    (state : Answering) (turn : ℕ) (t : RunTurn T remaining contents input before output between state turn) where
+    (state : Marked) (turn : ℕ) (t : RunTurn T remaining contents input before output between state turn) where
   -- a piece was read and taken
-  pub run_next : (after : Device I) (last : Device O) (new : Answering) (piece : List ℕ) → ReadsPiece remaining before after piece
-      → 0 < length piece → length piece ≤ 65536 → 0 < last_given_of after → TakesPiece T contents piece state new between last (Ok tt) → RunTurn T remaining contents input after output last new (turn + 1)
+  pub run_next : (after : Device I) (last : Device O) (new : Marked) (piece : List ℕ) → ReadsPiece remaining before after piece
+      → 0 < length piece → length piece ≤ 65536 → 0 < last_given_of after → TakesText T contents piece state new between last (Ok tt) → RunTurn T remaining contents input after output last new (turn + 1)
   run_next after last new piece r some short gave takes = record {
     read = t.read ++ piece;
     written = t.written ++ takes.written;
     consumes = Consumes-trans _ _ _ _ _ t.consumes r.consumes;
     appends = Appends-trans _ _ _ _ _ t.appends takes.appends;
-    taken = takes.done.2 t.read t.written t.taken;
-    emptied = takes.done.1;
+    taken = (takes.done.1 t.read t.written t.taken t.emptied).0;
+    emptied = (takes.done.1 t.read t.written t.taken t.emptied).1;
     calls = read_more input before after turn t.calls r.calls;
     some = let n = length-append t.read piece in omega (arith, n, t.some);
     last_gave = λ some. gave;
@@ -216,40 +139,40 @@ module _ {I O : Type 0} (T : Terms) (remaining : I → Option (List ℕ)) (conte
 
   -- a read failed
   pub run_failed : (after : Device I) → turn < most_reads → Keeps (remaining (inner_of before)) (remaining (inner_of after)) → reads_of after ≡ one_more (reads_of before)
-      → HasFailed before after → RunsLines T remaining contents input after output between state.tallies (Err faults.Read)
+      → HasFailed before after → RunsLines T remaining contents input after output between state.answering.tallies (Err faults.Read)
   run_failed after few kept more failed = record {
     read = t.read;
     written = t.written;
     reads = turn + 1;
     consumes = Consumes-kept _ _ _ _ t.consumes kept;
     appends = t.appends;
-    begun = begun_nothing T t.read t.written [] t.read state t.taken (sym (append-nil t.read));
+    begun = text_begun T t.read t.written state t.taken t.emptied;
     calls = read_more input before after turn t.calls more;
     bounded = omega (arith, few);
-    ends = record { failed = failed_from input before after t.read_failures failed; owed = owed_to_last_feed T t.read t.written state t.taken t.emptied; tallied = t.taken.tallied };
+    ends = record { failed = failed_from input before after t.read_failures failed; owed = text_to_last_feed T t.read t.written state t.taken t.emptied };
     read_rises = λ lt. refl;
     write_rises = λ lt. absurd (omega (arith, lt, t.write_failures));
   }
 
   -- all reads were made
-  pub run_turns : turn ≡ most_reads → RunsLines T remaining contents input before output between state.tallies (Err faults.TooManyTurns)
+  pub run_turns : turn ≡ most_reads → RunsLines T remaining contents input before output between state.answering.tallies (Err faults.TooManyTurns)
   run_turns all = record {
     read = t.read;
     written = t.written;
     reads = turn;
     consumes = t.consumes;
     appends = t.appends;
-    begun = begun_nothing T t.read t.written [] t.read state t.taken (sym (append-nil t.read));
+    begun = text_begun T t.read t.written state t.taken t.emptied;
     calls = t.calls;
     bounded = omega (arith, all);
-    ends = record { all_made = all; gave_bytes = omega (arith, all, t.some); last_gave = t.last_gave (omega (arith, all)); owed = owed_to_last_feed T t.read t.written state t.taken t.emptied; tallied = t.taken.tallied };
+    ends = record { all_made = all; gave_bytes = omega (arith, all, t.some); last_gave = t.last_gave (omega (arith, all)); owed = text_to_last_feed T t.read t.written state t.taken t.emptied };
     read_rises = λ lt. absurd (omega (arith, lt, t.read_failures));
     write_rises = λ lt. absurd (omega (arith, lt, t.write_failures));
   }
 
   -- a run that ends after a read
   run_after : (after : Device I) (last : Device O) (piece part : List ℕ) (tallies : List Tally) (r : Result Counts ToolFault) → turn < most_reads → ReadsPiece remaining before after piece
-      → Appends (contents (inner_of between)) (contents (inner_of last)) part → IsBegun T (t.read ++ piece) (t.written ++ part) → EndsAs T remaining input after output last (turn + 1) (t.read ++ piece) (t.written ++ part) tallies r
+      → Appends (contents (inner_of between)) (contents (inner_of last)) part → IsBegunText T (t.read ++ piece) (t.written ++ part) → EndsAs T remaining input after output last (turn + 1) (t.read ++ piece) (t.written ++ part) tallies r
       → (failures_of output < failures_of last → r ≡ Err faults.Write) → RunsLines T remaining contents input after output last tallies r
   run_after after last piece part tallies r few reads appends begun ends rises = record {
     read = t.read ++ piece;
@@ -267,32 +190,32 @@ module _ {I O : Type 0} (T : Terms) (remaining : I → Option (List ℕ)) (conte
 
   -- a run over lines that could not all be answered or written
   pub run_stopped : (after : Device I) (last : Device O) (piece part : List ℕ) (tallies : List Tally) (f : ToolFault) → turn < most_reads → ReadsPiece remaining before after piece
-      → Appends (contents (inner_of between)) (contents (inner_of last)) part → IsStop between last f → IsBegun T (t.read ++ piece) (t.written ++ part) → RunsLines T remaining contents input after output last tallies (Err f)
-  run_stopped after last piece part tallies f few reads appends (inl wrote) begun = rw wrote.0
-      (run_after after last piece part tallies _ few reads appends begun (failed_from output between last t.write_failures wrote.1) (λ _. refl))
-  run_stopped after last piece part tallies f few reads appends (inr lacks) begun = rw lacks.0
-      (run_after after last piece part tallies _ few reads appends begun tt (λ lt. absurd (omega (arith, lt, t.write_failures, lacks.1))))
+      → Appends (contents (inner_of between)) (contents (inner_of last)) part → EndsText T between last (t.read ++ piece) (t.written ++ part) tallies f → RunsLines T remaining contents input after output last tallies (Err f)
+  run_stopped after last piece part tallies f few reads appends (inl stop) = elim stop.0 [
+    | inl wrote ↦ rw wrote.0 (run_after after last piece part tallies _ few reads appends stop.1 (failed_from output between last t.write_failures wrote.1) (λ _. refl))
+    | inr lacks ↦ rw lacks.0 (run_after after last piece part tallies _ few reads appends stop.1 tt (λ lt. absurd (omega (arith, lt, t.write_failures, lacks.1))))
+  ]
+  run_stopped after last piece part tallies f few reads appends (inr (inl wide)) = rw wide.0
+      (run_after after last piece part tallies _ few reads appends (rw wide.3 (begun_none T (t.read ++ piece))) (record { wide = wide.2; nothing = wide.3; none = wide.4 }) (λ lt. absurd (omega (arith, lt, t.write_failures, wide.1))))
+  run_stopped after last piece part tallies f few reads appends (inr (inr long)) = rw long.1
+      (run_after after last piece part tallies _ few reads appends (begun_after T (t.read ++ piece) (t.written ++ part) long.0 tallies long.3) (ends_long T remaining input after output last (turn + 1) (t.read ++ piece) (t.written ++ part) tallies long.0 long.3)
+      (λ lt. absurd (omega (arith, lt, t.write_failures, long.2))))
 
   -- the reader was at its end
-  pub run_finished : (after : Device I) (last : Device O) (new : Answering) (r : Result Counts ToolFault) → turn < most_reads → ReadsPiece remaining before after [] → IsAtEnd (remaining (inner_of after))
-      → FinishesLines T contents state new between last r → RunsLines T remaining contents input after output last new.tallies r
+  pub run_finished : (after : Device I) (last : Device O) (new : Marked) (r : Result Counts ToolFault) → turn < most_reads → ReadsPiece remaining before after [] → IsAtEnd (remaining (inner_of after))
+      → FinishesText T contents state new between last r → RunsLines T remaining contents input after output last new.answering.tallies r
   run_finished after last new (Ok counts) few reads end f =
-      let all : OwesAll T (t.read ++ []) (t.written ++ f.written) counts new.tallies = rw (append-nil t.read) (f.done.1 t.read t.written t.taken) in
-      let owed = all.all in
-      run_after after last [] f.written new.tallies (Ok counts) few reads f.appends
-      (record { lines = units_of T.form (t.read ++ []); others = []; cut = sym (append-nil (units_of T.form (t.read ++ []))); owed = owed.owed; each = owed.each; rest = []; front = sym owed.all ∙ sym (append-nil _) })
-      (record { end = end; owed = owed; tallied = all.tallied }) (λ lt. absurd (omega (arith, lt, f.done.0, t.write_failures)))
-  run_finished after last new (Err e) few reads end f = elim f.stopped [
+      let owed : AfterMark T (λ text more. OwesAll T text more counts new.answering.tallies) (t.read ++ []) (t.written ++ f.written) = rw (append-nil t.read) (f.done.1 t.read t.written t.taken) in
+      run_after after last [] f.written new.answering.tallies (Ok counts) few reads f.appends (begun_owed T (t.read ++ []) (t.written ++ f.written) counts new.answering.tallies owed)
+      (record { end = end; owed = owed }) (λ lt. absurd (omega (arith, lt, f.done.0, t.write_failures)))
+  run_finished after last new (Err e) few reads end f = elim (f.stopped t.read t.written t.taken t.emptied) [
     | inl q ↦
-        let quotes : (e : EndsInQuotes T (t.read ++ []) (t.written ++ f.written) q.line) × AreTalliesOf T.form e.owed.lines e.owed.owed new.tallies =
-            rw (append-nil t.read) (q.ends t.read t.written t.taken t.emptied) in
-        rw q.fault (run_after after last [] f.written new.tallies (Err (faults.BadCsv q.line)) few reads f.appends (begun_to_last_feed T (t.read ++ []) (t.written ++ f.written) quotes.0.owed)
-        (record { end = end; ends = quotes.0; tallied = quotes.1 }) (λ lt. absurd (omega (arith, lt, q.same, t.write_failures))))
-    | inr stop ↦ run_stopped after last [] f.written new.tallies e few reads f.appends stop.0 (rw (append-nil t.read) (stop.1 t.read t.written t.taken))
+        let quotes : AfterMark T (TalliesInQuotes T q.line new.answering.tallies) (t.read ++ []) (t.written ++ f.written) = rw (append-nil t.read) q.ends in
+        rw q.fault (run_after after last [] f.written new.answering.tallies (Err (faults.BadCsv q.line)) few reads f.appends (begun_in_quotes T (t.read ++ []) (t.written ++ f.written) q.line new.answering.tallies quotes)
+        (inl (record { end = end; ends = quotes })) (λ lt. absurd (omega (arith, lt, q.same, t.write_failures))))
+    | inr stop ↦ run_stopped after last [] f.written new.answering.tallies e few reads f.appends (rw (append-nil t.read) stop)
   ]
 
   -- the counts have room for the lines of a piece
-  pub run_room : (lines : ℕ) → turn < most_reads → lines ≤ 65536 → HasRoom state lines
-  run_room lines few short =
-      let room = taken_room T t.read t.written state t.taken in
-      record { room = omega (arith, room.0, t.most, few, short); feeds = omega (arith, room.2, t.most, few, short); refused = room.1 }
+  pub run_room : (lines : ℕ) → turn < most_reads → lines ≤ 65537 → HasRoomFor state lines
+  run_room lines few short = text_room T t.read t.written state lines t.taken (omega (arith, t.most, few, short))

@@ -32,8 +32,14 @@ one_more T form first number [] [] refusals line r one each refuses is h =
 one_more T form first number (l ∷ lines) (o ∷ replies) refusals line r one each refuses is (inl h) =
     inl (h.0, one_more T form false (number + 1) lines replies refusals line r one each.1 refuses (subst (λ (n : ℕ). IsRefusedAs form n line r.bytes one) (omega arith) is) h.1)
 one_more T form first number (l ∷ lines) (o ∷ replies) refusals line r one each refuses is (inr h) =
-    inr (h.0, h.1 ++ one ∷ [], h.2, ap (λ (l : List Refused). l ++ one ∷ []) h.3, h.4,
-    one_more T form false (number + 1) lines replies h.1 line r one each.1 refuses (subst (λ (n : ℕ). IsRefusedAs form n line r.bytes one) (omega arith) is) h.5)
+    inr (
+      h.0,
+      h.1 ++ one ∷ [],
+      h.2,
+      ap (λ (l : List Refused). l ++ one ∷ []) h.3,
+      h.4,
+      one_more T form false (number + 1) lines replies h.1 line r one each.1 refuses (subst (λ (n : ℕ). IsRefusedAs form n line r.bytes one) (omega arith) is) h.5,
+    )
 one_more T form first number lines replies refusals line r one each refuses is h = absurd each
 
 -- a line was answered

@@ -109,8 +109,8 @@ put_appended T before after text bytes old new items start refused puts is from 
     all_put (IsRecent T) before after text (take (length items - start) (drop start items)) refused puts (subst (λ (l : List ℕ). IsRecent T (kept text l refused)) (sym same) right)
 
 -- the canonical texts of fields are kept alike where tabs part fields and where commas do
-pub csv_recent : (R : List EntryParts) (before : ℕ) (form : LineForm) (r : Result Bool OutOfMemory) (old new : RecentAnswers) → form ≡ forms.Csv before
+pub csv_recent : (R : List EntryParts) (before delimiter : ℕ) (form : LineForm) (r : Result Bool OutOfMemory) (old new : RecentAnswers) → form ≡ forms.Csv before delimiter
     → OnOk r (AreRecent (terms R (forms.Row before)) old → AreRecent (terms R (forms.Row before)) new) → OnOk r (AreRecent (terms R form) old → AreRecent (terms R form) new)
-csv_recent R before form r old new is h =
+csv_recent R before delimiter form r old new is h =
     subst (λ (f : LineForm). OnOk r (AreRecent (terms R f) old → AreRecent (terms R f) new)) (sym is)
     (on_ok_weaker r (λ keeps recent. let a = keeps (record { whole = recent.whole; ends = recent.ends }) in record { whole = a.whole; ends = a.ends }) h)

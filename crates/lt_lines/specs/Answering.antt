@@ -9,21 +9,20 @@ use Rattle.lt_registry.specs.Parts.{EntryParts}
 use Rattle.lt_canon.specs.Texts.{AppendsCanonicalText, IsCanonicalTextOf, IsTextRefusal}
 use Rattle.lt_canon.specs.declared.refusals.TextRefusal.{TextRefusal}
 use Rattle.lt_lines.specs.Refusals.{IsTold}
-use Rattle.lt_lines.specs.Quotes.{is_quoted, place_at}
-use Rattle.lt_lines.specs.declared.quotes.Place.{Place}
-use Rattle.lt_lines.specs.declared.quotes.Place.TheVariants as places
-use Rattle.lt_lines.specs.Owed.{AreReplies, EndsInQuotes, IsBegun, IsOwed, IsReplyTo, IsRowReply, IsTextReply, IsUnit, IsWhole, Reply, Terms, bytes_in, ended, feeds_in, is_open, place_of, refused_in, reply, row_line, units_of}
+use Rattle.lt_rows.specs.Quotes.{is_quoted, place_at}
+use Rattle.lt_rows.specs.declared.quotes.Place.{Place}
+use Rattle.lt_rows.specs.declared.quotes.Place.TheVariants as places
+use Rattle.lt_lines.specs.Owed.{AreReplies, IsBegun, IsHeadingReply, IsReplyTo, IsRowReply, IsShort, IsTextReply, IsUnit, IsWhole, Reply, Terms, bytes_in, ended, feeds_in, is_open, long_fault, longest_row, place_of, refused_in, reply, row_line, units_of}
 use Rattle.lt_lines.specs.DeviceOutput.{IsFrontOf}
-use Rattle.lt_lines.specs.Tallied.{AreTalliesOf}
+use Rattle.lt_lines.specs.Tallied.{AreTalliesOf, OwesAll, TalliesInQuotes, TalliesTooLong}
 use Rattle.lt_recent.specs.declared.Kept.{Kept}
 use Rattle.lt_ends.specs.Ends.{AreEnds}
 use Rattle.lt_lines.specs.declared.recent_answers.RecentAnswers.{RecentAnswers}
 use Rattle.lt_lines.specs.declared.answering.Answering.{Answering}
 use Rattle.lt_lines.specs.declared.forms.LineForm.{LineForm}
 use Rattle.lt_lines.specs.declared.forms.LineForm.TheVariants as forms
-use Rattle.lt_lines.specs.declared.rows.Separator.{Separator}
+use Rattle.lt_rows.specs.declared.rows.Separator.{Separator}
 use Rattle.lt_lines.specs.declared.runs.Counts.{Counts}
-use Rattle.lt_tallies.specs.declared.Tally.{Tally}
 use Rattle.lt_lines.specs.declared.faults.ToolFault.{ToolFault}
 use Rattle.lt_lines.specs.declared.faults.ToolFault.TheVariants as faults
 
@@ -44,13 +43,13 @@ one_if false = 0
 abbrev pub kept_of : LineForm → List ℕ → List ℕ
 kept_of forms.Tag line = take longest_kept line
 kept_of (forms.Row before) line = line
-kept_of (forms.Csv before) line = line
+kept_of (forms.Csv before delimiter) line = line
 
 -- the part of more bytes of a line that is kept after this many
 abbrev pub part_kept : LineForm → ℕ → List ℕ → List ℕ
 part_kept forms.Tag count part = take (longest_kept - count) part
 part_kept (forms.Row before) count part = part
-part_kept (forms.Csv before) count part = part
+part_kept (forms.Csv before delimiter) count part = part
 
 -- what is kept of a line once it is whole: nothing where nothing was kept of it before its last bytes
 abbrev pub KeepsPart : LineForm → (old part new : List ℕ) → Type 0
@@ -61,12 +60,23 @@ KeepsPart form (byte ∷ old) part new = new ≡ (byte ∷ old) ++ part_kept for
 abbrev pub place_then : LineForm → Place → List ℕ → Place
 place_then forms.Tag place part = places.Fresh
 place_then (forms.Row before) place part = places.Fresh
-place_then (forms.Csv before) place part = place_at place part
+place_then (forms.Csv before delimiter) place part = place_at delimiter place part
+
+-- with this many bytes more, what is kept of a row or a record is too long
+abbrev pub IsLongBy : LineForm → (kept count : ℕ) → Type 0
+IsLongBy forms.Tag kept count = ⊥
+IsLongBy (forms.Row before) kept count = longest_row < kept + count
+IsLongBy (forms.Csv before delimiter) kept count = longest_row < kept + count
+
+-- the line, counted from 1, in which what is kept begins
+abbrev pub line_of : Answering → ℕ
+line_of state = (state.feeds - feeds_in state.kept.items) + 1
 
 -- the last bytes of a line before the line feed that ends it
-pub record IsWholeAfter (form : LineForm) (place : Place) (part : List ℕ) : Type 0 where
+pub record IsWholeAfter (form : LineForm) (kept : List ℕ) (place : Place) (part : List ℕ) : Type 0 where
   pub one : IsOneLine part
   pub closed : is_quoted (place_then form place part) ≡ false
+  pub short : IsShort form (kept ++ part)
 
 -- one answer more is among those that are owed: that to a text
 pub record AppendsTextReply (R : List EntryParts) (text old new : List ℕ) (refused : Bool) : Type 0 where
@@ -80,6 +90,12 @@ pub record AppendsRowReply (S : Separator) (R : List EntryParts) (before : ℕ) 
   pub bytes : List ℕ
   pub grown : new ≡ old ++ bytes
   pub owed : IsRowReply S R before line (reply bytes refused)
+
+-- that to a heading
+pub record AppendsHeadingReply (S : Separator) (line old new : List ℕ) (refused : Bool) : Type 0 where
+  pub bytes : List ℕ
+  pub grown : new ≡ old ++ bytes
+  pub owed : IsHeadingReply S line (reply bytes refused)
 
 -- that to a line
 pub record AppendsReply (T : Terms) (first : Bool) (line old new : List ℕ) (refused : Bool) : Type 0 where
@@ -108,7 +124,7 @@ pub record EndsRefused (S : Separator) (refusal : TextRefusal) (text quotes afte
 abbrev pub IsRight : List EntryParts → LineForm → Kept → Type 0
 IsRight R forms.Tag kept = IsTextReply R kept.line (reply kept.answer kept.refused)
 IsRight R (forms.Row before) kept = IsCanonicalTextOf R kept.line kept.answer
-IsRight R (forms.Csv before) kept = IsCanonicalTextOf R kept.line kept.answer
+IsRight R (forms.Csv before delimiter) kept = IsCanonicalTextOf R kept.line kept.answer
 
 -- what a place has, if it has something, is right
 abbrev pub IsRecent : Terms → Option Kept → Type 0
@@ -129,6 +145,7 @@ pub record IsTaken (T : Terms) (bytes written : List ℕ) (state : Answering) : 
   pub last_one : IsUnit T.form last
   pub kept : state.kept.items ≡ kept_of T.form last
   pub goes_on : state.place ≡ place_of T.form last
+  pub short : is_quoted state.place ≡ false → IsShort T.form last
   pub feeds : state.feeds ≡ feeds_in bytes
   pub owed : List Reply
   pub each : AreReplies T lines owed
@@ -141,6 +158,7 @@ pub record IsTaken (T : Terms) (bytes written : List ℕ) (state : Answering) : 
 -- what is owed for these bytes is written or still kept
 pub record IsAnswered (T : Terms) (bytes written : List ℕ) (state : Answering) : Type 0 where
   pub closed : is_open T.form bytes ≡ false
+  pub short : AllByRecursion (IsShort T.form) (units_of T.form bytes)
   pub owed : List Reply
   pub each : AreReplies T (units_of T.form bytes) owed
   pub all : written ++ state.owed.items ≡ bytes_in owed
@@ -202,6 +220,29 @@ abbrev pub IsStop : {W : Type 0} → Device W → Device W → ToolFault → Typ
 IsStop before after f = ((f ≡ faults.Write) × HasFailed before after)
     ⊎ ((f ≡ faults.OutOfMemory) × (failures_of after ≡ failures_of before))
 
+-- what is owed was written, and the row or record that is kept is too long; or a write failed
+pub record StopsLong {W : Type 0} (form : LineForm) (contents : W → Option (List ℕ)) (old new : Answering)
+    (before after : Device W) (f : ToolFault) : Type 0 where
+  pub written : List ℕ
+  pub appends : Appends (contents (inner_of before)) (contents (inner_of after)) written
+  pub tallies : new.tallies ≡ old.tallies
+  pub ends : ((f ≡ faults.Write) × HasFailed before after × IsFrontOf written old.owed.items)
+      ⊎ ((f ≡ long_fault form (line_of old)) × (failures_of after ≡ failures_of before) × (written ≡ old.owed.items))
+
+-- a row or a record of the piece is too long, and all that is owed for those before it was written
+pub record StopsTooLong {W : Type 0} (T : Terms) (piece : List ℕ) (old new : Answering) (before after : Device W)
+    (written : List ℕ) (f : ToolFault) : Type 0 where
+  pub line : ℕ
+  pub fault : f ≡ long_fault T.form line
+  pub same : failures_of after ≡ failures_of before
+  pub ends : (bytes out : List ℕ) → IsTaken T bytes out old
+      → TalliesTooLong T line new.tallies (bytes ++ piece) (out ++ written)
+
+-- what ends a run in a piece of the reader's bytes: that, or a write or memory failed
+abbrev pub IsPieceStop : {W : Type 0} → Terms → List ℕ → (old new : Answering) → Device W → Device W → List ℕ → ToolFault → Type 0
+IsPieceStop T piece old new before after written f = StopsTooLong T piece old new before after written f
+    ⊎ (IsStop before after f × ((bytes out : List ℕ) → IsTaken T bytes out old → IsBegun T (bytes ++ piece) (out ++ written)))
+
 -- a piece of the reader's bytes was taken, and what is owed so far was written
 pub record TakesPiece {W : Type 0} (T : Terms) (contents : W → Option (List ℕ)) (piece : List ℕ)
     (old new : Answering) (before after : Device W) (result : Result (Unit {0}) ToolFault) : Type 0 where
@@ -209,8 +250,8 @@ pub record TakesPiece {W : Type 0} (T : Terms) (contents : W → Option (List �
   pub appends : Appends (contents (inner_of before)) (contents (inner_of after)) written
   pub done : IfOk result (λ _. (failures_of after ≡ failures_of before) × (new.owed.items ≡ [])
       × ((bytes out : List ℕ) → IsTaken T bytes out old → IsTaken T (bytes ++ piece) (out ++ written) new))
-  pub stopped : IfErr result (λ f. IsStop before after f
-      × ((bytes out : List ℕ) → IsTaken T bytes out old → IsBegun T (bytes ++ piece) (out ++ written)))
+  pub room : IfOk result (λ _. (count : ℕ) → HasRoom old (length piece + count) → HasRoom new count)
+  pub stopped : IfErr result (IsPieceStop T piece old new before after written)
 
 -- a quote is open at the end, nothing more was written, and the record begins in the line that the fault tells
 pub record StopsInQuotes {W : Type 0} (T : Terms) (old new : Answering) (before after : Device W) (written : List ℕ)
@@ -219,17 +260,12 @@ pub record StopsInQuotes {W : Type 0} (T : Terms) (old new : Answering) (before 
   pub fault : f ≡ faults.BadCsv line
   pub same : failures_of after ≡ failures_of before
   pub ends : (bytes out : List ℕ) → IsTaken T bytes out old → old.owed.items ≡ []
-      → (e : EndsInQuotes T bytes (out ++ written) line) × AreTalliesOf T.form e.owed.lines e.owed.owed new.tallies
+      → TalliesInQuotes T line new.tallies bytes (out ++ written)
 
 -- what ends a run early after its reader: that, or a write or memory failed
 abbrev pub IsLastStop : {W : Type 0} → Terms → (old new : Answering) → Device W → Device W → List ℕ → ToolFault → Type 0
 IsLastStop T old new before after written f = StopsInQuotes T old new before after written f
     ⊎ (IsStop before after f × ((bytes out : List ℕ) → IsTaken T bytes out old → IsBegun T bytes (out ++ written)))
-
--- all that is owed for the bytes was written and counted, and what was refused of them is in the tallies
-pub record OwesAll (T : Terms) (bytes written : List ℕ) (counts : Counts) (tallies : List Tally) : Type 0 where
-  pub all : IsOwed T bytes written counts
-  pub tallied : AreTalliesOf T.form (units_of T.form bytes) all.owed tallies
 
 -- a last line that no line feed ends was answered too, and what is owed was written
 pub record FinishesLines {W : Type 0} (T : Terms) (contents : W → Option (List ℕ)) (old new : Answering)

@@ -11,10 +11,17 @@ tool_name_of faults.Write = codes "Write"
 tool_name_of faults.TooManyTurns = codes "TooManyTurns"
 tool_name_of faults.OutOfMemory = codes "OutOfMemory"
 tool_name_of (faults.BadCsv line) = codes "BadCsv"
+tool_name_of (faults.BadTsv line) = codes "BadTsv"
+tool_name_of faults.Utf16 = codes "Utf16"
 
--- what is said of a fault after its name: the line in which the record at fault begins
+-- the line of a fault
+abbrev pub line_said : ℕ → List ℕ
+line_said line = codes " line " ++ decimal line
+
+-- what is said of a fault after its name: the line in which the record at fault begins, or which the row at fault is
 abbrev pub place_said : ToolFault → List ℕ
-place_said (faults.BadCsv line) = codes " line " ++ decimal line
+place_said (faults.BadCsv line) = line_said line
+place_said (faults.BadTsv line) = line_said line
 place_said _ = []
 
 -- the line that says what ended a run

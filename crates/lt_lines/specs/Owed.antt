@@ -1,5 +1,5 @@
 -- What is owed for the bytes of a reader: an answer to each of its lines.
-use Rattle.std.specs.Prelude.{◌≡◌, ◌⊎◌, ◌+◌, ◌==◌, ◌&&◌, ℕ, Bool, true, false, List, [], ◌∷◌, ◌++◌, if◌then◌else◌, length, codes}
+use Rattle.std.specs.Prelude.{◌≡◌, ◌≤◌, ◌⊎◌, ◌+◌, ◌==◌, ◌&&◌, ℕ, Bool, true, false, List, [], ◌∷◌, ◌++◌, if◌then◌else◌, length, codes}
 use Rattle.std.specs.List.{AllByRecursion, count_by}
 use Rattle.std.specs.Io.BufRead.{ends_with_byte}
 use Rattle.lt_jar.specs.Lines.{IsOneLine, content_of, lines_of}
@@ -7,14 +7,17 @@ use Rattle.lt_registry.specs.Parts.{EntryParts}
 use Rattle.lt_canon.specs.Texts.{IsCanonicalTextOf, IsTextRefusal}
 use Rattle.lt_canon.specs.declared.refusals.TextRefusal.{TextRefusal}
 use Rattle.lt_lines.specs.Refusals.{IsRefusalLine, IsTold}
-use Rattle.lt_lines.specs.Quotes.{IsFreeOutside, is_quoted, place_at, records_from}
-use Rattle.lt_lines.specs.declared.quotes.Place.{Place}
-use Rattle.lt_lines.specs.declared.quotes.Place.TheVariants as places
-use Rattle.lt_lines.specs.Rows.{HasFewer, HasField, IsTextIn, separator}
+use Rattle.lt_rows.specs.Quotes.{IsFreeOutside, is_quoted, place_at, records_from}
+use Rattle.lt_rows.specs.declared.quotes.Place.{Place}
+use Rattle.lt_rows.specs.declared.quotes.Place.TheVariants as places
+use Rattle.lt_rows.specs.Marks.{Begins, IsWide, SplitsMark}
+use Rattle.lt_rows.specs.Rows.{HasFewer, HasField, HasReturn, IsTextIn, separator}
 use Rattle.lt_lines.specs.declared.forms.LineForm.{LineForm}
 use Rattle.lt_lines.specs.declared.forms.LineForm.TheVariants as forms
-use Rattle.lt_lines.specs.declared.rows.Separator.{Separator}
-use Rattle.lt_lines.specs.declared.rows.Separator.TheVariants as separators
+use Rattle.lt_rows.specs.declared.rows.Separator.{Separator}
+use Rattle.lt_rows.specs.declared.rows.Separator.TheVariants as separators
+use Rattle.lt_lines.specs.declared.faults.ToolFault.{ToolFault}
+use Rattle.lt_lines.specs.declared.faults.ToolFault.TheVariants as faults
 use Rattle.lt_lines.specs.declared.runs.Counts.{Counts}
 
 -- by what lines are answered: the entries of a registry, and what a line is
@@ -103,16 +106,31 @@ pub record LacksField (S : Separator) (before : ℕ) (line bytes : List ℕ) : T
   pub fewer : HasFewer S before (content_of line)
   pub line_is : bytes ≡ row_line S (content_of line) (codes "NoColumn") line
 
--- the line that is owed for a row; running out of memory aside
-abbrev pub IsRowReply : Separator → List EntryParts → ℕ → List ℕ → Reply → Type 0
-IsRowReply S R before line r =
+-- the line that is owed for a row by its field; running out of memory aside
+abbrev pub IsFieldReply : Separator → List EntryParts → ℕ → List ℕ → Reply → Type 0
+IsFieldReply S R before line r =
     (AnswersRow S R before line r.bytes × (r.refused ≡ false))
     ⊎ ((RefusesRow S R before line r.bytes ⊎ LacksField S before line r.bytes) × (r.refused ≡ true))
 
+-- a carriage return is in a record, outside of quotes, and the last field says so
+pub record RefusesReturn (S : Separator) (line : List ℕ) (r : Reply) : Type 0 where
+  pub returns : HasReturn S (content_of line)
+  pub line_is : r.bytes ≡ row_line S (content_of line) (codes "BadReturn") line
+  pub refused : r.refused ≡ true
+
+-- none is
+pub record HasNoReturn (S : Separator) (line : List ℕ) (P : Type 0) : Type 0 where
+  pub none : HasReturn S (content_of line) → ⊥
+  pub owed : P
+
+-- the line that is owed for a row
+abbrev pub IsRowReply : Separator → List EntryParts → ℕ → List ℕ → Reply → Type 0
+IsRowReply S R before line r = RefusesReturn S line r ⊎ HasNoReturn S line (IsFieldReply S R before line r)
+
 -- the line that is owed for the heading of a file of CSV: the name of the last field is added
-abbrev pub IsHeadingReply : List ℕ → Reply → Type 0
-IsHeadingReply line r =
-    (r.bytes ≡ row_line separators.Comma (content_of line) (codes "langtag_fault") line) × (r.refused ≡ false)
+abbrev pub IsHeadingReply : Separator → List ℕ → Reply → Type 0
+IsHeadingReply S line r = RefusesReturn S line r
+    ⊎ HasNoReturn S line ((r.bytes ≡ row_line S (content_of line) (codes "langtag_fault") line) × (r.refused ≡ false))
 
 -- ---- lines
 
@@ -120,8 +138,8 @@ IsHeadingReply line r =
 abbrev pub IsReplyIn : List EntryParts → LineForm → Bool → List ℕ → Reply → Type 0
 IsReplyIn R forms.Tag first line r = IsTextReply R (content_of line) r
 IsReplyIn R (forms.Row before) first line r = IsRowReply separators.Tab R before line r
-IsReplyIn R (forms.Csv before) true line r = IsHeadingReply line r
-IsReplyIn R (forms.Csv before) false line r = IsRowReply separators.Comma R before line r
+IsReplyIn R (forms.Csv before delimiter) true line r = IsHeadingReply (separators.Delimiter delimiter) line r
+IsReplyIn R (forms.Csv before delimiter) false line r = IsRowReply (separators.Delimiter delimiter) R before line r
 
 -- the same by what lines are answered by
 abbrev pub IsReplyTo : Terms → Bool → List ℕ → Reply → Type 0
@@ -151,28 +169,39 @@ refused_in replies = count_by (λ r. r.refused) replies
 abbrev pub units_of : LineForm → List ℕ → List (List ℕ)
 units_of forms.Tag text = lines_of text
 units_of (forms.Row before) text = lines_of text
-units_of (forms.Csv before) text = records_from places.Fresh text
+units_of (forms.Csv before delimiter) text = records_from delimiter places.Fresh text
 
 -- no line feed that ends a line of this form: none, or in CSV none outside of quotes
 abbrev pub IsUnit : LineForm → List ℕ → Type 0
 IsUnit forms.Tag text = IsOneLine text
 IsUnit (forms.Row before) text = IsOneLine text
-IsUnit (forms.Csv before) text = IsFreeOutside 10 places.Fresh text
+IsUnit (forms.Csv before delimiter) text = IsFreeOutside delimiter 10 places.Fresh text
 
 -- the place after a text of this form, which is of no account but in CSV
 abbrev pub place_of : LineForm → List ℕ → Place
 place_of forms.Tag text = places.Fresh
 place_of (forms.Row before) text = places.Fresh
-place_of (forms.Csv before) text = place_at places.Fresh text
+place_of (forms.Csv before delimiter) text = place_at delimiter places.Fresh text
 
 -- whether a line goes on after a line feed: a record does where it ends within quotes
 abbrev pub is_open : LineForm → List ℕ → Bool
 is_open form text = is_quoted (place_of form text)
 
+-- the most bytes of a row or a record
+abbrev pub longest_row : ℕ
+longest_row = 16777216
+
+-- it is not too long to be kept whole; of a tag no more is kept than says that it is too long
+abbrev pub IsShort : LineForm → List ℕ → Type 0
+IsShort forms.Tag text = Unit {0}
+IsShort (forms.Row before) text = length text ≤ longest_row
+IsShort (forms.Csv before delimiter) text = length text ≤ longest_row
+
 -- a line that a line feed ends
 pub record IsWhole (form : LineForm) (text : List ℕ) : Type 0 where
   pub unit : IsUnit form text
   pub closed : is_open form text ≡ false
+  pub short : IsShort form text
 
 -- lines, each ended by a line feed
 abbrev pub ended : List (List ℕ) → List ℕ
@@ -186,6 +215,7 @@ feeds_in text = count_by (λ byte. byte == 10) text
 -- all that is owed for the bytes was written, and counted; no quote is open at their end
 pub record IsOwed (T : Terms) (bytes written : List ℕ) (counts : Counts) : Type 0 where
   pub closed : is_open T.form bytes ≡ false
+  pub short : AllByRecursion (IsShort T.form) (units_of T.form bytes)
   pub owed : List Reply
   pub each : AreReplies T (units_of T.form bytes) owed
   pub all : written ≡ bytes_in owed
@@ -209,6 +239,26 @@ pub record EndsInQuotes (T : Terms) (bytes written : List ℕ) (line : ℕ) : Ty
   pub inside : is_open T.form owed.last ≡ true
   pub begins : line ≡ feeds_in (ended owed.lines) + 1
 
+-- the fault of a row or a record that is too long
+abbrev pub long_fault : LineForm → ℕ → ToolFault
+long_fault forms.Tag line = faults.BadTsv line
+long_fault (forms.Row before) line = faults.BadTsv line
+long_fault (forms.Csv before delimiter) line = faults.BadCsv line
+
+-- a row or a record begins in this line, counted from 1, that is too long
+pub record EndsTooLong (T : Terms) (bytes written : List ℕ) (line : ℕ) : Type 0 where
+  pub lines : List (List ℕ)
+  pub begun : List ℕ
+  pub rest : List ℕ
+  pub cut : bytes ≡ ended lines ++ (begun ++ rest)
+  pub each_one : AllByRecursion (IsWhole T.form) lines
+  pub last_one : IsUnit T.form begun
+  pub long : IsShort T.form begun → ⊥
+  pub owed : List Reply
+  pub each : AreReplies T lines owed
+  pub all : written ≡ bytes_in owed
+  pub begins : line ≡ feeds_in (ended lines) + 1
+
 -- what was written is a front of what is owed for the first lines of the bytes
 pub record IsBegun (T : Terms) (bytes written : List ℕ) : Type 0 where
   pub lines : List (List ℕ)
@@ -218,3 +268,28 @@ pub record IsBegun (T : Terms) (bytes written : List ℕ) : Type 0 where
   pub each : AreReplies T lines owed
   pub rest : List ℕ
   pub front : bytes_in owed ≡ written ++ rest
+
+-- ---- a byte order mark
+
+-- the mark at the beginning of the bytes, and the text after it; before lines that are tags none is looked for
+abbrev pub SplitsText : LineForm → (bytes mark text : List ℕ) → Type 0
+SplitsText forms.Tag bytes mark text = (mark ≡ []) × (text ≡ bytes)
+SplitsText (forms.Row before) bytes mark text = SplitsMark bytes mark text
+SplitsText (forms.Csv before delimiter) bytes mark text = SplitsMark bytes mark text
+
+-- the mark was written, and of the text and what was written after it this holds
+pub record AfterMark (T : Terms) (P : (text written : List ℕ) → Type 0) (bytes written : List ℕ) : Type 0 where
+  pub mark : List ℕ
+  pub text : List ℕ
+  pub split : SplitsText T.form bytes mark text
+  pub narrow : IsWide bytes → ⊥
+  pub more : List ℕ
+  pub written_is : written ≡ mark ++ more
+  pub holds : P text more
+
+-- what was written is a front of the mark, or the mark and a front of what is owed for the text after it
+pub record IsBegunText (T : Terms) (bytes written : List ℕ) : Type 0 where
+  pub mark : List ℕ
+  pub text : List ℕ
+  pub split : SplitsText T.form bytes mark text
+  pub front : Begins written mark ⊎ ((more : List ℕ) × (written ≡ mark ++ more) × IsBegun T text more)

@@ -1,11 +1,12 @@
 -- What a run over the lines of a reader read and wrote, and how it ended.
-use Rattle.std.specs.Prelude.{◌≡◌, ◌<◌, ◌≤◌, ℕ, List, length, Option, Result, Ok, Err}
+use Rattle.std.specs.Prelude.{◌≡◌, ◌<◌, ◌≤◌, ◌⊎◌, ℕ, List, [], length, Option, Result, Ok, Err}
 use Rattle.std.specs.Io.KnownBytes.{Appends, Consumes, IsAtEnd}
 use Rattle.lt_jar.specs.Devices.{HasFailed, after_reads, failures_of, inner_of, last_given_of, reads_of}
 use Rattle.lt_jar.specs.Sources.{most_reads}
 use Rattle.lt_jar.specs.declared.devices.Device.{Device}
-use Rattle.lt_lines.specs.Owed.{EndsInQuotes, IsBegun, IsOwed, IsOwedToLastFeed, Terms, units_of}
-use Rattle.lt_lines.specs.Tallied.{AreTalliesOf}
+use Rattle.lt_rows.specs.Marks.{IsWide}
+use Rattle.lt_lines.specs.Owed.{AfterMark, IsBegunText, Terms, long_fault}
+use Rattle.lt_lines.specs.Tallied.{OwesAll, TalliesInQuotes, TalliesToLastFeed, TalliesTooLong}
 use Rattle.lt_lines.specs.declared.faults.ToolFault.{ToolFault}
 use Rattle.lt_lines.specs.declared.faults.ToolFault.TheVariants as faults
 use Rattle.lt_lines.specs.declared.runs.Counts.{Counts}
@@ -19,15 +20,13 @@ HasRead before after reads = reads_of after ≡ after_reads (reads_of before) re
 pub record IsDone {I : Type 0} (T : Terms) (remaining : I → Option (List ℕ)) (input' : Device I)
     (read written : List ℕ) (tallies : List Tally) (counts : Counts) : Type 0 where
   pub end : IsAtEnd (remaining (inner_of input'))
-  pub owed : IsOwed T read written counts
-  pub tallied : AreTalliesOf T.form (units_of T.form read) owed.owed tallies
+  pub owed : AfterMark T (λ text more. OwesAll T text more counts tallies) read written
 
 -- the reader failed, and what is owed up to the last line feed was written
 pub record IsStoppedByRead {I : Type 0} (T : Terms) (input input' : Device I) (read written : List ℕ)
     (tallies : List Tally) : Type 0 where
   pub failed : HasFailed input input'
-  pub owed : IsOwedToLastFeed T read written
-  pub tallied : AreTalliesOf T.form owed.lines owed.owed tallies
+  pub owed : AfterMark T (TalliesToLastFeed T tallies) read written
 
 -- the most reads were made, the last of them gave bytes, and what is owed up to the last line feed was written
 pub record IsStoppedByTurns {I : Type 0} (T : Terms)
@@ -35,15 +34,24 @@ pub record IsStoppedByTurns {I : Type 0} (T : Terms)
   pub all_made : reads ≡ most_reads
   pub gave_bytes : most_reads ≤ length read
   pub last_gave : 0 < last_given_of input'
-  pub owed : IsOwedToLastFeed T read written
-  pub tallied : AreTalliesOf T.form owed.lines owed.owed tallies
+  pub owed : AfterMark T (TalliesToLastFeed T tallies) read written
 
 -- the reader was read to its end, which is within quotes, and what is owed for the records before was written
 pub record IsStoppedByQuotes {I : Type 0} (T : Terms) (remaining : I → Option (List ℕ)) (input' : Device I)
     (read written : List ℕ) (tallies : List Tally) (line : ℕ) : Type 0 where
   pub end : IsAtEnd (remaining (inner_of input'))
-  pub ends : EndsInQuotes T read written line
-  pub tallied : AreTalliesOf T.form ends.owed.lines ends.owed.owed tallies
+  pub ends : AfterMark T (TalliesInQuotes T line tallies) read written
+
+-- a row or a record is too long, and what is owed for those before was written
+pub record IsStoppedByLength (T : Terms) (read written : List ℕ) (tallies : List Tally) (f : ToolFault) (line : ℕ) : Type 0 where
+  pub named : f ≡ long_fault T.form line
+  pub ends : AfterMark T (TalliesTooLong T line tallies) read written
+
+-- the bytes begin with a mark of UTF-16, and nothing was written
+pub record IsStoppedByMark (read written : List ℕ) (tallies : List Tally) : Type 0 where
+  pub wide : IsWide read
+  pub nothing : written ≡ []
+  pub none : tallies ≡ []
 
 -- how the run ended
 abbrev pub EndsAs : {I O : Type 0} → Terms → (I → Option (List ℕ))
@@ -57,6 +65,11 @@ EndsAs T remaining input input' output output' reads read written tallies (Err f
     IsStoppedByTurns T input' reads read written tallies
 EndsAs T remaining input input' output output' reads read written tallies (Err (faults.BadCsv line)) =
     IsStoppedByQuotes T remaining input' read written tallies line
+    ⊎ IsStoppedByLength T read written tallies (faults.BadCsv line) line
+EndsAs T remaining input input' output output' reads read written tallies (Err (faults.BadTsv line)) =
+    IsStoppedByLength T read written tallies (faults.BadTsv line) line
+EndsAs T remaining input input' output output' reads read written tallies (Err faults.Utf16) =
+    IsStoppedByMark read written tallies
 EndsAs T remaining input input' output output' reads read written tallies (Err faults.Write) = HasFailed output output'
 EndsAs T remaining input input' output output' reads read written tallies (Err faults.OutOfMemory) = Unit {0}
 
@@ -70,7 +83,7 @@ pub record RunsLines {I O : Type 0} (T : Terms) (remaining : I → Option (List 
   pub reads : ℕ
   pub consumes : Consumes (remaining (inner_of input)) (remaining (inner_of input')) read
   pub appends : Appends (contents (inner_of output)) (contents (inner_of output')) written
-  pub begun : IsBegun T read written
+  pub begun : IsBegunText T read written
   pub calls : HasRead input input' reads
   pub bounded : reads ≤ most_reads
   pub ends : EndsAs T remaining input input' output output' reads read written tallies result

@@ -4,18 +4,19 @@ use Rattle.std.specs.List.{before_first}
 use Rattle.lt_jar.specs.Lines.{content_of}
 use Rattle.lt_tallies.specs.Tallies.{AreTallies, Refused}
 use Rattle.lt_tallies.specs.declared.Tally.{Tally}
-use Rattle.lt_lines.specs.Owed.{Reply}
-use Rattle.lt_lines.specs.Rows.{HasFewer, HasField, IsTextIn}
+use Rattle.lt_lines.specs.Owed.{EndsInQuotes, EndsTooLong, IsOwed, IsOwedToLastFeed, Reply, Terms, units_of}
+use Rattle.lt_rows.specs.Rows.{HasFewer, HasField, IsTextIn}
+use Rattle.lt_lines.specs.declared.runs.Counts.{Counts}
 use Rattle.lt_lines.specs.declared.forms.LineForm.{LineForm}
 use Rattle.lt_lines.specs.declared.forms.LineForm.TheVariants as forms
-use Rattle.lt_lines.specs.declared.rows.Separator.{Separator}
-use Rattle.lt_lines.specs.declared.rows.Separator.TheVariants as separators
+use Rattle.lt_rows.specs.declared.rows.Separator.{Separator}
+use Rattle.lt_rows.specs.declared.rows.Separator.TheVariants as separators
 
 -- what the answer tells that refuses a line: it follows `! `, or the row as it was and a separator
 abbrev pub told_in : LineForm → (line bytes : List ℕ) → List ℕ
 told_in forms.Tag line bytes = drop 2 bytes
 told_in (forms.Row before) line bytes = drop (length (content_of line) + 1) bytes
-told_in (forms.Csv before) line bytes = drop (length (content_of line) + 1) bytes
+told_in (forms.Csv before delimiter) line bytes = drop (length (content_of line) + 1) bytes
 
 -- the name of the fault: what is before the first space (32) or end of line
 abbrev pub fault_in : LineForm → (line bytes : List ℕ) → List ℕ
@@ -38,7 +39,7 @@ IsFieldOrNone S before row text = IsFieldText S before row text ⊎ (HasFewer S 
 abbrev pub IsTagIn : LineForm → (line text : List ℕ) → Type 0
 IsTagIn forms.Tag line text = text ≡ content_of line
 IsTagIn (forms.Row before) line text = IsFieldOrNone separators.Tab before (content_of line) text
-IsTagIn (forms.Csv before) line text = IsFieldOrNone separators.Comma before (content_of line) text
+IsTagIn (forms.Csv before delimiter) line text = IsFieldOrNone (separators.Delimiter delimiter) before (content_of line) text
 
 -- the most bytes that are shown of a text
 abbrev pub most_shown : ℕ
@@ -65,6 +66,24 @@ pub record AreTalliesOf (form : LineForm) (lines : List (List ℕ)) (replies : L
   pub refusals : List Refused
   pub are_refused : AreRefused form 1 lines replies refusals
   pub tallied : AreTallies refusals tallies
+
+-- all that is owed for the bytes was written and counted, and what was refused of them is in the tallies
+pub record OwesAll (T : Terms) (bytes written : List ℕ) (counts : Counts) (tallies : List Tally) : Type 0 where
+  pub all : IsOwed T bytes written counts
+  pub tallied : AreTalliesOf T.form (units_of T.form bytes) all.owed tallies
+
+-- what is owed up to the last line feed was written, and what was refused is in the tallies
+abbrev pub TalliesToLastFeed : Terms → List Tally → (bytes written : List ℕ) → Type 0
+TalliesToLastFeed T tallies bytes written = (o : IsOwedToLastFeed T bytes written) × AreTalliesOf T.form o.lines o.owed tallies
+
+-- the same, and the bytes end within the quotes of a record that begins in this line
+abbrev pub TalliesInQuotes : Terms → ℕ → List Tally → (bytes written : List ℕ) → Type 0
+TalliesInQuotes T line tallies bytes written =
+    (e : EndsInQuotes T bytes written line) × AreTalliesOf T.form e.owed.lines e.owed.owed tallies
+
+-- the same, and a row or a record that begins in this line is too long
+abbrev pub TalliesTooLong : Terms → ℕ → List Tally → (bytes written : List ℕ) → Type 0
+TalliesTooLong T line tallies bytes written = (e : EndsTooLong T bytes written line) × AreTalliesOf T.form e.lines e.owed tallies
 
 -- ---- the steps
 

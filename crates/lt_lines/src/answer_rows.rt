@@ -1,15 +1,14 @@
 //! The line that is owed for a row.
-ghost use Rattle.std.specs.Prelude.{◌≡◌, ◌++◌, [], IfOk, OnOk, codes};
-ghost use Rattle.lt_jar.specs.Lines.{content_of};
-ghost use Rattle.lt_lines.specs.Answering.{AppendsRowReply, AreRecent, EndsRefused};
+ghost use Rattle.std.specs.Prelude.{◌≡◌, ◌++◌, [], IfOk, OnOk};
+ghost use Rattle.lt_lines.specs.Answering.{AppendsHeadingReply, AppendsRowReply, AreRecent, EndsRefused};
 ghost use Rattle.lt_lines.specs.Owed.{end_of, row_line, terms};
 
 use crate::answer_lines::{append_told, without_return};
 use crate::forms::LineForm;
 use crate::recent_answers::{RecentAnswers, append_field};
-use crate::rows::{Separator, find_field, text_in};
 use lt_canon::{Checked, TextRefusal};
 use lt_registry::Lookup;
+use lt_rows::{Separator, find_field, has_return, text_in};
 use lt_tag::OutOfMemory;
 use std::alloc::{AllocError, Global};
 
@@ -92,6 +91,10 @@ pub(crate) fn append_row<L: Lookup>(
         → AreRecent (terms (L.listed checked.now) (LineForm.Row before)) recent.new) }
 {
     let row = without_return(line);
+    if has_return(separator, row) {
+        append_longer(lines, separator, row, "BadReturn", line)?;
+        return Ok(true);
+    }
     let Some((front, field, after)) = find_field(separator, row, before) else {
         append_longer(lines, separator, row, "NoColumn", line)?;
         return Ok(true);
@@ -111,15 +114,19 @@ pub(crate) fn append_row<L: Lookup>(
     }
 }
 
-/// Appends what is owed for the heading of a file of CSV.
-pub(crate) fn append_heading(lines: &mut Vec<u8>, line: &[u8]) -> Result<(), AllocError>
-    ensures { OnOk result (lines.new.items ≡ lines.old.items ++ row_line Separator.Comma (content_of line.now) (codes "langtag_fault") line.now) }
+/// Appends what is owed for the heading of a file of CSV, and tells whether it was refused.
+pub(crate) fn append_heading(
+    lines: &mut Vec<u8>,
+    separator: Separator,
+    line: &[u8],
+) -> Result<bool, AllocError>
+    ensures { IfOk result (λ refused. AppendsHeadingReply separator line.now lines.old.items lines.new.items refused) }
 {
-    append_longer(
-        lines,
-        Separator::Comma,
-        without_return(line),
-        "langtag_fault",
-        line,
-    )
+    let heading = without_return(line);
+    if has_return(separator, heading) {
+        append_longer(lines, separator, heading, "BadReturn", line)?;
+        return Ok(true);
+    }
+    append_longer(lines, separator, heading, "langtag_fault", line)?;
+    Ok(false)
 }

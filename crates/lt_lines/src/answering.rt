@@ -1,25 +1,24 @@
 //! Answering lines that come in pieces.
-ghost use Rattle.std.specs.Prelude.{◌≡◌, ◌≤◌, ◌+◌, ◌-◌, ◌++◌, ◌∷◌, List, ℕ, [], false, IfOk, OnOk, length, take, vec_len};
+ghost use Rattle.std.specs.Prelude.{◌≡◌, ◌≤◌, ◌+◌, ◌++◌, ◌∷◌, ◌↔◌, List, ℕ, [], false, IfOk, IsTrue, OnOk, length, take, vec_len};
 ghost use Rattle.lt_jar.specs.Lines.{IsOneLine};
-ghost use Rattle.lt_lines.specs.Owed.{Terms, feeds_in, terms};
-ghost use Rattle.lt_lines.specs.Quotes.{is_quoted};
+ghost use Rattle.lt_lines.specs.Owed.{Terms, terms};
+ghost use Rattle.lt_rows.specs.Quotes.{is_quoted};
 ghost use Rattle.lt_lines.specs.Tallied.{line_at as at_line};
 ghost use Rattle.lt_lines.specs.Answering as spec;
+ghost use Rattle.lt_lines.specs.Owed as owed;
 
 use crate::answer_lines::without_return;
 use crate::answer_rows::{append_heading, append_row};
 use crate::device_output::write_text;
 use crate::faults::ToolFault;
 use crate::forms::LineForm;
-use crate::quotes::{Place, after_text};
 use crate::recent_answers::{RecentAnswers, append_again};
-use crate::rows::Separator;
 use crate::runs::Counts;
-use crate::splitting::split_first;
 use crate::tallying::count_if;
 use lt_canon::Checked;
 use lt_jar::Device;
 use lt_registry::Lookup;
+use lt_rows::{Place, Separator, after_text, split_first};
 use lt_tag::OutOfMemory;
 use lt_tallies::Tallies;
 use std::alloc::{AllocError, Global};
@@ -28,6 +27,9 @@ use std::io::Write;
 /// The most bytes that are kept of a line that is a tag. A longer one is too long, whatever follows: 1,025 bytes and a
 /// carriage return.
 const LONGEST_KEPT: usize = 1026;
+
+/// The most bytes of a row or a record, which is kept whole: 16 MiB.
+const LONGEST_ROW: usize = 16_777_216;
 
 /// Lines are written once this many bytes of them are owed, if no read comes before.
 const FULL: usize = 65536;
@@ -59,7 +61,7 @@ fn keep(form: LineForm, kept: &mut Vec<u8>, part: &[u8]) -> Result<(), AllocErro
             let room = LONGEST_KEPT.saturating_sub(kept.len());
             kept.extend_from_slice(&part[..part.len().min(room)])
         }
-        LineForm::Row(_) | LineForm::Csv(_) => kept.extend_from_slice(part),
+        LineForm::Row(_) | LineForm::Csv(_, _) => kept.extend_from_slice(part),
     }
 }
 
@@ -69,7 +71,17 @@ fn place_then(form: LineForm, place: Place, part: &[u8]) -> Place
 {
     match form {
         LineForm::Tag | LineForm::Row(_) => Place::Fresh,
-        LineForm::Csv(_) => after_text(place, part),
+        LineForm::Csv(_, delimiter) => after_text(delimiter, place, part),
+    }
+}
+
+/// The fault of a row or a record that is too long and begins in this line.
+fn long_fault(form: LineForm, line: u64) -> ToolFault
+    ensures { result ≡ owed.long_fault form line }
+{
+    match form {
+        LineForm::Tag | LineForm::Row(_) => ToolFault::BadTsv(line),
+        LineForm::Csv(_, _) => ToolFault::BadCsv(line),
     }
 }
 
@@ -103,15 +115,15 @@ fn append_reply<L: Lookup>(
         LineForm::Row(before) => {
             append_row(lines, alloc, checked, Separator::Tab, before, recent, line)
         }
-        LineForm::Csv(_) if is_first => {
-            append_heading(lines, line)?;
-            Ok(false)
+        LineForm::Csv(_, delimiter) if is_first => {
+            let refused = append_heading(lines, Separator::Delimiter(delimiter), line)?;
+            Ok(refused)
         }
-        LineForm::Csv(before) => append_row(
+        LineForm::Csv(before, delimiter) => append_row(
             lines,
             alloc,
             checked,
-            Separator::Comma,
+            Separator::Delimiter(delimiter),
             before,
             recent,
             line,
@@ -196,7 +208,7 @@ impl Answering {
     ) -> Result<(), OutOfMemory>
         requires room { spec.HasRoom self.old 1 }
         requires count { count ≤ length text.now }
-        ensures taken { OnOk result ((bytes out : List ℕ) → spec.IsWholeAfter form self.old.place (take count text.now) → spec.IsTaken (terms (L.listed checked.now) form) bytes out self.old
+        ensures taken { OnOk result ((bytes out : List ℕ) → spec.IsWholeAfter form self.old.kept.items self.old.place (take count text.now) → spec.IsTaken (terms (L.listed checked.now) form) bytes out self.old
             → spec.IsTaken (terms (L.listed checked.now) form) (bytes ++ (take count text.now ++ 10 ∷ [])) out self.new) }
         ensures kept { OnOk result (self.new.kept.items ≡ []) }
         ensures counted { OnOk result (spec.CountsFeed self.old self.new) }
@@ -254,7 +266,7 @@ impl Answering {
     ) -> Result<(), OutOfMemory>
         requires room { spec.HasRoom self.old 1 }
         requires count { count ≤ length text.now }
-        ensures taken { OnOk result ((bytes out : List ℕ) → IsOneLine (take count text.now) → spec.IsTaken (terms (L.listed checked.now) form) bytes out self.old
+        ensures taken { OnOk result ((bytes out : List ℕ) → IsOneLine (take count text.now) → (spec.IsLongBy form (length self.old.kept.items) (length (take count text.now)) → ⊥) → spec.IsTaken (terms (L.listed checked.now) form) bytes out self.old
             → spec.IsTaken (terms (L.listed checked.now) form) (bytes ++ (take count text.now ++ 10 ∷ [])) out self.new) }
         ensures counted { OnOk result (spec.CountsFeed self.old self.new) }
     {
@@ -286,6 +298,39 @@ impl Answering {
         self.write(output)
     }
 
+    /// Whether what is kept of a row or a record is too long with this many bytes more.
+    fn is_too_long(&self, form: LineForm, count: usize) -> bool
+        ensures { IsTrue result ↔ spec.IsLongBy form (length self.now.kept.items) count }
+    {
+        match form {
+            LineForm::Tag => false,
+            LineForm::Row(_) | LineForm::Csv(_, _) => {
+                self.kept.len().saturating_add(count) > LONGEST_ROW
+            }
+        }
+    }
+
+    /// The line, counted from 1, in which what is kept begins.
+    fn kept_from(&self) -> u64
+        requires { spec.HasRoom self.now 1 }
+        ensures { result ≡ spec.line_of self.now }
+    {
+        let within = self.kept.iter().filter(|byte| **byte == b'\n').count();
+        self.feeds.saturating_sub(within as u64) + 1
+    }
+
+    /// Writes what is owed, where what is kept is too long, and tells what ends the run.
+    #[inline(never)]
+    fn stop_long<W: Write>(&mut self, form: LineForm, output: &mut Device<W>) -> ToolFault
+        requires { spec.HasRoom self.old 1 }
+        ensures { spec.StopsLong form W.contents self.old self.new output.old output.new result }
+    {
+        match self.write(output) {
+            Ok(()) => long_fault(form, self.kept_from()),
+            Err(fault) => fault,
+        }
+    }
+
     /// Takes the next bytes, answers the lines that they end, and writes what is owed.
     pub(crate) fn take_piece<L: Lookup, W: Write>(
         &mut self,
@@ -295,14 +340,20 @@ impl Answering {
         piece: &[u8],
         output: &mut Device<W>,
     ) -> Result<(), ToolFault>
-        requires { spec.HasRoom self.old (length piece.now) }
+        requires { spec.HasRoom self.old (length piece.now + 1) }
         ensures { spec.TakesPiece (terms (L.listed checked.now) form) W.contents piece.now self.old self.new output.old output.new result }
     {
         let mut rest = piece;
         while let Some((line, after)) = split_first(b'\n', rest) {
+            if self.is_too_long(form, line.len()) {
+                return Err(self.stop_long(form, output));
+            }
             self.end_line(alloc, checked, form, rest, line.len())?;
             self.write_much(output)?;
             rest = after;
+        }
+        if self.is_too_long(form, rest.len()) {
+            return Err(self.stop_long(form, output));
         }
         self.place = place_then(form, self.place, rest);
         keep(form, &mut self.kept, rest)?;
@@ -325,15 +376,6 @@ impl Answering {
             return Ok(());
         }
         self.answer_line(alloc, checked, form, &[], 0)
-    }
-
-    /// The line, counted from 1, in which what is kept begins.
-    fn kept_from(&self) -> u64
-        requires { spec.HasRoom self.now 1 }
-        ensures { result ≡ (self.now.feeds - feeds_in self.now.kept.items) + 1 }
-    {
-        let within = self.kept.iter().filter(|byte| **byte == b'\n').count();
-        self.feeds.saturating_sub(within as u64) + 1
     }
 
     /// Ends the lines, and writes what is owed; no quote is open.

@@ -2,7 +2,7 @@
 ghost use Rattle.std.specs.Prelude.{◌++◌, ◌∷◌, []};
 ghost use Rattle.std.specs.Fmt.{decimal};
 ghost use Rattle.lt_lines.specs.DeviceOutput.{WritesText};
-ghost use Rattle.lt_lines.specs.Faults.{fault_said, place_said};
+ghost use Rattle.lt_lines.specs.Faults.{fault_said, line_said, place_said};
 
 use crate::faults::ToolFault;
 use itoa::Buffer;
@@ -25,15 +25,22 @@ pub fn write_text<W: Write>(text: &[u8], output: &mut Device<W>) -> Result<(), T
     Ok(())
 }
 
+/// Writes the line of a fault.
+fn write_line<W: Write>(line: u64, output: &mut Device<W>) -> Result<(), ToolFault>
+    ensures { WritesText W.contents (line_said line) output.old output.new result }
+{
+    write_text(b" line ", output)?;
+    write_text(Buffer::new().format(line).as_bytes(), output)
+}
+
 /// Writes what is said of a fault after its name.
 fn write_place<W: Write>(fault: ToolFault, output: &mut Device<W>) -> Result<(), ToolFault>
     ensures { WritesText W.contents (place_said fault) output.old output.new result }
 {
-    let ToolFault::BadCsv(line) = fault else {
-        return Ok(());
-    };
-    write_text(b" line ", output)?;
-    write_text(Buffer::new().format(line).as_bytes(), output)
+    match fault {
+        ToolFault::BadCsv(line) | ToolFault::BadTsv(line) => write_line(line, output),
+        _ => Ok(()),
+    }
 }
 
 /// Writes the line that says what ended a run, as `! Read` or `! BadCsv line 3`, as [`write_text`] writes a text.

@@ -17,8 +17,13 @@ pub enum ToolFault {
     TooManyTurns,
     /// Memory ran out.
     OutOfMemory,
-    /// The reader ended within the quotes of a record of CSV, which begins in this line, counted from 1.
+    /// The reader ended within the quotes of a record of CSV, which begins in this line, counted from 1; or a record
+    /// that does is longer than 16,777,216 bytes.
     BadCsv(u64),
+    /// The row in this line, counted from 1, is longer than 16,777,216 bytes.
+    BadTsv(u64),
+    /// The text begins with a byte order mark of UTF-16.
+    Utf16,
 }
 
 impl ToolFault {
@@ -32,6 +37,8 @@ impl ToolFault {
             ToolFault::TooManyTurns => "TooManyTurns",
             ToolFault::OutOfMemory => "OutOfMemory",
             ToolFault::BadCsv(_) => "BadCsv",
+            ToolFault::BadTsv(_) => "BadTsv",
+            ToolFault::Utf16 => "Utf16",
         }
     }
 }

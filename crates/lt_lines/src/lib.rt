@@ -8,11 +8,9 @@ mod answering;
 mod device_output;
 mod faults;
 mod forms;
-mod quotes;
+mod marked;
 mod recent_answers;
-mod rows;
 mod runs;
-mod splitting;
 mod tallying;
 
 pub use answer_lines::append_refusal;
@@ -21,4 +19,3 @@ pub use faults::ToolFault;
 pub use forms::LineForm;
 pub use lt_tallies::{Tallies, Tally};
 pub use runs::{Counts, run_lines};
-pub use splitting::split_first;

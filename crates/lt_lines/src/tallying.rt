@@ -5,7 +5,7 @@ ghost use Rattle.lt_lines.specs.Tallied.{CountsIf, CountsLine, IsFieldOrNone, Is
 
 use crate::answer_lines::without_return;
 use crate::forms::LineForm;
-use crate::rows::{Separator, find_field, text_in};
+use lt_rows::{Separator, find_field, text_in};
 use lt_tallies::Tallies;
 use std::alloc::{AllocError, Global};
 
@@ -19,7 +19,7 @@ fn told_in<'a>(form: LineForm, line: &[u8], answer: &'a [u8]) -> &'a [u8]
 {
     let before = match form {
         LineForm::Tag => 2,
-        LineForm::Row(_) | LineForm::Csv(_) => without_return(line).len() + 1,
+        LineForm::Row(_) | LineForm::Csv(_, _) => without_return(line).len() + 1,
     };
     &answer[before.min(answer.len())..]
 }
@@ -61,7 +61,9 @@ fn tag_in(form: LineForm, line: &[u8]) -> &[u8]
     match form {
         LineForm::Tag => row,
         LineForm::Row(before) => field_text(Separator::Tab, before, row),
-        LineForm::Csv(before) => field_text(Separator::Comma, before, row),
+        LineForm::Csv(before, delimiter) => {
+            field_text(Separator::Delimiter(delimiter), before, row)
+        },
     }
 }
 

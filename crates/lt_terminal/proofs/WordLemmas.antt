@@ -3,7 +3,7 @@ use Rattle.std.proofs.Common.{◌≡◌, ◌≢◌, ◌==◌, ◌++◌, ◌∷�
 use Rattle.std.specs.List.{slice_split}
 use Rattle.std.proofs.lemmas.List.Elements.{All-weaker}
 use Rattle.std.proofs.lemmas.List.Splits.{slice_split_at, slice_split_none}
-use Rattle.lt_lines.specs.Splitting.{IsFreeOf}
+use Rattle.lt_rows.specs.Splitting.{IsFreeOf}
 
 -- a word and a space, and more
 pub next_word : (rest word after : List ℕ) → IsFreeOf 32 word × (rest ≡ word ++ 32 ∷ after) → slice_split (λ (byte : ℕ). byte == 32) rest ≡ word ∷ slice_split (λ (byte : ℕ). byte == 32) after

@@ -24,6 +24,7 @@ tag_faults =
     codes "BadTransform: A t extension without its form: mend it: a language, and fields such as m0-names." ∷
     codes "ReplacementRepeats: Replacements would repeat the variant that is named: remove one of the variants." ∷
     codes "NoColumn: The row has too few fields (tsv, csv): name another column, or mend the row." ∷
+    codes "BadReturn: A carriage return alone is in the record (csv): end lines by line feeds, or put the field in quotes." ∷
     []
 
 -- lines that explain no tag
@@ -90,7 +91,9 @@ stream_faults =
     codes "TooManyTurns: 10,000,000 reads did not come to the end: give the bytes in larger pieces." ∷
     codes "Write: The output can't be written: see whether it is closed, or the disk is full." ∷
     codes "OutOfMemory: No memory was left: end other programs, or use a larger machine." ∷
-    codes "BadCsv: The input ends within the quotes of a record (csv), which begins in the line that is named: close them, or double a quote that stands for itself." ∷
+    codes "BadCsv: The record that begins in the line that is named (csv) is within quotes where the input ends, or longer than 16 MiB: close its quotes, or double a quote that stands for itself." ∷
+    codes "BadTsv: The row in the line that is named (tsv) is longer than 16 MiB: see whether line ends are missing." ∷
+    codes "Utf16: The input is in UTF-16: write it in UTF-8, as by iconv -f UTF-16 -t UTF-8." ∷
     []
 
 -- all messages, in the order in which they are looked through

@@ -3,7 +3,7 @@ ghost use Rattle.std.specs.Prelude.{◌≡◌, find, map, option_map};
 ghost use Rattle.lt_terminal.specs.Meanings as spec;
 
 /// A message for each name that is printed: the name, a colon, a space, what it means, and what to do.
-const MESSAGES: [&str; 61] = [
+const MESSAGES: [&str; 64] = [
     "BadByte: A byte that is no ASCII letter, digit or hyphen: write zh-Hant for zh_Hant; remove quotes, spaces, a byte order mark.",
     "EmptySubtag: Nothing between two hyphens, or an empty text: remove a hyphen too many, or the empty line.",
     "LongSubtag: A subtag of more than 8 letters and digits: put a hyphen where subtags meet.",
@@ -23,6 +23,7 @@ const MESSAGES: [&str; 61] = [
     "BadTransform: A t extension without its form: mend it: a language, and fields such as m0-names.",
     "ReplacementRepeats: Replacements would repeat the variant that is named: remove one of the variants.",
     "NoColumn: The row has too few fields (tsv, csv): name another column, or mend the row.",
+    "BadReturn: A carriage return alone is in the record (csv): end lines by line feeds, or put the field in quotes.",
     "NoSuchStep: The step of the line leads nowhere (verify): mend the line, or name the registry by which the tag was explained.",
     "WrongEnd: The line of the end has another tag than the steps lead to (verify): mend the line, or the steps.",
     "BadStep: The line is that of no step, has another tag than its step leads to, is missing, or comes after the end (verify): mend it.",
@@ -64,7 +65,9 @@ const MESSAGES: [&str; 61] = [
     "TooManyTurns: 10,000,000 reads did not come to the end: give the bytes in larger pieces.",
     "Write: The output can't be written: see whether it is closed, or the disk is full.",
     "OutOfMemory: No memory was left: end other programs, or use a larger machine.",
-    "BadCsv: The input ends within the quotes of a record (csv), which begins in the line that is named: close them, or double a quote that stands for itself.",
+    "BadCsv: The record that begins in the line that is named (csv) is within quotes where the input ends, or longer than 16 MiB: close its quotes, or double a quote that stands for itself.",
+    "BadTsv: The row in the line that is named (tsv) is longer than 16 MiB: see whether line ends are missing.",
+    "Utf16: The input is in UTF-16: write it in UTF-8, as by iconv -f UTF-16 -t UTF-8.",
 ];
 
 /// The messages.

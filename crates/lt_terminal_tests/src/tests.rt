@@ -123,7 +123,7 @@ const COUNTED: [Run; 14] = [
         "tag\n\"en",
         "tag,langtag_fault\n",
         "! BadCsv line 2\n",
-        "BadCsv: The input ends within the quotes of a record (csv), which begins in the line that is named: close them, or double a quote that stands for itself.\n",
+        "BadCsv: The record that begins in the line that is named (csv) is within quotes where the input ends, or longer than 16 MiB: close its quotes, or double a quote that stands for itself.\n",
         Status::Failed,
     ),
     (
@@ -147,7 +147,7 @@ const COUNTED: [Run; 14] = [
         "tag\nde\n\"en",
         "tag,langtag_fault\nde,UnknownLanguage 1\n",
         "! BadCsv line 3\n",
-        "1 UnknownLanguage, first in record 2: de\n  The registry lacks the language: correct it, or get a newer registry.\nBadCsv: The input ends within the quotes of a record (csv), which begins in the line that is named: close them, or double a quote that stands for itself.\n",
+        "1 UnknownLanguage, first in record 2: de\n  The registry lacks the language: correct it, or get a newer registry.\nBadCsv: The record that begins in the line that is named (csv) is within quotes where the input ends, or longer than 16 MiB: close its quotes, or double a quote that stands for itself.\n",
         Status::Failed,
     ),
     (
@@ -321,7 +321,7 @@ fn words_that_name_no_command(rt: HostRuntime) {
 }
 
 /// The names of faults that the program prints, and `ok 0`.
-const NAMES: [&str; 61] = [
+const NAMES: [&str; 64] = [
     "BadByte",
     "EmptySubtag",
     "LongSubtag",
@@ -341,6 +341,9 @@ const NAMES: [&str; 61] = [
     "BadTransform",
     "ReplacementRepeats",
     "NoColumn",
+    "BadReturn",
+    "BadTsv",
+    "Utf16",
     "NoSuchStep",
     "WrongEnd",
     "BadStep",

@@ -115,7 +115,7 @@ Performs (command.Canon name) first second input output errors answered result =
 Performs (command.Tsv name column) first second input output errors answered result =
     IsUntouched second × ReadsFile first (Canonicalises (forms.Row (column - 1)) input output errors answered result)
 Performs (command.Csv name column) first second input output errors answered result =
-    IsUntouched second × ReadsFile first (Canonicalises (forms.Csv (column - 1)) input output errors answered result)
+    IsUntouched second × ReadsFile first (Canonicalises (forms.Csv (column - 1) 44) input output errors answered result)
 Performs (command.Extlang name tag) first second input output errors answered result =
     HandsNone answered × IsUntouched second × IsUntouched input
     × PrintsByFile (ByRegistry (λ R. FormsExtlang R (string_bytes tag))) first output errors result

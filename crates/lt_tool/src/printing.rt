@@ -139,7 +139,7 @@ fn run<F: Read, G: Read, I: Read, O: Write, E: Write>(
             answer_lines(alloc, form, first, input, output, errors, answered)
         }
         Command::Csv(_, column) => {
-            let form = LineForm::Csv(column.saturating_sub(1));
+            let form = LineForm::Csv(column.saturating_sub(1), b',');
             answer_lines(alloc, form, first, input, output, errors, answered)
         }
         Command::Extlang(_, tag) => {

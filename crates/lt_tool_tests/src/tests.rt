@@ -5,6 +5,7 @@ mod program;
 mod records;
 mod registries;
 mod rows;
+mod rows_more;
 mod tags;
 mod tallies;
 mod upgrades;

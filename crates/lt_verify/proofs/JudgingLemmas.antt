@@ -7,7 +7,7 @@ use Rattle.std.proofs.lemmas.Bool.Decides.{Decides-by_and, Decides-eqb, Decides-
 use Rattle.std.proofs.lemmas.List.{take-append-le}
 use Rattle.std.proofs.Math.Seq.{get_or-append_seam, take-append_seam}
 use Rattle.std.proofs.lemmas.List.Elements.{All-append, All-cons, All-head, All-nil, All-tail, All-from_get_or}
-use Rattle.lt_lines.specs.Splitting.{IsFreeOf}
+use Rattle.lt_rows.specs.Splitting.{IsFreeOf}
 use Rattle.lt_rewrite.specs.Names.{name_of}
 use Rattle.lt_rewrite.specs.declared.steps.Step.{Step}
 use Rattle.lt_rewrite.specs.declared.steps.StepKind.{StepKind}

@@ -30,6 +30,8 @@ EndsAs R t remaining input input' reads read (Err faults.TooManyTurns) =
     (reads ≡ most_reads) × (0 < last_given_of input')
 EndsAs R t remaining input input' reads read (Err faults.Write) = ⊥
 EndsAs R t remaining input input' reads read (Err (faults.BadCsv line)) = ⊥
+EndsAs R t remaining input input' reads read (Err (faults.BadTsv line)) = ⊥
+EndsAs R t remaining input input' reads read (Err faults.Utf16) = ⊥
 EndsAs R t remaining input input' reads read (Err faults.OutOfMemory) = Unit {0}
 
 -- a run over the lines of a reader, which are to explain a tag

@@ -5,8 +5,8 @@ ghost use Rattle.lt_rewrite.specs.Names.{name_of};
 ghost use Rattle.lt_verify.specs.StepLines.{HasFewWords, HasWords, IsStepLine, NamesNoEnd, IsNoName, IsNoNumber, NamesNoKind, end_line};
 
 use itoa::Buffer;
-use lt_lines::split_first;
 use lt_rewrite::{Step, StepKind};
+use lt_rows::split_first;
 
 /// The kinds of step.
 static KINDS: [StepKind; 14] = [

@@ -87,7 +87,7 @@ fn rows_are_answered(rt: HostRuntime) -> Result<(), Fail> {
 /// How a run over the records ends, and what it wrote.
 fn run_records(alloc: Global, checked: &Checked<SortedTable>) -> (Result<Counts, ToolFault>, Page) {
     let mut page = empty_page();
-    let end = answer_lines(alloc, checked, LineForm::Csv(1), RECORDS, &mut page);
+    let end = answer_lines(alloc, checked, LineForm::Csv(1, b','), RECORDS, &mut page);
     (end, page)
 }
 

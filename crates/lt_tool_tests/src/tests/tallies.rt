@@ -64,9 +64,9 @@ const RUNS: [(LineForm, &[u8], &[Row<'static>]); 8] = [
         b"BadByte 1\tde\nfr\tfr\r\n1\n! x\tfr\tde",
         &[("UnknownLanguage", 2, 2, "fr"), ("NoColumn", 1, 3, "")],
     ),
-    (LineForm::Csv(0), b"en_US\nde\n", &[]),
+    (LineForm::Csv(0, b','), b"en_US\nde\n", &[]),
     (
-        LineForm::Csv(1),
+        LineForm::Csv(1, b','),
         b"id,tag\n\"1, Read\nFile\",\"en_US\"\r\n2\n3,\"fr, de\"\n\"a\nb\",fr\n",
         &[
             ("BadByte", 2, 2, "en_US"),
@@ -75,7 +75,7 @@ const RUNS: [(LineForm, &[u8], &[Row<'static>]); 8] = [
         ],
     ),
     (
-        LineForm::Csv(0),
+        LineForm::Csv(0, b','),
         b"tag\nfr\n\"de",
         &[("UnknownLanguage", 1, 2, "fr")],
     ),

@@ -8,12 +8,12 @@ use Rattle.lt_lines.proofs.runs.answer_all.Goals.{After-deref}
 pub returns-in_err-buffer : goal.returns-in_err-buffer
 returns-in_err-buffer g c =
     let p = err_from_is_err_and c.from_residual.result c.from_residual.ensures.1 in
-    rw (p.1, p.2) (run_lacks (terms (g.L.Lookup.listed c.args.checked.now) c.args.form) g.R.Read.remaining g.W.Write.contents c.args.input.now c.args.output.now c.args.answering.now.tallies)
+    rw (p.1, p.2) (run_lacks (terms (g.L.Lookup.listed c.args.checked.now) c.args.form) g.R.Read.remaining g.W.Write.contents c.args.input.now c.args.output.now c.args.text.now.answering.tallies)
 
 pub loop-read-init : goal.loop-read-init
 loop-read-init g c =
     record {
-      turn = run_first _ g.R.Read.remaining g.W.Write.contents c.args.input.now c.args.output.now c.args.answering.now c.requires;
+      turn = run_first _ g.R.Read.remaining g.W.Write.contents c.args.input.now c.args.output.now c.args.text.now c.requires;
       buffer = sym c.in_ok-buffer.buffer.ok.0 ∙ c.in_ok-buffer.ensures.len;
     }
 
@@ -33,7 +33,7 @@ pub take_piece-requires : goal.take_piece-requires
 take_piece-requires g c =
     let full : length c.read.new.buf ≡ 65536 = omega (arith, c.read.auto.buf, ap length c.deref_mut.ensures.value, c.loop-read.invariant.buffer) in
     let short : length (take c.in-Ok.count c.deref.result.now) ≤ 65536 = omega (arith, length-take c.in-Ok.count c.deref.result.now, c.in-Ok.ensures.bound.0, full) in
-    run_room _ _ _ _ _ _ _ _ _ c.loop-read.invariant.turn _ c.loop-read-test.true short
+    run_room _ _ _ _ _ _ _ _ _ c.loop-read.invariant.turn _ c.loop-read-test.true (omega (arith, short))
 
 -- what was read is in the buffer
 reads : (g : _) (c : goal.After-deref g) → (length c.read.new.buf ≡ 65536) × ReadsPiece g.R.Read.remaining c.loop-read.input c.read.new.self (take c.in-Ok.count c.read.new.buf) × (c.deref.result.now ≡ c.read.new.buf)
@@ -52,7 +52,7 @@ returns-in_err-take_piece-in-Ok g c =
     let turn = c.loop-read.invariant.turn in
     let read = reads g (goal.at.returns-in_err-take_piece-in-Ok g c).After-deref in
     let takes = rw read.2 at c.in_err-take_piece-in-Ok.ensures in
-    rw (p.1, p.2) (run_stopped _ _ _ _ _ _ _ _ _ turn _ _ _ takes.written _ _ c.loop-read-test.true read.1 takes.appends takes.stopped.0 (takes.stopped.1 turn.read turn.written turn.taken))
+    rw (p.1, p.2) (run_stopped _ _ _ _ _ _ _ _ _ turn _ _ _ takes.written _ _ c.loop-read-test.true read.1 takes.appends (takes.stopped turn.read turn.written turn.taken))
 
 pub returns-in-Err : goal.returns-in-Err
 returns-in-Err g c =

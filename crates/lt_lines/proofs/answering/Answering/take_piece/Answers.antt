@@ -1,11 +1,11 @@
 use Rattle.std.proofs.KnownBytes.{Appends-nil}
-use Rattle.std.proofs.Common.{[], inr, ◌≡◌, ◌++◌, ◌∷◌, ◌∙◌, ℕ, refl, ap, arith, length, length-append}
+use Rattle.std.proofs.Common.{[], inr, ◌≡◌, ◌↔◌, ◌++◌, ◌∷◌, ◌∙◌, Bool, IsTrue, true, false, ℕ, refl, sym, append-nil, ap, arith, length, length-append}
 use Rattle.std.proofs.lemmas.Result.{err_from_is_err_and}
 use Rattle.lt_jar.specs.Lines.{IsOneLine}
 use Rattle.lt_lines.specs.Answering.{part_kept}
 use Rattle.lt_lines.specs.Owed.{terms}
 use Rattle.lt_lines.specs.declared.answering.Answering.{Answering}
-use Rattle.lt_lines.proofs.RunLemmas.{PieceTurn, turn_fails, turn_kept, turn_stops, turn_last, turn_line, turn_written}
+use Rattle.lt_lines.proofs.PieceLemmas.{PieceTurn, turn_fails, turn_kept, turn_long, turn_stops, turn_last, turn_line, turn_written}
 use Rattle.lt_lines.proofs.answering.Answering.take_piece.Goals as goal
 use Rattle.lt_lines.proofs.answering.Answering.take_piece.Goals.{In_ok-end_line}
 
@@ -19,10 +19,24 @@ returns-in_err-end_line g c =
     let p = err_from_is_err_and c.from_residual.result c.from_residual.ensures.1 in
     rw (p.1, p.2) (turn_stops _ _ _ _ _ _ _ _ c.loop-line.invariant _ _ _ [] (Appends-nil _) (inr (refl, c.loop-line.invariant.failures)) (_, refl))
 
+-- what is not too long
+fits : {P : Type 0} (r : Bool) → IsTrue r ↔ P → r ≡ false → P → ⊥
+fits r tells not long = let bad : true ≡ false = sym (tells.1 long) ∙ not in cc
+
+pub returns-then-is_too_long : goal.returns-then-is_too_long
+returns-then-is_too_long g c =
+    turn_long _ _ _ c.loop-line.rest.now _ c.loop-line.self _ _ c.loop-line.invariant _ _ c.stop_long.result c.in-Some.line.now (10 ∷ c.in-Some.after.now) c.in-Some.ensures.0 c.in-Some.ensures.1
+    (c.is_too_long.ensures.0 c.if-is_too_long.true) c.stop_long.ensures
+
+pub returns-then-is_too_long-2 : goal.returns-then-is_too_long-2
+returns-then-is_too_long-2 g c =
+    turn_long _ _ _ c.loop-line.rest.now _ c.loop-line.self _ _ c.loop-line.invariant _ _ c.stop_long-then-is_too_long-2.result c.loop-line.rest.now [] c.in_default.ensures (sym (append-nil c.loop-line.rest.now))
+    (c.is_too_long-2.ensures.0 c.if-is_too_long-2.true) c.stop_long-then-is_too_long-2.ensures
+
 -- after the answer to a line
 after_line : (g : _) (c : goal.In_ok-end_line g)
     → PieceTurn (terms (g.L.Lookup.listed c.args.checked.now) c.args.form) g.W.Write.contents c.args.piece.now c.in-Some.after.now c.args.self.now c.end_line.new.self c.args.output.now c.loop-line.output
-after_line g c = turn_line _ _ _ c.loop-line.rest.now _ c.loop-line.self _ _ c.loop-line.invariant c.in-Some.line.now _ _ c.in-Some.ensures c.in_ok-end_line.ensures.taken c.in_ok-end_line.ensures.counted
+after_line g c = turn_line _ _ _ c.loop-line.rest.now _ c.loop-line.self _ _ c.loop-line.invariant c.in-Some.line.now _ _ c.in-Some.ensures (fits c.is_too_long.result c.is_too_long.ensures c.if-is_too_long.false) c.in_ok-end_line.ensures.taken c.in_ok-end_line.ensures.counted
 
 pub returns-in_err-write_much : goal.returns-in_err-write_much
 returns-in_err-write_much g c =
@@ -42,4 +56,4 @@ returns g c =
     let now = c.loop-line.self in
     let mid : Answering = record { kept = c.keep.new.kept; place = c.place_then-self.result; feeds = now.feeds; owed = now.owed; counts = now.counts; tallies = now.tallies; recent = now.recent } in
     let kept = c.in_ok-keep.ensures ∙ ap (λ (n : ℕ). now.kept.items ++ part_kept c.args.form n c.loop-line.rest.now) now.kept.ok.0 in
-    turn_last _ _ _ _ mid _ _ _ _ c.write.result (turn_kept _ _ _ _ _ now _ _ c.loop-line.invariant mid c.in_default.ensures kept c.place_then-self.ensures refl refl refl refl refl) c.write.ensures.writes c.write.ensures.emptied
+    turn_last _ _ _ _ mid _ _ _ _ c.write.result (turn_kept _ _ _ _ _ now _ _ c.loop-line.invariant mid c.in_default.ensures (fits c.is_too_long-2.result c.is_too_long-2.ensures c.if-is_too_long-2.false) kept c.place_then-self.ensures refl refl refl refl refl) c.write.ensures.writes c.write.ensures.emptied

@@ -1,6 +1,6 @@
 use Rattle.std.proofs.Common.{length}
 use Rattle.lt_lines.specs.Owed.{terms}
-use Rattle.lt_lines.proofs.RunLemmas.{PieceTurn}
+use Rattle.lt_lines.proofs.PieceLemmas.{PieceTurn}
 use Rattle.lt_lines.proofs.answering.Answering.take_piece.Given as goal
 
 abbrev pub invariant-loop-line : goal.invariant-loop-line

@@ -1,0 +1,341 @@
+-- The calls that answer a text that may begin with a byte order mark.
+use Rattle.std.proofs.Common.{Result, Ok, Err, IfOk, ◌≡◌, ◌≤◌, ◌<◌, ◌+◌, ◌++◌, ◌∷◌, ◌∙◌, ◌⊎◌, ℕ, List, [], Bool, true, false, Option, length, sym, ap, refl, subst, arith, append_assoc, append-nil, length-append, inl, inr}
+use Rattle.std.specs.Io.KnownBytes.{Appends}
+use Rattle.std.proofs.KnownBytes.{Appends-nil, Appends-trans}
+use Rattle.lt_jar.specs.Devices.{failures_of, inner_of}
+use Rattle.lt_jar.specs.declared.devices.Device.{Device}
+use Rattle.lt_rows.specs.Marks.{IsWide, MayBeMark}
+use Rattle.lt_rows.proofs.MarkLemmas.{short_narrow, wide_more}
+use Rattle.lt_lines.specs.DeviceOutput.{WritesText}
+use Rattle.lt_lines.specs.Answering.{FinishesLines, HasRoom, IsFresh, IsTaken, TakesPiece}
+use Rattle.lt_lines.specs.Marked.{BeginsText, EndsText, EndsTextInQuotes, FinishesText, HasRoomFor, IsKeptFront, IsNew, IsTakenText, TakesText}
+use Rattle.lt_lines.specs.Owed.{AfterMark, IsBegunText, SplitsText, Terms}
+use Rattle.lt_lines.specs.Tallied.{OwesAll, TalliesInQuotes}
+use Rattle.lt_tallies.proofs.TallyLemmas.{no_tallies}
+use Rattle.lt_lines.specs.declared.answering.Answering.{Answering}
+use Rattle.lt_lines.specs.declared.marked.Marked.{Marked}
+use Rattle.lt_lines.specs.declared.runs.Counts.{Counts}
+use Rattle.lt_lines.specs.declared.faults.ToolFault.{ToolFault}
+use Rattle.lt_lines.specs.declared.faults.ToolFault.TheVariants as faults
+use Rattle.lt_lines.proofs.DeviceLemmas.{failed_from}
+use Rattle.lt_lines.proofs.TakenLemmas.{of_none}
+use Rattle.lt_lines.proofs.MarkedLemmas.{IsAt, at_after, begun_none, piece_stopped, splits_more, splits_whole, stop_from}
+
+unbegun : {P : Type 0} (b : Bool) → b ≡ true → b ≡ false → P
+unbegun b begun not = let bad : true ≡ false = sym begun ∙ not in cc
+
+-- nothing was taken
+pub new_text : (T : Terms) (state : Marked) → state.front.items ≡ [] → state.is_begun ≡ false → IsFresh state.answering → IsNew T state
+new_text T state front begun fresh = record {
+  kept = record {
+    begun = begun;
+    kept = front;
+    may_be = inl (239, 187 ∷ 191 ∷ [], refl);
+    nothing = refl;
+    none_refused = fresh.tallies;
+    taken = record {
+      lines = [];
+      last = [];
+      cut = refl;
+      each_one = tt;
+      last_one = (of_none T.form).unit;
+      kept = fresh.items.0 ∙ sym (of_none T.form).kept;
+      goes_on = fresh.place.0 ∙ sym (of_none T.form).closed;
+      short = λ _. (of_none T.form).short;
+      feeds = fresh.place.1;
+      owed = [];
+      each = tt;
+      all = fresh.items.1;
+      count = fresh.counts.0;
+      refused = fresh.counts.1;
+      tallied = record { refusals = []; are_refused = refl; tallied = rw fresh.tallies no_tallies };
+      recent = fresh.recent T;
+    };
+  };
+  emptied = fresh.items.1;
+}
+
+-- ---- the mark is written
+
+module _ {W : Type 0} (T : Terms) (contents : W → Option (List ℕ)) (old new : Marked) (before between after : Device W) (mark text : List ℕ) (split : SplitsText T.form old.front.items mark text) where
+  pub begin_unwritten : (f : ToolFault) → WritesText contents mark before after (Err f) → BeginsText T contents old new before after (Err f)
+  begin_unwritten f w = record {
+    written = w.written;
+    appends = w.appends;
+    mark = mark;
+    text = text;
+    split = split;
+    done = tt;
+    room = tt;
+    stopped = λ narrow taken. inl (inl w.stopped, record { mark = mark; text = text; split = split; front = inl w.front });
+  }
+
+  pub begin_stopped : (f : ToolFault) → WritesText contents mark before between (Ok tt) → TakesPiece T contents text old.answering new.answering between after (Err f) → BeginsText T contents old new before after (Err f)
+  begin_stopped f w p = record {
+    written = mark ++ p.written;
+    appends = Appends-trans _ _ _ _ _ (subst (Appends (contents (inner_of before)) (contents (inner_of between))) w.done.0 w.appends) p.appends;
+    mark = mark;
+    text = text;
+    split = split;
+    done = tt;
+    room = tt;
+    stopped = λ narrow taken. piece_stopped T old.front.items [] [] text p.written mark old.answering new.answering before between after f split narrow taken w.done.1 p.stopped;
+  }
+
+  pub begin_done : WritesText contents mark before between (Ok tt) → TakesPiece T contents text old.answering new.answering between after (Ok tt) → new.is_begun ≡ true → new.front.items ≡ []
+      → BeginsText T contents old new before after (Ok tt)
+  begin_done w p begun emptied = record {
+    written = mark ++ p.written;
+    appends = Appends-trans _ _ _ _ _ (subst (Appends (contents (inner_of before)) (contents (inner_of between))) w.done.0 w.appends) p.appends;
+    mark = mark;
+    text = text;
+    split = split;
+    done = (p.done.0 ∙ w.done.1, p.done.1, begun, emptied, (p.written, refl, λ taken. p.done.2 [] [] taken));
+    room = λ count has. let long = ap length (splits_whole T.form old.front.items mark text split) ∙ length-append mark text in p.room count (record {
+      room = omega (arith, has.room, long);
+      feeds = omega (arith, has.feeds, long);
+      refused = has.refused;
+    });
+    stopped = tt;
+  }
+
+-- ---- pieces
+
+module _ {W : Type 0} (T : Terms) (contents : W → Option (List ℕ)) (piece : List ℕ) (old new : Marked) (before after : Device W) where
+  -- after the mark
+  pub text_piece : (r : Result (Unit {0}) ToolFault) → old.is_begun ≡ true → new.is_begun ≡ true → new.front.items ≡ old.front.items → TakesPiece T contents piece old.answering new.answering before after r
+      → TakesText T contents piece old new before after r
+  text_piece (Ok u) begun begins front p = record {
+    written = p.written;
+    appends = p.appends;
+    done = (
+      p.done.0,
+      λ bytes out t none. elim t [
+        | inl a ↦ (
+          inl (record {
+            begun = begins;
+            emptied = front ∙ a.emptied;
+            mark = a.mark;
+            text = a.text ++ piece;
+            split = λ more. rw (append_assoc bytes piece more, append_assoc a.text piece more) (a.split (piece ++ more));
+            narrow = λ more. rw (append_assoc bytes piece more) (a.narrow (piece ++ more));
+            out = a.out ++ p.written;
+            written_is = ap (λ (l : List ℕ). l ++ p.written) a.written_is ∙ append_assoc a.mark a.out p.written;
+            taken = p.done.2 a.text a.out a.taken;
+          }),
+          p.done.1,
+        )
+        | inr k ↦ unbegun old.is_begun begun k.begun
+      ],
+    );
+    stopped = tt;
+  }
+  text_piece (Err f) begun begins front p = record {
+    written = p.written;
+    appends = p.appends;
+    done = tt;
+    stopped = λ bytes out t. elim t [
+      | inl a ↦ rw (a.written_is, append_assoc a.mark a.out p.written) (piece_stopped T (bytes ++ piece) a.text a.out piece p.written a.mark old.answering new.answering before before after f (a.split piece) (a.narrow piece) a.taken refl p.stopped)
+      | inr k ↦ unbegun old.is_begun begun k.begun
+    ];
+  }
+
+module _ {W : Type 0} (T : Terms) (contents : W → Option (List ℕ)) (piece : List ℕ) (old new : Marked) (before : Device W) (begun : old.is_begun ≡ false) where
+  -- the text is in UTF-16
+  pub text_wide : new.answering ≡ old.answering → IsWide (old.front.items ++ piece) → TakesText T contents piece old new before before (Err faults.Utf16)
+  text_wide same wide = record {
+    written = [];
+    appends = Appends-nil _;
+    done = tt;
+    stopped = λ bytes out t. elim t [
+      | inl a ↦ unbegun old.is_begun a.begun begun
+      | inr k ↦ inr (inl (refl, refl, subst (λ (l : List ℕ). IsWide (l ++ piece)) k.kept wide, append-nil out ∙ k.nothing, ap (λ (a : Answering). a.tallies) same ∙ k.none_refused))
+    ];
+  }
+
+  -- memory ran out
+  pub text_lacks : TakesText T contents piece old new before before (Err faults.OutOfMemory)
+  text_lacks = record {
+    written = [];
+    appends = Appends-nil _;
+    done = tt;
+    stopped = λ bytes out t. elim t [
+      | inl a ↦ unbegun old.is_begun a.begun begun
+      | inr k ↦ inl (inr (refl, refl), subst (IsBegunText T (bytes ++ piece)) (sym (append-nil out ∙ k.nothing)) (begun_none T (bytes ++ piece)))
+    ];
+  }
+
+  -- it may begin with a mark
+  pub text_may_be : new.is_begun ≡ false → new.front.items ≡ old.front.items ++ piece → new.answering ≡ old.answering → MayBeMark (old.front.items ++ piece) → TakesText T contents piece old new before before (Ok tt)
+  text_may_be still front same may = record {
+    written = [];
+    appends = Appends-nil _;
+    done = (
+      refl,
+      λ bytes out t none. elim t [
+        | inl a ↦ unbegun old.is_begun a.begun begun
+        | inr k ↦ (
+          inr (record {
+            begun = still;
+            kept = front ∙ ap (λ (l : List ℕ). l ++ piece) k.kept;
+            may_be = subst (λ (l : List ℕ). MayBeMark (l ++ piece)) k.kept may;
+            nothing = append-nil out ∙ k.nothing;
+            none_refused = ap (λ (a : Answering). a.tallies) same ∙ k.none_refused;
+            taken = rw same k.taken;
+          }),
+          rw same none,
+        )
+      ],
+    );
+    stopped = tt;
+  }
+
+  -- it begins with a mark or without one
+  pub text_begins : (mid : Marked) (after : Device W) (r : Result (Unit {0}) ToolFault) → mid.front.items ≡ old.front.items ++ piece → mid.answering ≡ old.answering → (IsWide (old.front.items ++ piece) → ⊥) → (MayBeMark (old.front.items ++ piece) → ⊥)
+      → BeginsText T contents mid new before after r → TakesText T contents piece old new before after r
+  text_begins mid after (Ok u) front same narrow none b = record {
+    written = b.written;
+    appends = b.appends;
+    done = (
+      b.done.0,
+      λ bytes out t empty. elim t [
+        | inl a ↦ unbegun old.is_begun a.begun begun
+        | inr k ↦
+            let whole : mid.front.items ≡ bytes ++ piece = front ∙ ap (λ (l : List ℕ). l ++ piece) k.kept in
+            let kept : old.front.items ++ piece ≡ bytes ++ piece = ap (λ (l : List ℕ). l ++ piece) k.kept in
+            let split = subst (λ (l : List ℕ). SplitsText T.form l b.mark b.text) whole b.split in
+            let undecided = subst (λ (l : List ℕ). MayBeMark l → ⊥) kept none in
+            let more = b.done.4 in (
+              inl (record {
+                begun = b.done.2;
+                emptied = b.done.3;
+                mark = b.mark;
+                text = b.text;
+                split = λ rest. splits_more T.form (bytes ++ piece) b.mark b.text rest undecided split;
+                narrow = λ rest. wide_more (bytes ++ piece) rest undecided (subst (λ (l : List ℕ). IsWide l → ⊥) kept narrow);
+                out = more.0;
+                written_is = ap (λ (l : List ℕ). l ++ b.written) k.nothing ∙ more.1;
+                taken = more.2 (rw same k.taken);
+              }),
+              b.done.1,
+            )
+      ],
+    );
+    stopped = tt;
+  }
+  text_begins mid after (Err f) front same narrow none b = record {
+    written = b.written;
+    appends = b.appends;
+    done = tt;
+    stopped = λ bytes out t. elim t [
+      | inl a ↦ unbegun old.is_begun a.begun begun
+      | inr k ↦ rw k.nothing (subst (λ (l : List ℕ). EndsText T before after l b.written new.answering.tallies f) (front ∙ ap (λ (l : List ℕ). l ++ piece) k.kept)
+          (b.stopped (subst (λ (l : List ℕ). IsWide l → ⊥) (sym front) narrow) (rw same k.taken)))
+    ];
+  }
+
+-- ---- the end
+
+-- after the mark
+finish_done : {W : Type 0} (T : Terms) (contents : W → Option (List ℕ)) (bytes out : List ℕ) (a new : Answering) (before after : Device W) (counts : Counts) → IsAt T bytes out a
+    → (f : FinishesLines T contents a new before after (Ok counts)) → AfterMark T (λ text more. OwesAll T text more counts new.tallies) bytes (out ++ f.written)
+finish_done T contents bytes out a new before after counts at f = record {
+  mark = at.mark;
+  text = at.text;
+  split = at.split;
+  narrow = at.narrow;
+  more = at.out ++ f.written;
+  written_is = ap (λ (l : List ℕ). l ++ f.written) at.written_is ∙ append_assoc at.mark at.out f.written;
+  holds = f.done.1 at.text at.out at.taken;
+}
+
+finish_ends : {W : Type 0} (T : Terms) (contents : W → Option (List ℕ)) (bytes out : List ℕ) (a new : Answering) (before between after : Device W) (e : ToolFault) → IsAt T bytes out a → a.owed.items ≡ []
+    → failures_of between ≡ failures_of before → (f : FinishesLines T contents a new between after (Err e)) → EndsTextInQuotes T before after bytes (out ++ f.written) new.tallies e ⊎ EndsText T before after bytes (out ++ f.written) new.tallies e
+finish_ends T contents bytes out a new before between after e at none same f =
+    let is = ap (λ (l : List ℕ). l ++ f.written) at.written_is ∙ append_assoc at.mark at.out f.written in
+    elim f.stopped [
+      | inl q ↦ inl (record {
+        line = q.line;
+        fault = q.fault;
+        same = q.same ∙ same;
+        ends = record { mark = at.mark; text = at.text; split = at.split; narrow = at.narrow; more = at.out ++ f.written; written_is = is; holds = q.ends at.text at.out at.taken none };
+      })
+      | inr stop ↦ inr (inl (
+        stop_from before between after e same stop.0,
+        record { mark = at.mark; text = at.text; split = at.split; front = inr (at.out ++ f.written, is, stop.1 at.text at.out at.taken) },
+      ))
+    ]
+
+pub finish_text : {W : Type 0} (T : Terms) (contents : W → Option (List ℕ)) (old new : Marked) (before after : Device W) (r : Result Counts ToolFault) → old.is_begun ≡ true → FinishesLines T contents old.answering new.answering before after r
+    → FinishesText T contents old new before after r
+finish_text T contents old new before after (Ok counts) begun f = record {
+  written = f.written;
+  appends = f.appends;
+  done = (
+    f.done.0,
+    λ bytes out t. elim t [
+      | inl a ↦ finish_done T contents bytes out old.answering new.answering before after counts (at_after T bytes out old a) f
+      | inr k ↦ unbegun old.is_begun begun k.begun
+    ],
+  );
+  stopped = tt;
+}
+finish_text T contents old new before after (Err e) begun f = record {
+  written = f.written;
+  appends = f.appends;
+  done = tt;
+  stopped = λ bytes out t none. elim t [
+    | inl a ↦ finish_ends T contents bytes out old.answering new.answering before before after e (at_after T bytes out old a) none refl f
+    | inr k ↦ unbegun old.is_begun begun k.begun
+  ];
+}
+
+module _ {W : Type 0} (T : Terms) (contents : W → Option (List ℕ)) (old mid new : Marked) (before between after : Device W) (begun : old.is_begun ≡ false) where
+  -- of a text that is shorter than a mark
+  at_begun : (bytes out : List ℕ) → IsKeptFront T bytes out old → (b : BeginsText T contents old mid before between (Ok tt)) → IsAt T bytes (out ++ b.written) mid.answering
+  at_begun bytes out k b =
+      let more = b.done.4 in
+      record {
+        mark = b.mark;
+        text = b.text;
+        split = subst (λ (l : List ℕ). SplitsText T.form l b.mark b.text) k.kept b.split;
+        narrow = short_narrow bytes k.may_be;
+        out = more.0;
+        written_is = ap (λ (l : List ℕ). l ++ b.written) k.nothing ∙ more.1;
+        taken = more.2 k.taken;
+      }
+
+  pub finish_front : (r : Result Counts ToolFault) → BeginsText T contents old mid before between (Ok tt) → FinishesLines T contents mid.answering new.answering between after r → FinishesText T contents old new before after r
+  finish_front (Ok counts) b f = record {
+    written = b.written ++ f.written;
+    appends = Appends-trans _ _ _ _ _ b.appends f.appends;
+    done = (
+      f.done.0 ∙ b.done.0,
+      λ bytes out t. elim t [
+        | inl a ↦ unbegun old.is_begun a.begun begun
+        | inr k ↦ rw (← append_assoc out b.written f.written) (finish_done T contents bytes (out ++ b.written) mid.answering new.answering between after counts (at_begun bytes out k b) f)
+      ],
+    );
+    stopped = tt;
+  }
+  finish_front (Err e) b f = record {
+    written = b.written ++ f.written;
+    appends = Appends-trans _ _ _ _ _ b.appends f.appends;
+    done = tt;
+    stopped = λ bytes out t none. elim t [
+      | inl a ↦ unbegun old.is_begun a.begun begun
+      | inr k ↦ rw (← append_assoc out b.written f.written) (finish_ends T contents bytes (out ++ b.written) mid.answering new.answering before between after e (at_begun bytes out k b) b.done.1 b.done.0 f)
+    ];
+  }
+
+  pub finish_stopped : (e : ToolFault) → BeginsText T contents old mid before after (Err e) → FinishesText T contents old mid before after (Err e)
+  finish_stopped e b = record {
+    written = b.written;
+    appends = b.appends;
+    done = tt;
+    stopped = λ bytes out t none. elim t [
+      | inl a ↦ unbegun old.is_begun a.begun begun
+      | inr k ↦ inr (rw k.nothing (subst (λ (l : List ℕ). EndsText T before after l b.written mid.answering.tallies e) k.kept
+          (b.stopped (subst (λ (l : List ℕ). IsWide l → ⊥) (sym k.kept) (short_narrow bytes k.may_be)) k.taken)))
+    ];
+  }

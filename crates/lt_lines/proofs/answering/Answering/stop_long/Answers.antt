@@ -1,0 +1,29 @@
+use Rattle.std.proofs.Common.{◌≡◌, ◌++◌, ◌∙◌, ℕ, List, append-nil, ap, inl, inr, refl, sym}
+use Rattle.lt_lines.specs.Answering.{line_of}
+use Rattle.lt_lines.specs.Owed.{long_fault}
+use Rattle.lt_lines.proofs.answering.Answering.stop_long.Goals as goal
+
+pub kept_from-requires : goal.kept_from-requires
+kept_from-requires g c =
+    let same = c.in-Ok.ensures.writes.same in
+    record { room = rw same.counts c.requires.room; feeds = rw same.feeds c.requires.feeds; refused = rw same.counts c.requires.refused }
+
+pub returns-in-Ok : goal.returns-in-Ok
+returns-in-Ok g c =
+    let w = c.in-Ok.ensures.writes in
+    let line : line_of c.write.new.self ≡ line_of c.args.self.now = rw (w.same.kept, w.same.feeds) refl in
+    record {
+      written = w.written;
+      appends = w.appends;
+      tallies = w.same.tallies;
+      ends = inr (
+        c.long_fault.ensures ∙ ap (long_fault c.args.form) (c.kept_from.ensures ∙ line),
+        w.done.1,
+        sym (w.done.0 ∙ ap (λ (l : List ℕ). w.written ++ l) c.in-Ok.ensures.emptied ∙ append-nil w.written),
+      );
+    }
+
+pub returns-in-Err : goal.returns-in-Err
+returns-in-Err g c =
+    let w = c.in-Err.ensures.writes in
+    record { written = w.written; appends = w.appends; tallies = w.same.tallies; ends = inl (w.stopped.0, w.stopped.1, w.stopped.2) }

@@ -1,0 +1,116 @@
+//! Answering a text that may begin with a byte order mark.
+ghost use Rattle.std.specs.Prelude.{◌+◌, length};
+ghost use Rattle.lt_lines.specs.Marked.{BeginsText, FinishesText, HasRoomFor, IsNew, TakesText};
+ghost use Rattle.lt_lines.specs.Owed.{SplitsText, Terms, terms};
+
+use crate::answering::Answering;
+use crate::device_output::write_text;
+use crate::faults::ToolFault;
+use crate::forms::LineForm;
+use crate::runs::Counts;
+use lt_canon::Checked;
+use lt_jar::Device;
+use lt_registry::Lookup;
+use lt_rows::{is_wide, may_be_mark, split_mark};
+use std::alloc::Global;
+use std::io::Write;
+
+/// A text that comes in pieces, and what is owed for its lines.
+#[derive(Drop)]
+pub(crate) struct Marked {
+    /// The first bytes, while they may be a part of a mark.
+    front: Vec<u8>,
+    /// Whether the mark, if there is one, is written, and what follows goes to the answers.
+    is_begun: bool,
+    pub(crate) answering: Answering,
+}
+
+/// The mark at the beginning of some bytes, and the text after it.
+fn split_text(form: LineForm, bytes: &[u8]) -> (&[u8], &[u8])
+    ensures { SplitsText form bytes.now result.0.now result.1.now }
+{
+    match form {
+        LineForm::Tag => bytes.split_at(0),
+        LineForm::Row(_) | LineForm::Csv(_, _) => split_mark(bytes),
+    }
+}
+
+impl Marked {
+    /// Nothing taken so far.
+    pub(crate) fn new(alloc: Global) -> Marked
+        ensures { (terms : Terms) → IsNew terms result }
+    {
+        let front = Vec::new(alloc);
+        let answering = Answering::new(alloc);
+        Marked {
+            front,
+            is_begun: false,
+            answering,
+        }
+    }
+
+    /// Writes the mark that the first bytes begin with, and answers what follows it.
+    fn begin<L: Lookup, W: Write>(
+        &mut self,
+        alloc: Global,
+        checked: &Checked<L>,
+        form: LineForm,
+        output: &mut Device<W>,
+    ) -> Result<(), ToolFault>
+        requires { HasRoomFor self.old 1 }
+        ensures { BeginsText (terms (L.listed checked.now) form) W.contents self.old self.new output.old output.new result }
+    {
+        let (mark, text) = split_text(form, &self.front);
+        write_text(mark, output)?;
+        self.is_begun = true;
+        self.answering
+            .take_piece(alloc, checked, form, text, output)?;
+        self.front.clear();
+        Ok(())
+    }
+
+    /// Takes the next bytes, answers the lines that they end, and writes what is owed.
+    pub(crate) fn take_piece<L: Lookup, W: Write>(
+        &mut self,
+        alloc: Global,
+        checked: &Checked<L>,
+        form: LineForm,
+        piece: &[u8],
+        output: &mut Device<W>,
+    ) -> Result<(), ToolFault>
+        requires { HasRoomFor self.old (length piece.now + 1) }
+        ensures { TakesText (terms (L.listed checked.now) form) W.contents piece.now self.old self.new output.old output.new result }
+    {
+        if self.is_begun {
+            return self
+                .answering
+                .take_piece(alloc, checked, form, piece, output);
+        }
+        self.front.extend_from_slice(piece)?;
+        if is_wide(&self.front) {
+            return Err(ToolFault::Utf16);
+        }
+        if may_be_mark(&self.front) {
+            return Ok(());
+        }
+        self.begin(alloc, checked, form, output)
+    }
+
+    /// Ends the lines, and writes what is owed.
+    pub(crate) fn finish<L: Lookup, W: Write>(
+        &mut self,
+        alloc: Global,
+        checked: &Checked<L>,
+        form: LineForm,
+        output: &mut Device<W>,
+    ) -> Result<Counts, ToolFault>
+        requires { HasRoomFor self.old 1 }
+        ensures { FinishesText (terms (L.listed checked.now) form) W.contents self.old self.new output.old output.new result }
+    {
+        if self.is_begun {
+            return self.answering.finish(alloc, checked, form, output);
+        }
+        self.begin(alloc, checked, form, output)?;
+        self.answering.finish(alloc, checked, form, output)
+    }
+}

@@ -1,0 +1,6 @@
+-- What the contracts on rows of text cite.
+pub mod Splitting
+pub mod Quotes
+pub mod Rows
+pub mod Marks
+pub mod Records

@@ -1,0 +1,87 @@
+-- Rows: fields with a tab (9) between them, or a delimiter outside of quotes.
+use Rattle.std.specs.Prelude.{◌≡◌, ◌≢◌, ◌<◌, ◌⊎◌, ℕ, false, List, [], ◌∷◌, ◌++◌, length, Option, MatchOption}
+use Rattle.std.specs.Borrow.{Bor}
+use Rattle.std.specs.List.{All, AllByRecursion}
+use Rattle.lt_rows.specs.Quotes.{IsFreeOutside, is_quoted, place_at}
+use Rattle.lt_rows.specs.declared.quotes.Place.TheVariants as places
+use Rattle.lt_rows.specs.declared.rows.Separator.{Separator}
+use Rattle.lt_rows.specs.declared.rows.Separator.TheVariants as separators
+
+-- the byte between fields
+abbrev pub separator : Separator → ℕ
+separator separators.Tab = 9
+separator (separators.Delimiter delimiter) = delimiter
+
+-- no tab, or no delimiter outside of quotes
+abbrev pub IsField : Separator → List ℕ → Type 0
+IsField separators.Tab text = All (λ byte. byte ≢ 9) text
+IsField (separators.Delimiter delimiter) text = IsFreeOutside delimiter delimiter places.Fresh text
+
+-- a separator may end the field: it does not end within quotes, where delimiters part fields
+abbrev pub IsClosed : Separator → List ℕ → Type 0
+IsClosed separators.Tab text = Unit {0}
+IsClosed (separators.Delimiter delimiter) text = is_quoted (place_at delimiter places.Fresh text) ≡ false
+
+-- a field that a separator ends
+pub record IsEnded (S : Separator) (text : List ℕ) : Type 0 where
+  pub field : IsField S text
+  pub closed : IsClosed S text
+
+-- fields, each with the separator that ends it
+abbrev pub separated : Separator → List (List ℕ) → List ℕ
+separated S [] = []
+separated S (field ∷ fields) = field ++ separator S ∷ separated S fields
+
+-- what follows a field: nothing, or a separator and more
+abbrev pub IsAfterField : Separator → List ℕ → List ℕ → Type 0
+IsAfterField S field after = (after ≡ []) ⊎ ((more : List ℕ) × IsClosed S field × (after ≡ separator S ∷ more))
+
+-- the rest of a row, after this many fields
+pub record Skips (S : Separator) (count : ℕ) (row rest : List ℕ) : Type 0 where
+  pub before : List (List ℕ)
+  pub each : AllByRecursion (IsEnded S) before
+  pub number : length before ≡ count
+  pub row_is : row ≡ separated S before ++ rest
+
+-- a row has this field, with this many fields before it
+pub record HasField (S : Separator) (count : ℕ) (row front field after : List ℕ) : Type 0 where
+  pub before : List (List ℕ)
+  pub each : AllByRecursion (IsEnded S) before
+  pub number : length before ≡ count
+  pub front_is : front ≡ separated S before
+  pub one : IsField S field
+  pub ends : IsAfterField S field after
+  pub row_is : row ≡ front ++ field ++ after
+
+-- a row has this many fields, or fewer
+pub record HasFewer (S : Separator) (count : ℕ) (row : List ℕ) : Type 0 where
+  pub before : List (List ℕ)
+  pub last : List ℕ
+  pub each : AllByRecursion (IsEnded S) before
+  pub one : IsField S last
+  pub row_is : row ≡ separated S before ++ last
+  pub fewer : length before < count
+
+-- a carriage return (13) is outside of quotes, where delimiters part fields
+abbrev pub HasReturn : Separator → List ℕ → Type 0
+HasReturn separators.Tab row = ⊥
+HasReturn (separators.Delimiter delimiter) row = IsFreeOutside delimiter 13 places.Fresh row → ⊥
+
+-- a quote (34) is at both ends of a field
+abbrev pub IsQuoted : List ℕ → Type 0
+IsQuoted field = (text : List ℕ) × (field ≡ 34 ∷ text ++ 34 ∷ [])
+
+-- what is at both ends of the text of a field: a quote where delimiters part fields and the field is quoted, else nothing
+abbrev pub AreQuotes : Separator → List ℕ → List ℕ → Type 0
+AreQuotes separators.Tab field quotes = quotes ≡ []
+AreQuotes (separators.Delimiter delimiter) field quotes = (quotes ≡ 34 ∷ []) ⊎ ((quotes ≡ []) × (IsQuoted field → ⊥))
+
+-- the text of a field, and what is at both of its ends
+pub record IsTextIn (S : Separator) (field quotes text : List ℕ) : Type 0 where
+  pub field_is : field ≡ quotes ++ text ++ quotes
+  pub are_quotes : AreQuotes S field quotes
+
+-- what is before the first separator and after it
+abbrev pub SplitsField : Separator → List ℕ → Option (Bor (List ℕ) × Bor (List ℕ)) → Type 0
+SplitsField S rest parts = MatchOption parts (IsField S rest)
+    (λ p. IsEnded S p.0.now × (rest ≡ p.0.now ++ separator S ∷ p.1.now))
