@@ -108,7 +108,7 @@ fn append_output(
     answered: &Answered,
     shown: &[u8],
 ) -> Result<(), AllocError>
-    ensures { OnOk result (told.new.items ≡ told.old.items ++ told_of (option_map (λ text. text.now) unit) status answered.now shown.now) }
+    ensures { OnOk result (told.new.items ≡ told.old.items ++ told_of (option_map (λ text. text.now) unit.entry) status answered.now shown.now) }
 {
     match unit {
         Some(unit) if status != Status::RegistryRefused.code() => {
@@ -150,7 +150,7 @@ fn lines_of(
     shown: &[u8],
     said: &[u8],
 ) -> Result<Vec<u8>, AllocError>
-    ensures { IfOk result (λ lines. lines.items ≡ told_lines (option_map (λ text. text.now) unit) status answered.now refusal.now shown.now said.now) }
+    ensures { IfOk result (λ lines. lines.items ≡ told_lines (option_map (λ text. text.now) unit.entry) status answered.now refusal.now shown.now said.now) }
 {
     let mut told = Vec::new(alloc);
     append_output(&mut told, alloc, unit, status, answered, shown)?;
@@ -168,7 +168,7 @@ fn told_of_run<O: Write, E: Write>(
     output: &mut Device<Watched<O>>,
     errors: &mut Device<Watched<E>>,
 ) -> io::Result<Vec<u8>>
-    ensures { IfOk result (λ lines. AreTold (option_map (λ text. text.now) unit) status answered.now refusal.now (⟦<Watched<O> as Write>⟧.contents (inner_of output.old))
+    ensures { IfOk result (λ lines. AreTold (option_map (λ text. text.now) unit.entry) status answered.now refusal.now (⟦<Watched<O> as Write>⟧.contents (inner_of output.old))
         (⟦<Watched<E> as Write>⟧.contents (inner_of errors.old)) lines.items) }
 {
     let shown = front_of(alloc, output)?;
@@ -194,7 +194,7 @@ pub(crate) fn tell<O: Write, E: Write, T: Write>(
     errors: &mut Device<Watched<E>>,
     people: &mut Device<T>,
 )
-    ensures { Tells (option_map (λ unit. option_map (λ text. text.now) unit) asked) status answered.now (⟦<Watched<O> as Write>⟧.contents (inner_of output.old))
+    ensures { Tells (option_map (λ unit. option_map (λ text. text.now) unit) asked.entry) status answered.now (⟦<Watched<O> as Write>⟧.contents (inner_of output.old))
         (⟦<Watched<E> as Write>⟧.contents (inner_of errors.old)) (stream T.contents people.old people.new) }
 {
     let Some(unit) = asked else {
