@@ -1,25 +1,19 @@
 -- What is owed for a text that may begin with a byte order mark.
-use Rattle.std.proofs.Common.{Result, Ok, Err, IfOk, OnOk, ◌≡◌, ◌≤◌, ◌<◌, ◌+◌, ◌++◌, ◌∷◌, ◌∙◌, ℕ, List, [], Bool, true, false, Option, length, sym, ap, refl, subst, arith, append_assoc, append-nil, length-append, inl, inr, take}
-use Rattle.std.specs.Io.KnownBytes.{Appends}
-use Rattle.std.proofs.KnownBytes.{Appends-nil, Appends-trans}
+use Rattle.std.proofs.Common.{◌≡◌, ◌<◌, ◌+◌, ◌++◌, ◌∙◌, ℕ, List, [], length, sym, ap, refl, subst, arith, append-nil, length-append, inl, inr}
 use Rattle.std.proofs.lemmas.List.{nil_from_length, take_all}
-use Rattle.lt_jar.specs.Devices.{HasFailed, failures_of, inner_of}
+use Rattle.lt_jar.specs.Devices.{failures_of}
 use Rattle.lt_jar.specs.declared.devices.Device.{Device}
 use Rattle.lt_rows.specs.Marks.{IsWide, MayBeMark}
-use Rattle.lt_rows.proofs.MarkLemmas.{short_mark, short_narrow, short_one_line, short_unmarked, split_more, split_of, wide_more}
-use Rattle.lt_rows.specs.declared.quotes.Place.TheVariants as places
-use Rattle.lt_lines.specs.DeviceOutput.{WritesText}
-use Rattle.lt_lines.specs.Answering.{AreRecent, FinishesLines, HasRoom, IsLastStop, IsLongBy, IsPieceStop, IsStop, IsTaken, TakesPiece, kept_of, longest_kept, part_kept, place_then}
-use Rattle.lt_lines.specs.Marked.{BeginsText, EndsText, EndsTextInQuotes, FinishesText, HasRoomFor, IsKeptFront, IsTakenAfter, IsTakenText, TakesText}
-use Rattle.lt_lines.specs.Owed.{AfterMark, IsBegunText, SplitsText, Terms, ended, longest_row}
+use Rattle.lt_rows.proofs.MarkLemmas.{short_mark, short_narrow, short_one_line, short_unmarked, split_more, split_of}
+use Rattle.lt_lines.specs.Answering.{IsLongBy, IsPieceStop, IsStop, IsTaken, kept_of, longest_kept, part_kept, place_then}
+use Rattle.lt_lines.specs.Marked.{EndsText, HasRoomFor, IsKeptFront, IsTakenAfter, IsTakenText}
+use Rattle.lt_lines.specs.Owed.{AfterMark, IsBegunText, SplitsText, Terms, ended}
 use Rattle.lt_lines.specs.Tallied.{AreTalliesOf, TalliesToLastFeed}
 use Rattle.lt_lines.specs.declared.answering.Answering.{Answering}
 use Rattle.lt_lines.specs.declared.forms.LineForm.{LineForm}
 use Rattle.lt_lines.specs.declared.forms.LineForm.TheVariants as forms
 use Rattle.lt_lines.specs.declared.marked.Marked.{Marked}
-use Rattle.lt_lines.specs.declared.runs.Counts.{Counts}
 use Rattle.lt_lines.specs.declared.faults.ToolFault.{ToolFault}
-use Rattle.lt_lines.specs.declared.faults.ToolFault.TheVariants as faults
 use Rattle.lt_lines.proofs.DeviceLemmas.{failed_from}
 use Rattle.lt_lines.proofs.TakenLemmas.{begun_nothing, of_none, owed_to_last_feed, taken_part, taken_room}
 

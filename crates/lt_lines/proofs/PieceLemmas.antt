@@ -1,15 +1,14 @@
 -- What the turns over a piece of lines keep.
-use Rattle.std.proofs.Common.{◌≡◌, ◌≤◌, ◌+◌, ◌++◌, ◌∷◌, ◌∙◌, inl, inr, ℕ, List, [], Option, Result, Ok, Err, OnOk, length, take, sym, ap, refl, subst, arith, append_assoc, append-nil, length-append, ◌<◌, ◌*◌, add-one, drop}
-use Rattle.std.specs.Io.KnownBytes.{Appends, Consumes, IsAtEnd, Keeps}
-use Rattle.std.proofs.KnownBytes.{Appends-nil, Appends-trans, Consumes-kept, Consumes-nil, Consumes-trans}
+use Rattle.std.proofs.Common.{◌≡◌, ◌≤◌, ◌+◌, ◌++◌, ◌∷◌, ◌∙◌, inl, inr, ℕ, List, [], Option, Result, Ok, Err, OnOk, length, take, sym, ap, refl, subst, arith, append_assoc, append-nil, length-append}
+use Rattle.std.specs.Io.KnownBytes.{Appends}
+use Rattle.std.proofs.KnownBytes.{Appends-trans}
 use Rattle.std.proofs.Math.Seq.{take-append_seam}
-use Rattle.lt_jar.specs.Devices.{failures_of, inner_of, HasFailed, after_reads, last_given_of, one_more, reads_of}
+use Rattle.lt_jar.specs.Devices.{failures_of, inner_of}
 use Rattle.lt_jar.specs.declared.devices.Device.{Device}
 use Rattle.lt_jar.specs.Lines.{IsOneLine}
 use Rattle.lt_lines.specs.DeviceOutput.{IsFrontOf}
-use Rattle.lt_rows.specs.declared.quotes.Place.TheVariants as places
-use Rattle.lt_lines.specs.Answering.{CountsFeed, HasRoom, IsLongBy, IsStop, IsTaken, StopsLong, TakesPiece, WritesOwed, line_of, part_kept, place_then}
-use Rattle.lt_lines.specs.Owed.{Terms, EndsInQuotes, IsBegun, IsOwed, units_of}
+use Rattle.lt_lines.specs.Answering.{CountsFeed, IsLongBy, IsStop, IsTaken, StopsLong, TakesPiece, WritesOwed, line_of, part_kept, place_then}
+use Rattle.lt_lines.specs.Owed.{Terms}
 use Rattle.lt_lines.specs.declared.answering.Answering.{Answering}
 use Rattle.lt_lines.specs.declared.faults.ToolFault.{ToolFault}
 use Rattle.lt_lines.proofs.DeviceLemmas.{failed_from}

@@ -1,5 +1,5 @@
 -- What is owed for a row.
-use Rattle.std.proofs.Common.{refl, ◌≡◌, ◌++◌, [], ◌∷◌, ℕ, false, true, List, inl, inr, append_assoc}
+use Rattle.std.proofs.Common.{refl, ◌≡◌, ◌++◌, [], ℕ, false, true, List, inl, inr, append_assoc}
 use Rattle.lt_jar.specs.Lines.{content_of}
 use Rattle.lt_registry.specs.Parts.{EntryParts}
 use Rattle.lt_canon.specs.Texts.{AppendsCanonicalText, IsTextRefusal}

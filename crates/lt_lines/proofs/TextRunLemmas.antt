@@ -1,5 +1,5 @@
 -- The calls that answer a text that may begin with a byte order mark.
-use Rattle.std.proofs.Common.{Result, Ok, Err, IfOk, ◌≡◌, ◌≤◌, ◌<◌, ◌+◌, ◌++◌, ◌∷◌, ◌∙◌, ◌⊎◌, ℕ, List, [], Bool, true, false, Option, length, sym, ap, refl, subst, arith, append_assoc, append-nil, length-append, inl, inr}
+use Rattle.std.proofs.Common.{Result, Ok, Err, ◌≡◌, ◌++◌, ◌∷◌, ◌∙◌, ◌⊎◌, ℕ, List, [], Bool, true, false, Option, length, sym, ap, refl, subst, arith, append_assoc, append-nil, length-append, inl, inr}
 use Rattle.std.specs.Io.KnownBytes.{Appends}
 use Rattle.std.proofs.KnownBytes.{Appends-nil, Appends-trans}
 use Rattle.lt_jar.specs.Devices.{failures_of, inner_of}
@@ -7,17 +7,16 @@ use Rattle.lt_jar.specs.declared.devices.Device.{Device}
 use Rattle.lt_rows.specs.Marks.{IsWide, MayBeMark}
 use Rattle.lt_rows.proofs.MarkLemmas.{short_narrow, wide_more}
 use Rattle.lt_lines.specs.DeviceOutput.{WritesText}
-use Rattle.lt_lines.specs.Answering.{FinishesLines, HasRoom, IsFresh, IsTaken, TakesPiece}
-use Rattle.lt_lines.specs.Marked.{BeginsText, EndsText, EndsTextInQuotes, FinishesText, HasRoomFor, IsKeptFront, IsNew, IsTakenText, TakesText}
+use Rattle.lt_lines.specs.Answering.{FinishesLines, IsFresh, TakesPiece}
+use Rattle.lt_lines.specs.Marked.{BeginsText, EndsText, EndsTextInQuotes, FinishesText, IsKeptFront, IsNew, TakesText}
 use Rattle.lt_lines.specs.Owed.{AfterMark, IsBegunText, SplitsText, Terms}
-use Rattle.lt_lines.specs.Tallied.{OwesAll, TalliesInQuotes}
+use Rattle.lt_lines.specs.Tallied.{OwesAll}
 use Rattle.lt_tallies.proofs.TallyLemmas.{no_tallies}
 use Rattle.lt_lines.specs.declared.answering.Answering.{Answering}
 use Rattle.lt_lines.specs.declared.marked.Marked.{Marked}
 use Rattle.lt_lines.specs.declared.runs.Counts.{Counts}
 use Rattle.lt_lines.specs.declared.faults.ToolFault.{ToolFault}
 use Rattle.lt_lines.specs.declared.faults.ToolFault.TheVariants as faults
-use Rattle.lt_lines.proofs.DeviceLemmas.{failed_from}
 use Rattle.lt_lines.proofs.TakenLemmas.{of_none}
 use Rattle.lt_lines.proofs.MarkedLemmas.{IsAt, at_after, begun_none, piece_stopped, splits_more, splits_whole, stop_from}
 

@@ -7,7 +7,6 @@ use Rattle.lt_rows.specs.Marks.{IsWide, MayBeMark}
 use Rattle.lt_lines.specs.Answering.{HasRoom, IsStop, IsTaken}
 use Rattle.lt_lines.specs.Owed.{AfterMark, IsBegunText, SplitsText, Terms, long_fault}
 use Rattle.lt_lines.specs.Tallied.{OwesAll, TalliesInQuotes, TalliesTooLong}
-use Rattle.lt_lines.specs.declared.answering.Answering.{Answering}
 use Rattle.lt_lines.specs.declared.marked.Marked.{Marked}
 use Rattle.lt_tallies.specs.declared.Tally.{Tally}
 use Rattle.lt_lines.specs.declared.runs.Counts.{Counts}

@@ -1,9 +1,9 @@
 -- A text that no line feed outside of quotes parts, and that does not end within quotes, is a record of the grammar.
-use Rattle.std.proofs.Common.{refl, ◌≡◌, ◌≢◌, ◌++◌, [], ◌∷◌, ◌∙◌, ◌⊎◌, ℕ, Bool, true, false, List, sym, ap, subst, inl, inr, append_assoc, ne_eqb, ◌==◌, ◌||◌, if◌then◌else◌}
+use Rattle.std.proofs.Common.{refl, ◌≡◌, ◌≢◌, ◌++◌, [], ◌∷◌, ◌∙◌, ◌⊎◌, ℕ, true, false, List, sym, ap, subst, inl, inr, append_assoc, ne_eqb, ◌==◌, ◌||◌, if◌then◌else◌}
 use Rattle.std.specs.List.{AllByRecursion}
 use Rattle.std.proofs.lemmas.Bool.{cases_eq, eq-eqb}
 use Rattle.lt_rows.specs.Quotes.{IsFreeOutside, is_quoted, place_after, place_at, place_outside}
-use Rattle.lt_rows.specs.Records.{IsBody, IsClosedRecord, IsCsvField, IsCsvRecord, IsEscapedField, IsPlain, IsPlainField, further}
+use Rattle.lt_rows.specs.Records.{IsBody, IsClosedRecord, IsCsvField, IsCsvRecord, IsPlain, IsPlainField, further}
 use Rattle.lt_rows.specs.declared.quotes.Place.{Place}
 use Rattle.lt_rows.specs.declared.quotes.Place.TheVariants as places
 

@@ -1,5 +1,5 @@
 -- What the first bytes of a text say of its byte order mark.
-use Rattle.std.proofs.Common.{◌≡◌, ◌≢◌, ◌≤◌, ◌<◌, ◌+◌, ◌++◌, ◌∷◌, ◌==◌, ◌∙◌, ◌⊎◌, ℕ, List, [], Bool, true, false, length, sym, ap, refl, subst, arith, append_assoc, append-nil, length-append, drop, take, inl, inr, All}
+use Rattle.std.proofs.Common.{◌≡◌, ◌≢◌, ◌<◌, ◌++◌, ◌∷◌, ◌==◌, ◌∙◌, ◌⊎◌, ℕ, List, [], Bool, true, length, ap, refl, subst, arith, append_assoc, append-nil, length-append, drop, take, inl, inr, All}
 use Rattle.std.specs.Cmp.Lexicographic.{pointwise}
 use Rattle.std.proofs.lemmas.Slice.Eq.{starts_is}
 use Rattle.std.proofs.lemmas.Bool.{cases_eq}

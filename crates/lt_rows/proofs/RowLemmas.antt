@@ -1,7 +1,7 @@
 -- What is within quotes, records, and the fields of a row.
 use Rattle.std.specs.List.{AllByRecursion}
 use Rattle.std.proofs.Math.Bool.{and-false}
-use Rattle.std.proofs.Common.{refl, ◌≡◌, ◌≢◌, ◌≤◌, ◌<◌, ◌+◌, ◌-◌, ◌==◌, ◌++◌, [], ◌∷◌, ◌∙◌, ℕ, true, false, List, length, sym, ap, arith, zero, suc, subst, take, get_or, not, All, ◌||◌, if◌then◌else◌, ne_eqb, append_assoc, length-append}
+use Rattle.std.proofs.Common.{refl, ◌≡◌, ◌≢◌, ◌<◌, ◌+◌, ◌-◌, ◌==◌, ◌++◌, [], ◌∷◌, ◌∙◌, ℕ, true, false, List, length, sym, ap, arith, suc, subst, take, get_or, All, ◌||◌, if◌then◌else◌, ne_eqb, append_assoc, length-append}
 use Rattle.std.proofs.lemmas.List.{take_more}
 use Rattle.std.proofs.lemmas.List.Elements.{All-head, All-tail}
 use Rattle.lt_jar.specs.Lines.{begin_first}

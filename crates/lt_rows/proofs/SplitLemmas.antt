@@ -1,5 +1,5 @@
 -- Where a byte is first.
-use Rattle.std.proofs.Common.{refl, ◌≡◌, ◌≢◌, ◌≤◌, ◌<◌, ◌+◌, ◌-◌, ◌==◌, ◌++◌, [], ◌∷◌, ◌∙◌, ℕ, true, false, List, Option, Some, None, length, sym, ap, arith, zero, suc, subst, take, drop, get_or, add-one, take-append-drop, inl, inr, not, All}
+use Rattle.std.proofs.Common.{refl, ◌≡◌, ◌≢◌, ◌≤◌, ◌<◌, ◌+◌, ◌-◌, ◌==◌, ◌++◌, [], ◌∷◌, ◌∙◌, ℕ, true, false, List, Option, Some, None, length, sym, ap, arith, zero, suc, subst, take, drop, get_or, add-one, take-append-drop, inl, inr, not}
 use Rattle.std.proofs.Math.Seq.{drop-cons, take-length}
 use Rattle.std.proofs.lemmas.Bool.{eq-eqb, cases_Bool, cases_eq}
 use Rattle.std.proofs.lemmas.List.{take_rest, length-take-le, get_or-take}

@@ -1,6 +1,5 @@
-use Rattle.std.proofs.Common.{◌≡◌, ◌∙◌, ap, arith, length, length-append, refl, sym}
+use Rattle.std.proofs.Common.{◌∙◌, ap, arith, length, length-append, refl}
 use Rattle.std.proofs.lemmas.Result.{err_from_is_err_and}
-use Rattle.lt_lines.specs.Owed.{SplitsText}
 use Rattle.lt_lines.proofs.MarkedLemmas.{splits_whole}
 use Rattle.lt_lines.proofs.TextRunLemmas.{begin_done, begin_stopped, begin_unwritten}
 use Rattle.lt_lines.proofs.marked.Marked.begin.Goals as goal

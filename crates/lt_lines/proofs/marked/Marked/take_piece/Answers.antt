@@ -1,4 +1,4 @@
-use Rattle.std.proofs.Common.{◌≡◌, ◌↔◌, ◌++◌, ◌∙◌, Bool, IsTrue, ℕ, List, true, false, ap, arith, length, length-append, refl, subst, sym}
+use Rattle.std.proofs.Common.{◌≡◌, ◌↔◌, ◌∙◌, Bool, IsTrue, ℕ, List, true, false, ap, arith, length, length-append, refl, subst, sym}
 use Rattle.std.proofs.lemmas.Result.{err_from_is_err_and}
 use Rattle.lt_rows.specs.Marks.{IsWide, MayBeMark}
 use Rattle.lt_lines.proofs.TextRunLemmas.{text_begins, text_lacks, text_may_be, text_piece, text_wide}
