@@ -68,13 +68,15 @@ each_grows : (lines : List Refused) (line : Refused) (tallies : List Tally) (pla
     → AllByRecursion (IsTally lines) tallies → AllByRecursion (IsTally (lines ++ line ∷ [])) (set tallies place (with_count (get_or tallies place d) count))
 each_grows lines line [] place count d at same before once more h = absurd (omega (arith, at))
 each_grows lines line (tally ∷ tallies) zero count d at same before once more h =
-    let name : line.fault ≡ tally.fault.items = (bytes_eq-Decides line.fault tally.fault.items).0 same in
-    (grows lines line tally count same more h.0,
-    others_stay lines line tallies (subst (λ (f : List ℕ). AllByRecursion (λ fault. bytes_eq f fault ≡ false) (faults_of tallies)) (sym name) (IsDistinct-head bytes_eq tally.fault.items (faults_of tallies) once)) h.1)
-each_grows lines line (tally ∷ tallies) (suc place) count d at same before once more h =
-    (stays lines line tally (differs line.fault tally.fault.items (before 0 (omega arith))) h.0,
-    each_grows lines line tallies place count d (omega (arith, at)) same (λ k less. before (suc k) (omega (arith, less)))
-    (IsDistinct-tail bytes_eq tally.fault.items (faults_of tallies) once) more h.1)
+    let name : line.fault ≡ tally.fault.items = (bytes_eq-Decides line.fault tally.fault.items).0 same in (
+      grows lines line tally count same more h.0,
+      others_stay lines line tallies (subst (λ (f : List ℕ). AllByRecursion (λ fault. bytes_eq f fault ≡ false) (faults_of tallies)) (sym name) (IsDistinct-head bytes_eq tally.fault.items (faults_of tallies) once)) h.1,
+    )
+each_grows lines line (tally ∷ tallies) (suc place) count d at same before once more h = (
+  stays lines line tally (differs line.fault tally.fault.items (before 0 (omega arith))) h.0,
+  each_grows lines line tallies place count d (omega (arith, at)) same (λ k less. before (suc k) (omega (arith, less)))
+      (IsDistinct-tail bytes_eq tally.fault.items (faults_of tallies) once) more h.1,
+)
 
 -- its name stays
 same_faults : (tallies : List Tally) (place count : ℕ) (d : Tally) → place < length tallies
@@ -130,7 +132,7 @@ unless_there : (fault : List ℕ) (tallies : List Tally) → position (λ (tally
 unless_there fault tallies none = elim (cases_Bool (nat_lt (position_or_len (λ (tally : Tally). bytes_eq fault tally.fault.items) tallies) (length tallies))) [
   | inl there ↦
       let bad : Some (position_or_len (λ (tally : Tally). bytes_eq fault tally.fault.items) tallies) ≡ None =
-          sym (ap (λ t. cond t (Some (position_or_len (λ (tally : Tally). bytes_eq fault tally.fault.items) tallies)) None) there) ∙ none in
+      sym (ap (λ t. cond t (Some (position_or_len (λ (tally : Tally). bytes_eq fault tally.fault.items) tallies)) None) there) ∙ none in
       cc
   | inr far ↦ each_far tallies (ltb-false _ _ far)
 ]
@@ -158,8 +160,8 @@ no_line : (fault : List ℕ) (faults : List (List ℕ)) (lines : List Refused) �
 no_line fault faults [] none h = (refl, refl)
 no_line fault faults (line ∷ lines) none h =
     let other : bytes_eq fault line.fault ≡ false = false_from_ne_true (bytes_eq fault line.fault) (λ same.
-        let name : fault ≡ line.fault = (bytes_eq-Decides fault line.fault).0 same in
-        let bad : false ≡ true = sym none ∙ ap (is_member bytes_eq faults) name ∙ h.0 in cc) in
+    let name : fault ≡ line.fault = (bytes_eq-Decides fault line.fault).0 same in
+    let bad : false ≡ true = sym none ∙ ap (is_member bytes_eq faults) name ∙ h.0 in cc) in
     let later = no_line fault faults lines none h.1 in
     (rw other later.0, rw other later.1)
 
@@ -173,7 +175,7 @@ begun lines line tallies tally none name one number text t =
     let before = no_line line.fault (faults_of tallies) lines absent t.all in
     let itself : bytes_eq line.fault line.fault ≡ true = nat_list_eq_equiv.refl line.fault in
     let names : faults_of (tallies ++ tally ∷ []) ≡ faults_of tallies ++ line.fault ∷ [] =
-        map-append (λ (other : Tally). other.fault.items) tallies (tally ∷ []) ∙ ap (λ f. faults_of tallies ++ f ∷ []) name in
+    map-append (λ (other : Tally). other.fault.items) tallies (tally ∷ []) ∙ ap (λ f. faults_of tallies ++ f ∷ []) name in
     record {
       each = tallies_more tallies (others_stay lines line tallies others t.each) (record {
         count = one ∙ sym (rw name (count_more line.fault lines line ∙ rw (before.0, itself) refl));
@@ -190,6 +192,7 @@ begun lines line tallies tally none name one number text t =
     tallies_more : (some : List Tally) → AllByRecursion (IsTally (lines ++ line ∷ [])) some → IsTally (lines ++ line ∷ []) tally → AllByRecursion (IsTally (lines ++ line ∷ [])) (some ++ tally ∷ [])
     tallies_more [] h last = (last, tt)
     tallies_more (other ∷ some) h last = (h.0, tallies_more some h.1 last)
+
     kept : (some : List Refused) → AllByRecursion (λ l. is_member bytes_eq (faults_of tallies) l.fault ≡ true) some
         → AllByRecursion (λ l. is_member bytes_eq (faults_of tallies ++ line.fault ∷ []) l.fault ≡ true) some
     kept [] h = tt

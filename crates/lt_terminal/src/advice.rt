@@ -90,11 +90,7 @@ fn append_line(told: &mut Vec<u8>, advice: &[u8]) -> Result<(), AllocError>
 }
 
 /// Appends what to do about a fault that refused this text.
-pub(crate) fn append_advice(
-    told: &mut Vec<u8>,
-    fault: &[u8],
-    text: &[u8],
-) -> Result<(), AllocError>
+pub(crate) fn append_advice(told: &mut Vec<u8>, fault: &[u8], text: &[u8]) -> Result<(), AllocError>
     ensures { OnOk result (told.new.items ≡ told.old.items ++ spec.advice_line fault.now text.now) }
 {
     if let Some(advice) = advice_for(fault, text) {

@@ -12,8 +12,8 @@ mod tag_commands;
 mod upgrade_command;
 mod verifying;
 
-pub use lt_lines::{Counts, LineForm, Tallies, Tally, ToolFault, run_lines};
 pub use answered::Answered;
+pub use lt_lines::{Counts, LineForm, Tallies, Tally, ToolFault, run_lines};
 pub use lt_words::{Command, WordsFault, read_words};
 pub use printing::{perform, report, report_file};
 pub use program::run_program;

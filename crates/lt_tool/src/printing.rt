@@ -133,7 +133,15 @@ fn run<F: Read, G: Read, I: Read, O: Write, E: Write>(
     match command {
         Command::Classify(tag) => print_answer(classify(alloc, tag.as_bytes()), output, errors),
         Command::Check(_) => print_answer(check(alloc, first), output, errors),
-        Command::Canon(_) => answer_lines(alloc, LineForm::Tag, first, input, output, errors, answered),
+        Command::Canon(_) => answer_lines(
+            alloc,
+            LineForm::Tag,
+            first,
+            input,
+            output,
+            errors,
+            answered,
+        ),
         Command::Tsv(_, column) => {
             let form = LineForm::Row(column.saturating_sub(1));
             answer_lines(alloc, form, first, input, output, errors, answered)

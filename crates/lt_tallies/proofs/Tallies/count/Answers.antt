@@ -12,4 +12,4 @@ pub returns-in_ok-push-in-None-clause-counted : goal.returns-in_ok-push-in-None-
 returns-in_ok-push-in-None-clause-counted c = λ lines room tallies.
     let made = c.in_ok-new_tally-in-None.ensures in
     rw c.in_ok-push-in-None.ensures.items (begun lines (refused c.args.number c.args.fault.now c.args.text.now) c.self.inside.faults.items c.in_ok-new_tally-in-None.field-0
-        (rw (← c.self.view_is) at (sym c.place_of.ensures ∙ c.in-None.is)) made.fault made.numbers.0 made.numbers.1 made.text (rw (← c.self.view_is) at tallies))
+    (rw (← c.self.view_is) at (sym c.place_of.ensures ∙ c.in-None.is)) made.fault made.numbers.0 made.numbers.1 made.text (rw (← c.self.view_is) at tallies))
