@@ -1,2 +1,3 @@
 mod WatchingLemmas
 mod WordLemmas
+mod TableLemmas

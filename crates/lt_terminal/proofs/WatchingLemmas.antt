@@ -1,11 +1,32 @@
 -- What is known of a writer stays known while its first bytes are kept.
-use Rattle.std.proofs.Common.{◌≡◌, ◌≤◌, ◌-◌, ◌∙◌, ap, arith, inl, inr, sym, ℕ, true, false, length, List, ◌++◌, ◌==◌, ◌&&◌, Option, Some, None, bytes_eq, if◌then◌else◌, refl, take, take_all, length-take-le}
+use Rattle.std.specs.Result.{IsOk}
+use Rattle.std.proofs.Common.{Result, Ok, Err, OnOk, ◌≡◌, ◌≤◌, ◌-◌, ◌∙◌, ◌∷◌, [], ap, arith, inl, inr, min, suc, sym, zero, ℕ, true, false, length, List, ◌++◌, ◌==◌, ◌&&◌, Option, Some, None, bytes_eq, if◌then◌else◌, refl, take, take_all, length-take-le}
 use Rattle.std.proofs.lemmas.Bool.{and_from, and_parts, eqb-true}
 use Rattle.std.proofs.lemmas.Bool.Decides.{leb_tells}
-use Rattle.std.proofs.lemmas.List.{take-append-le}
+use Rattle.std.proofs.lemmas.List.{take_min, take-append-le}
 use Rattle.std.proofs.lemmas.Slice.Eq.{bytes_eq-Decides}
 use Rattle.std.specs.Io.KnownBytes.{Appends}
 use Rattle.lt_terminal.specs.Watching.{front_then, most_kept, watched_contents}
+
+-- all of a list, and the first of more
+take_past : (front more : List ℕ) (n : ℕ) → length front ≤ n → take n (front ++ more) ≡ front ++ take (n - length front) more
+take_past [] more n le = ap (λ (k : ℕ). take k more) (omega arith)
+take_past (byte ∷ front) more zero le = absurd (omega (arith, le))
+take_past (byte ∷ front) more (suc n) le =
+    ap (λ (l : List ℕ). byte ∷ l) (take_past front more n (omega (arith, le)))
+    ∙ ap (λ (k : ℕ). byte ∷ (front ++ take k more)) (omega arith)
+
+-- as many more as there is room for
+pub kept_front : (front more : List ℕ) (count : ℕ) → length front ≤ most_kept → count ≡ min (most_kept - length front) (length more)
+    → front ++ take count more ≡ front_then front more
+kept_front front more count le e =
+    ap (λ (k : ℕ). front ++ take k more) e ∙ ap (λ (l : List ℕ). front ++ l) (take_min (most_kept - length front) more)
+    ∙ sym (take_past front more most_kept le)
+
+-- what is so where a result is Ok
+pub of_ok : {A E P : Type 0} (result : Result A E) → IsOk result → OnOk result P → P
+of_ok (Ok value) ok p = p
+of_ok (Err error) ok p = cc
 
 -- the first of bytes and more
 front_more : (bytes more : List ℕ) → front_then (take most_kept bytes) more ≡ take most_kept (bytes ++ more)

@@ -22,11 +22,14 @@ abbrev pub shown_text : List ℕ → List ℕ
 shown_text [] = []
 shown_text (byte ∷ text) = codes ": " ++ map shown_byte (byte ∷ text)
 
+-- which line or record was the first
+abbrev pub first_told : (unit : List ℕ) → (first : ℕ) → List ℕ
+first_told unit first = codes ", first in " ++ unit ++ 32 ∷ decimal first
+
 -- the lines that a fault refused
 abbrev pub tally_line : (unit : List ℕ) → Tally → List ℕ
 tally_line unit tally =
-    decimal tally.lines ++ 32 ∷ tally.fault.items ++ codes ", first in " ++ unit ++ 32 ∷ decimal tally.first
-    ++ shown_text tally.text.items ++ 10 ∷ []
+    decimal tally.lines ++ 32 ∷ tally.fault.items ++ first_told unit tally.first ++ shown_text tally.text.items ++ 10 ∷ []
 
 -- a tally, and what to do
 abbrev pub tally_told : (unit : List ℕ) → Tally → List ℕ

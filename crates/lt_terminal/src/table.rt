@@ -1,10 +1,18 @@
 //! What a person is told of the lines that a run refused.
 ghost use Rattle.std.specs.Prelude.{◌≡◌, ◌++◌, OnOk, map};
+ghost use Rattle.std.specs.Fmt.{decimal};
 ghost use Rattle.lt_terminal.specs.Table as spec;
 
 use crate::advice::append_advice;
 use lt_lines::{Counts, Tallies, Tally};
 use std::alloc::{AllocError, Global};
+
+/// Appends a number.
+fn append_number(told: &mut Vec<u8>, alloc: Global, number: u64) -> Result<(), AllocError>
+    ensures { OnOk result (told.new.items ≡ told.old.items ++ decimal number) }
+{
+    told.extend_from_slice(format!(in alloc; "{number}")?.as_bytes())
+}
 
 /// Appends how many lines were answered and refused, if all of them were answered.
 pub(crate) fn append_counts(
@@ -18,9 +26,12 @@ pub(crate) fn append_counts(
     let Some(counts) = counts else {
         return Ok(());
     };
-    let (lines, refused) = (counts.lines, counts.refused);
-    let line = format!(in alloc; "{lines} {unit}s, {refused} refused\n")?;
-    told.extend_from_slice(line.as_bytes())
+    append_number(told, alloc, counts.lines)?;
+    told.push(b' ')?;
+    told.extend_from_slice(unit.as_bytes())?;
+    told.extend_from_slice(b"s, ")?;
+    append_number(told, alloc, counts.refused)?;
+    told.extend_from_slice(b" refused\n")
 }
 
 /// The byte that is shown for one of a text that was refused.
@@ -55,6 +66,16 @@ fn append_text(told: &mut Vec<u8>, text: &[u8]) -> Result<(), AllocError>
     append_shown(told, text)
 }
 
+/// Appends which line or record was the first.
+fn append_first(told: &mut Vec<u8>, alloc: Global, unit: &str, first: u64) -> Result<(), AllocError>
+    ensures { OnOk result (told.new.items ≡ told.old.items ++ spec.first_told unit.now first) }
+{
+    told.extend_from_slice(b", first in ")?;
+    told.extend_from_slice(unit.as_bytes())?;
+    told.push(b' ')?;
+    append_number(told, alloc, first)
+}
+
 /// Appends the line of the lines that a fault refused.
 fn append_tally(
     told: &mut Vec<u8>,
@@ -64,13 +85,26 @@ fn append_tally(
 ) -> Result<(), AllocError>
     ensures { OnOk result (told.new.items ≡ told.old.items ++ spec.tally_line unit.now tally.now) }
 {
-    let (lines, first) = (tally.lines, tally.first);
-    told.extend_from_slice(format!(in alloc; "{lines} ")?.as_bytes())?;
+    append_number(told, alloc, tally.lines)?;
+    told.push(b' ')?;
     told.extend_from_slice(&tally.fault)?;
-    told.extend_from_slice(format!(in alloc; ", first in {unit} {first}")?.as_bytes())?;
+    append_first(told, alloc, unit, tally.first)?;
     append_text(told, &tally.text)?;
     told.push(b'\n')?;
     Ok(())
+}
+
+/// Appends what a person is told of the lines that a fault refused.
+fn append_told(
+    told: &mut Vec<u8>,
+    alloc: Global,
+    unit: &str,
+    tally: &Tally,
+) -> Result<(), AllocError>
+    ensures { OnOk result (told.new.items ≡ told.old.items ++ spec.tally_told unit.now tally.now) }
+{
+    append_tally(told, alloc, unit, tally)?;
+    append_advice(told, &tally.fault, &tally.text)
 }
 
 /// Appends what a person is told of all the lines that were refused.
@@ -83,8 +117,7 @@ pub(crate) fn append_tallies(
     ensures { OnOk result (told.new.items ≡ told.old.items ++ spec.tallies_told unit.now tallies.now) }
 {
     for tally in tallies.faults() {
-        append_tally(told, alloc, unit, tally)?;
-        append_advice(told, &tally.fault, &tally.text)?;
+        append_told(told, alloc, unit, tally)?;
     }
     Ok(())
 }

@@ -22,13 +22,12 @@ pub struct Watched<W> {
 }
 
 /// Keeps the first of more bytes.
+#[tactic(auto, using(crate::proofs::WatchingLemmas::kept_front))]
 fn keep_front(front: &mut ArrayVec<u8, MOST_KEPT>, bytes: &[u8])
     ensures { front.new.items ≡ front_then front.old.items bytes.now }
 {
-    let room = MOST_KEPT - front.len();
-    for byte in &bytes[..bytes.len().min(room)] {
-        front.push(*byte);
-    }
+    let count = (MOST_KEPT - front.len()).min(bytes.len());
+    let _ = front.try_extend_from_slice(&bytes[..count]);
 }
 
 impl<W> Watched<W> {

@@ -1,4 +1,4 @@
-use Rattle.std.proofs.Common.{refl}
+use Rattle.std.proofs.Common.{List, Option, option_map, refl, ℕ, Bor}
 use Rattle.lt_terminal.proofs.run.run_for_people.Goals as goal
 
 pub returns : goal.returns
@@ -22,7 +22,7 @@ returns g c = record {
   none_counted = c.new-answered.ensures.counts;
   none_refused = c.new-answered.ensures.tallies;
   runs = c.run_program-status.ensures;
-  asked = c.asked_by-asked.result;
+  asked = option_map (λ (unit : Option (Bor (List ℕ))). option_map (λ (text : Bor (List ℕ)). text.now) unit) c.asked_by-asked.result;
   is_asked = c.asked_by-asked.ensures;
   tells = c.tell.ensures;
 }
