@@ -229,11 +229,13 @@ sys.exit(run.wait())
 END
 }
 faults() { printf '%s' "1 UnknownLanguage, first in $1 2: xx\n  The registry lacks the language: correct it, or get a newer registry.\n1 BadByte, first in $1 3: en_US\n  A byte that is no ASCII letter, digit or hyphen: write zh-Hant for zh_Hant; remove quotes, spaces, a byte order mark.\n"; }
+of_lines=$(faults line)
+of_records=$(faults record)
 printf 'zh-yue\nxx\nen_US\n' > input
-on_terminal canon "$sample"; is 'canon at a terminal' 1 'yue\n! UnknownLanguage 1\n! BadByte 1\n' "3 lines, 2 refused\n$(faults line)"
+on_terminal canon "$sample"; is 'canon at a terminal' 1 'yue\n! UnknownLanguage 1\n! BadByte 1\n' "3 lines, 2 refused\n$of_lines"
 "$program" canon "$sample" < input > out 2> err; is 'canon at no terminal' 1 'yue\n! UnknownLanguage 1\n! BadByte 1\n' ''
-on_terminal tsv "$sample" 1; is 'tsv at a terminal' 1 'yue\t\nxx\tUnknownLanguage 1\nen_US\tBadByte 1\n' "3 lines, 2 refused\n$(faults line)"
-on_terminal csv "$sample" 1; is 'csv at a terminal' 1 'zh-yue,langtag_fault\nxx,UnknownLanguage 1\nen_US,BadByte 1\n' "3 records, 2 refused\n$(faults record)"
+on_terminal tsv "$sample" 1; is 'tsv at a terminal' 1 'yue\t\nxx\tUnknownLanguage 1\nen_US\tBadByte 1\n' "3 lines, 2 refused\n$of_lines"
+on_terminal csv "$sample" 1; is 'csv at a terminal' 1 'zh-yue,langtag_fault\nxx,UnknownLanguage 1\nen_US,BadByte 1\n' "3 records, 2 refused\n$of_records"
 printf 'id,note,tag\n1,"see, File\nmore Read",zh-yue\n' > input
 on_terminal csv "$sample" 3; is 'csv at a terminal: words that look like faults' 0 'id,note,tag,langtag_fault\n1,"see, File\nmore Read",yue,\n' '2 records, 0 refused\n'
 yes en | head -n 2500000 > input
