@@ -5,7 +5,7 @@ use Rattle.std.proofs.lemmas.List.{length-map, map-append}
 use Rattle.std.proofs.lemmas.Bool.{and_parts, cond_both}
 use Rattle.std.proofs.lemmas.List.Elements.{filter-append}
 use Rattle.lt_jar.specs.LineKinds.{Continuation, Start, Line, Blank, Separator, Bad}
-use Rattle.lt_jar.specs.Records.{Field, Written, field_of, is_something, joined, lines_of_field, lines_of_group, has_field, is_shown, lines_of_ended, record_of, HasRecords, shown}
+use Rattle.lt_jar.specs.Records.{Field, Written, field_of, is_something, joined, lines_of_field, lines_of_group, has_field, is_nonblank, lines_of_ended, record_of, HasRecords, nonblank}
 use Rattle.lt_jar.specs.Reading.{lengthened, with_text, Going, GoesOn, Taken, finished, take_kind, with_taken}
 use Rattle.std.proofs.lemmas.Grind.{flat_map-append}
 use Rattle.lt_jar.specs.Limits.{most_records}
@@ -87,7 +87,7 @@ lines-separated : (ended : List (List Written)) (last : List Written) → lines_
 lines-separated ended last = simp (append_assoc, append-nil, flat_map-append)
 
 -- what lines and going are, taken apart
-after_kind : (n : ℕ) (ended : List (List Written)) (last : List Written) (kind : Line) → Makes (lines_of_groups ended last ++ filter is_shown (kind ∷ [])) (going_of ended last) (take_kind n (map field_of last) kind)
+after_kind : (n : ℕ) (ended : List (List Written)) (last : List Written) (kind : Line) → Makes (lines_of_groups ended last ++ filter is_nonblank (kind ∷ [])) (going_of ended last) (take_kind n (map field_of last) kind)
 after_kind n ended last Blank = record { ended = ended; last = last; lines_are = append-nil (lines_of_groups ended last); going_is = refl }
 after_kind n ended [] Separator =
     record { ended = ended ++ [] ∷ []; last = []; lines_are = lines-separated ended []; going_is = cc (records_of-append ended ([] ∷ []), append-nil (records_of ended)) }
@@ -102,7 +102,7 @@ after_kind n ended (field ∷ last) (Start name body) = starts ended (field ∷ 
 after_kind n ended last Bad = tt
 
 -- a line more
-pub leaves_more : (lines : List Line) (going : Going) (kind : Line) (n : ℕ) → Leaves lines going → Makes (lines ++ filter is_shown (kind ∷ [])) going (take_kind n going.fields kind)
+pub leaves_more : (lines : List Line) (going : Going) (kind : Line) (n : ℕ) → Leaves lines going → Makes (lines ++ filter is_nonblank (kind ∷ [])) going (take_kind n going.fields kind)
 leaves_more lines going kind n before = rw (before.lines_are, before.going_is) (after_kind n before.ended before.last kind)
 
 pub begun-append : (inside : Bool) (xs ys : List Line) → begun inside (xs ++ ys) ≡ begun inside xs + begun (is_inside inside xs) ys
@@ -215,7 +215,7 @@ parsed-groups (group ∷ ended) last =
     ∙ ap (λ (l : List Written). let p : Parsed = ([], l ∷ (ended ++ last ∷ [])) in p) (append-nil group)
 
 -- the records are those of the groups that were parsed
-records-parsed : (text : List ℕ) (records : List (List Field)) → HasRecords text records → records ≡ records_of (parsed (shown (lines_of text))).1
+records-parsed : (text : List ℕ) (records : List (List Field)) → HasRecords text records → records ≡ records_of (parsed (nonblank (lines_of text))).1
 records-parsed text records has =
     has.all ∙ sym (ap (λ (l : List Line). records_of (parsed l).1) has.lines ∙ ap (λ (p : Parsed). records_of p.1) (parsed-groups has.ended has.last))
 

@@ -5,11 +5,11 @@ use Rattle.std.proofs.lemmas.Grind.{flat_map-append}
 use Rattle.lt_jar.specs.Lines.{IsOneLine, lines_of, whole_lines, HoldsOfWhole}
 use Rattle.lt_jar.specs.LineKinds.{Line, Separator}
 use Rattle.lt_jar.specs.Limits.{most_records}
-use Rattle.lt_jar.specs.Records.{Field, HasRecords, IsWithin, Written, has_field, is_shown, lines_of_ended, lines_of_group, record_of, shown}
+use Rattle.lt_jar.specs.Records.{Field, HasRecords, IsWithin, Written, has_field, is_nonblank, lines_of_ended, lines_of_group, record_of, nonblank}
 use Rattle.lt_jar.specs.Faults.{Fault, IsLineReached, IsTheFault, IsWrong, IsWrongAt, begun, is_inside}
 use Rattle.lt_jar.specs.Lending.{AreEnded, CutsRecord, EndsRecord, IsSound, BreaksOff, IsCutShort}
 use Rattle.lt_jar.proofs.GroupLemmas.{finished-going_of, past_ended, records_of, records_of-append}
-use Rattle.lt_jar.proofs.ReadLemmas.{count_of, each_fault, shown-append, within_of}
+use Rattle.lt_jar.proofs.ReadLemmas.{count_of, each_fault, nonblank-append, within_of}
 use Rattle.lt_jar.proofs.ReadingLemmas.{Refused, Runs, each-append, fault_told, holds_here, lines_of-whole, lines_of-whole_lines, reached_told, rest_by, rest_some, runs_end, runs_out, runs_taken, whole_joined, whole-append}
 use Rattle.lt_jar.specs.LentSoFar.{HasLent}
 use Rattle.lt_jar.specs.Sources.{IsFresh, LendsEnded, LendsLast, kept_in, lent_by, line_of_kept, record_in}
@@ -58,9 +58,9 @@ wrong_as : {lines : List (List ℕ)} {records : List (List Field)} {earlier at :
     → (IsWrong earlier fault before line → IsWrong 0 fault (lines ++ before) line) × (IsWrong 0 fault (lines ++ before) line → IsWrong earlier fault before line)
 wrong_as {lines} {records} {earlier} front before line =
     let ended = front.ended in
-    let inside = ap (is_inside false) (shown-append lines before ∙ ap (λ l. l ++ shown before) ended.lines_are) ∙ (past_ended ended.groups (shown before)).0 in
+    let inside = ap (is_inside false) (nonblank-append lines before ∙ ap (λ l. l ++ nonblank before) ended.lines_are) ∙ (past_ended ended.groups (nonblank before)).0 in
     let more = before ++ line ∷ [] in
-    let begins = ap (λ l. begun false (shown l)) (append_assoc lines before (line ∷ [])) ∙ ap (begun false) (shown-append lines more ∙ ap (λ l. l ++ shown more) ended.lines_are) ∙ (past_ended ended.groups (shown more)).1 in
+    let begins = ap (λ l. begun false (nonblank l)) (append_assoc lines before (line ∷ [])) ∙ ap (begun false) (nonblank-append lines more ∙ ap (λ l. l ++ nonblank more) ended.lines_are) ∙ (past_ended ended.groups (nonblank more)).1 in
     let long : length records ≡ length (filter has_field ended.groups) = ap length ended.records_are ∙ length-map (filter has_field ended.groups) record_of in
     each_fault (λ fault. (IsWrong earlier fault before line → IsWrong 0 fault (lines ++ before) line) × (IsWrong 0 fault (lines ++ before) line → IsWrong earlier fault before line))
     (λ w. w, λ w. w) (λ w. w, λ w. w) (λ w. (w.0, inside ∙ w.1), λ w. (w.0, sym inside ∙ w.1)) (λ w. w, λ w. w)
@@ -114,7 +114,7 @@ reached_on {lines} {rest = rest} front bytes is count = record {
 ended-append : (xs ys : List (List ℕ)) (first second : List (List Field)) → AreEnded xs first → AreEnded ys second → AreEnded (xs ++ ys) (first ++ second)
 ended-append xs ys first second ended more = record {
   groups = ended.groups ++ more.groups;
-  lines_are = cc (shown-append xs ys, flat_map-append lines_of_ended ended.groups more.groups);
+  lines_are = cc (nonblank-append xs ys, flat_map-append lines_of_ended ended.groups more.groups);
   records_are = cc (records_of-append ended.groups more.groups);
 }
 
@@ -128,10 +128,10 @@ one_ended : (lines : List (List ℕ)) (fields : List Field) → EndsRecord lines
 one_ended lines fields ends =
     let gathers = ends.gathers in
     let empty = empty_groups gathers.skipped gathers.separators in
-    let separator : shown (ends.last ∷ []) ≡ Separator ∷ [] = ap (λ k. filter is_shown (k ∷ [])) ends.separator in
+    let separator : nonblank (ends.last ∷ []) ≡ Separator ∷ [] = ap (λ k. filter is_nonblank (k ∷ [])) ends.separator in
     record {
       groups = empty.0 ++ gathers.group ∷ [];
-      lines_are = simp (flat_map-append, append-nil) (cc (shown-append ends.before (ends.last ∷ []), separator, append_assoc gathers.skipped (lines_of_group gathers.group) (Separator ∷ []), empty.1));
+      lines_are = simp (flat_map-append, append-nil) (cc (nonblank-append ends.before (ends.last ∷ []), separator, append_assoc gathers.skipped (lines_of_group gathers.group) (Separator ∷ []), empty.1));
       records_are = cc (rest_some fields ends.some, ap rest_of gathers.fields_are, finished-going_of [] gathers.group, empty.2, records_of-append empty.0 (gathers.group ∷ []));
     }
 
@@ -154,11 +154,11 @@ records_on {lines} {records} {more} {rest = rest} front bytes has =
     record {
       ended = ended.groups ++ has.ended;
       last = has.last;
-      lines = simp (flat_map-append, append_assoc) (cc (lines_behind rest front bytes, shown-append lines (lines_of rest), ended.lines_are));
+      lines = simp (flat_map-append, append_assoc) (cc (lines_behind rest front bytes, nonblank-append lines (lines_of rest), ended.lines_are));
       all = cc (records_of-append ended.groups (has.ended ++ has.last ∷ []), append_assoc ended.groups has.ended (has.last ∷ []));
     }
 
-some_lines : (lines : List (List ℕ)) → 1 ≤ begun false (shown lines) → 1 ≤ length lines
+some_lines : (lines : List (List ℕ)) → 1 ≤ begun false (nonblank lines) → 1 ≤ length lines
 some_lines [] some = omega (arith, some)
 some_lines (line ∷ lines) some = omega arith
 

@@ -10,14 +10,14 @@ use Rattle.std.proofs.lemmas.List.Elements.{All-cons, All-drop, All-head, All-ni
 use Rattle.lt_jar.specs.Lines.{lines_of}
 use Rattle.lt_jar.specs.LineKinds.{Line, Blank, Separator, Continuation, Start, Bad, line_of}
 use Rattle.lt_jar.specs.Limits.{longest_line, most_records}
-use Rattle.lt_jar.specs.Records.{Field, HasRecords, IsWithin, Written, field_of, has_field, is_shown, lines_of_group, shown}
+use Rattle.lt_jar.specs.Records.{Field, HasRecords, IsWithin, Written, field_of, has_field, is_nonblank, lines_of_group, nonblank}
 use Rattle.lt_jar.specs.Faults.{Fault, LineTooLong, NotUtf8, LeadingContinuation, BadLine, TooManyRecords, IsTheFault, IsWrong, IsWrongAt, begun, is_continuation, is_inside, rank}
 use Rattle.lt_jar.specs.Reading.{Going, Taken, finished, on_taken, start, step, take_kind, take_line}
 use Rattle.lt_jar.specs.Lending.{IsSound}
 use Rattle.lt_jar.proofs.GroupLemmas.{Leaves, Makes, begun-append, begun-groups, finished-going_of, fits, fits-behind, leaves_more, one_list, past_ended, past_last, records_of}
 
-pub shown-append : (xs ys : List (List ℕ)) → shown (xs ++ ys) ≡ shown xs ++ shown ys
-shown-append xs ys = ap (filter is_shown) (map-append line_of xs ys) ∙ filter-append is_shown (map line_of xs) (map line_of ys)
+pub nonblank-append : (xs ys : List (List ℕ)) → nonblank (xs ++ ys) ≡ nonblank xs ++ nonblank ys
+nonblank-append xs ys = ap (filter is_nonblank) (map-append line_of xs ys) ∙ filter-append is_nonblank (map line_of xs) (map line_of ys)
 
 pub each_fault : (P : Fault → Type 0) → P LineTooLong → P NotUtf8 → P LeadingContinuation → P BadLine → P TooManyRecords → (fault : Fault) → P fault
 each_fault P long text leading bad many LineTooLong = long
@@ -29,22 +29,22 @@ each_fault P long text leading bad many TooManyRecords = many
 -- what is said of a line: nothing is wrong with it, or this is, and nothing before it in the order
 abbrev Judges : ℕ → List (List ℕ) → List ℕ → Result Taken Fault → Type 0
 Judges earlier before line said = MatchResult said
-    (λ taken. ((other : Fault) → IsWrong earlier other before line → ⊥) × (earlier + begun false (shown (before ++ line ∷ [])) ≤ most_records))
+    (λ taken. ((other : Fault) → IsWrong earlier other before line → ⊥) × (earlier + begun false (nonblank (before ++ line ∷ [])) ≤ most_records))
     (λ fault. IsWrong earlier fault before line × ((other : Fault) → IsWrong earlier other before line → rank fault ≤ rank other))
 
 -- the same of a short line of text, by its kind, after groups of which the last is this
-module _ (earlier : ℕ) (before : List (List ℕ)) (line : List ℕ) (count : ℕ) (short : length line ≤ longest_line) (utf8 : IsUtf8 line) (few : earlier + begun false (shown before) ≤ most_records) where
-  added : (b : Bool) (k : Line) → is_inside false (shown before) ≡ b → line_of line ≡ k → begun false (shown (before ++ line ∷ [])) ≡ begun false (shown before) + begun b (filter is_shown (k ∷ []))
-  added b k at so = rw (← at, ← so) (ap (begun false) (shown-append before (line ∷ [])) ∙ begun-append false (shown before) (shown (line ∷ [])))
+module _ (earlier : ℕ) (before : List (List ℕ)) (line : List ℕ) (count : ℕ) (short : length line ≤ longest_line) (utf8 : IsUtf8 line) (few : earlier + begun false (nonblank before) ≤ most_records) where
+  added : (b : Bool) (k : Line) → is_inside false (nonblank before) ≡ b → line_of line ≡ k → begun false (nonblank (before ++ line ∷ [])) ≡ begun false (nonblank before) + begun b (filter is_nonblank (k ∷ []))
+  added b k at so = rw (← at, ← so) (ap (begun false) (nonblank-append before (line ∷ [])) ∙ begun-append false (nonblank before) (nonblank (line ∷ [])))
 
-  calm : (k : Line) → line_of line ≡ k → (is_continuation k ≡ true → is_inside false (shown before) ≡ true) → (k ≡ Bad → ⊥) → earlier + begun false (shown (before ++ line ∷ [])) ≤ most_records
-      → ((other : Fault) → IsWrong earlier other before line → ⊥) × (earlier + begun false (shown (before ++ line ∷ [])) ≤ most_records)
+  calm : (k : Line) → line_of line ≡ k → (is_continuation k ≡ true → is_inside false (nonblank before) ≡ true) → (k ≡ Bad → ⊥) → earlier + begun false (nonblank (before ++ line ∷ [])) ≤ most_records
+      → ((other : Fault) → IsWrong earlier other before line → ⊥) × (earlier + begun false (nonblank (before ++ line ∷ [])) ≤ most_records)
   calm k so goes good room = (each_fault (λ other. IsWrong earlier other before line → ⊥) (λ w. omega arith) (λ w. w utf8) (λ w. both_ways _ w.1 (goes (sym (ap is_continuation so) ∙ w.0))) (λ w. good (sym so ∙ w)) (λ w. omega arith), room)
 
   least : (n : ℕ) → (IsWrong earlier LeadingContinuation before line → n ≤ 2) → (IsWrong earlier BadLine before line → n ≤ 3) → n ≤ 4 → (other : Fault) → IsWrong earlier other before line → n ≤ rank other
   least n leading bad any = each_fault (λ other. IsWrong earlier other before line → n ≤ rank other) (λ w. absurd (omega arith)) (λ w. absurd (w utf8)) leading bad (λ w. any)
 
-  kind_judges : (l : List Written) (k : Line) → is_inside false (shown before) ≡ has_field l → begun false (shown before) ≡ count + length (filter has_field (l ∷ [])) → line_of line ≡ k
+  kind_judges : (l : List Written) (k : Line) → is_inside false (nonblank before) ≡ has_field l → begun false (nonblank before) ≡ count + length (filter has_field (l ∷ [])) → line_of line ≡ k
       → Judges earlier before line (take_kind (earlier + count) (map field_of l) k)
   kind_judges l Blank at sum so = calm Blank so (λ m. cc) (λ m. cc) (omega (arith, added (has_field l) Blank at so))
   kind_judges [] Separator at sum so = calm Separator so (λ m. cc) (λ m. cc) (omega (arith, added false Separator at so))
@@ -65,11 +65,11 @@ pub by_test : (ended : ℕ) (fields : List Field) (line : List ℕ) (P : Result 
 by_test ended fields line P long text other = cond_both (nat_lt longest_line (length line)) _ _ P (λ is. long (ltb-true _ _ is)) (λ low. cond_both (is_utf8 line) _ _ P
     (λ is. text (ltb-false _ _ low) (IsUtf8-from_is_utf8 line is)) (λ no. other (ltb-false _ _ low) (λ utf8. both_ways _ no (is_utf8-from_IsUtf8 line utf8))))
 
-judges : (earlier : ℕ) (before : List (List ℕ)) (line : List ℕ) (going : Going) → Leaves (shown before) going → earlier + begun false (shown before) ≤ most_records
+judges : (earlier : ℕ) (before : List (List ℕ)) (line : List ℕ) (going : Going) → Leaves (nonblank before) going → earlier + begun false (nonblank before) ≤ most_records
     → Judges earlier before line (take_line (earlier + length going.records) going.fields line)
 judges earlier before line going leaves few =
     let inside = ap (is_inside false) leaves.lines_are ∙ (past_ended leaves.ended (lines_of_group leaves.last)).0 ∙ (past_last leaves.last).0 in
-    let count : begun false (shown before) ≡ length (records_of leaves.ended) + length (filter has_field (leaves.last ∷ [])) =
+    let count : begun false (nonblank before) ≡ length (records_of leaves.ended) + length (filter has_field (leaves.last ∷ [])) =
     ap (begun false) leaves.lines_are ∙ begun-groups leaves.ended leaves.last ∙ simp (filter-append, length-map, length-append) in
     rw leaves.going_is (by_test _ _ line (Judges earlier before line) (λ long. (long, λ other wrong. omega arith))
     (λ short utf8. kind_judges earlier before line (length (records_of leaves.ended)) short utf8 few leaves.last (line_of line) inside count refl)
@@ -80,8 +80,8 @@ pub record HasRead (earlier : ℕ) (text : List ℕ) (number : ℕ) (left : List
   pub before : List (List ℕ)
   pub all : lines_of text ≡ before ++ left
   pub counted : number ≡ length before
-  pub leaves : Leaves (shown before) going
-  pub few : earlier + begun false (shown before) ≤ most_records
+  pub leaves : Leaves (nonblank before) going
+  pub few : earlier + begun false (nonblank before) ≤ most_records
   pub clean : (other : Fault) (at : ℕ) → IsWrongAt earlier text other at → number < at
 
 pub read_none : (earlier : ℕ) (text : List ℕ) → earlier ≤ most_records → HasRead earlier text 0 (lines_of text) start
@@ -114,18 +114,18 @@ pub read_step : (earlier : ℕ) (text : List ℕ) (number : ℕ) (going : Going)
 read_step earlier text number going line after read =
     let n = earlier + length going.records in
     by_said (take_line n going.fields line) (judges earlier read.before line going read.leaves read.few)
-    (by_test n going.fields line (Makes (shown read.before ++ shown (line ∷ [])) going) (λ long. tt) (λ short utf8. leaves_more (shown read.before) going (line_of line) n read.leaves) (λ short not. tt))
+    (by_test n going.fields line (Makes (nonblank read.before ++ nonblank (line ∷ [])) going) (λ long. tt) (λ short utf8. leaves_more (nonblank read.before) going (line_of line) n read.leaves) (λ short not. tt))
   where
     there : (other : Fault) (at : ℕ) → IsWrongAt earlier text other at → at ≡ number + 1 → IsWrong earlier other read.before line
     there other at wrong here = wrong_there earlier text read.before line after other at read.all wrong (omega (arith, here, read.counted))
 
-    by_said : (said : Result Taken Fault) → Judges earlier read.before line said → Makes (shown read.before ++ shown (line ∷ [])) going said
+    by_said : (said : Result Taken Fault) → Judges earlier read.before line said → Makes (nonblank read.before ++ nonblank (line ∷ [])) going said
         → MatchResult (on_taken going said) (λ new. HasRead earlier text (number + 1) after new) (λ fault. IsTheFault earlier text fault (number + 1))
     by_said (Ok taken) judged leaves = record {
       before = read.before ++ line ∷ [];
       all = read.all ∙ sym (append_assoc read.before (line ∷ []) after);
       counted = omega (arith, read.counted, length-append read.before (line ∷ []));
-      leaves = rw shown-append leaves;
+      leaves = rw nonblank-append leaves;
       few = judged.1;
       clean = λ other at wrong. elim (cases_lt (number + 1) at) [
         | inl below ↦ below
@@ -150,7 +150,7 @@ pub records_at_end : (earlier : ℕ) (text : List ℕ) (number : ℕ) (going : G
 records_at_end earlier text number going read =
     let all = read.all ∙ append-nil read.before in
     let leaves = read.leaves in (
-      record { ended = leaves.ended; last = leaves.last; lines = ap shown all ∙ leaves.lines_are; all = ap finished leaves.going_is ∙ finished-going_of leaves.ended leaves.last },
+      record { ended = leaves.ended; last = leaves.last; lines = ap nonblank all ∙ leaves.lines_are; all = ap finished leaves.going_is ∙ finished-going_of leaves.ended leaves.last },
       λ fault at wrong. omega (arith, read.clean fault at wrong, ap length (sym all ∙ wrong.all), length-append wrong.before (wrong.line ∷ wrong.after), wrong.counted, read.counted),
     )
 
@@ -166,7 +166,7 @@ read_all text number (line ∷ left) going read =
     by_result (step 0 going line) (read_step 0 text number going line left read) (λ new is next. read_all text (number + 1) left new next) (λ fault is found. inr (fault, (number + 1, found)))
 
 -- how many records lines have begun that have these
-pub count_of : (text : List ℕ) (records : List (List Field)) → HasRecords text records → begun false (shown (lines_of text)) ≡ length records
+pub count_of : (text : List ℕ) (records : List (List Field)) → HasRecords text records → begun false (nonblank (lines_of text)) ≡ length records
 count_of text records has = ap (begun false) has.lines ∙ begun-groups has.ended has.last ∙ sym (ap length has.all)
 
 -- A text that has records, and with which nothing is wrong, keeps the limits.
@@ -188,7 +188,7 @@ within_of text records has sound = record {
 all_at : (P : List ℕ → Type 0) (before : List (List ℕ)) (line : List ℕ) (after : List (List ℕ)) → All P (before ++ line ∷ after) → P line
 all_at P before line after all = All-head P line after (subst (All P) (drop-append_seam before (line ∷ after)) (All-drop P (length before) (before ++ line ∷ after) all))
 
-misfit : (kind : Line) (kinds : List Line) → is_continuation kind ≡ true → fits false (filter is_shown (kind ∷ kinds)) ≡ true → ⊥
+misfit : (kind : Line) (kinds : List Line) → is_continuation kind ≡ true → fits false (filter is_nonblank (kind ∷ kinds)) ≡ true → ⊥
 misfit Blank kinds is fit = cc
 misfit Separator kinds is fit = cc
 misfit (Continuation text) kinds is fit = cc
@@ -200,16 +200,16 @@ pub nothing_wrong_at : (text : List ℕ) (records : List (List Field)) → HasRe
 nothing_wrong_at text records has within fault number wrong =
     let front = wrong.before in
     let line = wrong.line in
-    let behind = fits-behind false (shown front) (shown (line ∷ wrong.after))
-    (ap (fits false) (sym (shown-append front (line ∷ wrong.after)) ∙ ap shown (sym wrong.all) ∙ has.lines) ∙ (past_ended has.ended (lines_of_group has.last)).2 ∙ (past_last has.last).2) in
+    let behind = fits-behind false (nonblank front) (nonblank (line ∷ wrong.after))
+    (ap (fits false) (sym (nonblank-append front (line ∷ wrong.after)) ∙ ap nonblank (sym wrong.all) ∙ has.lines) ∙ (past_ended has.ended (lines_of_group has.last)).2 ∙ (past_last has.last).2) in
     each_fault (λ f. IsWrong 0 f front line → ⊥)
     (λ w. omega (arith, w, all_at (λ l. length l ≤ longest_line) front line wrong.after (subst (All (λ l. length l ≤ longest_line)) wrong.all within.short)))
     (λ w. w (all_at IsUtf8 front line wrong.after (subst (All IsUtf8) wrong.all within.utf8)))
-    (λ w. misfit (line_of line) (map line_of wrong.after) w.0 (subst (λ b. fits b (shown (line ∷ wrong.after)) ≡ true) w.1 behind))
-    (λ w. let bad = subst (λ k. fits (is_inside false (shown front)) (filter is_shown (k ∷ map line_of wrong.after)) ≡ true) w behind in cc)
+    (λ w. misfit (line_of line) (map line_of wrong.after) w.0 (subst (λ b. fits b (nonblank (line ∷ wrong.after)) ≡ true) w.1 behind))
+    (λ w. let bad = subst (λ k. fits (is_inside false (nonblank front)) (filter is_nonblank (k ∷ map line_of wrong.after)) ≡ true) w behind in cc)
     (λ w.
-    let split = ap shown (wrong.all ∙ sym (append_assoc front (line ∷ []) wrong.after)) ∙ shown-append (front ++ line ∷ []) wrong.after in
-    omega (arith, w, ap (begun false) split ∙ begun-append false (shown (front ++ line ∷ [])) (shown wrong.after), count_of text records has, within.few)) fault wrong.wrong
+    let split = ap nonblank (wrong.all ∙ sym (append_assoc front (line ∷ []) wrong.after)) ∙ nonblank-append (front ++ line ∷ []) wrong.after in
+    omega (arith, w, ap (begun false) split ∙ begun-append false (nonblank (front ++ line ∷ [])) (nonblank wrong.after), count_of text records has, within.few)) fault wrong.wrong
 
 -- the fault of a rank
 abbrev of_rank : ℕ → Fault

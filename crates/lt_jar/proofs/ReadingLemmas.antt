@@ -4,7 +4,7 @@ use Rattle.std.proofs.Math.ListN.{set}
 use Rattle.std.proofs.lemmas.Bool.{cond_both, lt-ltb}
 use Rattle.lt_jar.specs.LineKinds.{Line, Blank, Separator, Continuation, Start, Bad, line_of}
 use Rattle.lt_jar.specs.Limits.{longest_line, most_records}
-use Rattle.lt_jar.specs.Records.{Field, HasRecords, Written, lines_of_ended, shown}
+use Rattle.lt_jar.specs.Records.{Field, HasRecords, Written, lines_of_ended, nonblank}
 use Rattle.lt_jar.specs.Faults.{Fault, LineTooLong, IsLineReached, IsTheFault, begun}
 use Rattle.lt_jar.specs.Reading.{Ends, GoesOn, Taken, continued, lengthened, take_kind, take_line, with_text, Going, finished, going_on, rest_of, on_going, on_taken, steps, start, step}
 use Rattle.std.specs.List.{AllByRecursion, flat_map}
@@ -261,11 +261,11 @@ all_separators ((field ∷ group) ∷ ended) none = cc
 
 -- what lines that ran gather, and that nothing is wrong with them
 pub lines_ran : (earlier : ℕ) (lines : List (List ℕ)) (going : Going) → earlier ≤ most_records → AllByRecursion IsOneLine lines → steps earlier (going_on []) lines ≡ Ok going
-    → Leaves (shown lines) going × IsSound earlier (whole_lines lines)
+    → Leaves (nonblank lines) going × IsSound earlier (whole_lines lines)
 lines_ran earlier lines going few each ran =
     let read = read_lines earlier (whole_lines lines) lines [] going few each (sym (append-nil (whole_lines lines))) ran in
     let before : read.before ≡ lines = sym (read.all ∙ append-nil read.before) ∙ lines_of-whole_lines lines each in
-    (subst (λ l. Leaves (shown l) going) before read.leaves, (records_at_end earlier (whole_lines lines) (length lines) going read).1)
+    (subst (λ l. Leaves (nonblank l) going) before read.leaves, (records_at_end earlier (whole_lines lines) (length lines) going read).1)
 
 -- these lines at the front of a text ran, and left these fields
 pub record Ran (earlier : ℕ) (text : List ℕ) (lines : List (List ℕ)) (rest : List ℕ) (fields : List Field) : Type 0 where

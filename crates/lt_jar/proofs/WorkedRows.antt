@@ -2,7 +2,7 @@
 use Rattle.std.proofs.Common.{◌≡◌, ℕ, List, [], ◌∷◌, ◌++◌, refl, codes, false}
 use Rattle.lt_jar.specs.Lines.{lines_of}
 use Rattle.lt_jar.specs.LineKinds.{Bad, Continuation, Separator, Start, line_of}
-use Rattle.lt_jar.specs.Records.{HasRecords, shown}
+use Rattle.lt_jar.specs.Records.{HasRecords, nonblank}
 use Rattle.lt_jar.specs.Faults.{IsWrongAt, LeadingContinuation, begun}
 
 -- a line feed ends a line, and what follows the last one is a line only if it has a byte
@@ -16,7 +16,7 @@ line_not_ended = refl
 abbrev folded : List ℕ
 folded = codes "A:" ++ 10 ∷ (codes "  b " ++ 10 ∷ 9 ∷ codes "c")
 
-folded_lines : shown (lines_of folded) ≡ Start (codes "A") [] ∷ Continuation (codes "b") ∷ Continuation (codes "c") ∷ []
+folded_lines : nonblank (lines_of folded) ≡ Start (codes "A") [] ∷ Continuation (codes "b") ∷ Continuation (codes "c") ∷ []
 folded_lines = refl
 
 -- one record with the one field `A`, body `b c`
@@ -71,5 +71,5 @@ leading_wrong = record {
   wrong = (refl, refl);
 }
 
-begun_two : begun false (shown (lines_of (codes "A:" ++ 10 ∷ (codes "B:" ++ 10 ∷ (codes "%%" ++ 10 ∷ codes "C:"))))) ≡ 2
+begun_two : begun false (nonblank (lines_of (codes "A:" ++ 10 ∷ (codes "B:" ++ 10 ∷ (codes "%%" ++ 10 ∷ codes "C:"))))) ≡ 2
 begun_two = refl

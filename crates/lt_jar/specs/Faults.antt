@@ -4,7 +4,7 @@ use Rattle.std.specs.Str.{IsUtf8}
 use Rattle.lt_jar.specs.Lines.{lines_of}
 use Rattle.lt_jar.specs.LineKinds.{Line, Separator, Continuation, Start, Bad, line_of}
 use Rattle.lt_jar.specs.Limits.{longest_line, most_records}
-use Rattle.lt_jar.specs.Records.{shown}
+use Rattle.lt_jar.specs.Records.{nonblank}
 
 -- what can be wrong with a line, in the order in which it is answered
 pub data Fault : Type 0 where
@@ -47,9 +47,9 @@ abbrev pub IsWrong : ℕ → Fault → List (List ℕ) → List ℕ → Type 0
 IsWrong earlier LineTooLong before line = longest_line < length line
 IsWrong earlier NotUtf8 before line = ¬ IsUtf8 line
 IsWrong earlier LeadingContinuation before line =
-    (is_continuation (line_of line) ≡ true) × (is_inside false (shown before) ≡ false)
+    (is_continuation (line_of line) ≡ true) × (is_inside false (nonblank before) ≡ false)
 IsWrong earlier BadLine before line = line_of line ≡ Bad
-IsWrong earlier TooManyRecords before line = most_records < earlier + begun false (shown (before ++ line ∷ []))
+IsWrong earlier TooManyRecords before line = most_records < earlier + begun false (nonblank (before ++ line ∷ []))
 
 -- this is wrong with the line of this number, counted from 1
 pub record IsWrongAt (earlier : ℕ) (text : List ℕ) (fault : Fault) (number : ℕ) : Type 0 where

@@ -4,7 +4,7 @@ use Rattle.std.specs.List.{AllByRecursion, filter, flat_map}
 use Rattle.lt_jar.specs.Lines.{IsOneLine, whole_lines}
 use Rattle.lt_jar.specs.LineKinds.{Line, Separator, line_of}
 use Rattle.lt_jar.specs.Limits.{longest_line}
-use Rattle.lt_jar.specs.Records.{Field, Written, has_field, lines_of_ended, lines_of_group, record_of, shown}
+use Rattle.lt_jar.specs.Records.{Field, Written, has_field, lines_of_ended, lines_of_group, record_of, nonblank}
 use Rattle.lt_jar.specs.Faults.{Fault, IsWrongAt}
 
 -- but for blank lines, the lines are separators, and then a group that has these fields
@@ -12,7 +12,7 @@ pub record Gathers (lines : List (List ℕ)) (fields : List Field) : Type 0 wher
   pub skipped : List Line
   pub separators : AllByRecursion (λ line. line ≡ Separator) skipped
   pub group : List Written
-  pub lines_are : shown lines ≡ skipped ++ lines_of_group group
+  pub lines_are : nonblank lines ≡ skipped ++ lines_of_group group
   pub fields_are : fields ≡ record_of group
 
 -- the last of the lines is a separator, which ends the record of the lines before it
@@ -64,7 +64,7 @@ pub record IsCutShort (earlier : ℕ) (text : List ℕ) (number : ℕ) : Type 0 
 -- a field
 pub record AreEnded (lines : List (List ℕ)) (records : List (List Field)) : Type 0 where
   pub groups : List (List Written)
-  pub lines_are : shown lines ≡ flat_map lines_of_ended groups
+  pub lines_are : nonblank lines ≡ flat_map lines_of_ended groups
   pub records_are : records ≡ map record_of (filter has_field groups)
 
 -- whole lines, with which nothing is wrong, and the line that is being read, which is not too long so far and has

@@ -44,13 +44,13 @@ abbrev pub lines_of_ended : List Written → List Line
 lines_of_ended group = lines_of_group group ++ Separator ∷ []
 
 -- the line is not blank
-abbrev pub is_shown : Line → Bool
-is_shown Blank = false
-is_shown line = true
+abbrev pub is_nonblank : Line → Bool
+is_nonblank Blank = false
+is_nonblank line = true
 
 -- what the lines are, without the blank ones
-abbrev pub shown : List (List ℕ) → List Line
-shown lines = filter is_shown (map line_of lines)
+abbrev pub nonblank : List (List ℕ) → List Line
+nonblank lines = filter is_nonblank (map line_of lines)
 
 -- the group has a field
 abbrev pub has_field : List Written → Bool
@@ -66,7 +66,7 @@ record_of group = map field_of group
 pub record HasRecords (text : List ℕ) (records : List (List Field)) : Type 0 where
   pub ended : List (List Written)
   pub last : List Written
-  pub lines : shown (lines_of text) ≡ flat_map lines_of_ended ended ++ lines_of_group last
+  pub lines : nonblank (lines_of text) ≡ flat_map lines_of_ended ended ++ lines_of_group last
   pub all : records ≡ map record_of (filter has_field (ended ++ last ∷ []))
 
 -- the text keeps the limits, and its lines are UTF-8

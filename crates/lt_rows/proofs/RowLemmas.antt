@@ -8,7 +8,7 @@ use Rattle.lt_jar.specs.Lines.{begin_first}
 use Rattle.lt_rows.specs.Quotes.{IsFreeOutside, is_quoted, place_after, place_at, place_outside, records_from}
 use Rattle.lt_rows.specs.declared.quotes.Place.{Place}
 use Rattle.lt_rows.specs.declared.quotes.Place.TheVariants as places
-use Rattle.lt_rows.specs.Rows.{HasFewer, IsEnded, IsField, Skips, separated, separator}
+use Rattle.lt_rows.specs.Rows.{HasFewer, IsEnded, IsRowField, Skips, separated, separator}
 use Rattle.lt_rows.specs.declared.rows.Separator.{Separator}
 
 module _ (delimiter : ℕ) where
@@ -119,7 +119,7 @@ skips_more S count row rest field after s one split = record {
 }
 
 -- the rest is the last field
-pub skips_last : (S : Separator) (count wanted : ℕ) (row rest : List ℕ) → Skips S count row rest → IsField S rest → count < wanted → HasFewer S wanted row
+pub skips_last : (S : Separator) (count wanted : ℕ) (row rest : List ℕ) → Skips S count row rest → IsRowField S rest → count < wanted → HasFewer S wanted row
 skips_last S count wanted row rest s one few = record {
   before = s.before;
   last = rest;

@@ -13,9 +13,9 @@ separator separators.Tab = 9
 separator (separators.Delimiter delimiter) = delimiter
 
 -- no tab, or no delimiter outside of quotes
-abbrev pub IsField : Separator → List ℕ → Type 0
-IsField separators.Tab text = All (λ byte. byte ≢ 9) text
-IsField (separators.Delimiter delimiter) text = IsFreeOutside delimiter delimiter places.Fresh text
+abbrev pub IsRowField : Separator → List ℕ → Type 0
+IsRowField separators.Tab text = All (λ byte. byte ≢ 9) text
+IsRowField (separators.Delimiter delimiter) text = IsFreeOutside delimiter delimiter places.Fresh text
 
 -- a separator may end the field: it does not end within quotes, where delimiters part fields
 abbrev pub IsClosed : Separator → List ℕ → Type 0
@@ -24,7 +24,7 @@ IsClosed (separators.Delimiter delimiter) text = is_quoted (place_at delimiter p
 
 -- a field that a separator ends
 pub record IsEnded (S : Separator) (text : List ℕ) : Type 0 where
-  pub field : IsField S text
+  pub field : IsRowField S text
   pub closed : IsClosed S text
 
 -- fields, each with the separator that ends it
@@ -49,7 +49,7 @@ pub record HasField (S : Separator) (count : ℕ) (row front field after : List 
   pub each : AllByRecursion (IsEnded S) before
   pub number : length before ≡ count
   pub front_is : front ≡ separated S before
-  pub one : IsField S field
+  pub one : IsRowField S field
   pub ends : IsAfterField S field after
   pub row_is : row ≡ front ++ field ++ after
 
@@ -58,7 +58,7 @@ pub record HasFewer (S : Separator) (count : ℕ) (row : List ℕ) : Type 0 wher
   pub before : List (List ℕ)
   pub last : List ℕ
   pub each : AllByRecursion (IsEnded S) before
-  pub one : IsField S last
+  pub one : IsRowField S last
   pub row_is : row ≡ separated S before ++ last
   pub fewer : length before < count
 
@@ -83,5 +83,5 @@ pub record IsTextIn (S : Separator) (field quotes text : List ℕ) : Type 0 wher
 
 -- what is before the first separator and after it
 abbrev pub SplitsField : Separator → List ℕ → Option (Bor (List ℕ) × Bor (List ℕ)) → Type 0
-SplitsField S rest parts = MatchOption parts (IsField S rest)
+SplitsField S rest parts = MatchOption parts (IsRowField S rest)
     (λ p. IsEnded S p.0.now × (rest ≡ p.0.now ++ separator S ∷ p.1.now))

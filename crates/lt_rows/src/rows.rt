@@ -1,6 +1,6 @@
 //! The fields of a row.
 ghost use Rattle.std.specs.Prelude.{◌≡◌, ◌++◌, ◌↔◌, IsTrue, MatchOption};
-ghost use Rattle.lt_rows.specs.Rows.{HasFewer, HasField, HasReturn, IsAfterField, IsField, IsQuoted, IsTextIn, Skips, SplitsField, separator};
+ghost use Rattle.lt_rows.specs.Rows.{HasFewer, HasField, HasReturn, IsAfterField, IsQuoted, IsRowField, IsTextIn, Skips, SplitsField, separator};
 
 use crate::quotes::split_outside;
 use crate::splitting::split_first;
@@ -56,7 +56,7 @@ fn skip_fields(separator: Separator, row: &[u8], count: usize) -> Option<&[u8]>
 
 /// The first field of the rest of a row, and what follows it.
 fn first_field(separator: Separator, rest: &[u8]) -> (&[u8], &[u8])
-    ensures field { IsField separator result.0.now }
+    ensures field { IsRowField separator result.0.now }
     ensures after { IsAfterField separator result.0.now result.1.now }
     ensures whole { rest.now ≡ result.0.now ++ result.1.now }
 {

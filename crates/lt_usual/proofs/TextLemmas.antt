@@ -140,7 +140,7 @@ language_shown F l rest more p true (Some after) e q h =
     }
 language_shown F l rest more p _ _ e q h = cc
 
-pub shown_cut : (F text : List ℕ) (p : Shown) → taken.shown F text ≡ Some p → IsShown F text p
+pub shown_cut : (F text : List ℕ) (p : Shown) → taken.shown_text F text ≡ Some p → IsShown F text p
 shown_cut F (a ∷ b ∷ []) p h = language_shown F (a ∷ b ∷ []) [] (0 ∷ []) p _ _ refl refl h
 shown_cut F (a ∷ b ∷ c ∷ rest) p h = elim (cases_Bool (c == 45)) [
   | inl e ↦ language_shown F (a ∷ b ∷ []) (c ∷ rest) (0 ∷ []) p _ _ refl refl (rw e at h)
@@ -157,7 +157,7 @@ no_hyphen : (a b c : ℕ) → is_alphabetic (folded (a ∷ b ∷ c ∷ [])) ≡ 
 no_hyphen a b c h = grind (arith, nat_tests)
 
 pub cut_shown : (F l : List ℕ) (s r : Option (List ℕ)) → is_alphabetic (folded l) ≡ true → flagged F kinds.Language l ≡ true → part_flagged F kinds.Script s ≡ true → part_flagged F kinds.Region r ≡ true
-    → is_some (taken.shown F (l ++ (hyphened s ++ hyphened r))) ≡ true
+    → is_some (taken.shown_text F (l ++ (hyphened s ++ hyphened r))) ≡ true
 cut_shown F l s r h e f g = grind (arith, no_hyphen, after_some F)
 
 -- ---- what stays has a record of its own, and so the form of its kind
@@ -340,7 +340,7 @@ module _ (R : List EntryParts) (F : List ℕ) (flags : AreFlags R F) where
   part_stays : (k : Kind) → ((s : List ℕ) → stays R k (folded s) ≡ true → flagged F k s ≡ true) → (s c : Option (List ℕ)) → option_map folded s ≡ c → IfSome c (λ s. stays R k s ≡ true) → part_flagged F k s ≡ true
   part_stays k each s c e h = grind (arith, each)
 
-  pub stays_shown : (text : List ℕ) (c : CoreParts) → StaysAs R text c → taken.shown F text ≡ None → ⊥
+  pub stays_shown : (text : List ℕ) (c : CoreParts) → StaysAs R text c → taken.shown_text F text ≡ None → ⊥
   stays_shown text c h none =
       let core : c ≡ plain c.language c.script c.region = λ k. record { language = c.language; extlangs = h.extlangs k; script = c.script; region = c.region; variants = h.variants k } in
       let t = uncased (pieces text) c.language c.script c.region (sym h.read.spelled ∙ ap (λ (d : CoreParts). spell (core_alone d)) core) in

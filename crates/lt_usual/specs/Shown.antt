@@ -73,7 +73,7 @@ shown_three F a b c rest =
     if flag F (language_3 a b c) then option_map (with_three a b c) (after_language F rest) else None
 
 -- the whole text
-abbrev pub shown : List ℕ → List ℕ → Option Shown
-shown F (a ∷ b ∷ []) = shown_two F a b []
-shown F (a ∷ b ∷ c ∷ rest) = if c == 45 then shown_two F a b (c ∷ rest) else shown_three F a b c rest
-shown F _ = None
+abbrev pub shown_text : List ℕ → List ℕ → Option Shown
+shown_text F (a ∷ b ∷ []) = shown_two F a b []
+shown_text F (a ∷ b ∷ c ∷ rest) = if c == 45 then shown_two F a b (c ∷ rest) else shown_three F a b c rest
+shown_text F _ = None

@@ -154,7 +154,7 @@ impl UsualSubtags {
     /// A text in conventional case.
     #[inline(always)]
     pub(crate) fn shown(&self, text: &[u8]) -> Option<Shown>
-        ensures value { result ≡ shown.shown self.now text.now }
+        ensures value { result ≡ shown.shown_text self.now text.now }
         ensures few { IfSome result (λ shown. shown.count ≤ 12) }
     {
         match *text {
