@@ -1,5 +1,5 @@
 #!/usr/bin/env python3
-"""Tests packaging/update-registry.sh, and the same by hand as README has it, with a server of their own on this machine.
+"""Tests packaging/update-registry.sh, and the same by hand as the manual has it, with a server of their own on this machine.
 
 Usage: tests/packaging/update_registry.py PROGRAM
 
@@ -223,15 +223,15 @@ class Update(unittest.TestCase):
         self.alone()
 
     def test_by_hand(self):
-        """The recipe of README, of the manual and of the page on updates, with this server in the place of IANA's."""
+        """The recipe of the manual and of the page on updates, with this server in the place of IANA's."""
         pages = {}
-        for page in ["README.md", "docs/langtag.1", "docs/updates.md"]:
+        for page in ["docs/langtag.1", "docs/updates.md"]:
             text = (ROOT / page).read_text(encoding="utf-8").replace("\\-", "-").replace("\\e", "\\")
             found = re.search(r"^ *curl -f.*\n(?: *(?:langtag|mv) .*\n)*", text, re.M)
             self.assertIsNotNone(found, page)
             pages[page] = " ".join(found.group().replace("\\\n", " ").split())
         self.assertEqual(len(set(pages.values())), 1, pages)
-        recipe = pages["README.md"]
+        recipe = pages["docs/updates.md"]
         self.assertIn("https://www.iana.org/assignments/language-subtag-registry/language-subtag-registry", recipe)
         tools = self.folder.parent / "tools"
         tools.mkdir()
