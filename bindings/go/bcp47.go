@@ -60,8 +60,8 @@ import (
 	"unsafe"
 )
 
-// Room for any text that a call writes.
-const room = 1280
+// Room for any text that a call writes: a tag of 1,024 bytes can have 204 variants of 4, each of which becomes one of 8.
+const room = 2048
 
 var buffers = sync.Pool{New: func() any { return new([room]byte) }}
 

@@ -58,6 +58,20 @@ func TestTexts(t *testing.T) {
 	is(t, 3, strings.Count(Version()+".", "."))
 }
 
+func TestTheLongestTextHasRoom(t *testing.T) {
+	records, tag, canonical := "Type: language\nSubtag: aa\n", "aa", "aa"
+	for n := 0; n < 204; n++ {
+		records += fmt.Sprintf("%%%%\nType: variant\nSubtag: 1%03d\nPreferred-Value: value%03d\n", n, n)
+		records += fmt.Sprintf("%%%%\nType: variant\nSubtag: value%03d\n", n)
+		tag += fmt.Sprintf("-1%03d", n)
+		canonical += fmt.Sprintf("-value%03d", n)
+	}
+	registry, err := Read([]byte(records))
+	is(t, nil, err)
+	defer registry.Close()
+	is(t, canonical, said(registry.Canonical(tag)))
+}
+
 func TestMany(t *testing.T) {
 	registry := opened(t)
 	defer registry.Close()

@@ -8,12 +8,15 @@ use std::mem::MaybeUninit;
 use std::path::Path;
 use std::ptr::{self, NonNull};
 
-/// Room for any text that a call writes.
-pub(crate) struct Buffer([MaybeUninit<u8>; 1280]);
+/// Room for any text that a call writes: a tag of 1,024 bytes can have 204 variants of 4, each of which becomes one of 8.
+const ROOM: usize = 2048;
+
+/// As many bytes.
+pub(crate) struct Buffer([MaybeUninit<u8>; ROOM]);
 
 impl Buffer {
     pub(crate) fn new() -> Buffer {
-        Buffer([MaybeUninit::uninit(); 1280])
+        Buffer([MaybeUninit::uninit(); ROOM])
     }
 
     pub(crate) fn as_mut_ptr(&mut self) -> *mut c_char {

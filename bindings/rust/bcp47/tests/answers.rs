@@ -31,6 +31,22 @@ fn texts_are_made_canonical() {
 }
 
 #[test]
+fn the_longest_text_has_room() {
+    let mut records = String::from("Type: language\nSubtag: aa\n");
+    let mut tag = String::from("aa");
+    let mut canonical = String::from("aa");
+    for n in 0..204 {
+        records += &format!("%%\nType: variant\nSubtag: 1{n:03}\nPreferred-Value: value{n:03}\n");
+        records += &format!("%%\nType: variant\nSubtag: value{n:03}\n");
+        tag += &format!("-1{n:03}");
+        canonical += &format!("-value{n:03}");
+    }
+    let registry = Registry::from_bytes(records.as_bytes()).unwrap();
+    assert_eq!((tag.len(), canonical.len()), (1022, 1838));
+    assert_eq!(registry.canonical(&tag), Ok(canonical));
+}
+
+#[test]
 fn refusals_say_why() {
     let registry = sample();
     let error = registry.canonical("en_US").unwrap_err();
