@@ -98,8 +98,8 @@ second_entry R (x ∷ xs) vs = entry R kinds.Extlang x
 second_entry R [] (v ∷ vs) = entry R kinds.Variant v
 second_entry R [] [] = None
 
--- A grandfathered record has one of the 26 tags; and this record is not the entry of the second subtag of a regular
--- one of them that is valid, read as a langtag (C8; RFC 5646, 2.2.8).
+-- A grandfathered record has one of the 26 tags. And the record, of whatever kind, is not the entry of the second
+-- subtag of one of these tags that, read as a langtag, would be valid (C8; RFC 5646, 2.2.8).
 pub record HasFittingGrandfathered (R : List EntryParts) (e : EntryParts) : Type 0 where
   pub named : e.kind ≡ kinds.Grandfathered → (number : ℕ) × (e.name ≡ names.Whole (Grandfathered number))
   pub regular : (c : CoreParts) (number : ℕ) → IsCore c → IsGrandfathered (spell_core c) number → IsProperCore R c →

@@ -33,8 +33,8 @@ subtag_at c at_region = c.region
 subtag_at c (at_variant i) = slice_get c.variants i
 subtag_at c (at_variant_language i) = if nat_eq (length c.extlangs) 0 then slice_get c.variants i else None
 
--- its value (RFC 5646, 4.5, rule 3); of several variants whose value takes the place of the language, which is one of
--- their Prefixes, the leftmost has it (this project's own)
+-- its value (RFC 5646, 4.5, rule 3); a variant's value takes the place of the language only where none further left
+-- could (this project's own)
 abbrev pub value_at : List EntryParts → CoreParts → Spot → List ℕ → Option (List ℕ)
 value_at R c at_extlang s = Some (replacement R s)
 value_at R c at_language s = preferred_value R kinds.Language s
