@@ -5,7 +5,7 @@ LIBDIR ?= $(PREFIX)/lib
 PARTS ?= program library
 export DESTDIR PREFIX LIBDIR
 
-.PHONY: all lib lib-aarch64 sqlite test scripts growths statement bench hostile growth install uninstall deb dist fresh-debian clean gate
+.PHONY: all lib lib-aarch64 sqlite test side-by-side scripts growths statement bench hostile growth install uninstall deb dist fresh-debian clean gate
 
 # Proves each crate that changed, and builds the program: `rt run` proves, builds and runs it.
 all:
@@ -36,13 +36,14 @@ sqlite: lib
 # real files and streams, README's commands, what is linked to the library for C, and what is packaged.
 test: statement
 	tests/repository.sh
-	tests/gate.py
-	mkdir -p build
-	cp crates/langtag/out/langtag build/langtag
-	+$(MAKE) --jobs=4 --output-sync=target --no-print-directory scripts
+	tests/gate.py make --no-print-directory side-by-side
 
 # The scripts of `make test`, side by side, over what the gate proved and built. What is packaged is what the bindings' script
 # built, over the checks of tests/trusted.py.
+side-by-side:
+	mkdir -p build
+	cp crates/langtag/out/langtag build/langtag
+	+$(MAKE) --jobs=4 --output-sync=target --no-print-directory scripts
 scripts: packaging.sh edits_test.py csv_readers.py program.sh messages.sh fresh.sh growths
 packaging.sh: bindings.sh
 bindings.sh: trusted.py

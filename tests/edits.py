@@ -37,8 +37,10 @@ import threading
 
 ROOT = os.path.dirname(os.path.dirname(os.path.abspath(__file__)))
 CLAUSE, NAME, NOT_REFUSED, BAD = KINDS = ["clause", "name", "NOT REFUSED", "BAD EDIT"]
+# The words that a check is started by.
+PRIORITY = []
 NEEDED = {
-    "rt": ["edits_of", "read_edit", "unread", "need", "in_lanes"],
+    "rt": ["Crate", "main", "edits_of", "read_edit", "unread", "need", "in_lanes"],
     "rtlib": ["KIT", "RATTLE", "PARTS", "KEPT", "STALE", "Crate", "crates_below", "guarded"],
     "rt-plant-bodies": ["Source"],
 }
@@ -228,7 +230,7 @@ class Round:
                     it.write("\n".join(rows))
             words = [rtlib.RATTLE, "check", *crate.words(["--jobs", str(jobs)], keeps=False), "--incremental", kept]
             with tempfile.TemporaryFile("w+", errors="replace") as out:
-                run = subprocess.Popen([*rtlib.guarded(), *words], cwd=room, stdin=subprocess.DEVNULL, stdout=out,
+                run = subprocess.Popen([*PRIORITY, *rtlib.guarded(), *words], cwd=room, stdin=subprocess.DEVNULL, stdout=out,
                                        stderr=subprocess.STDOUT)
                 _, status, used = os.wait4(run.pid, 0)
                 run.returncode = os.waitstatus_to_exitcode(status)
@@ -371,7 +373,7 @@ class Crate:
         said, used = tried.check(self.crate, jobs, kept)
         if said.was_killed:
             said, used = tried.check(self.crate, 1, kept)
-        self.rounds.append(len(tried.edits))
+        self.rounds.append("%d in %.0f" % (len(tried.edits), used))
         self.seconds += used
         keep_said(self.crate, len(self.rounds), said)
         is_one = len(tried.edits) == 1
@@ -445,9 +447,8 @@ def run(root, names, anew):
 def report(it):
     for edit in it.edits:
         print("%-11s %s: %s" % (it.told[edit][0], edit.name, it.told[edit][1][:300]))
-    print("%s: %d edits, %d of them kept, %d rounds%s, %.0f seconds of a processor" % (
-        it.crate.name, len(it.edits), it.was_kept, len(it.rounds), "".join(" %d" % n for n in it.rounds), it.seconds),
-        flush=True)
+    print("%s: %d edits, %d of them kept, %d rounds (%s), %.0f seconds of a processor" % (
+        it.crate.name, len(it.edits), it.was_kept, len(it.rounds), ", ".join(it.rounds), it.seconds), flush=True)
 
 
 def summary(crates):

@@ -1,28 +1,40 @@
 #!/usr/bin/env python3
 """Runs the kit's gate, `rt ci`, over a copy of this tree without the must-fail edits, and meanwhile tries those.
 
-Usage: tests/gate.py [--anew]
+Usage: tests/gate.py [--anew] [COMMAND..]
 
 `rt ci` proves everything from nothing, and runs each program and test. It proves one crate after another where they stand on
 each other, so that processors are left for the edits: those of a crate are tried by tests/edits.py, with less priority, once
-all crates below it are proved. --anew tries also those that were refused before. The libraries, programs and tests that
-`rt ci` makes come to crates/*/out, where rt and the other scripts look for them; `rt lib` then builds over these libraries,
-by the stamps that are written here, and does not prove them once more. A library that rt has built there stays, if nothing
-has changed since.
+the crate is proved, over what its proof has checked. --anew tries also those that were refused before. `rt ci` is run as the
+kit has it, but for one thing: its libraries keep their checked proofs, where it would leave their statements alone. What it
+makes comes to crates/*/out, where rt and the scripts look for it; the checked proofs too, so that `rt check` and `rt lib`
+there take what is proved. A library that rt has built there stays, if nothing has changed since.
 
-Prints what `rt ci` prints and a line for each edit, and last the line of tests/edits.py. Ends with status 1 unless both pass.
+COMMAND is run beside, as soon as all programs, static libraries and the crates of tests in GROWN are there.
+
+Prints what `rt ci` prints and a line for each edit, what COMMAND printed, and last the line of tests/edits.py. Ends with
+status 1 unless all pass.
 """
 
+import functools
 import importlib.util
+import json
 import os
 import re
 import shutil
 import subprocess
 import sys
+import tempfile
 import threading
 
 ROOT = os.path.dirname(os.path.dirname(os.path.abspath(__file__)))
 COPY = os.path.join(ROOT, "build", "gate")
+# The word by which this script runs `rt ci` in the copy.
+CI = "--ci"
+# What rattle is told to leave a static library's checked proof in, as it does in the rlib of a library.
+CHECKED = "out/checked"
+# The crates of tests whose programs the scripts run.
+GROWN = ["lt_jar_tests", "lt_registry_tests"]
 
 
 def load():
@@ -46,14 +58,56 @@ def copied():
     os.mkdir(os.path.join(COPY, ".git"))
 
 
+def ci():
+    """Runs `rt ci` so that libraries keep their checked proofs."""
+    rt, crate = edits.rt, edits.rt.Crate
+    proves = crate.ci
+
+    def keeps(self, flags, tests):
+        if self.is_static and not tests:
+            return self.prove(["check", *self.words(flags, keeps=False), "-o", CHECKED])
+        self.cuts_libraries = False
+        return proves(self, flags, tests)
+
+    crate.ci = keeps
+    return rt.main(["ci"])
+
+
+@functools.cache
+def kept_folder():
+    """The name of the folder in which this build of rattle keeps what it has checked, by the check of an empty crate."""
+    rtlib = edits.rtlib
+    with tempfile.TemporaryDirectory() as room:
+        os.mkdir(os.path.join(room, "src"))
+        with open(os.path.join(room, "src", "lib.rt"), "w", encoding="utf-8") as it:
+            it.write("#![tactic(auto)]\n")
+        words = [rtlib.RATTLE, "check", "--crate-name", "empty", "src/lib.rt", "--incremental", "kept",
+                 "--antt-project", os.path.join(rtlib.KIT, "rattle/logic/antt-project.json"),
+                 "--logic-built", os.path.join(rtlib.KIT, "logic_built")]
+        subprocess.run(words, cwd=room, check=True, stdout=subprocess.DEVNULL, stderr=subprocess.DEVNULL)
+        return os.listdir(os.path.join(room, "kept"))[0]
+
+
+def unpack(toolchain, folder):
+    """Writes each module of an archive of checked proofs to a folder, where rattle takes those that are up to date."""
+    os.makedirs(folder)
+    with open(os.path.join(toolchain, "checked.a"), "rb") as archive:
+        for name, at, size in map(json.loads, edits.text_of(toolchain, "checked.json").splitlines()):
+            archive.seek(at)
+            # (a name with a slash is a part of another crate's module)
+            if "/" not in name:
+                with open(os.path.join(folder, name + ".oantt"), "wb") as it:
+                    it.write(archive.read(size))
+
+
 class Gate:
-    """A run of `rt ci` over the copy, and which crates it has proved."""
+    """A run of `rt ci` over the copy, and what it has proved."""
 
     def __init__(self, crates):
         self.crates, self.proved, self.status = {it.name: it for it in crates}, set(), None
         self.changed = threading.Condition()
-        self.run = subprocess.Popen(["rt", "ci"], cwd=COPY, stdin=subprocess.DEVNULL, stdout=subprocess.PIPE,
-                                    stderr=subprocess.STDOUT, text=True, errors="replace")
+        self.run = subprocess.Popen([sys.executable, "-u", __file__, CI], cwd=COPY, stdin=subprocess.DEVNULL,
+                                    stdout=subprocess.PIPE, stderr=subprocess.STDOUT, text=True, errors="replace")
         self.reader = threading.Thread(target=self.read)
         self.reader.start()
 
@@ -61,11 +115,11 @@ class Gate:
         try:
             for line in self.run.stdout:
                 print(line, end="", flush=True)
-                found = re.fullmatch(r"rt: (\w+) proved\n", line)
+                found = re.fullmatch(r"rt: (\w+)(: its tests are)? proved\n", line)
                 if found and found[1] in self.crates:
-                    self.keep_library(self.crates[found[1]])
+                    self.keep(self.crates[found[1]], found[1] + ("_tests" if found[2] else ""))
                     with self.changed:
-                        self.proved.add(found[1])
+                        self.proved.add(found[1] + (" tests" if found[2] else ""))
                         self.changed.notify_all()
         except BaseException:
             self.run.kill()
@@ -75,52 +129,72 @@ class Gate:
                 self.status = self.run.wait()
                 self.changed.notify_all()
 
-    def keep_library(self, crate):
-        """Puts a library that is proved to the crate's own folder, with the stamp by which rt knows from what it was built."""
-        made = os.path.join(COPY, os.path.relpath(crate.rlib, ROOT))
-        if not os.path.isdir(made) or crate.is_built():
-            return
-        folder = os.path.dirname(crate.rlib)
-        shutil.rmtree(folder, ignore_errors=True)
-        os.makedirs(folder)
-        shutil.copytree(made, crate.rlib, copy_function=edits.linked)
-        with open(os.path.join(folder, "stamp"), "w", encoding="utf-8") as it:
-            it.write(crate.stamp())
+    def keep(self, crate, made):
+        """Brings what a proof has made to the crate's own folder: the program or the tests of this name, and the library."""
+        out, copied = (os.path.join(top, "crates", crate.name, "out") for top in (ROOT, COPY))
+        if os.path.isfile(os.path.join(copied, made)):
+            os.makedirs(out, exist_ok=True)
+            shutil.copy2(os.path.join(copied, made), os.path.join(out, made + ".new"))
+            os.replace(os.path.join(out, made + ".new"), os.path.join(out, made))
+        if not crate.is_built() and os.path.isdir(os.path.join(copied, "rlib")):
+            shutil.rmtree(os.path.join(out, "rlib"), ignore_errors=True)
+            shutil.copytree(os.path.join(copied, "rlib"), os.path.join(out, "rlib"), copy_function=edits.linked)
+        kept = os.path.join(crate.folder, edits.rtlib.KEPT[1], kept_folder())
+        if os.path.isdir(os.path.join(crate.folder, "must-fail")) and not os.path.isdir(kept):
+            for it in (crate.rlib, os.path.join(COPY, "crates", crate.name, CHECKED)):
+                if os.path.isdir(it):
+                    unpack(os.path.join(it, "toolchain"), kept)
 
-    def waits_for(self, crates):
-        """Waits until the crates are proved, and returns whether they are."""
-        names = {it.name for it in crates}
+    def waits_for(self, names):
+        """Waits until these are proved, and returns whether they are."""
         with self.changed:
             self.changed.wait_for(lambda: names <= self.proved or self.status is not None)
             return names <= self.proved
 
-    def keep_programs(self):
-        for name in self.crates:
-            made, out = (os.path.join(top, "crates", name, "out") for top in (COPY, ROOT))
-            for it in os.listdir(made) if os.path.isdir(made) else []:
-                if os.path.isfile(os.path.join(made, it)):
-                    os.makedirs(out, exist_ok=True)
-                    os.replace(os.path.join(made, it), os.path.join(out, it))
+
+class Command(threading.Thread):
+    """A command that is run beside, once what it needs is there."""
+
+    def __init__(self, words, gate):
+        super().__init__()
+        self.words, self.gate, self.told, self.status = words, gate, "", 1
+        self.start()
+
+    def run(self):
+        needs = {it.name for it in self.gate.crates.values() if it.is_program or it.is_static}
+        if not self.words:
+            self.status = 0
+        elif self.gate.waits_for(needs | {it + " tests" for it in GROWN}):
+            # (make gives its recipes an open list of jobs, which is not meant for this command)
+            free = {name: value for name, value in os.environ.items() if not name.startswith("MAKE")}
+            ran = subprocess.run(self.words, cwd=ROOT, env=free, stdin=subprocess.DEVNULL, stdout=subprocess.PIPE,
+                                 stderr=subprocess.STDOUT, text=True, errors="replace")
+            self.told, self.status = ran.stdout, ran.returncode
 
 
 def main():
-    if sys.argv[1:] not in ([], ["--anew"]):
+    words = sys.argv[1:]
+    if words == [CI]:
+        return ci()
+    anew = words[:1] == ["--anew"]
+    if [it for it in words[anew : anew + 1] if it.startswith("-")]:
         sys.exit(__doc__)
     rt, rtlib = edits.rt, edits.rtlib
     rtlib.guarded()
     crates = rtlib.crates_below(ROOT)
     kept = edits.Kept()
-    tried = [edits.Crate(it, kept, "--anew" in sys.argv) for it in crates]
+    tried = [edits.Crate(it, kept, anew) for it in crates]
+    edits.PRIORITY = ["nice", "-n", "10"]
     copied()
     gate = Gate(crates)
-    os.nice(10)
+    beside = Command(words[anew:], gate)
     printing = threading.Lock()
 
     def one(it, jobs):
-        if it.left() and gate.waits_for(it.crate.below()):
+        if it.left() and gate.waits_for({below.name for below in [*it.crate.below(), it.crate]}):
             it.try_all(jobs)
         for edit in it.left():
-            it.told[edit] = edits.BAD, "it was not tried, since a crate below is not proved"
+            it.told[edit] = edits.BAD, "it was not tried, since its crate or one below is not proved"
         with printing:
             edits.report(it)
 
@@ -129,14 +203,16 @@ def main():
         rt.in_lanes({(it.crate.name, "rounds"): ([], -len(it.crate.below()), rt.need(it.crate),
                                                  lambda _, jobs, it=it: one(it, jobs)) for it in tried if it.edits})
         gate.reader.join()
-        gate.keep_programs()
+        beside.join()
     finally:
         if gate.status is None:
             gate.run.terminate()
         gate.reader.join()
         shutil.rmtree(COPY, ignore_errors=True)
     print("rt ci ended with status %d" % gate.status)
-    return 1 if edits.summary(tried) or gate.status else 0
+    if words[anew:]:
+        print("%s\n%s ended with status %d" % (beside.told.rstrip(), " ".join(beside.words), beside.status))
+    return 1 if edits.summary(tried) or gate.status or beside.status else 0
 
 
 if __name__ == "__main__":
