@@ -1,6 +1,7 @@
 #!/bin/bash
 # Measures the library that `make lib` built, from C, Python, SQLite, PostgreSQL, Rust, Node.js, Java and Go, beside ICU, PyICU, Intl,
-# java.util.Locale and x/text, in one run, over 200,000 tags (bench/make_tags.py). tests/packages.sh installs what it needs.
+# java.util.Locale, oxilangtag and x/text, in one run, over 200,000 tags (bench/make_tags.py). tests/packages.sh installs what it
+# needs, but for golang-golang-x-text-dev and librust-oxilangtag-dev; without the last, oxilangtag is left out.
 # Argument: a registry (examples/iana-2025-05-15.txt, if there is none).
 set -e
 cd "$(dirname "$0")/.."
@@ -19,6 +20,9 @@ bench/bindings/sqlite.sh "$folder" "$registry"
 bench/bindings/postgresql.sh "$folder" "$registry"
 mkdir "$folder/rust" "$folder/go"
 printf '[package]\nname = "speed"\nversion = "1.0.0"\nedition = "2021"\n[dependencies]\nbcp47 = { path = "%s/bindings/rust/bcp47" }\n' "$PWD" > "$folder/rust/Cargo.toml"
+for peer in /usr/share/cargo/registry/oxilangtag-*; do
+    [ ! -d "$peer" ] || printf 'oxilangtag = { path = "%s" }\n[features]\ndefault = ["peer"]\npeer = []\n' "$peer" >> "$folder/rust/Cargo.toml"
+done
 printf '[[bin]]\nname = "speed"\npath = "%s/bench/bindings/rust/main.rs"\n' "$PWD" >> "$folder/rust/Cargo.toml"
 (cd "$folder/rust" && cargo build --release --offline -q)
 "$folder/rust/target/release/speed" "$registry" "$folder/tags"

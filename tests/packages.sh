@@ -3,8 +3,8 @@
 wanted="gcc g++ clang binutils valgrind qemu-user libsqlite3-dev sqlite3 python3 python3-dev python3-pip python3-pandas mypy python3-icu
     libicu-dev pkg-config postgresql
     postgresql-server-dev-15"
-# for Java, Go and Dask
-wanted="$wanted golang-go libmaven-compiler-plugin-java libmaven-jar-plugin-java libmaven-resources-plugin-java libsurefire-java
+# for types of Node.js, and for Java, Go and Dask
+wanted="$wanted node-typescript golang-go libmaven-compiler-plugin-java libmaven-jar-plugin-java libmaven-resources-plugin-java libsurefire-java
     liblucene8-java maven openjdk-17-jdk-headless python3-dask python3-distributed"
 # for packages and releases
 wanted="$wanted binutils-aarch64-linux-gnu build-essential curl debhelper dh-python gcc-aarch64-linux-gnu libc6-dev-arm64-cross lintian

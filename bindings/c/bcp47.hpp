@@ -36,7 +36,8 @@ struct refusal {
         return outcome.detail ? bcp47_fault_help(outcome.detail) : bcp47_status_help(outcome.status);
     }
 
-    /* What the program prints after `! `, as "BadByte 1". */
+    /* The line of the program without `! `, as "BadByte 1" or "jar BadLine line 1"; of an upgrade the condition and the record,
+       as "U1 3". */
     std::string line() const {
         if (outcome.status == BCP47_REPLACEMENT_REPEATS) return std::string(name()) + " " + text;
         if (!text.empty()) return text;

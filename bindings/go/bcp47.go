@@ -233,7 +233,8 @@ func (r *Registry) Explain(tag string, most int) (Explanation, error) {
 }
 
 // Verify gives nil where steps lead from a valid tag, one after another, to another tag, which is then equivalent to
-// it; and else a *TraceError. Steps are judged by kind, place and number.
+// it. The error is a *TagError where the tag is refused, or else the last, and a *TraceError where the steps don't lead
+// there. Steps are judged by kind, place and number, not by the tags between.
 func (r *Registry) Verify(tag string, steps []Step, last string) error {
 	raw, err := r.take()
 	if err != nil {
@@ -245,7 +246,13 @@ func (r *Registry) Verify(tag string, steps []Step, last string) error {
 		numbers[i] = step.numbers()
 	}
 	outcome := C.verify(raw, tag, &numbers[:1][0], C.size_t(len(steps)), last)
-	return refused(outcome, nil, func(cause Cause) error { return &TraceError{cause} })
+	switch {
+	case outcome.status == C.BCP47_NO_SUCH_STEP || outcome.status == C.BCP47_WRONG_END:
+		return refused(outcome, nil, func(cause Cause) error { return &TraceError{cause} })
+	case outcome.text == 2:
+		return refusedTag(outcome, nil, last)
+	}
+	return refusedTag(outcome, nil, tag)
 }
 
 // UpgradeCheck gives nil where a newer registry keeps what this one promised, and else an *UpgradeError.

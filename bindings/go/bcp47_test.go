@@ -147,7 +147,11 @@ func TestExplanations(t *testing.T) {
 	wrong := Step{"region", 2, 27, "sgn-DE"}
 	is(t, true, errors.As(registry.Verify("sgn-dd", []Step{wrong}, "gsg"), &trace))
 	is(t, "NoSuchStep 1", trace.Error())
-	is(t, "BadByte 1", registry.Verify("e_n", nil, "en").Error())
+	var refused *TagError
+	is(t, true, errors.As(registry.Verify("e_n", nil, "e_n"), &refused))
+	is(t, "BadByte 1 e_n", refused.Error()+" "+refused.Tag)
+	is(t, true, errors.As(registry.Verify("en", nil, "en-"), &refused))
+	is(t, "EmptySubtag 2 en-", refused.Error()+" "+refused.Tag)
 }
 
 func TestParts(t *testing.T) {
@@ -172,7 +176,7 @@ func TestUpgrades(t *testing.T) {
 	defer other.Close()
 	var refused *UpgradeError
 	is(t, true, errors.As(registry.UpgradeCheck(other), &refused))
-	is(t, "U1", refused.Fault)
+	is(t, "U1/U1 1", refused.Fault+"/"+refused.Error())
 	content, err := os.ReadFile(sample)
 	is(t, nil, err)
 	info, err := registry.Info()

@@ -25,7 +25,8 @@ type Cause struct {
 	line   string
 }
 
-// Error is the line of the program langtag, without "! ".
+// Error is the line of the program langtag without "! ", as "BadByte 1" or "jar BadLine line 1"; of an upgrade it is the
+// condition and the record, as "U1 3".
 func (c *Cause) Error() string { return c.line }
 
 // A TagError says that a text is no tag, that a tag is not valid, that its replacements can repeat a variant, or that
@@ -42,8 +43,7 @@ type RegistryError struct{ Cause }
 // An UpgradeError says that a newer registry does not keep what an older one promised.
 type UpgradeError struct{ Cause }
 
-// A TraceError says that steps do not lead from a tag to another: NoSuchStep, with the number of a step, or WrongEnd;
-// or that one of the tags is refused.
+// A TraceError says that steps do not lead from a tag to another: NoSuchStep, with the number of a step, or WrongEnd.
 type TraceError struct{ Cause }
 
 // The error of an outcome, whose text is at the front of a buffer; nil where nothing is refused.

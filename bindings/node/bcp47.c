@@ -199,6 +199,30 @@ static napi_value equal(napi_env env, napi_callback_info info) {
     return made;
 }
 
+/* verify(registry, tag, numbers, last): nothing. The numbers are kind, place and number of each step, one after another. */
+static napi_value verify(napi_env env, napi_callback_info info) {
+    napi_value values[4];
+    napi_typedarray_type type;
+    char text[ROOM], end[ROOM];
+    size_t length, end_length, count;
+    void *data;
+    if (!takes(env, info, 4, values)) return NULL;
+    holder *it = held(env, values[0]);
+    if (!it || !text_of(env, values[1], text, &length) || !text_of(env, values[3], end, &end_length)) return NULL;
+    if (napi_get_typedarray_info(env, values[2], &type, &count, &data, NULL, NULL) != napi_ok || type != napi_uint32_array) {
+        napi_throw_type_error(env, NULL, "steps are given in a Uint32Array");
+        return NULL;
+    }
+    const uint32_t *numbers = data;
+    bcp47_step *steps = calloc(count / 3 + 1, sizeof *steps);
+    if (!steps) return refusal(env, (bcp47_outcome){BCP47_OUT_OF_MEMORY, 0, 0, 0, 0, 0}, NULL);
+    for (size_t i = 0; i < count / 3; i++)
+        steps[i] = (bcp47_step){(uint8_t)numbers[3 * i], numbers[3 * i + 1], numbers[3 * i + 2]};
+    bcp47_outcome outcome = bcp47_verify(it->registry, text, length, steps, count / 3, end, end_length);
+    free(steps);
+    return outcome.status == BCP47_DONE ? NULL : refusal(env, outcome, NULL);
+}
+
 /* upgrade(older, newer): nothing */
 static napi_value upgrade(napi_env env, napi_callback_info info) {
     napi_value values[2];
@@ -232,14 +256,15 @@ static napi_value facts(napi_env env, napi_callback_info info) {
 
 /* name(kind of name, number): the name that the number has */
 static napi_value name(napi_env env, napi_callback_info info) {
-    static const char *(*const names[])(int) = {bcp47_status_name, bcp47_fault_name, bcp47_fault_help, bcp47_kind_name};
+    static const char *(*const names[])(int) = {bcp47_status_name, bcp47_fault_name, bcp47_status_help, bcp47_fault_help,
+                                                bcp47_kind_name};
     napi_value values[2], made = NULL;
     uint32_t which = 0;
     int32_t number = 0;
     if (!takes(env, info, 2, values)) return NULL;
     napi_get_value_uint32(env, values[0], &which);
     napi_get_value_int32(env, values[1], &number);
-    napi_create_string_utf8(env, names[which % 4](number), NAPI_AUTO_LENGTH, &made);
+    napi_create_string_utf8(env, names[which % 5](number), NAPI_AUTO_LENGTH, &made);
     return made;
 }
 
@@ -251,6 +276,7 @@ NAPI_MODULE_INIT() {
         {"open", open_registry}, {"close", close_registry}, {"canonical", canonical}, {"extlang", extlang},
         {"classify", classify},  {"explain", explain},      {"validate", validate},   {"equal", equal},
         {"upgrade", upgrade},    {"facts", facts},          {"name", name},           {"parts", parts},
+        {"verify", verify},
     };
     for (size_t i = 0; i < sizeof functions / sizeof *functions; i++) {
         napi_value made = NULL;

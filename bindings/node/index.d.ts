@@ -1,4 +1,7 @@
-/** What is refused: `status` and `fault` are names, `place` a number, `help` says what to do. */
+/**
+ * What is refused: `status` and `fault` are names, `place` a number, `help` says what to do. `message` is one line, as
+ * `BadByte 1`; of an upgrade the condition and the record, as `U1 3`.
+ */
 export class Refused extends Error {
   readonly status: string;
   readonly fault: string;
@@ -17,6 +20,9 @@ export class RefusedRegistry extends Refused {}
 
 /** A newer registry does not keep what an older one promised. The place is the number of a record. */
 export class RefusedUpgrade extends Refused {}
+
+/** Steps do not lead from a tag to another: NoSuchStep, with the number of a step as the place, or WrongEnd, at 0. */
+export class RefusedTrace extends Refused {}
 
 /** A tag in conventional case, by no registry. It does not change. */
 export class Tag {
@@ -65,6 +71,12 @@ export class Registry {
   equivalent(first: string | Tag, second: string | Tag): boolean;
   /** The steps from a tag to its canonical form, at most so many, and that form. */
   explain(tag: string | Tag, most?: number): { steps: Step[]; canonical: string };
+  /**
+   * Returns where steps lead from a valid tag, one after another, to the last: that of the last step, if none is given.
+   * They are judged by kind, place and number, not by the tags between.
+   * @throws RefusedTrace, and RefusedTag for the tag, or else for the last
+   */
+  verify(tag: string | Tag, steps: Iterable<Step>, last?: string | Tag): void;
   /** Returns where a newer registry keeps what this one promised. @throws RefusedUpgrade */
   upgradeCheck(newer: Registry): void;
   readonly info: Info;

@@ -4,9 +4,10 @@
 const { readFileSync } = require('node:fs');
 const native = require('./bcp47.node');
 
-const [STATUS, FAULT, HELP] = [0, 1, 2];
+const [STATUS, FAULT, STATUS_HELP, FAULT_HELP, KIND] = [0, 1, 2, 3, 4];
 const OUT_OF_MEMORY = 4;
 const REPEATS = 3;
+const [NO_SUCH_STEP, WRONG_END] = [11, 12];
 const CLASSES = ['', 'langtag', 'privateuse', 'grandfathered'];
 
 class Refused extends Error {
@@ -18,7 +19,7 @@ class Refused extends Error {
     this.status = name;
     this.fault = faultName;
     this.place = place;
-    this.help = fault ? native.name(HELP, fault) : '';
+    this.help = fault ? native.name(FAULT_HELP, fault) : native.name(STATUS_HELP, status);
     if (tag !== undefined) this.tag = String(tag);
     if (status === REPEATS) this.variant = text;
   }
@@ -31,6 +32,7 @@ class Refused extends Error {
 class RefusedTag extends Refused {}
 class RefusedRegistry extends Refused {}
 class RefusedUpgrade extends Refused {}
+class RefusedTrace extends Refused {}
 
 /** Throws what a call refuses, and gives what it answers. */
 function answered(answer, kind, ...tags) {
@@ -40,6 +42,16 @@ function answered(answer, kind, ...tags) {
 }
 
 const textOf = (tag) => (tag instanceof Tag ? tag.toString() : tag);
+
+// The number of each kind of step.
+const KINDS = new Map();
+for (let number = 1; native.name(KIND, number); number++) KINDS.set(native.name(KIND, number), number);
+
+/** A step in numbers. One that has none, as no kind has its name, gets zeros, which lead nowhere. */
+function numbersOf({ kind, place, number }) {
+  const isCount = (it) => it >>> 0 === it;
+  return KINDS.has(kind) && isCount(place) && isCount(number) ? [KINDS.get(kind), place, number] : [0, 0, 0];
+}
 
 class Tag {
   #text;
@@ -101,7 +113,8 @@ class Registry {
 
   canonicalMany(tags) {
     const held = this.#open;
-    return Array.from(tags, (tag) => {
+    if (typeof tags === 'string') throw new TypeError('many tags are a list, and not one text');
+    return [...tags].map((tag) => {
       if (tag === null || tag === undefined) return null;
       const answer = native.canonical(held, textOf(tag));
       return Array.isArray(answer) ? new RefusedTag(answer, tag) : answer;
@@ -133,6 +146,14 @@ class Registry {
     return { steps, canonical };
   }
 
+  verify(tag, steps, last) {
+    const all = [...steps];
+    const end = last ?? (all.length ? all[all.length - 1].tag : tag);
+    const answer = native.verify(this.#open, textOf(tag), Uint32Array.from(all.flatMap(numbersOf)), textOf(end));
+    if (answer && [NO_SUCH_STEP, WRONG_END].includes(answer[0])) throw new RefusedTrace(answer);
+    answered(answer, RefusedTag, tag, end);
+  }
+
   upgradeCheck(newer) {
     if (!(newer instanceof Registry)) throw new TypeError('a Registry is wanted');
     answered(native.upgrade(this.#open, newer.#open), RefusedUpgrade);
@@ -143,4 +164,4 @@ class Registry {
   }
 }
 
-module.exports = { Refused, RefusedRegistry, RefusedTag, RefusedUpgrade, Registry, Tag, version: native.version };
+module.exports = { Refused, RefusedRegistry, RefusedTag, RefusedTrace, RefusedUpgrade, Registry, Tag, version: native.version };

@@ -503,13 +503,13 @@ static PyObject *module_setup(PyObject *module, PyObject *arguments) {
     Py_RETURN_NONE;
 }
 
-/* names(number): those of a status, a fault and a kind of step, and what the fault means. */
+/* names(number): a status and what it means, a fault and what it means, and a kind of step. */
 static PyObject *module_names(PyObject *module, PyObject *argument) {
     long number = PyLong_AsLong(argument);
     (void)module;
     if (number == -1 && PyErr_Occurred()) return NULL;
-    return Py_BuildValue("ssss", bcp47_status_name((int)number), bcp47_fault_name((int)number), bcp47_kind_name((int)number),
-                         bcp47_fault_help((int)number));
+    return Py_BuildValue("sssss", bcp47_status_name((int)number), bcp47_status_help((int)number), bcp47_fault_name((int)number),
+                         bcp47_fault_help((int)number), bcp47_kind_name((int)number));
 }
 
 static PyMethodDef registry_methods[] = {

@@ -11,13 +11,28 @@ if command -v node > /dev/null && command -v npm > /dev/null && [ -e "${NODE_HEA
     passes "Node.js: build" bindings/node/build.sh
     passes "Node.js: tests" node --test bindings/node/test/bcp47.test.mjs
     writes "Node.js answers as the program" "$shared/wanted" node bindings/node/test/answers.mjs "$registry" "$shared/tags"
+    writes "Node.js explains as the program" "$shared/explained" node bindings/node/test/answers.mjs "$registry" "$shared/explained-tags" explain
+    # under sanitizers, beside a copy: what V8 keeps to its end is no leak of it
+    mkdir -p "$folder/checked/bindings"
+    cp -r bindings/node bindings/c "$folder/checked/bindings"
+    ln -s "$root/build" "$root/examples" "$folder/checked"
+    CFLAGS="-O1 -g -fsanitize=address,undefined -fno-sanitize-recover=all" passes "Node.js: build for sanitizers" "$folder/checked/bindings/node/build.sh"
+    passes "Node.js: tests under sanitizers" env ASAN_OPTIONS=detect_leaks=0 \
+        LD_PRELOAD="$(gcc -print-file-name=libasan.so) $(gcc -print-file-name=libubsan.so)" node --test "$folder/checked/bindings/node/test/bcp47.test.mjs"
     mkdir "$folder/page"
     passes "Node.js: npm pack" env -C bindings/node npm pack --silent --pack-destination "$folder/page"
     passes "Node.js: npm install" env -C "$folder/page" npm install --silent --offline --no-audit --no-fund "$folder"/page/bcp47-*.tgz
     sed -n '/^```js$/,/^```$/{/^```/!p}' docs/NODE.md > "$folder/page/page.mjs"
     cp "$sample" "$folder/page/registry.txt"
-    printf '%s\n' yue true "[ 'he', null ]" 'BadByte 1 BadByte 1' '2 zh-Hant-TW' > "$folder/page/wanted"
+    printf '%s\n' yue true "[ 'he', null ]" 'BadByte 1 BadByte 1' '2 gsg zh-Hant-TW' > "$folder/page/wanted"
     writes "Node.js: docs/NODE.md's program" "$folder/page/wanted" env -C "$folder/page" node page.mjs
+    passes "Node.js: by require" env -C "$folder/page" node -e 'process.exit(`${new (require("bcp47").Tag)("EN")}` === "en" ? 0 : 1)'
+    if command -v tsc > /dev/null; then
+        cp bindings/node/test/types.ts "$folder/page"
+        passes "Node.js: types" env -C "$folder/page" tsc --noEmit --strict --module node16 --moduleResolution node16 --target es2020 --lib es2020,dom types.ts
+    else
+        echo "no compiler of TypeScript here: the types for Node.js are not tested"
+    fi
 else
     echo "no Node.js with headers here: its package is not tested"
 fi

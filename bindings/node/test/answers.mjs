@@ -1,8 +1,19 @@
-// Answers each line of a file as `langtag canon` does. Arguments: registry, lines.
+// Answers each line of a file as `langtag canon` does. Arguments: registry, lines; and `explain`, to answer as that does.
 import { readFileSync } from 'node:fs';
 import { Registry } from '../index.mjs';
 
-const [path, lines] = process.argv.slice(2);
+const [path, lines, explains] = process.argv.slice(2);
 const tags = readFileSync(lines, 'utf8').split('\n').slice(0, -1);
-const answers = Registry.fromFile(path).canonicalMany(tags);
+const registry = Registry.fromFile(path);
+
+function explained(tag) {
+  try {
+    const { steps, canonical } = registry.explain(tag);
+    return [...steps.map(({ kind, place, number, tag: after }) => `${kind} ${place} ${number} ${after}`), `= ${canonical}`].join('\n');
+  } catch (refused) {
+    return refused;
+  }
+}
+
+const answers = explains ? tags.map(explained) : registry.canonicalMany(tags);
 process.stdout.write(answers.map((answer) => (typeof answer === 'string' ? answer : `! ${answer.message}`) + '\n').join(''));

@@ -5,7 +5,7 @@ import { readFileSync } from 'node:fs';
 import { createRequire } from 'node:module';
 import { test } from 'node:test';
 import { Worker } from 'node:worker_threads';
-import { Refused, RefusedRegistry, RefusedTag, RefusedUpgrade, Registry, Tag, version } from '../index.mjs';
+import { Refused, RefusedRegistry, RefusedTag, RefusedTrace, RefusedUpgrade, Registry, Tag, version } from '../index.mjs';
 
 const sample = new URL('../../../examples/sample-registry.txt', import.meta.url);
 const registry = Registry.fromFile(sample);
@@ -18,6 +18,8 @@ test('texts are made canonical', () => {
   assert.equal(registry.equivalent('zh', 'yue'), false);
   const answers = registry.canonicalMany(['iw', null, 'en_US', undefined, new Tag('YUE')]);
   assert.deepEqual(answers.map((it) => it && (it.message ?? it)), ['he', null, 'BadByte 1', null, 'yue']);
+  assert.deepEqual(registry.canonicalMany([]), []);
+  for (const wrong of ['iw', new Tag('iw'), null, {}, 7, [7]]) assert.throws(() => registry.canonicalMany(wrong), TypeError);
 });
 
 test('refusals say why', () => {
@@ -47,6 +49,48 @@ test('explanations', () => {
   assert.throws(() => registry.explain('sgn-dd', 1), { message: 'TooManySteps' });
 });
 
+test('explanations are verified', () => {
+  const { steps, canonical } = registry.explain('sgn-dd');
+  const [first, second] = steps;
+  registry.verify('sgn-dd', steps, canonical);
+  registry.verify(new Tag('sgn-dd'), steps, new Tag('GSG'));
+  registry.verify('sgn-dd', new Set([first]));
+  registry.verify('en', []);
+  const judged = (tag, all, last) => {
+    try {
+      registry.verify(tag, all, last);
+    } catch (refused) {
+      return `${refused.name} ${refused.message}/${refused.status} ${refused.fault} ${refused.place} ${refused.tag}`;
+    }
+    return 'ok';
+  };
+  for (const wrong of [{ number: 43 }, { place: 2 }, { place: -1 }, { place: 2 ** 32 + 1 }, { place: '1' }, { number: 44.5 }, { number: NaN },
+    { kind: 'Region' }, { kind: 'whole' }, { kind: '' }, { kind: undefined }])
+    assert.equal(judged('sgn-dd', [first, { ...second, ...wrong }]), 'RefusedTrace NoSuchStep 2/NoSuchStep NoSuchStep 2 undefined');
+  assert.equal(judged('sgn-dd', [second]), 'RefusedTrace NoSuchStep 1/NoSuchStep NoSuchStep 1 undefined');
+  assert.equal(judged('sgn-dd', [first, second, second]), 'RefusedTrace NoSuchStep 3/NoSuchStep NoSuchStep 3 undefined');
+  assert.equal(judged('sgn-dd', [first], 'gsg'), 'RefusedTrace WrongEnd/WrongEnd WrongEnd 0 undefined');
+  assert.equal(judged('en', [], 'de'), 'RefusedTrace WrongEnd/WrongEnd WrongEnd 0 undefined');
+  assert.equal(judged('xx', steps), 'RefusedTag UnknownLanguage 1/Invalid UnknownLanguage 1 xx');
+  assert.equal(judged('e_n', [], 'e_n'), 'RefusedTag BadByte 1/NotATag BadByte 1 e_n');
+  assert.equal(judged('sgn-dd', steps, 'gsg-'), 'RefusedTag EmptySubtag 2/NotATag EmptySubtag 2 gsg-');
+  assert.equal(judged('en', Array(100000).fill(first)), 'RefusedTrace NoSuchStep 1/NoSuchStep NoSuchStep 1 undefined');
+  assert.throws(() => registry.verify('en', [], 'de'), (error) =>
+    error instanceof RefusedTrace && error instanceof Refused && error.help.length > 10);
+  for (const wrong of [null, undefined, 7, registry.explain('sgn-dd'), [null], [{ kind: 'Region', place: 2, number: 27 }]])
+    assert.throws(() => registry.verify('sgn-dd', wrong), TypeError);
+  assert.throws(() => registry.verify(7, steps), TypeError);
+  assert.throws(() => registry.verify('en', [], 7), TypeError);
+});
+
+test('a long explanation', () => {
+  const tag = `en-u-${Array.from({ length: 60 }, (_, i) => `z${String(60 - i).padStart(2, '0')}`).join('-')}`;
+  const { steps, canonical } = registry.explain(tag);
+  assert.equal(steps.length, (60 * 59) / 2);
+  assert.equal(canonical, registry.canonical(tag));
+  registry.verify(tag, steps, canonical);
+});
+
 test('tags', () => {
   const tag = new Tag('ZH-yue-hANT-hk');
   assert.deepEqual([`${tag}`, tag.kind, JSON.stringify({ tag })], ['zh-yue-Hant-HK', 'langtag', '{"tag":"zh-yue-Hant-HK"}']);
@@ -60,7 +104,7 @@ test('tags', () => {
 test('upgrades, and which registry it is', () => {
   const other = new Registry(Buffer.from('File-Date: 2000-01-01\n'));
   registry.upgradeCheck(registry);
-  assert.throws(() => registry.upgradeCheck(other), (error) => error instanceof RefusedUpgrade && error.fault === 'U1');
+  assert.throws(() => registry.upgradeCheck(other), (error) => error instanceof RefusedUpgrade && error.fault === 'U1' && error.message === 'U1 1');
   assert.throws(() => registry.upgradeCheck('registry'), TypeError);
   const content = readFileSync(sample);
   assert.deepEqual(registry.info, {
@@ -74,7 +118,7 @@ test('a registry that is closed', () => {
   const own = Registry.fromFile(sample);
   own.close();
   own.close();
-  for (const ask of [() => own.canonical('en'), () => own.explain('en'), () => own.info, () => registry.upgradeCheck(own)])
+  for (const ask of [() => own.canonical('en'), () => own.explain('en'), () => own.verify('en', []), () => own.info, () => registry.upgradeCheck(own)])
     assert.throws(ask, { name: 'TypeError', message: 'the registry is closed' });
 });
 

@@ -49,7 +49,7 @@ class Refused(ValueError):
     @property
     def help(self) -> str:
         """What to do."""
-        return "".join(self.args[4:])
+        return str(self.args[4])
 
     def __str__(self) -> str:
         return str(self.args[0])
@@ -108,20 +108,20 @@ class Info(NamedTuple):
     sha256: str
 
 
-# The names of statuses; those of faults, with what to do.
-_STATUSES = tuple(_bcp47.names(number)[0] for number in range(17))
-_FAULTS = tuple(_bcp47.names(number)[1::2] for number in range(53))
+# The names of statuses and of faults, with what to do.
+_STATUSES = tuple(_bcp47.names(number)[0:2] for number in range(17))
+_FAULTS = tuple(_bcp47.names(number)[2:4] for number in range(53))
 
 
 def _refusal(name: str, status: int, fault: int, place: int, text: Optional[str], tag: object) -> Refused:
     """The exception for what the library answered."""
-    status_name = _STATUSES[status]
+    status_name, status_help = _STATUSES[status]
     if fault:
         fault_name, help = _FAULTS[fault]
         refused = _KINDS_OF_REFUSAL[name](text or f"{fault_name} {place}", status_name, fault_name, place, help)
     else:
         line = f"{status_name} {text if status == _REPEATS else place or ''}".rstrip()
-        refused = _KINDS_OF_REFUSAL[name](line, status_name, status_name, place)
+        refused = _KINDS_OF_REFUSAL[name](line, status_name, status_name, place, status_help)
     if isinstance(refused, RefusedTag):
         refused.tag = str(tag)
         if status == _REPEATS:
@@ -130,7 +130,7 @@ def _refusal(name: str, status: int, fault: int, place: int, text: Optional[str]
 
 
 # The number of each kind of step.
-_KINDS = {_bcp47.names(number)[2]: number for number in range(1, 15)}
+_KINDS = {_bcp47.names(number)[4]: number for number in range(1, 15)}
 
 
 def _numbers(step: Step) -> Tuple[int, int, int]:

@@ -62,8 +62,13 @@ class Calls(unittest.TestCase):
         self.assertEqual(self.judged("sgn-dd", (first,), "gsg"), ("WrongEnd", "WrongEnd", 0))
         self.assertEqual(self.judged("sgn-dd", (first, second._replace(tag="sgn"))), ("WrongEnd", "WrongEnd", 0))
         self.assertEqual(self.judged("en", [], "de"), ("WrongEnd", "WrongEnd", 0))
-        self.assertRaises(bcp47.RefusedTag, self.registry.verify, "xx", steps)
-        self.assertRaises(bcp47.RefusedTag, self.registry.verify, "sgn-dd", steps, "gsg-")
+        for tag, last in (("xx", "gsg"), ("sgn-dd", "gsg-")):
+            with self.assertRaises(bcp47.RefusedTag) as raised:
+                self.registry.verify(tag, steps, last)
+            self.assertEqual(raised.exception.tag, tag if tag == "xx" else last)
+        with self.assertRaises(bcp47.RefusedTrace) as ended:
+            self.registry.verify("sgn-dd", [first], "gsg")
+        self.assertIn("mend the last tag", ended.exception.help)
         self.assertRaises(TypeError, self.registry.verify, "sgn-dd", self.registry.explain("sgn-dd"))
         self.assertRaises(TypeError, self.registry.verify, "sgn-dd", None)
         self.assertRaises(TypeError, self.registry.verify, b"sgn-dd", steps)
@@ -141,7 +146,7 @@ class Calls(unittest.TestCase):
         self.assertIsNone(self.registry.upgrade_check(bcp47.Registry.from_file(SAMPLE)))
         with self.assertRaises(bcp47.RefusedUpgrade) as raised:
             self.registry.upgrade_check(bcp47.Registry.from_bytes(b"File-Date: 2000-01-01\n"))
-        self.assertEqual(raised.exception.fault, "U1")
+        self.assertEqual((str(raised.exception), raised.exception.fault, raised.exception.status), ("U1 1", "U1", "NoUpgrade"))
 
     def test_threads(self):
         wrong = []

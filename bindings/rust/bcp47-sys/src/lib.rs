@@ -138,6 +138,16 @@ extern "C" {
         last: *const c_char,
         last_length: usize,
     ) -> bcp47_outcome;
+    pub fn bcp47_canonical_many(
+        registry: *const bcp47_registry,
+        texts: *const c_char,
+        ends: *const usize,
+        begin: usize,
+        count: usize,
+        outcomes: *mut bcp47_outcome,
+        buffer: *mut c_char,
+        room: usize,
+    ) -> usize;
     pub fn bcp47_upgrade_check(
         older: *const bcp47_registry,
         newer: *const bcp47_registry,

@@ -1,14 +1,30 @@
-//! Answers each line of the input as `langtag canon` does. Argument: a registry.
+//! Answers each line of the input as `langtag canon` does. Arguments: a registry; and `many`, to ask for all lines at once, or
+//! `explain`, to answer as that does.
+use std::fmt::Display;
 use std::io::{self, BufRead, Write};
 
+fn tell(output: &mut impl Write, answer: Result<impl Display, bcp47::TagError>) -> io::Result<()> {
+    match answer {
+        Ok(text) => writeln!(output, "{text}"),
+        Err(error) => writeln!(output, "! {error}"),
+    }
+}
+
 fn main() -> Result<(), Box<dyn std::error::Error>> {
-    let registry = bcp47::Registry::open(std::env::args().nth(1).ok_or("name a registry")?)?;
+    let mut words = std::env::args().skip(1);
+    let registry = bcp47::Registry::open(words.next().ok_or("name a registry")?)?;
+    let mut lines = io::stdin().lock().split(b'\n');
     let mut output = io::BufWriter::new(io::stdout().lock());
-    for line in io::stdin().lock().split(b'\n') {
-        match registry.canonical(line?) {
-            Ok(text) => writeln!(output, "{text}")?,
-            Err(error) => writeln!(output, "! {error}")?,
+    match words.next().as_deref() {
+        Some("many") => {
+            for answer in registry.canonical_many(lines.collect::<Result<Vec<_>, _>>()?) {
+                tell(&mut output, answer)?;
+            }
         }
+        Some("explain") => {
+            lines.try_for_each(|line| tell(&mut output, registry.explain(line?, usize::MAX)))?;
+        }
+        _ => lines.try_for_each(|line| tell(&mut output, registry.canonical(line?)))?,
     }
     output.flush()?;
     Ok(())

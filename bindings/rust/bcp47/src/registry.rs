@@ -36,18 +36,25 @@ impl Buffer {
     }
 }
 
-/// Why a tag is refused.
-pub(crate) fn refusal(outcome: &sys::bcp47_outcome, buffer: &Buffer) -> TagError {
+/// Why a tag is refused; the variant is asked for where that is why.
+fn refusal_by(outcome: &sys::bcp47_outcome, variant: impl FnOnce() -> String) -> TagError {
     match outcome.status {
         sys::BCP47_NOT_A_TAG => TagError::NotATag(Cause::of(outcome)),
         sys::BCP47_INVALID => TagError::Invalid(Cause::of(outcome)),
-        sys::BCP47_REPLACEMENT_REPEATS => {
-            TagError::ReplacementRepeats(buffer.text(outcome.length).to_owned())
-        }
+        sys::BCP47_REPLACEMENT_REPEATS => TagError::ReplacementRepeats(variant()),
         16 => TagError::TooManySteps,
         _ => TagError::Unavailable,
     }
 }
+
+/// Why a tag is refused, by a call that wrote to a buffer.
+pub(crate) fn refusal(outcome: &sys::bcp47_outcome, buffer: &Buffer) -> TagError {
+    refusal_by(outcome, || buffer.text(outcome.length).to_owned())
+}
+
+/// So many tags, and about so many bytes of them, go to the library by one call, which has room for each answer to many.
+const MANY_TAGS: usize = 1024;
+const MANY_BYTES: usize = 1 << 16;
 
 /// Which registry answers.
 #[derive(Clone, Debug, PartialEq, Eq, Hash)]
@@ -144,6 +151,78 @@ impl Registry {
         text: &mut String,
     ) -> Result<(), TagError> {
         self.append(sys::bcp47_canonical, tag.as_ref(), text)
+    }
+
+    /// The canonical text of each tag, or why there is none, in their order: as `canonical` has it, by a call of the library
+    /// for a thousand tags.
+    ///
+    /// ```
+    /// # let content = std::fs::read(concat!(env!("CARGO_MANIFEST_DIR"), "/../../../examples/sample-registry.txt")).unwrap();
+    /// # let registry = bcp47::Registry::from_bytes(&content)?;
+    /// let answers = registry.canonical_many(["iw", "en_US", "ZH-YUE"]);
+    /// assert_eq!(answers[0].as_deref(), Ok("he"));
+    /// assert_eq!(answers[1].as_ref().unwrap_err().to_string(), "BadByte 1");
+    /// assert_eq!(answers[2].as_deref(), Ok("yue"));
+    /// # Ok::<(), bcp47::RegistryError>(())
+    /// ```
+    pub fn canonical_many<I>(&self, tags: I) -> Vec<Result<String, TagError>>
+    where
+        I: IntoIterator,
+        I::Item: AsRef<[u8]>,
+    {
+        let (mut answers, mut buffer) = (Vec::new(), vec![0; MANY_BYTES]);
+        let (mut texts, mut ends) = (Vec::new(), Vec::new());
+        for tag in tags {
+            texts.extend_from_slice(tag.as_ref());
+            ends.push(texts.len());
+            if ends.len() == MANY_TAGS || texts.len() >= MANY_BYTES {
+                self.answer(&texts, &ends, &mut buffer, &mut answers);
+                texts.clear();
+                ends.clear();
+            }
+        }
+        self.answer(&texts, &ends, &mut buffer, &mut answers);
+        answers
+    }
+
+    /// Answers texts of which each ends where `ends` has it, by as many calls as the buffer needs.
+    fn answer(
+        &self,
+        texts: &[u8],
+        ends: &[usize],
+        buffer: &mut [u8],
+        answers: &mut Vec<Result<String, TagError>>,
+    ) {
+        let mut outcomes = vec![sys::bcp47_outcome::default(); ends.len()];
+        let (mut asked, mut begin) = (0, 0);
+        while asked < ends.len() {
+            // SAFETY: the registry is open; the pointers and lengths are those of texts, of their ends, which do not fall, of as
+            // many outcomes, and of a buffer.
+            let done = unsafe {
+                sys::bcp47_canonical_many(
+                    self.raw.as_ptr(),
+                    texts.as_ptr().cast(),
+                    ends[asked..].as_ptr(),
+                    begin,
+                    ends.len() - asked,
+                    outcomes.as_mut_ptr(),
+                    buffer.as_mut_ptr().cast(),
+                    buffer.len(),
+                )
+            };
+            let mut start = 0;
+            for outcome in &outcomes[..done] {
+                let written = &buffer[start..start + outcome.length];
+                let text = || String::from_utf8_lossy(written).into_owned();
+                answers.push(match outcome.status {
+                    sys::BCP47_DONE => Ok(text()),
+                    _ => Err(refusal_by(outcome, text)),
+                });
+                start += outcome.length;
+            }
+            asked += done;
+            begin = ends[asked - 1];
+        }
     }
 
     /// The canonical text with its extlang prefix (RFC 5646, 4.5): `zh-yue` for `yue`.

@@ -43,7 +43,40 @@ fn the_longest_text_has_room() {
     }
     let registry = Registry::from_bytes(records.as_bytes()).unwrap();
     assert_eq!((tag.len(), canonical.len()), (1022, 1838));
-    assert_eq!(registry.canonical(&tag), Ok(canonical));
+    assert_eq!(registry.canonical(&tag).as_deref(), Ok(&canonical[..]));
+    let many = registry.canonical_many(vec![&tag; 40]);
+    assert_eq!(many, vec![Ok(canonical); 40]);
+}
+
+#[test]
+fn many_are_answered_as_each() {
+    let registry = sample();
+    assert!(registry.canonical_many([""; 0]).is_empty());
+    let (short, long) = ("en\0", format!("en-x-{}end", "abcdefgh-".repeat(112)));
+    let (longest, repeats) = ("a".repeat(100_000), "ja-Latn-hepburn-alalc97-heploc");
+    let mut tags = vec![
+        "iw", "en_US", "", short, "\u{e9}", &longest, repeats, "ZH-YUE",
+    ];
+    tags.resize(2_000, &long);
+    tags.resize(5_000, "zh-yue");
+    for few in [&tags[..], &tags[..8], &tags[5..6]] {
+        let answers = registry.canonical_many(few);
+        assert_eq!(answers.len(), few.len());
+        for (tag, answer) in few.iter().zip(answers) {
+            assert_eq!(answer, registry.canonical(tag));
+        }
+    }
+    let said = registry.canonical_many(&tags[..8]).into_iter();
+    let said: Vec<_> = said
+        .map(|it| it.unwrap_or_else(|error| error.to_string()))
+        .collect();
+    assert_eq!(
+        said.join("/"),
+        "he/BadByte 1/EmptySubtag 1/BadByte 1/BadByte 1/TooLong 0/ReplacementRepeats alalc97/yue"
+    );
+    let bytes = registry.canonical_many([b"\xff".to_vec(), b"iw".to_vec()]);
+    assert_eq!(bytes[1].as_deref(), Ok("he"));
+    assert!(matches!(bytes[0], Err(TagError::NotATag(_))));
 }
 
 #[test]
@@ -168,15 +201,9 @@ fn upgrades_are_judged() {
         Registry::from_bytes(b"File-Date: 2000-01-01\n").unwrap(),
     );
     assert_eq!(registry.upgrade_check(&registry), Ok(()));
-    assert_eq!(
-        registry
-            .upgrade_check(&other)
-            .unwrap_err()
-            .cause()
-            .unwrap()
-            .fault(),
-        "U1"
-    );
+    let refused = registry.upgrade_check(&other).unwrap_err();
+    assert_eq!(refused.cause().unwrap().fault(), "U1");
+    assert_eq!(refused.to_string(), "U1 1");
     assert_eq!(
         (other.info().file_date.as_str(), other.info().entries),
         ("2000-01-01", 0)

@@ -3,7 +3,7 @@ package bcp47;
 
 /** How a call of the library ended: status, number of a fault, its place, a text or null, and which of two tags it is of. */
 record Outcome(int status, int fault, long place, String text, int which) {
-    static final int DONE = 0, REPLACEMENT_REPEATS = 3, OUT_OF_MEMORY = 4, DIFFERENT = 6;
+    static final int DONE = 0, REPLACEMENT_REPEATS = 3, OUT_OF_MEMORY = 4, DIFFERENT = 6, NO_SUCH_STEP = 11, WRONG_END = 12;
 
     /** The name of the fault, or of the status where there is none. */
     String faultName() {
@@ -14,7 +14,7 @@ record Outcome(int status, int fault, long place, String text, int which) {
         return fault == 0 ? Native.name(Native.STATUS_HELP, status) : Native.name(Native.FAULT_HELP, fault);
     }
 
-    /** What the program prints after <code>! </code>. */
+    /** The message of {@link Refused}. */
     String line() {
         if (status == REPLACEMENT_REPEATS) {
             return faultName() + " " + text;

@@ -1,7 +1,11 @@
 // SPDX-License-Identifier: MIT OR Apache-2.0
 package bcp47;
 
-/** Why something is refused. The message is the line of the program <code>langtag</code>, without <code>! </code>. */
+/**
+ * Why something is refused. The message is the line of the program <code>langtag</code> without <code>! </code>, as
+ * <code>BadByte 1</code> or <code>jar BadLine line 1</code>; of an upgrade it is the condition and the record, as
+ * <code>U1 3</code>.
+ */
 public abstract class Refused extends IllegalArgumentException {
     private static final long serialVersionUID = 1;
 

@@ -239,7 +239,8 @@ public final class Registry implements AutoCloseable {
      * @param tag the valid tag
      * @param steps the steps
      * @param last the tag to which they should lead
-     * @throws RefusedTrace where they do not, or where one of the tags is refused
+     * @throws RefusedTag where the tag is refused, or else the last
+     * @throws RefusedTrace where the steps do not lead there
      */
     public void verify(CharSequence tag, List<Step> steps, CharSequence last) {
         byte[] bytes = Native.bytes(tag);
@@ -254,9 +255,13 @@ public final class Registry implements AutoCloseable {
         long registry = held.take();
         try {
             Outcome refusal = Native.verify(registry, bytes, numbers, end);
-            if (refusal != null) {
-                throw new RefusedTrace(refusal.checked());
+            if (refusal == null) {
+                return;
             }
+            if (refusal.status() == Outcome.NO_SUCH_STEP || refusal.status() == Outcome.WRONG_END) {
+                throw new RefusedTrace(refusal);
+            }
+            throw new RefusedTag(refusal.checked(), refusal.which() == 2 ? last : tag);
         } finally {
             held.give();
         }

@@ -105,7 +105,10 @@ final class Calls {
         Step wrong = new Step("region", 2, 27, "sgn-DE");
         RefusedTrace trace = thrown(RefusedTrace.class, nothing(() -> registry.verify("sgn-dd", List.of(wrong), "gsg")));
         is("NoSuchStep 1", trace.fault() + " " + trace.place());
-        is("BadByte", thrown(RefusedTrace.class, nothing(() -> registry.verify("e_n", List.of(), "en"))).fault());
+        RefusedTag refused = thrown(RefusedTag.class, nothing(() -> registry.verify("e_n", List.of(), "e_n")));
+        is("BadByte 1 e_n", refused.getMessage() + " " + refused.tag());
+        refused = thrown(RefusedTag.class, nothing(() -> registry.verify("en", List.of(), "en-")));
+        is("EmptySubtag 2 en-", refused.getMessage() + " " + refused.tag());
     }
 
     private static void tags() {
@@ -129,7 +132,7 @@ final class Calls {
         registry.upgradeCheck(registry);
         try (Registry other = Registry.of("File-Date: 2000-01-01\n".getBytes(StandardCharsets.UTF_8))) {
             RefusedUpgrade refused = thrown(RefusedUpgrade.class, nothing(() -> registry.upgradeCheck(other)));
-            is("U1", refused.fault());
+            is("U1/U1 1", refused.fault() + "/" + refused.getMessage());
             is("NoUpgrade", refused.status());
             is(0L, other.info().entries());
         }
