@@ -176,7 +176,7 @@ func TestUpgrades(t *testing.T) {
 	defer other.Close()
 	var refused *UpgradeError
 	is(t, true, errors.As(registry.UpgradeCheck(other), &refused))
-	is(t, "U1/U1 1", refused.Fault+"/"+refused.Error())
+	is(t, "U1/U1 2", refused.Fault+"/"+refused.Error())
 	content, err := os.ReadFile(sample)
 	is(t, nil, err)
 	info, err := registry.Info()

@@ -46,7 +46,7 @@ static void refusals(const bcp47::registry &registry) {
     CHECK(registry.verify("sgn-DD", {{BCP47_REGION, 3, 27}}, "gsg").error().line() == "NoSuchStep 1");
     CHECK(bcp47::registry::from_bytes("no registry\n").error().line() == "jar BadLine line 1");
     auto other = bcp47::registry::from_bytes("File-Date: 2000-01-01\n");
-    CHECK(registry.upgrade_check(*other).error().line() == "U1 1" && registry.upgrade_check(*other).error().name() == "U1");
+    CHECK(registry.upgrade_check(*other).error().line() == "U1 2" && registry.upgrade_check(*other).error().name() == "U1");
     CHECK(bcp47::classify("e").error().line() == "BadLanguage 1");
     CHECK(registry.canonical(std::string(2000, 'a')).error().line() == "TooLong 0");
 }

@@ -104,7 +104,7 @@ test('tags', () => {
 test('upgrades, and which registry it is', () => {
   const other = new Registry(Buffer.from('File-Date: 2000-01-01\n'));
   registry.upgradeCheck(registry);
-  assert.throws(() => registry.upgradeCheck(other), (error) => error instanceof RefusedUpgrade && error.fault === 'U1' && error.message === 'U1 1');
+  assert.throws(() => registry.upgradeCheck(other), (error) => error instanceof RefusedUpgrade && error.fault === 'U1' && error.message === 'U1 2');
   assert.throws(() => registry.upgradeCheck('registry'), TypeError);
   const content = readFileSync(sample);
   assert.deepEqual(registry.info, {

@@ -6,6 +6,13 @@ fn main() {
     println!("cargo:rerun-if-env-changed=BCP47_LIB_DIR");
     let here = PathBuf::from(env::var_os("CARGO_MANIFEST_DIR").expect("cargo sets it"));
     let built = here.join("../../../build");
+    if here.join("../../c").is_dir() {
+        // in the repository: a library that is built there after this ran is looked for again
+        println!(
+            "cargo:rerun-if-changed={}",
+            built.join("libbcp47.a").display()
+        );
+    }
     let named = env::var_os("BCP47_LIB_DIR").map(PathBuf::from);
     let folder = named.or_else(|| has_library(&built).then_some(built));
     if let Some(folder) = &folder {

@@ -203,7 +203,7 @@ fn upgrades_are_judged() {
     assert_eq!(registry.upgrade_check(&registry), Ok(()));
     let refused = registry.upgrade_check(&other).unwrap_err();
     assert_eq!(refused.cause().unwrap().fault(), "U1");
-    assert_eq!(refused.to_string(), "U1 1");
+    assert_eq!(refused.to_string(), "U1 2");
     assert_eq!(
         (other.info().file_date.as_str(), other.info().entries),
         ("2000-01-01", 0)

@@ -132,7 +132,7 @@ final class Calls {
         registry.upgradeCheck(registry);
         try (Registry other = Registry.of("File-Date: 2000-01-01\n".getBytes(StandardCharsets.UTF_8))) {
             RefusedUpgrade refused = thrown(RefusedUpgrade.class, nothing(() -> registry.upgradeCheck(other)));
-            is("U1/U1 1", refused.fault() + "/" + refused.getMessage());
+            is("U1/U1 2", refused.fault() + "/" + refused.getMessage());
             is("NoUpgrade", refused.status());
             is(0L, other.info().entries());
         }
