@@ -4,33 +4,33 @@ use Rattle.std.specs.List.{list_all, AllByRecursion}
 use Rattle.std.proofs.lemmas.Bool.Decides.{nat_tests}
 use Rattle.std.proofs.lemmas.List.{append_assoc}
 use Rattle.lt_tag.proofs.ListLemmas.{head_is, tail_is, list_all-append}
-use Rattle.lt_range.specs.Matching.{is_long, AreInTurn, IsPassedTo, FollowsFirst}
+use Rattle.lt_range.specs.Matching.{is_no_singleton, AreInTurn, IsPassedTo, FollowsFirst}
 
 -- the first of subtags that are all long
-long_head : (x : List ℕ) (xs : List (List ℕ)) → list_all is_long (x ∷ xs) ≡ true → is_long x ≡ true
+long_head : (x : List ℕ) (xs : List (List ℕ)) → list_all is_no_singleton (x ∷ xs) ≡ true → is_no_singleton x ≡ true
 long_head x xs h = grind (arith, nat_tests)
 
-long_tail : (x : List ℕ) (xs : List (List ℕ)) → list_all is_long (x ∷ xs) ≡ true → list_all is_long xs ≡ true
+long_tail : (x : List ℕ) (xs : List (List ℕ)) → list_all is_no_singleton (x ∷ xs) ≡ true → list_all is_no_singleton xs ≡ true
 long_tail x xs h = grind (arith, nat_tests)
 
 -- a subtag that is not the first is in what follows that
 pub passed_next : (s first : List ℕ) (others : List (List ℕ)) → (first ≡ s → ⊥) → IsPassedTo (first ∷ others) s → IsPassedTo others s
 passed_next s first others other h = go h.passed h.there h.long
   where
-    go : (passed : List (List ℕ)) → first ∷ others ≡ passed ++ s ∷ h.rest → list_all is_long passed ≡ true → IsPassedTo others s
+    go : (passed : List (List ℕ)) → first ∷ others ≡ passed ++ s ∷ h.rest → list_all is_no_singleton passed ≡ true → IsPassedTo others s
     go [] there long = absurd (other (head_is first s others h.rest there))
     go (p ∷ ps) there long = record { passed = ps; rest = h.rest; there = tail_is first p others (ps ++ s ∷ h.rest) there; long = long_tail p ps long }
 
 -- a singleton that is another subtag is not passed over
-pub passed_stops : (s first : List ℕ) (others : List (List ℕ)) → (first ≡ s → ⊥) → is_long first ≡ false → IsPassedTo (first ∷ others) s → ⊥
+pub passed_stops : (s first : List ℕ) (others : List (List ℕ)) → (first ≡ s → ⊥) → is_no_singleton first ≡ false → IsPassedTo (first ∷ others) s → ⊥
 passed_stops s first others other short h = go h.passed h.there h.long
   where
-    go : (passed : List (List ℕ)) → first ∷ others ≡ passed ++ s ∷ h.rest → list_all is_long passed ≡ true → ⊥
+    go : (passed : List (List ℕ)) → first ∷ others ≡ passed ++ s ∷ h.rest → list_all is_no_singleton passed ≡ true → ⊥
     go [] there long = other (head_is first s others h.rest there)
     go (p ∷ ps) there long =
         let same : first ≡ p = head_is first p others (ps ++ s ∷ h.rest) there in
-        let is : is_long p ≡ true = long_head p ps long in
-        let isnt : is_long p ≡ false = subst (λ (x : List ℕ). is_long x ≡ false) same short in
+        let is : is_no_singleton p ≡ true = long_head p ps long in
+        let isnt : is_no_singleton p ≡ false = subst (λ (x : List ℕ). is_no_singleton x ≡ false) same short in
         cc
 
 -- nothing is in no list
@@ -62,12 +62,12 @@ first_place s (p ∷ ps) (x ∷ xs) rest other same new =
     ]
 
 -- subtags that are no singletons may come before
-more_before : (ss passed list : List (List ℕ)) → list_all is_long passed ≡ true → AreInTurn ss list → AreInTurn ss (passed ++ list)
+more_before : (ss passed list : List (List ℕ)) → list_all is_no_singleton passed ≡ true → AreInTurn ss list → AreInTurn ss (passed ++ list)
 more_before [] passed list long h = tt
 more_before (s ∷ ss) passed list long h =
-    (passed ++ h.0, h.1, ap (λ (l : List (List ℕ)). passed ++ l) h.2 ∙ sym (append_assoc passed h.0 (s ∷ h.1)), list_all-append is_long passed h.0 long h.3, h.4)
+    (passed ++ h.0, h.1, ap (λ (l : List (List ℕ)). passed ++ l) h.2 ∙ sym (append_assoc passed h.0 (s ∷ h.1)), list_all-append is_no_singleton passed h.0 long h.3, h.4)
 
-long_part : (xs ys : List (List ℕ)) → list_all is_long (xs ++ ys) ≡ true → list_all is_long ys ≡ true
+long_part : (xs ys : List (List ℕ)) → list_all is_no_singleton (xs ++ ys) ≡ true → list_all is_no_singleton ys ≡ true
 long_part [] ys h = h
 long_part (x ∷ xs) ys h = long_part xs ys (long_tail x (xs ++ ys) h)
 
@@ -77,10 +77,10 @@ turn_next s ss list rest f h =
     elim (first_place s f.passed h.0 rest h.1 (sym f.there ∙ h.2) f.new) [
       | inl e ↦ subst (AreInTurn ss) (sym e) h.4
       | inr l ↦
-          let long : list_all is_long (f.passed ++ s ∷ l.between) ≡ true = subst (λ (xs : List (List ℕ)). list_all is_long xs ≡ true) l.passed_is h.3 in
-          let from : list_all is_long (s ∷ l.between) ≡ true = long_part f.passed (s ∷ l.between) long in
+          let long : list_all is_no_singleton (f.passed ++ s ∷ l.between) ≡ true = subst (λ (xs : List (List ℕ)). list_all is_no_singleton xs ≡ true) l.passed_is h.3 in
+          let from : list_all is_no_singleton (s ∷ l.between) ≡ true = long_part f.passed (s ∷ l.between) long in
           let later : AreInTurn ss ((l.between ++ s ∷ []) ++ h.1) =
-          more_before ss (l.between ++ s ∷ []) h.1 (list_all-append is_long l.between (s ∷ []) (long_tail s l.between from) (grind (arith, nat_tests, long_head s l.between from))) h.4 in
+          more_before ss (l.between ++ s ∷ []) h.1 (list_all-append is_no_singleton l.between (s ∷ []) (long_tail s l.between from) (grind (arith, nat_tests, long_head s l.between from))) h.4 in
           subst (AreInTurn ss) (append_assoc l.between (s ∷ []) h.1 ∙ sym l.rest_is) later
     ]
 

@@ -15,27 +15,27 @@ abbrev pub MatchesBasic : RangeParts → List (List ℕ) → Type 0
 MatchesBasic range tag = (range.wild ≡ true) ⊎ BeginsWith range.named tag
 
 -- more than one letter or digit: no singleton (RFC 4647, 3.3.2)
-abbrev pub is_long : List ℕ → Bool
-is_long s = not (length s == 1)
+abbrev pub is_no_singleton : List ℕ → Bool
+is_no_singleton s = not (length s == 1)
 
 -- Subtags are in a list, one after another, and no singleton is among those that are passed over (RFC 4647, 3.3.2).
 abbrev pub AreInTurn : List (List ℕ) → List (List ℕ) → Type 0
 AreInTurn [] list = Unit {0}
 AreInTurn (s ∷ ss) list = (passed rest : List (List ℕ)) × (list ≡ passed ++ s ∷ rest)
-    × (list_all is_long passed ≡ true) × AreInTurn ss rest
+    × (list_all is_no_singleton passed ≡ true) × AreInTurn ss rest
 
 -- a subtag is in a list, and no singleton is before it
 pub record IsPassedTo (list : List (List ℕ)) (s : List ℕ) : Type 0 where
   pub passed : List (List ℕ)
   pub rest : List (List ℕ)
   pub there : list ≡ passed ++ s ∷ rest
-  pub long : list_all is_long passed ≡ true
+  pub long : list_all is_no_singleton passed ≡ true
 
 -- what follows its first place there
 pub record FollowsFirst (list : List (List ℕ)) (s : List ℕ) (rest : List (List ℕ)) : Type 0 where
   pub passed : List (List ℕ)
   pub there : list ≡ passed ++ s ∷ rest
-  pub long : list_all is_long passed ≡ true
+  pub long : list_all is_no_singleton passed ≡ true
   pub new : AllByRecursion (λ t. t ≡ s → ⊥) passed
 
 -- the first subtag of a range is that of the tag, and the others are in turn in what follows it (RFC 4647, 3.3.2)
@@ -55,7 +55,7 @@ MatchesExtended range tag =
 
 -- the last subtag of a list is no singleton
 abbrev pub ends_long : List (List ℕ) → Bool
-ends_long list = option_map_or is_long (slice_get list (length list - 1)) false
+ends_long list = option_map_or is_no_singleton (slice_get list (length list - 1)) false
 
 -- A list is what is left of a range where it is cut from the end: some subtag is left, and no singleton is left behind,
 -- since it goes with the subtag after it (RFC 4647, 3.4).

@@ -16,9 +16,9 @@ is_first s = is_subtag s && is_alphabetic s
 
 -- An extended language range: its first subtag is of letters alone or `*`, and each other of letters and digits or `*`
 -- (RFC 4647, 2.2).
-abbrev pub IsRange : RangeForm → Type 0
-IsRange [] = ⊥
-IsRange (s ∷ ss) =
+abbrev pub IsLanguageRange : RangeForm → Type 0
+IsLanguageRange [] = ⊥
+IsLanguageRange (s ∷ ss) =
     (option_map_or is_first s true ≡ true) × (list_all (λ o. option_map_or is_subtag o true) ss ≡ true)
 
 -- how a subtag of a range is written
@@ -28,7 +28,7 @@ written (Some s) = s
 
 -- a text is a range, in any letter case (RFC 4647, 2)
 pub record HasRange (text : List ℕ) (form : RangeForm) : Type 0 where
-  pub range : IsRange form
+  pub range : IsLanguageRange form
   pub spelled : map written form ≡ list_of text
 
 -- What of a range matters to a matching scheme: whether it begins with `*`, and its other subtags in their order. A `*`

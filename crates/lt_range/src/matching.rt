@@ -29,8 +29,8 @@ fn after_front<'a>(list: &'a [Subtag], front: &[Subtag]) -> Option<&'a [Subtag]>
 }
 
 /// Whether a subtag has more than one letter or digit.
-fn is_long(subtag: &Subtag) -> bool
-    ensures { result ≡ spec.is_long subtag.now }
+fn is_no_singleton(subtag: &Subtag) -> bool
+    ensures { result ≡ spec.is_no_singleton subtag.now }
 {
     subtag.bytes().len() != 1
 }
@@ -44,7 +44,7 @@ fn after_subtag<'a>(list: &'a [Subtag], subtag: &Subtag) -> Option<&'a [Subtag]>
         if are_same(first, subtag) {
             return Some(others);
         }
-        if !is_long(first) {
+        if !is_no_singleton(first) {
             return None;
         }
         rest = others;
@@ -71,7 +71,7 @@ fn ends_long(list: &[Subtag]) -> bool
     ensures { result ≡ spec.ends_long list.now }
 {
     match list.last() {
-        Some(subtag) => is_long(subtag),
+        Some(subtag) => is_no_singleton(subtag),
         None => false,
     }
 }

@@ -1,16 +1,16 @@
 use Rattle.std.proofs.Common.{◌≡◌, ◌++◌, List, ℕ, [], ◌∷◌, true, false, sym, ap, ◌∙◌, subst}
 use Rattle.std.proofs.lemmas.List.{append_assoc}
 use Rattle.lt_tag.proofs.ListLemmas.{list_all-more}
-use Rattle.lt_range.specs.Matching.{is_long, IsPassedTo}
+use Rattle.lt_range.specs.Matching.{is_no_singleton, IsPassedTo}
 use Rattle.lt_range.proofs.TurnLemmas.{passed_next, passed_stops, new_more}
 use Rattle.lt_range.proofs.matching.after_subtag.Goals as goal
 
-pub returns-then-not-is_long : goal.returns-then-not-is_long
-returns-then-not-is_long c = λ h.
+pub returns-then-not-is_no_singleton : goal.returns-then-not-is_no_singleton
+returns-then-not-is_no_singleton c = λ h.
     let s = c.args.subtag.now in
     let first = c.in-Some.first.now in
     let other : first ≡ s → ⊥ = λ e. let bad : false ≡ true = c.if-are_same.ensures.1 e in cc in
-    passed_stops s first c.in-Some.others.now other (sym c.if-not-is_long.ensures)
+    passed_stops s first c.in-Some.others.now other (sym c.if-not-is_no_singleton.ensures)
     (subst (λ (l : List (List ℕ)). IsPassedTo l s) c.in-Some.ensures.cases.0 (c.loop-first.invariant.left h))
 
 pub loop-first-preserved : goal.loop-first-preserved
@@ -24,7 +24,7 @@ loop-first-preserved c =
       so_far = (
         so_far.0 ++ first ∷ [],
         so_far.1 ∙ ap (λ (l : List (List ℕ)). so_far.0 ++ l) c.in-Some.ensures.cases.0 ∙ sym (append_assoc so_far.0 (first ∷ []) others),
-        list_all-more is_long so_far.0 first so_far.2 (sym c.if-not-is_long.ensures),
+        list_all-more is_no_singleton so_far.0 first so_far.2 (sym c.if-not-is_no_singleton.ensures),
         new_more s so_far.0 first so_far.3 other,
       );
       left = λ h. passed_next s first others other

@@ -1,12 +1,12 @@
 use Rattle.std.proofs.Common.{◌≡◌, ◌++◌, true, ℕ, List, length}
 use Rattle.std.specs.List.{list_all, AllByRecursion}
-use Rattle.lt_range.specs.Matching.{is_long, IsPassedTo}
+use Rattle.lt_range.specs.Matching.{is_no_singleton, IsPassedTo}
 use Rattle.lt_range.proofs.matching.after_subtag.Given as goal
 
 -- the subtag is not among those so far, which are no singletons
 abbrev pub invariant-loop-first : goal.invariant-loop-first
 invariant-loop-first l = record {
-  so_far : (passed : List (List ℕ)) × (l.list ≡ passed ++ l.rest) × (list_all is_long passed ≡ true) × AllByRecursion (λ t. t ≡ l.subtag → ⊥) passed;
+  so_far : (passed : List (List ℕ)) × (l.list ≡ passed ++ l.rest) × (list_all is_no_singleton passed ≡ true) × AllByRecursion (λ t. t ≡ l.subtag → ⊥) passed;
   left : IsPassedTo l.list l.subtag → IsPassedTo l.rest l.subtag;
 }
 
