@@ -80,11 +80,22 @@ is "SHA256SUMS names every file" "$(find "$folder/dist" -type f ! -name SHA256SU
 mkdir "$folder/unpacked"
 passes "the program's archive" tar -xzf "$folder/dist/langtag-$version-x86_64-linux.tar.gz" -C "$folder/unpacked" --strip-components=1
 passes "the program of the archive runs" "$folder/unpacked/bin/langtag" check "$folder/unpacked/share/langtag/registry.txt"
+is "manual, completions and registry of the archive" '_langtag langtag langtag.1 langtag.fish registry.txt' \
+    "$(cd "$folder/unpacked/share" && find man bash-completion fish zsh langtag/registry.txt -type f -printf '%f\n' | LC_ALL=C sort | paste -s -d ' ')"
 passes "the library's archive" tar -xzf "$folder/dist/libbcp47-$version-x86_64-linux.tar.gz" -C "$folder/unpacked" --strip-components=1
 passes "the example with the archive's static library" gcc "$folder/example.c" -I"$folder/unpacked/include" \
     "$folder/unpacked/lib/libbcp47.a" -o "$folder/example-static"
 passes "it runs" "$folder/example-static" "$folder/unpacked/share/langtag/registry.txt" zh-yue I-KLINGON en_US
 is "it answers" "$answers" "$(cat "$folder/out")"
+# The wheel, and the sources over the library that is installed in a folder, by pip without a network.
+for made in "bcp47-$version-cp39-abi3-manylinux2014_x86_64.whl" "bcp47-$version.tar.gz"; do
+    PKG_CONFIG_PATH=$folder/prefix/lib/pkgconfig passes "pip install $made" /usr/bin/python3 -m pip install -q --no-index \
+        --root-user-action=ignore --target "$folder/site" "$folder/dist/$made"
+    PYTHONPATH=$folder/site LD_LIBRARY_PATH=$folder/prefix/lib passes "$made runs" /usr/bin/python3 -c \
+        'import bcp47, sys; print(bcp47.Registry.from_file(sys.argv[1]).canonical("zh-yue"))' "$folder/unpacked/share/langtag/registry.txt"
+    is "$made answers" yue "$(cat "$folder/out")"
+    rm -rf "$folder/site"
+done
 passes "the list of parts" /usr/bin/python3 - "$folder/dist" << 'END'
 import hashlib, json, pathlib, sys
 
