@@ -170,7 +170,9 @@ impl Registry {
         I: IntoIterator,
         I::Item: AsRef<[u8]>,
     {
-        let (mut answers, mut buffer) = (Vec::new(), vec![0; MANY_BYTES]);
+        let tags = tags.into_iter();
+        let mut answers = Vec::with_capacity(tags.size_hint().0);
+        let mut buffer = vec![0; MANY_BYTES];
         let (mut texts, mut ends) = (Vec::new(), Vec::new());
         for tag in tags {
             texts.extend_from_slice(tag.as_ref());
