@@ -43,6 +43,17 @@ module _ (delimiter : ℕ) where
       let rest = place_of_free (place_after delimiter place byte) (next ∷ text) (ap is_quoted first ∙ outside_closed byte) (All-tail (λ (b : ℕ). b ≢ 34) byte (next ∷ text) free) (omega arith) in
       rw more (rw less at rest)
 
+  -- within quotes until one ends them
+  pub quoted_of_free : (text : List ℕ) → All (λ (byte : ℕ). byte ≢ 34) text → place_at delimiter places.Quoted text ≡ places.Quoted
+  quoted_of_free [] free = refl
+  quoted_of_free (byte ∷ text) free =
+      rw (ne_eqb byte 34 (All-head (λ (b : ℕ). b ≢ 34) byte text free)) (quoted_of_free text (All-tail (λ (b : ℕ). b ≢ 34) byte text free))
+
+  -- the place after a quote and what is before it
+  pub place_past_quote : (place : Place) (text front after : List ℕ) → text ≡ front ++ 34 ∷ after
+      → place_at delimiter place text ≡ place_at delimiter (place_after delimiter (place_at delimiter place front) 34) after
+  place_past_quote place text front after split = ap (place_at delimiter place) split ∙ place_at-append place front (34 ∷ after)
+
   pub free-append : (stop : ℕ) (place : Place) (text more : List ℕ) → IsFreeOutside delimiter stop place text → IsFreeOutside delimiter stop (place_at delimiter place text) more
       → IsFreeOutside delimiter stop place (text ++ more)
   free-append stop place [] more h k = k

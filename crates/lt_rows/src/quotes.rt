@@ -1,6 +1,7 @@
 //! Where quotes begin and end quoted text, and what is outside of it.
 ghost use Rattle.std.specs.Prelude.{◌≡◌};
 ghost use Rattle.lt_rows.specs.Quotes.{SplitsOutside, is_quoted, place_after, place_at, place_outside};
+ghost use Rattle.lt_rows.specs.Splitting.{IsFreeOf};
 
 use crate::splitting::split_first;
 
@@ -34,6 +35,17 @@ impl Place {
             Place::Fresh | Place::Plain => outside(delimiter, byte),
         }
     }
+
+    /// The place after a text without quotes here.
+    #[tactic(auto, using(crate::proofs::RowLemmas::place_of_free, crate::proofs::RowLemmas::quoted_of_free))]
+    fn after_front(self, delimiter: u8, front: &[u8]) -> Place
+        ensures { IsFreeOf 34 front.now → result ≡ place_at delimiter self front.now }
+    {
+        match front.last() {
+            Some(byte) if !self.is_quoted() => outside(delimiter, *byte),
+            _ => self,
+        }
+    }
 }
 
 /// The place after a byte outside of quotes, which begins none.
@@ -47,43 +59,34 @@ fn outside(delimiter: u8, byte: u8) -> Place
     }
 }
 
-/// The place after a text of CSV, by that of its first byte, where this byte parts fields.
-#[tactic(auto, using(crate::proofs::RowLemmas::place_of_free))]
+/// The place after a text of CSV, by that of its first byte, where this byte parts fields. It goes from quote to quote.
+#[tactic(auto, using(crate::proofs::RowLemmas::place_past_quote))]
 pub fn after_text(delimiter: u8, place: Place, text: &[u8]) -> Place
     ensures { result ≡ place_at delimiter place text.now }
 {
-    if place.is_quoted() || split_first(b'"', text).is_some() {
-        return after_each(delimiter, place, text);
-    }
-    match text.last() {
-        Some(byte) => outside(delimiter, *byte),
-        None => place,
-    }
-}
-
-/// The same, byte by byte.
-#[tactic(auto, using(crate::proofs::RowLemmas::place_next))]
-fn after_each(delimiter: u8, place: Place, text: &[u8]) -> Place
-    ensures { result ≡ place_at delimiter place text.now }
-{
     let mut now = place;
-    for byte in text {
-        now = now.after(delimiter, *byte);
+    let mut rest = text;
+    while let Some((front, after)) = split_first(b'"', rest) {
+        now = now.after_front(delimiter, front).after(delimiter, b'"');
+        rest = after;
     }
-    now
+    now.after_front(delimiter, rest)
 }
 
-/// What is before the first such byte outside of quotes and after it, if there is one.
-#[tactic(auto, using(crate::proofs::RowLemmas::place_next, crate::proofs::RowLemmas::free_next))]
+/// What is before the first such byte outside of quotes and after it, if there is one. It goes from one such byte to the next.
 pub(crate) fn split_outside(delimiter: u8, stop: u8, text: &[u8]) -> Option<(&[u8], &[u8])>
     ensures { SplitsOutside delimiter stop text.now result }
 {
     let mut place = Place::Fresh;
-    for (index, byte) in text.iter().enumerate() {
-        if !place.is_quoted() && *byte == stop {
-            return Some((&text[..index], &text[index + 1..]));
+    let mut passed = 0;
+    while let Some((front, after)) = split_first(stop, &text[passed..]) {
+        place = after_text(delimiter, place, front);
+        passed += front.len();
+        if !place.is_quoted() {
+            return Some((&text[..passed], after));
         }
-        place = place.after(delimiter, *byte);
+        place = place.after(delimiter, stop);
+        passed += 1;
     }
     None
 }

@@ -1,0 +1,61 @@
+-- A text that is looked through from one such byte to the next.
+use Rattle.std.proofs.Common.{◌≡◌, ◌≤◌, ◌+◌, ◌-◌, ◌++◌, [], ◌∷◌, ◌∙◌, ℕ, true, false, List, length, sym, ap, arith, subst, take, drop, append_assoc, length-append, take-append-drop}
+use Rattle.std.proofs.Math.Seq.{take-append_seam}
+use Rattle.std.proofs.lemmas.List.{length-take-le, take_rest}
+use Rattle.lt_rows.specs.Quotes.{IsFreeOutside, is_quoted, place_after, place_at}
+use Rattle.lt_rows.specs.Splitting.{IsFreeOf}
+use Rattle.lt_rows.specs.declared.quotes.Place.{Place}
+use Rattle.lt_rows.specs.declared.quotes.Place.TheVariants as places
+use Rattle.lt_rows.proofs.RowLemmas.{free-append, free_of_none, place_at-append}
+
+front_of : (n : ℕ) (text front after : List ℕ) → text ≡ front ++ after → n ≡ length front → take n text ≡ front
+front_of n text front after split long = ap (λ k. take k text) long ∙ ap (take (length front)) split ∙ take-append_seam front after
+
+-- what is after the bytes that are passed: some bytes, and the next such byte
+module _ (delimiter stop : ℕ) (text : List ℕ) (passed : ℕ) (front after : List ℕ) (inside : passed ≤ length text)
+    (rest : take (length text - passed) (drop passed text) ≡ front ++ stop ∷ after) where
+  whole : text ≡ (take passed text ++ front) ++ stop ∷ after
+  whole = sym (take-append-drop passed text) ∙ ap (λ l. take passed text ++ l) (sym (take_rest text passed) ∙ rest)
+      ∙ sym (append_assoc (take passed text) front (stop ∷ after))
+
+  long : passed + length front ≡ length (take passed text ++ front)
+  long = ap (λ n. n + length front) (sym (length-take-le passed text inside)) ∙ sym (length-append (take passed text) front)
+
+  before : take (passed + length front) text ≡ take passed text ++ front
+  before = front_of (passed + length front) text (take passed text ++ front) (stop ∷ after) whole long
+
+  through : take (passed + length front + 1) text ≡ (take passed text ++ front) ++ stop ∷ []
+  through = front_of (passed + length front + 1) text ((take passed text ++ front) ++ stop ∷ []) after
+      (whole ∙ sym (append_assoc (take passed text ++ front) (stop ∷ []) after))
+      (ap (λ n. n + 1) long ∙ sym (length-append (take passed text ++ front) (stop ∷ [])))
+
+  module _ (place : Place) (place_is : place ≡ place_at delimiter places.Fresh (take passed text))
+      (free : IsFreeOutside delimiter stop places.Fresh (take passed text)) (none : IsFreeOf stop front) where
+    at : place_at delimiter places.Fresh (take passed text ++ front) ≡ place_at delimiter place front
+    at = place_at-append delimiter places.Fresh (take passed text) front ∙ ap (λ p. place_at delimiter p front) (sym place_is)
+
+    free_before : IsFreeOutside delimiter stop places.Fresh (take passed text ++ front)
+    free_before = free-append delimiter stop places.Fresh (take passed text) front free (free_of_none delimiter stop (place_at delimiter places.Fresh (take passed text)) front none)
+
+    -- outside of quotes: the text is split there
+    pub split_there : is_quoted (place_at delimiter place front) ≡ false → IsFreeOutside delimiter stop places.Fresh (take (passed + length front) text)
+        × (is_quoted (place_at delimiter places.Fresh (take (passed + length front) text)) ≡ false)
+        × (text ≡ take (passed + length front) text ++ stop ∷ after)
+    split_there closed = rw before (free_before, ap is_quoted at ∙ closed, whole)
+
+    -- within quotes: it is passed
+    pub place_past : place_after delimiter (place_at delimiter place front) stop ≡ place_at delimiter places.Fresh (take (passed + length front + 1) text)
+    place_past = ap (λ p. place_after delimiter p stop) (sym at) ∙ sym (place_at-append delimiter places.Fresh (take passed text ++ front) (stop ∷ [])) ∙ ap (place_at delimiter places.Fresh) (sym through)
+
+    pub free_past : is_quoted (place_at delimiter place front) ≡ true → IsFreeOutside delimiter stop places.Fresh (take (passed + length front + 1) text)
+    free_past quoted = rw through (free-append delimiter stop places.Fresh (take passed text ++ front) (stop ∷ []) free_before (λ e. ap is_quoted at ∙ quoted, tt))
+
+  pub inside_past : passed + length front + 1 ≤ length text
+  inside_past = let all = ap length whole ∙ length-append (take passed text ++ front) (stop ∷ after) in omega (arith, all, long)
+
+-- there is none more
+pub free_to_end : (delimiter stop : ℕ) (text : List ℕ) (passed : ℕ) → IsFreeOutside delimiter stop places.Fresh (take passed text)
+    → IsFreeOf stop (take (length text - passed) (drop passed text)) → IsFreeOutside delimiter stop places.Fresh text
+free_to_end delimiter stop text passed free none =
+    subst (IsFreeOutside delimiter stop places.Fresh) (take-append-drop passed text) (free-append delimiter stop places.Fresh (take passed text) (drop passed text) free
+    (free_of_none delimiter stop (place_at delimiter places.Fresh (take passed text)) (drop passed text) (subst (IsFreeOf stop) (take_rest text passed) none)))
