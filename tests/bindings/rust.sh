@@ -8,6 +8,10 @@ folder=$1/rust
 
 if command -v cargo > /dev/null; then
     export CARGO_TARGET_DIR=$folder/cargo
+    # the calls and the statuses of the header
+    sed -nE 's/^.*[ *](bcp47_[a-z_]+)\(.*[;,]$/\1/p; /^\/\* How a call ended/,/^};/s/^ +(BCP47_[A-Z_]+ = [0-9]+).*/\1/p' bindings/c/bcp47.h | sort > "$folder/declared"
+    sed -nE 's/^    pub fn (bcp47_[a-z_]+)\(.*/\1/p; s/^pub const (BCP47_[A-Z_]+): c_int( = [0-9]+);/\1\2/p' bindings/rust/bcp47-sys/src/lib.rs | sort > "$folder/stands"
+    passes "Rust: bcp47-sys has what the header declares" diff "$folder/declared" "$folder/stands"
     passes "Rust: tests" cargo test --offline -q --manifest-path bindings/rust/Cargo.toml
     # what miri would see, as it sees no calls of C
     passes "Rust: tests under valgrind" env CARGO_TARGET_X86_64_UNKNOWN_LINUX_GNU_RUNNER="valgrind -q --error-exitcode=9 --leak-check=full --show-leak-kinds=definite --errors-for-leak-kinds=definite" \

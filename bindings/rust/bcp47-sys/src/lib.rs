@@ -57,7 +57,16 @@ pub const BCP47_REPLACEMENT_REPEATS: c_int = 3;
 pub const BCP47_OUT_OF_MEMORY: c_int = 4;
 pub const BCP47_BUFFER_TOO_SMALL: c_int = 5;
 pub const BCP47_DIFFERENT: c_int = 6;
+pub const BCP47_BAD_FILE: c_int = 7;
+pub const BCP47_BAD_RECORD: c_int = 8;
+pub const BCP47_REJECTED: c_int = 9;
+pub const BCP47_NO_UPGRADE: c_int = 10;
+pub const BCP47_NO_SUCH_STEP: c_int = 11;
+pub const BCP47_WRONG_END: c_int = 12;
+pub const BCP47_NOT_OPEN: c_int = 13;
+pub const BCP47_BAD_CALL: c_int = 14;
 pub const BCP47_BUSY: c_int = 15;
+pub const BCP47_TOO_MANY_STEPS: c_int = 16;
 /// Room for the parts of any tag.
 pub const BCP47_PARTS: usize = 512;
 /// Room for the line of any registry that is refused.
@@ -121,6 +130,13 @@ extern "C" {
         buffer: *mut c_char,
         room: usize,
     ) -> bcp47_outcome;
+    pub fn bcp47_explain(
+        registry: *const bcp47_registry,
+        text: *const c_char,
+        length: usize,
+        buffer: *mut c_char,
+        room: usize,
+    ) -> bcp47_outcome;
     pub fn bcp47_explanation(
         registry: *const bcp47_registry,
         text: *const c_char,
@@ -153,6 +169,7 @@ extern "C" {
         newer: *const bcp47_registry,
     ) -> bcp47_outcome;
     pub fn bcp47_status_name(status: c_int) -> *const c_char;
+    pub fn bcp47_status_help(status: c_int) -> *const c_char;
     pub fn bcp47_fault_name(fault: c_int) -> *const c_char;
     pub fn bcp47_fault_help(fault: c_int) -> *const c_char;
     pub fn bcp47_kind_name(kind: c_int) -> *const c_char;

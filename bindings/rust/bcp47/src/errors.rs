@@ -1,6 +1,7 @@
 //! Why something is refused.
 use crate::name;
 use bcp47_sys as sys;
+use std::ffi::c_int;
 use std::{error, fmt, io};
 
 /// The cause of a refusal: the name of a fault, as the program `langtag` prints it, and its place.
@@ -49,6 +50,12 @@ impl fmt::Display for Cause {
     }
 }
 
+/// What a status means, and what to do.
+fn help_of(status: c_int) -> &'static str {
+    // SAFETY: the call answers each number.
+    name(unsafe { sys::bcp47_status_help(status) })
+}
+
 /// Why a tag is refused. It is shown as the program shows it, without `! `.
 #[derive(Clone, Debug, PartialEq, Eq, Hash)]
 #[non_exhaustive]
@@ -71,6 +78,16 @@ impl TagError {
         match self {
             TagError::NotATag(cause) | TagError::Invalid(cause) => Some(cause),
             _ => None,
+        }
+    }
+
+    /// What it means, and what to do.
+    pub fn help(&self) -> &'static str {
+        match self {
+            TagError::NotATag(cause) | TagError::Invalid(cause) => cause.help(),
+            TagError::ReplacementRepeats(_) => help_of(sys::BCP47_REPLACEMENT_REPEATS),
+            TagError::TooManySteps => help_of(sys::BCP47_TOO_MANY_STEPS),
+            TagError::Unavailable => help_of(sys::BCP47_OUT_OF_MEMORY),
         }
     }
 }
@@ -168,6 +185,17 @@ pub enum TraceError {
     WrongEnd,
     /// The first tag is refused, or else the last.
     Tag(TagError),
+}
+
+impl TraceError {
+    /// What it means, and what to do.
+    pub fn help(&self) -> &'static str {
+        match self {
+            TraceError::NoSuchStep(_) => help_of(sys::BCP47_NO_SUCH_STEP),
+            TraceError::WrongEnd => help_of(sys::BCP47_WRONG_END),
+            TraceError::Tag(error) => error.help(),
+        }
+    }
 }
 
 impl fmt::Display for TraceError {

@@ -42,7 +42,7 @@ fn refusal_by(outcome: &sys::bcp47_outcome, variant: impl FnOnce() -> String) ->
         sys::BCP47_NOT_A_TAG => TagError::NotATag(Cause::of(outcome)),
         sys::BCP47_INVALID => TagError::Invalid(Cause::of(outcome)),
         sys::BCP47_REPLACEMENT_REPEATS => TagError::ReplacementRepeats(variant()),
-        16 => TagError::TooManySteps,
+        sys::BCP47_TOO_MANY_STEPS => TagError::TooManySteps,
         _ => TagError::Unavailable,
     }
 }
@@ -330,8 +330,8 @@ impl Registry {
         };
         match outcome.status {
             sys::BCP47_DONE => Ok(()),
-            11 => Err(TraceError::NoSuchStep(outcome.place)),
-            12 => Err(TraceError::WrongEnd),
+            sys::BCP47_NO_SUCH_STEP => Err(TraceError::NoSuchStep(outcome.place)),
+            sys::BCP47_WRONG_END => Err(TraceError::WrongEnd),
             _ => Err(TraceError::Tag(refusal(&outcome, &Buffer::new()))),
         }
     }
@@ -342,7 +342,7 @@ impl Registry {
         let outcome = unsafe { sys::bcp47_upgrade_check(self.raw.as_ptr(), newer.raw.as_ptr()) };
         match outcome.status {
             sys::BCP47_DONE => Ok(()),
-            10 => Err(UpgradeError(Some(Cause::of(&outcome)))),
+            sys::BCP47_NO_UPGRADE => Err(UpgradeError(Some(Cause::of(&outcome)))),
             _ => Err(UpgradeError(None)),
         }
     }

@@ -87,7 +87,9 @@ fn refusals_say_why() {
         (error.to_string().as_str(), error.cause().unwrap().place()),
         ("BadByte 1", 1)
     );
-    assert!(error.cause().unwrap().help().contains("hyphen"));
+    assert!(error.help().contains("hyphen") && error.help() == error.cause().unwrap().help());
+    let repeats = registry.canonical("ja-Latn-hepburn-alalc97-heploc");
+    assert!(repeats.unwrap_err().help().contains("repeat the variant"));
     assert!(
         matches!(registry.validate("xx"), Err(TagError::Invalid(cause)) if cause.fault() == "UnknownLanguage")
     );
@@ -133,6 +135,12 @@ fn explanations_are_verified() {
     );
     assert_eq!(registry.explain("en", 0).unwrap().to_string(), "= en");
     assert_eq!(registry.explain("sgn-dd", 1), Err(TagError::TooManySteps));
+    assert!(TagError::TooManySteps.help().contains("allow more"));
+    assert!(TagError::Unavailable.help().contains("memory"));
+    assert!(TraceError::WrongEnd.help().contains("mend the last tag"));
+    assert!(TraceError::NoSuchStep(1).help().contains("not lead on"));
+    let none = TraceError::Tag(TagError::TooManySteps);
+    assert_eq!(none.help(), TagError::TooManySteps.help());
     assert_eq!(registry.verify("sgn-dd", &explanation.steps, "gsg"), Ok(()));
     assert_eq!(
         registry.verify("sgn-dd", &explanation.steps[..1], "gsg"),
