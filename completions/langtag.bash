@@ -6,6 +6,16 @@ _langtag() {
         mapfile -t COMPREPLY < <(compgen -W 'classify check canon tsv csv extlang equal explain verify upgrade help --help --version' -- "$word")
         return
     fi
+    case ${COMP_WORDS[1]}:$word in
+        csv:-*)
+            mapfile -t COMPREPLY < <(compgen -W '--delimiter --summary --help' -- "$word")
+            return
+            ;;
+        canon:-* | tsv:-*)
+            mapfile -t COMPREPLY < <(compgen -W '--summary --help' -- "$word")
+            return
+            ;;
+    esac
     case ${COMP_WORDS[1]}:$COMP_CWORD in
         check:2 | canon:2 | tsv:2 | csv:2 | extlang:2 | equal:2 | explain:2 | verify:2 | upgrade:2 | upgrade:3)
             mapfile -t COMPREPLY < <(compgen -f -- "$word")

@@ -15,4 +15,6 @@ complete -c langtag -n __fish_use_subcommand -s h -l help -d 'The commands'
 complete -c langtag -n __fish_use_subcommand -s V -l version -d 'The version'
 complete -c langtag -n '__fish_seen_subcommand_from check canon tsv csv extlang equal explain verify upgrade; and test (count (commandline -opc)) -eq 2' -F
 complete -c langtag -n '__fish_seen_subcommand_from upgrade; and test (count (commandline -opc)) -eq 3' -F
+complete -c langtag -n '__fish_seen_subcommand_from csv' -l delimiter -x -d 'The byte between fields, or tab'
+complete -c langtag -n '__fish_seen_subcommand_from canon tsv csv' -l summary -d 'Tell how many lines each fault refused'
 complete -c langtag -n '__fish_seen_subcommand_from help' -a 'classify check canon tsv csv extlang equal explain verify upgrade'

@@ -49,16 +49,20 @@ by_zsh() {
 is 'bash: a command' 'canon check classify csv' < <(by_bash langtag c)
 is 'bash: a file' 'registry.txt' < <(by_bash langtag tsv reg)
 is 'bash: the second file' 'registry.txt' < <(by_bash langtag upgrade old reg)
+is 'bash: options of csv' '--delimiter' < <(by_bash langtag csv --d)
+is 'bash: options of tsv' '--help --summary' < <(by_bash langtag tsv registry.txt -)
 is 'bash: a tag is not completed' '' < <(by_bash langtag classify reg)
 if command -v fish > /dev/null; then
     is 'fish: a command' 'canon check classify csv' < <(by_fish 'langtag c')
     is 'fish: a file' 'registry.txt' < <(by_fish 'langtag tsv reg')
+    is 'fish: an option' '--delimiter' < <(by_fish 'langtag csv --d')
     is 'fish: help' 'upgrade' < <(by_fish 'langtag help up')
 else
     echo 'fish is not here'
 fi
 if command -v zsh > /dev/null; then
     is 'zsh: a command' 'canon check classify csv' < <(by_zsh 'langtag c' | grep -ao 'canon \|check \|classify \|csv ' | tr -d ' ' | sort -u)
+    is 'zsh: an option' '--summary' < <(by_zsh 'langtag tsv --s' | grep -ao -e '--summary' | sort -u)
     is 'zsh: a file' 'registry.txt' < <(by_zsh 'langtag check reg' | grep -ao 'registry.txt' | sort -u)
 else
     echo 'zsh is not here'

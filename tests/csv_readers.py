@@ -1,6 +1,7 @@
 #!/usr/bin/env python3
 """Compares the records that `langtag csv` reads with those of Python's csv and of sqlite3: on every text of up to 6 bytes of
-a quote, a comma, a carriage return, a line feed and `iw`, and on 20,000 files that are made by chance, by a fixed seed.
+a quote, a comma, a carriage return, a line feed and `iw`, and on 20,000 files that are made by chance, by a fixed seed. Then the
+same of texts of up to 5 bytes and of 5,000 files with semicolons for commas, and commas for semicolons.
 
 The definition stands here once more (`cut`). Its records are compared with those of the two readers, and the bytes that the
 program writes with those that are owed for its records. Each difference of the readers is of one of these classes:
@@ -25,9 +26,11 @@ import tempfile
 HERE = os.path.dirname(os.path.abspath(__file__))
 PROGRAM = os.path.abspath(sys.argv[1] if len(sys.argv) > 1 else os.path.join(HERE, "../build/langtag"))
 SAMPLE = os.path.join(HERE, "../examples/sample-registry.txt")
-QUOTE, COMMA, RETURN, FEED = b'",\r\n'
+QUOTE, RETURN, FEED = b'"\r\n'
 # no text that is compared has this record
-MARK = b"=,=,=\n"
+MARK = [b"=", b"=", b"="]
+SWAP = bytes.maketrans(b",;", b";,")
+delimiter = b","
 COLUMN = 2
 csv.field_size_limit(1 << 30)
 failures = 0
@@ -55,7 +58,7 @@ def cut(data):
         elif byte == FEED:
             records.append((fields + [data[begin:at]], bare))
             fields, place, begin, first, bare = [], "fresh", at + 1, at + 1, False
-        elif byte == COMMA:
+        elif byte == delimiter[0]:
             fields.append(data[begin:at])
             place, begin = "fresh", at + 1
         elif byte == QUOTE and place == "fresh":
@@ -116,17 +119,17 @@ def text_of(field):
 def owed(record):
     """The answer that is owed for a record."""
     fields, end = ended(record)
-    row = b",".join(fields)
+    row = delimiter.join(fields) + delimiter
     if record[1]:
-        return row + b",BadReturn" + end
+        return row + b"BadReturn" + end
     if len(fields) < COLUMN:
-        return row + b",NoColumn" + end
+        return row + b"NoColumn" + end
     quotes, text = text_of(fields[COLUMN - 1])
     answer = answers[text]
     if answer.startswith(b"! "):
-        return row + b"," + answer[2:] + end
+        return row + answer[2:] + end
     fields[COLUMN - 1:COLUMN] = [quotes + answer + quotes]
-    return b",".join(fields) + b"," + end
+    return delimiter.join(fields) + delimiter + end
 
 
 def learn_records(records):
@@ -137,7 +140,8 @@ def learn_records(records):
 
 def run(data):
     """What the program makes of these bytes: its status, its output and its errors."""
-    done = subprocess.run([PROGRAM, "csv", SAMPLE, str(COLUMN)], input=data, capture_output=True)
+    words = [] if delimiter == b"," else ["--delimiter", delimiter]
+    done = subprocess.run([PROGRAM, "csv", SAMPLE, str(COLUMN), *words], input=data, capture_output=True)
     return done.returncode, done.stdout, done.stderr
 
 
@@ -152,11 +156,12 @@ def compare_together(kind, texts):
     all_records = [cut(text)[0] for text in whole]
     learn_records(record for records in all_records for record in records)
     learn([b"="])
-    status, output, errors = run(b"h,h\n" + b"".join(text + MARK for text in whole))
+    heading, mark = delimiter.join([b"h", b"h"]), owed((MARK, False))
+    status, output, errors = run(heading + b"\n" + b"".join(text + delimiter.join(MARK) + b"\n" for text in whole))
     wanted = [b"".join(map(owed, records)) for records in all_records]
-    if output == b"h,h,langtag_fault\n" + b"".join(text + owed((MARK[:-1].split(b","), False)) for text in wanted) and not errors:
+    if output == heading + delimiter + b"langtag_fault\n" + b"".join(text + mark for text in wanted) and not errors:
         return
-    parts = output.split(b"\n", 1)[1].split(owed((MARK[:-1].split(b","), False)))
+    parts = output.split(b"\n", 1)[1].split(mark)
     for text, want, part in zip(whole, wanted, parts):
         if part != want:
             fail(kind, text, want, part)
@@ -176,8 +181,8 @@ def compare_alone(kind, text):
             answer = owed(record)
         else:
             fields, end = ended(record)
-            answer = b",".join(fields) + (b",BadReturn" if record[1] else b",langtag_fault") + end
-        refused = refused or record[1] or number > 0 and not answer.rstrip(b"\r\n").endswith(b",")
+            answer = delimiter.join(fields + [b"BadReturn" if record[1] else b"langtag_fault"]) + end
+        refused = refused or record[1] or number > 0 and not answer.rstrip(b"\r\n").endswith(delimiter)
         wanted += answer
     errors = b"! BadCsv line %d\n" % opened if opened else b""
     for mark in b"", codecs.BOM_UTF8:
@@ -196,7 +201,7 @@ def compare_python(kind, text):
         return
     lines = [line + "\n" for line in text.decode("latin-1").split("\n")]
     lines[-1] = lines[-1][:-1]
-    found = list(csv.reader(line for line in lines if line))
+    found = list(csv.reader((line for line in lines if line), delimiter=delimiter.decode()))
     wanted = [[value(field).decode("latin-1") for field in ended(record)[0]] for record in records]
     wanted = [[] if fields == [""] and ended(records[n])[0] == [b""] else fields for n, fields in enumerate(wanted)]
     if opened:
@@ -220,10 +225,10 @@ def has_rest(record):
 def compare_sqlite(kind, texts, folder):
     """Compares the records of texts with those of sqlite3, all of them in one run of its shell."""
     global compared
-    wanted, script = [], [".mode csv", "create table t(a, b, c, d, e, f, g, h, i, j);", ".mode list", '.separator "\\037" "\\036\\n"']
+    wanted, script = [], ["create table t(a, b, c, d, e, f, g, h, i, j);"]
     for text in texts:
         records, opened = cut(text)
-        if opened or not text or any(bare or has_rest((fields, bare)) for fields, bare in records) or text[-1:] in (b",", b"\r"):
+        if opened or not text or any(bare or has_rest((fields, bare)) for fields, bare in records) or text[-1:] in (delimiter, b"\r"):
             continue
         if any(len(ended(record)[0]) > 10 for record in records) or b"\0" in text:
             continue
@@ -232,7 +237,8 @@ def compare_sqlite(kind, texts, folder):
             file.write(text)
         rows = [[value(field) for field in ended(record)[0]] for record in records]
         wanted.append((text, b"".join(b"\x1f".join(row + [b""] * (10 - len(row))) + b"\x1e\n" for row in rows)))
-        script += [f".import --csv {name} t", "select * from t;", "select '=';", "delete from t;"]
+        script += [".mode csv", f'.separator "{delimiter.decode()}" "\\n"', f".import {name} t", ".mode list", '.separator "\\037" "\\036\\n"']
+        script += ["select * from t;", "select '=';", "delete from t;"]
     done = subprocess.run(["sqlite3", ":memory:"], input="\n".join(script).encode(), capture_output=True)
     parts = done.stdout.split(b"=\x1e\n")
     for (text, want), part in zip(wanted, parts):
@@ -274,25 +280,35 @@ def made_file(chance):
     return bytes(data)
 
 
+def compare_all(kind, short, made):
+    """Compares short texts, and files that were made."""
+    compare_together(f"short texts{kind}", short)
+    compare_together(f"made files{kind}", made)
+    for text in short[:781]:
+        compare_alone(f"short texts alone{kind}", text)
+    for text in made[:500]:
+        compare_alone(f"made files alone{kind}", text)
+    for text in short:
+        compare_python(f"short texts{kind}", text)
+    for text in made:
+        compare_python(f"made files{kind}", text)
+    with tempfile.TemporaryDirectory() as folder:
+        compare_sqlite(f"short texts{kind}", short, folder)
+        compare_sqlite(f"made files{kind}", made[:5000], folder)
+
+
 def main():
     """Compares all of them."""
+    global delimiter
     short = list(short_texts(6))
     chance = random.Random(4180)
     made = [made_file(chance) for _ in range(20000)]
-    compare_together("short texts", short)
-    compare_together("made files", made)
-    for text in short_texts(4):
-        compare_alone("short texts alone", text)
-    for text in made[:500]:
-        compare_alone("made files alone", text)
-    for text in short:
-        compare_python("short texts", text)
-    for text in made:
-        compare_python("made files", text)
-    with tempfile.TemporaryDirectory() as folder:
-        compare_sqlite("short texts", short, folder)
-        compare_sqlite("made files", made[:5000], folder)
-    print(f"{len(short)} short texts and {len(made)} made files, {compared} compared with other readers, {failures} failed")
+    compare_all("", short, made)
+    delimiter = b";"
+    swapped = [text.translate(SWAP) for text in short_texts(5)], [text.translate(SWAP) for text in made[:5000]]
+    compare_all(", semicolons", *swapped)
+    texts, files = len(short) + len(swapped[0]), len(made) + len(swapped[1])
+    print(f"{texts} short texts and {files} made files, {compared} compared with other readers, {failures} failed")
     return 1 if failures else 0
 
 

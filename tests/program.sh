@@ -144,6 +144,22 @@ rm long
 "$program" csv "$sample" 2 <&- > out 2> err; is 'csv: closed input' 4 '' '! Read\n'
 "$program" csv missing 0 < records > out 2> err; is 'csv: the column 0' 3 '' "error: COLUMN is a number from 1, and not 0\n\nFor more information, try '--help'.\n"
 
+# another byte between the fields, in either place, and words that are refused
+printf 'id;tag\r\n"a;b";zh-yue\r\n1,5;"en_US"\n3\n' > semicolons
+"$program" csv "$sample" 2 --delimiter ';' < semicolons > out 2> err; is 'csv: semicolons' 1 'id;tag;langtag_fault\r\n"a;b";yue;\r\n1,5;"en_US";BadByte 1\n3;NoColumn\n' ''
+printf 'id\ttag\n"a\tb"\tDE\n' > tabs
+"$program" csv --delimiter=tab "$sample" 2 < tabs > out 2> err; is 'csv: tabs by name' 0 'id\ttag\tlangtag_fault\n"a\tb"\tde\t\n' ''
+"$program" csv --delimiter $'\t' "$sample" 2 < tabs > out 2> err; is 'csv: tabs' 0 'id\ttag\tlangtag_fault\n"a\tb"\tde\t\n' ''
+for delimiter in '' '"' $'\n' $'\r' ';;' ä Tab; do
+    "$program" csv --delimiter "$delimiter" "$sample" 2 < tabs > out 2> err; is "csv: the delimiter $delimiter" 3 '' "error: the delimiter is one byte of ASCII but no quote, carriage return or line feed, or the word tab\n\nFor more information, try '--help'.\n"
+done
+for words in 'csv --delimiter' 'tsv --delimiter ;' 'csv --delimiter ; --delimiter ,' 'check --summary'; do
+    # shellcheck disable=SC2086
+    "$program" $words "$sample" 2 < tabs > out 2> usage; ended=$?
+    head -c 7 usage > err
+    (exit "$ended"); is "$words" 3 '' 'error: '
+done
+
 # the registry from the standard input, where that isn't read otherwise
 "$program" check - < "$sample" > out 2> err; is 'check -' 0 'ok 46\n' ''
 cat "$sample" | "$program" check - > out 2> err; is 'check -, from a pipe' 0 'ok 46\n' ''
@@ -203,7 +219,10 @@ cut -d '(' -f 1 version > out
 "$program" upgrade old < empty > out 2> usage; ended=$?
 head -c 7 usage > err
 (exit "$ended"); is usage 3 '' 'error: '
-"$program" classify $'\xff' < empty > out 2> err; is 'a word that is not UTF-8' 3 '' 'error: invalid data\n'
+"$program" classify $'\xff' < empty > out 2> err; is 'a word that is not UTF-8' 3 '' "error: word 2 is not UTF-8: \\\\xff\n\nFor more information, try '--help'.\n"
+"$program" $'\xe4 \\\e' < empty > out 2> err; is 'a command that is not UTF-8' 3 '' "error: word 1 is not UTF-8: \\\\xe4 \\\\x5c\\\\x1b\n\nFor more information, try '--help'.\n"
+long=$(head -c 100000 /dev/zero | tr '\0' a)
+"$program" classify "$long" < empty > out 2> err; is 'a long word' 1 '! TooLong 0\n' ''
 
 # what a person is told where the standard error is a terminal, and nothing of it where it is none
 # on_terminal WORD..: runs the program with a terminal of its own as its standard error, which is written to `told`.
@@ -234,6 +253,14 @@ of_records=$(faults record)
 printf 'zh-yue\nxx\nen_US\n' > input
 on_terminal canon "$sample"; is 'canon at a terminal' 1 'yue\n! UnknownLanguage 1\n! BadByte 1\n' "3 lines, 2 refused\n$of_lines"
 "$program" canon "$sample" < input > out 2> err; is 'canon at no terminal' 1 'yue\n! UnknownLanguage 1\n! BadByte 1\n' ''
+on_terminal canon --summary "$sample"; is 'canon --summary at a terminal' 1 'yue\n! UnknownLanguage 1\n! BadByte 1\n' "3 lines, 2 refused\n$of_lines"
+"$program" canon "$sample" --summary < input > out 2> err; is 'canon --summary' 1 'yue\n! UnknownLanguage 1\n! BadByte 1\n' "3 lines, 2 refused\n$of_lines"
+"$program" tsv --summary "$sample" 1 < input > out 2> err; is 'tsv --summary' 1 'yue\t\nxx\tUnknownLanguage 1\nen_US\tBadByte 1\n' "3 lines, 2 refused\n$of_lines"
+"$program" csv --summary --delimiter ';' "$sample" 1 < input > out 2> err; is 'csv --summary' 1 'zh-yue;langtag_fault\nxx;UnknownLanguage 1\nen_US;BadByte 1\n' "3 records, 2 refused\n$of_records"
+: > out
+"$program" canon --summary "$sample" < input > /dev/full 2> err; is 'canon --summary: full output' 4 '' "! Write\nWrite: The output can't be written: see whether it is closed, or the disk is full.\n"
+"$program" canon --summary missing < input > out 2> err; ended=$?; sed -n '1p; 3p' err > told; mv told err
+(exit "$ended"); is 'canon --summary: no file' 4 '' '! File\nmissing: No such file or directory (os error 2)\n'
 on_terminal tsv "$sample" 1; is 'tsv at a terminal' 1 'yue\t\nxx\tUnknownLanguage 1\nen_US\tBadByte 1\n' "3 lines, 2 refused\n$of_lines"
 on_terminal csv "$sample" 1; is 'csv at a terminal' 1 'zh-yue,langtag_fault\nxx,UnknownLanguage 1\nen_US,BadByte 1\n' "3 records, 2 refused\n$of_records"
 printf 'id,note,tag\n1,"see, File\nmore Read",zh-yue\n' > input
@@ -247,6 +274,11 @@ on_terminal tsv "$sample" 2; ended=$?; { head -c 3000000 /dev/zero | tr '\0' a; 
 on_terminal check "$sample"; is 'check at a terminal' 0 'ok 46\n' ''
 on_terminal classify xx-; ended=$?; cut -c1-12 err > told; mv told err
 (exit "$ended"); is 'classify at a terminal' 1 '! EmptySubtag 2\n' 'EmptySubtag:\n'
+printf 'File-Date: 2024-01-01\n%%%%\nType: region\nSubtag: BU\nPreferred-Value: MM\n' > refused
+on_terminal check refused; ended=$?; cut -c1-28 err > told; mv told err
+(exit "$ended"); is 'check at a terminal: a record' 2 'check C2 record 2\n' 'C2: The value of a language,\nrecord 2: region BU, line 3\n'
+on_terminal upgrade old new; ended=$?; tail -n 1 err > told; mv told err
+(exit "$ended"); is 'upgrade at a terminal: a record' 2 'upgrade U1 record 3\n' 'record 3: language fr, line 6\n'
 on_terminal check missing; ended=$?; sed -n '1p; 3p' err > told; mv told err
 (exit "$ended"); is 'check at a terminal: no file' 4 '' '! File\nmissing: No such file or directory (os error 2)\n'
 on_terminal --help; ended=$?; : > out

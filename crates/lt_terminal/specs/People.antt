@@ -1,13 +1,14 @@
 -- A run of the program for a person at a terminal.
-use Rattle.std.specs.Prelude.{◌≡◌, ◌⊎◌, ◌==◌, ◌++◌, ℕ, true, false, if◌then◌else◌, List, [], ◌∷◌, Option, Some, None, codes, nat_eq, take}
+use Rattle.std.specs.Prelude.{◌≡◌, ◌⊎◌, ◌==◌, ◌++◌, ◌||◌, ℕ, Bool, true, false, if◌then◌else◌, List, [], ◌∷◌, Option, Some, None, codes, map, nat_eq, take}
 use Rattle.std.specs.List.{before_first, slice_split, starts_with}
 use Rattle.std.specs.Option.{option_or}
 use Rattle.lt_jar.specs.Devices.{inner_of}
 use Rattle.lt_jar.specs.declared.devices.Device.{Device}
 use Rattle.lt_terminal.specs.Meanings.{message_of}
-use Rattle.lt_terminal.specs.Table.{counts_line, tallies_told}
+use Rattle.lt_terminal.specs.Table.{counts_line, shown_byte, tallies_told}
 use Rattle.lt_terminal.specs.Watching.{most_kept}
 use Rattle.lt_terminal.specs.declared.watched.Watched.{Watched}
+use Rattle.lt_words.specs.Reading.{has_summary}
 use Rattle.lt_words.specs.declared.commands.Command.{Command}
 use Rattle.lt_words.specs.declared.commands.Command.TheVariants as command
 use Rattle.lt_words.specs.declared.faults.WordsFault.{WordsFault}
@@ -18,15 +19,23 @@ use Rattle.lt_tool.specs.declared.answered.Answered.{Answered}
 
 -- what a command answers one by one, if it does: lines, or records
 abbrev pub unit_of : Command → Option (List ℕ)
-unit_of (command.Canon name) = Some (codes "line")
-unit_of (command.Tsv name column) = Some (codes "line")
-unit_of (command.Csv name column) = Some (codes "record")
+unit_of (command.Canon run) = Some (codes "line")
+unit_of (command.Tsv run column) = Some (codes "line")
+unit_of (command.Csv run column delimiter) = Some (codes "record")
 unit_of _ = None
 
--- the same of the command that the words name; nothing where they name none
-abbrev pub IsAsked : GivenWords → Option (Option (List ℕ)) → Type 0
-IsAsked words (Some unit) = (command : Command) × NamesCommand words command × (unit ≡ unit_of command)
-IsAsked words None = (why : WordsFault) × IsProgramFault words why
+-- whether a person is told of a run of this command: at a terminal, or where the words ask for a summary
+abbrev pub is_told : (at_terminal : Bool) → Command → Bool
+is_told at_terminal command = at_terminal || has_summary command
+
+-- what the command that the words name answers one by one, if a person is told of its run; nothing where none is, or the words
+-- name no command
+abbrev pub IsAsked : GivenWords → (at_terminal : Bool) → Option (Option (List ℕ)) → Type 0
+IsAsked words at_terminal (Some unit) =
+    (command : Command) × NamesCommand words command × (is_told at_terminal command ≡ true) × (unit ≡ unit_of command)
+IsAsked words at_terminal None =
+    ((why : WordsFault) × IsProgramFault words why)
+    ⊎ ((command : Command) × NamesCommand words command × (is_told at_terminal command ≡ false))
 
 -- the message for the first word that names a fault
 abbrev pub first_message : List (List ℕ) → Option (List ℕ)
@@ -56,33 +65,43 @@ told_of None result answered shown = meaning_of shown
 told_of (Some unit) result answered shown =
     if result == 2 then meaning_of shown else counts_line unit answered.counts ++ tallies_told unit answered.tallies
 
+-- a line that tells where a record is, byte by byte as a text that was refused is shown
+abbrev pub place_line : List ℕ → List ℕ
+place_line [] = []
+place_line (byte ∷ place) = map shown_byte (byte ∷ place) ++ 10 ∷ []
+
+-- the same, if a registry or an upgrade was refused
+abbrev pub place_told : (result : ℕ) → (place : List ℕ) → List ℕ
+place_told result place = if result == 2 then place_line place else []
+
 -- the lines that a person is told by the front of the output and that of the errors
-abbrev pub told_lines : Option (List ℕ) → (result : ℕ) → Answered → (refusal shown said : List ℕ) → List ℕ
-told_lines unit result answered refusal shown said =
-    told_of unit result answered shown ++ meaning_of said ++ refusal_of refusal (meaning_of said)
+abbrev pub told_lines : Option (List ℕ) → (result : ℕ) → Answered → (place refusal shown said : List ℕ) → List ℕ
+told_lines unit result answered place refusal shown said =
+    told_of unit result answered shown ++ place_told result place ++ meaning_of said ++ refusal_of refusal (meaning_of said)
 
 -- the front of the bytes that a writer holds, where they are known
 abbrev pub IsFront : Option (List ℕ) → List ℕ → Type 0
 IsFront contents front = (bytes : List ℕ) → contents ≡ Some bytes → front ≡ take most_kept bytes
 
 -- the lines that a person is told of these bytes on the output and those on the errors
-pub record AreTold (unit : Option (List ℕ)) (result : ℕ) (answered : Answered) (refusal : List ℕ) (shown said : Option (List ℕ))
+pub record AreTold (unit : Option (List ℕ)) (result : ℕ) (answered : Answered) (shown said : Option (List ℕ))
     (lines : List ℕ) : Type 0 where
+  pub place : List ℕ
+  pub refusal : List ℕ
   pub output_front : List ℕ
   pub errors_front : List ℕ
   pub of_output : IsFront shown output_front
   pub of_errors : IsFront said errors_front
-  pub lines_are : lines ≡ told_lines unit result answered refusal output_front errors_front
+  pub lines_are : lines ≡ told_lines unit result answered place refusal output_front errors_front
 
 -- a person is told these lines, unless there is no memory for them
 pub record SaysLines {T : Type 0} (unit : Option (List ℕ)) (result : ℕ) (answered : Answered) (shown said : Option (List ℕ))
     (people : Stream T) : Type 0 where
-  pub refusal : List ℕ
   pub lines : List ℕ
-  pub are_told : AreTold unit result answered refusal shown said lines
+  pub are_told : AreTold unit result answered shown said lines
   pub says : Says people lines
 
--- what a person is told after a run that ended so, where the words name a command
+-- what a person is told after a run that ended so, if one is told of it
 abbrev pub Tells : {T : Type 0} → Option (Option (List ℕ)) → (result : ℕ) → Answered → (shown said : Option (List ℕ)) → Stream T → Type 0
 Tells None result answered shown said people = IsUntouched people
 Tells (Some unit) result answered shown said people =
@@ -98,7 +117,7 @@ pub record IsWatched {W : Type 0} (inner : W) (device : Device (Watched W)) : Ty
 pub record RunsForPeople {P F N I O E T : Type 0} (words : GivenWords)
     (opener : Opener P F) (of_none : N → Option (List ℕ)) (input : Stream I)
     (of_output : Watched O → Option (List ℕ)) (output : O) (of_errors : Watched E → Option (List ℕ)) (errors : E)
-    (people : Stream T) (result : ℕ) : Type 0 where
+    (people : Stream T) (at_terminal : Bool) (result : ℕ) : Type 0 where
   pub output_before : Device (Watched O)
   pub output_after : Device (Watched O)
   pub errors_before : Device (Watched E)
@@ -112,5 +131,5 @@ pub record RunsForPeople {P F N I O E T : Type 0} (words : GivenWords)
   pub runs : RunsProgram words opener of_none input (stream of_output output_before output_after)
       (stream of_errors errors_before errors_after) (handed none_answered answered) result
   pub asked : Option (Option (List ℕ))
-  pub is_asked : IsAsked words asked
+  pub is_asked : IsAsked words at_terminal asked
   pub tells : Tells asked result answered (of_output (inner_of output_after)) (of_errors (inner_of errors_after)) people

@@ -1,21 +1,39 @@
-//! Why a file could not be opened.
+//! Why a file could not be opened, and what was read of those that were.
 ghost use Rattle.std.specs.Prelude.{◌≡◌};
+ghost use Rattle.std.specs.Io.KnownBytes.{ReadConsumes};
+ghost use Rattle.std.specs.Io.{ReadsAtMost};
 
-use std::alloc::Global;
+use crate::records::{named_in, told_place};
+use std::alloc::{AllocError, Global};
 use std::cell::Cell;
-use std::io;
+use std::io::{self, Read};
 
-/// Why the last file that could not be opened was not, in a line for a person.
+/// The most bytes of a file that are kept.
+const MOST_TRACED: usize = 16_777_216;
+
+/// Why the last file that could not be opened was not, in a line for a person; and the bytes that were read of the first
+/// file and of the second.
 #[derive(Drop)]
 pub struct Openings {
     refusal: Cell<Option<String>>,
+    first: Cell<Option<Vec<u8>>>,
+    second: Cell<Option<Vec<u8>>>,
+}
+
+/// A file of which what is read is kept in an [`Openings`], up to 16 MiB and if there is memory for it.
+#[derive(Drop)]
+pub struct Traced<'a, F> {
+    inner: F,
+    bytes: &'a Cell<Option<Vec<u8>>>,
 }
 
 impl Openings {
-    /// No file was refused so far.
+    /// No file was opened so far.
     pub fn new() -> Openings {
         Openings {
             refusal: Cell::new(None),
+            first: Cell::new(None),
+            second: Cell::new(None),
         }
     }
 
@@ -31,8 +49,60 @@ impl Openings {
         answer
     }
 
+    /// A file that was opened, of which what is read is kept: the first that is given, and then the second.
+    pub fn traced<'a, F>(&'a self, alloc: Global, file: F) -> Traced<'a, F>
+        ensures { result.inner ≡ file }
+    {
+        let first = self.first.take();
+        let bytes = if first.is_some() {
+            &self.second
+        } else {
+            &self.first
+        };
+        self.first.set(first);
+        bytes.set(Some(Vec::new(alloc)));
+        Traced { inner: file, bytes }
+    }
+
     /// The line that was kept, which is kept no longer.
     pub(crate) fn take(&self) -> Option<String> {
         self.refusal.take()
+    }
+
+    /// What the record is and where it begins that a line names which refuses a registry or an upgrade, if that is known.
+    pub(crate) fn place(&self, alloc: Global, line: &[u8]) -> Option<String> {
+        let named = named_in(std::str::from_utf8(line).ok()?)?;
+        let bytes = if named.is_second {
+            self.second.take()?
+        } else {
+            self.first.take()?
+        };
+        told_place(alloc, std::str::from_utf8(&bytes).ok()?, named.number)
+    }
+}
+
+/// Appends what was read, if there is room.
+fn append_traced(bytes: &mut Vec<u8>, more: &[u8]) -> Result<(), AllocError> {
+    if bytes.len().saturating_add(more.len()) > MOST_TRACED {
+        return Err(AllocError);
+    }
+    bytes.extend_from_slice(more)
+}
+
+impl<'a, F: Read> Read for Traced<'a, F> {
+    ghost remaining = { λ traced. F.remaining traced.inner };
+
+    /// What one call of the file's `read` answers.
+    fn read(&mut self, buf: &mut [u8]) -> io::Result<usize>
+        ensures bound { ReadsAtMost result buf.new }
+        ensures bytes { ReadConsumes (F.remaining self.old.inner) (F.remaining self.new.inner) result buf.new }
+    {
+        let count = self.inner.read(buf)?;
+        if let Some(mut bytes) = self.bytes.take() {
+            if append_traced(&mut bytes, &buf[..count]).is_ok() {
+                self.bytes.set(Some(bytes));
+            }
+        }
+        Ok(count)
     }
 }

@@ -8,15 +8,15 @@ use crate::openings::Openings;
 use crate::telling::{asked_by, tell};
 use crate::watched::Watched;
 use lt_jar::Device;
-use lt_tool::{Answered, run_program};
+use lt_tool::{Answered, WordsFault, run_program};
 use std::alloc::Global;
 use std::io::{self, Read, Write};
 
-/// Runs the program as [`run_program`] does, and then tells a person on `people` what it came to. Of `canon`, `tsv` and
-/// `csv`: how many lines or records were answered and how many refused, if all of them were answered; and for each fault
+/// Runs the program as [`run_program`] does, and then, at a terminal or where the words ask for a summary, tells a person on
+/// `people` what it came to. Of `canon`, `tsv` and `csv`: how many lines or records were answered and how many refused, if all of them were answered; and for each fault
 /// how many it refused, which was the first, and what to do. Of a run with one answer: what the fault means that the
-/// answer tells, and what to do; and the same of the fault on `errors`. Where a file can't be opened, a line says which
-/// and why, if `opener` kept that in `openings`.
+/// answer tells, and what to do; and the same of the fault on `errors`. Where a record is refused, a line says what it is
+/// and where it begins, and where a file can't be opened, which and why, if `opener` kept that in `openings`.
 pub fn run_for_people<
     F: Read + Drop,
     P: FnMut(&str) -> io::Result<F>,
@@ -26,21 +26,22 @@ pub fn run_for_people<
     T: Write,
 >(
     alloc: Global,
-    words: io::Result<Vec<String>>,
+    words: Result<Vec<String>, WordsFault>,
     opener: &mut P,
     openings: &Openings,
     input: &mut Device<I>,
     output: O,
     errors: E,
     people: &mut Device<T>,
+    at_terminal: bool,
 ) -> u8
     requires { P.IsAlwaysCallable opener.old }
     ensures { RunsForPeople (texts_of words) (opener_of (CalledAt P.FnMut) F.remaining opener.old opener.new)
         ⟦<&'static [u8] as Read>⟧.remaining (stream I.remaining input.old input.new)
         ⟦<Watched<O> as Write>⟧.contents output ⟦<Watched<E> as Write>⟧.contents errors
-        (stream T.contents people.old people.new) result }
+        (stream T.contents people.old people.new) at_terminal result }
 {
-    let asked = asked_by(alloc, &words);
+    let asked = asked_by(alloc, &words, at_terminal);
     let mut output = Device::new(Watched::new(output));
     let mut errors = Device::new(Watched::new(errors));
     let mut answered = Answered::new(alloc);
@@ -53,13 +54,12 @@ pub fn run_for_people<
         &mut errors,
         &mut answered,
     );
-    let refusal = openings.take().unwrap_or(String::new(alloc));
     tell(
         alloc,
         asked,
         status,
         &answered,
-        refusal.as_str(),
+        openings,
         &mut output,
         &mut errors,
         people,

@@ -46,7 +46,7 @@ fn shown_byte(byte: u8) -> u8
 }
 
 /// Appends the bytes that are shown for a text.
-fn append_shown(told: &mut Vec<u8>, text: &[u8]) -> Result<(), AllocError>
+pub(crate) fn append_shown(told: &mut Vec<u8>, text: &[u8]) -> Result<(), AllocError>
     ensures { OnOk result (told.new.items ≡ told.old.items ++ map spec.shown_byte text.now) }
 {
     for byte in text {

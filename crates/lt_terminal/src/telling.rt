@@ -9,12 +9,13 @@ ghost use Rattle.lt_tool.specs.Streams.{stream};
 ghost use Rattle.lt_tool.specs.Written.{Says};
 
 use crate::meanings::message_of;
-use crate::table::{append_counts, append_tallies};
+use crate::openings::Openings;
+use crate::table::{append_counts, append_shown, append_tallies};
 use crate::watched::Watched;
 use lt_jar::Device;
 use lt_lines::write_text;
 use lt_rows::split_first;
-use lt_tool::{Answered, Command, Status, read_words};
+use lt_tool::{Answered, Command, Status, WordsFault, read_words};
 use std::alloc::{AllocError, Global};
 use std::io::{self, Read, Write};
 
@@ -24,24 +25,38 @@ pub(crate) fn unit_of(command: &Command) -> Option<&'static str>
 {
     match command {
         Command::Canon(_) | Command::Tsv(_, _) => Some("line"),
-        Command::Csv(_, _) => Some("record"),
+        Command::Csv(_, _, _) => Some("record"),
         _ => None,
     }
 }
 
-/// The same of the command that the words name; nothing where they name none.
+/// Whether a person is told of a run of this command.
+fn is_told(at_terminal: bool, command: &Command) -> bool
+    ensures { result ≡ spec.is_told at_terminal command.now }
+{
+    at_terminal || command.has_summary()
+}
+
+/// What the command that the words name answers one by one, if a person is told of its run. Nothing where none
+/// is, or the words name no command.
 pub(crate) fn asked_by(
     alloc: Global,
-    words: &io::Result<Vec<String>>,
+    words: &Result<Vec<String>, WordsFault>,
+    at_terminal: bool,
 ) -> Option<Option<&'static str>>
-    ensures { IsAsked (texts_of words.now) (option_map (λ unit. option_map (λ text. text.now) unit) result) }
+    ensures { IsAsked (texts_of words.now) at_terminal (option_map (λ unit. option_map (λ text. text.now) unit) result) }
 {
-    match words {
-        Ok(words) => match read_words(alloc, words) {
-            Ok(command) => Some(unit_of(&command)),
-            Err(_) => None,
-        },
-        Err(_) => None,
+    let Ok(words) = words else {
+        return None;
+    };
+    let command = match read_words(alloc, words) {
+        Ok(command) => command,
+        Err(_) => return None,
+    };
+    if is_told(at_terminal, &command) {
+        Some(unit_of(&command))
+    } else {
+        None
     }
 }
 
@@ -119,6 +134,18 @@ fn append_output(
     }
 }
 
+/// Appends a line that tells where a record is, if a registry or an upgrade was refused and the place is known.
+fn append_place(told: &mut Vec<u8>, status: u8, place: &str) -> Result<(), AllocError>
+    ensures { OnOk result (told.new.items ≡ told.old.items ++ spec.place_told status place.now) }
+{
+    if status != Status::RegistryRefused.code() || place.is_empty() {
+        return Ok(());
+    }
+    append_shown(told, place.as_bytes())?;
+    told.push(b'\n')?;
+    Ok(())
+}
+
 /// Appends what is said of the errors.
 fn append_errors(told: &mut Vec<u8>, refusal: &str, said: &[u8]) -> Result<(), AllocError>
     ensures { OnOk result (told.new.items ≡ told.old.items ++ (spec.meaning_of said.now ++ spec.refusal_of refusal.now (spec.meaning_of said.now))) }
@@ -146,14 +173,16 @@ fn lines_of(
     unit: Option<&str>,
     status: u8,
     answered: &Answered,
+    place: &str,
     refusal: &str,
     shown: &[u8],
     said: &[u8],
 ) -> Result<Vec<u8>, AllocError>
-    ensures { IfOk result (λ lines. lines.items ≡ told_lines (option_map (λ text. text.now) unit.entry) status answered.now refusal.now shown.now said.now) }
+    ensures { IfOk result (λ lines. lines.items ≡ told_lines (option_map (λ text. text.now) unit.entry) status answered.now place.now refusal.now shown.now said.now) }
 {
     let mut told = Vec::new(alloc);
     append_output(&mut told, alloc, unit, status, answered, shown)?;
+    append_place(&mut told, status, place)?;
     append_errors(&mut told, refusal, said)?;
     Ok(told)
 }
@@ -164,16 +193,20 @@ fn told_of_run<O: Write, E: Write>(
     unit: Option<&str>,
     status: u8,
     answered: &Answered,
-    refusal: &str,
+    openings: &Openings,
     output: &mut Device<Watched<O>>,
     errors: &mut Device<Watched<E>>,
 ) -> io::Result<Vec<u8>>
-    ensures { IfOk result (λ lines. AreTold (option_map (λ text. text.now) unit.entry) status answered.now refusal.now (⟦<Watched<O> as Write>⟧.contents (inner_of output.old))
+    ensures { IfOk result (λ lines. AreTold (option_map (λ text. text.now) unit.entry) status answered.now (⟦<Watched<O> as Write>⟧.contents (inner_of output.old))
         (⟦<Watched<E> as Write>⟧.contents (inner_of errors.old)) lines.items) }
 {
     let shown = front_of(alloc, output)?;
     let said = front_of(alloc, errors)?;
-    Ok(lines_of(alloc, unit, status, answered, refusal, &shown, &said)?)
+    let none = String::new(alloc);
+    let place = openings.place(alloc, first_line(&shown)).unwrap_or(none);
+    let refusal = openings.take().unwrap_or(String::new(alloc));
+    let (place, refusal) = (place.as_str(), refusal.as_str());
+    Ok(lines_of(alloc, unit, status, answered, place, refusal, &shown, &said)?)
 }
 
 /// Writes a text, up to the first write that fails, which the device counts.
@@ -183,13 +216,13 @@ pub(crate) fn say<T: Write>(text: &[u8], people: &mut Device<T>)
     let _ = write_text(text, people);
 }
 
-/// Tells a person what a run that ended so came to, if the words name a command and there is memory for it.
+/// Tells a person what a run that ended so came to, if one is told of it and there is memory for it.
 pub(crate) fn tell<O: Write, E: Write, T: Write>(
     alloc: Global,
     asked: Option<Option<&str>>,
     status: u8,
     answered: &Answered,
-    refusal: &str,
+    openings: &Openings,
     output: &mut Device<Watched<O>>,
     errors: &mut Device<Watched<E>>,
     people: &mut Device<T>,
@@ -200,7 +233,7 @@ pub(crate) fn tell<O: Write, E: Write, T: Write>(
     let Some(unit) = asked else {
         return;
     };
-    if let Ok(lines) = told_of_run(alloc, unit, status, answered, refusal, output, errors) {
+    if let Ok(lines) = told_of_run(alloc, unit, status, answered, openings, output, errors) {
         say(&lines, people);
     }
 }

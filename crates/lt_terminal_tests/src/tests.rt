@@ -1,7 +1,7 @@
 //! Runs of the program, what they write, and what a person is told after each.
 use lt_jar::{Device, Takes};
 use lt_terminal::{Openings, Progress, message_of, run_for_people};
-use lt_tool::Status;
+use lt_tool::{Status, WordsFault};
 use std::alloc::{AllocError, Global};
 use std::io::{self, ErrorKind, Write};
 
@@ -12,6 +12,24 @@ const OLD: &[u8] =
 /// A registry without the second of them.
 const NEW: &[u8] = b"File-Date: 2024-02-01\n%%\nType: language\nSubtag: en\n";
 
+/// A registry of which the record in line 6 fails a condition; a blank line, and a separator too many.
+const REGION: &[u8] =
+    b"%%\n\nFile-Date: 2024-01-01\n%% \r\n%%\nType: region\r\nSubtag : BU\r\nDescription: Burma\r\n of once\r\nPreferred-Value: MM\r\n%%\nType: language\nSubtag: en\n";
+
+/// A registry of which a record has no name.
+const NAMELESS: &[u8] = b"File-Date: 2024-01-01\n%%\nType: language\n";
+
+/// A registry of which a record has a name that a terminal would obey.
+const HOSTILE: &[u8] = b"File-Date: 2024-01-01\n%%\nType: language\nSubtag: \x1b[31m\n";
+
+/// A registry of a variant and a language.
+const VARIANT: &[u8] =
+    b"File-Date: 2024-01-01\n%%\nType: variant\nSubtag: heploc\n%%\nType: language\nSubtag: ja\n";
+
+/// One in which the variant becomes the language.
+const LANGUAGE: &[u8] =
+    b"File-Date: 2024-01-01\n%%\nType: language\nSubtag: ja\n%%\nType: variant\nSubtag: heploc\nPreferred-Value: ja\nPrefix: ja\n";
+
 /// Opens the file of this name.
 fn open_text(name: &str) -> io::Result<&'static [u8]> {
     match name {
@@ -19,6 +37,11 @@ fn open_text(name: &str) -> io::Result<&'static [u8]> {
         "new" => Ok(NEW),
         "empty" => Ok(b""),
         "other" => Ok(b"no registry\n"),
+        "region" => Ok(REGION),
+        "nameless" => Ok(NAMELESS),
+        "hostile" => Ok(HOSTILE),
+        "variant" => Ok(VARIANT),
+        "language" => Ok(LANGUAGE),
         _ => Err(io::Error::from(ErrorKind::NotFound)),
     }
 }
@@ -43,21 +66,33 @@ type Run = (
     Status,
 );
 
-/// Whether a run goes so.
-fn goes(alloc: Global, run: &Run) -> bool {
-    let (words, input, shown, said, told, end) = run;
-    let words = command_line(alloc, words).map_err(io::Error::from);
+/// Whether a run with these words after its own goes so, and a person is told this.
+fn goes_told(alloc: Global, run: &Run, more: &[&str], at_terminal: bool, told: &str) -> bool {
+    let (words, input, shown, said, _, end) = run;
+    let Ok(words) = Vec::from_slice(alloc, words) else {
+        return false;
+    };
+    let mut words = words;
+    if words.extend_from_slice(more).is_err() {
+        return false;
+    }
+    let words = words.as_slice();
+    let words = command_line(alloc, words).map_err(WordsFault::from);
     let (mut output, mut errors, mut people) = (Vec::new(alloc), Vec::new(alloc), Vec::new(alloc));
     let openings = Openings::new();
     let status = run_for_people(
         alloc,
         words,
-        &mut |name| openings.kept(alloc, name, open_text(name)),
+        &mut |name| {
+            let file = openings.kept(alloc, name, open_text(name))?;
+            Ok(openings.traced(alloc, file))
+        },
         &openings,
         &mut Device::new(input.as_bytes()),
         &mut output,
         &mut errors,
         &mut Device::new(&mut people),
+        at_terminal,
     );
     status == end.code()
         && output.as_slice() == shown.as_bytes()
@@ -65,8 +100,35 @@ fn goes(alloc: Global, run: &Run) -> bool {
         && people.as_slice() == told.as_bytes()
 }
 
+/// Whether a run at a terminal goes so.
+fn goes(alloc: Global, run: &Run) -> bool {
+    goes_told(alloc, run, &[], true, run.4)
+}
+
 const BAD_LINE: &str =
     "BadLine: Neither a field, %%, nor a continuation. This is no registry, or not its plain text: get one from https://www.iana.org/assignments/language-subtag-registry/language-subtag-registry, or remove a byte order mark.\n";
+
+/// What a person is told after a run by these words, and what it prints.
+fn told_of(alloc: Global, words: &[&str]) -> (Vec<u8>, Vec<u8>) {
+    let words = command_line(alloc, words).map_err(WordsFault::from);
+    let (mut output, mut errors, mut people) = (Vec::new(alloc), Vec::new(alloc), Vec::new(alloc));
+    let openings = Openings::new();
+    run_for_people(
+        alloc,
+        words,
+        &mut |name| {
+            let file = openings.kept(alloc, name, open_text(name))?;
+            Ok(openings.traced(alloc, file))
+        },
+        &openings,
+        &mut Device::new(b"".as_slice()),
+        &mut output,
+        &mut errors,
+        &mut Device::new(&mut people),
+        true,
+    );
+    (people, output)
+}
 
 /// Runs over lines, rows and records.
 const COUNTED: [Run; 14] = [
@@ -255,7 +317,7 @@ const SINGLE: [Run; 10] = [
         "",
         "upgrade U1 record 3\n",
         "",
-        "U1: The newer registry lacks a subtag, or a part of a range, of the older one: register it.\n",
+        "U1: The newer registry lacks a subtag, or a part of a range, of the older one: register it.\nrecord 3: language fr, line 6\n",
         Status::RegistryRefused,
     ),
     (
@@ -268,6 +330,61 @@ const SINGLE: [Run; 10] = [
     ),
 ];
 
+/// Runs that refuse a record: the words, the front of what they print, and the line that a person is told of the record.
+const PLACED: [(&[&str], &str, &str); 6] = [
+    (
+        &["check", "region"],
+        "check C2 record 2\n",
+        "record 2: region BU, line 6\n",
+    ),
+    (
+        &["canon", "region"],
+        "check C2 record 2\n",
+        "record 2: region BU, line 6\n",
+    ),
+    (
+        &["upgrade", "new", "region"],
+        "new check C2 record 2\n",
+        "record 2: region BU, line 6\n",
+    ),
+    (
+        &["check", "nameless"],
+        "record 2 MissingName\n",
+        "record 2: language , line 3\n",
+    ),
+    (
+        &["check", "hostile"],
+        "record 2 BadSubtag\n",
+        "record 2: language ?[31m, line 3\n",
+    ),
+    (
+        &["upgrade", "variant", "language"],
+        "upgrade U5 record 3\n",
+        "record 3: variant heploc, line 6\n",
+    ),
+];
+
+#[test]
+fn records_are_told(rt: HostRuntime) {
+    for (words, shown, told) in &PLACED {
+        let (people, output) = told_of(rt.alloc(), words);
+        assert!(rt; output.as_slice() == shown.as_bytes(), "{shown}");
+        assert!(rt; people.as_slice().ends_with(told.as_bytes()), "{told}");
+    }
+}
+
+#[test]
+fn summaries_at_no_terminal(rt: HostRuntime) {
+    for run in &COUNTED {
+        assert!(rt; goes_told(rt.alloc(), run, &["--summary"], false, run.4));
+        assert!(rt; goes_told(rt.alloc(), run, &["--summary"], true, run.4));
+        assert!(rt; goes_told(rt.alloc(), run, &[], false, ""));
+    }
+    for run in &SINGLE {
+        assert!(rt; goes_told(rt.alloc(), run, &[], false, ""));
+    }
+}
+
 #[test]
 fn runs_with_one_answer(rt: HostRuntime) {
     for run in &SINGLE {
@@ -277,7 +394,7 @@ fn runs_with_one_answer(rt: HostRuntime) {
 
 /// What a person is told after a run by these words whose output fails at this call, and how it ends.
 fn told_after_failure(alloc: Global, words: &[&str], call: u64) -> (Vec<u8>, u8) {
-    let words = command_line(alloc, words).map_err(io::Error::from);
+    let words = command_line(alloc, words).map_err(WordsFault::from);
     let (mut output, mut errors, mut people) = (
         Takes::new(alloc, 1),
         Vec::new(alloc),
@@ -288,21 +405,31 @@ fn told_after_failure(alloc: Global, words: &[&str], call: u64) -> (Vec<u8>, u8)
     let status = run_for_people(
         alloc,
         words,
-        &mut |name| openings.kept(alloc, name, open_text(name)),
+        &mut |name| {
+            let file = openings.kept(alloc, name, open_text(name))?;
+            Ok(openings.traced(alloc, file))
+        },
         &openings,
         &mut Device::new(b"EN\nde\n".as_slice()),
         &mut output,
         &mut errors,
         &mut Device::new(&mut people),
+        true,
     );
     (people, status)
 }
 
+/// What a person is told where the output fails: no table, though a line was refused.
+const WRITE: &str =
+    "Write: The output can't be written: see whether it is closed, or the disk is full.\n";
+
 #[test]
 fn outputs_that_fail(rt: HostRuntime) {
-    let (told, status) = told_after_failure(rt.alloc(), &["canon", "new"], 1);
-    assert!(rt; status == Status::Failed.code());
-    assert!(rt; told.as_slice().ends_with(b"closed, or the disk is full.\n"));
+    for call in [1u64, 5, 23] {
+        let (told, status) = told_after_failure(rt.alloc(), &["canon", "new"], call);
+        assert!(rt; status == Status::Failed.code());
+        assert!(rt; told.as_slice() == WRITE.as_bytes());
+    }
     let (told, status) = told_after_failure(rt.alloc(), &["--help"], 1);
     assert!(rt; status == Status::Failed.code());
     assert!(rt; told.is_empty());

@@ -19,7 +19,9 @@ use Rattle.lt_lines.specs.Running.{RunsLines}
 use Rattle.lt_lines.specs.declared.forms.LineForm.{LineForm}
 use Rattle.lt_lines.specs.declared.forms.LineForm.TheVariants as forms
 use Rattle.lt_lines.specs.declared.faults.ToolFault.{ToolFault}
+use Rattle.lt_lines.specs.declared.faults.ToolFault.TheVariants as faults
 use Rattle.lt_lines.specs.declared.runs.Counts.{Counts}
+use Rattle.lt_tallies.specs.declared.Tally.{Tally}
 use Rattle.lt_words.specs.declared.commands.Command.{Command}
 use Rattle.lt_words.specs.declared.commands.Command.TheVariants as command
 use Rattle.lt_words.specs.declared.faults.WordsFault.{WordsFault}
@@ -79,14 +81,23 @@ EndsRun errors (Ok counts) result =
     IsUntouched errors × (result ≡ code_of (if counts.refused == 0 then status.Done else status.Refused))
 EndsRun errors (Err fault) result = Says errors (fault_said fault) × (result ≡ code_of status.Failed)
 
+-- The tallies of a run that are handed up: where a write or memory failed, none, since it is not known which answers were
+-- written.
+abbrev pub tallies_after : Result Counts ToolFault → List Tally → List Tally
+tallies_after (Err faults.Write) tallies = []
+tallies_after (Err faults.OutOfMemory) tallies = []
+tallies_after end tallies = tallies
+
 -- the lines of the input were answered by the registry of the file
 pub record RunsCanon {I O E : Type 0} (form : LineForm) (reading : Reading)
     (input : Stream I) (output : Stream O) (errors : Stream E) (answered : Handed) (result : ℕ) : Type 0 where
   pub entries : List EntryParts
   pub registry : HoldsRegistry reading entries
   pub end : Result Counts ToolFault
+  pub tallies : List Tally
   pub runs : RunsLines (terms entries form) input.bytes output.bytes
-      input.before input.after output.before output.after answered.after.tallies end
+      input.before input.after output.before output.after tallies end
+  pub handed : answered.after.tallies ≡ tallies_after end tallies
   pub counts : answered.after.counts ≡ result_ok end
   pub ends : EndsRun errors end result
 
@@ -110,12 +121,12 @@ Performs (command.Classify tag) first second input output errors answered result
     × PrintsOrLacks (Classifies (string_bytes tag)) output errors result
 Performs (command.Check name) first second input output errors answered result =
     HandsNone answered × IsUntouched second × IsUntouched input × PrintsByFile Checks first output errors result
-Performs (command.Canon name) first second input output errors answered result =
+Performs (command.Canon run) first second input output errors answered result =
     IsUntouched second × ReadsFile first (Canonicalises forms.Tag input output errors answered result)
-Performs (command.Tsv name column) first second input output errors answered result =
+Performs (command.Tsv run column) first second input output errors answered result =
     IsUntouched second × ReadsFile first (Canonicalises (forms.Row (column - 1)) input output errors answered result)
-Performs (command.Csv name column) first second input output errors answered result =
-    IsUntouched second × ReadsFile first (Canonicalises (forms.Csv (column - 1) 44) input output errors answered result)
+Performs (command.Csv run column delimiter) first second input output errors answered result =
+    IsUntouched second × ReadsFile first (Canonicalises (forms.Csv (column - 1) delimiter) input output errors answered result)
 Performs (command.Extlang name tag) first second input output errors answered result =
     HandsNone answered × IsUntouched second × IsUntouched input
     × PrintsByFile (ByRegistry (λ R. FormsExtlang R (string_bytes tag))) first output errors result

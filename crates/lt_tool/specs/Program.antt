@@ -11,7 +11,6 @@ use Rattle.lt_jar.specs.declared.devices.Device.{Device}
 use Rattle.lt_words.specs.Reading.{IsRefused, Reads, first_file_of, reads_input_of, second_file_of}
 use Rattle.lt_words.specs.declared.commands.Command.{Command}
 use Rattle.lt_words.specs.declared.faults.WordsFault.{WordsFault}
-use Rattle.lt_words.specs.declared.faults.WordsFault.TheVariants as fault
 use Rattle.lt_tool.specs.Codes.{code_of}
 use Rattle.lt_tool.specs.Printed.{Performs, Reports}
 use Rattle.lt_tool.specs.Streams.{IsUntouched, HandsNone, Stream, Handed, stream}
@@ -20,25 +19,22 @@ use Rattle.lt_tool.specs.declared.status.Status.TheVariants as status
 
 -- the words of the command line, or why they can't be had
 abbrev pub GivenWords : Type 0
-GivenWords = Result (List (List ℕ)) Error
+GivenWords = Result (List (List ℕ)) WordsFault
 
 -- the bytes of each word
-abbrev pub texts_of : Result (Vec (String Global) Global) Error → GivenWords
+abbrev pub texts_of : Result (Vec (String Global) Global) WordsFault → GivenWords
 texts_of (Ok words) = Ok (map string_bytes words.items)
-texts_of (Err error) = Err error
+texts_of (Err why) = Err why
 
 -- the words are there, and name this command
 abbrev pub NamesCommand : GivenWords → Command → Type 0
 NamesCommand (Ok words) command = Reads words command
-NamesCommand (Err error) command = ⊥
+NamesCommand (Err why) command = ⊥
 
--- why there is no command; out of memory aside, words that can't be had are a fault of usage
+-- why there is no command: the words name none, or can't be had
 abbrev pub IsProgramFault : GivenWords → WordsFault → Type 0
 IsProgramFault (Ok words) f = IsRefused words f
-IsProgramFault (Err error) (fault.Help text) = ⊥
-IsProgramFault (Err error) (fault.Version text) = ⊥
-IsProgramFault (Err error) (fault.Usage text) = error_kind error ≢ kinds.OutOfMemory
-IsProgramFault (Err error) fault.OutOfMemory = Unit {0}
+IsProgramFault (Err why) f = f ≡ why
 
 -- what opens files: a call on a name leads from one of its states to the next, with this answer; the bytes of a file;
 -- and its state before and after the run

@@ -5,7 +5,7 @@ ghost use Rattle.lt_tool.specs.Codes.{code_of};
 ghost use Rattle.lt_tool.specs.Streams.{handed, stream};
 ghost use Rattle.lt_tool.specs.Written.{Prints, Says, file_line, memory_line};
 ghost use Rattle.lt_tool.specs.Registries.{ReadsFile};
-ghost use Rattle.lt_tool.specs.Printed.{Canonicalises, EndsRun, Performs, PrintsResult, Reports};
+ghost use Rattle.lt_tool.specs.Printed.{Canonicalises, EndsRun, Performs, PrintsResult, Reports, tallies_after};
 ghost use Rattle.lt_tool.specs.declared.status.Status.TheVariants.{Failed};
 
 use crate::answered::Answered;
@@ -16,7 +16,7 @@ use crate::tag_commands::{equal, explain, extlang};
 use crate::upgrade_command::upgrade;
 use crate::verifying::verify;
 use lt_jar::Device;
-use lt_lines::{Counts, LineForm, ToolFault, run_lines, write_fault, write_text};
+use lt_lines::{Counts, LineForm, Tallies, ToolFault, run_lines, write_fault, write_text};
 use lt_tag::OutOfMemory;
 use lt_words::{Command, WordsFault};
 use std::alloc::Global;
@@ -91,6 +91,15 @@ pub(crate) fn print_answer<O: Write, E: Write>(
     }
 }
 
+/// Lets go of the tallies of a run of which it is not known which answers were written.
+fn drop_unknown(alloc: Global, end: Result<Counts, ToolFault>, tallies: &mut Tallies)
+    ensures { tallies.new ≡ tallies_after end tallies.old }
+{
+    if let Err(ToolFault::Write | ToolFault::OutOfMemory) = end {
+        *tallies = Tallies::new(alloc);
+    }
+}
+
 /// Answers the lines of the input by the registry of a file.
 fn answer_lines<F: Read, I: Read, O: Write, E: Write>(
     alloc: Global,
@@ -108,6 +117,7 @@ fn answer_lines<F: Read, I: Read, O: Write, E: Write>(
         Ok(checked) => {
             let tallies = &mut answered.tallies;
             let end = run_lines(alloc, &checked, form, input, output, tallies);
+            drop_unknown(alloc, end, tallies);
             answered.counts = end.ok();
             end_run(end, errors)
         }
@@ -146,8 +156,8 @@ fn run<F: Read, G: Read, I: Read, O: Write, E: Write>(
             let form = LineForm::Row(column.saturating_sub(1));
             answer_lines(alloc, form, first, input, output, errors, answered)
         }
-        Command::Csv(_, column) => {
-            let form = LineForm::Csv(column.saturating_sub(1), b',');
+        Command::Csv(_, column, delimiter) => {
+            let form = LineForm::Csv(column.saturating_sub(1), *delimiter);
             answer_lines(alloc, form, first, input, output, errors, answered)
         }
         Command::Extlang(_, tag) => {
@@ -176,7 +186,8 @@ fn run<F: Read, G: Read, I: Read, O: Write, E: Write>(
 /// that fails, a read of `input` that fails, its end within quotes, and an allocation that fails are named on `errors`; a write there
 /// that fails is counted by the device alone.
 ///
-/// `answered` is set to what [`run_lines`] says of the lines of `input`, and stays where none were to be answered.
+/// `answered` is set to what [`run_lines`] says of the lines of `input`, but for the tallies where a write or memory fails,
+/// which are none, since it is not known which answers were written; it stays where no lines were to be answered.
 pub fn perform<F: Read, G: Read, I: Read, O: Write, E: Write>(
     alloc: Global,
     command: &Command,

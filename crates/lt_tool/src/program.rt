@@ -21,14 +21,13 @@ use std::io::{self, Read, Write};
 const NO_FILE: &[u8] = &[];
 
 /// The command that the words name.
-fn command_of(alloc: Global, words: io::Result<Vec<String>>) -> Result<Command, WordsFault>
+fn command_of(alloc: Global, words: Result<Vec<String>, WordsFault>) -> Result<Command, WordsFault>
     ensures names { IfOk result (NamesCommand (texts_of words)) }
     ensures fault { IfErr result (IsProgramFault (texts_of words)) }
 {
     match words {
         Ok(words) => read_words(alloc, &words),
-        Err(error) if error.kind() == io::ErrorKind::OutOfMemory => Err(WordsFault::OutOfMemory),
-        Err(error) => Err(WordsFault::Usage(format!(in alloc; "error: {error}\n")?)),
+        Err(fault) => Err(fault),
     }
 }
 
@@ -170,7 +169,7 @@ fn run_command<F: Read + Drop, P: FnMut(&str) -> io::Result<F>, I: Read, O: Writ
 }
 
 /// Runs the program by the words of its command line, of which the first is its name, and answers the exit
-/// status, 0 to 4.
+/// status, 0 to 4. Words that can't be had are answered as words that name no command, for the reason that is given.
 ///
 /// `opener` opens the files that the words name: the first, and then the second, where a command names two. One
 /// that can't be opened ends the run by `! File` on `errors`, and the status 4. The name `-` is the standard
@@ -180,7 +179,7 @@ fn run_command<F: Read + Drop, P: FnMut(&str) -> io::Result<F>, I: Read, O: Writ
 /// says why the words name none. `answered` is set as [`perform`] sets it, and stays where nothing is performed.
 pub fn run_program<F: Read + Drop, P: FnMut(&str) -> io::Result<F>, I: Read, O: Write, E: Write>(
     alloc: Global,
-    words: io::Result<Vec<String>>,
+    words: Result<Vec<String>, WordsFault>,
     opener: &mut P,
     input: &mut Device<I>,
     output: &mut Device<O>,

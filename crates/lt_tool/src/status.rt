@@ -13,8 +13,8 @@ pub enum Status {
     RegistryRefused = 2,
     /// The words name no command.
     Usage = 3,
-    /// A file was not opened, a read or a write failed, the reads were too many, records of CSV end within quotes, or
-    /// memory ran out.
+    /// A file was not opened, a read or a write failed, the reads were too many, records of CSV end within quotes, a row
+    /// or a record is too long, the input is in UTF-16, or memory ran out.
     Failed = 4,
 }
 

@@ -1,5 +1,5 @@
 -- The command line on words that are written out.
-use Rattle.std.proofs.Common.{◌≡◌, List, [], ◌∷◌, Option, Some, codes, option_map, refl}
+use Rattle.std.proofs.Common.{◌≡◌, List, [], ◌∷◌, Option, None, Some, codes, option_map, refl}
 use Rattle.clap.proofs.OnLiterals.{clap_on_literals}
 use Rattle.clap.specs.Words.{Text, fault_of, first_of, subcommand_of}
 use Rattle.clap.specs.declared.error.kind.ErrorKind.TheVariants as kind
@@ -52,3 +52,28 @@ help-asked = refl
 version-asked : fault_of langtag (codes "langtag" ∷ codes "-V" ∷ []) ≡ kind.DisplayVersion ∷ []
 unfolding clap_on_literals
 version-asked = refl
+
+-- a delimiter, in either place, and a summary
+abbrev csv : List Text → List Text
+csv words = codes "langtag" ∷ codes "csv" ∷ words
+
+delimiter-read : read_as (codes "C") (csv (codes "R" ∷ codes "2" ∷ codes "--delimiter" ∷ codes ";" ∷ [])) ≡ Some (codes "csv", Some (codes ";"))
+unfolding clap_on_literals read_as
+delimiter-read = refl
+
+delimiter-right : fault_of langtag (csv (codes "--delimiter=tab" ∷ codes "--summary" ∷ codes "R" ∷ codes "2" ∷ [])) ≡ []
+unfolding clap_on_literals
+delimiter-right = refl
+
+summary-read : read_as (codes "summary") (csv (codes "--summary" ∷ codes "R" ∷ codes "2" ∷ [])) ≡ Some (codes "csv", Some (codes "true"))
+unfolding clap_on_literals read_as
+summary-read = refl
+
+-- none of them
+plain-read : read_as (codes "C") (csv (codes "R" ∷ codes "2" ∷ [])) ≡ Some (codes "csv", None)
+unfolding clap_on_literals read_as
+plain-read = refl
+
+plain-told : read_as (codes "summary") (csv (codes "R" ∷ codes "2" ∷ [])) ≡ Some (codes "csv", Some (codes "false"))
+unfolding clap_on_literals read_as
+plain-told = refl

@@ -1,7 +1,9 @@
 -- The command line of the program, as `clap` sees it.
-use Rattle.std.specs.Prelude.{List, [], ◌∷◌, Some, true, codes}
+use Rattle.std.specs.Prelude.{List, [], ◌∷◌, ◌++◌, Some, true, codes, map}
 use Rattle.clap.specs.Words.{App, Rule, Text, new_app, new_rule, with_rule, with_subcommand}
-use Rattle.clap.specs.declared.builder.action.ArgAction.TheVariants.{Set}
+use Rattle.clap.specs.declared.builder.action.ArgAction.TheVariants.{Set, SetTrue}
+use Rattle.lt_words.specs.declared.program.Form.{Form}
+use Rattle.lt_words.specs.declared.program.Form.TheVariants as forms
 use Rattle.lt_words.specs.declared.subcommands.Subcommand.{Subcommand}
 use Rattle.lt_words.specs.declared.subcommands.Subcommand.TheVariants as sub
 
@@ -9,14 +11,28 @@ use Rattle.lt_words.specs.declared.subcommands.Subcommand.TheVariants as sub
 abbrev pub positional : Text → Rule
 positional name = record (new_rule name) { action = Some Set; required = true }
 
--- a command with a required positional of each name, in this order
-abbrev pub with_positionals : App → List Text → App
-with_positionals app [] = app
-with_positionals app (name ∷ names) = with_positionals (with_rule app (positional name)) names
+-- an option of this name, which takes a value
+abbrev pub option : (id name : Text) → Rule
+option id name = record (new_rule id) { long = Some name; action = Some Set }
 
--- a subcommand, with a required positional of each name
-abbrev pub subcommand : Text → List Text → App
-subcommand name positionals = with_positionals (new_app name) positionals
+-- a flag of this name
+abbrev pub flag : (name : Text) → Rule
+flag name = record (new_rule name) { long = Some name; action = Some SetTrue }
+
+-- how an argument is given
+abbrev pub rule_for : Form → Text → Rule
+rule_for forms.Positional id = positional id
+rule_for (forms.Option name) id = option id name.now
+rule_for forms.Flag id = flag id
+
+-- a command with these arguments, in this order
+abbrev pub with_rules : App → List Rule → App
+with_rules app [] = app
+with_rules app (rule ∷ rules) = with_rules (with_rule app rule) rules
+
+-- a subcommand with these arguments
+abbrev pub subcommand : Text → List Rule → App
+subcommand name rules = with_rules (new_app name) rules
 
 -- the program: it has a version, and one of its subcommands is required
 abbrev pub program : App
@@ -50,6 +66,17 @@ positionals_of sub.Explain = codes "REGISTRY" ∷ codes "TAG" ∷ []
 positionals_of sub.Verify = codes "REGISTRY" ∷ codes "TAG" ∷ []
 positionals_of sub.Upgrade = codes "OLD" ∷ codes "NEW" ∷ []
 
+-- its options
+abbrev pub options_of : Subcommand → List Rule
+options_of sub.Canon = flag (codes "summary") ∷ []
+options_of sub.Tsv = flag (codes "summary") ∷ []
+options_of sub.Csv = option (codes "C") (codes "delimiter") ∷ flag (codes "summary") ∷ []
+options_of _ = []
+
+-- its arguments, each of its positionals required
+abbrev pub arguments_of : Subcommand → List Rule
+arguments_of s = map positional (positionals_of s) ++ options_of s
+
 -- the subcommands, in the order in which help names them
 abbrev pub subcommands : List Subcommand
 subcommands =
@@ -60,7 +87,7 @@ subcommands =
 abbrev pub with_subcommands : App → List Subcommand → App
 with_subcommands app [] = app
 with_subcommands app (s ∷ more) =
-    with_subcommands (with_subcommand app (subcommand (name_of s) (positionals_of s)).top) more
+    with_subcommands (with_subcommand app (subcommand (name_of s) (arguments_of s)).top) more
 
 -- the program with its subcommands
 abbrev pub langtag : App

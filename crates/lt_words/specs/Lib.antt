@@ -1,3 +1,4 @@
 -- What the words of the command line name.
 pub mod CommandLine
 pub mod Reading
+pub mod Given

@@ -1,5 +1,6 @@
 -- The command that the words of a command line name.
-use Rattle.std.specs.Prelude.{◌≡◌, ◌<◌, ◌^◌, ⊤, ℕ, Bool, true, false, List, [], ◌∷◌, Option, Some, None, map, string_bytes}
+use Rattle.std.specs.Prelude.{◌≡◌, ◌<◌, ◌^◌, ◌==◌, ◌&&◌, not, ⊤, ℕ, Bool, true, false, List, [], ◌∷◌, Option, Some, None, if◌then◌else◌, bytes_eq, codes, map, nat_lt, string_bytes}
+use Rattle.std.specs.Option.{option_map_or}
 use Rattle.std.specs.Str.Parse.{IsNumeral, digits_value, without_leading_plus}
 use Rattle.clap.specs.Words.{Row, Text, first_of, subcommand_of, fault_of, IsAmong}
 use Rattle.clap.specs.declared.error.kind.ErrorKind.{ErrorKind}
@@ -8,6 +9,7 @@ use Rattle.lt_words.specs.CommandLine.{langtag, name_of, positionals_of}
 use Rattle.lt_words.specs.declared.subcommands.Subcommand.{Subcommand}
 use Rattle.lt_words.specs.declared.subcommands.Subcommand.TheVariants as sub
 use Rattle.lt_words.specs.declared.commands.Command.{Command}
+use Rattle.lt_words.specs.declared.commands.Run.{Run}
 use Rattle.lt_words.specs.declared.commands.Command.TheVariants as command
 use Rattle.lt_words.specs.declared.faults.WordsFault.{WordsFault}
 use Rattle.lt_words.specs.declared.faults.WordsFault.TheVariants as fault
@@ -16,9 +18,9 @@ use Rattle.lt_words.specs.declared.faults.WordsFault.TheVariants as fault
 abbrev pub subcommand_for : Command → Subcommand
 subcommand_for (command.Classify tag) = sub.Classify
 subcommand_for (command.Check file) = sub.Check
-subcommand_for (command.Canon file) = sub.Canon
-subcommand_for (command.Tsv file column) = sub.Tsv
-subcommand_for (command.Csv file column) = sub.Csv
+subcommand_for (command.Canon run) = sub.Canon
+subcommand_for (command.Tsv run column) = sub.Tsv
+subcommand_for (command.Csv run column delimiter) = sub.Csv
 subcommand_for (command.Extlang file tag) = sub.Extlang
 subcommand_for (command.Equal file tag other) = sub.Equal
 subcommand_for (command.Explain file tag) = sub.Explain
@@ -36,36 +38,69 @@ pub record IsColumn (text : Text) (column : ℕ) : Type 0 where
 abbrev pub AreValues : Command → List Text → Type 0
 AreValues (command.Classify tag) texts = texts ≡ string_bytes tag ∷ []
 AreValues (command.Check file) texts = texts ≡ string_bytes file ∷ []
-AreValues (command.Canon file) texts = texts ≡ string_bytes file ∷ []
-AreValues (command.Tsv file column) texts =
-    (text : Text) × IsColumn text column × (texts ≡ string_bytes file ∷ text ∷ [])
-AreValues (command.Csv file column) texts =
-    (text : Text) × IsColumn text column × (texts ≡ string_bytes file ∷ text ∷ [])
+AreValues (command.Canon run) texts = texts ≡ string_bytes run.registry ∷ []
+AreValues (command.Tsv run column) texts =
+    (text : Text) × IsColumn text column × (texts ≡ string_bytes run.registry ∷ text ∷ [])
+AreValues (command.Csv run column delimiter) texts =
+    (text : Text) × IsColumn text column × (texts ≡ string_bytes run.registry ∷ text ∷ [])
 AreValues (command.Extlang file tag) texts = texts ≡ string_bytes file ∷ string_bytes tag ∷ []
 AreValues (command.Equal file tag other) texts = texts ≡ string_bytes file ∷ string_bytes tag ∷ string_bytes other ∷ []
 AreValues (command.Explain file tag) texts = texts ≡ string_bytes file ∷ string_bytes tag ∷ []
 AreValues (command.Verify file tag) texts = texts ≡ string_bytes file ∷ string_bytes tag ∷ []
 AreValues (command.Upgrade old new) texts = texts ≡ string_bytes old ∷ string_bytes new ∷ []
 
+-- whether a byte may stand between fields: one of ASCII that is no quote (34), line feed or carriage return
+abbrev pub is_delimiter : ℕ → Bool
+is_delimiter byte = nat_lt byte 128 && not (byte == 34) && not (byte == 10) && not (byte == 13)
+
+-- such a byte alone
+abbrev pub delimiter_alone : Text → Option ℕ
+delimiter_alone (byte ∷ []) = if is_delimiter byte then Some byte else None
+delimiter_alone _ = None
+
+-- the byte that a text names: itself, or a tab (9) by its name
+abbrev pub delimiter_named : Text → Option ℕ
+delimiter_named text = if bytes_eq text (codes "tab") then Some 9 else delimiter_alone text
+
+-- the byte that an option names, which is a comma (44) where there is none
+abbrev pub delimiter_given : List Row → Option ℕ
+delimiter_given rows = option_map_or delimiter_named (first_of (codes "C") rows) (Some 44)
+
+-- whether a flag is given
+abbrev pub is_flagged : (name : Text) → List Row → Bool
+is_flagged name rows = option_map_or (λ text. bytes_eq text (codes "true")) (first_of name rows) false
+
+-- what the options of a run over lines give it
+abbrev pub AreRunOptions : Run → List Row → Type 0
+AreRunOptions run rows = run.summary ≡ is_flagged (codes "summary") rows
+
+-- what options give a command
+abbrev pub AreOptions : Command → List Row → Type 0
+AreOptions (command.Canon run) rows = AreRunOptions run rows
+AreOptions (command.Tsv run column) rows = AreRunOptions run rows
+AreOptions (command.Csv run column delimiter) rows = AreRunOptions run rows × (delimiter_given rows ≡ Some delimiter)
+AreOptions _ rows = ⊤
+
 -- these are the values of positionals
 pub record AreGiven (rows : List Row) (positionals texts : List Text) : Type 0 where
   pub each : map (λ positional. first_of positional rows) positionals ≡ map (λ text. Some text) texts
 
--- what a parse found is the subcommand for this command, and its positionals give the command its values
+-- what a parse found is the subcommand for this command, and its positionals and options give the command its values
 pub record IsNamed (found : Option (Text × List Row)) (command : Command) : Type 0 where
   pub rows : List Row
   pub named : found ≡ Some (name_of (subcommand_for command), rows)
   pub texts : List Text
   pub given : AreGiven rows (positionals_of (subcommand_for command)) texts
   pub values : AreValues command texts
+  pub options : AreOptions command rows
 
 -- the file that the command names first
 abbrev pub first_file_of : Command → Option (List ℕ)
 first_file_of (command.Classify tag) = None
 first_file_of (command.Check file) = Some (string_bytes file)
-first_file_of (command.Canon file) = Some (string_bytes file)
-first_file_of (command.Tsv file column) = Some (string_bytes file)
-first_file_of (command.Csv file column) = Some (string_bytes file)
+first_file_of (command.Canon run) = Some (string_bytes run.registry)
+first_file_of (command.Tsv run column) = Some (string_bytes run.registry)
+first_file_of (command.Csv run column delimiter) = Some (string_bytes run.registry)
 first_file_of (command.Extlang file tag) = Some (string_bytes file)
 first_file_of (command.Equal file tag other) = Some (string_bytes file)
 first_file_of (command.Explain file tag) = Some (string_bytes file)
@@ -79,17 +114,24 @@ second_file_of _ = None
 
 -- whether the command reads the standard input, whatever file it names
 abbrev pub reads_input_of : Command → Bool
-reads_input_of (command.Canon file) = true
-reads_input_of (command.Tsv file column) = true
-reads_input_of (command.Csv file column) = true
+reads_input_of (command.Canon run) = true
+reads_input_of (command.Tsv run column) = true
+reads_input_of (command.Csv run column delimiter) = true
 reads_input_of (command.Verify file tag) = true
 reads_input_of _ = false
 
 -- whether it answers each of its lines by one line
 abbrev pub answers_lines_of : Command → Bool
-answers_lines_of (command.Canon file) = true
-answers_lines_of (command.Tsv file column) = true
+answers_lines_of (command.Canon run) = true
+answers_lines_of (command.Tsv run column) = true
 answers_lines_of _ = false
+
+-- whether it is to tell a summary of its lines
+abbrev pub has_summary : Command → Bool
+has_summary (command.Canon run) = run.summary
+has_summary (command.Tsv run column) = run.summary
+has_summary (command.Csv run column delimiter) = run.summary
+has_summary _ = false
 
 -- the words name this command, by what `clap` defines as the matches of a command
 abbrev pub Names : List Text → Command → Type 0
@@ -125,6 +167,13 @@ IsNoColumn text (fault.Help said) = ⊥
 IsNoColumn text (fault.Version said) = ⊥
 IsNoColumn text (fault.Usage said) = (column : ℕ) → IsColumn text column → ⊥
 IsNoColumn text fault.OutOfMemory = ⊤
+
+-- running out of memory aside, the option names no byte that may stand between fields
+abbrev pub LacksDelimiter : List Row → WordsFault → Type 0
+LacksDelimiter rows (fault.Help text) = ⊥
+LacksDelimiter rows (fault.Version text) = ⊥
+LacksDelimiter rows (fault.Usage text) = delimiter_given rows ≡ None
+LacksDelimiter rows fault.OutOfMemory = ⊤
 
 -- running out of memory aside, what a parse found is no command
 abbrev pub NamesNone : Option (Text × List Row) → WordsFault → Type 0

@@ -1,7 +1,16 @@
 //! The commands of the program.
 ghost use Rattle.std.specs.Prelude.{◌≡◌};
 ghost use Rattle.std.specs.Option.{option_map};
-ghost use Rattle.lt_words.specs.Reading.{answers_lines_of, first_file_of, reads_input_of, second_file_of};
+ghost use Rattle.lt_words.specs.Reading.{answers_lines_of, first_file_of, has_summary, reads_input_of, second_file_of};
+
+/// A run over the lines of the input.
+#[derive(Debug, Drop)]
+pub struct Run {
+    /// The file of the registry.
+    pub registry: String,
+    /// Whether a summary of the lines that were refused is told after it, also where no terminal is there.
+    pub summary: bool,
+}
 
 /// What the words ask for.
 #[derive(Debug, Drop)]
@@ -10,14 +19,13 @@ pub enum Command {
     Classify(String),
     /// Whether the registry of this file passes the check.
     Check(String),
-    /// The canonical form of each line of the input, by the registry of this file.
-    Canon(String),
-    /// The rows of the input, the field of this number (counted from 1) in canonical form, by the registry of
-    /// this file, which comes first.
-    Tsv(String, usize),
-    /// The records of CSV of the input, the field of this number (counted from 1) in canonical form, by the registry of
-    /// this file, which comes first.
-    Csv(String, usize),
+    /// The canonical form of each line of the input.
+    Canon(Run),
+    /// The rows of the input, the field of this number (counted from 1) in canonical form.
+    Tsv(Run, usize),
+    /// The records of CSV of the input, the field of this number (counted from 1) in canonical form; the byte stands
+    /// between their fields.
+    Csv(Run, usize, u8),
     /// The extlang form of this tag, by the registry of this file, which comes first.
     Extlang(String, String),
     /// Whether these two tags are equivalent, by the registry of this file, which comes first.
@@ -37,8 +45,10 @@ impl Command {
     {
         match self {
             Command::Classify(_) => None,
-            Command::Check(file) | Command::Canon(file) => Some(file.as_str()),
-            Command::Tsv(file, _) | Command::Csv(file, _) => Some(file.as_str()),
+            Command::Check(file) => Some(file.as_str()),
+            Command::Canon(run) | Command::Tsv(run, _) | Command::Csv(run, _, _) => {
+                Some(run.registry.as_str())
+            }
             Command::Extlang(file, _) | Command::Explain(file, _) => Some(file.as_str()),
             Command::Verify(file, _) => Some(file.as_str()),
             Command::Equal(file, _, _) | Command::Upgrade(file, _) => Some(file.as_str()),
@@ -52,7 +62,7 @@ impl Command {
     {
         match self {
             Command::Canon(_) | Command::Verify(_, _) => true,
-            Command::Tsv(_, _) | Command::Csv(_, _) => true,
+            Command::Tsv(_, _) | Command::Csv(_, _, _) => true,
             _ => false,
         }
     }
@@ -64,6 +74,16 @@ impl Command {
     {
         match self {
             Command::Canon(_) | Command::Tsv(_, _) => true,
+            _ => false,
+        }
+    }
+
+    /// Whether the command is to tell a summary of the lines that were refused, also where no terminal is there.
+    pub fn has_summary(&self) -> bool
+        ensures { result ≡ has_summary self.now }
+    {
+        match self {
+            Command::Canon(run) | Command::Tsv(run, _) | Command::Csv(run, _, _) => run.summary,
             _ => false,
         }
     }

@@ -4,11 +4,13 @@
 
 mod commands;
 mod faults;
+mod given;
 mod program;
 mod reading;
 mod subcommands;
 mod values;
 
-pub use commands::Command;
+pub use commands::{Command, Run};
 pub use faults::WordsFault;
+pub use given::word_text;
 pub use reading::read_words;

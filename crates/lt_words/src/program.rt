@@ -1,46 +1,76 @@
 //! The command line of the program, as `clap` reads it.
 ghost use Rattle.std.specs.Prelude.{◌≡◌, false, IfOk, map};
-ghost use Rattle.lt_words.specs.CommandLine.{langtag, positional, program, subcommand};
+ghost use Rattle.lt_words.specs.CommandLine.{langtag, program, rule_for, subcommand};
 ghost use Rattle.clap.specs.declared.builder.command.Command.TheViews.{out-Command as fields_of};
 ghost use Rattle.clap.specs.Words.{app_of, rule_of, with_subcommand};
 
 use clap::{Arg, ArgAction, Command};
 use std::alloc::{AllocError, Global};
 
-/// A word that a subcommand takes: its name, and what it is.
-pub(crate) struct Positional {
+/// How an argument is given.
+#[derive(Clone, Copy)]
+pub(crate) enum Form {
+    /// By its place; it has to be there.
+    Positional,
+    /// After two hyphens and this name, if it is there.
+    Option(&'static str),
+    /// As two hyphens and its name, without a value.
+    Flag,
+}
+
+/// What a subcommand takes: the name, how it is given, and what it is.
+pub(crate) struct Argument {
     pub(crate) name: &'static str,
+    form: Form,
     help: &'static str,
 }
 
-pub(crate) static TAG: Positional = Positional {
+pub(crate) static TAG: Argument = Argument {
     name: "TAG",
+    form: Form::Positional,
     help: "A BCP 47 language tag",
 };
 
-pub(crate) static OTHER: Positional = Positional {
+pub(crate) static OTHER: Argument = Argument {
     name: "OTHER",
+    form: Form::Positional,
     help: "Another BCP 47 language tag",
 };
 
-pub(crate) static REGISTRY: Positional = Positional {
+pub(crate) static REGISTRY: Argument = Argument {
     name: "REGISTRY",
+    form: Form::Positional,
     help: "A file in the format of the IANA Language Subtag Registry",
 };
 
-pub(crate) static COLUMN: Positional = Positional {
+pub(crate) static COLUMN: Argument = Argument {
     name: "COLUMN",
+    form: Form::Positional,
     help: "The number of the field that is a tag, counted from 1",
 };
 
-pub(crate) static OLD: Positional = Positional {
+pub(crate) static OLD: Argument = Argument {
     name: "OLD",
+    form: Form::Positional,
     help: "A registry in the format of the IANA Language Subtag Registry",
 };
 
-pub(crate) static NEW: Positional = Positional {
+pub(crate) static NEW: Argument = Argument {
     name: "NEW",
+    form: Form::Positional,
     help: "A newer registry in the same format",
+};
+
+pub(crate) static DELIMITER: Argument = Argument {
+    name: "C",
+    form: Form::Option("delimiter"),
+    help: "The byte between fields, or tab for a tab: one of ASCII but no quote, carriage return or line feed; without it a comma",
+};
+
+pub(crate) static SUMMARY: Argument = Argument {
+    name: "summary",
+    form: Form::Flag,
+    help: "Tells on the standard error how many lines each fault refused, the first, and what to do, as at a terminal",
 };
 
 /// What the statuses mean, as each text of help says.
@@ -55,30 +85,32 @@ Status:
 /// The version, and the line of the kit that proves and builds the program.
 const VERSION: &str = "1.1.0 (rattle-kit-13b logic dac8208d650f15bf)";
 
-/// An argument that is a required positional.
-fn new_argument<'a>(alloc: Global, wanted: &Positional) -> Arg<'a>
-    ensures rule { rule_of result ≡ positional wanted.now.name.now }
+/// An argument.
+fn new_argument<'a>(alloc: Global, wanted: &Argument) -> Arg<'a>
+    ensures rule { rule_of result ≡ rule_for wanted.now.form wanted.now.name.now }
     ensures local { result.global ≡ false }
 {
-    Arg::new(alloc, wanted.name)
-        .help(wanted.help)
-        .required(true)
-        .action(ArgAction::Set)
+    let argument = Arg::new(alloc, wanted.name).help(wanted.help);
+    match wanted.form {
+        Form::Positional => argument.required(true).action(ArgAction::Set),
+        Form::Option(name) => argument.long(name).action(ArgAction::Set),
+        Form::Flag => argument.long(wanted.name).action(ArgAction::SetTrue),
+    }
 }
 
-/// A subcommand with these required positionals.
+/// A subcommand with these arguments.
 fn new_subcommand<'a>(
     alloc: Global,
     name: &'a str,
     about: &'a str,
-    positionals: &[&'static Positional],
+    arguments: &[&'static Argument],
 ) -> Result<Command<'a>, AllocError>
-    ensures app { IfOk result (λ r. app_of r ≡ subcommand name.entry.now (map (λ p. p.now.name.now) positionals.now)) }
+    ensures app { IfOk result (λ r. app_of r ≡ subcommand name.entry.now (map (λ a. rule_for a.now.form a.now.name.now) arguments.now)) }
     ensures globals { IfOk result (λ r. (fields_of r).has_globals ≡ false) }
 {
     let mut command = Command::new(alloc, name).about(about).after_help(STATUSES);
-    for positional in positionals {
-        command = command.arg(new_argument(alloc, positional))?;
+    for argument in arguments {
+        command = command.arg(new_argument(alloc, argument))?;
     }
     Ok(command)
 }
@@ -100,12 +132,12 @@ fn with_new<'a>(
     program: Command<'a>,
     name: &'a str,
     about: &'a str,
-    positionals: &[&'static Positional],
+    arguments: &[&'static Argument],
 ) -> Result<Command<'a>, AllocError>
     ensures { IfOk result (λ r. app_of r ≡ with_subcommand (app_of program.entry)
-        (subcommand name.entry.now (map (λ p. p.now.name.now) positionals.now)).top) }
+        (subcommand name.entry.now (map (λ a. rule_for a.now.form a.now.name.now) arguments.now)).top) }
 {
-    program.subcommand(new_subcommand(alloc, name, about, positionals)?)
+    program.subcommand(new_subcommand(alloc, name, about, arguments)?)
 }
 
 /// The program with its subcommands.
@@ -118,13 +150,15 @@ pub(crate) fn new_langtag<'a>(alloc: Global) -> Result<Command<'a>, AllocError>
     let about = "Checks a registry, and prints the number of its entries";
     let program = with_new(alloc, program, "check", about, &[&REGISTRY])?;
     let about = "Prints the canonical form of each line of the standard input";
-    let program = with_new(alloc, program, "canon", about, &[&REGISTRY])?;
+    let program = with_new(alloc, program, "canon", about, &[&REGISTRY, &SUMMARY])?;
     let about =
         "Replaces a field of each row of the standard input, with tabs between fields, by its canonical form";
-    let program = with_new(alloc, program, "tsv", about, &[&REGISTRY, &COLUMN])?;
+    let arguments = &[&REGISTRY, &COLUMN, &SUMMARY];
+    let program = with_new(alloc, program, "tsv", about, arguments)?;
     let about =
         "Replaces a field of each record of CSV of the standard input, but for the heading, by its canonical form";
-    let program = with_new(alloc, program, "csv", about, &[&REGISTRY, &COLUMN])?;
+    let arguments = &[&REGISTRY, &COLUMN, &DELIMITER, &SUMMARY];
+    let program = with_new(alloc, program, "csv", about, arguments)?;
     let about = "Prints the extlang form of a tag";
     let program = with_new(alloc, program, "extlang", about, &[&REGISTRY, &TAG])?;
     let about = "Tells whether two tags are equivalent";

@@ -4,24 +4,35 @@ ghost use Rattle.lt_words.specs.CommandLine.{name_of};
 ghost use Rattle.lt_words.specs.Reading.{Reads, IsRefused, IsNamed, NamesNone, IsFaultOf};
 ghost use Rattle.clap.specs.Words.{found_of, rows_of, subcommand_rows_of};
 
-use crate::commands::Command;
+use crate::commands::{Command, Run};
 use crate::faults::WordsFault;
-use crate::program::{COLUMN, NEW, OLD, OTHER, REGISTRY, TAG, new_langtag};
+use crate::program::{COLUMN, NEW, OLD, OTHER, REGISTRY, SUMMARY, TAG, new_langtag};
 use crate::subcommands::{Subcommand, subcommand_named};
-use crate::values::{column_of, two_values, value_of};
+use crate::values::{column_of, delimiter_of, is_flagged, two_values, value_of};
 use clap::ArgMatches;
 use clap::error::ErrorKind;
 use std::alloc::Global;
 use std::fmt::Display;
+
+/// The command for lines that are tags.
+fn read_canon(alloc: Global, values: &ArgMatches<'_>) -> Result<Command, WordsFault>
+    ensures named { IfOk result (IsNamed (Some (name_of Subcommand.Canon, rows_of (found_of values.now)))) }
+    ensures unnamed { IfErr result (NamesNone (Some (name_of Subcommand.Canon, rows_of (found_of values.now)))) }
+{
+    let registry = value_of(alloc, values, &REGISTRY)?;
+    let summary = is_flagged(values, &SUMMARY);
+    Ok(Command::Canon(Run { registry, summary }))
+}
 
 /// The command for rows of fields with tabs between them.
 fn read_tsv(alloc: Global, values: &ArgMatches<'_>) -> Result<Command, WordsFault>
     ensures named { IfOk result (IsNamed (Some (name_of Subcommand.Tsv, rows_of (found_of values.now)))) }
     ensures unnamed { IfErr result (NamesNone (Some (name_of Subcommand.Tsv, rows_of (found_of values.now)))) }
 {
-    let (file, column) = two_values(alloc, values, &REGISTRY, &COLUMN)?;
+    let (registry, column) = two_values(alloc, values, &REGISTRY, &COLUMN)?;
     let column = column_of(alloc, &column)?;
-    Ok(Command::Tsv(file, column))
+    let summary = is_flagged(values, &SUMMARY);
+    Ok(Command::Tsv(Run { registry, summary }, column))
 }
 
 /// The command for records of CSV.
@@ -29,9 +40,11 @@ fn read_csv(alloc: Global, values: &ArgMatches<'_>) -> Result<Command, WordsFaul
     ensures named { IfOk result (IsNamed (Some (name_of Subcommand.Csv, rows_of (found_of values.now)))) }
     ensures unnamed { IfErr result (NamesNone (Some (name_of Subcommand.Csv, rows_of (found_of values.now)))) }
 {
-    let (file, column) = two_values(alloc, values, &REGISTRY, &COLUMN)?;
+    let (registry, column) = two_values(alloc, values, &REGISTRY, &COLUMN)?;
     let column = column_of(alloc, &column)?;
-    Ok(Command::Csv(file, column))
+    let delimiter = delimiter_of(alloc, values)?;
+    let summary = is_flagged(values, &SUMMARY);
+    Ok(Command::Csv(Run { registry, summary }, column, delimiter))
 }
 
 /// The command that compares two tags.
@@ -56,7 +69,7 @@ fn read_command(
     match subcommand {
         Subcommand::Classify => Ok(Command::Classify(value_of(alloc, values, &TAG)?)),
         Subcommand::Check => Ok(Command::Check(value_of(alloc, values, &REGISTRY)?)),
-        Subcommand::Canon => Ok(Command::Canon(value_of(alloc, values, &REGISTRY)?)),
+        Subcommand::Canon => read_canon(alloc, values),
         Subcommand::Tsv => read_tsv(alloc, values),
         Subcommand::Csv => read_csv(alloc, values),
         Subcommand::Extlang => {

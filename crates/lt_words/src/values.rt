@@ -1,10 +1,11 @@
 //! The values of a subcommand's positionals.
-ghost use Rattle.std.specs.Prelude.{[], ◌∷◌, IfOk, IfErr, string_bytes};
-ghost use Rattle.lt_words.specs.Reading.{AreGiven, IsColumn, IsNoColumn, LacksValue};
+ghost use Rattle.std.specs.Prelude.{◌≡◌, [], ◌∷◌, IfOk, IfErr, Some, string_bytes};
+ghost use Rattle.lt_words.specs.Reading.{AreGiven, IsColumn, IsNoColumn, LacksDelimiter, LacksValue, delimiter_given};
+ghost use Rattle.lt_words.specs.Reading as spec;
 ghost use Rattle.clap.specs.Words.{found_of, rows_of};
 
 use crate::faults::WordsFault;
-use crate::program::Positional;
+use crate::program::{Argument, DELIMITER};
 use clap::ArgMatches;
 use std::alloc::Global;
 
@@ -12,7 +13,7 @@ use std::alloc::Global;
 pub(crate) fn value_of(
     alloc: Global,
     matches: &ArgMatches<'_>,
-    positional: &Positional,
+    positional: &Argument,
 ) -> Result<String, WordsFault>
     ensures value { IfOk result (λ value. AreGiven (rows_of (found_of matches.now)) (positional.now.name.now ∷ []) (string_bytes value ∷ [])) }
     ensures lacks { IfErr result (LacksValue (rows_of (found_of matches.now)) (positional.now.name.now ∷ [])) }
@@ -28,8 +29,8 @@ pub(crate) fn value_of(
 pub(crate) fn two_values(
     alloc: Global,
     matches: &ArgMatches<'_>,
-    first: &Positional,
-    second: &Positional,
+    first: &Argument,
+    second: &Argument,
 ) -> Result<(String, String), WordsFault>
     ensures values { IfOk result (λ values. AreGiven (rows_of (found_of matches.now)) (first.now.name.now ∷ second.now.name.now ∷ [])
         (string_bytes values.0 ∷ string_bytes values.1 ∷ [])) }
@@ -38,6 +39,16 @@ pub(crate) fn two_values(
     let value = value_of(alloc, matches, first)?;
     let other = value_of(alloc, matches, second)?;
     Ok((value, other))
+}
+
+/// Whether a flag is given.
+pub(crate) fn is_flagged(matches: &ArgMatches<'_>, flag: &Argument) -> bool
+    ensures { result ≡ spec.is_flagged flag.now.name.now (rows_of (found_of matches.now)) }
+{
+    match matches.get_str(flag.name) {
+        Some(text) => text == "true",
+        None => false,
+    }
 }
 
 /// The number of a column, counted from 1.
@@ -49,6 +60,40 @@ pub(crate) fn column_of(alloc: Global, text: &str) -> Result<usize, WordsFault>
         Ok(column) if column > 0 => Ok(column),
         _ => Err(WordsFault::Usage(format!(in alloc;
             "error: COLUMN is a number from 1, and not {text}\n\nFor more information, try '--help'.\n"
+        )?)),
+    }
+}
+
+/// Whether a byte may stand between fields.
+fn is_delimiter(byte: u8) -> bool
+    ensures { result ≡ spec.is_delimiter byte }
+{
+    byte.is_ascii() && byte != b'"' && byte != b'\n' && byte != b'\r'
+}
+
+/// The byte that a text names.
+fn delimiter_named(text: &str) -> Option<u8>
+    ensures { result ≡ spec.delimiter_named text.now }
+{
+    match text.as_bytes() {
+        b"tab" => Some(b'\t'),
+        [byte] if is_delimiter(*byte) => Some(*byte),
+        _ => None,
+    }
+}
+
+/// The byte between fields, which is a comma where no option names one.
+pub(crate) fn delimiter_of(alloc: Global, matches: &ArgMatches<'_>) -> Result<u8, WordsFault>
+    ensures given { IfOk result (λ byte. delimiter_given (rows_of (found_of matches.now)) ≡ Some byte) }
+    ensures none { IfErr result (LacksDelimiter (rows_of (found_of matches.now))) }
+{
+    let Some(text) = matches.get_str(DELIMITER.name) else {
+        return Ok(b',');
+    };
+    match delimiter_named(text) {
+        Some(byte) => Ok(byte),
+        None => Err(WordsFault::Usage(format!(in alloc;
+            "error: the delimiter is one byte of ASCII but no quote, carriage return or line feed, or the word tab\n\nFor more information, try '--help'.\n"
         )?)),
     }
 }

@@ -236,10 +236,17 @@ fn upgrades_are_judged(rt: HostRuntime) -> Result<(), Fail> {
 }
 
 /// Words, and what the answer to them begins with as text.
-const WORDS: [(&[&str], &str); 10] = [
+const WORDS: [(&[&str], &str); 11] = [
     (&["classify", "en"], "Ok(Classify(\"en\"))"),
     (&["check", "registry"], "Ok(Check(\"registry\"))"),
-    (&["canon", "registry"], "Ok(Canon(\"registry\"))"),
+    (
+        &["canon", "registry"],
+        "Ok(Canon(Run { registry: \"registry\", summary: false }))",
+    ),
+    (
+        &["csv", "registry", "2", "--delimiter", ";", "--summary"],
+        "Ok(Csv(Run { registry: \"registry\", summary: true }, 2, 59))",
+    ),
     (
         &["extlang", "registry", "en"],
         "Ok(Extlang(\"registry\", \"en\"))",

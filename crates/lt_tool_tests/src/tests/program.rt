@@ -1,9 +1,10 @@
 //! The whole program, over files that are texts.
 use super::command_line;
 use lt_jar::{Device, Pieces};
-use lt_tool::{Answered, Status, run_program};
+use lt_tool::{Answered, Status, WordsFault, run_program, word_text};
 use std::alloc::Global;
 use std::io::{self, ErrorKind};
+use std::test::Fail;
 
 /// A registry of two languages.
 const OLD: &[u8] =
@@ -24,7 +25,7 @@ fn open_text(name: &str) -> io::Result<&'static [u8]> {
 
 /// Whether a run of the program by these words prints this, says this to the errors, and ends so.
 fn runs(alloc: Global, words: &[&str], shown: &str, said: &str, end: Status) -> bool {
-    let words = command_line(alloc, words).map_err(io::Error::from);
+    let words = command_line(alloc, words).map_err(WordsFault::from);
     let (mut output, mut errors) = (Vec::new(alloc), Vec::new(alloc));
     let status = run_program(
         alloc,
@@ -87,7 +88,7 @@ fn runs_of_the_program(rt: HostRuntime) {
 
 /// Whether a run of the program whose input fails at its first read prints this, says this to the errors, and ends so.
 fn runs_closed(alloc: Global, words: &[&str], shown: &str, said: &str, end: Status) -> bool {
-    let words = command_line(alloc, words).map_err(io::Error::from);
+    let words = command_line(alloc, words).map_err(WordsFault::from);
     let (mut output, mut errors) = (Vec::new(alloc), Vec::new(alloc));
     let status = run_program(
         alloc,
@@ -118,29 +119,56 @@ fn inputs_that_are_closed(rt: HostRuntime) {
 }
 
 /// Whether words that can't be had for this reason end a run so.
-fn ends_without_words(alloc: Global, kind: ErrorKind, said: &str, end: Status) -> bool {
+fn ends_without_words(alloc: Global, why: WordsFault, said: &str, end: Status) -> bool {
     let (mut output, mut errors) = (Vec::new(alloc), Vec::new(alloc));
     let status = run_program(
         alloc,
-        Err(io::Error::from(kind)),
+        Err(why),
         &mut |name| open_text(name),
         &mut Device::new(b"".as_slice()),
         &mut Device::new(&mut output),
         &mut Device::new(&mut errors),
         &mut Answered::new(alloc),
     );
-    status == end.code() && output.is_empty() && errors.as_slice().starts_with(said.as_bytes())
+    status == end.code() && output.is_empty() && errors.as_slice() == said.as_bytes()
 }
 
 #[test]
 fn words_that_fail(rt: HostRuntime) {
-    assert!(rt; ends_without_words(rt.alloc(), ErrorKind::InvalidData, "error: ", Status::Usage));
-    assert!(rt;
-        ends_without_words(
-            rt.alloc(),
-            ErrorKind::OutOfMemory,
-            "! OutOfMemory\n",
-            Status::Failed
-        )
-    );
+    let why = WordsFault::OutOfMemory;
+    assert!(rt; ends_without_words(rt.alloc(), why, "! OutOfMemory\n", Status::Failed));
+}
+
+/// Words that are no text, and what is said of their bytes.
+const NO_TEXTS: [(&[u8], &str); 6] = [
+    (b"\xff", "\\xff"),
+    (b"zh-\xe4", "zh-\\xe4"),
+    (b"\x1b\x80\\", "\\x1b\\x80\\x5c"),
+    (b"\xed\xa0\x80", "\\xed\\xa0\\x80"),
+    (b"a\n~\x7f \xc0", "a\\x0a~\\x7f \\xc0"),
+    (b"\xc3\xa4\xfe", "\\xc3\\xa4\\xfe"),
+];
+
+#[test]
+fn words_that_are_no_text(rt: HostRuntime) -> Result<(), Fail> {
+    for (bytes, shown) in &NO_TEXTS {
+        let said = format!(in rt.alloc();
+            "error: word 12 is not UTF-8: {shown}\n\nFor more information, try '--help'.\n"
+        )?;
+        match word_text(rt.alloc(), 12, bytes) {
+            Err(why) => {
+                assert!(rt; ends_without_words(rt.alloc(), why, said.as_str(), Status::Usage));
+            }
+            Ok(_) => return Err(Fail::from("it is a text")),
+        }
+    }
+    Ok(())
+}
+
+#[test]
+fn words_that_are_texts(rt: HostRuntime) {
+    for text in ["", "zh-Hant", "\\xff", "ä\u{10ffff}"] {
+        let read = word_text(rt.alloc(), 1, text.as_bytes());
+        assert!(rt; matches!(read, Ok(own) if own.as_str() == text));
+    }
 }

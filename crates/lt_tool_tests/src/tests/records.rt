@@ -4,7 +4,7 @@ use lt_canon::Checked;
 use lt_jar::Pieces;
 use lt_registry::SortedTable;
 use lt_testing::sample_text;
-use lt_tool::{LineForm, Status, ToolFault};
+use lt_tool::{LineForm, Status, ToolFault, WordsFault};
 use std::alloc::Global;
 use std::io::Cursor;
 use std::test::Fail;
@@ -178,4 +178,93 @@ fn writes_of_records_that_fail(rt: HostRuntime) -> Result<(), Fail> {
         assert!(rt; stops(rt.alloc(), &checked, room));
     }
     Ok(())
+}
+
+/// Words of options, records, what `csv` makes of them by their second fields, and its status.
+const DELIMITED: [(&[&str], &str, &str, u8); 7] = [
+    (
+        &["csv", "registry", "2", "--delimiter", ";"],
+        "id;tag\n1,5;iw\n\"a;b\";\"zh-yue\"\n3;fr\n4\n",
+        "id;tag;langtag_fault\n1,5;he;\n\"a;b\";\"yue\";\n3;fr;UnknownLanguage 1\n4;NoColumn\n",
+        1,
+    ),
+    (
+        &["csv", "--delimiter=;", "registry", "2"],
+        "id,tag\r\n1,iw\r\n",
+        "id,tag;langtag_fault\r\n1,iw;NoColumn\r\n",
+        1,
+    ),
+    (
+        &["csv", "--delimiter", "tab", "registry", "2"],
+        "id\ttag\n\"a\tb\"\tiw\n",
+        "id\ttag\tlangtag_fault\n\"a\tb\"\the\t\n",
+        0,
+    ),
+    (
+        &["csv", "registry", "--delimiter", "\t", "2"],
+        "id\ttag\n1\tiw\n",
+        "id\ttag\tlangtag_fault\n1\the\t\n",
+        0,
+    ),
+    (
+        &["csv", "registry", "2", "--delimiter", "-"],
+        "id-tag\n1-iw\n",
+        "id-tag-langtag_fault\n1-he-\n",
+        0,
+    ),
+    (
+        &["csv", "registry", "2", "--delimiter", ","],
+        "id,tag\n1,iw\n",
+        "id,tag,langtag_fault\n1,he,\n",
+        0,
+    ),
+    (
+        &["csv", "registry", "2", "--summary"],
+        "id,tag\n1,iw\n",
+        "id,tag,langtag_fault\n1,he,\n",
+        0,
+    ),
+];
+
+#[test]
+fn delimiters_are_named(rt: HostRuntime) -> Result<(), Fail> {
+    let sample = sample_text(rt.alloc())?;
+    for (words, records, shown, status) in &DELIMITED {
+        assert!(rt;
+            prints(
+                rt.alloc(),
+                words,
+                sample.as_bytes(),
+                records.as_bytes(),
+                shown,
+                *status
+            )
+        );
+    }
+    Ok(())
+}
+
+/// What is no delimiter.
+const NO_DELIMITERS: [&str; 9] = ["", "\"", "\n", "\r", ";;", "ä", "\u{80}", "TAB", "\\t"];
+
+#[test]
+fn words_that_are_no_delimiter(rt: HostRuntime) {
+    for text in &NO_DELIMITERS {
+        let words = ["csv", "registry", "2", "--delimiter", *text];
+        assert!(rt; matches!(read(rt.alloc(), &words), Err(WordsFault::Usage(_))));
+    }
+    let twice = [
+        "csv",
+        "registry",
+        "2",
+        "--delimiter",
+        ";",
+        "--delimiter",
+        ";",
+    ];
+    assert!(rt; matches!(read(rt.alloc(), &twice), Err(WordsFault::Usage(_))));
+    for command in ["tsv", "canon", "check"] {
+        let words = [command, "registry", "2", "--delimiter", ";"];
+        assert!(rt; matches!(read(rt.alloc(), &words), Err(WordsFault::Usage(_))));
+    }
 }

@@ -8,7 +8,9 @@ returns-in-Ok g c = read_more _ _ _ c.in-Ok.ensures (λ reading holds. inr (reco
   entries = c.in-Ok.checked;
   registry = holds;
   end = c.run_lines-end.result;
+  tallies = c.run_lines-end.new.tallies;
   runs = c.run_lines-end.ensures;
+  handed = c.drop_unknown.ensures;
   counts = c.ok-answered.ensures.value;
   ends = c.end_run.ensures;
 }))

@@ -8,3 +8,6 @@ returns-in-Csv-clause-unnamed c = rw c.in-Csv.is c.read_csv.ensures.unnamed
 
 pub returns-in-Equal-clause-unnamed : goal.returns-in-Equal-clause-unnamed
 returns-in-Equal-clause-unnamed c = rw c.in-Equal.is c.read_equal.ensures.unnamed
+
+pub returns-in-Canon-clause-unnamed : goal.returns-in-Canon-clause-unnamed
+returns-in-Canon-clause-unnamed c = rw c.in-Canon.is c.read_canon.ensures.unnamed
