@@ -147,15 +147,15 @@ rm long
 # another byte between the fields, in either place, and words that are refused
 printf 'id;tag\r\n"a;b";zh-yue\r\n1,5;"en_US"\n3\n' > semicolons
 "$program" csv "$sample" 2 --delimiter ';' < semicolons > out 2> err; is 'csv: semicolons' 1 'id;tag;langtag_fault\r\n"a;b";yue;\r\n1,5;"en_US";BadByte 1\n3;NoColumn\n' ''
-printf 'id\ttag\n"a\tb"\tDE\n' > tabs
-"$program" csv --delimiter=tab "$sample" 2 < tabs > out 2> err; is 'csv: tabs by name' 0 'id\ttag\tlangtag_fault\n"a\tb"\tde\t\n' ''
-"$program" csv --delimiter $'\t' "$sample" 2 < tabs > out 2> err; is 'csv: tabs' 0 'id\ttag\tlangtag_fault\n"a\tb"\tde\t\n' ''
+printf 'id\ttag\n"a\tb"\tDE\n' > tabbed
+"$program" csv --delimiter=tab "$sample" 2 < tabbed > out 2> err; is 'csv: tabs by name' 0 'id\ttag\tlangtag_fault\n"a\tb"\tde\t\n' ''
+"$program" csv --delimiter $'\t' "$sample" 2 < tabbed > out 2> err; is 'csv: tabs' 0 'id\ttag\tlangtag_fault\n"a\tb"\tde\t\n' ''
 for delimiter in '' '"' $'\n' $'\r' ';;' ä Tab; do
-    "$program" csv --delimiter "$delimiter" "$sample" 2 < tabs > out 2> err; is "csv: the delimiter $delimiter" 3 '' "error: the delimiter is one byte of ASCII but no quote, carriage return or line feed, or the word tab\n\nFor more information, try '--help'.\n"
+    "$program" csv --delimiter "$delimiter" "$sample" 2 < tabbed > out 2> err; is "csv: the delimiter $delimiter" 3 '' "error: the delimiter is one byte of ASCII but no quote, carriage return or line feed, or the word tab\n\nFor more information, try '--help'.\n"
 done
 for words in 'csv --delimiter' 'tsv --delimiter ;' 'csv --delimiter ; --delimiter ,' 'check --summary'; do
     # shellcheck disable=SC2086
-    "$program" $words "$sample" 2 < tabs > out 2> usage; ended=$?
+    "$program" $words "$sample" 2 < tabbed > out 2> usage; ended=$?
     head -c 7 usage > err
     (exit "$ended"); is "$words" 3 '' 'error: '
 done
