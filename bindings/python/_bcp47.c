@@ -16,7 +16,7 @@
 PyAPI_FUNC(const char *) PyUnicode_AsUTF8AndSize(PyObject *, Py_ssize_t *);
 #endif
 
-/* Room for the text of any tag: at most 1,024 bytes lead to one of at most 1,024, and a subtag more. */
+/* Room for any text that a call writes: a tag of 1,024 bytes can have 204 variants of 4, each of which becomes one of 8. */
 #define ROOM 2048
 
 /* How many texts are answered between two looks at signals, and room for what is written of them. */

@@ -22,6 +22,16 @@ test('texts are made canonical', () => {
   for (const wrong of ['iw', new Tag('iw'), null, {}, 7, [7]]) assert.throws(() => registry.canonicalMany(wrong), TypeError);
 });
 
+test('the longest text has room', () => {
+  const numbers = Array.from({ length: 204 }, (_, n) => String(n).padStart(3, '0'));
+  const records = numbers.map((n) => `%%\nType: variant\nSubtag: 1${n}\nPreferred-Value: value${n}\n%%\nType: variant\nSubtag: value${n}\n`);
+  const own = new Registry(Buffer.from(`Type: language\nSubtag: aa\n${records.join('')}`));
+  const [tag, canonical] = ['1', 'value'].map((front) => ['aa', ...numbers.map((n) => front + n)].join('-'));
+  assert.deepEqual([tag.length, canonical.length], [1022, 1838]);
+  assert.equal(own.canonical(tag), canonical);
+  own.close();
+});
+
 test('refusals say why', () => {
   assert.throws(() => registry.canonical('en_US'), (error) =>
     error instanceof RefusedTag && error instanceof Refused && error instanceof Error && error.name === 'RefusedTag' &&

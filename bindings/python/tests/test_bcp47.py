@@ -80,6 +80,16 @@ class Calls(unittest.TestCase):
         self.assertIsNone(self.registry.verify(tag, explanation.steps, explanation.canonical))
         self.assertEqual(explanation.canonical, self.registry.canonical(tag))
 
+    def test_the_longest_text_has_room(self):
+        records = "Type: language\nSubtag: aa\n"
+        for n in range(204):
+            records += f"%%\nType: variant\nSubtag: 1{n:03}\nPreferred-Value: value{n:03}\n%%\nType: variant\nSubtag: value{n:03}\n"
+        tag, canonical = ("-".join(["aa", *(f"{front}{n:03}" for n in range(204))]) for front in ("1", "value"))
+        self.assertEqual((len(tag), len(canonical)), (1022, 1838))
+        with bcp47.Registry.from_bytes(records.encode()) as registry:
+            self.assertEqual(registry.canonical(tag), canonical)
+            self.assertEqual(registry.canonical_many([tag] * 40), [canonical] * 40)
+
     def test_tags(self):
         tag = bcp47.Tag("ZH-yue-hANT-hk")
         self.assertEqual((str(tag), tag.kind, repr(tag)), ("zh-yue-Hant-HK", "langtag", "Tag('zh-yue-Hant-HK')"))

@@ -59,6 +59,22 @@ final class Calls {
         is("BadByte 1", answers.get(2).fault());
     }
 
+    /** A tag of 204 variants of 4 letters and digits, each of which becomes one of 8. */
+    private static void longest() {
+        StringBuilder records = new StringBuilder("Type: language\nSubtag: aa\n");
+        StringBuilder tag = new StringBuilder("aa");
+        StringBuilder canonical = new StringBuilder("aa");
+        for (int n = 0; n < 204; n++) {
+            records.append(String.format("%%%%\nType: variant\nSubtag: 1%03d\nPreferred-Value: value%03d\n", n, n));
+            records.append(String.format("%%%%\nType: variant\nSubtag: value%03d\n", n));
+            tag.append(String.format("-1%03d", n));
+            canonical.append(String.format("-value%03d", n));
+        }
+        try (Registry registry = Registry.of(records.toString().getBytes(StandardCharsets.UTF_8))) {
+            is(canonical.toString(), registry.canonical(tag));
+        }
+    }
+
     private static void refusals(Registry registry) {
         RefusedTag refused = thrown(RefusedTag.class, () -> registry.canonical("en_US"));
         is("BadByte 1", refused.getMessage());
@@ -226,6 +242,7 @@ final class Calls {
         byte[] content = Files.readAllBytes(sample);
         try (Registry registry = Registry.open(sample)) {
             texts(registry);
+            longest();
             refusals(registry);
             explanations(registry);
             tags();
