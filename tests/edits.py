@@ -402,6 +402,9 @@ class Crate:
 def linked(was, to):
     try:
         os.link(was, to)
+    except FileNotFoundError:
+        # (a check that runs meanwhile has taken it away)
+        return
     except OSError:
         shutil.copyfile(was, to)
 
