@@ -3,7 +3,7 @@ use lt_jar::{Device, Takes};
 use lt_terminal::{Openings, Progress, message_of, run_for_people};
 use lt_tool::{Status, WordsFault};
 use std::alloc::{AllocError, Global};
-use std::io::{self, ErrorKind, Write};
+use std::io::{self, Cursor, ErrorKind, Write};
 
 /// A registry of two languages.
 const OLD: &[u8] =
@@ -30,8 +30,8 @@ const VARIANT: &[u8] =
 const LANGUAGE: &[u8] =
     b"File-Date: 2024-01-01\n%%\nType: language\nSubtag: ja\n%%\nType: variant\nSubtag: heploc\nPreferred-Value: ja\nPrefix: ja\n";
 
-/// Opens the file of this name.
-fn open_text(name: &str) -> io::Result<&'static [u8]> {
+/// The text of the file of this name.
+fn text_named(name: &str) -> io::Result<&'static [u8]> {
     match name {
         "old" => Ok(OLD),
         "new" => Ok(NEW),
@@ -44,6 +44,12 @@ fn open_text(name: &str) -> io::Result<&'static [u8]> {
         "language" => Ok(LANGUAGE),
         _ => Err(io::Error::from(ErrorKind::NotFound)),
     }
+}
+
+/// Opens the file of this name.
+fn open_text(alloc: Global, name: &str) -> io::Result<Cursor<Vec<u8>>> {
+    let text = text_named(name)?;
+    Ok(Cursor::new(Vec::from_slice(alloc, text)?))
 }
 
 /// The program's name, and the words after it.
@@ -84,7 +90,7 @@ fn goes_told(alloc: Global, run: &Run, more: &[&str], at_terminal: bool, told: &
         alloc,
         words,
         &mut |name| {
-            let file = openings.kept(alloc, name, open_text(name))?;
+            let file = openings.kept(alloc, name, open_text(alloc, name))?;
             Ok(openings.traced(alloc, file))
         },
         &openings,
@@ -117,7 +123,7 @@ fn told_of(alloc: Global, words: &[&str]) -> (Vec<u8>, Vec<u8>) {
         alloc,
         words,
         &mut |name| {
-            let file = openings.kept(alloc, name, open_text(name))?;
+            let file = openings.kept(alloc, name, open_text(alloc, name))?;
             Ok(openings.traced(alloc, file))
         },
         &openings,
@@ -406,7 +412,7 @@ fn told_after_failure(alloc: Global, words: &[&str], call: u64) -> (Vec<u8>, u8)
         alloc,
         words,
         &mut |name| {
-            let file = openings.kept(alloc, name, open_text(name))?;
+            let file = openings.kept(alloc, name, open_text(alloc, name))?;
             Ok(openings.traced(alloc, file))
         },
         &openings,
