@@ -6,6 +6,7 @@ mod growths;
 mod hostile;
 mod refusals;
 mod rounds;
+mod settled_ends;
 mod traces;
 mod upgrades;
 mod usual_texts;

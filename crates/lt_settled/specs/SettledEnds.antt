@@ -1,0 +1,43 @@
+-- Ends of texts that are canonical but for the case of their letters: a `u` extension of keywords in their order, or
+-- private use (RFC 5646, 2.2.7 and 4.5; RFC 6067, 2.1.1). No public contract cites this.
+use Rattle.std.specs.Prelude.{ℕ, ◌==◌, ◌&&◌, ◌||◌, not, if◌then◌else◌, Bool, true, false, List, [], ◌∷◌, Option, Some, None, bytes_eq, codes}
+use Rattle.std.proofs.Common.{Ordering, Less, Equal, Greater}
+use Rattle.std.specs.List.{list_all}
+use Rattle.std.specs.Option.{option_map_or}
+use Rattle.lt_subtag.specs.Bytes.{is_subtag}
+use Rattle.lt_subtag.specs.Shapes.{is_key}
+use Rattle.lt_tag.specs.Extensions.{is_long}
+use Rattle.lt_tag.specs.Lists.{list_of}
+use Rattle.lt_rewrite.specs.Extensions.{text_cmp}
+
+abbrev pub is_above : Ordering → Bool
+is_above Less = false
+is_above Equal = false
+is_above Greater = true
+
+-- a key comes after another, if there is another (RFC 6067, 2.1.1)
+abbrev pub comes_after : Option (List ℕ) → List ℕ → Bool
+comes_after None key = true
+comes_after (Some last) key = is_above (text_cmp key last)
+
+-- a type other than `true` (RFC 6067, 2.1)
+abbrev pub is_type : List ℕ → Bool
+is_type s = is_long s && not (bytes_eq s (codes "true"))
+
+-- the last key after one subtag more, if that is a key after the last one or a type of it other than `true`
+abbrev pub next_key : Option (List ℕ) → List ℕ → Option (List ℕ)
+next_key last s =
+    if is_key s then (if comes_after last s then Some s else None)
+    else (if is_type s then last else None)
+
+-- after the last key, if there is one, come its types and keywords whose keys rise; no type is `true`
+abbrev pub keys_rise : Option (List ℕ) → List (List ℕ) → Bool
+keys_rise last [] = true
+keys_rise last (s ∷ ss) = option_map_or (λ (key : List ℕ). keys_rise (Some key) ss) (next_key last s) false
+
+-- a singleton `u` and such keywords, or an `x` and subtags
+abbrev pub is_settled_end : List ℕ → Bool
+is_settled_end (h ∷ s ∷ i ∷ rest) =
+    ((h == 45) && (i == 45))
+    && ((((s == 117) || (s == 85)) && keys_rise None (list_of rest)) || (((s == 120) || (s == 88)) && list_all is_subtag (list_of rest)))
+is_settled_end _ = false
