@@ -92,6 +92,25 @@ fn append_settled_text<L: Lookup>(checked: &Checked<L>, text: &[u8], texts: &mut
     true
 }
 
+/// Appends the canonical text of a text that is not told by a flag for each subtag. It is no part of its caller, so that
+/// the texts which are told so pay nothing for it.
+#[inline(never)]
+fn append_other_text<L: Lookup>(
+    alloc: Global,
+    checked: &Checked<L>,
+    text: &[u8],
+    texts: &mut Vec<u8>,
+) -> Result<(), TextRefusal>
+    ensures appended { OnOk result (AppendsCanonicalText (L.listed checked.now) text.now texts.old.items texts.new.items) }
+    ensures refusal { IfErr result (λ refusal. IsTextRefusal (L.listed checked.now) text.now refusal) }
+    ensures kept { OnErr result (texts.new.items ≡ texts.old.items) }
+{
+    if append_settled_text(checked, text, texts) {
+        return Ok(());
+    }
+    lt_canon::append_canonical_text(alloc, checked, text, texts)
+}
+
 /// Appends the text, in conventional case, of the canonical form of the tag that a text is read as (RFC 5646, 2.1.1 and
 /// 4.5), and refuses it, as [`lt_canon::append_canonical_text`]. A text whose end is canonical but for the case of its
 /// letters, after a language, and a script and a region where there is one, that stay as they are, is not read as a
@@ -109,8 +128,5 @@ pub fn append_canonical_text<L: Lookup>(
     if append_usual_text(checked, text, texts)? {
         return Ok(());
     }
-    if append_settled_text(checked, text, texts) {
-        return Ok(());
-    }
-    lt_canon::append_canonical_text(alloc, checked, text, texts)
+    append_other_text(alloc, checked, text, texts)
 }

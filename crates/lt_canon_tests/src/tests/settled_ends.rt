@@ -9,7 +9,7 @@ use std::test::Fail;
 
 /// Texts, and the canonical text of each by the sample, or the name of the refusal. Keywords are in the order of their
 /// keys, as RFC 6067 has it, and private use is left alone (RFC 5646, 4.5).
-const TEXTS: [(&str, &str); 31] = [
+const TEXTS: [(&str, &str); 30] = [
     ("de-u-nu-latn", "de-u-nu-latn"),
     ("EN-gb-U-CA-Gregory-NU-Latn", "en-GB-u-ca-gregory-nu-latn"),
     ("zh-hans-gb-u-co-pinyin", "zh-Hans-GB-u-co-pinyin"),
@@ -31,7 +31,6 @@ const TEXTS: [(&str, &str); 31] = [
     ("x-own-u-kn", "x-own-u-kn"),
     ("iw-u-nu-latn", "he-u-nu-latn"),
     ("de-1901-u-nu-latn", "de-1901-u-nu-latn"),
-    ("zh-min-x-a", "zh-min-x-a"),
     ("fr-u-nu-latn", "UnknownLanguage"),
     ("fr-x-own", "UnknownLanguage"),
     ("de-u", "Unfinished"),
