@@ -8,10 +8,14 @@ _langtag() {
     fi
     case ${COMP_WORDS[1]}:$word in
         csv:-*)
-            mapfile -t COMPREPLY < <(compgen -W '--delimiter --summary --help' -- "$word")
+            mapfile -t COMPREPLY < <(compgen -W '--delimiter --keep --summary --help' -- "$word")
             return
             ;;
-        canon:-* | tsv:-*)
+        tsv:-*)
+            mapfile -t COMPREPLY < <(compgen -W '--heading --keep --summary --help' -- "$word")
+            return
+            ;;
+        canon:-*)
             mapfile -t COMPREPLY < <(compgen -W '--summary --help' -- "$word")
             return
             ;;

@@ -16,5 +16,7 @@ complete -c langtag -n __fish_use_subcommand -s V -l version -d 'The version'
 complete -c langtag -n '__fish_seen_subcommand_from check canon tsv csv extlang equal explain verify upgrade; and test (count (commandline -opc)) -eq 2' -F
 complete -c langtag -n '__fish_seen_subcommand_from upgrade; and test (count (commandline -opc)) -eq 3' -F
 complete -c langtag -n '__fish_seen_subcommand_from csv' -l delimiter -x -d 'The byte between fields, or tab'
+complete -c langtag -n '__fish_seen_subcommand_from tsv' -l heading -d 'Take the first row for a heading'
+complete -c langtag -n '__fish_seen_subcommand_from tsv csv' -l keep -d 'Leave each row as it is, and add the answer in two fields'
 complete -c langtag -n '__fish_seen_subcommand_from canon tsv csv' -l summary -d 'Tell how many lines each fault refused'
 complete -c langtag -n '__fish_seen_subcommand_from help' -a 'classify check canon tsv csv extlang equal explain verify upgrade'

@@ -50,12 +50,13 @@ is 'bash: a command' 'canon check classify csv' < <(by_bash langtag c)
 is 'bash: a file' 'registry.txt' < <(by_bash langtag tsv reg)
 is 'bash: the second file' 'registry.txt' < <(by_bash langtag upgrade old reg)
 is 'bash: options of csv' '--delimiter' < <(by_bash langtag csv --d)
-is 'bash: options of tsv' '--help --summary' < <(by_bash langtag tsv registry.txt -)
+is 'bash: options of tsv' '--heading --help --keep --summary' < <(by_bash langtag tsv registry.txt -)
 is 'bash: a tag is not completed' '' < <(by_bash langtag classify reg)
 if command -v fish > /dev/null; then
     is 'fish: a command' 'canon check classify csv' < <(by_fish 'langtag c')
     is 'fish: a file' 'registry.txt' < <(by_fish 'langtag tsv reg')
     is 'fish: an option' '--delimiter' < <(by_fish 'langtag csv --d')
+    is 'fish: options of rows' '--heading --keep' < <({ by_fish 'langtag tsv --hea'; by_fish 'langtag csv --k'; })
     is 'fish: help' 'upgrade' < <(by_fish 'langtag help up')
 else
     echo 'fish is not here'

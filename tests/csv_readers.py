@@ -3,6 +3,8 @@
 a quote, a comma, a carriage return, a line feed and `iw`, and on 20,000 files that are made by chance, by a fixed seed. Then the
 same of texts of up to 5 bytes and of 5,000 files with semicolons for commas, and commas for semicolons.
 
+With `--keep` each record stays byte for byte, and Python's csv reads it so before the two fields that are added.
+
 The definition stands here once more (`cut`). Its records are compared with those of the two readers, and the bytes that the
 program writes with those that are owed for its records. Each difference of the readers is of one of these classes:
 
@@ -16,6 +18,7 @@ Argument: the program (build/langtag, if there is none). The last line counts; t
 """
 import codecs
 import csv
+import io
 import itertools
 import os
 import random
@@ -116,18 +119,21 @@ def text_of(field):
     return b"", field
 
 
-def owed(record):
-    """The answer that is owed for a record."""
+def owed(record, keep=False):
+    """The answer that is owed for a record, which is kept or not."""
     fields, end = ended(record)
-    row = delimiter.join(fields) + delimiter
+    row = delimiter.join(fields)
+    empty = [b""] if keep else []
     if record[1]:
-        return row + b"BadReturn" + end
+        return delimiter.join([row, *empty, b"BadReturn"]) + end
     if len(fields) < COLUMN:
-        return row + b"NoColumn" + end
+        return delimiter.join([row, *empty, b"NoColumn"]) + end
     quotes, text = text_of(fields[COLUMN - 1])
     answer = answers[text]
     if answer.startswith(b"! "):
-        return row + answer[2:] + end
+        return delimiter.join([row, *empty, answer[2:]]) + end
+    if keep:
+        return delimiter.join([row, answer, b""]) + end
     fields[COLUMN - 1:COLUMN] = [quotes + answer + quotes]
     return delimiter.join(fields) + delimiter + end
 
@@ -138,9 +144,10 @@ def learn_records(records):
     learn(text_of(fields[COLUMN - 1])[1] for fields in found if len(fields) >= COLUMN)
 
 
-def run(data):
+def run(data, keep=False):
     """What the program makes of these bytes: its status, its output and its errors."""
-    words = [] if delimiter == b"," else ["--delimiter", delimiter]
+    words = ["--keep"] if keep else []
+    words += [] if delimiter == b"," else ["--delimiter", delimiter]
     done = subprocess.run([PROGRAM, "csv", SAMPLE, str(COLUMN), *words], input=data, capture_output=True)
     return done.returncode, done.stdout, done.stderr
 
@@ -169,29 +176,43 @@ def compare_together(kind, texts):
         fail(kind, b"", len(whole) + 1, (len(parts), status, errors))
 
 
-def compare_alone(kind, text):
+def compare_alone(kind, text, keep=False):
     """Compares what the program makes of a file: its first record is the heading, it may end within quotes, and a byte
     order mark before it is kept and no part of it."""
     records, opened = cut(text)
+    names = [b"langtag", b"langtag_fault"] if keep else [b"langtag_fault"]
     learn_records(records[1:])
     wanted = b""
     refused = False
     for number, record in enumerate(records):
-        if number:
-            answer = owed(record)
+        if number or record[1]:
+            answer = owed(record, keep)
         else:
             fields, end = ended(record)
-            answer = delimiter.join(fields + [b"BadReturn" if record[1] else b"langtag_fault"]) + end
+            answer = delimiter.join([*fields, *names]) + end
         refused = refused or record[1] or number > 0 and not answer.rstrip(b"\r\n").endswith(delimiter)
         wanted += answer
     errors = b"! BadCsv line %d\n" % opened if opened else b""
     for mark in b"", codecs.BOM_UTF8:
-        found = run(mark + text)
+        found = run(mark + text, keep)
         if found != (4 if opened else int(refused), mark + wanted, errors):
             fail(kind, mark + text, (mark + wanted, errors), found)
 
 
 # ---- the other readers
+
+def compare_kept(kind, text):
+    """Compares the fields that Python's csv reads of a text with those that it reads of it once they are kept."""
+    global compared
+    records, opened = cut(text)
+    if opened or any(bare for _, bare in records):
+        return
+    read = [list(csv.reader(io.StringIO(data.decode("latin-1"), newline=""), delimiter=delimiter.decode())) for data in (text, run(text, True)[1])]
+    compared += 1
+    # an empty line has one field, which is empty, once others follow it
+    if [fields or [""] for fields in read[0]] != [fields[:-2] for fields in read[1]]:
+        fail(kind + ", kept, Python's csv", text, *read)
+
 
 def compare_python(kind, text):
     """Compares the records of a text with those of Python's csv."""
@@ -288,6 +309,9 @@ def compare_all(kind, short, made):
         compare_alone(f"short texts alone{kind}", text)
     for text in made[:500]:
         compare_alone(f"made files alone{kind}", text)
+    for text in [*short[:156], *made[:500]]:
+        compare_alone(f"kept{kind}", text, True)
+        compare_kept(f"kept{kind}", text)
     for text in short:
         compare_python(f"short texts{kind}", text)
     for text in made:

@@ -107,6 +107,20 @@ done
 head -n 1 usage > err
 (exit "$ended"); is 'tsv: the column -1' 3 '' "error: unexpected argument '-1' found\n"
 
+# headings of rows, and rows that are kept
+printf 'id\tzh-yue\r\n' | cat - rows > headed
+"$program" tsv --heading "$sample" 2 < headed > out 2> err; is 'tsv --heading' 1 'id\tzh-yue\tlangtag_fault\r\n1\tyue\tbook\t\r\n2\ten_US\tBadByte 1\n3\tNoColumn\n' ''
+"$program" tsv "$sample" 2 --keep < rows > out 2> err; is 'tsv --keep' 1 '1\tzh-yue\tbook\tyue\t\r\n2\ten_US\t\tBadByte 1\n3\t\tNoColumn\n' ''
+"$program" tsv --keep --heading "$sample" 2 < headed > out 2> err; is 'tsv --keep --heading' 1 'id\tzh-yue\tlangtag\tlangtag_fault\r\n1\tzh-yue\tbook\tyue\t\r\n2\ten_US\t\tBadByte 1\n3\t\tNoColumn\n' ''
+dd bs=1 status=none < headed | "$program" tsv --keep --heading "$sample" 2 > out 2> err; is 'tsv: the same byte by byte' 1 'id\tzh-yue\tlangtag\tlangtag_fault\r\n1\tzh-yue\tbook\tyue\t\r\n2\ten_US\t\tBadByte 1\n3\t\tNoColumn\n' ''
+printf 'id\ttag\n1\tDE\n' | "$program" tsv --keep --heading "$sample" 2 > out 2> err; is 'tsv --keep --heading: none is refused' 0 'id\ttag\tlangtag\tlangtag_fault\n1\tDE\tde\t\n' ''
+for words in 'csv --heading' 'canon --keep' 'tsv --keep --keep' 'check --heading'; do
+    # shellcheck disable=SC2086
+    "$program" $words "$sample" 2 < rows > out 2> usage; ended=$?
+    head -c 7 usage > err
+    (exit "$ended"); is "$words" 3 '' 'error: '
+done
+
 # records of CSV, by their second fields
 printf 'id,tag\r\n"a\n,b",zh-yue\r\n2,"en_US"\n3\n' > records
 "$program" csv "$sample" 2 < records > out 2> err; is 'csv refuses two' 1 'id,tag,langtag_fault\r\n"a\n,b",yue,\r\n2,"en_US",BadByte 1\n3,NoColumn\n' ''
@@ -143,6 +157,11 @@ rm long
 "$program" csv "$sample" 2 < records > /dev/full 2> err; is 'csv: full output' 4 '' '! Write\n'
 "$program" csv "$sample" 2 <&- > out 2> err; is 'csv: closed input' 4 '' '! Read\n'
 "$program" csv missing 0 < records > out 2> err; is 'csv: the column 0' 3 '' "error: COLUMN is a number from 1, and not 0\n\nFor more information, try '--help'.\n"
+
+# records that are kept
+"$program" csv --keep "$sample" 2 < records > out 2> err; is 'csv --keep' 1 'id,tag,langtag,langtag_fault\r\n"a\n,b",zh-yue,yue,\r\n2,"en_US",,BadByte 1\n3,,NoColumn\n' ''
+"$program" csv "$sample" 2 --keep < marked > out 2> err; is 'csv --keep: a mark before the heading' 0 '\357\273\277"Title\n(German)",tag,langtag,langtag_fault\nx,iw,he,\n' ''
+printf 'id,tag\n1\rx,iw\n2,"iw"\n"3' | "$program" csv --keep "$sample" 2 > out 2> err; is 'csv --keep: an open quote' 4 'id,tag,langtag,langtag_fault\n1\rx,iw,,BadReturn\n2,"iw",he,\n' '! BadCsv line 4\n'
 
 # another byte between the fields, in either place, and words that are refused
 printf 'id;tag\r\n"a;b";zh-yue\r\n1,5;"en_US"\n3\n' > semicolons

@@ -9,7 +9,7 @@ use Rattle.lt_lines.specs.Answering.{KeepsPart, kept_of, longest_kept, part_kept
 use Rattle.lt_lines.specs.Tallied.{CountsIf, line_at, most_shown}
 use Rattle.lt_lines.specs.declared.forms.LineForm.{LineForm}
 use Rattle.lt_lines.specs.declared.forms.LineForm.TheVariants as forms
-use Rattle.lt_lines.proofs.TakenLemmas.{kept_more, nothing_kept}
+use Rattle.lt_lines.proofs.PartLemmas.{kept_more, nothing_kept}
 
 -- the front of the content of a long line is its own
 content_front : (line : List ℕ) → most_shown < length line → take most_shown (content_of line) ≡ take most_shown line

@@ -1,7 +1,10 @@
 -- Lemmas on answers to lines.
 pub mod DeviceLemmas
 pub mod RowLemmas
-pub mod TakenLemmas
+mod FormLemmas
+pub mod PartLemmas
+mod TakenLemmas
+mod EndLemmas
 mod TalliedLemmas
 mod KeptLemmas
 pub mod TextLemmas

@@ -15,29 +15,31 @@ use Rattle.lt_lines.specs.declared.forms.LineForm.TheVariants as forms
 use Rattle.lt_lines.specs.declared.marked.Marked.{Marked}
 use Rattle.lt_lines.specs.declared.faults.ToolFault.{ToolFault}
 use Rattle.lt_lines.proofs.DeviceLemmas.{failed_from}
-use Rattle.lt_lines.proofs.TakenLemmas.{begun_nothing, of_none, owed_to_last_feed, taken_part, taken_room}
+use Rattle.lt_lines.proofs.EndLemmas.{owed_to_last_feed, taken_room}
+use Rattle.lt_lines.proofs.FormLemmas.{of_none}
+use Rattle.lt_lines.proofs.TakenLemmas.{begun_nothing, taken_part}
 
 -- ---- the mark and the text
 
 pub splits_whole : (form : LineForm) (bytes mark text : List ℕ) → SplitsText form bytes mark text → bytes ≡ mark ++ text
 splits_whole forms.Tag bytes mark text s = rw (s.0, s.1) refl
-splits_whole (forms.Row before) bytes mark text s = s.whole
-splits_whole (forms.Csv before delimiter) bytes mark text s = s.whole
+splits_whole (forms.Row row) bytes mark text s = s.whole
+splits_whole (forms.Csv row delimiter) bytes mark text s = s.whole
 
 pub splits_more : (form : LineForm) (bytes mark text more : List ℕ) → (MayBeMark bytes → ⊥) → SplitsText form bytes mark text → SplitsText form (bytes ++ more) mark (text ++ more)
 splits_more forms.Tag bytes mark text more none s = (s.0, ap (λ (l : List ℕ). l ++ more) s.1)
-splits_more (forms.Row before) bytes mark text more none s = split_more bytes mark text more none s
-splits_more (forms.Csv before delimiter) bytes mark text more none s = split_more bytes mark text more none s
+splits_more (forms.Row row) bytes mark text more none s = split_more bytes mark text more none s
+splits_more (forms.Csv row delimiter) bytes mark text more none s = split_more bytes mark text more none s
 
 splits_short : (form : LineForm) (bytes : List ℕ) → MayBeMark bytes → SplitsText form bytes [] bytes
 splits_short forms.Tag bytes may = (refl, refl)
-splits_short (forms.Row before) bytes may = short_unmarked bytes may
-splits_short (forms.Csv before delimiter) bytes may = short_unmarked bytes may
+splits_short (forms.Row row) bytes may = short_unmarked bytes may
+splits_short (forms.Csv row delimiter) bytes may = short_unmarked bytes may
 
 splits_some : (form : LineForm) (bytes : List ℕ) → (mark : List ℕ) × (text : List ℕ) × SplitsText form bytes mark text
 splits_some forms.Tag bytes = ([], bytes, (refl, refl))
-splits_some (forms.Row before) bytes = split_of bytes
-splits_some (forms.Csv before delimiter) bytes = split_of bytes
+splits_some (forms.Row row) bytes = split_of bytes
+splits_some (forms.Csv row delimiter) bytes = split_of bytes
 
 -- nothing of what is owed was written
 pub begun_none : (T : Terms) (bytes : List ℕ) → IsBegunText T bytes []
@@ -77,13 +79,13 @@ none_kept T state t =
 -- a few bytes are kept whole
 part_whole : (form : LineForm) (part : List ℕ) → length part < 3 → part ≡ part_kept form 0 part
 part_whole forms.Tag part few = sym (take_all longest_kept part (omega (arith, few)))
-part_whole (forms.Row before) part few = refl
-part_whole (forms.Csv before delimiter) part few = refl
+part_whole (forms.Row row) part few = refl
+part_whole (forms.Csv row delimiter) part few = refl
 
 few_short : (form : LineForm) (count : ℕ) → count < 3 → IsLongBy form 0 count → ⊥
 few_short forms.Tag count few long = long
-few_short (forms.Row before) count few long = omega (arith, few, long)
-few_short (forms.Csv before delimiter) count few long = omega (arith, few, long)
+few_short (forms.Row row) count few long = omega (arith, few, long)
+few_short (forms.Csv row delimiter) count few long = omega (arith, few, long)
 
 -- with the front that is kept
 at_front : (T : Terms) (bytes written : List ℕ) (state : Marked) → IsKeptFront T bytes written state → state.answering.owed.items ≡ [] → (a : Answering) × IsAt T bytes written a × (a.owed.items ≡ []) × (a.tallies ≡ state.answering.tallies)

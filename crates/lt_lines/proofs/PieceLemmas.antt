@@ -12,7 +12,8 @@ use Rattle.lt_lines.specs.Owed.{Terms}
 use Rattle.lt_lines.specs.declared.answering.Answering.{Answering}
 use Rattle.lt_lines.specs.declared.faults.ToolFault.{ToolFault}
 use Rattle.lt_lines.proofs.DeviceLemmas.{failed_from}
-use Rattle.lt_lines.proofs.TakenLemmas.{begun_front, too_long, taken_part, taken_write}
+use Rattle.lt_lines.proofs.EndLemmas.{too_long}
+use Rattle.lt_lines.proofs.TakenLemmas.{begun_front, taken_part, taken_write}
 
 -- so far the front of the piece was taken
 pub record PieceTurn {W : Type 0} (T : Terms) (contents : W → Option (List ℕ)) (piece rest : List ℕ) (old now : Answering) (before after : Device W) : Type 0 where

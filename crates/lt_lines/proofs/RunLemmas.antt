@@ -18,7 +18,7 @@ use Rattle.lt_lines.specs.declared.runs.Counts.{Counts}
 use Rattle.lt_lines.specs.declared.faults.ToolFault.{ToolFault}
 use Rattle.lt_lines.specs.declared.faults.ToolFault.TheVariants as faults
 use Rattle.lt_lines.proofs.DeviceLemmas.{failed_from}
-use Rattle.lt_lines.proofs.TakenLemmas.{begun_to_last_feed, begun_too_long}
+use Rattle.lt_lines.proofs.EndLemmas.{begun_to_last_feed, begun_too_long}
 use Rattle.lt_lines.proofs.MarkedLemmas.{begun_none, text_begun, text_room, text_to_last_feed}
 
 -- so far this was read and answered
@@ -114,8 +114,8 @@ ends_long T remaining input input' output output' reads read written tallies lin
   where
     by_form : (form : LineForm) → T.form ≡ form → EndsAs T remaining input input' output output' reads read written tallies (Err (long_fault form line))
     by_form forms.Tag is = record { named = sym (ap (λ (f : LineForm). long_fault f line) is); ends = a }
-    by_form (forms.Row before) is = record { named = sym (ap (λ (f : LineForm). long_fault f line) is); ends = a }
-    by_form (forms.Csv before delimiter) is = inr (record { named = sym (ap (λ (f : LineForm). long_fault f line) is); ends = a })
+    by_form (forms.Row row) is = record { named = sym (ap (λ (f : LineForm). long_fault f line) is); ends = a }
+    by_form (forms.Csv row delimiter) is = inr (record { named = sym (ap (λ (f : LineForm). long_fault f line) is); ends = a })
 
 module _ {I O : Type 0} (T : Terms) (remaining : I → Option (List ℕ)) (contents : O → Option (List ℕ)) (input before : Device I) (output between : Device O)
     (state : Marked) (turn : ℕ) (t : RunTurn T remaining contents input before output between state turn) where

@@ -18,6 +18,7 @@ use Rattle.lt_canon.specs.declared.refusals.TextRefusal.{TextRefusal}
 use Rattle.lt_lines.specs.Answering.{AppendsTextReply, kept_of, longest_kept, AreRecent, IsRecent}
 use Rattle.lt_lines.specs.Owed.{IsReplyIn, IsTextReply, Reply, is_refusal, Terms, terms}
 use Rattle.lt_lines.specs.declared.forms.LineForm.{LineForm}
+use Rattle.lt_lines.specs.declared.forms.RowForm.{RowForm}
 use Rattle.std.proofs.lemmas.Result.{on_ok_weaker}
 use Rattle.std.proofs.Math.Seq.{drop-append_seam}
 use Rattle.lt_tag.specs.declared.faults.OutOfMemory.{OutOfMemory}
@@ -109,8 +110,8 @@ put_appended T before after text bytes old new items start refused puts is from 
     all_put (IsRecent T) before after text (take (length items - start) (drop start items)) refused puts (subst (λ (l : List ℕ). IsRecent T (kept text l refused)) (sym same) right)
 
 -- the canonical texts of fields are kept alike where tabs part fields and where commas do
-pub csv_recent : (R : List EntryParts) (before delimiter : ℕ) (form : LineForm) (r : Result Bool OutOfMemory) (old new : RecentAnswers) → form ≡ forms.Csv before delimiter
-    → OnOk r (AreRecent (terms R (forms.Row before)) old → AreRecent (terms R (forms.Row before)) new) → OnOk r (AreRecent (terms R form) old → AreRecent (terms R form) new)
-csv_recent R before delimiter form r old new is h =
+pub csv_recent : (R : List EntryParts) (row : RowForm) (delimiter : ℕ) (form : LineForm) (r : Result Bool OutOfMemory) (old new : RecentAnswers) → form ≡ forms.Csv row delimiter
+    → OnOk r (AreRecent (terms R (forms.Row row)) old → AreRecent (terms R (forms.Row row)) new) → OnOk r (AreRecent (terms R form) old → AreRecent (terms R form) new)
+csv_recent R row delimiter form r old new is h =
     subst (λ (f : LineForm). OnOk r (AreRecent (terms R f) old → AreRecent (terms R f) new)) (sym is)
     (on_ok_weaker r (λ keeps recent. let a = keeps (record { whole = recent.whole; ends = recent.ends }) in record { whole = a.whole; ends = a.ends }) h)

@@ -17,7 +17,7 @@ use Rattle.lt_lines.specs.declared.marked.Marked.{Marked}
 use Rattle.lt_lines.specs.declared.runs.Counts.{Counts}
 use Rattle.lt_lines.specs.declared.faults.ToolFault.{ToolFault}
 use Rattle.lt_lines.specs.declared.faults.ToolFault.TheVariants as faults
-use Rattle.lt_lines.proofs.TakenLemmas.{of_none}
+use Rattle.lt_lines.proofs.FormLemmas.{of_none}
 use Rattle.lt_lines.proofs.MarkedLemmas.{IsAt, at_after, begun_none, piece_stopped, splits_more, splits_whole, stop_from}
 
 unbegun : {P : Type 0} (b : Bool) → b ≡ true → b ≡ false → P

@@ -4,7 +4,7 @@ use Rattle.std.specs.List.{All, AllByRecursion}
 use Rattle.std.specs.Io.KnownBytes.{Appends}
 use Rattle.lt_jar.specs.Devices.{HasFailed, failures_of, inner_of}
 use Rattle.lt_jar.specs.declared.devices.Device.{Device}
-use Rattle.lt_jar.specs.Lines.{IsOneLine}
+use Rattle.lt_jar.specs.Lines.{IsOneLine, content_of}
 use Rattle.lt_registry.specs.Parts.{EntryParts}
 use Rattle.lt_canon.specs.Texts.{AppendsCanonicalText, IsCanonicalTextOf, IsTextRefusal}
 use Rattle.lt_canon.specs.declared.refusals.TextRefusal.{TextRefusal}
@@ -12,7 +12,7 @@ use Rattle.lt_lines.specs.Refusals.{IsTold}
 use Rattle.lt_rows.specs.Quotes.{is_quoted, place_at}
 use Rattle.lt_rows.specs.declared.quotes.Place.{Place}
 use Rattle.lt_rows.specs.declared.quotes.Place.TheVariants as places
-use Rattle.lt_lines.specs.Owed.{AreReplies, IsBegun, IsHeadingReply, IsReplyTo, IsRowReply, IsShort, IsTextReply, IsUnit, IsWhole, Reply, Terms, bytes_in, ended, feeds_in, is_open, long_fault, longest_row, place_of, refused_in, reply, row_line, units_of}
+use Rattle.lt_lines.specs.Owed.{AreReplies, IsBegun, IsHeadingReply, IsReplyAmong, IsReplyTo, IsRowReply, IsShort, IsTextReply, IsUnit, IsWhole, Reply, Terms, bytes_in, ended, feeds_in, is_open, long_fault, longest_row, place_of, refused_in, reply, row_line, units_of, with_canonical}
 use Rattle.lt_lines.specs.DeviceOutput.{IsFrontOf}
 use Rattle.lt_lines.specs.Tallied.{AreTalliesOf, OwesAll, TalliesInQuotes, TalliesTooLong}
 use Rattle.lt_recent.specs.declared.Kept.{Kept}
@@ -20,6 +20,7 @@ use Rattle.lt_ends.specs.Ends.{AreEnds}
 use Rattle.lt_lines.specs.declared.recent_answers.RecentAnswers.{RecentAnswers}
 use Rattle.lt_lines.specs.declared.answering.Answering.{Answering}
 use Rattle.lt_lines.specs.declared.forms.LineForm.{LineForm}
+use Rattle.lt_lines.specs.declared.forms.RowForm.{RowForm}
 use Rattle.lt_lines.specs.declared.forms.LineForm.TheVariants as forms
 use Rattle.lt_rows.specs.declared.rows.Separator.{Separator}
 use Rattle.lt_lines.specs.declared.runs.Counts.{Counts}
@@ -42,14 +43,14 @@ one_if false = 0
 -- the front of a line that is kept while it goes on: all of a row, and no more of a tag than says that it is too long
 abbrev pub kept_of : LineForm → List ℕ → List ℕ
 kept_of forms.Tag line = take longest_kept line
-kept_of (forms.Row before) line = line
-kept_of (forms.Csv before delimiter) line = line
+kept_of (forms.Row row) line = line
+kept_of (forms.Csv row delimiter) line = line
 
 -- the part of more bytes of a line that is kept after this many
 abbrev pub part_kept : LineForm → ℕ → List ℕ → List ℕ
 part_kept forms.Tag count part = take (longest_kept - count) part
-part_kept (forms.Row before) count part = part
-part_kept (forms.Csv before delimiter) count part = part
+part_kept (forms.Row row) count part = part
+part_kept (forms.Csv row delimiter) count part = part
 
 -- what is kept of a line once it is whole: nothing where nothing was kept of it before its last bytes
 abbrev pub KeepsPart : LineForm → (old part new : List ℕ) → Type 0
@@ -59,14 +60,14 @@ KeepsPart form (byte ∷ old) part new = new ≡ (byte ∷ old) ++ part_kept for
 -- the place after more bytes of a line, by that before them
 abbrev pub place_then : LineForm → Place → List ℕ → Place
 place_then forms.Tag place part = places.Fresh
-place_then (forms.Row before) place part = places.Fresh
-place_then (forms.Csv before delimiter) place part = place_at delimiter place part
+place_then (forms.Row row) place part = places.Fresh
+place_then (forms.Csv row delimiter) place part = place_at delimiter place part
 
 -- with this many bytes more, what is kept of a row or a record is too long
 abbrev pub IsLongBy : LineForm → (kept count : ℕ) → Type 0
 IsLongBy forms.Tag kept count = ⊥
-IsLongBy (forms.Row before) kept count = longest_row < kept + count
-IsLongBy (forms.Csv before delimiter) kept count = longest_row < kept + count
+IsLongBy (forms.Row row) kept count = longest_row < kept + count
+IsLongBy (forms.Csv row delimiter) kept count = longest_row < kept + count
 
 -- the line, counted from 1, in which what is kept begins
 abbrev pub line_of : Answering → ℕ
@@ -84,18 +85,33 @@ pub record AppendsTextReply (R : List EntryParts) (text old new : List ℕ) (ref
   pub grown : new ≡ old ++ bytes
   pub owed : IsTextReply R text (reply bytes refused)
 
+-- a row was appended as it is, with the canonical text of a text, or with why that is refused
+pub record AppendsKept (S : Separator) (R : List EntryParts) (text line old new : List ℕ) (refused : Bool) : Type 0 where
+  pub canonical : List ℕ
+  pub told : List ℕ
+  pub grown : new ≡ old ++ row_line S (with_canonical true S (content_of line) canonical) told line
+  pub owed : (IsCanonicalTextOf R text canonical × (told ≡ []) × (refused ≡ false))
+      ⊎ ((refusal : TextRefusal) × IsTextRefusal R text refusal × IsTold refusal told × (canonical ≡ []) × (refused ≡ true))
+
 -- that to a row
-pub record AppendsRowReply (S : Separator) (R : List EntryParts) (before : ℕ) (line old new : List ℕ)
+pub record AppendsRowReply (S : Separator) (R : List EntryParts) (row : RowForm) (line old new : List ℕ)
     (refused : Bool) : Type 0 where
   pub bytes : List ℕ
   pub grown : new ≡ old ++ bytes
-  pub owed : IsRowReply S R before line (reply bytes refused)
+  pub owed : IsRowReply S R row line (reply bytes refused)
 
 -- that to a heading
-pub record AppendsHeadingReply (S : Separator) (line old new : List ℕ) (refused : Bool) : Type 0 where
+pub record AppendsHeadingReply (kept : Bool) (S : Separator) (line old new : List ℕ) (refused : Bool) : Type 0 where
   pub bytes : List ℕ
   pub grown : new ≡ old ++ bytes
-  pub owed : IsHeadingReply S line (reply bytes refused)
+  pub owed : IsHeadingReply kept S line (reply bytes refused)
+
+-- that to a heading or a row
+pub record AppendsReplyAmong (S : Separator) (R : List EntryParts) (row : RowForm) (heading : Bool) (line old new : List ℕ)
+    (refused : Bool) : Type 0 where
+  pub bytes : List ℕ
+  pub grown : new ≡ old ++ bytes
+  pub owed : IsReplyAmong S R row heading line (reply bytes refused)
 
 -- that to a line
 pub record AppendsReply (T : Terms) (first : Bool) (line old new : List ℕ) (refused : Bool) : Type 0 where
@@ -123,8 +139,8 @@ pub record EndsRefused (S : Separator) (refusal : TextRefusal) (text quotes afte
 -- what a place has for a text is right: the answer to a tag, and the canonical text of a field
 abbrev pub IsRight : List EntryParts → LineForm → Kept → Type 0
 IsRight R forms.Tag kept = IsTextReply R kept.line (reply kept.answer kept.refused)
-IsRight R (forms.Row before) kept = IsCanonicalTextOf R kept.line kept.answer
-IsRight R (forms.Csv before delimiter) kept = IsCanonicalTextOf R kept.line kept.answer
+IsRight R (forms.Row row) kept = IsCanonicalTextOf R kept.line kept.answer
+IsRight R (forms.Csv row delimiter) kept = IsCanonicalTextOf R kept.line kept.answer
 
 -- what a place has, if it has something, is right
 abbrev pub IsRecent : Terms → Option Kept → Type 0

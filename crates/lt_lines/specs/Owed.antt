@@ -13,6 +13,7 @@ use Rattle.lt_rows.specs.declared.quotes.Place.TheVariants as places
 use Rattle.lt_rows.specs.Marks.{Begins, IsWide, SplitsMark}
 use Rattle.lt_rows.specs.Rows.{HasFewer, HasField, HasReturn, IsTextIn, separator}
 use Rattle.lt_lines.specs.declared.forms.LineForm.{LineForm}
+use Rattle.lt_lines.specs.declared.forms.RowForm.{RowForm}
 use Rattle.lt_lines.specs.declared.forms.LineForm.TheVariants as forms
 use Rattle.lt_rows.specs.declared.rows.Separator.{Separator}
 use Rattle.lt_rows.specs.declared.rows.Separator.TheVariants as separators
@@ -73,6 +74,15 @@ end_of line = if ends_with_byte 13 line then 13 ∷ 10 ∷ [] else 10 ∷ []
 abbrev pub row_line : Separator → List ℕ → List ℕ → List ℕ → List ℕ
 row_line S row last line = row ++ separator S ∷ last ++ end_of line
 
+-- where rows are kept, a row with one field more: the canonical text of its tag
+abbrev pub with_canonical : Bool → Separator → (row canonical : List ℕ) → List ℕ
+with_canonical false S row canonical = row
+with_canonical true S row canonical = row ++ separator S ∷ canonical
+
+-- the row as it is, with a last field that says why it is refused; where rows are kept, it has no canonical text
+abbrev pub refused_line : Bool → Separator → (line told : List ℕ) → List ℕ
+refused_line kept S line told = row_line S (with_canonical kept S (content_of line) []) told line
+
 -- the field has a canonical text, which is in the place of its text, and the last field is empty
 pub record AnswersRow (S : Separator) (R : List EntryParts) (before : ℕ) (line bytes : List ℕ) : Type 0 where
   pub front : List ℕ
@@ -86,8 +96,26 @@ pub record AnswersRow (S : Separator) (R : List EntryParts) (before : ℕ) (line
   pub is_canonical : IsCanonicalTextOf R text canonical
   pub line_is : bytes ≡ row_line S ((front ++ quotes) ++ canonical ++ (quotes ++ after)) [] line
 
+-- the field has a canonical text: the row stays as it is, and that is added to it, and a last field, which is empty
+pub record KeepsRow (S : Separator) (R : List EntryParts) (before : ℕ) (line bytes : List ℕ) : Type 0 where
+  pub front : List ℕ
+  pub field : List ℕ
+  pub after : List ℕ
+  pub at : HasField S before (content_of line) front field after
+  pub quotes : List ℕ
+  pub text : List ℕ
+  pub is_text : IsTextIn S field quotes text
+  pub canonical : List ℕ
+  pub is_canonical : IsCanonicalTextOf R text canonical
+  pub line_is : bytes ≡ row_line S (with_canonical true S (content_of line) canonical) [] line
+
+-- the first, or where rows are kept the second
+abbrev pub AnswersOrKeeps : Bool → Separator → List EntryParts → ℕ → (line bytes : List ℕ) → Type 0
+AnswersOrKeeps false S R before line bytes = AnswersRow S R before line bytes
+AnswersOrKeeps true S R before line bytes = KeepsRow S R before line bytes
+
 -- the text of the field is refused, and the last field says why
-pub record RefusesRow (S : Separator) (R : List EntryParts) (before : ℕ) (line bytes : List ℕ) : Type 0 where
+pub record RefusesRow (kept : Bool) (S : Separator) (R : List EntryParts) (before : ℕ) (line bytes : List ℕ) : Type 0 where
   pub front : List ℕ
   pub field : List ℕ
   pub after : List ℕ
@@ -99,23 +127,24 @@ pub record RefusesRow (S : Separator) (R : List EntryParts) (before : ℕ) (line
   pub is_refusal : IsTextRefusal R text refusal
   pub told : List ℕ
   pub is_told : IsTold refusal told
-  pub line_is : bytes ≡ row_line S (content_of line) told line
+  pub line_is : bytes ≡ refused_line kept S line told
 
 -- there is no such field, and the last field says so
-pub record LacksField (S : Separator) (before : ℕ) (line bytes : List ℕ) : Type 0 where
+pub record LacksField (kept : Bool) (S : Separator) (before : ℕ) (line bytes : List ℕ) : Type 0 where
   pub fewer : HasFewer S before (content_of line)
-  pub line_is : bytes ≡ row_line S (content_of line) (codes "NoColumn") line
+  pub line_is : bytes ≡ refused_line kept S line (codes "NoColumn")
 
 -- the line that is owed for a row by its field; running out of memory aside
-abbrev pub IsFieldReply : Separator → List EntryParts → ℕ → List ℕ → Reply → Type 0
-IsFieldReply S R before line r =
-    (AnswersRow S R before line r.bytes × (r.refused ≡ false))
-    ⊎ ((RefusesRow S R before line r.bytes ⊎ LacksField S before line r.bytes) × (r.refused ≡ true))
+abbrev pub IsFieldReply : Separator → List EntryParts → RowForm → List ℕ → Reply → Type 0
+IsFieldReply S R row line r =
+    (AnswersOrKeeps row.is_kept S R row.before line r.bytes × (r.refused ≡ false))
+    ⊎ ((RefusesRow row.is_kept S R row.before line r.bytes ⊎ LacksField row.is_kept S row.before line r.bytes)
+    × (r.refused ≡ true))
 
 -- a carriage return is in a record, outside of quotes, and the last field says so
-pub record RefusesReturn (S : Separator) (line : List ℕ) (r : Reply) : Type 0 where
+pub record RefusesReturn (kept : Bool) (S : Separator) (line : List ℕ) (r : Reply) : Type 0 where
   pub returns : HasReturn S (content_of line)
-  pub line_is : r.bytes ≡ row_line S (content_of line) (codes "BadReturn") line
+  pub line_is : r.bytes ≡ refused_line kept S line (codes "BadReturn")
   pub refused : r.refused ≡ true
 
 -- none is
@@ -124,22 +153,33 @@ pub record HasNoReturn (S : Separator) (line : List ℕ) (P : Type 0) : Type 0 w
   pub owed : P
 
 -- the line that is owed for a row
-abbrev pub IsRowReply : Separator → List EntryParts → ℕ → List ℕ → Reply → Type 0
-IsRowReply S R before line r = RefusesReturn S line r ⊎ HasNoReturn S line (IsFieldReply S R before line r)
+abbrev pub IsRowReply : Separator → List EntryParts → RowForm → List ℕ → Reply → Type 0
+IsRowReply S R row line r =
+    RefusesReturn row.is_kept S line r ⊎ HasNoReturn S line (IsFieldReply S R row line r)
 
--- the line that is owed for the heading of a file of CSV: the name of the last field is added
-abbrev pub IsHeadingReply : Separator → List ℕ → Reply → Type 0
-IsHeadingReply S line r = RefusesReturn S line r
-    ⊎ HasNoReturn S line ((r.bytes ≡ row_line S (content_of line) (codes "langtag_fault") line) × (r.refused ≡ false))
+-- the heading as it is, with the names of the fields that are added
+abbrev pub heading_line : Bool → Separator → List ℕ → List ℕ
+heading_line kept S line =
+    row_line S (with_canonical kept S (content_of line) (codes "langtag")) (codes "langtag_fault") line
+
+-- the line that is owed for a heading
+abbrev pub IsHeadingReply : Bool → Separator → List ℕ → Reply → Type 0
+IsHeadingReply kept S line r = RefusesReturn kept S line r
+    ⊎ HasNoReturn S line ((r.bytes ≡ heading_line kept S line) × (r.refused ≡ false))
+
+-- the line that is owed for a heading or a row
+abbrev pub IsReplyAmong : Separator → List EntryParts → RowForm → (heading : Bool) → List ℕ → Reply → Type 0
+IsReplyAmong S R row true line r = IsHeadingReply row.is_kept S line r
+IsReplyAmong S R row false line r = IsRowReply S R row line r
 
 -- ---- lines
 
--- what is owed for a line, which may be the first; a carriage return that ends a tag is no part of it
+-- what is owed for a line, which may be the first, and so a heading; a carriage return that ends a tag is no part of it
 abbrev pub IsReplyIn : List EntryParts → LineForm → Bool → List ℕ → Reply → Type 0
 IsReplyIn R forms.Tag first line r = IsTextReply R (content_of line) r
-IsReplyIn R (forms.Row before) first line r = IsRowReply separators.Tab R before line r
-IsReplyIn R (forms.Csv before delimiter) true line r = IsHeadingReply (separators.Delimiter delimiter) line r
-IsReplyIn R (forms.Csv before delimiter) false line r = IsRowReply (separators.Delimiter delimiter) R before line r
+IsReplyIn R (forms.Row row) first line r = IsReplyAmong separators.Tab R row (row.has_heading && first) line r
+IsReplyIn R (forms.Csv row delimiter) first line r =
+    IsReplyAmong (separators.Delimiter delimiter) R row (row.has_heading && first) line r
 
 -- the same by what lines are answered by
 abbrev pub IsReplyTo : Terms → Bool → List ℕ → Reply → Type 0
@@ -168,20 +208,20 @@ refused_in replies = count_by (λ r. r.refused) replies
 -- the lines of a text, as their form says; those of CSV are its records
 abbrev pub units_of : LineForm → List ℕ → List (List ℕ)
 units_of forms.Tag text = lines_of text
-units_of (forms.Row before) text = lines_of text
-units_of (forms.Csv before delimiter) text = records_from delimiter places.Fresh text
+units_of (forms.Row row) text = lines_of text
+units_of (forms.Csv row delimiter) text = records_from delimiter places.Fresh text
 
 -- no line feed that ends a line of this form: none, or in CSV none outside of quotes
 abbrev pub IsUnit : LineForm → List ℕ → Type 0
 IsUnit forms.Tag text = IsOneLine text
-IsUnit (forms.Row before) text = IsOneLine text
-IsUnit (forms.Csv before delimiter) text = IsFreeOutside delimiter 10 places.Fresh text
+IsUnit (forms.Row row) text = IsOneLine text
+IsUnit (forms.Csv row delimiter) text = IsFreeOutside delimiter 10 places.Fresh text
 
 -- the place after a text of this form, which is of no account but in CSV
 abbrev pub place_of : LineForm → List ℕ → Place
 place_of forms.Tag text = places.Fresh
-place_of (forms.Row before) text = places.Fresh
-place_of (forms.Csv before delimiter) text = place_at delimiter places.Fresh text
+place_of (forms.Row row) text = places.Fresh
+place_of (forms.Csv row delimiter) text = place_at delimiter places.Fresh text
 
 -- whether a line goes on after a line feed: a record does where it ends within quotes
 abbrev pub is_open : LineForm → List ℕ → Bool
@@ -194,8 +234,8 @@ longest_row = 16777216
 -- it is not too long to be kept whole; of a tag no more is kept than says that it is too long
 abbrev pub IsShort : LineForm → List ℕ → Type 0
 IsShort forms.Tag text = Unit {0}
-IsShort (forms.Row before) text = length text ≤ longest_row
-IsShort (forms.Csv before delimiter) text = length text ≤ longest_row
+IsShort (forms.Row row) text = length text ≤ longest_row
+IsShort (forms.Csv row delimiter) text = length text ≤ longest_row
 
 -- a line that a line feed ends
 pub record IsWhole (form : LineForm) (text : List ℕ) : Type 0 where
@@ -242,8 +282,8 @@ pub record EndsInQuotes (T : Terms) (bytes written : List ℕ) (line : ℕ) : Ty
 -- the fault of a row or a record that is too long
 abbrev pub long_fault : LineForm → ℕ → ToolFault
 long_fault forms.Tag line = faults.BadTsv line
-long_fault (forms.Row before) line = faults.BadTsv line
-long_fault (forms.Csv before delimiter) line = faults.BadCsv line
+long_fault (forms.Row row) line = faults.BadTsv line
+long_fault (forms.Csv row delimiter) line = faults.BadCsv line
 
 -- a row or a record begins in this line, counted from 1, that is too long
 pub record EndsTooLong (T : Terms) (bytes written : List ℕ) (line : ℕ) : Type 0 where
@@ -274,8 +314,8 @@ pub record IsBegun (T : Terms) (bytes written : List ℕ) : Type 0 where
 -- the mark at the beginning of the bytes, and the text after it; before lines that are tags none is looked for
 abbrev pub SplitsText : LineForm → (bytes mark text : List ℕ) → Type 0
 SplitsText forms.Tag bytes mark text = (mark ≡ []) × (text ≡ bytes)
-SplitsText (forms.Row before) bytes mark text = SplitsMark bytes mark text
-SplitsText (forms.Csv before delimiter) bytes mark text = SplitsMark bytes mark text
+SplitsText (forms.Row row) bytes mark text = SplitsMark bytes mark text
+SplitsText (forms.Csv row delimiter) bytes mark text = SplitsMark bytes mark text
 
 -- the mark was written, and of the text and what was written after it this holds
 pub record AfterMark (T : Terms) (P : (text written : List ℕ) → Type 0) (bytes written : List ℕ) : Type 0 where

@@ -1,5 +1,5 @@
 -- Which lines are refused, by which fault, and what is counted of them.
-use Rattle.std.specs.Prelude.{◌≡◌, ◌⊎◌, ◌+◌, ◌<◌, ◌^◌, ℕ, Bool, true, false, List, [], ◌∷◌, ◌++◌, drop, length, nat_le, take}
+use Rattle.std.specs.Prelude.{◌≡◌, ◌⊎◌, ◌+◌, ◌<◌, ◌^◌, ℕ, Bool, true, false, List, [], ◌∷◌, ◌++◌, drop, if◌then◌else◌, length, nat_le, take}
 use Rattle.std.specs.List.{before_first}
 use Rattle.lt_jar.specs.Lines.{content_of}
 use Rattle.lt_tallies.specs.Tallies.{AreTallies, Refused}
@@ -8,15 +8,20 @@ use Rattle.lt_lines.specs.Owed.{EndsInQuotes, EndsTooLong, IsOwed, IsOwedToLastF
 use Rattle.lt_rows.specs.Rows.{HasFewer, HasField, IsTextIn}
 use Rattle.lt_lines.specs.declared.runs.Counts.{Counts}
 use Rattle.lt_lines.specs.declared.forms.LineForm.{LineForm}
+use Rattle.lt_lines.specs.declared.forms.RowForm.{RowForm}
 use Rattle.lt_lines.specs.declared.forms.LineForm.TheVariants as forms
 use Rattle.lt_rows.specs.declared.rows.Separator.{Separator}
 use Rattle.lt_rows.specs.declared.rows.Separator.TheVariants as separators
 
--- what the answer tells that refuses a line: it follows `! `, or the row as it was and a separator
+-- how many separators are between a row as it was and what the answer tells that refuses it
+abbrev pub separators_in : RowForm → ℕ
+separators_in row = if row.is_kept then 2 else 1
+
+-- what the answer tells that refuses a line: it follows `! `, or the row as it was and these separators
 abbrev pub told_in : LineForm → (line bytes : List ℕ) → List ℕ
 told_in forms.Tag line bytes = drop 2 bytes
-told_in (forms.Row before) line bytes = drop (length (content_of line) + 1) bytes
-told_in (forms.Csv before delimiter) line bytes = drop (length (content_of line) + 1) bytes
+told_in (forms.Row row) line bytes = drop (length (content_of line) + separators_in row) bytes
+told_in (forms.Csv row delimiter) line bytes = drop (length (content_of line) + separators_in row) bytes
 
 -- the name of the fault: what is before the first space (32) or end of line
 abbrev pub fault_in : LineForm → (line bytes : List ℕ) → List ℕ
@@ -38,8 +43,9 @@ IsFieldOrNone S before row text = IsFieldText S before row text ⊎ (HasFewer S 
 -- the text of a line that is read as a tag
 abbrev pub IsTagIn : LineForm → (line text : List ℕ) → Type 0
 IsTagIn forms.Tag line text = text ≡ content_of line
-IsTagIn (forms.Row before) line text = IsFieldOrNone separators.Tab before (content_of line) text
-IsTagIn (forms.Csv before delimiter) line text = IsFieldOrNone (separators.Delimiter delimiter) before (content_of line) text
+IsTagIn (forms.Row row) line text = IsFieldOrNone separators.Tab row.before (content_of line) text
+IsTagIn (forms.Csv row delimiter) line text =
+    IsFieldOrNone (separators.Delimiter delimiter) row.before (content_of line) text
 
 -- the most bytes that are shown of a text
 abbrev pub most_shown : ℕ

@@ -1,10 +1,10 @@
 //! The line that is owed for a row.
-ghost use Rattle.std.specs.Prelude.{◌≡◌, ◌++◌, [], IfOk, OnOk};
-ghost use Rattle.lt_lines.specs.Answering.{AppendsHeadingReply, AppendsRowReply, AreRecent, EndsRefused};
-ghost use Rattle.lt_lines.specs.Owed.{end_of, row_line, terms};
+ghost use Rattle.std.specs.Prelude.{◌≡◌, ◌++◌, ◌&&◌, [], IfOk, OnOk};
+ghost use Rattle.lt_lines.specs.Answering.{AppendsHeadingReply, AppendsKept, AppendsReplyAmong, AppendsRowReply, AreRecent, EndsRefused};
+ghost use Rattle.lt_lines.specs.Owed.{end_of, row_line, terms, with_canonical};
 
 use crate::answer_lines::{append_told, without_return};
-use crate::forms::LineForm;
+use crate::forms::{LineForm, RowForm};
 use crate::recent_answers::{RecentAnswers, append_field};
 use lt_canon::{Checked, TextRefusal};
 use lt_registry::Lookup;
@@ -22,17 +22,23 @@ fn append_end(lines: &mut Vec<u8>, line: &[u8]) -> Result<(), AllocError>
     }
 }
 
-/// Appends a row, and one field more.
-pub(crate) fn append_longer(
+/// Appends a row, this field more where rows are kept, and a last field.
+fn append_longer(
     lines: &mut Vec<u8>,
+    is_kept: bool,
     separator: Separator,
     row: &[u8],
+    canonical: &str,
     last: &str,
     line: &[u8],
 ) -> Result<(), AllocError>
-    ensures { OnOk result (lines.new.items ≡ lines.old.items ++ row_line separator row.now last.now line.now) }
+    ensures { OnOk result (lines.new.items ≡ lines.old.items ++ row_line separator (with_canonical is_kept separator row.now canonical.now) last.now line.now) }
 {
     lines.extend_from_slice(row)?;
+    if is_kept {
+        lines.push(separator.byte())?;
+        lines.extend_from_slice(canonical.as_bytes())?;
+    }
     lines.push(separator.byte())?;
     lines.extend_from_slice(last.as_bytes())?;
     append_end(lines, line)
@@ -75,34 +81,68 @@ fn end_refused(
     Ok(())
 }
 
-/// Appends what is owed for a row whose field after this many others is a tag, and tells whether that was refused.
-pub(crate) fn append_row<L: Lookup>(
+/// Appends a row as it is, with the canonical text of this text of its field, or with why that is refused, and tells
+/// whether it is.
+fn append_kept<L: Lookup>(
     lines: &mut Vec<u8>,
     alloc: Global,
     checked: &Checked<L>,
     separator: Separator,
-    before: usize,
+    form: RowForm,
+    recent: &mut RecentAnswers,
+    text: &[u8],
+    line: &[u8],
+) -> Result<bool, OutOfMemory>
+    ensures owed { IfOk result (λ refused. AreRecent (terms (L.listed checked.now) (LineForm.Row form)) recent.old
+        → AppendsKept separator (L.listed checked.now) text.now line.now lines.old.items lines.new.items refused) }
+    ensures recent { OnOk result (AreRecent (terms (L.listed checked.now) (LineForm.Row form)) recent.old
+        → AreRecent (terms (L.listed checked.now) (LineForm.Row form)) recent.new) }
+{
+    lines.extend_from_slice(without_return(line))?;
+    lines.push(separator.byte())?;
+    match append_field(lines, alloc, checked, form, recent, text)? {
+        None => {
+            end_answered(lines, separator, b"", b"", line)?;
+            Ok(false)
+        }
+        Some(refusal) => {
+            end_refused(lines, separator, &refusal, b"", b"", b"", line)?;
+            Ok(true)
+        }
+    }
+}
+
+/// Appends what is owed for a row, and tells whether it is refused.
+fn append_row<L: Lookup>(
+    lines: &mut Vec<u8>,
+    alloc: Global,
+    checked: &Checked<L>,
+    separator: Separator,
+    form: RowForm,
     recent: &mut RecentAnswers,
     line: &[u8],
 ) -> Result<bool, OutOfMemory>
-    ensures owed { IfOk result (λ refused. AreRecent (terms (L.listed checked.now) (LineForm.Row before)) recent.old
-        → AppendsRowReply separator (L.listed checked.now) before line.now lines.old.items lines.new.items refused) }
-    ensures recent { OnOk result (AreRecent (terms (L.listed checked.now) (LineForm.Row before)) recent.old
-        → AreRecent (terms (L.listed checked.now) (LineForm.Row before)) recent.new) }
+    ensures owed { IfOk result (λ refused. AreRecent (terms (L.listed checked.now) (LineForm.Row form)) recent.old
+        → AppendsRowReply separator (L.listed checked.now) form line.now lines.old.items lines.new.items refused) }
+    ensures recent { OnOk result (AreRecent (terms (L.listed checked.now) (LineForm.Row form)) recent.old
+        → AreRecent (terms (L.listed checked.now) (LineForm.Row form)) recent.new) }
 {
     let row = without_return(line);
     if has_return(separator, row) {
-        append_longer(lines, separator, row, "BadReturn", line)?;
+        append_longer(lines, form.is_kept, separator, row, "", "BadReturn", line)?;
         return Ok(true);
     }
-    let Some((front, field, after)) = find_field(separator, row, before) else {
-        append_longer(lines, separator, row, "NoColumn", line)?;
+    let Some((front, field, after)) = find_field(separator, row, form.before) else {
+        append_longer(lines, form.is_kept, separator, row, "", "NoColumn", line)?;
         return Ok(true);
     };
     let (quotes, text) = text_in(separator, field);
+    if form.is_kept {
+        return append_kept(lines, alloc, checked, separator, form, recent, text, line);
+    }
     lines.extend_from_slice(front)?;
     lines.extend_from_slice(quotes)?;
-    match append_field(lines, alloc, checked, before, recent, text)? {
+    match append_field(lines, alloc, checked, form, recent, text)? {
         None => {
             end_answered(lines, separator, quotes, after, line)?;
             Ok(false)
@@ -114,19 +154,51 @@ pub(crate) fn append_row<L: Lookup>(
     }
 }
 
-/// Appends what is owed for the heading of a file of CSV, and tells whether it was refused.
-pub(crate) fn append_heading(
+/// Appends what is owed for a heading, and tells whether it is refused.
+fn append_heading(
     lines: &mut Vec<u8>,
+    is_kept: bool,
     separator: Separator,
     line: &[u8],
 ) -> Result<bool, AllocError>
-    ensures { IfOk result (λ refused. AppendsHeadingReply separator line.now lines.old.items lines.new.items refused) }
+    ensures { IfOk result (λ refused. AppendsHeadingReply is_kept separator line.now lines.old.items lines.new.items refused) }
 {
     let heading = without_return(line);
     if has_return(separator, heading) {
-        append_longer(lines, separator, heading, "BadReturn", line)?;
+        append_longer(lines, is_kept, separator, heading, "", "BadReturn", line)?;
         return Ok(true);
     }
-    append_longer(lines, separator, heading, "langtag_fault", line)?;
+    append_longer(
+        lines,
+        is_kept,
+        separator,
+        heading,
+        "langtag",
+        "langtag_fault",
+        line,
+    )?;
     Ok(false)
+}
+
+/// Appends what is owed for a line, which may be the first, and so a heading, or a row, and tells whether it is refused.
+pub(crate) fn append_among<L: Lookup>(
+    lines: &mut Vec<u8>,
+    alloc: Global,
+    checked: &Checked<L>,
+    separator: Separator,
+    form: RowForm,
+    is_first: bool,
+    recent: &mut RecentAnswers,
+    line: &[u8],
+) -> Result<bool, OutOfMemory>
+    ensures owed { IfOk result (λ refused. AreRecent (terms (L.listed checked.now) (LineForm.Row form)) recent.old
+        → AppendsReplyAmong separator (L.listed checked.now) form (form.has_heading && is_first) line.now lines.old.items lines.new.items refused) }
+    ensures recent { OnOk result (AreRecent (terms (L.listed checked.now) (LineForm.Row form)) recent.old
+        → AreRecent (terms (L.listed checked.now) (LineForm.Row form)) recent.new) }
+{
+    if form.has_heading && is_first {
+        let refused = append_heading(lines, form.is_kept, separator, line)?;
+        return Ok(refused);
+    }
+    append_row(lines, alloc, checked, separator, form, recent, line)
 }

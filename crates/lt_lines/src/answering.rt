@@ -8,7 +8,7 @@ ghost use Rattle.lt_lines.specs.Answering as spec;
 ghost use Rattle.lt_lines.specs.Owed as owed;
 
 use crate::answer_lines::without_return;
-use crate::answer_rows::{append_heading, append_row};
+use crate::answer_rows::append_among;
 use crate::device_output::write_text;
 use crate::faults::ToolFault;
 use crate::forms::LineForm;
@@ -112,19 +112,23 @@ fn append_reply<L: Lookup>(
             text,
             without_return(line).len(),
         ),
-        LineForm::Row(before) => {
-            append_row(lines, alloc, checked, Separator::Tab, before, recent, line)
-        }
-        LineForm::Csv(_, delimiter) if is_first => {
-            let refused = append_heading(lines, Separator::Delimiter(delimiter), line)?;
-            Ok(refused)
-        }
-        LineForm::Csv(before, delimiter) => append_row(
+        LineForm::Row(row) => append_among(
+            lines,
+            alloc,
+            checked,
+            Separator::Tab,
+            row,
+            is_first,
+            recent,
+            line,
+        ),
+        LineForm::Csv(row, delimiter) => append_among(
             lines,
             alloc,
             checked,
             Separator::Delimiter(delimiter),
-            before,
+            row,
+            is_first,
             recent,
             line,
         ),

@@ -16,6 +16,6 @@ mod tallying;
 pub use answer_lines::append_refusal;
 pub use device_output::{write_fault, write_text};
 pub use faults::ToolFault;
-pub use forms::LineForm;
+pub use forms::{LineForm, RowForm};
 pub use lt_tallies::{Tallies, Tally};
 pub use runs::{Counts, run_lines};

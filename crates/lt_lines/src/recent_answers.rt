@@ -4,7 +4,7 @@ ghost use Rattle.lt_lines.specs.Answering.{AppendsTextReply, AreRecent, FieldRep
 ghost use Rattle.lt_lines.specs.Owed.{Terms, terms};
 
 use crate::answer_lines::append_answer;
-use crate::forms::LineForm;
+use crate::forms::{LineForm, RowForm};
 use lt_canon::{Checked, TextRefusal, append_usual_text};
 use lt_ends::RecentEnds;
 use lt_recent::Recent;
@@ -105,19 +105,19 @@ pub(crate) fn append_field<L: Lookup>(
     lines: &mut Vec<u8>,
     alloc: Global,
     checked: &Checked<L>,
-    before: usize,
+    row: RowForm,
     recent: &mut RecentAnswers,
     field: &[u8],
 ) -> Result<Option<TextRefusal>, OutOfMemory>
-    ensures owed { IfOk result (λ refusal. AreRecent (terms (L.listed checked.now) (LineForm.Row before)) recent.old
+    ensures owed { IfOk result (λ refusal. AreRecent (terms (L.listed checked.now) (LineForm.Row row)) recent.old
         → FieldReply (L.listed checked.now) field.now lines.old.items lines.new.items refusal) }
-    ensures recent { OnOk result (AreRecent (terms (L.listed checked.now) (LineForm.Row before)) recent.old
-        → AreRecent (terms (L.listed checked.now) (LineForm.Row before)) recent.new) }
+    ensures recent { OnOk result (AreRecent (terms (L.listed checked.now) (LineForm.Row row)) recent.old
+        → AreRecent (terms (L.listed checked.now) (LineForm.Row row)) recent.new) }
 {
     if append_usual_text(checked, field, lines)? {
         return Ok(None);
     }
-    append_found_field(lines, alloc, checked, before, recent, field)
+    append_found_field(lines, alloc, checked, row, recent, field)
 }
 
 /// The same of any field, by the canonical texts that were found lately.
@@ -125,14 +125,14 @@ fn append_found_field<L: Lookup>(
     lines: &mut Vec<u8>,
     alloc: Global,
     checked: &Checked<L>,
-    before: usize,
+    row: RowForm,
     recent: &mut RecentAnswers,
     field: &[u8],
 ) -> Result<Option<TextRefusal>, OutOfMemory>
-    ensures owed { IfOk result (λ refusal. AreRecent (terms (L.listed checked.now) (LineForm.Row before)) recent.old
+    ensures owed { IfOk result (λ refusal. AreRecent (terms (L.listed checked.now) (LineForm.Row row)) recent.old
         → FieldReply (L.listed checked.now) field.now lines.old.items lines.new.items refusal) }
-    ensures recent { OnOk result (AreRecent (terms (L.listed checked.now) (LineForm.Row before)) recent.old
-        → AreRecent (terms (L.listed checked.now) (LineForm.Row before)) recent.new) }
+    ensures recent { OnOk result (AreRecent (terms (L.listed checked.now) (LineForm.Row row)) recent.old
+        → AreRecent (terms (L.listed checked.now) (LineForm.Row row)) recent.new) }
 {
     if let Some(found) = recent.whole.find(field, field.len()) {
         found.answer.append_to(lines)?;

@@ -4,13 +4,20 @@ ghost use Rattle.lt_lines.specs.Tallied as spec;
 ghost use Rattle.lt_lines.specs.Tallied.{CountsIf, CountsLine, IsFieldOrNone, IsTagIn};
 
 use crate::answer_lines::without_return;
-use crate::forms::LineForm;
+use crate::forms::{LineForm, RowForm};
 use lt_rows::{Separator, find_field, text_in};
 use lt_tallies::Tallies;
 use std::alloc::{AllocError, Global};
 
 /// The most bytes that are shown of a text that is refused.
 const MOST_SHOWN: usize = 64;
+
+/// How many separators are between a row as it was and what the answer tells that refuses it.
+fn separators_in(row: RowForm) -> usize
+    ensures { result ≡ spec.separators_in row }
+{
+    if row.is_kept { 2 } else { 1 }
+}
 
 /// What the answer tells that refuses a line: the name of its fault, and a place or a variant.
 #[tactic(auto, using(crate::proofs::FaultLemmas::after_front))]
@@ -19,7 +26,9 @@ fn told_in<'a>(form: LineForm, line: &[u8], answer: &'a [u8]) -> &'a [u8]
 {
     let before = match form {
         LineForm::Tag => 2,
-        LineForm::Row(_) | LineForm::Csv(_, _) => without_return(line).len() + 1,
+        LineForm::Row(row) | LineForm::Csv(row, _) => {
+            without_return(line).len() + separators_in(row)
+        }
     };
     &answer[before.min(answer.len())..]
 }
@@ -57,13 +66,13 @@ fn field_text(separator: Separator, before: usize, row: &[u8]) -> &[u8]
 fn tag_in(form: LineForm, line: &[u8]) -> &[u8]
     ensures { IsTagIn form line.now result.now }
 {
-    let row = without_return(line);
+    let text = without_return(line);
     match form {
-        LineForm::Tag => row,
-        LineForm::Row(before) => field_text(Separator::Tab, before, row),
-        LineForm::Csv(before, delimiter) => {
-            field_text(Separator::Delimiter(delimiter), before, row)
-        },
+        LineForm::Tag => text,
+        LineForm::Row(row) => field_text(Separator::Tab, row.before, text),
+        LineForm::Csv(row, delimiter) => {
+            field_text(Separator::Delimiter(delimiter), row.before, text)
+        }
     }
 }
 

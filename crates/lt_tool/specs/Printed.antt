@@ -18,12 +18,14 @@ use Rattle.lt_lines.specs.Owed.{terms}
 use Rattle.lt_lines.specs.Running.{RunsLines}
 use Rattle.lt_lines.specs.declared.forms.LineForm.{LineForm}
 use Rattle.lt_lines.specs.declared.forms.LineForm.TheVariants as forms
+use Rattle.lt_lines.specs.declared.forms.RowForm.{RowForm}
 use Rattle.lt_lines.specs.declared.faults.ToolFault.{ToolFault}
 use Rattle.lt_lines.specs.declared.faults.ToolFault.TheVariants as faults
 use Rattle.lt_lines.specs.declared.runs.Counts.{Counts}
 use Rattle.lt_tallies.specs.declared.Tally.{Tally}
 use Rattle.lt_words.specs.declared.commands.Command.{Command}
 use Rattle.lt_words.specs.declared.commands.Command.TheVariants as command
+use Rattle.lt_words.specs.declared.commands.Rows.{Rows}
 use Rattle.lt_words.specs.declared.faults.WordsFault.{WordsFault}
 use Rattle.lt_words.specs.declared.faults.WordsFault.TheVariants as fault
 use Rattle.lt_tool.specs.Codes.{code_of}
@@ -88,6 +90,10 @@ tallies_after (Err faults.Write) tallies = []
 tallies_after (Err faults.OutOfMemory) tallies = []
 tallies_after end tallies = tallies
 
+-- the form of rows whose words are these
+abbrev pub row_form : Rows → RowForm
+row_form rows = record { before = rows.column - 1; has_heading = rows.heading; is_kept = rows.keep }
+
 -- the lines of the input were answered by the registry of the file
 pub record RunsCanon {I O E : Type 0} (form : LineForm) (reading : Reading)
     (input : Stream I) (output : Stream O) (errors : Stream E) (answered : Handed) (result : ℕ) : Type 0 where
@@ -123,10 +129,10 @@ Performs (command.Check name) first second input output errors answered result =
     HandsNone answered × IsUntouched second × IsUntouched input × PrintsByFile Checks first output errors result
 Performs (command.Canon run) first second input output errors answered result =
     IsUntouched second × ReadsFile first (Canonicalises forms.Tag input output errors answered result)
-Performs (command.Tsv run column) first second input output errors answered result =
-    IsUntouched second × ReadsFile first (Canonicalises (forms.Row (column - 1)) input output errors answered result)
-Performs (command.Csv run column delimiter) first second input output errors answered result =
-    IsUntouched second × ReadsFile first (Canonicalises (forms.Csv (column - 1) delimiter) input output errors answered result)
+Performs (command.Tsv run rows) first second input output errors answered result =
+    IsUntouched second × ReadsFile first (Canonicalises (forms.Row (row_form rows)) input output errors answered result)
+Performs (command.Csv run rows delimiter) first second input output errors answered result =
+    IsUntouched second × ReadsFile first (Canonicalises (forms.Csv (row_form rows) delimiter) input output errors answered result)
 Performs (command.Extlang name tag) first second input output errors answered result =
     HandsNone answered × IsUntouched second × IsUntouched input
     × PrintsByFile (ByRegistry (λ R. FormsExtlang R (string_bytes tag))) first output errors result

@@ -13,8 +13,8 @@ mod upgrade_command;
 mod verifying;
 
 pub use answered::Answered;
-pub use lt_lines::{Counts, LineForm, Tallies, Tally, ToolFault, run_lines};
-pub use lt_words::{Command, Run, WordsFault, read_words, word_text};
+pub use lt_lines::{Counts, LineForm, RowForm, Tallies, Tally, ToolFault, run_lines};
+pub use lt_words::{Command, Rows, Run, WordsFault, read_words, word_text};
 pub use printing::{perform, report, report_file};
 pub use program::run_program;
 pub use status::Status;

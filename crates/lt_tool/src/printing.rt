@@ -5,6 +5,7 @@ ghost use Rattle.lt_tool.specs.Codes.{code_of};
 ghost use Rattle.lt_tool.specs.Streams.{handed, stream};
 ghost use Rattle.lt_tool.specs.Written.{Prints, Says, file_line, memory_line};
 ghost use Rattle.lt_tool.specs.Registries.{ReadsFile};
+ghost use Rattle.lt_tool.specs.Printed as spec;
 ghost use Rattle.lt_tool.specs.Printed.{Canonicalises, EndsRun, Performs, PrintsResult, Reports, tallies_after};
 ghost use Rattle.lt_tool.specs.declared.status.Status.TheVariants.{Failed};
 
@@ -16,9 +17,9 @@ use crate::tag_commands::{equal, explain, extlang};
 use crate::upgrade_command::upgrade;
 use crate::verifying::verify;
 use lt_jar::Device;
-use lt_lines::{Counts, LineForm, Tallies, ToolFault, run_lines, write_fault, write_text};
+use lt_lines::{Counts, LineForm, RowForm, Tallies, ToolFault, run_lines, write_fault, write_text};
 use lt_tag::OutOfMemory;
-use lt_words::{Command, WordsFault};
+use lt_words::{Command, Rows, WordsFault};
 use std::alloc::Global;
 use std::io::{Read, Write};
 
@@ -125,6 +126,17 @@ fn answer_lines<F: Read, I: Read, O: Write, E: Write>(
     }
 }
 
+/// What rows are whose words are these.
+fn row_form(rows: Rows) -> RowForm
+    ensures { result ≡ spec.row_form rows }
+{
+    RowForm {
+        before: rows.column.saturating_sub(1),
+        has_heading: rows.heading,
+        is_kept: rows.keep,
+    }
+}
+
 /// Does what a command asks for, and tells how the run ended.
 fn run<F: Read, G: Read, I: Read, O: Write, E: Write>(
     alloc: Global,
@@ -152,12 +164,12 @@ fn run<F: Read, G: Read, I: Read, O: Write, E: Write>(
             errors,
             answered,
         ),
-        Command::Tsv(_, column) => {
-            let form = LineForm::Row(column.saturating_sub(1));
+        Command::Tsv(_, rows) => {
+            let form = LineForm::Row(row_form(*rows));
             answer_lines(alloc, form, first, input, output, errors, answered)
         }
-        Command::Csv(_, column, delimiter) => {
-            let form = LineForm::Csv(column.saturating_sub(1), *delimiter);
+        Command::Csv(_, rows, delimiter) => {
+            let form = LineForm::Csv(row_form(*rows), *delimiter);
             answer_lines(alloc, form, first, input, output, errors, answered)
         }
         Command::Extlang(_, tag) => {

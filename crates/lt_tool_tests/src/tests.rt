@@ -5,6 +5,7 @@ mod program;
 mod records;
 mod registries;
 mod rows;
+mod rows_kept;
 mod rows_more;
 mod tags;
 mod tallies;
@@ -16,7 +17,7 @@ use lt_jar::Device;
 use lt_registry::SortedTable;
 use lt_test_tables::sorted_sample;
 use lt_tool::{
-    Answered, Command, Counts, LineForm, Status, Tallies, ToolFault, WordsFault, perform,
+    Answered, Command, Counts, LineForm, RowForm, Status, Tallies, ToolFault, WordsFault, perform,
     read_words, report, report_file, run_lines,
 };
 use std::alloc::{AllocError, Global};
@@ -89,6 +90,40 @@ fn answer_lines<R: Read + Drop, W: Write>(
         tallies,
     )
 }
+
+/// Rows by their first fields.
+const FIRST_OF_ROW: LineForm = LineForm::Row(RowForm {
+    before: 0,
+    has_heading: false,
+    is_kept: false,
+});
+
+/// Rows by their second fields.
+const SECOND_OF_ROW: LineForm = LineForm::Row(RowForm {
+    before: 1,
+    has_heading: false,
+    is_kept: false,
+});
+
+/// The second field of a row after a heading.
+const SECOND: RowForm = RowForm {
+    before: 1,
+    has_heading: true,
+    is_kept: false,
+};
+
+/// Records of CSV by their first fields.
+const FIRST_OF_RECORD: LineForm = LineForm::Csv(
+    RowForm {
+        before: 0,
+        has_heading: true,
+        is_kept: false,
+    },
+    b',',
+);
+
+/// Records of CSV by their second fields.
+const SECOND_OF_RECORD: LineForm = LineForm::Csv(SECOND, b',');
 
 /// The sample, which passes the check.
 fn checked_sample(alloc: Global) -> Result<Checked<SortedTable>, Fail> {

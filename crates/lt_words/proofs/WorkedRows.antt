@@ -77,3 +77,19 @@ plain-read = refl
 plain-told : read_as (codes "summary") (csv (codes "R" ∷ codes "2" ∷ [])) ≡ Some (codes "csv", Some (codes "false"))
 unfolding clap_on_literals read_as
 plain-told = refl
+
+-- a heading, and rows that stay as they are
+abbrev tsv : List Text → List Text
+tsv words = codes "langtag" ∷ codes "tsv" ∷ words
+
+heading-read : read_as (codes "heading") (tsv (codes "--heading" ∷ codes "R" ∷ codes "2" ∷ [])) ≡ Some (codes "tsv", Some (codes "true"))
+unfolding clap_on_literals read_as
+heading-read = refl
+
+keep-read : read_as (codes "keep") (csv (codes "R" ∷ codes "2" ∷ codes "--keep" ∷ [])) ≡ Some (codes "csv", Some (codes "true"))
+unfolding clap_on_literals read_as
+keep-read = refl
+
+heading-wrong : fault_of langtag (csv (codes "R" ∷ codes "2" ∷ codes "--heading" ∷ [])) ≡ kind.UnknownArgument ∷ []
+unfolding clap_on_literals
+heading-wrong = refl

@@ -69,8 +69,9 @@ positionals_of sub.Upgrade = codes "OLD" ∷ codes "NEW" ∷ []
 -- its options
 abbrev pub options_of : Subcommand → List Rule
 options_of sub.Canon = flag (codes "summary") ∷ []
-options_of sub.Tsv = flag (codes "summary") ∷ []
-options_of sub.Csv = option (codes "C") (codes "delimiter") ∷ flag (codes "summary") ∷ []
+options_of sub.Tsv = flag (codes "heading") ∷ flag (codes "keep") ∷ flag (codes "summary") ∷ []
+options_of sub.Csv =
+    option (codes "C") (codes "delimiter") ∷ flag (codes "keep") ∷ flag (codes "summary") ∷ []
 options_of _ = []
 
 -- its arguments, each of its positionals required

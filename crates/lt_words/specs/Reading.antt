@@ -19,8 +19,8 @@ abbrev pub subcommand_for : Command → Subcommand
 subcommand_for (command.Classify tag) = sub.Classify
 subcommand_for (command.Check file) = sub.Check
 subcommand_for (command.Canon run) = sub.Canon
-subcommand_for (command.Tsv run column) = sub.Tsv
-subcommand_for (command.Csv run column delimiter) = sub.Csv
+subcommand_for (command.Tsv run rows) = sub.Tsv
+subcommand_for (command.Csv run rows delimiter) = sub.Csv
 subcommand_for (command.Extlang file tag) = sub.Extlang
 subcommand_for (command.Equal file tag other) = sub.Equal
 subcommand_for (command.Explain file tag) = sub.Explain
@@ -39,10 +39,10 @@ abbrev pub AreValues : Command → List Text → Type 0
 AreValues (command.Classify tag) texts = texts ≡ string_bytes tag ∷ []
 AreValues (command.Check file) texts = texts ≡ string_bytes file ∷ []
 AreValues (command.Canon run) texts = texts ≡ string_bytes run.registry ∷ []
-AreValues (command.Tsv run column) texts =
-    (text : Text) × IsColumn text column × (texts ≡ string_bytes run.registry ∷ text ∷ [])
-AreValues (command.Csv run column delimiter) texts =
-    (text : Text) × IsColumn text column × (texts ≡ string_bytes run.registry ∷ text ∷ [])
+AreValues (command.Tsv run rows) texts =
+    (text : Text) × IsColumn text rows.column × (texts ≡ string_bytes run.registry ∷ text ∷ [])
+AreValues (command.Csv run rows delimiter) texts =
+    (text : Text) × IsColumn text rows.column × (texts ≡ string_bytes run.registry ∷ text ∷ [])
 AreValues (command.Extlang file tag) texts = texts ≡ string_bytes file ∷ string_bytes tag ∷ []
 AreValues (command.Equal file tag other) texts = texts ≡ string_bytes file ∷ string_bytes tag ∷ string_bytes other ∷ []
 AreValues (command.Explain file tag) texts = texts ≡ string_bytes file ∷ string_bytes tag ∷ []
@@ -74,12 +74,15 @@ is_flagged name rows = option_map_or (λ text. bytes_eq text (codes "true")) (fi
 abbrev pub AreRunOptions : Run → List Row → Type 0
 AreRunOptions run rows = run.summary ≡ is_flagged (codes "summary") rows
 
--- what options give a command
+-- what options give a command; records of CSV have a heading
 abbrev pub AreOptions : Command → List Row → Type 0
-AreOptions (command.Canon run) rows = AreRunOptions run rows
-AreOptions (command.Tsv run column) rows = AreRunOptions run rows
-AreOptions (command.Csv run column delimiter) rows = AreRunOptions run rows × (delimiter_given rows ≡ Some delimiter)
-AreOptions _ rows = ⊤
+AreOptions (command.Canon run) found = AreRunOptions run found
+AreOptions (command.Tsv run rows) found =
+    AreRunOptions run found × (rows.heading ≡ is_flagged (codes "heading") found) × (rows.keep ≡ is_flagged (codes "keep") found)
+AreOptions (command.Csv run rows delimiter) found =
+    AreRunOptions run found × (rows.heading ≡ true) × (rows.keep ≡ is_flagged (codes "keep") found)
+    × (delimiter_given found ≡ Some delimiter)
+AreOptions _ found = ⊤
 
 -- these are the values of positionals
 pub record AreGiven (rows : List Row) (positionals texts : List Text) : Type 0 where
@@ -99,8 +102,8 @@ abbrev pub first_file_of : Command → Option (List ℕ)
 first_file_of (command.Classify tag) = None
 first_file_of (command.Check file) = Some (string_bytes file)
 first_file_of (command.Canon run) = Some (string_bytes run.registry)
-first_file_of (command.Tsv run column) = Some (string_bytes run.registry)
-first_file_of (command.Csv run column delimiter) = Some (string_bytes run.registry)
+first_file_of (command.Tsv run rows) = Some (string_bytes run.registry)
+first_file_of (command.Csv run rows delimiter) = Some (string_bytes run.registry)
 first_file_of (command.Extlang file tag) = Some (string_bytes file)
 first_file_of (command.Equal file tag other) = Some (string_bytes file)
 first_file_of (command.Explain file tag) = Some (string_bytes file)
@@ -115,22 +118,22 @@ second_file_of _ = None
 -- whether the command reads the standard input, whatever file it names
 abbrev pub reads_input_of : Command → Bool
 reads_input_of (command.Canon run) = true
-reads_input_of (command.Tsv run column) = true
-reads_input_of (command.Csv run column delimiter) = true
+reads_input_of (command.Tsv run rows) = true
+reads_input_of (command.Csv run rows delimiter) = true
 reads_input_of (command.Verify file tag) = true
 reads_input_of _ = false
 
 -- whether it answers each of its lines by one line
 abbrev pub answers_lines_of : Command → Bool
 answers_lines_of (command.Canon run) = true
-answers_lines_of (command.Tsv run column) = true
+answers_lines_of (command.Tsv run rows) = true
 answers_lines_of _ = false
 
 -- whether it is to tell a summary of its lines
 abbrev pub has_summary : Command → Bool
 has_summary (command.Canon run) = run.summary
-has_summary (command.Tsv run column) = run.summary
-has_summary (command.Csv run column delimiter) = run.summary
+has_summary (command.Tsv run rows) = run.summary
+has_summary (command.Csv run rows delimiter) = run.summary
 has_summary _ = false
 
 -- the words name this command, by what `clap` defines as the matches of a command

@@ -12,6 +12,17 @@ pub struct Run {
     pub summary: bool,
 }
 
+/// Rows: which field of them is a tag, and how they are answered.
+#[derive(Clone, Copy, Debug)]
+pub struct Rows {
+    /// The number of the field that is a tag, counted from 1.
+    pub column: usize,
+    /// Whether the first row is a heading, in which no tag is looked for.
+    pub heading: bool,
+    /// Whether a row stays as it is, and its answer is added to it in two fields.
+    pub keep: bool,
+}
+
 /// What the words ask for.
 #[derive(Debug, Drop)]
 pub enum Command {
@@ -21,11 +32,11 @@ pub enum Command {
     Check(String),
     /// The canonical form of each line of the input.
     Canon(Run),
-    /// The rows of the input, the field of this number (counted from 1) in canonical form.
-    Tsv(Run, usize),
-    /// The records of CSV of the input, the field of this number (counted from 1) in canonical form; the byte stands
-    /// between their fields.
-    Csv(Run, usize, u8),
+    /// The rows of the input with the canonical form of a field.
+    Tsv(Run, Rows),
+    /// The records of CSV of the input, after a heading, with the canonical form of a field; the byte stands between their
+    /// fields.
+    Csv(Run, Rows, u8),
     /// The extlang form of this tag, by the registry of this file, which comes first.
     Extlang(String, String),
     /// Whether these two tags are equivalent, by the registry of this file, which comes first.

@@ -67,6 +67,18 @@ pub(crate) static DELIMITER: Argument = Argument {
     help: "The byte between fields, or tab for a tab: one of ASCII but no quote, carriage return or line feed; without it a comma",
 };
 
+pub(crate) static HEADING: Argument = Argument {
+    name: "heading",
+    form: Form::Flag,
+    help: "Takes the first row for a heading: no tag is looked for in it, and the names of the fields that are added follow it",
+};
+
+pub(crate) static KEEP: Argument = Argument {
+    name: "keep",
+    form: Form::Flag,
+    help: "Leaves each row as it is, and adds two fields to it: langtag, the canonical form, and langtag_fault, why the tag is refused",
+};
+
 pub(crate) static SUMMARY: Argument = Argument {
     name: "summary",
     form: Form::Flag,
@@ -153,11 +165,11 @@ pub(crate) fn new_langtag<'a>(alloc: Global) -> Result<Command<'a>, AllocError>
     let program = with_new(alloc, program, "canon", about, &[&REGISTRY, &SUMMARY])?;
     let about =
         "Replaces a field of each row of the standard input, with tabs between fields, by its canonical form";
-    let arguments = &[&REGISTRY, &COLUMN, &SUMMARY];
+    let arguments = &[&REGISTRY, &COLUMN, &HEADING, &KEEP, &SUMMARY];
     let program = with_new(alloc, program, "tsv", about, arguments)?;
     let about =
         "Replaces a field of each record of CSV of the standard input, but for the heading, by its canonical form";
-    let arguments = &[&REGISTRY, &COLUMN, &DELIMITER, &SUMMARY];
+    let arguments = &[&REGISTRY, &COLUMN, &DELIMITER, &KEEP, &SUMMARY];
     let program = with_new(alloc, program, "csv", about, arguments)?;
     let about = "Prints the extlang form of a tag";
     let program = with_new(alloc, program, "extlang", about, &[&REGISTRY, &TAG])?;

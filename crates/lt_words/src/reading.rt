@@ -4,9 +4,9 @@ ghost use Rattle.lt_words.specs.CommandLine.{name_of};
 ghost use Rattle.lt_words.specs.Reading.{Reads, IsRefused, IsNamed, NamesNone, IsFaultOf};
 ghost use Rattle.clap.specs.Words.{found_of, rows_of, subcommand_rows_of};
 
-use crate::commands::{Command, Run};
+use crate::commands::{Command, Rows, Run};
 use crate::faults::WordsFault;
-use crate::program::{COLUMN, NEW, OLD, OTHER, REGISTRY, SUMMARY, TAG, new_langtag};
+use crate::program::{COLUMN, HEADING, KEEP, NEW, OLD, OTHER, REGISTRY, SUMMARY, TAG, new_langtag};
 use crate::subcommands::{Subcommand, subcommand_named};
 use crate::values::{column_of, delimiter_of, is_flagged, two_values, value_of};
 use clap::ArgMatches;
@@ -30,9 +30,13 @@ fn read_tsv(alloc: Global, values: &ArgMatches<'_>) -> Result<Command, WordsFaul
     ensures unnamed { IfErr result (NamesNone (Some (name_of Subcommand.Tsv, rows_of (found_of values.now)))) }
 {
     let (registry, column) = two_values(alloc, values, &REGISTRY, &COLUMN)?;
-    let column = column_of(alloc, &column)?;
+    let rows = Rows {
+        column: column_of(alloc, &column)?,
+        heading: is_flagged(values, &HEADING),
+        keep: is_flagged(values, &KEEP),
+    };
     let summary = is_flagged(values, &SUMMARY);
-    Ok(Command::Tsv(Run { registry, summary }, column))
+    Ok(Command::Tsv(Run { registry, summary }, rows))
 }
 
 /// The command for records of CSV.
@@ -41,10 +45,14 @@ fn read_csv(alloc: Global, values: &ArgMatches<'_>) -> Result<Command, WordsFaul
     ensures unnamed { IfErr result (NamesNone (Some (name_of Subcommand.Csv, rows_of (found_of values.now)))) }
 {
     let (registry, column) = two_values(alloc, values, &REGISTRY, &COLUMN)?;
-    let column = column_of(alloc, &column)?;
+    let rows = Rows {
+        column: column_of(alloc, &column)?,
+        heading: true,
+        keep: is_flagged(values, &KEEP),
+    };
     let delimiter = delimiter_of(alloc, values)?;
     let summary = is_flagged(values, &SUMMARY);
-    Ok(Command::Csv(Run { registry, summary }, column, delimiter))
+    Ok(Command::Csv(Run { registry, summary }, rows, delimiter))
 }
 
 /// The command that compares two tags.

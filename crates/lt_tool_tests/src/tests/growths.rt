@@ -3,7 +3,9 @@
 //! made twice where it is refused.
 use super::records::{LINES as RECORDS, OWED as OWED_RECORDS};
 use super::registries::{LINES, OWED};
-use super::{answer_lines, checked_sample, command_line, ends, read};
+use super::{
+    SECOND_OF_RECORD, SECOND_OF_ROW, answer_lines, checked_sample, command_line, ends, read,
+};
 use lt_canon::Checked;
 use lt_registry::SortedTable;
 use lt_testing::{answers, sample_text, shown, twice};
@@ -60,7 +62,7 @@ const OWED_ROWS: &str = "1\tyue\tx\t\r\n2\tfr\tUnknownLanguage 1\n3\tNoColumn\n4
 /// How a run over the rows ends, and what it wrote.
 fn run_rows(alloc: Global, checked: &Checked<SortedTable>) -> (Result<Counts, ToolFault>, Page) {
     let mut page = empty_page();
-    let end = answer_lines(alloc, checked, LineForm::Row(1), ROWS, &mut page);
+    let end = answer_lines(alloc, checked, SECOND_OF_ROW, ROWS, &mut page);
     (end, page)
 }
 
@@ -87,7 +89,7 @@ fn rows_are_answered(rt: HostRuntime) -> Result<(), Fail> {
 /// How a run over the records ends, and what it wrote.
 fn run_records(alloc: Global, checked: &Checked<SortedTable>) -> (Result<Counts, ToolFault>, Page) {
     let mut page = empty_page();
-    let end = answer_lines(alloc, checked, LineForm::Csv(1, b','), RECORDS, &mut page);
+    let end = answer_lines(alloc, checked, SECOND_OF_RECORD, RECORDS, &mut page);
     (end, page)
 }
 

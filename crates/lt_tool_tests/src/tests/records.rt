@@ -1,10 +1,10 @@
 //! Records of CSV, of which one field is a tag.
-use super::{answer_lines, checked_sample, ends, prints, read};
+use super::{SECOND_OF_RECORD, answer_lines, checked_sample, ends, prints, read};
 use lt_canon::Checked;
 use lt_jar::Pieces;
 use lt_registry::SortedTable;
 use lt_testing::sample_text;
-use lt_tool::{LineForm, Status, ToolFault, WordsFault};
+use lt_tool::{Status, ToolFault, WordsFault};
 use std::alloc::Global;
 use std::io::Cursor;
 use std::test::Fail;
@@ -145,7 +145,7 @@ fn answers(
     at_end: bool,
 ) -> bool {
     let mut output = Vec::new(alloc);
-    let is_end = match answer_lines(alloc, checked, LineForm::Csv(1, b','), reader, &mut output) {
+    let is_end = match answer_lines(alloc, checked, SECOND_OF_RECORD, reader, &mut output) {
         Ok(counts) => at_end && counts.lines == 5 && counts.refused == 2,
         Err(fault) => !at_end && fault == ToolFault::Read,
     };
@@ -167,7 +167,7 @@ fn stops(alloc: Global, checked: &Checked<SortedTable>, room: usize) -> bool {
     let mut page = [0u8; 64];
     let (taken, _) = page.split_at_mut(room.min(64));
     let mut output = Cursor::new(taken);
-    let end = answer_lines(alloc, checked, LineForm::Csv(1, b','), LINES, &mut output);
+    let end = answer_lines(alloc, checked, SECOND_OF_RECORD, LINES, &mut output);
     matches!(end, Err(ToolFault::Write))
 }
 

@@ -1,10 +1,10 @@
 //! Rows of fields with tabs between them, of which one is a tag.
-use super::{answer_lines, checked_sample, prints, read};
+use super::{SECOND_OF_ROW, answer_lines, checked_sample, prints, read};
 use lt_canon::Checked;
 use lt_jar::Pieces;
 use lt_registry::SortedTable;
 use lt_testing::sample_text;
-use lt_tool::{LineForm, ToolFault, WordsFault};
+use lt_tool::{ToolFault, WordsFault};
 use std::alloc::Global;
 use std::io::Cursor;
 use std::test::Fail;
@@ -99,7 +99,7 @@ fn answers(
     at_end: bool,
 ) -> bool {
     let mut output = Vec::new(alloc);
-    let is_end = match answer_lines(alloc, checked, LineForm::Row(1), reader, &mut output) {
+    let is_end = match answer_lines(alloc, checked, SECOND_OF_ROW, reader, &mut output) {
         Ok(counts) => at_end && counts.lines == 4 && counts.refused == 2,
         Err(fault) => !at_end && fault == ToolFault::Read,
     };
@@ -121,7 +121,7 @@ fn stops(alloc: Global, checked: &Checked<SortedTable>, room: usize) -> bool {
     let mut page = [0u8; 64];
     let (taken, _) = page.split_at_mut(room.min(64));
     let mut output = Cursor::new(taken);
-    let end = answer_lines(alloc, checked, LineForm::Row(1), LINES, &mut output);
+    let end = answer_lines(alloc, checked, SECOND_OF_ROW, LINES, &mut output);
     matches!(end, Err(ToolFault::Write))
 }
 

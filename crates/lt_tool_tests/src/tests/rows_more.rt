@@ -1,39 +1,31 @@
 //! Carriage returns alone, byte order marks, and delimiters.
-use super::{answer_lines, checked_sample};
+use super::{FIRST_OF_ROW, SECOND, SECOND_OF_RECORD, answer_lines, checked_sample};
 use lt_canon::Checked;
 use lt_registry::SortedTable;
 use lt_tool::{LineForm, ToolFault};
 use std::alloc::Global;
 use std::test::Fail;
 
-/// Records of CSV by their second fields.
-const RECORDS: LineForm = LineForm::Csv(1, b',');
-
 /// What texts are, what is answered to them, and how many lines are refused.
 const TEXTS: [(LineForm, &[u8], &[u8], u64); 7] = [
     (
-        RECORDS,
+        SECOND_OF_RECORD,
         b"h\n1\rx,iw\n2,iw\r\n3,\"\r\"",
         b"h,langtag_fault\n1\rx,iw,BadReturn\n2,he,\r\n3,\"\r\",BadByte 1\n",
         2,
     ),
-    (RECORDS, b"h\rh\r\n", b"h\rh,BadReturn\r\n", 1),
+    (SECOND_OF_RECORD, b"h\rh\r\n", b"h\rh,BadReturn\r\n", 1),
     (
-        RECORDS,
+        SECOND_OF_RECORD,
         b"\xEF\xBB\xBF\"h\n\",t\n1,iw",
         b"\xEF\xBB\xBF\"h\n\",t,langtag_fault\n1,he,\n",
         0,
     ),
-    (
-        LineForm::Row(0),
-        b"\xEF\xBB\xBFiw",
-        b"\xEF\xBB\xBFhe\t\n",
-        0,
-    ),
-    (LineForm::Row(0), b"\xEF\xBB", b"\xEF\xBB\tBadByte 1\n", 1),
+    (FIRST_OF_ROW, b"\xEF\xBB\xBFiw", b"\xEF\xBB\xBFhe\t\n", 0),
+    (FIRST_OF_ROW, b"\xEF\xBB", b"\xEF\xBB\tBadByte 1\n", 1),
     (LineForm::Tag, b"\xEF\xBB\xBFiw", b"! BadByte 1\n", 1),
     (
-        LineForm::Csv(1, b';'),
+        LineForm::Csv(SECOND, b';'),
         b"h;t\na,b;iw\n",
         b"h;t;langtag_fault\na,b;he;\n",
         0,
@@ -67,7 +59,7 @@ fn returns_and_marks(rt: HostRuntime) -> Result<(), Fail> {
     for (form, text, shown, refused) in &TEXTS {
         assert!(rt; answers(rt.alloc(), &checked, *form, text, shown, *refused));
     }
-    for form in [LineForm::Tag, LineForm::Row(0), RECORDS] {
+    for form in [LineForm::Tag, FIRST_OF_ROW, SECOND_OF_RECORD] {
         assert!(rt; is_wide(rt.alloc(), &checked, form, b"\xFF\xFEi\0w\0"));
     }
     Ok(())

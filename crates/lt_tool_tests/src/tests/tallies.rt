@@ -1,9 +1,9 @@
 //! What is counted of the lines that a run refuses.
-use super::{checked_sample, long_text};
+use super::{FIRST_OF_RECORD, SECOND_OF_RECORD, SECOND_OF_ROW, checked_sample, long_text};
 use lt_canon::Checked;
 use lt_jar::{Device, Pieces};
 use lt_registry::SortedTable;
-use lt_tool::{LineForm, Tallies, run_lines};
+use lt_tool::{LineForm, RowForm, Tallies, run_lines};
 use std::alloc::Global;
 use std::io::Read;
 use std::test::Fail;
@@ -47,7 +47,7 @@ fn counts<R: Read + Drop>(
 }
 
 /// Lines of each form, and what is counted of them.
-const RUNS: [(LineForm, &[u8], &[Row<'static>]); 8] = [
+const RUNS: [(LineForm, &[u8], &[Row<'static>]); 9] = [
     (LineForm::Tag, b"", &[]),
     (LineForm::Tag, b"de\nzh-yue\n", &[]),
     (
@@ -60,13 +60,22 @@ const RUNS: [(LineForm, &[u8], &[Row<'static>]); 8] = [
         ],
     ),
     (
-        LineForm::Row(1),
+        SECOND_OF_ROW,
         b"BadByte 1\tde\nfr\tfr\r\n1\n! x\tfr\tde",
         &[("UnknownLanguage", 2, 2, "fr"), ("NoColumn", 1, 3, "")],
     ),
-    (LineForm::Csv(0, b','), b"en_US\nde\n", &[]),
     (
-        LineForm::Csv(1, b','),
+        LineForm::Row(RowForm {
+            before: 1,
+            has_heading: true,
+            is_kept: true,
+        }),
+        b"1\tfr\n1\tfr\n1\n! x\tfr\tde",
+        &[("UnknownLanguage", 2, 2, "fr"), ("NoColumn", 1, 3, "")],
+    ),
+    (FIRST_OF_RECORD, b"en_US\nde\n", &[]),
+    (
+        SECOND_OF_RECORD,
         b"id,tag\n\"1, Read\nFile\",\"en_US\"\r\n2\n3,\"fr, de\"\n\"a\nb\",fr\n",
         &[
             ("BadByte", 2, 2, "en_US"),
@@ -75,7 +84,7 @@ const RUNS: [(LineForm, &[u8], &[Row<'static>]); 8] = [
         ],
     ),
     (
-        LineForm::Csv(0, b','),
+        FIRST_OF_RECORD,
         b"tag\nfr\n\"de",
         &[("UnknownLanguage", 1, 2, "fr")],
     ),

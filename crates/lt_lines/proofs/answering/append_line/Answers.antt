@@ -3,7 +3,7 @@ use Rattle.std.proofs.lemmas.Result.{IfOk-weaker, on_ok_weaker}
 use Rattle.lt_lines.specs.Answering.{part_kept}
 use Rattle.lt_lines.specs.Owed.{IsReplyTo, reply, terms}
 use Rattle.lt_lines.proofs.KeptLemmas.{keeps_none, keeps_some}
-use Rattle.lt_lines.proofs.TakenLemmas.{kept_more, no_items, nothing_kept, some_items}
+use Rattle.lt_lines.proofs.PartLemmas.{kept_more, no_items, nothing_kept, some_items}
 use Rattle.lt_lines.proofs.TextLemmas.{reply_for_kept}
 use Rattle.lt_lines.proofs.answering.append_line.Goals as goal
 

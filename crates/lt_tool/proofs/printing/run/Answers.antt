@@ -19,12 +19,12 @@ returns-in-Canon g c = rw c.in-Canon.is (refl, c.answer_lines.ensures)
 
 pub returns-in-Tsv : goal.returns-in-Tsv
 returns-in-Tsv g c =
-    let form = c.saturating_sub.ensures in
+    let form = c.row_form.ensures in
     rw c.in-Tsv.is (refl, rw form at c.answer_lines-in-Tsv.ensures)
 
 pub returns-in-Csv : goal.returns-in-Csv
 returns-in-Csv g c =
-    let form = c.saturating_sub-in-Csv.ensures in
+    let form = c.row_form-in-Csv.ensures in
     rw c.in-Csv.is (refl, rw form at c.answer_lines-in-Csv.ensures)
 
 pub returns-in-Extlang : goal.returns-in-Extlang

@@ -1,6 +1,7 @@
 use Rattle.std.proofs.Common.{◌∙◌, sym, vec_len}
 use Rattle.lt_lines.specs.Owed.{terms}
-use Rattle.lt_lines.proofs.TakenLemmas.{answered_none, last_answered, no_items, some_items}
+use Rattle.lt_lines.proofs.EndLemmas.{answered_none, last_answered}
+use Rattle.lt_lines.proofs.PartLemmas.{no_items, some_items}
 use Rattle.lt_lines.proofs.answering.Answering.end_last.Goals as goal
 
 pub returns-then-is_empty : goal.returns-then-is_empty

@@ -2,7 +2,8 @@ use Rattle.std.proofs.Common.{◌∙◌, ap, sym, take}
 use Rattle.std.proofs.lemmas.Result.{on_ok_weaker}
 use Rattle.lt_lines.specs.Owed.{terms}
 use Rattle.lt_rows.specs.Quotes.{is_quoted}
-use Rattle.lt_lines.proofs.TakenLemmas.{short_by, taken_within}
+use Rattle.lt_lines.proofs.PartLemmas.{short_by}
+use Rattle.lt_lines.proofs.TakenLemmas.{taken_within}
 use Rattle.lt_lines.proofs.answering.Answering.end_line.Goals as goal
 
 pub returns-then-is_quoted-clause-taken : goal.returns-then-is_quoted-clause-taken

@@ -1,6 +1,6 @@
 use Rattle.std.proofs.Common.{[], ◌∙◌, inl, refl, sym, append-nil}
 use Rattle.std.proofs.KnownBytes.{Appends-nil}
-use Rattle.lt_lines.proofs.TakenLemmas.{ends_in_quotes}
+use Rattle.lt_lines.proofs.EndLemmas.{ends_in_quotes}
 use Rattle.lt_lines.proofs.answering.Answering.finish.Goals as goal
 
 pub returns-then-is_quoted : goal.returns-then-is_quoted

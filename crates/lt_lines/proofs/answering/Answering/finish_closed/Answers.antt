@@ -1,7 +1,8 @@
 use Rattle.std.proofs.Common.{[], inl, inr, refl, sym, append-nil}
 use Rattle.std.proofs.KnownBytes.{Appends-nil}
 use Rattle.std.proofs.lemmas.Result.{err_from_is_err_and}
-use Rattle.lt_lines.proofs.TakenLemmas.{begun_answered, begun_nothing, owed_all}
+use Rattle.lt_lines.proofs.EndLemmas.{begun_answered, owed_all}
+use Rattle.lt_lines.proofs.TakenLemmas.{begun_nothing}
 use Rattle.lt_lines.proofs.answering.Answering.finish_closed.Goals as goal
 
 pub returns-in_err-end_last : goal.returns-in_err-end_last
