@@ -197,6 +197,7 @@ export PYTHONPATH=$folder/python
 passes "docs/PYTHON.md's example" env -C "$folder/examples" $python example.py
 passes "Python's tests" $python bindings/python/tests/test_bcp47.py "$sample" "$registry"
 passes "Python: copies, processes, signals, threads, columns" $python -W error bindings/python/tests/test_habits.py "$sample"
+passes "Python: the report" $python -W error bindings/python/tests/test_report.py "$sample"
 passes "Python: the wheel" $python -B bindings/python/tests/test_wheel.py
 passes "Python: types of the package" env -C "$folder/python" MYPYPATH=. mypy --strict --cache-dir="$folder/mypy" -p bcp47
 passes "Python: types of a program" env MYPYPATH="$folder/python" mypy --strict --cache-dir="$folder/mypy" "$folder/examples/example.py"
