@@ -6,6 +6,7 @@ import codecs
 import csv
 import html
 import itertools
+import operator
 from typing import BinaryIO, Callable, Dict, Iterable, List, NamedTuple, Optional, Tuple
 
 from . import _FAULTS, _STATUSES, Registry, __version__
@@ -105,12 +106,12 @@ def _read(file: BinaryIO, word: str, delimiter: str) -> _Column:
 
 
 def _grouped(answers: Iterable[Tuple[Text, str]], rows: Dict[Text, int]) -> List[_Group]:
-    """The groups of texts, those with the most rows first."""
+    """The groups of texts, those with the most rows first, and of equal ones that with the first row."""
     groups: Dict[str, List[Text]] = {}
     for text, answer in answers:
         groups.setdefault(answer, []).append(text)
     found = [_Group(answer, sum(rows[text] for text in texts), texts) for answer, texts in groups.items()]
-    return sorted(found, key=lambda group: (-group.rows, group.answer))
+    return sorted(found, key=operator.attrgetter("rows"), reverse=True)
 
 
 def _escaped(text: str) -> str:
@@ -157,16 +158,14 @@ def _joined(group: _Group, rows: Dict[Text, int], most: int) -> str:
     return f"<tbody><tr>{head}" + "</tr>\n<tr>".join(cells) + "</tr></tbody>"
 
 
-def _summary(rows: Dict[Text, int], tags: List[_Group], faults: List[_Group]) -> str:
-    """The table of what became of the rows."""
-    kinds: List[Tuple[str, List[Text]]] = [
-        ("The tag stays", [tag.answer for tag in tags if tag.answer in rows]),
-        ("The tag is made canonical", [text for tag in tags for text in tag.texts if text != tag.answer]),
-        ("The tag is refused", [text for fault in faults for text in fault.texts]),
-        ("All rows read", list(rows))]
-    bodies = [f'<tr><th scope="row">{name}</th>{_number(sum(rows[text] for text in texts))}'
-              f"{_number(len(texts) - texts.count(None))}</tr>" for name, texts in kinds]
-    before = sum(len(tag.texts) for tag in tags)
+def _summary(rows: Dict[Text, int], tags: List[_Group]) -> str:
+    """The table of what became of the rows. A tag stays where it is canonical."""
+    stays = [tag.answer for tag in tags if tag.answer in rows]
+    of_stays, of_tags, of_all = sum(rows[text] for text in stays), sum(tag.rows for tag in tags), sum(rows.values())
+    before, distinct = sum(len(tag.texts) for tag in tags), len(rows) - (None in rows)
+    kinds = [("The tag stays", of_stays, len(stays)), ("The tag is made canonical", of_tags - of_stays, before - len(stays)),
+             ("The tag is refused", of_all - of_tags, distinct - before), ("All rows read", of_all, distinct)]
+    bodies = [f'<tr><th scope="row">{name}</th>{_number(count)}{_number(texts)}</tr>' for name, count, texts in kinds]
     return ("<h2>Rows</h2>\n" + _table("What became of the rows below the heading", ["Rows", "#How many", "#Distinct texts"], bodies)
             + f"<p>Distinct tags that are not refused: {before:,} before, {len(tags):,} after.</p>\n")
 
@@ -199,7 +198,7 @@ def _page(column: _Column, registry: Registry, tags: List[_Group], faults: List[
         f"{_HEAD}<title>Language tags of the column {_escaped(column.name)}</title>\n"
         f"<style>{_STYLE}</style>\n</head>\n<body>\n<main>\n"
         f"<h1>Language tags of the column {_shown(column.name)}</h1>\n<h2>Registry</h2>\n{_registry(registry)}"
-        + _summary(rows, tags, faults)
+        + _summary(rows, tags)
         + _section("Faults", "Rows that are refused, by the fault", ["Fault", "#Rows", "#First row", "Its text", "What to do"],
                    faults, most, fault)
         + _section("The most frequent tags", "Canonical tags by the rows that have them, with a bar for each",

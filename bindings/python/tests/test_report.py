@@ -77,7 +77,7 @@ class Reports(unittest.TestCase):
                                             ["The tag is made canonical", "6", "5"], ["The tag is refused", "7", "4"], ["All rows read", "18", "13"]])
         self.assertIn("Distinct tags that are not refused: 9 before, 5 after.", page.paragraphs)
         self.assertEqual(page.tables[FREQUENT][1:], [["yue", "4", "22.2%"], ["de", "3", "16.7%"], ["he", "2", "11.1%"],
-                                                     ["en-GB", "1", "5.6%"], ["tlh", "1", "5.6%"]])
+                                                     ["tlh", "1", "5.6%"], ["en-GB", "1", "5.6%"]])
         self.assertEqual([it.get("style") for it in page.root.iter("div") if it.get("style")],
                          ["width: 100.0%", "width: 75.0%", "width: 50.0%", "width: 25.0%", "width: 25.0%"])
         self.assertEqual(page.tables[JOINED][1:], [["yue", "4", "zh-yue", "2"], ["YUE", "1"], ["yue", "1"], ["de", "3", "de", "2"],
