@@ -247,7 +247,7 @@ const WORDS: [(&[&str], &str); 11] = [
     ),
     (
         &["csv", "registry", "2", "--delimiter", ";", "--summary"],
-        "Ok(Csv(Run { registry: \"registry\", summary: true }, 2, 59))",
+        "Ok(Csv(Run { registry: \"registry\", summary: true }, Rows { column: 2, heading: true, keep: false }, 59))",
     ),
     (
         &["extlang", "registry", "en"],
