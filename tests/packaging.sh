@@ -166,6 +166,8 @@ with zipfile.ZipFile(sys.argv[1]) as wheel:
     (name,) = [name for name in wheel.namelist() if ".so" in name]
     assert wheel.read(name)[18:20] == b"\xb7\x00", "another processor"
 END
+else
+    echo "skipped: the library for aarch64, which make lib-aarch64 builds"
 fi
 
 # ---- The packages for Java and Go, by the programs of their pages
