@@ -1,139 +1,13 @@
 //! The words of the command line, and what a run prints.
-mod growths;
-mod hostile;
 mod program;
-mod records;
-mod registries;
-mod rows;
-mod rows_kept;
-mod rows_more;
-mod tags;
-mod tallies;
-mod upgrades;
 mod verified;
 
-use lt_canon::Checked;
 use lt_jar::Device;
-use lt_registry::SortedTable;
-use lt_test_tables::sorted_sample;
-use lt_tool::{
-    Answered, Command, Counts, LineForm, RowForm, Status, Tallies, ToolFault, WordsFault, perform,
-    read_words, report, report_file, run_lines,
-};
+use lt_tool::{Command, Status, ToolFault, WordsFault, read_words, report, report_file};
+use lt_tool_testing::{Broken, NO_FILE, ends, long_text, prints, read};
 use std::alloc::{AllocError, Global};
-use std::io::{self, ErrorKind, Read, Write};
+use std::io::{self, Write};
 use std::test::Fail;
-
-/// Puts a word after the others.
-fn push_word(alloc: Global, all: &mut Vec<String>, word: &str) -> Result<(), AllocError> {
-    Ok(all.push(String::from_str(alloc, word)?)?)
-}
-
-/// The program's name, and the words after it.
-fn command_line(alloc: Global, words: &[&str]) -> Result<Vec<String>, AllocError> {
-    let mut all = Vec::new(alloc);
-    push_word(alloc, &mut all, "langtag")?;
-    for word in words {
-        push_word(alloc, &mut all, word)?;
-    }
-    Ok(all)
-}
-
-/// What `read_words` answers to words.
-fn read_all(alloc: Global, all: &[String]) -> Result<Command, WordsFault> {
-    read_words(alloc, all)
-}
-
-/// What `read_words` answers to the words after the program's name.
-fn read(alloc: Global, words: &[&str]) -> Result<Command, WordsFault> {
-    let all = command_line(alloc, words)?;
-    read_all(alloc, &all)
-}
-
-/// How a command ends on these files, this input and these writers.
-fn ends<F: Read + Drop, G: Read + Drop, I: Read + Drop, O: Write, E: Write>(
-    alloc: Global,
-    command: &Command,
-    files: (F, G),
-    input: I,
-    output: &mut O,
-    errors: &mut E,
-) -> u8 {
-    perform(
-        alloc,
-        command,
-        &mut Device::new(files.0),
-        &mut Device::new(files.1),
-        &mut Device::new(input),
-        &mut Device::new(output),
-        &mut Device::new(errors),
-        &mut Answered::new(alloc),
-    )
-}
-
-/// How a run over the lines of a reader ends, and what a writer has then.
-fn answer_lines<R: Read + Drop, W: Write>(
-    alloc: Global,
-    checked: &Checked<SortedTable>,
-    form: LineForm,
-    reader: R,
-    writer: &mut W,
-) -> Result<Counts, ToolFault> {
-    let mut output = Device::new(writer);
-    let tallies = &mut Tallies::new(alloc);
-    run_lines(
-        alloc,
-        checked,
-        form,
-        &mut Device::new(reader),
-        &mut output,
-        tallies,
-    )
-}
-
-/// Rows by their first fields.
-const FIRST_OF_ROW: LineForm = LineForm::Row(RowForm {
-    before: 0,
-    has_heading: false,
-    is_kept: false,
-});
-
-/// Rows by their second fields.
-const SECOND_OF_ROW: LineForm = LineForm::Row(RowForm {
-    before: 1,
-    has_heading: false,
-    is_kept: false,
-});
-
-/// The second field of a row after a heading.
-const SECOND: RowForm = RowForm {
-    before: 1,
-    has_heading: true,
-    is_kept: false,
-};
-
-/// Records of CSV by their first fields.
-const FIRST_OF_RECORD: LineForm = LineForm::Csv(
-    RowForm {
-        before: 0,
-        has_heading: true,
-        is_kept: false,
-    },
-    b',',
-);
-
-/// Records of CSV by their second fields.
-const SECOND_OF_RECORD: LineForm = LineForm::Csv(SECOND, b',');
-
-/// The sample, which passes the check.
-fn checked_sample(alloc: Global) -> Result<Checked<SortedTable>, Fail> {
-    for _ in 0..2 {
-        if let Ok(checked) = Checked::new(alloc, sorted_sample(alloc)?) {
-            return Ok(checked);
-        }
-    }
-    Err(Fail::from("the sample does not pass"))
-}
 
 /// Words of `classify`, and the tag that they name.
 const CLASSIFY: [(&[&str], &str); 4] = [
@@ -257,28 +131,6 @@ fn commands_that_read_the_input(rt: HostRuntime) {
     assert!(rt; !reads_input(&read(rt.alloc(), &["check", "registry"])));
 }
 
-/// What a command reads that names no file.
-const NO_FILE: &[u8] = &[];
-
-/// Whether the words name a command that prints this of a file and of the lines of the input, writes nothing to
-/// the errors, and ends so.
-fn prints(
-    alloc: Global,
-    words: &[&str],
-    file: &[u8],
-    lines: &[u8],
-    shown: &str,
-    status: u8,
-) -> bool {
-    let Ok(command) = read(alloc, words) else {
-        return false;
-    };
-    let (mut output, mut errors) = (Vec::new(alloc), Vec::new(alloc));
-    let files = (file, NO_FILE);
-    let end = ends(alloc, &command, files, lines, &mut output, &mut errors);
-    end == status && errors.is_empty() && output.as_slice() == shown.as_bytes()
-}
-
 /// A text, what `classify` prints of it, and its status.
 const CLASSES: [(&str, &str, u8); 24] = [
     ("ZH-yue-hant-hk", "langtag zh-yue-Hant-HK\n", 0),
@@ -317,16 +169,6 @@ fn classes(rt: HostRuntime) {
     }
 }
 
-/// This front, then 113 times `-aaaaaaaa`, then this end.
-fn long_text(alloc: Global, front: &str, end: &str) -> Result<String, AllocError> {
-    let mut text = String::from_str(alloc, front)?;
-    for _ in 0..113 {
-        text.push_str("-aaaaaaaa")?;
-    }
-    text.push_str(end)?;
-    Ok(text)
-}
-
 /// Whether this text of 1,024 bytes is a langtag in conventional case.
 fn is_longest(alloc: Global, text: &str) -> Result<bool, AllocError> {
     let line = format!(in alloc; "langtag {text}\n")?;
@@ -345,25 +187,6 @@ fn longest_texts(rt: HostRuntime) -> Result<(), Fail> {
     let longer = long_text(rt.alloc(), "en", "-aaaaa")?;
     assert!(rt; is_too_long(rt.alloc(), &longer));
     Ok(())
-}
-
-/// A writer that fails, or takes nothing.
-#[derive(Drop)]
-struct Broken {
-    fails: bool,
-}
-
-impl Write for Broken {
-    fn write(&mut self, _buf: &[u8]) -> io::Result<usize> {
-        if self.fails {
-            return Err(io::Error::from(ErrorKind::StorageFull));
-        }
-        Ok(0)
-    }
-
-    fn flush(&mut self) -> io::Result<()> {
-        Ok(())
-    }
 }
 
 /// The status of a command whose output is broken.

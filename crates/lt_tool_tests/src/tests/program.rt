@@ -1,7 +1,7 @@
 //! The whole program, over files that are texts.
-use super::command_line;
 use lt_jar::{Device, Pieces};
 use lt_tool::{Answered, Status, WordsFault, run_program, word_text};
+use lt_tool_testing::command_line;
 use std::alloc::Global;
 use std::io::{self, ErrorKind};
 use std::test::Fail;

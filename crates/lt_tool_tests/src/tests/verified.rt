@@ -1,8 +1,8 @@
 //! Explanations that are judged: `verify`.
-use super::{Broken, NO_FILE, ends, prints, read};
 use lt_jar::Pieces;
 use lt_testing::sample_text;
 use lt_tool::{Command, WordsFault};
+use lt_tool_testing::{Broken, NO_FILE, ends, prints, read};
 use std::alloc::Global;
 use std::test::Fail;
 

@@ -1,10 +1,10 @@
 //! Records of CSV, of which one field is a tag.
-use super::{SECOND_OF_RECORD, answer_lines, checked_sample, ends, prints, read};
 use lt_canon::Checked;
 use lt_jar::Pieces;
 use lt_registry::SortedTable;
 use lt_testing::sample_text;
 use lt_tool::{Status, ToolFault, WordsFault};
+use lt_tool_testing::{SECOND_OF_RECORD, answer_lines, checked_sample, ends, prints, read};
 use std::alloc::Global;
 use std::io::Cursor;
 use std::test::Fail;

@@ -2,14 +2,14 @@
 //! growth in it, and refuses that one alone; the gate refuses none. So a call that is not itself under test is
 //! made twice where it is refused.
 use super::records::{LINES as RECORDS, OWED as OWED_RECORDS};
-use super::registries::{LINES, OWED};
-use super::{
-    SECOND_OF_RECORD, SECOND_OF_ROW, answer_lines, checked_sample, command_line, ends, read,
-};
 use lt_canon::Checked;
 use lt_registry::SortedTable;
 use lt_testing::{answers, sample_text, shown, twice};
 use lt_tool::{Command, Counts, LineForm, ToolFault, WordsFault, read_words};
+use lt_tool_testing::{
+    LINES, OWED, SECOND_OF_RECORD, SECOND_OF_ROW, answer_lines, checked_sample, command_line, ends,
+    read,
+};
 use std::alloc::{AllocError, Global};
 use std::io::Cursor;
 use std::test::Fail;

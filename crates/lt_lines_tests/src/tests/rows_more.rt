@@ -1,8 +1,8 @@
 //! Carriage returns alone, byte order marks, and delimiters.
-use super::{FIRST_OF_ROW, SECOND, SECOND_OF_RECORD, answer_lines, checked_sample};
 use lt_canon::Checked;
 use lt_registry::SortedTable;
 use lt_tool::{LineForm, ToolFault};
+use lt_tool_testing::{FIRST_OF_ROW, SECOND, SECOND_OF_RECORD, answer_lines, checked_sample};
 use std::alloc::Global;
 use std::test::Fail;
 

@@ -1,8 +1,8 @@
 //! The command on two registries: `upgrade`.
-use super::{ends, read};
 use lt_jar::{Device, Pieces};
 use lt_testing::{changed_text, push_record, sample_text};
 use lt_tool::{Answered, Command, WordsFault, perform};
+use lt_tool_testing::{ends, read};
 use std::alloc::Global;
 use std::io;
 use std::test::Fail;

@@ -1,7 +1,7 @@
 //! The commands on one or two tags: `extlang` and `equal`.
-use super::{prints, read};
 use lt_testing::sample_text;
 use lt_tool::{Command, WordsFault};
+use lt_tool_testing::{prints, read};
 use std::test::Fail;
 
 /// Two tags, what `equal` prints of them, and its status.

@@ -1,11 +1,11 @@
 //! Input that ends early or never, lines that are too long, and devices that fail at each of their calls.
-use super::registries::{LINES, OWED, prints_of_reader};
-use super::{NO_FILE, answer_lines, checked_sample, ends, long_text, read};
+use super::registries::prints_of_reader;
 use lt_canon::Checked;
 use lt_jar::{Pieces, Takes};
 use lt_registry::SortedTable;
 use lt_testing::sample_text;
 use lt_tool::{Command, Counts, LineForm, ToolFault};
+use lt_tool_testing::{LINES, NO_FILE, OWED, answer_lines, checked_sample, ends, long_text, read};
 use std::alloc::{AllocError, Global};
 use std::io::{Read, Write};
 use std::test::Fail;

@@ -1,8 +1,8 @@
 //! Rows that stay as they are, with the canonical text of their tag and what is wrong with it, and headings of rows.
-use super::{SECOND, answer_lines, checked_sample};
 use lt_canon::Checked;
 use lt_registry::SortedTable;
 use lt_tool::{LineForm, RowForm};
+use lt_tool_testing::{SECOND, answer_lines, checked_sample};
 use std::alloc::Global;
 use std::test::Fail;
 

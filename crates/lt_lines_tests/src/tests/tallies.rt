@@ -1,9 +1,11 @@
 //! What is counted of the lines that a run refuses.
-use super::{FIRST_OF_RECORD, SECOND_OF_RECORD, SECOND_OF_ROW, checked_sample, long_text};
 use lt_canon::Checked;
 use lt_jar::{Device, Pieces};
 use lt_registry::SortedTable;
 use lt_tool::{LineForm, RowForm, Tallies, run_lines};
+use lt_tool_testing::{
+    FIRST_OF_RECORD, SECOND_OF_RECORD, SECOND_OF_ROW, checked_sample, long_text,
+};
 use std::alloc::Global;
 use std::io::Read;
 use std::test::Fail;

@@ -1,10 +1,10 @@
 //! Rows of fields with tabs between them, of which one is a tag.
-use super::{SECOND_OF_ROW, answer_lines, checked_sample, prints, read};
 use lt_canon::Checked;
 use lt_jar::Pieces;
 use lt_registry::SortedTable;
 use lt_testing::sample_text;
 use lt_tool::{ToolFault, WordsFault};
+use lt_tool_testing::{SECOND_OF_ROW, answer_lines, checked_sample, prints, read};
 use std::alloc::Global;
 use std::io::Cursor;
 use std::test::Fail;

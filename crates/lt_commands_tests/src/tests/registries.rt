@@ -1,19 +1,13 @@
 //! The commands that read a registry: `check` and `canon`.
-use super::{NO_FILE, answer_lines, checked_sample, ends, prints, read};
 use lt_canon::Checked;
 use lt_jar::{Device, Pieces};
 use lt_registry::SortedTable;
 use lt_testing::{push_record, returned_text, sample_text};
 use lt_tool::{Answered, LineForm, ToolFault, perform};
+use lt_tool_testing::{LINES, NO_FILE, OWED, answer_lines, checked_sample, ends, prints, read};
 use std::alloc::{AllocError, Global};
 use std::io::{self, ErrorKind, Write};
 use std::test::Fail;
-
-/// The lines of a run, CR LF and a last line without a line end among them.
-pub const LINES: &[u8] = b"zh-yue\r\nfr\n\nsgn-dd";
-
-/// What is owed for them.
-pub const OWED: &str = "yue\n! UnknownLanguage 1\n! EmptySubtag 1\ngsg\n";
 
 /// Whether a command on the registry of a file prints this to the lines of the input, and ends so.
 fn prints_of(

@@ -1,0 +1,7 @@
+//! Rows and records.
+mod growths;
+mod records;
+mod rows;
+mod rows_kept;
+mod rows_more;
+mod tallies;
