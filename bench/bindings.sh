@@ -1,7 +1,8 @@
 #!/bin/bash
-# Measures the library that `make lib` built, from C, Python, SQLite, PostgreSQL, Rust, Node.js, Java and Go, beside ICU, PyICU, Intl,
-# java.util.Locale, oxilangtag and x/text, in one run, over 200,000 tags (bench/make_tags.py). tests/packages.sh installs what it
-# needs, but for golang-golang-x-text-dev and librust-oxilangtag-dev; without the last, oxilangtag is left out.
+# Measures the library that `make lib` built, from C, Python, SQLite, PostgreSQL, Rust, Node.js, Java and Go, beside ICU, liblangtag,
+# PyICU, Intl, java.util.Locale, oxilangtag and x/text, in one run, over 200,000 tags (bench/make_tags.py). tests/packages.sh installs
+# what it needs, but for golang-golang-x-text-dev, liblangtag-dev and librust-oxilangtag-dev; without the last two, their libraries are
+# left out.
 # Argument: a registry (examples/iana-2025-05-15.txt, if there is none).
 set -e
 cd "$(dirname "$0")/.."
@@ -9,8 +10,10 @@ registry=$(realpath "${1:-examples/iana-2025-05-15.txt}")
 folder=$(mktemp -d)
 trap 'rm -rf "$folder"' EXIT
 /usr/bin/python3 bench/make_tags.py "$registry" mixed > "$folder/tags"
-# shellcheck disable=SC2046
-gcc -std=c11 -D_GNU_SOURCE -O2 -Ibindings/c -o "$folder/c" bench/bindings/c.c build/libbcp47.a $(pkg-config --cflags --libs icu-uc)
+peers=$(pkg-config --cflags --libs icu-uc)
+! pkg-config --exists liblangtag || peers="$peers -DLIBLANGTAG $(pkg-config --cflags --libs liblangtag)"
+# shellcheck disable=SC2086
+gcc -std=c11 -D_GNU_SOURCE -O2 -Ibindings/c -o "$folder/c" bench/bindings/c.c build/libbcp47.a $peers
 "$folder/c" "$registry" "$folder/tags"
 /usr/bin/python3 -m pip install -q --no-index --root-user-action=ignore --target "$folder/python" bindings/python
 export PYTHONPATH=$folder/python
