@@ -1,0 +1,7 @@
+pub mod WordLemmas
+pub mod RangeLemmas
+pub mod ElementLemmas
+pub mod WeightLemmas
+pub mod GrammarLaws
+pub mod HeaderLemmas
+pub mod PriorityLemmas

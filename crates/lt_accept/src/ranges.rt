@@ -1,0 +1,37 @@
+//! Basic language ranges.
+ghost use Rattle.std.specs.Prelude.{◌≡◌, None, OnOk, IfErr};
+ghost use Rattle.lt_range.specs.Reading as reading;
+ghost use Rattle.lt_accept.specs.Elements as spec;
+
+use crate::faults::AcceptFaultKind;
+use lt_range::LanguageRange;
+use std::alloc::Global;
+
+/// Whether a text is `*`.
+fn is_star(text: &[u8]) -> bool
+    ensures { result ≡ reading.is_star text.now }
+{
+    match text {
+        [byte] => *byte == b'*',
+        _ => false,
+    }
+}
+
+/// Whether a text has no `*`.
+fn has_no_star(text: &[u8]) -> bool
+    ensures { result ≡ spec.has_no_star text.now }
+{
+    text.iter().all(|byte| *byte != b'*')
+}
+
+/// Whether a text is a basic language range (RFC 4647, 2.1), and otherwise why not.
+pub(crate) fn check_range(alloc: Global, text: &[u8]) -> Result<(), AcceptFaultKind>
+    ensures range { OnOk result (spec.range_fault text.now ≡ None) }
+    ensures fault { IfErr result (spec.IsFoundFault (spec.range_fault text.now)) }
+{
+    let _range = LanguageRange::read(alloc, text)?;
+    if !is_star(text) && !has_no_star(text) {
+        return Err(AcceptFaultKind::ExtendedRange);
+    }
+    Ok(())
+}
