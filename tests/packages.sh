@@ -1,6 +1,7 @@
 #!/bin/bash
 # Installs what the tests of the bindings need of Debian, where it is not there: as root, or by sudo.
 wanted="gcc g++ clang binutils valgrind qemu-user libsqlite3-dev sqlite3 python3 python3-dev python3-pip python3-pandas mypy python3-icu
+    python3-coverage tidy
     libicu-dev pkg-config postgresql
     postgresql-server-dev-15"
 # for types of Node.js, and for Java, Go and Dask

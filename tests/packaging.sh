@@ -94,6 +94,7 @@ for made in "bcp47-$version-cp39-abi3-manylinux2014_x86_64.whl" "bcp47-$version.
     PYTHONPATH=$folder/site LD_LIBRARY_PATH=$folder/prefix/lib passes "$made runs" /usr/bin/python3 -c \
         'import bcp47, sys; print(bcp47.Registry.from_file(sys.argv[1]).canonical("zh-yue"))' "$folder/unpacked/share/langtag/registry.txt"
     is "$made answers" yue "$(cat "$folder/out")"
+    PYTHONPATH=$folder/site LD_LIBRARY_PATH=$folder/prefix/lib passes "$made has its commands" /usr/bin/python3 -m bcp47 page --help
     rm -rf "$folder/site"
 done
 passes "the list of parts" /usr/bin/python3 - "$folder/dist" << 'END'

@@ -7,6 +7,8 @@ import unittest
 from pathlib import Path
 from xml.etree import ElementTree
 
+from command import COMMAND
+
 SAMPLE = sys.argv[1]
 CATALOGUE = """\
 id,tag,title
@@ -40,7 +42,7 @@ TOP = "What became of the rows below the heading"
 def ran(content, *words, **how):
     """How the command ended, by this input."""
     how = {"stdout": subprocess.PIPE, "input": content if isinstance(content, bytes) else content.encode(), **how}
-    return subprocess.run([sys.executable, "-B", "-W", "error", "-m", "bcp47", *words], stderr=subprocess.PIPE, **how)
+    return subprocess.run([*COMMAND, *words], stderr=subprocess.PIPE, **how)
 
 
 class Page:

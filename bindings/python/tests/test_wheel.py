@@ -15,6 +15,8 @@ os.environ["SOURCE_DATE_EPOCH"] = "1700000000"
 sys.path.insert(0, str(Path(__file__).resolve().parent.parent))
 import wheel_of_package as package
 
+NAMES = ("__init__.py", "__main__.py", "_bcp47.pyi", "page.py", "pages.py", "py.typed", "records.py", "report.py", "server.py")
+
 
 class Wheels(unittest.TestCase):
     def setUp(self):
@@ -27,7 +29,7 @@ class Wheels(unittest.TestCase):
         self.assertEqual(name, f"bcp47-{package.VERSION}-cp39-abi3-manylinux2014_{platform.machine()}.whl")
         with zipfile.ZipFile(self.path / name) as wheel:
             files = {file: wheel.read(file) for file in wheel.namelist()}
-        self.assertLessEqual({"bcp47/__init__.py", "bcp47/__main__.py", "bcp47/report.py", "bcp47/py.typed"}, files.keys())
+        self.assertLessEqual({f"bcp47/{name}" for name in NAMES}, files.keys())
         info = f"bcp47-{package.VERSION}.dist-info"
         self.assertIn(b"Root-Is-Purelib: false\n", files[f"{info}/WHEEL"])
         self.assertIn(b"License: MIT OR Apache-2.0\n", files[f"{info}/METADATA"])
@@ -46,8 +48,7 @@ class Wheels(unittest.TestCase):
         content = (self.path / name).read_bytes()
         with tarfile.open(self.path / name) as sources:
             names = {file.name.split("/", 1)[1] for file in sources.getmembers()}
-        self.assertLessEqual({"PKG-INFO", "_bcp47.c", "pyproject.toml", "wheel_of_package.py", "bcp47/__init__.py", "bcp47/__main__.py",
-                              "bcp47/report.py", "bcp47/py.typed"}, names)
+        self.assertLessEqual({"PKG-INFO", "_bcp47.c", "pyproject.toml", "wheel_of_package.py", *(f"bcp47/{name}" for name in NAMES)}, names)
         package.build_sdist(self.path)
         self.assertEqual((self.path / name).read_bytes(), content)
 
