@@ -197,16 +197,15 @@ export PYTHONPATH=$folder/python
 passes "docs/PYTHON.md's example" env -C "$folder/examples" $python example.py
 passes "Python's tests" $python bindings/python/tests/test_bcp47.py "$sample" "$registry"
 passes "Python: copies, processes, signals, threads, columns" $python -W error bindings/python/tests/test_habits.py "$sample"
-passes "Python: the report" $python -B -W error bindings/python/tests/test_report.py "$sample"
-passes "Python: the page" $python -B -W error bindings/python/tests/test_page.py "$sample" "$registry"
 mkdir "$folder/counted"
-for test in "test_report.py $sample" "test_page.py $sample $registry"; do
-    # shellcheck disable=SC2086
-    passes "Python for coverage: ${test%% *}" env COVERAGE_FILE="$folder/counted/of" $python -B -m coverage run --parallel-mode --branch \
-        --source=bcp47 bindings/python/tests/$test
-done
-passes "each line and branch of the report and the page is run" env COVERAGE_FILE="$folder/counted/of" sh -c \
-    '"$1" -m coverage combine && "$1" -m coverage report --fail-under=100 --show-missing --omit="*/__init__.py"' - "$python"
+export COVERAGE_FILE=$folder/counted/of
+passes "Python: the report" $python -B -W error bindings/python/tests/test_report.py "$sample"
+passes "Python: the page" $python -B -W error -m coverage run --parallel-mode --branch --source=bcp47 \
+    bindings/python/tests/test_page.py "$sample" "$registry"
+passes "Python: what was run" $python -m coverage combine "$folder/counted"
+passes "each line and branch of the report and the page is run" $python -m coverage report --fail-under=100 --show-missing \
+    --omit='*/__init__.py'
+unset COVERAGE_FILE
 if command -v chromium > /dev/null; then
     passes "Python: the look of both" $python -B bindings/python/tests/look.py "$registry" "$folder"
 else

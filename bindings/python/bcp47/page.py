@@ -6,7 +6,7 @@ import re
 from typing import Dict, List, Mapping, Optional, Tuple
 
 from . import Part, RefusedTag, Registry, Tag, __version__
-from .pages import HELPS, LONGEST, STYLE, Tables, Text, answers_of, document, escaped, facts_of, shown, tag_text
+from .pages import LONGEST, STYLE, Tables, Text, answers_of, breaking, document, escaped, facts_of, shown, tag_text
 from .records import Record, Records
 
 _MOST_ROWS = 1000
@@ -22,7 +22,8 @@ input, textarea {box-sizing: border-box; display: block; font-family: ui-monospa
 input, textarea, button {background: var(--page); border: 1px solid var(--ink); border-radius: .25rem; color: var(--ink);
   font-size: 1rem; margin: .5rem 0; padding: .5rem .8rem}
 button {font-weight: bold}
-mark {background: var(--mark); border-bottom: 3px solid var(--ink); color: var(--ink)}
+mark {background: var(--mark); border: 1px solid var(--ink); border-radius: .2rem; color: var(--ink); padding: 0 .15em .2em}
+ol, ul {padding-left: 2rem}
 li {margin: .5rem 0}
 """
 _KINDS = {"langtag": "langtag", "privateuse": "tag of private use", "grandfathered": "grandfathered tag"}
@@ -62,10 +63,10 @@ def _words(kind: str) -> str:
 
 
 def _fault(why: str) -> str:
-    """A refusal, such as "BadByte 1", in words."""
+    """A refusal, such as "BadByte 1", with its place in words."""
     name, _, where = why.partition(" ")
     place = f" of {shown(where)}" if name == "ReplacementRepeats" else f" at subtag {where}" if where != "0" else ""
-    return f"<strong>{name}</strong>{place}: {escaped(HELPS[name])}"
+    return f"<strong>{breaking(name)}</strong>{place}"
 
 
 def _marked(text: str, why: str) -> str:
@@ -169,7 +170,7 @@ class Page:
     def _of_refused(self, text: str, refused: RefusedTag) -> str:
         """What can be said of one tag that is refused."""
         why = str(refused)
-        fault = f"<p>{_fault(why)}</p>\n"
+        fault = f"<p>{_fault(why)}: {escaped(refused.help)}</p>\n"
         if refused.status == "NotATag":
             front = None if refused.fault == "TooLong" else _front(text)
             parts = self._parts("The subtags before the fault", front) if front else ""
@@ -183,7 +184,7 @@ class Page:
     def _parts(self, title: str, tag: Tag) -> str:
         """The subtags of a tag, and the record that it has as a whole."""
         whole = self._records.entry("whole", str(tag)) if tag.kind == "langtag" else None
-        of_whole = f"<div>The whole tag: {_record(whole)}</div>\n" if whole else ""
+        of_whole = f"<ul>\n<li>The whole tag: {_record(whole)}</li>\n</ul>\n" if whole else ""
         items = "\n".join(self._part(part) for part in tag.parts)
         return f"<h4>{title}</h4>\n<ol>\n{items}\n</ol>\n{of_whole}"
 
@@ -234,5 +235,5 @@ class Page:
 
         tables = Tables(rows, firsts, answers, "line", 4, _MOST_ROWS)
         return (_answer("The list") + tables.summary("What became of the lines") + tables.faults()
-                + tables.became_one() + tables.section("Each line", "Each line with its canonical tag, or its fault and what to do",
+                + tables.became_one() + tables.section("Each line", "Each line with its canonical tag or its fault",
                                                        ["#Line", "Text", "Canonical tag, or fault"], list(enumerate(lines, 1)), row))

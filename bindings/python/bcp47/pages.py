@@ -4,6 +4,7 @@ from __future__ import annotations
 
 import html
 import operator
+import re
 from typing import Callable, Dict, List, NamedTuple, Optional, Sequence, TypeVar
 
 from . import _FAULTS, _STATUSES, Registry
@@ -21,17 +22,21 @@ h1, h3, dd {overflow-wrap: anywhere}
 dl {display: grid; grid-template-columns: max-content 1fr; gap: 0 1rem}
 dt {grid-column: 1}
 dd {grid-column: 2; margin: 0}
-.wide {overflow-x: auto}
+.wide {overflow-x: auto; background: linear-gradient(to left, var(--page) 50%, transparent) right / 2rem 100% no-repeat local,
+  linear-gradient(to left, var(--line), transparent) right / .5rem 100% no-repeat}
 table {border-collapse: collapse; width: 100%}
-caption {padding: .5rem 0; text-align: left}
+caption {max-width: calc(100vw - 2rem); padding: .5rem 0; text-align: left}
 th, td {border-top: 1px solid var(--line); padding: .3rem .8rem .3rem 0; text-align: left; vertical-align: top}
 tr {break-inside: avoid}
 bdi {border: 1px dotted var(--line); font-family: ui-monospace, monospace; overflow-wrap: anywhere; white-space: break-spaces}
 .text {min-width: 8rem}
-.number {font-variant-numeric: tabular-nums; text-align: right; white-space: nowrap}
+.number {font-variant-numeric: tabular-nums; text-align: right}
+td.number {white-space: nowrap}
+.sentence {min-width: 16rem}
 .share {width: 50%}
 .share div {border-top: .8rem solid var(--bar); min-width: 1px}
 :focus-visible {outline: 3px solid var(--bar); outline-offset: 2px}
+@media (max-width: 30rem) {th, td {padding-right: .4rem} .text {min-width: 6rem}}
 @media print {body {margin: 0; max-width: none} .wide {overflow: visible}}
 """
 _NUMBER = ' class="number"'
@@ -77,6 +82,11 @@ def answers_of(registry: Registry, rows: Dict[Text, int]) -> Answers:
 def escaped(text: str, kept: str = "") -> str:
     """A text for HTML: what can't be printed, and is not kept, is a backslash and a number."""
     return html.escape("".join(it if it.isprintable() or it in kept else ascii(it)[1:-1] for it in text))
+
+
+def breaking(name: str) -> str:
+    """A name such as BadByte, which can be broken between its words."""
+    return re.sub("(?<=[a-z])(?=[A-Z])", "<wbr/>", name)
 
 
 def tag_text(markup: str) -> str:
@@ -158,15 +168,15 @@ class Tables(NamedTuple):
         """Each fault with the first text that has it."""
         def body(fault: Group) -> str:
             first = fault.texts[0]
-            return (f'<tr><th scope="row">{fault.answer}</th>{cell(fault.rows)}{numbered(self.firsts[first])}'
-                    f'<td class="text">{shown(first)}</td><td class="text">{html.escape(HELPS[fault.answer])}</td></tr>')
+            return (f'<tr><th scope="row">{breaking(fault.answer)}</th>{cell(fault.rows)}{numbered(self.firsts[first])}'
+                    f'<td class="text">{shown(first)}</td><td class="sentence">{html.escape(HELPS[fault.answer])}</td></tr>')
 
         heads = ["Fault", f"#{self.unit.title()}s", f"#First {self.unit}", "Its text", "What to do"]
         return self.section("Faults", f"{self.unit.title()}s that are refused, by the fault", heads, self.answers.faults, body)
 
     def joined(self, title: str, caption: str, tags: List[Group]) -> str:
         """Canonical tags, each with the texts that became it."""
-        heads = ["Canonical tag", f"#{self.unit.title()}s", "Text before", f"#{self.unit.title()}s with it"]
+        heads = ["Canonical tag", f"#{self.unit.title()}s", "Text before", f"#Its {self.unit}s"]
         return self.section(title, caption, heads, tags, self._joined)
 
     def became_one(self) -> str:

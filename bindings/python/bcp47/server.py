@@ -9,12 +9,13 @@ import socket
 import sys
 from http.server import BaseHTTPRequestHandler, ThreadingHTTPServer
 from socketserver import TCPServer
-from typing import Any, Dict
+from typing import Any, Dict, List
 from urllib.parse import unquote_to_bytes
 
 from .page import PAGE_STYLE, Page
 
 LONGEST_FORM = 1 << 20
+_MOST_READS = 1024  # of what follows a request, 64 KiB each
 _STYLE_HASH = base64.b64encode(hashlib.sha256(PAGE_STYLE.encode()).digest()).decode()
 # Nothing but the page's own style is loaded, and its forms are sent here alone. A referrer within the page keeps the Origin of a form.
 _HEADERS = (("Content-Security-Policy", f"default-src 'none'; style-src 'sha256-{_STYLE_HASH}'; form-action 'self'; base-uri 'none'; "
@@ -58,14 +59,15 @@ class _Handler(BaseHTTPRequestHandler):
         with contextlib.suppress(OSError):
             self.connection.shutdown(socket.SHUT_WR)
             self.connection.settimeout(1)
-            for _ in range(1024):
+            for _ in range(_MOST_READS):
                 if not self.connection.recv(1 << 16):
                     break
 
     def _form(self) -> bytes:
         """The form that is sent, in the query or the body. Raises _NoAnswer."""
-        hosts, origin = self.headers.get_all("Host", []), self.headers["Origin"]
-        if len(hosts) != 1 or hosts[0].lower() not in self.server.hosts or origin not in (None, f"http://{hosts[0].lower()}"):
+        hosts: List[str] = self.headers.get_all("Host", [])
+        host = hosts[0].lower() if len(hosts) == 1 else ""
+        if host not in self.server.hosts or self.headers["Origin"] not in (None, f"http://{host}"):
             raise _NoAnswer(403, f"The page is for this machine alone: open {self.server.address}")
         path, _, query = self.path.partition("?")
         if path != "/":

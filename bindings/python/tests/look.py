@@ -49,7 +49,7 @@ class Browser:
         passed = [fcntl.fcntl(it, fcntl.F_DUPFD, 10) for it in (to_read, to_write)]
         words = ["chromium", "--headless=new", "--no-sandbox", "--disable-gpu", "--no-first-run", "--remote-debugging-pipe",
                  "--user-data-dir=" + folder, "about:blank"]
-        self.process = subprocess.Popen(["sh", "-c", f'exec "$@" 3<&{passed[0]} 4>&{passed[1]}', "sh", *words], pass_fds=passed,
+        self.process = subprocess.Popen(["bash", "-c", f'exec "$@" 3<&{passed[0]} 4>&{passed[1]}', "bash", *words], pass_fds=passed,
                                         stdout=subprocess.DEVNULL, stderr=subprocess.DEVNULL)
         for it in (to_read, to_write, *passed):
             os.close(it)
@@ -211,7 +211,7 @@ class Looks(unittest.TestCase):
                                             "Tags that became one", "Each line", "Registry"])
         self.assertEqual(names["table"], ["What became of the lines", "Lines that are refused, by the fault",
                                           "Canonical tags that two or more texts became",
-                                          "Each line with its canonical tag, or its fault and what to do"])
+                                          "Each line with its canonical tag or its fault"])
         self.assertEqual(names["region"], names["table"])
         self.assertEqual(len(names["main"]), 1)
 

@@ -68,7 +68,7 @@ Tag: zh-yue
 Preferred-Value: yue
 """.encode()
 FORM = b"Content-Type: application/x-www-form-urlencoded"
-BALANCED = {"area", "br", "input", "link", "meta"}
+EMPTY = {"input", "meta", "wbr"}
 
 
 def wait_until(is_so):
@@ -96,11 +96,11 @@ class Balance(html.parser.HTMLParser):
         self.labels += [value for name, value in attributes if name == "for"]
         if re.fullmatch("h[1-6]", tag):
             self.headings.append(int(tag[1]))
-        if tag not in BALANCED:
+        if tag not in EMPTY:
             self.open.append(tag)
 
     def handle_startendtag(self, tag, attributes):
-        assert tag in BALANCED, tag
+        assert tag in EMPTY, tag
         self.handle_starttag(tag, attributes)
 
     def handle_endtag(self, tag):
@@ -171,13 +171,15 @@ class Recorded(unittest.TestCase):
                 name = record.name
                 if not record.first("preferred-value"):
                     continue
-                before = {"script": "de-", "region": "de-", "variant": "de-", "extlang": record.first("prefix") + "-"}
-                tag = before.get(record.kind, "") + name
+                before = {"script": "de", "region": "de", "variant": record.first("prefix") or "de", "extlang": record.first("prefix")}
+                tag = f"{before[record.kind]}-{name}" if record.kind in before else name
                 step = registry.explain(tag).steps[0]
                 kind = "whole" if step.kind == "Whole" else record.kind
-                self.assertEqual(step.number, found.entry(FORM, tag if kind == "whole" else name).number)
-                steps += 1
-            self.assertGreater(steps, 10)
+                # the subtags of a redundant tag go first
+                if kind != "redundant":
+                    self.assertEqual(step.number, found.entry(kind, name).number)
+                    steps += 1
+            self.assertGreaterEqual(steps, 14)
             for one in "abcdefghijklmnopqrstuvwxyz":
                 for two in "aemqtz":
                     for three in ("", "a", "l", "z"):
@@ -222,7 +224,7 @@ class Pages(unittest.TestCase):
                       ("dd", "It is folded, twice, and a blank line is between its lines."), ("dt", "Deprecated"), ("dd", "2009-07-29")]
         self.assertEqual(seen.facts[:4], [[("dt", "Description"), ("dd", "Chinese"), ("dt", "Scope"), ("dd", "macrolanguage")],
                                           of_extlang, [("dt", "Preferred-Value"), ("dd", "yue")], of_extlang])
-        self.assertEqual("".join(next(seen.root.iter("div")).itertext()), "The whole tag: record 7, redundant zh-yuePreferred-Valueyue")
+        self.assertEqual("".join(next(seen.root.iter("ul")).itertext()).strip(), "The whole tag: record 7, redundant zh-yuePreferred-Valueyue")
         seen = self.of_tag("yue", sample=False)
         self.assertEqual(seen.said[:2], ["It is a valid langtag, and canonical.", "There are none."])
         self.assertEqual(seen.items, [["yue Language: record 3, language yue"
@@ -323,9 +325,9 @@ class Pages(unittest.TestCase):
             ["Fault", "Lines", "First line", "Its text"], ["BadByte", "2", "5", "en_US"], ["EmptySubtag", "1", "3", "nothing"],
             ["Unfinished", "1", "8", "de-u"], ["ReplacementRepeats", "1", "9", "ja-heploc-alalc97"]])
         self.assertEqual(seen.tables["Canonical tags that two or more texts became"], [
-            ["Canonical tag", "Lines", "Text before", "Lines with it"], ["yue", "4", "zh-yue", "2"], ["YUE", "1"], ["yue", "1"]])
-        each = seen.tables["Each line with its canonical tag, or its fault and what to do"]
-        self.assertEqual([[*row[:2], row[2].split(":")[0]] for row in each], [
+            ["Canonical tag", "Lines", "Text before", "Its lines"], ["yue", "4", "zh-yue", "2"], ["YUE", "1"], ["yue", "1"]])
+        each = seen.tables["Each line with its canonical tag or its fault"]
+        self.assertEqual(each, [
             ["Line", "Text", "Canonical tag, or fault"], ["1", "zh-yue", "yue"], ["2", "YUE", "yue"],
             ["3", "nothing", "EmptySubtag at subtag 1"], ["4", "yue", "yue"], ["5", "en_US", "BadByte at subtag 1"], ["6", "zh-yue", "yue"],
             ["7", "\\tde", "BadByte at subtag 1"],
@@ -346,7 +348,7 @@ class Pages(unittest.TestCase):
 
     def test_long_lists_are_cut(self):
         seen = Seen(self.sample.of({"tags": "de\n" * 1000 + "DE\n" * 500}))
-        self.assertEqual(len(seen.tables["Each line with its canonical tag, or its fault and what to do"]), 1001)
+        self.assertEqual(len(seen.tables["Each line with its canonical tag or its fault"]), 1001)
         self.assertIn("500 more are not shown.", seen.said)
         self.assertEqual(seen.tables["Canonical tags that two or more texts became"][1:], [["de", "1,500", "de", "1,000"], ["DE", "500"]])
 
@@ -358,7 +360,7 @@ class Pages(unittest.TestCase):
             self.assertEqual((seen.title, seen.headings[4]), (shown[:200] + ": a language tag", "The text " + shown))
             seen = Seen(self.sample.of({"tags": text}))
             self.assertEqual(next(seen.root.iter("textarea")).text, "\n" + shown)
-            self.assertEqual(seen.tables["Each line with its canonical tag, or its fault and what to do"][1][1], shown)
+            self.assertEqual(seen.tables["Each line with its canonical tag or its fault"][1][1], shown)
         seen = self.of_tag("zh-Hant", sample=False)
         shown = HOSTILE.replace("\x1b\u202e", "\\x1b\\u202e")
         self.assertEqual(seen.facts[1], [("dt", "Description"), ("dd", shown), ("dt", "B" * 200), ("dd", "é" * 2000 + " …")])
@@ -390,7 +392,9 @@ class Pages(unittest.TestCase):
         for content in (REGISTRY, SAMPLE):
             for fields in ({}, {"tag": "zh-yue"}, {"tag": "zh-Hant"}, {"tag": "en_US"}, {"tag": ""},
                            {"tags": "zh-yue\nYUE\nen_US\n\nde-u"}):
-                ran = subprocess.run(["tidy", "-q", "-e"], input=page.Page(content).of(fields).encode(), stderr=subprocess.PIPE)
+                # what tidy does not know of HTML
+                text = re.sub(' lang=""| autocapitalize="none"|(<textarea.*) autocomplete="off"', r"\1", page.Page(content).of(fields))
+                ran = subprocess.run(["tidy", "-q", "-e"], input=text.encode(), stderr=subprocess.PIPE)
                 self.assertEqual((ran.returncode, ran.stderr), (0, b""))
 
 
@@ -551,6 +555,12 @@ class Serving(unittest.TestCase):
         with mock.patch.object(server._Handler, "timeout", 0.2):
             for request in (b"", b"GET / HTT", b"GET / HTTP/1.1\r\nHost: x"):
                 self.assertEqual(self.sent(request), b"")
+
+    def test_a_client_without_end_is_left(self):
+        with mock.patch.object(server, "_MOST_READS", 9), self.connect() as it, self.assertRaises(ConnectionError):
+            it.sendall(b"POST / HTTP/1.1\r\n\r\n")
+            while True:
+                it.sendall(b"a" * 99999)
 
     def test_two_at_once(self):
         both = threading.Barrier(2, timeout=20)
