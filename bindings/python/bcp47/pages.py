@@ -22,8 +22,7 @@ h1, h3, dd {overflow-wrap: anywhere}
 dl {display: grid; grid-template-columns: max-content 1fr; gap: 0 1rem}
 dt {grid-column: 1}
 dd {grid-column: 2; margin: 0}
-.wide {overflow-x: auto; background: linear-gradient(to left, var(--page) 50%, transparent) right / 2rem 100% no-repeat local,
-  linear-gradient(to left, var(--line), transparent) right / .5rem 100% no-repeat}
+.wide {overflow-x: auto}
 table {border-collapse: collapse; width: 100%}
 caption {max-width: calc(100vw - 2rem); padding: .5rem 0; text-align: left}
 th, td {border-top: 1px solid var(--line); padding: .3rem .8rem .3rem 0; text-align: left; vertical-align: top}
@@ -36,7 +35,10 @@ td.number {white-space: nowrap}
 .share {width: 50%}
 .share div {border-top: .8rem solid var(--bar); min-width: 1px}
 :focus-visible {outline: 3px solid var(--bar); outline-offset: 2px}
-@media (max-width: 30rem) {th, td {padding-right: .4rem} .text {min-width: 6rem}}
+@media screen and (max-width: 60rem) {.wide {background:
+  linear-gradient(to left, var(--page) 50%, transparent) right / 2rem 100% no-repeat local,
+  linear-gradient(to left, var(--line), transparent) right / .5rem 100% no-repeat}}
+@media (max-width: 30rem) {th, td {padding-right: .4rem} .text {min-width: 5.5rem}}
 @media print {body {margin: 0; max-width: none} .wide {overflow: visible}}
 """
 _NUMBER = ' class="number"'

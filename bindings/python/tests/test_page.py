@@ -72,10 +72,10 @@ EMPTY = {"input", "meta", "wbr"}
 
 
 def wait_until(is_so):
-    """Waits for something that comes within 20 seconds."""
+    """Waits for something that comes within a minute."""
     begin = time.monotonic()
     while not is_so():
-        assert time.monotonic() < begin + 20
+        assert time.monotonic() < begin + 60
         time.sleep(0.01)
 
 
@@ -412,7 +412,7 @@ class Serving(unittest.TestCase):
         self.addCleanup(self.server.shutdown)
 
     def connect(self):
-        it = socket.create_connection(("127.0.0.1", self.port), timeout=20)
+        it = socket.create_connection(("127.0.0.1", self.port), timeout=60)
         self.addCleanup(it.close)
         return it
 
@@ -563,7 +563,7 @@ class Serving(unittest.TestCase):
                 it.sendall(b"a" * 99999)
 
     def test_two_at_once(self):
-        both = threading.Barrier(2, timeout=20)
+        both = threading.Barrier(2, timeout=60)
         of = self.server.page.of
 
         def waits(fields):
@@ -619,7 +619,7 @@ class Commands(unittest.TestCase):
     def failed(self, *words, **how):
         """What the command says at its end with status 2."""
         ran = self.begun(*words, **how)
-        said = ran.communicate(timeout=20)[1]
+        said = ran.communicate(timeout=60)[1]
         self.assertEqual(ran.returncode, 2, said)
         return said.splitlines()[-1].partition("error: ")[2]
 
@@ -629,7 +629,7 @@ class Commands(unittest.TestCase):
             line = ran.stdout.readline()
             address = re.fullmatch(r"(http://127\.0\.0\.1:([0-9]+)/) has the page; Ctrl-C ends it\n", line)
             port = int(address[2])
-            asks = http.client.HTTPConnection("127.0.0.1", port, timeout=20)
+            asks = http.client.HTTPConnection("127.0.0.1", port, timeout=60)
             self.addCleanup(asks.close)
             asks.request("POST", "/", urllib.parse.urlencode({"tags": "zh-yue\r\nyue"}), dict([FORM.decode().split(": ")]))
             answer = asks.getresponse()
@@ -639,7 +639,7 @@ class Commands(unittest.TestCase):
                 self.addCleanup(socket.create_connection(("127.0.0.1", port)).close)
                 self.assertIn("Address already in use", self.failed(str(self.path), "--port", str(port)))
             ran.send_signal(signal.SIGINT)
-            self.assertEqual((ran.communicate(timeout=20), ran.returncode), (("", ""), 0))
+            self.assertEqual((ran.communicate(timeout=60), ran.returncode), (("", ""), 0))
 
     def test_a_port(self):
         with socket.socket() as free:
@@ -648,7 +648,7 @@ class Commands(unittest.TestCase):
         ran = self.begun("--port", str(port), str(self.path))
         self.assertTrue(ran.stdout.readline().startswith(f"http://127.0.0.1:{port}/ has"))
         ran.send_signal(signal.SIGTERM)
-        self.assertEqual((ran.communicate(timeout=20), ran.returncode), (("", ""), -signal.SIGTERM))
+        self.assertEqual((ran.communicate(timeout=60), ran.returncode), (("", ""), -signal.SIGTERM))
         for word in ("0", "65536", "-1", "x", "1.5", "080000"):
             self.assertEqual(self.failed(str(self.path), "--port=" + word), "argument --port: it is a number from 1 to 65535")
 
