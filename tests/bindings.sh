@@ -197,12 +197,15 @@ export PYTHONPATH=$folder/python
 passes "docs/PYTHON.md's example" env -C "$folder/examples" $python example.py
 passes "Python's tests" $python bindings/python/tests/test_bcp47.py "$sample" "$registry"
 passes "Python: copies, processes, signals, threads, columns" $python -W error bindings/python/tests/test_habits.py "$sample"
+passes "Python: the report" $python -B -W error bindings/python/tests/test_report.py "$sample"
+passes "Python: the page" $python -B -W error bindings/python/tests/test_page.py "$sample" "$registry"
+# Each line and each branch of what both are made of. What coverage runs ends otherwise, so it is a second run.
 mkdir "$folder/counted"
 export COVERAGE_FILE=$folder/counted/of
-passes "Python: the report" $python -B -W error bindings/python/tests/test_report.py "$sample"
-passes "Python: the page" $python -B -W error -m coverage run --parallel-mode --branch --source=bcp47 \
+passes "the report for coverage" $python -B bindings/python/tests/test_report.py "$sample"
+passes "the page for coverage" $python -B -m coverage run --parallel-mode --branch --source=bcp47 \
     bindings/python/tests/test_page.py "$sample" "$registry"
-passes "Python: what was run" $python -m coverage combine "$folder/counted"
+passes "what was run" $python -m coverage combine "$folder/counted"
 passes "each line and branch of the report and the page is run" $python -m coverage report --fail-under=100 --show-missing \
     --omit='*/__init__.py'
 unset COVERAGE_FILE

@@ -134,5 +134,6 @@ class PageServer(ThreadingHTTPServer):
 def serve(page: Page, port: int) -> None:
     """Serves a page until Ctrl-C."""
     with PageServer(page, port) as server:
-        print(f"{server.address} has the page; Ctrl-C ends it", flush=True)
+        with open(1, "w", encoding="utf-8", closefd=False) as output:
+            output.write(f"{server.address} has the page; Ctrl-C ends it\n")
         server.serve_forever()
