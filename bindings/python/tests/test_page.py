@@ -145,7 +145,7 @@ class Recorded(unittest.TestCase):
         self.assertEqual(extlang.fields[5], ("Comments", "It is folded, twice, and a blank line is between its lines."))
         self.assertEqual((found.entry("whole", "ZH-yue").number, found.entry("whole", "zh-yue").name), (7, "zh-yue"))
         self.assertIsNone(found.entry("language", "de"))
-        for name, number in (("qaa", 4), ("QTZ", 4), ("qmm", 4), ("qua", None), ("qa1", None), ("qaaa", None), ("pzz", None)):
+        for name, number in (("qaa", 4), ("QTZ", 4), ("qmm", 4), ("qua", None), ("qb1", None), ("qaaa", None), ("pzz", None)):
             self.assertEqual(getattr(found.entry("language", name), "number", None), number)
 
     def test_lines_of_records(self):
@@ -309,9 +309,9 @@ class Pages(unittest.TestCase):
             "It is a valid langtag, but has no canonical tag.",
             "ReplacementRepeats of alalc97: Replacements would repeat the variant that is named: remove one of the variants."], []))
         self.assertEqual(len(seen.items[0]), 3)
-        seen = self.of_tag("a-" * 600)
+        seen = self.of_tag("de-x-" + "a-" * 600)
         self.assertEqual((seen.marks, seen.items, seen.said[1].split(":")[0]), ([], [], "TooLong"))
-        self.assertIn("… (1,200 characters)", seen.headings[-1])
+        self.assertIn("… (1,205 characters)", seen.headings[-1])
 
     def test_a_list(self):
         tags = "zh-yue\r\nYUE\r\n\r\nyue\nen_US\nzh-yue\n\tde\r\nde-u\nja-heploc-alalc97"
@@ -552,6 +552,7 @@ class Serving(unittest.TestCase):
         self.assertEqual(said.getvalue(), "")
 
     def test_stalled_clients_are_ended(self):
+        self.assertEqual(server._Handler.timeout, 30)
         with mock.patch.object(server._Handler, "timeout", 0.2):
             for request in (b"", b"GET / HTT", b"GET / HTTP/1.1\r\nHost: x"):
                 self.assertEqual(self.sent(request), b"")
