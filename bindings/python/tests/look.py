@@ -5,6 +5,7 @@ import fcntl
 import json
 import os
 import shutil
+import signal
 import subprocess
 import sys
 import tempfile
@@ -124,9 +125,8 @@ class Browser:
         path.write_bytes(base64.b64decode(self.call("Page.captureScreenshot", captureBeyondViewport=True, clip=clip)["data"]))
 
     def end(self):
-        self.session = None
-        self.call("Browser.close")
-        self.process.wait(20)
+        self.process.terminate()
+        self.process.wait(60)
         self.to.close()
         self.answers.close()
 
@@ -138,6 +138,7 @@ class Looks(unittest.TestCase):
         cls.addClassCleanup(cls.folder.cleanup)
         cls.server = server.PageServer(page.Page(Path(REGISTRY).read_bytes()), 0)
         threading.Thread(target=cls.server.serve_forever, daemon=True).start()
+        cls.addClassCleanup(cls.server.server_close)
         cls.addClassCleanup(cls.server.shutdown)
         cls.browser = Browser(cls.folder.name)
         cls.addClassCleanup(cls.browser.end)
@@ -220,4 +221,6 @@ REGISTRY, SHOTS = sys.argv[1:3]
 if __name__ == "__main__":
     if not shutil.which("chromium"):
         sys.exit("there is no chromium here")
+    # a browser that answers nothing ends this
+    signal.alarm(900)
     unittest.main(argv=[sys.argv[0], *sys.argv[3:]])
