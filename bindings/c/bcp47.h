@@ -20,7 +20,7 @@ typedef struct bcp47_registry bcp47_registry;
 typedef struct {
     int status;    /* how the call ended: BCP47_DONE and so on, which bcp47_status_name names */
     int detail;    /* the number of a fault, which bcp47_fault_name names; for bcp47_classify the class; else 0 */
-    size_t place;  /* of a fault: the subtag, the line, the record or the step, counted from 1; else 0 */
+    size_t place;  /* of a fault: the subtag, the line, the record or the step, counted from 1; of parts or steps: how many; else 0 */
     size_t length; /* the bytes of the text, also where it does not fit the buffer */
     int text;      /* where bcp47_equal or bcp47_verify refuses one of its two texts: which, 1 or 2; else 0 */
     int reserved;  /* 0 */
@@ -90,11 +90,11 @@ enum {
     BCP47_PART_REGION = 4,
     BCP47_PART_VARIANT = 5,
     BCP47_PART_SINGLETON = 6,         /* that begins an extension */
-    BCP47_PART_EXTENSION_SUBTAG = 7,  /* of another extension than u and t */
+    BCP47_PART_EXTENSION_SUBTAG = 7,  /* of another extension than u and t, or of a t extension without its form */
     BCP47_PART_ATTRIBUTE = 8,         /* of a u extension, as the next two */
     BCP47_PART_KEY = 9,
     BCP47_PART_TYPE = 10,
-    BCP47_PART_SOURCE_LANGUAGE = 11,  /* of a t extension, as the next six */
+    BCP47_PART_SOURCE_LANGUAGE = 11,  /* of a t extension with its form, as the next six */
     BCP47_PART_SOURCE_EXTLANG = 12,
     BCP47_PART_SOURCE_SCRIPT = 13,
     BCP47_PART_SOURCE_REGION = 14,

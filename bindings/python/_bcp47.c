@@ -1,7 +1,7 @@
 /* SPDX-License-Identifier: MIT OR Apache-2.0 */
 /* The calls of bcp47.h for the package bcp47, by the limited API of Python 3.9. An answer is copied to Python before any code
-   of Python runs, and no buffer outlives a call. A call that may take long lets go of the interpreter's lock; close() then
-   waits for its end. */
+   of Python runs, and no buffer outlives a call. A call that may take long lets go of the interpreter's lock, and the registry
+   stays until it ends, whoever closes it. */
 #define PY_SSIZE_T_CLEAN
 #define Py_LIMITED_API 0x03090000
 #include <Python.h>

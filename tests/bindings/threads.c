@@ -1,4 +1,4 @@
-/* Threads that ask one registry, each call of the header; a fork while they do; and a signal handler that asks too. Each
+/* Threads that ask one registry, by seven calls of the header; a fork while they do; and a signal handler that asks too. Each
    answer has to be the one that is given alone. Arguments: registry, tags, how many of them, threads; and `signals`, `forks`
    or the bytes of each thread's stack. */
 #include "support.h"

@@ -18,7 +18,8 @@ pub struct Outcome {
     /// The number of the fault, 1 to 52, whose name `bcp47_write_fault_name` writes, or that of the class of a tag;
     /// else 0.
     pub detail: u32,
-    /// The place of the fault: a subtag, a line, a record or a step, each counted from 1; else 0.
+    /// The place of the fault: a subtag, a line, a record or a step, each counted from 1; of parts or steps that are
+    /// counted, how many; else 0.
     pub place: u64,
     /// How many bytes the text has, also where it does not fit the buffer.
     pub length: usize,

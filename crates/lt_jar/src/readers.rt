@@ -48,8 +48,8 @@ impl<'a> RecordRef<'a> {
     }
 }
 
-/// Reads a device record by record (RFC 5646, 3.1.1), and keeps no more of it than one record, whose memory the
-/// next record uses again.
+/// Reads a device record by record (RFC 5646, 3.1.1), each into the memory of those before it: what is kept grows to
+/// the most fields, and the longest in each place, that a record had.
 pub struct JarReader<'d, R, S = JarSource> {
     device: &'d mut Device<R>,
     source: S,

@@ -1,6 +1,6 @@
 //! A table of fixed size with the answers that were given lately: lines repeat, and an answer that is found is
 //! not worked out again. It holds what was put into it for just these bytes, or nothing. It is a part of the
-//! program `langtag`; a program of your own begins with the crate `bcp47`.
+//! program `langtag` and of the library; a program of your own begins with the crate `bcp47`.
 #![tactic(auto)]
 
 ghost use Rattle.std.specs.Prelude.{◌≡◌, ◌≤◌, length, take, IfSome, IfOk};

@@ -323,7 +323,7 @@ const SINGLE: [Run; 10] = [
         "",
         "upgrade U1 record 3\n",
         "",
-        "U1: The newer registry lacks a subtag, or a part of a range, of the older one: register it.\nrecord 3: language fr, line 6\n",
+        "U1: The newer registry lacks a subtag of the older one, or has no one range that holds a range of it: register it.\nrecord 3: language fr, line 6\n",
         Status::RegistryRefused,
     ),
     (
