@@ -1,6 +1,6 @@
-//! BCP 47 language tags by a registry of language subtags: reads tags, compares them and makes them canonical
-//! (RFC 5646, 4.5), so that `zh-yue` gives `yue`. A program begins with this crate, and needs no other of the
-//! repository.
+//! BCP 47 language tags by a registry of language subtags: reads tags, compares them, makes them canonical
+//! (RFC 5646, 4.5), so that `zh-yue` gives `yue`, and finds those that language ranges match (RFC 4647). A program
+//! begins with this crate, and needs no other of the repository.
 //!
 //! A [`Registry`] is read from bytes or from a device, and passes the check of its twelve conditions; its
 //! methods answer the rest. What it promises for every such registry is on one page, `specs/Promise.antt`.
@@ -11,10 +11,13 @@ mod readings;
 mod registries;
 
 pub use errors::RegistryError;
+pub use lt_accept::{AcceptFault, AcceptFaultKind, AcceptLanguage, WeightedRange};
 pub use lt_canon::{Refusal, TextRefusal, Trace, TraceFault};
 pub use lt_check::{Condition, Finding};
 pub use lt_jar::{Device, JarFault, JarFaultKind};
+pub use lt_match::RangeRefusal;
 pub use lt_parts::{Part, PartKind, parts};
+pub use lt_range::{LanguageRange, RangeFault, TagSubtags, filter_basic, filter_extended, lookup};
 pub use lt_registry::{
     Entry, EntryName, EntryValue, Kind, Prefix, RecordFault, RecordFaultKind, ValidFault,
     ValidFaultKind, ValidRefusal,

@@ -13,6 +13,8 @@ ghost use Rattle.lt_canon.specs.ExplanationTexts.{IsExplanationTextOf};
 ghost use Rattle.lt_canon.specs.ExtlangForm.{IsExtlangFormOf};
 ghost use Rattle.lt_canon.specs.Texts.{AppendsCanonicalText, IsCanonicalTextOf, IsTextRefusal, RefusesTextOnlyRepeats};
 ghost use Rattle.lt_canon.specs.Traces.{IsTraceFault, IsValidTrace};
+ghost use Rattle.lt_match.specs.Matched.{HasCanonicalList, IsCanonicalRange};
+ghost use Rattle.lt_match.specs.Refusals.{IsRangeRefusal};
 ghost use Rattle.lt_upgrade.specs.Laws.{UpgradeKeepsTags};
 ghost use Rattle.lt_upgrade.specs.Upgrade.{Upgrades};
 ghost use Rattle.lt_upgrade.specs.UpgradeChecking.{IsUpgradeFault};
@@ -25,6 +27,8 @@ use lt_canon::laws::confluence;
 use lt_canon::{Refusal, TextRefusal, Trace, TraceFault};
 use lt_check::{Checked, RejectedCause};
 use lt_jar::Device;
+use lt_match::RangeRefusal;
+use lt_range::{LanguageRange, TagSubtags};
 use lt_registry::{Entry, Kind, Lookup, Registry as Entries, SortedTable, ValidRefusal};
 use lt_subtag::Subtag;
 use lt_tag::Tag;
@@ -268,6 +272,33 @@ impl Registry {
         ensures err { IfErr result (λ fault. IsTraceFault self.now tag.now trace.now.steps.items trace.now.last fault) }
     {
         lt_canon::verify(alloc, &self.checked, tag, trace)
+    }
+
+    /// The language range by which a text matches (RFC 4647, 2): where the text is a valid tag, the range of the
+    /// subtags of its canonical form (RFC 5646, 4.5), and else the range that it is, as it is written. So `iw` finds
+    /// what `he` finds, and `zh-*` stays. [`LanguageRange`](crate::LanguageRange) has the three ways of matching,
+    /// and a list of ranges in order of priority is what [`filter_basic`](crate::filter_basic),
+    /// [`filter_extended`](crate::filter_extended) and [`lookup`](crate::lookup) ask for.
+    ///
+    /// - `NotARange`, with the fault that `LanguageRange::read` answers, exactly where the text is neither.
+    /// - `ReplacementRepeats` where the text is a valid tag that `canonical` refuses so.
+    /// - `OutOfMemory` where memory runs out.
+    pub fn range(&self, alloc: Global, text: &[u8]) -> Result<LanguageRange, RangeRefusal>
+        ensures range { IfOk result (λ range. IsCanonicalRange self.now text.now range) }
+        ensures refusal { IfErr result (λ refusal. IsRangeRefusal self.now text.now refusal) }
+    {
+        lt_match::canonical_range(alloc, &self.checked, text)
+    }
+
+    /// The subtags by which ranges match a tag: those of its canonical form (RFC 5646, 4.5), as `he` and `IL` for
+    /// `iw-IL`. So equivalent tags match the same ranges. It is refused as `canonical` refuses.
+    pub fn subtags(&self, alloc: Global, tag: &Tag) -> Result<TagSubtags, Refusal>
+        ensures subtags { IfOk result (λ subtags. HasCanonicalList self.now tag.now subtags) }
+        ensures repeats { IfErr result (λ refusal. RefusesOnlyRepeats self.now tag.now refusal) }
+        ensures invalid { IfErr result (λ refusal. NamesFault self.now tag.now refusal) }
+        ensures named { IfErr result (λ refusal. NamesRepeat self.now tag.now refusal) }
+    {
+        lt_match::canonical_subtags(alloc, &self.checked, tag)
     }
 
     /// Whether a newer registry upgrades this one: whether it meets each

@@ -6,6 +6,8 @@ mod comparing;
 #[cfg(test)]
 mod keys;
 #[cfg(test)]
+mod matching;
+#[cfg(test)]
 mod parts;
 #[cfg(test)]
 mod printing;
