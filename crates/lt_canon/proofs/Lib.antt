@@ -6,4 +6,4 @@ pub mod TagRepeats
 pub mod CanonicalForms
 pub mod StayingTags
 pub mod TextRefusals
-pub mod ExplanationLines
+pub mod LinesLeft

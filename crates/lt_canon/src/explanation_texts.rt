@@ -95,7 +95,7 @@ impl<'t, L: Lookup> ExplanationLines<'t, L> {
     /// Appends the next line, and tells whether more follow it. The last has the canonical form; asked for again, it
     /// is the next once more. The only refusal is running out of memory: the line is still the next then, and a front of
     /// it may have been appended.
-    #[tactic(auto, using(crate::proofs::ExplanationLines::step_leads))]
+    #[tactic(auto, using(crate::proofs::LinesLeft::step_leads))]
     pub fn append_line(&mut self, alloc: Global, lines: &mut Vec<u8>) -> Result<bool, OutOfMemory>
         ensures line { IfOk result (λ more. AppendsLine self.old self.new lines.old.items lines.new.items more) }
         ensures kept { OnErr result (self.new ≡ self.old) }

@@ -11,7 +11,7 @@ use Rattle.lt_rewrite.specs.Labels.{IsTrace}
 use Rattle.lt_canon.specs.ExplanationTexts.{AppendsEnd, AppendsStep, IsWholeLeft, StepsLeft}
 use Rattle.lt_canon.specs.Texts.{IsTextRefusal}
 use Rattle.lt_canon.specs.declared.refusals.TextRefusal.{TextRefusal}
-use Rattle.lt_canon.proofs.ExplanationLines.{HasGiven, given_all, given_front, given_none, given_step, whole_text}
+use Rattle.lt_canon.proofs.LinesLeft.{HasGiven, given_all, given_front, given_none, given_step, whole_text}
 use Rattle.lt_lines.specs.DeviceOutput.{WritesText}
 use Rattle.lt_lines.specs.Faults.{fault_said}
 use Rattle.lt_lines.specs.Refusals.{IsRefusalLine}
