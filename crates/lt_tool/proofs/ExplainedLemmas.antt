@@ -26,6 +26,10 @@ use Rattle.lt_tool.specs.Written.{Says, WritesLines, memory_line, write_line}
 use Rattle.lt_tool.specs.declared.lines.Answer.{Answer}
 use Rattle.lt_tool.specs.declared.status.Status.TheVariants as status
 
+-- a text after another, cut elsewhere
+cut_again : (before kept front rest more : List ℕ) → kept ≡ front ++ rest → (before ++ kept) ++ more ≡ (before ++ front) ++ (rest ++ more)
+cut_again before kept front rest more e = rw e (simp append_assoc)
+
 -- the lines that were given were written, but for those that are kept
 pub record HasWritten {W : Type 0} (contents : W → Option (List ℕ)) (first left : StepsLeft) (before after : Device W) (kept : List ℕ) : Type 0 where
   pub written : List ℕ
@@ -55,7 +59,7 @@ module _ {W : Type 0} (contents : W → Option (List ℕ)) (first left : StepsLe
   pub written_less : (after : Device W) (kept : List ℕ) (f : ToolFault) → HasWritten contents first left start before kept → WritesText contents kept before after (Err f) → WritesLines contents first start after (Err f)
   written_less after kept f w t =
       let all = given_front first left (w.written ++ kept) w.given in
-      let cut : (w.written ++ kept) ++ all.2.0 ≡ (w.written ++ t.written) ++ (t.front.0 ++ all.2.0) = rw t.front.1 (simp append_assoc) in
+      let cut = cut_again w.written kept t.written t.front.0 all.2.0 t.front.1 in
       record {
         lines = all.0;
         are_lines = all.1;

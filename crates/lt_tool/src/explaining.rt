@@ -27,7 +27,7 @@ fn write_lines<L: Lookup, O: Write>(
     output: &mut Device<O>,
 ) -> Result<(), ToolFault>
     requires { IsTrace left.entries left.here left.steps left.end }
-    ensures { WritesLines O.contents left output.old output.new result }
+    ensures { WritesLines O.contents left.entry output.old output.new result }
 {
     let mut lines = Vec::new(alloc);
     while left.append_line(alloc, &mut lines)? {

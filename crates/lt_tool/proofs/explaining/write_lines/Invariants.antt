@@ -3,8 +3,8 @@ use Rattle.lt_tool.proofs.ExplainedLemmas.{HasWritten}
 use Rattle.lt_tool.proofs.explaining.write_lines.Given as goal
 
 -- the lines so far were written, but for those that are kept
-abbrev pub invariant-loop-left : goal.invariant-loop-left
-invariant-loop-left g l = HasWritten g.O.Write.contents l.initial.left l.left l.fn.output l.output l.lines.items
+abbrev pub invariant-loop-lines : goal.invariant-loop-lines
+invariant-loop-lines g l = HasWritten g.O.Write.contents l.initial.left l.left l.fn.output l.output l.lines.items
 
-abbrev pub decreases-loop-left : goal.decreases-loop-left
-decreases-loop-left g l = length l.left.steps
+abbrev pub decreases-loop-lines : goal.decreases-loop-lines
+decreases-loop-lines g l = length l.left.steps
