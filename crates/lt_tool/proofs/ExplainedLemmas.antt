@@ -118,15 +118,15 @@ module _ {O E : Type 0} (R : List EntryParts) (text : List ℕ) (left : StepsLef
   explained_less f w said =
       let lines = whole_text R text w.lines left whole w.are_lines in
       elim w.stopped [
-      | (inl failed) ↦
-          let told : Says errors write_line = rw failed.0 at said in
-          inl (inr (record {
-            line = w.lines;
-            end = status.Done;
-            answers = lines;
-            prints = record { written = w.written; appends = w.appends; front = w.front; ends = inr (refl, failed.1, told) };
-          }))
-      | (inr lacks) ↦
-          let told : Says errors memory_line = rw lacks.0 at said in
-          inr (w.lines, lines, record { written = w.written; appends = w.appends; front = w.front; worked = lacks.1; failed = refl; said = told })
+        | (inl failed) ↦
+            let told : Says errors write_line = rw failed.0 at said in
+            inl (inr (record {
+              line = w.lines;
+              end = status.Done;
+              answers = lines;
+              prints = record { written = w.written; appends = w.appends; front = w.front; ends = inr (refl, failed.1, told) };
+            }))
+        | (inr lacks) ↦
+            let told : Says errors memory_line = rw lacks.0 at said in
+            inr (w.lines, lines, record { written = w.written; appends = w.appends; front = w.front; worked = lacks.1; failed = refl; said = told })
       ]
