@@ -79,6 +79,8 @@ COMMANDS = [
     (["verify", SAMPLE, "sgn-dd"], b"Region 2 27 sgn-DE" + b" " * 40),
     (["upgrade", SAMPLE, SAMPLE], b""),
 ]
+# A command that meets too many growths to refuse each: the first, the second, the fourth, the eighth .. are refused.
+LONG = ["explain", SAMPLE, "en-u" + "".join(f"-a{number}" for number in range(159, 99, -1))]
 
 
 def build_refuser(folder):
@@ -108,14 +110,15 @@ def stop(words, answer, why):
         " ".join(map(str, words)), why, status, output.decode(), errors.decode()))
 
 
-def try_each(library, words, is_right, lines=b""):
-    """How many runs met a refusal. `is_right` has to be true of each, and of the last, which met none."""
-    for number in itertools.count(1):
+def try_each(library, words, is_right, lines=b"", numbers=None):
+    """How many runs met a refusal, by these numbers or by all. `is_right` has to be true of each, and of the last, which
+    met none."""
+    for count, number in enumerate(numbers or itertools.count(1)):
         answer, met = run(library, words, number, lines)
         if not is_right(answer, met):
             stop(words, answer, "growth %d was refused" % number)
         if not met:
-            return number - 1
+            return count
 
 
 def tests_of(crate):
@@ -155,8 +158,8 @@ def judge_test(library, name, words):
     return refused or sys.exit("growth.py: %s of %s met no growth" % (name, words[0].name))
 
 
-def judge_command(library, command, lines):
-    """How many growths of a command were refused."""
+def judge_command(library, command, lines, numbers=None):
+    """How many growths of a command were refused, of these numbers or of all."""
     words = [PROGRAM, *command]
     own, _ = run(library, words, 0, lines)
 
@@ -167,7 +170,7 @@ def judge_command(library, command, lines):
 
     if own[0] not in (0, 1) or own[2]:
         stop(words, own, "no growth was refused")
-    return try_each(library, words, is_right, lines)
+    return try_each(library, words, is_right, lines, numbers)
 
 
 def main():
@@ -181,6 +184,8 @@ def main():
             for command, lines in COMMANDS:
                 shown = " ".join(word for word in command if word != SAMPLE)
                 print("langtag %s: %d" % (shown, judge_command(library, command, lines)), flush=True)
+            doubled = (2 ** power for power in itertools.count())
+            print("langtag explain, of a long tag: %d" % judge_command(library, LONG, b"", doubled), flush=True)
 
 
 if __name__ == "__main__":

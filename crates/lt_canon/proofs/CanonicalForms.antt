@@ -1,7 +1,7 @@
 -- Variants that occur twice in sources and in whole tags: where a valid tag can repeat one, there is one that the refusal
 -- names, and only one. The answers that are owed, from parts in their normal forms; the extlang form of a canonical tag,
 -- which leads back to it; and langtags whose subtags stay as they are, which are their own canonical forms.
--- Traces, and their lines; and the runs on the parts of a tag that explain its canonical form: the first step on a part is
+-- Traces; and the runs on the parts of a tag that explain its canonical form: the first step on a part is
 -- the first on the tag, where none comes before it, and a tag has one explanation.
 use Rattle.std.proofs.Common.{◌≡◌, ℕ, ◌+◌, ◌<◌, ◌⊎◌, inl, inr, List, [], ◌∷◌, ◌++◌, Option, Some, None, refl, sym, ap, ◌∙◌, subst, map, append_assoc, length, take, drop, get_or, IfSome, false, Ordering, arith, Bool, ◌↔◌, IsTrue, ◌≤◌, Err, IfErr, true, Ok, All, ◌≢◌, rules}
 use Rattle.std.specs.Prelude.{option_map, flat_map, MatchOption, MatchResult, Result, unwrap_or, if◌then◌else◌}
@@ -75,7 +75,7 @@ use Rattle.lt_registry.specs.declared.faults.ValidFault.{ValidFault}
 use Rattle.lt_registry.proofs.CoreFaultLemmas.{core_tells}
 use Rattle.lt_registry.proofs.VariantFaultLemmas.{first_same}
 use Rattle.lt_registry.proofs.TagFaultLemmas.{tag_core_first}
-use Rattle.std.proofs.lemmas.List.{take_more, drop_more, take-append-drop, length-take-le, drop_all, append-nil}
+use Rattle.std.proofs.lemmas.List.{take_more, drop_more, take-append-drop, length-take-le}
 use Rattle.lt_registry.specs.declared.faults.ValidRefusal.{ValidRefusal}
 use Rattle.lt_rewrite.proofs.Stars.{star_path}
 use Rattle.lt_rewrite.specs.Labels.{LeadsBy, IsTrace, core_label, list_label, extension_label, extensions_label, tag_label, step_at}
@@ -89,7 +89,6 @@ use Rattle.lt_canon.specs.Traces.{IsValidTrace, IsMisstep, IsTraceFault, IsFollo
 use Rattle.lt_canon.specs.declared.traces.TraceFault.{TraceFault}
 use Rattle.lt_canon.specs.declared.traces.TraceFault.TheVariants as faults
 use Rattle.lt_tag.specs.Texts.{text_of}
-use Rattle.lt_canon.specs.ExplanationTexts.{AppendsSteps, AreStepLines, step_line, tag_line}
 use Rattle.std.proofs.lemmas.Bool.Decides.{nat_tests}
 use Rattle.lt_rewrite.specs.Applying.{CoreLeads, ExtensionsLeads}
 use Rattle.lt_rewrite.specs.Runs.{rank_of, kind_rank, extension_rank, IsNoLater, IsFirst, NoneLeads, IsRun, Adds, AddsOnCore, AddsOnExtensions}
@@ -690,41 +689,6 @@ fault_excludes R t end steps (faults.NoSuchStep k) h n v =
     h.1.stuck cut.2.0 (rw (trace_determined R t cut.0 h.1.tag h.1.before cut.1 h.1.led) at cut.2.1)
 fault_excludes R t end steps faults.WrongEnd h n v = h.1.other (trace_determined R t h.1.tag end steps h.1.led v.trace)
 fault_excludes R t end steps faults.OutOfMemory h n v = n refl
-
--- the rest of the trace leads on from here, and its lines complete those that were appended
-pub record LinesSoFar (R : List EntryParts) (t : TagForm) (steps : List Step) (end : TagForm) (old new : List ℕ) (i : ℕ) (here : TagForm) : Type 0 where
-  pub proper : IsProper R here
-  pub ahead : IsTrace R here (drop i steps) end
-  pub completes : (rest : List ℕ) → AreStepLines R (drop i steps) end here rest → AppendsSteps R t steps end old (new ++ rest)
-
--- a step led on, and its line was appended
-pub explaining_more : (R : List EntryParts) (t : TagForm) (steps : List Step) (end : TagForm) (old new more : List ℕ) (i : ℕ) (default : Step) (here next : TagForm) → i < length steps
-    → LinesSoFar R t steps end old new i here → LeadsBy R here (get_or steps i default) next → IsProper R next → more ≡ new ++ step_line (get_or steps i default) (tag_line next)
-    → LinesSoFar R t steps end old more (i + 1) next
-explaining_more R t steps end old new more i default here next h now on proper grown =
-    let step = get_or steps i default in
-    let ahead : IsTrace R here (step ∷ drop (i + 1) steps) end = rw (drop_more steps i default h) at now.ahead in
-    let same : ahead.0 ≡ next = (steps_determined R here ahead.0 next step step ahead.1 on refl refl).result in
-    record {
-      proper = proper;
-      ahead = rw same at ahead.2;
-      completes = λ rest printed. rw (grown, append_assoc new (step_line step (tag_line next)) rest)
-          (now.completes (step_line step (tag_line next) ++ rest) (rw (drop_more steps i default h) (record { after = next; leads = on; rest = rest; printed = printed; line_is = refl })));
-    }
-
--- all steps led on
-pub explaining_done : (R : List EntryParts) (t : TagForm) (steps : List Step) (end : TagForm) (old new : List ℕ) (i : ℕ) (here : TagForm) → length steps ≤ i
-    → LinesSoFar R t steps end old new i here → AppendsSteps R t steps end old new
-explaining_done R t steps end old new i here h now =
-    let none : drop i steps ≡ [] = drop_all i steps h in
-    rw (append-nil new) at (now.completes [] (rw none (rw none at now.ahead, refl)))
-
--- the step at an index leads on
-pub step_leads : (R : List EntryParts) (steps : List Step) (end : TagForm) (i : ℕ) (default : Step) (here : TagForm) (fault : ApplyFault) → i < length steps → IsTrace R here (drop i steps) end
-    → IsApplyFault R here (get_or steps i default) fault → fault ≡ apply_faults.NoSuchStep → ⊥
-step_leads R steps end i default here fault h trace stuck e =
-    let ahead = rw (drop_more steps i default h) at trace in
-    (rw e at stuck) ahead.0 ahead.1
 
 -- the ranks of steps
 

@@ -6,3 +6,4 @@ pub mod TagRepeats
 pub mod CanonicalForms
 pub mod StayingTags
 pub mod TextRefusals
+pub mod LinesLeft

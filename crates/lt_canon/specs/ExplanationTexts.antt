@@ -1,11 +1,12 @@
 -- The text of an explanation: the steps to the canonical form of a tag, one a line, and that form.
-use Rattle.std.specs.Prelude.{◌≡◌, ℕ, List, [], ◌∷◌, ◌++◌, codes}
+use Rattle.std.specs.Prelude.{◌≡◌, ℕ, Bool, true, false, List, [], ◌∷◌, ◌++◌, codes}
 use Rattle.std.specs.Fmt.{decimal}
 use Rattle.lt_tag.specs.Faults.{HasTag}
 use Rattle.lt_tag.specs.Parts.{TagForm}
 use Rattle.lt_tag.specs.Texts.{text_of}
 use Rattle.lt_registry.specs.Parts.{EntryParts}
-use Rattle.lt_rewrite.specs.Labels.{LeadsBy}
+use Rattle.lt_registry.specs.Validity.{IsProper}
+use Rattle.lt_rewrite.specs.Labels.{LeadsBy, IsTrace}
 use Rattle.lt_rewrite.specs.Names.{name_of}
 use Rattle.lt_rewrite.specs.declared.steps.Step.{Step}
 use Rattle.lt_canon.specs.Explaining.{IsExplanation}
@@ -32,13 +33,6 @@ abbrev pub AreStepLines : List EntryParts → List Step → TagForm → TagForm 
 AreStepLines R [] end t lines = (t ≡ end) × (lines ≡ [])
 AreStepLines R (step ∷ steps) end t lines = StepPrinted R t step (AreStepLines R steps end) lines
 
--- the lines of the steps were appended
-pub record AppendsSteps (R : List EntryParts) (t : TagForm)
-    (steps : List Step) (end : TagForm) (old new : List ℕ) : Type 0 where
-  pub lines : List ℕ
-  pub grown : new ≡ old ++ lines
-  pub are_steps : AreStepLines R steps end t lines
-
 -- the lines of the steps, and after them the text of the end
 pub record AreLines (R : List EntryParts) (t : TagForm)
     (steps : List Step) (end : TagForm) (lines : List ℕ) : Type 0 where
@@ -54,3 +48,52 @@ pub record IsExplanationTextOf (R : List EntryParts) (text lines : List ℕ) : T
   pub end : TagForm
   pub is_explanation : IsExplanation R tag steps end
   pub are_lines : AreLines R tag steps end lines
+
+-- ---- line by line
+
+-- what is left of an explanation: the steps from a tag to the end, by the entries of a registry
+pub record StepsLeft : Type 0 where
+  pub entries : List EntryParts
+  pub here : TagForm
+  pub steps : List Step
+  pub end : TagForm
+
+-- the same from these
+abbrev pub steps_left : List EntryParts → TagForm → List Step → TagForm → StepsLeft
+steps_left entries here steps end = record { entries = entries; here = here; steps = steps; end = end }
+
+-- they lead there from a proper tag
+pub record LeadsToEnd (left : StepsLeft) : Type 0 where
+  pub proper : IsProper left.entries left.here
+  pub trace : IsTrace left.entries left.here left.steps left.end
+
+-- the lines of what is left
+abbrev pub AreLinesLeft : StepsLeft → List ℕ → Type 0
+AreLinesLeft left lines = AreLines left.entries left.here left.steps left.end lines
+
+-- the whole explanation of the tag that a text is read as is left (RFC 5646, 4.5)
+pub record IsWholeLeft (R : List EntryParts) (text : List ℕ) (left : StepsLeft) : Type 0 where
+  pub by : left.entries ≡ R
+  pub read : HasTag text left.here
+  pub is_explanation : IsExplanation R left.here left.steps left.end
+
+-- the line of the next step was appended, and what comes after it is left
+pub record AppendsStep (before after : StepsLeft) (old new : List ℕ) : Type 0 where
+  pub step : Step
+  pub steps : List Step
+  pub next : before.steps ≡ step ∷ steps
+  pub to : TagForm
+  pub leads : LeadsBy before.entries before.here step to
+  pub left : after ≡ record before { here = to; steps = steps }
+  pub grown : new ≡ old ++ step_line step (tag_line to)
+
+-- no step was left, and the text of the end was appended
+pub record AppendsEnd (before after : StepsLeft) (old new : List ℕ) : Type 0 where
+  pub none : before.steps ≡ []
+  pub left : after ≡ before
+  pub grown : new ≡ old ++ codes "= " ++ tag_line before.end
+
+-- the next line was appended: that of a step, after which there are more, or the last
+abbrev pub AppendsLine : (before after : StepsLeft) → (old new : List ℕ) → (more : Bool) → Type 0
+AppendsLine before after old new true = AppendsStep before after old new
+AppendsLine before after old new false = AppendsEnd before after old new

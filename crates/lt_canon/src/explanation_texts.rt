@@ -1,8 +1,6 @@
 //! Explanations as texts: the steps to a canonical tag, each on a line with the tag to which it leads, and that tag.
-ghost use Rattle.std.specs.Prelude.{◌≡◌, ◌++◌, IfErr, IfOk, OnOk};
-ghost use Rattle.lt_registry.specs.Validity.{IsProper};
-ghost use Rattle.lt_rewrite.specs.Labels.{IsTrace};
-ghost use Rattle.lt_canon.specs.ExplanationTexts.{AppendsSteps, AreLines, IsExplanationTextOf, step_line, tag_line};
+ghost use Rattle.std.specs.Prelude.{◌≡◌, ◌++◌, IfErr, IfOk, OnErr, OnOk};
+ghost use Rattle.lt_canon.specs.ExplanationTexts.{AppendsLine, IsExplanationTextOf, IsWholeLeft, step_line, tag_line};
 ghost use Rattle.lt_canon.specs.Texts.{IsTextRefusal};
 
 use crate::explaining::explain;
@@ -13,6 +11,7 @@ use lt_registry::Lookup;
 use lt_rewrite::{ApplyFault, Step, apply};
 use lt_tag::{OutOfMemory, Tag, append_tag, read_tag};
 use std::alloc::Global;
+use std::marker::Model;
 
 /// Appends the text of a tag, ended by a line feed.
 fn append_tag_line(lines: &mut Vec<u8>, tag: &Tag) -> Result<(), OutOfMemory>
@@ -38,47 +37,85 @@ fn append_step(
     append_tag_line(lines, after)
 }
 
-/// Appends the lines of the steps of a trace, which lead from this tag.
-#[tactic(auto, using(crate::proofs::CanonicalForms::step_leads))]
-fn append_steps<L: Lookup>(
-    lines: &mut Vec<u8>,
-    alloc: Global,
-    table: &L,
-    tag: &Tag,
-    trace: &Trace,
-) -> Result<(), OutOfMemory>
-    requires proper { IsProper (L.listed table.now) tag.now }
-    requires trace { IsTrace (L.listed table.now) tag.now trace.now.steps.items trace.now.last }
-    ensures { OnOk result (AppendsSteps (L.listed table.now) tag.now trace.now.steps.items trace.now.last lines.old.items lines.new.items) }
-{
-    let mut here = tag.copy(alloc)?;
-    for step in &trace.steps {
-        here = match apply(alloc, table, &here, step) {
+/// The lines of an explanation, each of which is made when it is asked for (RFC 5646, 4.5), so that they are not all in
+/// memory at once. A contract sees what is left of the explanation.
+pub struct ExplanationLines<'t, L: Lookup> {
+    table: &'t L,
+    /// The tag to which the steps led that were taken.
+    here: Tag,
+    trace: Trace,
+    taken: usize,
+}
+
+// By hand: who lets it go then owes this one call, and not a drop for each of its vectors.
+impl<L: Lookup> Drop for ExplanationLines<'_, L> {
+    fn drop(self) {
+        let ExplanationLines {
+            table: _,
+            here,
+            trace,
+            taken: _,
+        } = self;
+        drop(here);
+        drop(trace);
+    }
+}
+
+impl<'t, L: Lookup> Model for ExplanationLines<'t, L> {
+    ghost use Rattle.std.specs.Prelude.{drop};
+    ghost use Rattle.lt_canon.specs.ExplanationTexts.{LeadsToEnd, StepsLeft, steps_left};
+
+    ghost Value = { StepsLeft };
+
+    ghost view = { λ e. steps_left (L.listed e.table.now) e.here (drop e.taken e.trace.steps.items) e.trace.last };
+
+    ghost invariant = { λ e. LeadsToEnd (steps_left (L.listed e.table.now) e.here (drop e.taken e.trace.steps.items) e.trace.last) };
+}
+
+impl<'t, L: Lookup> ExplanationLines<'t, L> {
+    /// The lines that [`explanation_text`] gives for a text, or why there are none.
+    pub fn new(
+        alloc: Global,
+        checked: &'t Checked<L>,
+        text: &[u8],
+    ) -> Result<ExplanationLines<'t, L>, TextRefusal>
+        ensures whole { IfOk result (λ left. IsWholeLeft (L.listed checked.now) text.now left) }
+        ensures refusal { IfErr result (λ refusal. IsTextRefusal (L.listed checked.now) text.now refusal) }
+    {
+        let here = read_tag(alloc, text)?;
+        let trace = explain(alloc, checked, &here)?;
+        Ok(ExplanationLines {
+            table: checked.table(),
+            here,
+            trace,
+            taken: 0,
+        })
+    }
+
+    /// Appends the next line, and tells whether more follow it. The last has the canonical form; asked for again, it
+    /// is the next once more. The only refusal is running out of memory: the line is still the next then, and a front of
+    /// it may have been appended.
+    #[tactic(auto, using(crate::proofs::LinesLeft::step_leads))]
+    pub fn append_line(&mut self, alloc: Global, lines: &mut Vec<u8>) -> Result<bool, OutOfMemory>
+        ensures line { IfOk result (λ more. AppendsLine self.old self.new lines.old.items lines.new.items more) }
+        ensures kept { OnErr result (self.new ≡ self.old) }
+    {
+        if self.taken >= self.trace.steps.len() {
+            lines.extend_from_slice(b"= ")?;
+            append_tag_line(lines, &self.trace.last)?;
+            return Ok(false);
+        }
+        let step = self.trace.steps[self.taken];
+        let next = match apply(alloc, self.table, &self.here, &step) {
             Ok(next) => next,
             Err(ApplyFault::OutOfMemory) => return Err(OutOfMemory),
             Err(ApplyFault::NoSuchStep) => unreachable!(),
         };
-        append_step(lines, alloc, step, &here)?;
+        append_step(lines, alloc, &step, &next)?;
+        self.here = next;
+        self.taken += 1;
+        Ok(true)
     }
-    Ok(())
-}
-
-/// The lines of a trace, which leads from this tag.
-fn lines_of<L: Lookup>(
-    alloc: Global,
-    table: &L,
-    tag: &Tag,
-    trace: &Trace,
-) -> Result<Vec<u8>, OutOfMemory>
-    requires proper { IsProper (L.listed table.now) tag.now }
-    requires trace { IsTrace (L.listed table.now) tag.now trace.now.steps.items trace.now.last }
-    ensures { IfOk result (λ lines. AreLines (L.listed table.now) tag.now trace.now.steps.items trace.now.last lines.items) }
-{
-    let mut lines = Vec::new(alloc);
-    append_steps(&mut lines, alloc, table, tag, trace)?;
-    lines.extend_from_slice(b"= ")?;
-    append_tag_line(&mut lines, &trace.last)?;
-    Ok(lines)
 }
 
 /// The explanation of the tag that a text is read as (RFC 5646, 4.5): a line for each step that `explain`
@@ -97,7 +134,8 @@ pub fn explanation_text<L: Lookup>(
     ensures written { IfOk result (λ lines. IsExplanationTextOf (L.listed checked.now) text.now lines.items) }
     ensures refusal { IfErr result (λ refusal. IsTextRefusal (L.listed checked.now) text.now refusal) }
 {
-    let tag = read_tag(alloc, text)?;
-    let trace = explain(alloc, checked, &tag)?;
-    Ok(lines_of(alloc, checked.table(), &tag, &trace)?)
+    let mut left = ExplanationLines::new(alloc, checked, text)?;
+    let mut lines = Vec::new(alloc);
+    while left.append_line(alloc, &mut lines)? {}
+    Ok(lines)
 }

@@ -19,7 +19,7 @@ pub use canonical_tags::canonical;
 pub use canonical_texts::{append_canonical_text, canonical_text};
 pub use equivalence::equivalent;
 pub use explaining::explain;
-pub use explanation_texts::explanation_text;
+pub use explanation_texts::{ExplanationLines, explanation_text};
 pub use extlang_forms::extlang_form;
 pub use lt_check::{Checked, Condition, Finding, Rejected, RejectedCause};
 pub use refusals::{Refusal, TextRefusal};

@@ -1,3 +1,4 @@
 -- Lemmas on the program's calls.
 pub mod AnswerLemmas
 pub mod VerdictLemmas
+pub mod ExplainedLemmas

@@ -11,6 +11,7 @@ use Rattle.lt_tag.specs.declared.tags.Class.{Class}
 use Rattle.lt_tag.specs.declared.tags.Class.TheVariants as classes
 use Rattle.lt_registry.specs.Parts.{EntryParts}
 use Rattle.lt_registry.specs.ReadRegistry.{Reading}
+use Rattle.lt_canon.specs.ExplanationTexts.{IsExplanationTextOf}
 use Rattle.lt_canon.specs.declared.refusals.TextRefusal.TheVariants as refusals
 use Rattle.lt_lines.specs.Faults.{fault_said}
 use Rattle.lt_lines.specs.Refusals.{IsRefusalLine}
@@ -36,7 +37,7 @@ use Rattle.lt_tool.specs.TagCommands.{Compares, Explains, FormsExtlang}
 use Rattle.lt_tool.specs.UpgradeCommand.{UpgradesFiles}
 use Rattle.lt_tool.specs.Verified.{Verifies}
 use Rattle.lt_tool.specs.Streams.{IsUntouched, HandsNone, Stream, Handed}
-use Rattle.lt_tool.specs.Written.{LacksMemory, Prints, Says}
+use Rattle.lt_tool.specs.Written.{LacksMemory, LacksRest, Prints, Says}
 use Rattle.lt_tool.specs.declared.status.Status.{Status}
 use Rattle.lt_tool.specs.declared.status.Status.TheVariants as status
 
@@ -119,6 +120,18 @@ abbrev pub PrintsByFile : {F O E : Type 0} → (Reading → List ℕ → Status 
 PrintsByFile IsAnswer file output errors result =
     ReadsFile file (λ reading. PrintsOrLacks (IsAnswer reading) output errors result)
 
+-- the explanation of a text was printed, or the line of a refusal; or there was no memory, at first or for the rest
+abbrev pub ExplainsText : {O E : Type 0} → List EntryParts → List ℕ → Stream O → Stream E → ℕ → Type 0
+ExplainsText R text output errors result =
+    PrintsOrLacks (Explains R text) output errors result
+    ⊎ ((lines : List ℕ) × IsExplanationTextOf R text lines × LacksRest output errors lines result)
+
+-- the same by what the reading of the file gave
+abbrev pub ExplainsByFile : {O E : Type 0} → List ℕ → Stream O → Stream E → ℕ → Reading → Type 0
+ExplainsByFile text output errors result reading =
+    PrintsOrLacks (RefusesRegistry reading) output errors result
+    ⊎ ((R : List EntryParts) × HoldsRegistry reading R × ExplainsText R text output errors result)
+
 -- what a run of a command read of the files and of its input, what it wrote to its output and its errors, what it
 -- refused of its lines, and its exit status
 abbrev pub Performs : {F G I O E : Type 0} → Command → Stream F → Stream G → Stream I → Stream O → Stream E → Handed → ℕ → Type 0
@@ -141,7 +154,7 @@ Performs (command.Equal name tag other) first second input output errors answere
     × PrintsByFile (ByRegistry (λ R. Compares R (string_bytes tag) (string_bytes other))) first output errors result
 Performs (command.Explain name tag) first second input output errors answered result =
     HandsNone answered × IsUntouched second × IsUntouched input
-    × PrintsByFile (ByRegistry (λ R. Explains R (string_bytes tag))) first output errors result
+    × ReadsFile first (ExplainsByFile (string_bytes tag) output errors result)
 Performs (command.Verify name tag) first second input output errors answered result =
     HandsNone answered × IsUntouched second
     × ReadsFile first (Verifies (λ IsAnswer. PrintsOrLacks IsAnswer output errors result)

@@ -3,6 +3,7 @@
 #![tactic(auto)]
 
 mod answered;
+mod explaining;
 mod lines;
 mod printing;
 mod program;

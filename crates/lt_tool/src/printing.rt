@@ -10,10 +10,11 @@ ghost use Rattle.lt_tool.specs.Printed.{Canonicalises, EndsRun, Performs, Prints
 ghost use Rattle.lt_tool.specs.declared.status.Status.TheVariants.{Failed};
 
 use crate::answered::Answered;
+use crate::explaining::explain;
 use crate::lines::{Answer, classify};
 use crate::registries::{check, read_registry, refuse};
 use crate::status::Status;
-use crate::tag_commands::{equal, explain, extlang};
+use crate::tag_commands::{equal, extlang};
 use crate::upgrade_command::upgrade;
 use crate::verifying::verify;
 use lt_jar::Device;
@@ -179,9 +180,7 @@ fn run<F: Read, G: Read, I: Read, O: Write, E: Write>(
             let answer = equal(alloc, first, tag.as_bytes(), other.as_bytes());
             print_answer(answer, output, errors)
         }
-        Command::Explain(_, tag) => {
-            print_answer(explain(alloc, first, tag.as_bytes()), output, errors)
-        }
+        Command::Explain(_, tag) => explain(alloc, first, tag.as_bytes(), output, errors),
         Command::Verify(_, tag) => verify(alloc, first, tag.as_bytes(), input, output, errors),
         Command::Upgrade(_, _) => print_answer(upgrade(alloc, first, second), output, errors),
     }
@@ -191,8 +190,9 @@ fn run<F: Read, G: Read, I: Read, O: Write, E: Write>(
 ///
 /// `first` and `second` are the files that the command names, in order; one that it does not name is left as it
 /// is, and so is the second of `upgrade` where the first is refused. A file is read record by record, up to its
-/// end or the first line at fault. The answer is written to `output` at once; `canon`, `tsv` and `csv` answer the
-/// lines or records of `input` as they come, and `verify` reads them up to the first that settles its answer.
+/// end or the first line at fault. The answer is written to `output` at once, but by `explain` as its lines are made;
+/// `canon`, `tsv` and `csv` answer the lines or records of `input` as they come, and `verify` reads them up to the first
+/// that settles its answer.
 ///
 /// A read of a file that fails, or is one too many, is answered as a fault of the file. A write to `output`
 /// that fails, a read of `input` that fails, its end within quotes, and an allocation that fails are named on `errors`; a write there

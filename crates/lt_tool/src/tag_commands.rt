@@ -3,13 +3,13 @@ ghost use Rattle.std.specs.Prelude.{◌≡◌, IfOk, IfErr};
 ghost use Rattle.lt_canon.specs.Texts.{IsTextRefusal};
 ghost use Rattle.lt_tool.specs.Registries.{Answers, ByRegistry};
 ghost use Rattle.lt_canon.specs.TextAnswers.{IsEqualityOf, IsExtlangTextOf, IsPairRefusal};
-ghost use Rattle.lt_tool.specs.TagCommands.{Compares, Explains, FormsExtlang};
+ghost use Rattle.lt_tool.specs.TagCommands.{Compares, FormsExtlang};
 ghost use Rattle.lt_tool.specs.Streams.{stream};
 
 use crate::lines::{Answer, answer_refusal};
 use crate::registries::{read_registry, refuse};
 use crate::status::Status;
-use lt_canon::{Checked, TextRefusal, equivalent, explanation_text, extlang_form};
+use lt_canon::{Checked, TextRefusal, equivalent, extlang_form};
 use lt_jar::Device;
 use lt_registry::Lookup;
 use lt_tag::{OutOfMemory, read_tag, write_tag};
@@ -84,23 +84,6 @@ fn answer_equal<L: Lookup>(
     Ok(Answer { line, status })
 }
 
-/// What `explain` answers to a text by a registry.
-fn answer_explain<L: Lookup>(
-    alloc: Global,
-    checked: &Checked<L>,
-    text: &[u8],
-) -> Result<Answer, OutOfMemory>
-    ensures { IfOk result (λ answer. Explains (L.listed checked.now) text.now answer.line.items answer.status) }
-{
-    match explanation_text(alloc, checked, text) {
-        Ok(line) => Ok(Answer {
-            line,
-            status: Status::Done,
-        }),
-        Err(refusal) => answer_refusal(alloc, &refusal),
-    }
-}
-
 /// What `extlang` answers to a file and a text.
 pub(crate) fn extlang<F: Read>(
     alloc: Global,
@@ -126,20 +109,6 @@ pub(crate) fn equal<F: Read>(
 {
     match read_registry(alloc, file) {
         Ok(checked) => answer_equal(alloc, &checked, first, second),
-        Err(refusal) => refuse(alloc, &refusal),
-    }
-}
-
-/// What `explain` answers to a file and a text.
-pub(crate) fn explain<F: Read>(
-    alloc: Global,
-    file: &mut Device<F>,
-    text: &[u8],
-) -> Result<Answer, OutOfMemory>
-    ensures { Answers (stream F.remaining file.old file.new) (ByRegistry (λ R. Explains R text.now)) result }
-{
-    match read_registry(alloc, file) {
-        Ok(checked) => answer_explain(alloc, &checked, text),
         Err(refusal) => refuse(alloc, &refusal),
     }
 }

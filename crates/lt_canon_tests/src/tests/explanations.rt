@@ -3,7 +3,7 @@ ghost use Rattle.std.specs.Prelude.{◌↔◌, IsTrue, IfOk};
 ghost use Rattle.lt_registry.specs.Validity.{IsProper};
 ghost use Rattle.lt_registry.specs.Faults.{RepeatsAtMost};
 
-use lt_canon::{Refusal, TextRefusal, Trace, explain, explanation_text};
+use lt_canon::{ExplanationLines, Refusal, TextRefusal, Trace, explain, explanation_text};
 use lt_check::Checked;
 use lt_registry::{Lookup, proper};
 use lt_rewrite::{ApplyFault, Step, StepKind, apply};
@@ -250,6 +250,49 @@ fn is_refused<L: Lookup>(alloc: Global, checked: &Checked<L>, text: &str, name: 
     }
 }
 
+/// The lines of the explanation of `SGN-dd` one after another, and whether more follow. The last is given again.
+const GIVEN: [(&str, bool); 4] = [
+    ("Region 2 27 sgn-DE\n", true),
+    ("Whole 1 44 gsg\n", true),
+    ("= gsg\n", false),
+    ("= gsg\n", false),
+];
+
+/// The next line, and whether more follow.
+fn next_line<L: Lookup>(
+    alloc: Global,
+    left: &mut ExplanationLines<'_, L>,
+) -> Result<(Vec<u8>, bool), OutOfMemory> {
+    let mut line = Vec::new(alloc);
+    let more = left.append_line(alloc, &mut line)?;
+    Ok((line, more))
+}
+
+/// Whether this line is given next, also where memory runs out the first time.
+fn is_next<L: Lookup>(
+    alloc: Global,
+    left: &mut ExplanationLines<'_, L>,
+    line: &str,
+    more: bool,
+) -> bool {
+    let next = match next_line(alloc, left) {
+        Ok(given) => Ok(given),
+        Err(_) => next_line(alloc, left),
+    };
+    matches!(next, Ok((given, follow)) if given.as_slice() == line.as_bytes() && follow == more)
+}
+
+/// Whether the lines are given one after another.
+fn are_given<L: Lookup>(alloc: Global, checked: &Checked<L>) -> Result<bool, TextRefusal> {
+    let mut left = ExplanationLines::new(alloc, checked, b"SGN-dd")?;
+    for (line, more) in &GIVEN {
+        if !is_next(alloc, &mut left, line, *more) {
+            return Ok(false);
+        }
+    }
+    Ok(true)
+}
+
 /// Each text has the lines of its row, or the refusal.
 pub(super) fn explanation_texts<L: Lookup>(rt: &impl Abort, alloc: Global, checked: &Checked<L>) {
     for (text, lines) in &LINES {
@@ -258,4 +301,5 @@ pub(super) fn explanation_texts<L: Lookup>(rt: &impl Abort, alloc: Global, check
     for (text, name) in &WITHOUT_LINES {
         assert!(rt; is_refused(alloc, checked, text, name), "{text}");
     }
+    assert!(rt; matches!(twice(|| are_given(alloc, checked)), Ok(true)));
 }

@@ -1,7 +1,10 @@
-//! The commands on one or two tags: `extlang` and `equal`.
+//! The commands on one or two tags: `extlang`, `equal` and `explain`.
+use lt_canon::explanation_text;
+use lt_jar::Takes;
 use lt_testing::sample_text;
 use lt_tool::{Command, WordsFault};
-use lt_tool_testing::{prints, read};
+use lt_tool_testing::{NO_FILE, checked_sample, ends, prints, read};
+use std::alloc::{AllocError, Global};
 use std::test::Fail;
 
 /// Two tags, what `equal` prints of them, and its status.
@@ -100,6 +103,79 @@ fn explanations(rt: HostRuntime) -> Result<(), Fail> {
     for (tag, lines, status) in &EXPLANATIONS {
         let words = ["explain", "registry", *tag];
         assert!(rt; prints(rt.alloc(), &words, sample.as_bytes(), b"", lines, *status));
+    }
+    Ok(())
+}
+
+/// How many bytes of lines are written at a time, or somewhat more.
+const FULL: usize = 65_536;
+
+/// A tag of 60 attributes in falling order: 1,770 steps, whose lines are 575,000 bytes, more than are kept at a time.
+fn long_tag(alloc: Global) -> Result<String, AllocError> {
+    let mut tag = String::from_str(alloc, "en-u")?;
+    for number in 0..60 {
+        let below = 159 - number;
+        tag.push_str(&format!(in alloc; "-a{below}")?)?;
+    }
+    Ok(tag)
+}
+
+/// The lines of its explanation.
+fn long_lines(alloc: Global, tag: &str) -> Result<Vec<u8>, Fail> {
+    let checked = checked_sample(alloc)?;
+    match explanation_text(alloc, &checked, tag.as_bytes()) {
+        Ok(lines) => Ok(lines),
+        Err(_) => Err(Fail::from("an explanation")),
+    }
+}
+
+/// How `explain` of a tag ends that writes to this writer, and what it says.
+fn explain_into(
+    alloc: Global,
+    registry: &str,
+    tag: &str,
+    writer: &mut Takes,
+) -> Option<(u8, Vec<u8>)> {
+    let command = read(alloc, &["explain", "registry", tag]).ok()?;
+    let mut errors = Vec::new(alloc);
+    let files = (registry.as_bytes(), NO_FILE);
+    let end = ends(alloc, &command, files, NO_FILE, writer, &mut errors);
+    Some((end, errors))
+}
+
+#[test]
+fn a_long_explanation(rt: HostRuntime) -> Result<(), Fail> {
+    let sample = sample_text(rt.alloc())?;
+    let tag = long_tag(rt.alloc())?;
+    let lines = long_lines(rt.alloc(), &tag)?;
+    assert!(rt; lines.len() > 8 * FULL);
+    let mut writer = Takes::new(rt.alloc(), 1_000_000);
+    let end = explain_into(rt.alloc(), &sample, &tag, &mut writer);
+    assert!(rt; matches!(end, Some((0, errors)) if errors.is_empty()));
+    assert!(rt; writer.taken() == lines.as_slice());
+    Ok(())
+}
+
+/// Whether `explain` stops at the write after this many, and what these wrote is a front of the lines.
+fn explain_stops(alloc: Global, registry: &str, tag: &str, lines: &[u8], count: usize) -> bool {
+    let mut writer = Takes::new(alloc, 1_000_000);
+    writer.fail_at((count as u64).saturating_add(1));
+    let end = explain_into(alloc, registry, tag, &mut writer);
+    matches!(end, Some((4, errors)) if errors.as_slice() == b"! Write\n".as_slice())
+        && lines.starts_with(writer.taken())
+        && writer.taken().len() / FULL == count
+}
+
+#[test]
+fn writes_of_an_explanation_that_fail(rt: HostRuntime) -> Result<(), Fail> {
+    let sample = sample_text(rt.alloc())?;
+    let tag = long_tag(rt.alloc())?;
+    let lines = long_lines(rt.alloc(), &tag)?;
+    for count in 0..=8 {
+        assert!(rt;
+            explain_stops(rt.alloc(), &sample, &tag, &lines, count),
+            "{count}"
+        );
     }
     Ok(())
 }

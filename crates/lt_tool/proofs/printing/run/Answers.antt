@@ -1,7 +1,7 @@
 use Rattle.std.proofs.Common.{refl}
 use Rattle.lt_tool.specs.Printed.{Classifies}
 use Rattle.lt_tool.specs.Registries.{ByRegistry, Checks}
-use Rattle.lt_tool.specs.TagCommands.{Compares, Explains, FormsExtlang}
+use Rattle.lt_tool.specs.TagCommands.{Compares, FormsExtlang}
 use Rattle.lt_tool.proofs.AnswerLemmas.{printed_answer, printed_by, upgrades_more}
 use Rattle.lt_tool.proofs.printing.run.Goals as goal
 
@@ -40,10 +40,7 @@ returns-in-Equal g c =
     rw c.in-Equal.is (refl, refl, refl, rw (c.as_bytes-in-Equal.ensures.value, c.as_bytes-in-Equal-2.ensures.value) at printed)
 
 pub returns-in-Explain : goal.returns-in-Explain
-returns-in-Explain g c =
-    let answers = ByRegistry (λ R. Explains R c.as_bytes-in-Explain.result.now) in
-    let printed = printed_by _ answers _ _ c.explain.result _ c.explain.ensures c.print_answer-in-Explain.ensures in
-    rw c.in-Explain.is (refl, refl, refl, rw c.as_bytes-in-Explain.ensures.value at printed)
+returns-in-Explain g c = rw c.in-Explain.is (refl, refl, refl, rw c.as_bytes-in-Explain.ensures.value at c.explain.ensures)
 
 pub returns-in-Verify : goal.returns-in-Verify
 returns-in-Verify g c = rw c.in-Verify.is (refl, refl, rw c.as_bytes-in-Verify.ensures.value at c.verify.ensures)

@@ -1,0 +1,12 @@
+use Rattle.std.proofs.Common.{inl, inr}
+use Rattle.lt_tool.specs.Registries.{RefusesRegistry}
+use Rattle.lt_tool.proofs.AnswerLemmas.{printed_answer, read_more, refused_answer}
+use Rattle.lt_tool.proofs.explaining.explain.Goals as goal
+
+pub returns-in-Ok : goal.returns-in-Ok
+returns-in-Ok g c = read_more _ _ _ c.in-Ok.ensures (λ reading holds. inr (c.in-Ok.checked, holds, c.explain_text.ensures))
+
+pub returns-in-Err : goal.returns-in-Err
+returns-in-Err g c = read_more _ _ _ c.in-Err.ensures (λ reading is.
+    inl (printed_answer (RefusesRegistry reading) _ _ c.refuse.result _
+    (refused_answer reading c.in-Err.refusal c.refuse.result is c.refuse.ensures.line c.refuse.ensures.status) c.print_answer.ensures))
