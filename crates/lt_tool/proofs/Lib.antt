@@ -1,3 +1,4 @@
 -- Lemmas on the program's calls.
+pub mod AheadLemmas
 pub mod AnswerLemmas
 pub mod VerdictLemmas

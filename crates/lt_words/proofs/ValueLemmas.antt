@@ -1,10 +1,18 @@
 -- The values of positionals.
-use Rattle.std.proofs.Common.{◌≡◌, ◌∙◌, ℕ, List, [], ◌∷◌, Option, Some, None, map, sym, ap, refl, subst, slice_index, ◌==◌, if◌then◌else◌}
+use Rattle.std.proofs.Common.{◌≡◌, ◌∙◌, ◌&&◌, ℕ, Bool, true, false, List, [], ◌∷◌, Option, Some, None, map, sym, ap, refl, subst, slice_index, ◌==◌, if◌then◌else◌, arith, le-leb, leb-true}
+use Rattle.std.specs.Char.{is_ascii_digit}
+use Rattle.std.specs.List.{list_all}
+use Rattle.std.specs.Prelude.{nat_le}
+use Rattle.std.specs.Str.Parse.{AllDigits}
+use Rattle.std.proofs.lemmas.Str.{digit_value_digit}
+use Rattle.std.proofs.lemmas.Str.Parse.{digit_from_value}
 use Rattle.clap.specs.Words.{Row, Text, first_of}
 use Rattle.lt_words.specs.CommandLine.{name_of, positionals_of}
-use Rattle.lt_words.specs.Reading.{AreGiven, IsNamed, LacksValue, NamesNone}
+use Rattle.lt_words.specs.Reading.{AreGiven, FitsHeading, IsColumn, IsDecimal, IsNamed, IsNoColumn, IsNoNumber, LacksValue, NamesNone}
 use Rattle.lt_words.specs.declared.faults.WordsFault.{WordsFault}
 use Rattle.lt_words.specs.declared.faults.WordsFault.TheVariants as fault
+use Rattle.lt_words.specs.declared.commands.Column.{Column}
+use Rattle.lt_words.specs.declared.commands.Column.TheVariants as columns
 use Rattle.lt_words.specs.declared.commands.Command.{Command}
 use Rattle.lt_words.specs.Reading.{subcommand_for}
 use Rattle.lt_words.specs.declared.subcommands.Subcommand.{Subcommand}
@@ -48,6 +56,47 @@ lacks_other rows first others (fault.Version text) lacks = lacks
 lacks_other rows first others (fault.Usage said) lacks = λ texts given.
     let parts = given_first rows first others texts given in lacks parts.1 parts.3
 lacks_other rows first others fault.OutOfMemory lacks = tt
+
+-- ---- columns
+
+both_true : (a b : Bool) → (a && b) ≡ true → (a ≡ true) × (b ≡ true)
+both_true true b e = (refl, e)
+both_true false b e = let bad : false ≡ true = e in cc
+
+digits_all : (ds : List ℕ) → list_all is_ascii_digit ds ≡ true → AllDigits 10 ds
+digits_all [] all = tt
+digits_all (d ∷ ds) all =
+    let both = both_true (is_ascii_digit d) (list_all is_ascii_digit ds) all in
+    let inside = both_true (nat_le 48 d) (nat_le d 57) both.0 in
+    let most = leb-true d 57 inside.1 in
+    (omega (arith, digit_value_digit d (leb-true 48 d inside.0, most), most), digits_all ds both.1)
+
+all_digits : (ds : List ℕ) → AllDigits 10 ds → list_all is_ascii_digit ds ≡ true
+all_digits [] all = refl
+all_digits (d ∷ ds) all =
+    let inside = digit_from_value d all.0 in
+    rw (le-leb 48 d inside.0, le-leb d 57 inside.1) (all_digits ds all.1)
+
+-- what a test of each byte says
+pub digits_are : (ds : List ℕ) (all : Bool) → all ≡ list_all is_ascii_digit ds → (all ≡ true → AllDigits 10 ds) × (AllDigits 10 ds → all ≡ true)
+digits_are ds all told = (λ e. digits_all ds (sym told ∙ e), λ d. told ∙ all_digits ds d)
+
+-- a decimal number is no name
+pub no_number : (text : Text) (heading : Bool) (f : WordsFault) → IsDecimal text → IsNoNumber text f → IsNoColumn text heading f
+no_number text heading (fault.Help said) decimal none = none
+no_number text heading (fault.Version said) decimal none = none
+no_number text heading (fault.Usage said) decimal none = by_column
+  where
+    by_column : (column : Column) → IsColumn text column → FitsHeading heading column → ⊥
+    by_column (columns.Number number) is fits = none number is
+    by_column (columns.Name name) is fits = is.1 decimal
+no_number text heading fault.OutOfMemory decimal none = tt
+
+-- and a name needs a heading
+pub no_name : (text : Text) (heading : Bool) → (IsDecimal text → ⊥) → heading ≡ false
+    → (column : Column) → IsColumn text column → FitsHeading heading column → ⊥
+no_name text heading other without (columns.Number number) is fits = other is.digits
+no_name text heading other without (columns.Name name) is fits = let bad : true ≡ false = sym fits ∙ without in cc
 
 -- ---- subcommands
 

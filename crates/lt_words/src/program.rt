@@ -46,7 +46,7 @@ pub(crate) static REGISTRY: Argument = Argument {
 pub(crate) static COLUMN: Argument = Argument {
     name: "COLUMN",
     form: Form::Positional,
-    help: "The number of the field that is a tag, counted from 1",
+    help: "The field that is a tag: its number, counted from 1, or its name in the heading",
 };
 
 pub(crate) static OLD: Argument = Argument {
