@@ -91,7 +91,7 @@ Status:
   0  done
   1  a tag was refused, or the tags are different, or the steps are no explanation
   2  a registry or an upgrade was refused
-  3  the words name no command
+  3  the words name no command, or a column that is missing or stands twice
   4  a file, the input, the output or memory failed";
 
 /// The version, and the line of the kit that proves and builds the program.
