@@ -50,10 +50,10 @@ fn undoubled(alloc: Global, text: &[u8]) -> Result<Vec<u8>, AllocError>
     for byte in text {
         if is_after_quote && *byte == b'"' {
             is_after_quote = false;
-        } else {
-            name.push(*byte)?;
-            is_after_quote = *byte == b'"';
+            continue;
         }
+        name.push(*byte)?;
+        is_after_quote = *byte == b'"';
     }
     Ok(name)
 }
