@@ -1,10 +1,7 @@
 -- The values of positionals.
-use Rattle.std.proofs.Common.{◌≡◌, ◌∙◌, ◌&&◌, ℕ, Bool, true, false, List, [], ◌∷◌, Option, Some, None, map, sym, ap, refl, subst, slice_index, ◌==◌, if◌then◌else◌, arith, le-leb, leb-true}
-use Rattle.std.specs.Char.{is_ascii_digit}
-use Rattle.std.specs.List.{list_all}
-use Rattle.std.specs.Prelude.{nat_le}
+use Rattle.std.proofs.Common.{◌≡◌, ◌<◌, ◌∙◌, ℕ, Bool, true, false, List, [], ◌∷◌, Option, Some, None, map, sym, ap, refl, subst, slice_index, ◌==◌, if◌then◌else◌, le-leb}
+use Rattle.std.specs.Char.{digit_value, is_ascii_digit}
 use Rattle.std.specs.Str.Parse.{AllDigits}
-use Rattle.std.proofs.lemmas.Str.{digit_value_digit}
 use Rattle.std.proofs.lemmas.Str.Parse.{digit_from_value}
 use Rattle.clap.specs.Words.{Row, Text, first_of}
 use Rattle.lt_words.specs.CommandLine.{name_of, positionals_of}
@@ -59,27 +56,18 @@ lacks_other rows first others fault.OutOfMemory lacks = tt
 
 -- ---- columns
 
-both_true : (a b : Bool) → (a && b) ≡ true → (a ≡ true) × (b ≡ true)
-both_true true b e = (refl, e)
-both_true false b e = let bad : false ≡ true = e in cc
+-- digits after a digit
+pub digits_next : (all rest more : List ℕ) (d : ℕ) → rest ≡ d ∷ more → digit_value d < 10 → (AllDigits 10 all → AllDigits 10 rest) × (AllDigits 10 rest → AllDigits 10 all)
+    → (AllDigits 10 all → AllDigits 10 more) × (AllDigits 10 more → AllDigits 10 all)
+digits_next all rest more d is digit same =
+    (λ a. (subst (AllDigits 10) is (same.0 a)).1, λ m. same.1 (subst (AllDigits 10) (sym is) (digit, m)))
 
-digits_all : (ds : List ℕ) → list_all is_ascii_digit ds ≡ true → AllDigits 10 ds
-digits_all [] all = tt
-digits_all (d ∷ ds) all =
-    let both = both_true (is_ascii_digit d) (list_all is_ascii_digit ds) all in
-    let inside = both_true (nat_le 48 d) (nat_le d 57) both.0 in
-    let most = leb-true d 57 inside.1 in
-    (omega (arith, digit_value_digit d (leb-true 48 d inside.0, most), most), digits_all ds both.1)
-
-all_digits : (ds : List ℕ) → AllDigits 10 ds → list_all is_ascii_digit ds ≡ true
-all_digits [] all = refl
-all_digits (d ∷ ds) all =
-    let inside = digit_from_value d all.0 in
-    rw (le-leb 48 d inside.0, le-leb d 57 inside.1) (all_digits ds all.1)
-
--- what a test of each byte says
-pub digits_are : (ds : List ℕ) (all : Bool) → all ≡ list_all is_ascii_digit ds → (all ≡ true → AllDigits 10 ds) × (AllDigits 10 ds → all ≡ true)
-digits_are ds all told = (λ e. digits_all ds (sym told ∙ e), λ d. told ∙ all_digits ds d)
+-- after another byte there are none
+pub no_digit : (all rest more : List ℕ) (d : ℕ) → rest ≡ d ∷ more → is_ascii_digit d ≡ false → (AllDigits 10 all → AllDigits 10 rest) → AllDigits 10 all → ⊥
+no_digit all rest more d is other same a =
+    let inside = digit_from_value d (subst (AllDigits 10) is (same a)).0 in
+    let digit : is_ascii_digit d ≡ true = rw (le-leb 48 d inside.0, le-leb d 57 inside.1) refl in
+    let bad : true ≡ false = sym digit ∙ other in cc
 
 -- a decimal number is no name
 pub no_number : (text : Text) (heading : Bool) (f : WordsFault) → IsDecimal text → IsNoNumber text f → IsNoColumn text heading f

@@ -64,11 +64,18 @@ fn without_plus(text: &[u8]) -> &[u8]
 }
 
 /// Whether each byte is a digit.
-#[tactic(auto, using(crate::proofs::ValueLemmas::digits_are))]
+#[tactic(auto, using(crate::proofs::ValueLemmas::digits_next, crate::proofs::ValueLemmas::no_digit))]
 fn are_digits(bytes: &[u8]) -> bool
     ensures { IsTrue result ↔ AllDigits 10 bytes.now }
 {
-    bytes.iter().all(|byte| byte.is_ascii_digit())
+    let mut rest = bytes;
+    while let Some((byte, more)) = rest.split_first() {
+        if !byte.is_ascii_digit() {
+            return false;
+        }
+        rest = more;
+    }
+    true
 }
 
 /// Whether a text is a decimal number, which a plus may begin.
