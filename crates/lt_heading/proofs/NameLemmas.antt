@@ -1,30 +1,25 @@
 -- Names, one after another.
-use Rattle.std.proofs.Common.{◌≡◌, ◌≢◌, ◌≤◌, ◌<◌, ◌+◌, ◌==◌, ◌&&◌, ◌++◌, ◌∷◌, ◌∙◌, ℕ, Bool, true, false, List, [], inl, inr, length, sym, ap, refl, subst, arith, append_assoc, append-nil, length-append, drop, get_or, drop-cons, add-one, eq-eqb}
+use Rattle.std.proofs.Common.{◌≡◌, ◌≢◌, ◌≤◌, ◌<◌, ◌+◌, ◌++◌, ◌∷◌, ◌∙◌, ℕ, Bool, true, false, List, [], inl, inr, length, sym, ap, refl, subst, arith, append_assoc, length-append}
 use Rattle.std.specs.List.{AllByRecursion, flat_map}
 use Rattle.std.proofs.lemmas.List.{flat_map_more, nil_from_length}
-use Rattle.lt_rows.specs.Rows.{HasField, IsAfterField, IsEnded, IsRowField, separated, separator}
+use Rattle.lt_rows.specs.Rows.{HasField, IsAfterField, IsClosed, IsEnded, IsRowField, separated, separator}
 use Rattle.lt_rows.specs.declared.rows.Separator.{Separator}
 use Rattle.lt_rows.proofs.RowLemmas.{each-last}
-use Rattle.lt_heading.specs.Names.{AreNames, IsFound, IsNameOf, IsOnly, IsRepeated, Lacks, LooksSo, found_then, shown_name, shown_names, undoubled}
+use Rattle.lt_heading.specs.Names.{AreNames, IsFound, IsNameOf, IsOnly, IsRepeated, Lacks, LooksSo, found_then, shown_name, shown_names}
 use Rattle.lt_heading.specs.declared.names.Found.{Found}
 use Rattle.lt_heading.specs.declared.names.Found.TheVariants as founds
 
--- ---- doubled quotes
-
--- the next byte of a text is left out
-pub quote_left : (text name whole : List ℕ) (i : ℕ) → i < length text → get_or text i 0 ≡ 34
-    → name ++ undoubled true (drop i text) ≡ whole → name ++ undoubled false (drop (i + 1) text) ≡ whole
-quote_left text name whole i below is h = rw (drop-cons text i 0 below, eq-eqb (get_or text i 0) 34 is, ← add-one i) at h
-
--- it stays
-pub byte_kept : (text name whole : List ℕ) (i : ℕ) (after : Bool) → i < length text → (after && (get_or text i 0 == 34)) ≡ false
-    → name ++ undoubled after (drop i text) ≡ whole
-    → (name ++ get_or text i 0 ∷ []) ++ undoubled (get_or text i 0 == 34) (drop (i + 1) text) ≡ whole
-byte_kept text name whole i after below stays h =
-    append_assoc name (get_or text i 0 ∷ []) (undoubled (get_or text i 0 == 34) (drop (i + 1) text))
-    ∙ rw (drop-cons text i 0 below, stays, ← add-one i) at h
-
 -- ---- where a name stands
+
+-- a name that is repeated stays so
+repeated_more : (name : List ℕ) (names : List (List ℕ)) (other : List ℕ) → IsRepeated name names → IsRepeated name (names ++ other ∷ [])
+repeated_more name names other f = record {
+  first = f.first;
+  between = f.between;
+  last = f.last ++ other ∷ [];
+  cut = ap (λ l. l ++ other ∷ []) f.cut ∙ append_assoc f.first (name ∷ (f.between ++ name ∷ f.last)) (other ∷ [])
+      ∙ ap (λ l. f.first ++ name ∷ l) (append_assoc f.between (name ∷ f.last) (other ∷ []));
+}
 
 -- with one name more
 pub found_more : (name : List ℕ) (names : List (List ℕ)) (found : Found) (number : ℕ) (is : Bool) (other : List ℕ) → number ≡ length names + 1
@@ -55,22 +50,21 @@ found_more name names (founds.Only m) number true other n same same_is f = recor
 }
 found_more name names founds.Repeated number true other n same same_is f = repeated_more name names other f
 
--- a name that is repeated stays so
-repeated_more : (name : List ℕ) (names : List (List ℕ)) (other : List ℕ) → IsRepeated name names → IsRepeated name (names ++ other ∷ [])
-repeated_more name names other f = record {
-  first = f.first;
-  between = f.between;
-  last = f.last ++ other ∷ [];
-  cut = ap (λ l. l ++ other ∷ []) f.cut ∙ append_assoc f.first (name ∷ (f.between ++ name ∷ f.last)) (other ∷ [])
-      ∙ ap (λ l. f.first ++ name ∷ l) (append_assoc f.between (name ∷ f.last) (other ∷ []));
-}
-
 -- ---- the fields of a row
 
 -- the first field of a row
 pub first_is : (S : Separator) (row front field after : List ℕ) → HasField S 0 row front field after → row ≡ field ++ after
 first_is S row front field after h =
-    h.row_is ∙ ap (λ l. l ++ (field ++ after)) (h.front_is ∙ ap (separated S) (nil_from_length h.before h.number))
+    let none : front ≡ [] = h.front_is ∙ ap (separated S) (nil_from_length h.before h.number) in
+    rw none at h.row_is
+
+-- and what follows it, where that is anything
+pub after_is : (S : Separator) (field after more : List ℕ) (byte : ℕ) → IsAfterField S field after → after ≡ byte ∷ more → IsClosed S field × (after ≡ separator S ∷ more)
+after_is S field after more byte (inl none) is = let bad : [] ≡ byte ∷ more = sym none ∙ is in cc
+after_is S field after more byte (inr e) is =
+    let both : separator S ∷ e.0 ≡ byte ∷ more = sym e.2 ∙ is in
+    let tails : e.0 ≡ more = cc in
+    (e.1, e.2 ∙ ap (λ l. separator S ∷ l) tails)
 
 -- one name more, which another follows
 names_more : (S : Separator) (row rest field more name : List ℕ) (names : List (List ℕ))

@@ -56,8 +56,8 @@ module _ (S : Separator) (old piece text : List ℕ) (place : Place) (rest : Lis
       )
 
       -- it is within quotes
-      open : is_quoted next ≡ true → is_open S mid ≡ true
-      open inside = ap is_quoted (sym part_so_far.place_is) ∙ inside
+      inside_of : is_quoted next ≡ true → is_open S mid ≡ true
+      inside_of inside = ap is_quoted (sym part_so_far.place_is) ∙ inside
 
       pub turn_next : (more : List ℕ) (further : Place) → is_quoted next ≡ true → AppendsPart S next (10 ∷ []) mid more (Ok further) → TextTurn S old piece more further after
       turn_next more further inside b = record {
@@ -66,7 +66,7 @@ module _ (S : Separator) (old piece text : List ℕ) (place : Place) (rest : Lis
         text_is = b.0 ∙ ap (λ l. l ++ 10 ∷ []) (a.0 ∙ ap (λ l. l ++ part) t.text_is ∙ append_assoc old t.front part) ∙ append_assoc old (t.front ++ part) (10 ∷ [])
             ∙ ap (λ l. old ++ l) (append_assoc t.front part (10 ∷ []));
         so_far = record {
-          one = rw b.0 (feed_within S mid part_so_far.one (open inside));
+          one = rw b.0 (feed_within S mid part_so_far.one (inside_of inside));
           place_is = rw (b.0, place_more S mid (10 ∷ []), ← part_so_far.place_is) b.1;
           short = b.2;
         };
@@ -77,7 +77,7 @@ module _ (S : Separator) (old piece text : List ℕ) (place : Place) (rest : Lis
       turn_feed_long more last f inside (inl memory) = inl memory
       turn_feed_long more last f inside (inr long) = inr (
         long.0,
-        record { begun = mid ++ 10 ∷ []; rest = after; cut = sym (append_assoc mid (10 ∷ []) after ∙ whole_after); one = feed_within S mid part_so_far.one (open inside); long = long.1 },
+        record { begun = mid ++ 10 ∷ []; rest = after; cut = sym (append_assoc mid (10 ∷ []) after ∙ whole_after); one = feed_within S mid part_so_far.one (inside_of inside); long = long.1 },
       )
 
   -- a part of the rest makes the row too long

@@ -103,15 +103,6 @@ pub fn find_column<R: Read>(
     let heading = heading_in(&first.text, end);
     let looked = look_up(alloc, separator, heading, name.as_bytes())?;
     let number = pick_column(alloc, &looked, name)?;
-    let FirstRow {
-        mut mark,
-        text,
-        is_begun: _,
-        place: _,
-    } = first;
-    mark.extend_from_slice(&text)?;
-    Ok(FoundColumn {
-        number,
-        front: mark,
-    })
+    let front = first.into_bytes()?;
+    Ok(FoundColumn { number, front })
 }

@@ -1,12 +1,12 @@
 //! Reading the first row of a text.
-ghost use Rattle.std.specs.Prelude.{◌≡◌, []};
+ghost use Rattle.std.specs.Prelude.{◌≡◌, [], IfOk};
 ghost use Rattle.lt_heading.specs.Headings as spec;
 ghost use Rattle.lt_heading.specs.Headings.{AppendsPart, BeginsText, EndsText, FinishesText, IsGoing, IsRowSoFar, IsUndecided, ReadsHeading, TakesPiece, TakesText};
 
 use lt_jar::Device;
 use lt_lines::ToolFault;
 use lt_rows::{Place, Separator, after_text, is_wide, may_be_mark, split_first, split_mark};
-use std::alloc::Global;
+use std::alloc::{AllocError, Global};
 use std::io::Read;
 
 /// The most bytes of a row: 16 MiB.
@@ -82,7 +82,7 @@ fn take_text(
         *place = append_part(separator, text, *place, part)?;
         if !place.is_quoted() {
             let end = text.len();
-            text.push(b'\n')?;
+            text.extend_from_slice(b"\n")?;
             text.extend_from_slice(after)?;
             return Ok(Some(end));
         }
@@ -96,7 +96,7 @@ fn take_text(
 impl FirstRow {
     /// Nothing taken so far.
     pub(crate) fn new(alloc: Global) -> FirstRow
-        ensures { IsUndecided result }
+        ensures undecided { IsUndecided result }
         ensures nothing { spec.taken_by result ≡ [] }
     {
         FirstRow {
@@ -143,8 +143,21 @@ impl FirstRow {
         self.begin(separator)
     }
 
+    /// All bytes that were taken.
+    pub(crate) fn into_bytes(self) -> Result<Vec<u8>, AllocError>
+        ensures { IfOk result (λ bytes. bytes.items ≡ spec.taken_by self) }
+    {
+        let FirstRow {
+            mut mark,
+            text,
+            is_begun: _,
+            place: _,
+        } = self;
+        mark.extend_from_slice(&text)?;
+        Ok(mark)
+    }
+
     /// Ends the text, which is one row, and tells its length.
-    #[tactic(auto, using(crate::proofs::TakenLemmas::whole_row))]
     fn end_text(&self) -> Result<usize, ToolFault>
         ensures { (separator : Separator) → EndsText separator self.now result }
     {
