@@ -75,10 +75,13 @@ shown_name name = 32 ∷ 34 ∷ escaped name ++ 34 ∷ []
 abbrev pub shown_names : List (List ℕ) → List ℕ
 shown_names names = flat_map shown_name names
 
--- the line for a name that no column has, or more than one: whose name that is, and all names
+-- a line that says whose name this is, and all names, which are shown already
+abbrev pub shown_line : (whose shown listed : List ℕ) → List ℕ
+shown_line whose shown listed = codes "error: " ++ whose ++ codes " has the name" ++ shown ++ codes "; names:" ++ listed ++ 10 ∷ []
+
+-- the line for a name that no column has, or more than one
 abbrev pub name_line : (whose : List ℕ) → (name : List ℕ) → List (List ℕ) → List ℕ
-name_line whose name names =
-    codes "error: " ++ whose ++ codes " has the name" ++ shown_name name ++ codes "; names:" ++ shown_names names ++ 10 ∷ []
+name_line whose name names = shown_line whose (shown_name name) (shown_names names)
 
 -- ---- the steps
 

@@ -4,7 +4,7 @@ ghost use Rattle.std.specs.Option.{option_map};
 ghost use Rattle.lt_lines.specs.declared.faults.ToolFault.TheVariants.{OutOfMemory};
 ghost use Rattle.lt_heading.specs.Finding.{FindsColumn, PicksColumn};
 ghost use Rattle.lt_heading.specs.Headings as spec;
-ghost use Rattle.lt_heading.specs.Names.{IsFound, name_line, shown_names};
+ghost use Rattle.lt_heading.specs.Names.{IsFound, shown_line, shown_names};
 ghost use Rattle.lt_heading.specs.declared.finding.ColumnFault.TheVariants.{Heading};
 
 use crate::first_rows::{FirstRow, read_heading};
@@ -49,13 +49,16 @@ impl From<AllocError> for ColumnFault {
     }
 }
 
-/// The line that says whose name a name is, and all names as they are shown.
-fn line_of(alloc: Global, whose: &str, name: &str, listed: &str) -> Result<String, AllocError>
-    ensures { IfOk result (λ line. (names : List (List ℕ)) → listed.now ≡ shown_names names → string_bytes line ≡ name_line whose.now name.now names) }
+/// The line that says whose name this is, and all names.
+fn line_of(alloc: Global, whose: &str, shown: &str, listed: &str) -> Result<String, AllocError>
+    ensures { IfOk result (λ line. string_bytes line ≡ shown_line whose.now shown.now listed.now) }
 {
-    let mut shown = String::new(alloc);
-    append_shown(&mut shown, alloc, name.as_bytes())?;
-    Ok(format!(in alloc; "error: {whose} has the name{shown}; names:{listed}\n")?)
+    let mut line = format!(in alloc; "error: {whose} has the name")?;
+    line.push_str(shown)?;
+    line.push_str("; names:")?;
+    line.push_str(listed)?;
+    line.push('\n')?;
+    Ok(line)
 }
 
 /// The number of the only column of a name.
@@ -67,7 +70,9 @@ fn pick_column(alloc: Global, looked: &Looked, name: &str) -> Result<usize, Colu
         Found::Missing => "no column",
         Found::Repeated => "more than one column",
     };
-    Err(ColumnFault::Name(line_of(alloc, whose, name, &looked.listed)?))
+    let mut shown = String::new(alloc);
+    append_shown(&mut shown, alloc, name.as_bytes())?;
+    Err(ColumnFault::Name(line_of(alloc, whose, &shown, &looked.listed)?))
 }
 
 /// The part of a text before this place, if there is a text.

@@ -42,11 +42,25 @@ reads g c =
       c.deref.ensures.value ∙ refilled held.len held.items c.read.new.buf held.ok.0 full,
     )
 
-pub returns-in_err-take_piece-in-Ok : goal.returns-in_err-take_piece-in-Ok
-returns-in_err-take_piece-in-Ok g c =
-    let p = err_from_is_err_and c.from_residual-in_err-take_piece-in-Ok.result c.from_residual-in_err-take_piece-in-Ok.ensures.1 in
-    let read = reads g (goal.at.returns-in_err-take_piece-in-Ok g c).After-deref in
-    rw (p.1, p.2) (read_stopped _ _ _ _ _ _ c.loop-read.invariant.turn _ _ _ _ c.loop-read-test.true read.1 (rw read.2 at c.in_err-take_piece-in-Ok.ensures))
+pub returns-in_err-end-in-Ok : goal.returns-in_err-end-in-Ok
+returns-in_err-end-in-Ok g c =
+    let p = err_from_is_err_and c.from_residual-in_err-end-in-Ok.result c.from_residual-in_err-end-in-Ok.ensures.1 in
+    let read = reads g (goal.at.returns-in_err-end-in-Ok g c).After-deref in
+    rw (p.1, p.2) (read_stopped _ _ _ _ _ _ c.loop-read.invariant.turn _ _ _ _ c.loop-read-test.true read.1 (rw read.2 at c.in_err-end-in-Ok.ensures))
+
+pub returns-in-Some : goal.returns-in-Some
+returns-in-Some g c =
+    let read = reads g (goal.at.returns-in-Some g c).After-deref in
+    read_ended _ _ _ _ _ _ c.loop-read.invariant.turn _ _ _ _ c.loop-read-test.true read.1 (rw (c.in-Some.is, read.2) at c.in_ok-end-in-Ok.ensures)
+
+pub loop-read-preserved : goal.loop-read-preserved
+loop-read-preserved g c =
+    let held = c.loop-read.buffer in
+    let read = reads g (goal.at.loop-read-preserved g c).After-deref in
+    record {
+      turn = read_next _ _ _ _ _ _ c.loop-read.invariant.turn _ _ _ read.1 (rw (c.in_default.is, read.2) at c.in_ok-end-in-Ok.ensures);
+      buffer = ap length (refilled held.len held.items c.read.new.buf held.ok.0 (read.0 ∙ sym c.loop-read.invariant.buffer)) ∙ read.0;
+    }
 
 pub returns-in-Err : goal.returns-in-Err
 returns-in-Err g c =

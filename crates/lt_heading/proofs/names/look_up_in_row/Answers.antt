@@ -8,7 +8,7 @@ use Rattle.lt_heading.proofs.names.look_up_in_row.Goals as goal
 
 -- what a comparison says
 same_of : (r : Bool) (xs ys : List ℕ) → r ≡ bytes_eq xs ys → (r ≡ true → xs ≡ ys) × (xs ≡ ys → r ≡ true)
-same_of r xs ys is = ?
+same_of r xs ys is = rw is (bytes_eq-Decides xs ys)
 
 pub returns-in-None : goal.returns-in-None
 returns-in-None c =
