@@ -49,7 +49,7 @@ use Rattle.lt_tag.specs.declared.faults.OutOfMemory.{OutOfMemory}
 use Rattle.lt_tool.specs.TagCommands.{Compares, Explains, FormsExtlang}
 use Rattle.lt_tool.specs.UpgradeCommand.{UpgradesFiles}
 use Rattle.lt_tool.specs.Verified.{Verifies}
-use Rattle.lt_tool.specs.Streams.{IsUntouched, HandsNone, Stream, Handed}
+use Rattle.lt_tool.specs.Streams.{IsUntouched, HandsNone, Stream, Handed, stream}
 use Rattle.lt_tool.specs.Written.{LacksMemory, Prints, Says}
 use Rattle.lt_tool.specs.declared.status.Status.{Status}
 use Rattle.lt_tool.specs.declared.status.Status.TheVariants as status

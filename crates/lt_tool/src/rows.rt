@@ -1,5 +1,5 @@
 //! What is answered to rows.
-ghost use Rattle.std.specs.Prelude.{◌≡◌, ◌×◌};
+ghost use Rattle.std.specs.Prelude.{◌≡◌};
 ghost use Rattle.std.specs.Io.KnownBytes.{prepend_known};
 ghost use Rattle.lt_jar.specs.Devices.{inner_of};
 ghost use Rattle.lt_registry.specs.ReadRegistry.{Reading};
