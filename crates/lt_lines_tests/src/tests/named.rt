@@ -239,10 +239,10 @@ fn names_are_numbers(rt: HostRuntime) -> Result<(), Fail> {
 fn is_failed(ended: &Option<Ended>, wanted: &Option<Ended>, whole: &[u8]) -> bool {
     match (ended, wanted) {
         (Some(ended), Some(wanted)) => {
-            let printed = if wanted.output.len() > 3 { wanted.output.as_slice() } else { b"" };
+            let printed = if wanted.output.len() > 3 { wanted.output.as_slice() } else { b"".as_slice() };
             whole.starts_with(&ended.output)
                 && ended.output.as_slice() == printed
-                && ended.errors.as_slice() == b"! Read\n"
+                && ended.errors.as_slice() == b"! Read\n".as_slice()
                 && ended.status == 4
         }
         _ => false,
