@@ -100,9 +100,10 @@ printf '\tde\n' >> long
 "$program" tsv "$sample" 2 < long > out 2> err; ended=$?
 tail -c 5 out > end; mv end out
 (exit "$ended"); is 'tsv: a long row' 0 '\tde\t\n' ''
-for column in 0 two; do
-    "$program" tsv "$sample" "$column" < rows > out 2> err; is "tsv: the column $column" 3 '' "error: COLUMN is a number from 1, and not $column\n\nFor more information, try '--help'.\n"
+for column in 0 18446744073709551616; do
+    "$program" tsv --heading "$sample" "$column" < rows > out 2> err; is "tsv: the column $column" 3 '' "error: COLUMN is a number from 1, and not $column\n\nFor more information, try '--help'.\n"
 done
+"$program" tsv "$sample" two < rows > out 2> err; is 'tsv: a name without a heading' 3 '' "error: without --heading COLUMN is a number from 1, and not two\n\nFor more information, try '--help'.\n"
 "$program" tsv "$sample" -1 < rows > out 2> usage; ended=$?
 head -n 1 usage > err
 (exit "$ended"); is 'tsv: the column -1' 3 '' "error: unexpected argument '-1' found\n"
@@ -162,6 +163,27 @@ rm long
 "$program" csv --keep "$sample" 2 < records > out 2> err; is 'csv --keep' 1 'id,tag,langtag,langtag_fault\r\n"a\n,b",zh-yue,yue,\r\n2,"en_US",,BadByte 1\n3,,NoColumn\n' ''
 "$program" csv "$sample" 2 --keep < marked > out 2> err; is 'csv --keep: a mark before the heading' 0 '\357\273\277"Title\n(German)",tag,langtag,langtag_fault\nx,iw,he,\n' ''
 printf 'id,tag\n1\rx,iw\n2,"iw"\n"3' | "$program" csv --keep "$sample" 2 > out 2> err; is 'csv --keep: an open quote' 4 'id,tag,langtag,langtag_fault\n1\rx,iw,,BadReturn\n2,"iw",he,\n' '! BadCsv line 4\n'
+
+# columns by their names in the heading
+"$program" csv "$sample" tag < records > out 2> err; is 'csv: a name' 1 'id,tag,langtag_fault\r\n"a\n,b",yue,\r\n2,"en_US",BadByte 1\n3,NoColumn\n' ''
+dd bs=1 status=none < records | "$program" csv "$sample" tag > out 2> err; is 'csv: a name, byte by byte' 1 'id,tag,langtag_fault\r\n"a\n,b",yue,\r\n2,"en_US",BadByte 1\n3,NoColumn\n' ''
+"$program" csv --keep "$sample" tag < marked > out 2> err; is 'csv --keep: a name after a mark' 0 '\357\273\277"Title\n(German)",tag,langtag,langtag_fault\nx,iw,he,\n' ''
+printf '\357\273\277tag,"say ""tag""",tag\nde,iw,x\n' > twice
+"$program" csv "$sample" 'say "tag"' < twice > out 2> err; is 'csv: a name with quotes' 0 '\357\273\277tag,"say ""tag""",tag,langtag_fault\nde,he,x,\n' ''
+"$program" csv "$sample" tag < twice > out 2> err; is 'csv: a name that stands twice' 3 '' 'error: more than one column has the name "tag"; names: "tag" "say "tag"" "tag"\n'
+"$program" csv "$sample" Tag < records > out 2> err; is 'csv: a name that is missing' 3 '' 'error: no column has the name "Tag"; names: "id" "tag"\n'
+printf 'Gr\303\266\303\237e\033,tag\n' | "$program" csv "$sample" x > out 2> err; is 'csv: names as they are told' 3 '' 'error: no column has the name "x"; names: "Gr\\\\xc3\\\\xb6\\\\xc3\\\\x9fe\\\\x1b" "tag"\n'
+"$program" csv "$sample" tag < empty > out 2> err; is 'csv: a name in no row' 3 '' 'error: no column has the name "tag"; names:\n'
+printf 'id,"tag' | "$program" csv "$sample" tag > out 2> err; is 'csv: a heading in an open quote' 4 '' '! BadCsv line 1\n'
+printf '\377\376i\0' | "$program" csv "$sample" tag > out 2> err; is 'csv: a name in UTF-16' 4 '' '! Utf16\n'
+"$program" csv "$sample" tag < . > out 2> err; is 'csv: a heading that fails' 4 '' '! Read\n'
+"$program" csv other tag < records > out 2> err; is 'csv: a name, and the registry is refused' 2 'jar BadLine line 1\n' ''
+head -c 16777217 /dev/zero | "$program" csv "$sample" tag > out 2> err; is 'csv: a heading that is too long' 4 '' '! BadCsv line 1\n'
+head -c 16777217 /dev/zero | "$program" tsv --heading "$sample" tag > out 2> err; is 'tsv: a heading that is too long' 4 '' '! BadTsv line 1\n'
+printf 'tag;id\nIW;1\n' | "$program" csv --delimiter ';' "$sample" tag > out 2> err; is 'csv: a name, and semicolons' 0 'tag;id;langtag_fault\nhe;1;\n' ''
+printf 'id\t"tag\r\n1\tIW\r\n' | "$program" tsv --heading "$sample" '"tag' > out 2> err; is 'tsv: a name' 0 'id\t"tag\tlangtag_fault\r\n1\the\t\r\n' ''
+: > out
+"$program" csv "$sample" tag < records > /dev/full 2> err; is 'csv: a name, and full output' 4 '' '! Write\n'
 
 # another byte between the fields, in either place, and words that are refused
 printf 'id;tag\r\n"a;b";zh-yue\r\n1,5;"en_US"\n3\n' > semicolons
@@ -230,7 +252,7 @@ run check .; is 'check: a folder' 4 'jar Read line 1\n' ''
 grep '^Usage: ' help > out
 (exit "$ended"); is help 0 'Usage: langtag <COMMAND>\n' ''
 sed -n '/^Status:/,$p' help > out
-(exit "$ended"); is 'help: the statuses' 0 'Status:\n  0  done\n  1  a tag was refused, or the tags are different, or the steps are no explanation\n  2  a registry or an upgrade was refused\n  3  the words name no command\n  4  a file, the input, the output or memory failed\n' ''
+(exit "$ended"); is 'help: the statuses' 0 'Status:\n  0  done\n  1  a tag was refused, or the tags are different, or the steps are no explanation\n  2  a registry or an upgrade was refused\n  3  the words name no command, or a column that is missing or stands twice\n  4  a file, the input, the output or memory failed\n' ''
 "$program" --version < empty > version 2> err; ended=$?
 cut -d '(' -f 1 version > out
 (exit "$ended"); is version 0 "langtag $number \n" ''
@@ -284,6 +306,8 @@ on_terminal tsv "$sample" 1; is 'tsv at a terminal' 1 'yue\t\nxx\tUnknownLanguag
 on_terminal csv "$sample" 1; is 'csv at a terminal' 1 'zh-yue,langtag_fault\nxx,UnknownLanguage 1\nen_US,BadByte 1\n' "3 records, 2 refused\n$of_records"
 printf 'id,note,tag\n1,"see, File\nmore Read",zh-yue\n' > input
 on_terminal csv "$sample" 3; is 'csv at a terminal: words that look like faults' 0 'id,note,tag,langtag_fault\n1,"see, File\nmore Read",yue,\n' '2 records, 0 refused\n'
+printf 'id,my File here\n' > input
+on_terminal csv "$sample" tag; is 'csv at a terminal: names that look like faults' 3 '' 'error: no column has the name "tag"; names: "id" "my File here"\n'
 yes en | head -n 2500000 > input
 on_terminal canon "$sample"; ended=$?; tr '\r' '\n' < err | sed 's/[0-9]\{5\} lines$/..... lines/' > told; mv told err; cmp -s input out && : > out
 (exit "$ended"); is 'a long run at a terminal' 0 '' '10..... lines\n20..... lines\n2500000 lines, 0 refused\n'

@@ -1,5 +1,6 @@
 //! Rows and records.
 mod growths;
+mod named;
 mod records;
 mod rows;
 mod rows_kept;

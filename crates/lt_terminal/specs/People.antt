@@ -74,10 +74,14 @@ place_line (byte ∷ place) = map shown_byte (byte ∷ place) ++ 10 ∷ []
 abbrev pub place_told : (result : ℕ) → (place : List ℕ) → List ℕ
 place_told result place = if result == 2 then place_line place else []
 
+-- what is said of the errors; a name that no column has is told there with all names, which are not searched for faults
+abbrev pub errors_told : (result : ℕ) → (refusal said : List ℕ) → List ℕ
+errors_told result refusal said = if result == 3 then [] else meaning_of said ++ refusal_of refusal (meaning_of said)
+
 -- the lines that a person is told by the front of the output and that of the errors
 abbrev pub told_lines : Option (List ℕ) → (result : ℕ) → Answered → (place refusal shown said : List ℕ) → List ℕ
 told_lines unit result answered place refusal shown said =
-    told_of unit result answered shown ++ place_told result place ++ meaning_of said ++ refusal_of refusal (meaning_of said)
+    told_of unit result answered shown ++ place_told result place ++ errors_told result refusal said
 
 -- the front of the bytes that a writer holds, where they are known
 abbrev pub IsFront : Option (List ℕ) → List ℕ → Type 0

@@ -147,9 +147,17 @@ fn append_place(told: &mut Vec<u8>, status: u8, place: &str) -> Result<(), Alloc
 }
 
 /// Appends what is said of the errors.
-fn append_errors(told: &mut Vec<u8>, refusal: &str, said: &[u8]) -> Result<(), AllocError>
-    ensures { OnOk result (told.new.items ≡ told.old.items ++ (spec.meaning_of said.now ++ spec.refusal_of refusal.now (spec.meaning_of said.now))) }
+fn append_errors(
+    told: &mut Vec<u8>,
+    status: u8,
+    refusal: &str,
+    said: &[u8],
+) -> Result<(), AllocError>
+    ensures { OnOk result (told.new.items ≡ told.old.items ++ spec.errors_told status refusal.now said.now) }
 {
+    if status == Status::Usage.code() {
+        return Ok(());
+    }
     let start = told.len();
     append_meaning(told, said)?;
     if told[start..].starts_with(b"File: ") {
@@ -183,7 +191,7 @@ fn lines_of(
     let mut told = Vec::new(alloc);
     append_output(&mut told, alloc, unit, status, answered, shown)?;
     append_place(&mut told, status, place)?;
-    append_errors(&mut told, refusal, said)?;
+    append_errors(&mut told, status, refusal, said)?;
     Ok(told)
 }
 

@@ -1,4 +1,5 @@
 -- Lemmas on the program's calls.
+pub mod AheadLemmas
 pub mod AnswerLemmas
 pub mod VerdictLemmas
 pub mod ExplainedLemmas

@@ -1,6 +1,12 @@
 -- What the program prints, and how it ends.
-use Rattle.std.specs.Prelude.{◌≡◌, ◌⊎◌, ◌-◌, ℕ, List, [], ◌∷◌, ◌++◌, ◌==◌, if◌then◌else◌, Result, Ok, Err, codes, string_bytes}
+use Rattle.std.specs.Prelude.{◌≡◌, ◌⊎◌, ◌-◌, ℕ, List, [], ◌∷◌, ◌++◌, ◌==◌, if◌then◌else◌, Option, Some, Result, Ok, Err, codes, string_bytes}
+use Rattle.std.specs.Borrow.{Bor, MutBor}
+use Rattle.std.specs.Io.Chain.{chain_remaining}
+use Rattle.std.specs.Io.KnownBytes.{Keeps}
 use Rattle.std.specs.Result.{result_ok}
+use Rattle.std.specs.declared.io.traits.Chain.{Chain}
+use Rattle.lt_jar.specs.Devices.{inner_of}
+use Rattle.lt_jar.specs.declared.devices.Device.{Device}
 use Rattle.lt_tag.specs.Classes.{class_of}
 use Rattle.lt_tag.specs.Conventional.{conventional}
 use Rattle.lt_tag.specs.Faults.{HasFault, HasTag}
@@ -24,6 +30,14 @@ use Rattle.lt_lines.specs.declared.faults.ToolFault.{ToolFault}
 use Rattle.lt_lines.specs.declared.faults.ToolFault.TheVariants as faults
 use Rattle.lt_lines.specs.declared.runs.Counts.{Counts}
 use Rattle.lt_tallies.specs.declared.Tally.{Tally}
+use Rattle.lt_rows.specs.declared.rows.Separator.{Separator}
+use Rattle.lt_rows.specs.declared.rows.Separator.TheVariants as separators
+use Rattle.lt_heading.specs.Finding.{FindsColumn}
+use Rattle.lt_heading.specs.declared.finding.ColumnFault.{ColumnFault}
+use Rattle.lt_heading.specs.declared.finding.ColumnFault.TheVariants as column_faults
+use Rattle.lt_heading.specs.declared.finding.FoundColumn.{FoundColumn}
+use Rattle.lt_words.specs.declared.commands.Column.{Column}
+use Rattle.lt_words.specs.declared.commands.Column.TheVariants as columns
 use Rattle.lt_words.specs.declared.commands.Command.{Command}
 use Rattle.lt_words.specs.declared.commands.Command.TheVariants as command
 use Rattle.lt_words.specs.declared.commands.Rows.{Rows}
@@ -36,7 +50,7 @@ use Rattle.lt_tag.specs.declared.faults.OutOfMemory.{OutOfMemory}
 use Rattle.lt_tool.specs.TagCommands.{Compares, Explains, FormsExtlang}
 use Rattle.lt_tool.specs.UpgradeCommand.{UpgradesFiles}
 use Rattle.lt_tool.specs.Verified.{Verifies}
-use Rattle.lt_tool.specs.Streams.{IsUntouched, HandsNone, Stream, Handed}
+use Rattle.lt_tool.specs.Streams.{IsUntouched, HandsNone, Stream, Handed, stream}
 use Rattle.lt_tool.specs.Written.{LacksMemory, LacksRest, Prints, Says}
 use Rattle.lt_tool.specs.declared.status.Status.{Status}
 use Rattle.lt_tool.specs.declared.status.Status.TheVariants as status
@@ -91,10 +105,6 @@ tallies_after (Err faults.Write) tallies = []
 tallies_after (Err faults.OutOfMemory) tallies = []
 tallies_after end tallies = tallies
 
--- the form of rows whose words are these
-abbrev pub row_form : Rows → RowForm
-row_form rows = record { before = rows.column - 1; has_heading = rows.heading; is_kept = rows.keep }
-
 -- the lines of the input were answered by the registry of the file
 pub record RunsCanon {I O E : Type 0} (form : LineForm) (reading : Reading)
     (input : Stream I) (output : Stream O) (errors : Stream E) (answered : Handed) (result : ℕ) : Type 0 where
@@ -113,6 +123,70 @@ abbrev pub Canonicalises : {I O E : Type 0} → LineForm → Stream I → Stream
 Canonicalises form input output errors answered result reading =
     (IsUntouched input × HandsNone answered × PrintsOrLacks (RefusesRegistry reading) output errors result)
     ⊎ RunsCanon form reading input output errors answered result
+
+-- ---- rows
+
+-- the form of rows whose words are these, and whose column has this number
+abbrev pub row_form : Rows → ℕ → RowForm
+row_form rows number = record { before = number - 1; has_heading = rows.heading; is_kept = rows.keep }
+
+-- the form of their lines
+abbrev pub line_form : Separator → Rows → ℕ → LineForm
+line_form separators.Tab rows number = forms.Row (row_form rows number)
+line_form (separators.Delimiter delimiter) rows number = forms.Csv (row_form rows number) delimiter
+
+-- a reader of bytes that were read ahead, and then of a device
+abbrev pub Ahead : Type 0 → Type 0
+Ahead I = Chain (Bor (List ℕ)) (MutBor (Device I))
+
+-- the bytes that it will give, where they are known
+abbrev pub bytes_ahead : {I : Type 0} → (I → Option (List ℕ)) → Ahead I → Option (List ℕ)
+bytes_ahead bytes ahead = chain_remaining (λ front. Some front.now) (λ rest. bytes (inner_of rest.now)) ahead
+
+-- the lines of these bytes, where they are known, were answered, some of which were read ahead
+pub record RunsAfter {I O E : Type 0} (form : LineForm) (reading : Reading) (bytes : I → Option (List ℕ))
+    (all : Option (List ℕ)) (output : Stream O) (errors : Stream E) (answered : Handed) (result : ℕ) : Type 0 where
+  pub before : Device (Ahead I)
+  pub after : Device (Ahead I)
+  pub same : Keeps all (bytes_ahead bytes (inner_of before))
+  pub runs : RunsCanon form reading (stream (bytes_ahead bytes) before after) output errors answered result
+
+-- a run that can't go on says why on its errors, and has printed nothing
+pub record SaysUsage {O E : Type 0} (output : Stream O) (errors : Stream E) (text : List ℕ) (result : ℕ) : Type 0 where
+  pub usage : result ≡ code_of status.Usage
+  pub printed : IsUntouched output
+  pub said : Says errors text
+
+-- how a run ended by what was found of the column: the lines of all bytes of the input were answered by its number; or no
+-- more was read, and the errors say why
+abbrev pub EndsNamed : {I O E : Type 0} → Separator → Rows → Reading → Stream I → (between : Device I) → Stream O → Stream E
+    → Handed → ℕ → Result FoundColumn ColumnFault → Type 0
+EndsNamed S rows reading input between output errors answered result (Ok found) =
+    RunsAfter (line_form S rows found.number) reading input.bytes (input.bytes (inner_of input.before)) output errors answered result
+EndsNamed S rows reading input between output errors answered result (Err (column_faults.Name line)) =
+    (input.after ≡ between) × HandsNone answered × SaysUsage output errors (string_bytes line) result
+EndsNamed S rows reading input between output errors answered result (Err (column_faults.Heading f)) =
+    (input.after ≡ between) × HandsNone answered × IsUntouched output × EndsRun errors (Err f) result
+
+-- the column of a name was looked for in the heading of the input
+pub record RunsNamed {I O E : Type 0} (S : Separator) (rows : Rows) (name : List ℕ) (reading : Reading)
+    (input : Stream I) (output : Stream O) (errors : Stream E) (answered : Handed) (result : ℕ) : Type 0 where
+  pub entries : List EntryParts
+  pub registry : HoldsRegistry reading entries
+  pub between : Device I
+  pub found : Result FoundColumn ColumnFault
+  pub finds : FindsColumn S name input.bytes input.before between found
+  pub ends : EndsNamed S rows reading input between output errors answered result found
+
+-- what a run wrote that answers rows by a column, by what the reading of the file gave
+abbrev pub AnswersRows : {I O E : Type 0} → Separator → Rows → Column → Stream I → Stream O → Stream E → Handed → ℕ → Reading → Type 0
+AnswersRows S rows (columns.Number number) input output errors answered result reading =
+    Canonicalises (line_form S rows number) input output errors answered result reading
+AnswersRows S rows (columns.Name name) input output errors answered result reading =
+    (IsUntouched input × HandsNone answered × PrintsOrLacks (RefusesRegistry reading) output errors result)
+    ⊎ RunsNamed S rows (string_bytes name) reading input output errors answered result
+
+-- ---- commands
 
 -- a run that by what the reading of a file gave prints a line of which this holds
 abbrev pub PrintsByFile : {F O E : Type 0} → (Reading → List ℕ → Status → Type 0)
@@ -143,9 +217,10 @@ Performs (command.Check name) first second input output errors answered result =
 Performs (command.Canon run) first second input output errors answered result =
     IsUntouched second × ReadsFile first (Canonicalises forms.Tag input output errors answered result)
 Performs (command.Tsv run rows) first second input output errors answered result =
-    IsUntouched second × ReadsFile first (Canonicalises (forms.Row (row_form rows)) input output errors answered result)
+    IsUntouched second × ReadsFile first (AnswersRows separators.Tab rows rows.column input output errors answered result)
 Performs (command.Csv run rows delimiter) first second input output errors answered result =
-    IsUntouched second × ReadsFile first (Canonicalises (forms.Csv (row_form rows) delimiter) input output errors answered result)
+    IsUntouched second
+    × ReadsFile first (AnswersRows (separators.Delimiter delimiter) rows rows.column input output errors answered result)
 Performs (command.Extlang name tag) first second input output errors answered result =
     HandsNone answered × IsUntouched second × IsUntouched input
     × PrintsByFile (ByRegistry (λ R. FormsExtlang R (string_bytes tag))) first output errors result
@@ -161,12 +236,6 @@ Performs (command.Verify name tag) first second input output errors answered res
     (string_bytes tag) input output errors result)
 Performs (command.Upgrade old new) first second input output errors answered result =
     HandsNone answered × IsUntouched input × UpgradesFiles first second (λ IsAnswer. PrintsOrLacks IsAnswer output errors result)
-
--- a run whose words are not those of a command says why on its errors
-pub record SaysUsage {O E : Type 0} (output : Stream O) (errors : Stream E) (text : List ℕ) (result : ℕ) : Type 0 where
-  pub usage : result ≡ code_of status.Usage
-  pub printed : IsUntouched output
-  pub said : Says errors text
 
 -- what a run whose words ask for no command wrote, and its exit status
 abbrev pub Reports : {O E : Type 0} → WordsFault → Stream O → Stream E → ℕ → Type 0

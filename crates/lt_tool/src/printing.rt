@@ -4,23 +4,27 @@ ghost use Rattle.lt_lines.specs.Faults.{fault_said};
 ghost use Rattle.lt_tool.specs.Codes.{code_of};
 ghost use Rattle.lt_tool.specs.Streams.{handed, stream};
 ghost use Rattle.lt_tool.specs.Written.{Prints, Says, file_line, memory_line};
-ghost use Rattle.lt_tool.specs.Registries.{ReadsFile};
-ghost use Rattle.lt_tool.specs.Printed as spec;
-ghost use Rattle.lt_tool.specs.Printed.{Canonicalises, EndsRun, Performs, PrintsResult, Reports, tallies_after};
+ghost use Rattle.lt_registry.specs.ReadRegistry.{Reading};
+ghost use Rattle.lt_tool.specs.Registries.{HoldsRegistry, ReadsFile};
+ghost use Rattle.lt_tool.specs.Printed.{Canonicalises, EndsRun, Performs, PrintsResult, Reports, RunsCanon, tallies_after};
 ghost use Rattle.lt_tool.specs.declared.status.Status.TheVariants.{Failed};
 
 use crate::answered::Answered;
 use crate::explaining::explain;
 use crate::lines::{Answer, classify};
 use crate::registries::{check, read_registry, refuse};
+use crate::rows::answer_rows;
 use crate::status::Status;
 use crate::tag_commands::{equal, extlang};
 use crate::upgrade_command::upgrade;
 use crate::verifying::verify;
+use lt_canon::Checked;
 use lt_jar::Device;
-use lt_lines::{Counts, LineForm, RowForm, Tallies, ToolFault, run_lines, write_fault, write_text};
+use lt_lines::{Counts, LineForm, Tallies, ToolFault, run_lines, write_fault, write_text};
+use lt_registry::Lookup;
+use lt_rows::Separator;
 use lt_tag::OutOfMemory;
-use lt_words::{Command, Rows, WordsFault};
+use lt_words::{Command, WordsFault};
 use std::alloc::Global;
 use std::io::{Read, Write};
 
@@ -102,8 +106,28 @@ fn drop_unknown(alloc: Global, end: Result<Counts, ToolFault>, tallies: &mut Tal
     }
 }
 
+/// Answers the lines of the input by a registry.
+pub(crate) fn run_by_registry<L: Lookup, I: Read, O: Write, E: Write>(
+    alloc: Global,
+    checked: &Checked<L>,
+    form: LineForm,
+    input: &mut Device<I>,
+    output: &mut Device<O>,
+    errors: &mut Device<E>,
+    answered: &mut Answered,
+) -> Status
+    ensures { (reading : Reading) → HoldsRegistry reading (L.listed checked.now) → RunsCanon form reading (stream I.remaining input.old input.new)
+        (stream O.contents output.old output.new) (stream E.contents errors.old errors.new) (handed answered.old answered.new) (code_of result) }
+{
+    let tallies = &mut answered.tallies;
+    let end = run_lines(alloc, checked, form, input, output, tallies);
+    drop_unknown(alloc, end, tallies);
+    answered.counts = end.ok();
+    end_run(end, errors)
+}
+
 /// Answers the lines of the input by the registry of a file.
-fn answer_lines<F: Read, I: Read, O: Write, E: Write>(
+pub(crate) fn answer_lines<F: Read, I: Read, O: Write, E: Write>(
     alloc: Global,
     form: LineForm,
     file: &mut Device<F>,
@@ -116,25 +140,8 @@ fn answer_lines<F: Read, I: Read, O: Write, E: Write>(
         (stream O.contents output.old output.new) (stream E.contents errors.old errors.new) (handed answered.old answered.new) (code_of result)) }
 {
     match read_registry(alloc, file) {
-        Ok(checked) => {
-            let tallies = &mut answered.tallies;
-            let end = run_lines(alloc, &checked, form, input, output, tallies);
-            drop_unknown(alloc, end, tallies);
-            answered.counts = end.ok();
-            end_run(end, errors)
-        }
+        Ok(checked) => run_by_registry(alloc, &checked, form, input, output, errors, answered),
         Err(refusal) => print_answer(refuse(alloc, &refusal), output, errors),
-    }
-}
-
-/// What rows are whose words are these.
-fn row_form(rows: Rows) -> RowForm
-    ensures { result ≡ spec.row_form rows }
-{
-    RowForm {
-        before: rows.column.saturating_sub(1),
-        has_heading: rows.heading,
-        is_kept: rows.keep,
     }
 }
 
@@ -165,13 +172,21 @@ fn run<F: Read, G: Read, I: Read, O: Write, E: Write>(
             errors,
             answered,
         ),
-        Command::Tsv(_, rows) => {
-            let form = LineForm::Row(row_form(*rows));
-            answer_lines(alloc, form, first, input, output, errors, answered)
-        }
+        Command::Tsv(_, rows) => answer_rows(
+            alloc,
+            Separator::Tab,
+            rows,
+            first,
+            input,
+            output,
+            errors,
+            answered,
+        ),
         Command::Csv(_, rows, delimiter) => {
-            let form = LineForm::Csv(row_form(*rows), *delimiter);
-            answer_lines(alloc, form, first, input, output, errors, answered)
+            let separator = Separator::Delimiter(*delimiter);
+            answer_rows(
+                alloc, separator, rows, first, input, output, errors, answered,
+            )
         }
         Command::Extlang(_, tag) => {
             print_answer(extlang(alloc, first, tag.as_bytes()), output, errors)
@@ -196,7 +211,8 @@ fn run<F: Read, G: Read, I: Read, O: Write, E: Write>(
 ///
 /// A read of a file that fails, or is one too many, is answered as a fault of the file. A write to `output`
 /// that fails, a read of `input` that fails, its end within quotes, and an allocation that fails are named on `errors`; a write there
-/// that fails is counted by the device alone.
+/// that fails is counted by the device alone. Where a column has a name, it is found in the heading of `input` before a byte is
+/// written to `output`; a name that no column has, or more than one, is told on `errors`, and the status is 3.
 ///
 /// `answered` is set to what [`run_lines`] says of the lines of `input`, but for the tallies where a write or memory fails,
 /// which are none, since it is not known which answers were written; it stays where no lines were to be answered.

@@ -11,7 +11,7 @@ pub enum Status {
     Refused = 1,
     /// A registry or an upgrade was refused.
     RegistryRefused = 2,
-    /// The words name no command.
+    /// The words name no command, or a column that the input has not, or more than once.
     Usage = 3,
     /// A file was not opened, a read or a write failed, the reads were too many, records of CSV end within quotes, a row
     /// or a record is too long, the input is in UTF-16, or memory ran out.

@@ -1,10 +1,15 @@
 -- The values of positionals.
-use Rattle.std.proofs.Common.{◌≡◌, ◌∙◌, ℕ, List, [], ◌∷◌, Option, Some, None, map, sym, ap, refl, subst, slice_index, ◌==◌, if◌then◌else◌}
+use Rattle.std.proofs.Common.{◌≡◌, ◌<◌, ◌∙◌, ℕ, Bool, true, false, List, [], ◌∷◌, Option, Some, None, map, sym, ap, refl, subst, slice_index, ◌==◌, if◌then◌else◌, le-leb}
+use Rattle.std.specs.Char.{digit_value, is_ascii_digit}
+use Rattle.std.specs.Str.Parse.{AllDigits}
+use Rattle.std.proofs.lemmas.Str.Parse.{digit_from_value}
 use Rattle.clap.specs.Words.{Row, Text, first_of}
 use Rattle.lt_words.specs.CommandLine.{name_of, positionals_of}
-use Rattle.lt_words.specs.Reading.{AreGiven, IsNamed, LacksValue, NamesNone}
+use Rattle.lt_words.specs.Reading.{AreGiven, FitsHeading, IsColumn, IsDecimal, IsNamed, IsNoColumn, IsNoNumber, LacksValue, NamesNone}
 use Rattle.lt_words.specs.declared.faults.WordsFault.{WordsFault}
 use Rattle.lt_words.specs.declared.faults.WordsFault.TheVariants as fault
+use Rattle.lt_words.specs.declared.commands.Column.{Column}
+use Rattle.lt_words.specs.declared.commands.Column.TheVariants as columns
 use Rattle.lt_words.specs.declared.commands.Command.{Command}
 use Rattle.lt_words.specs.Reading.{subcommand_for}
 use Rattle.lt_words.specs.declared.subcommands.Subcommand.{Subcommand}
@@ -48,6 +53,38 @@ lacks_other rows first others (fault.Version text) lacks = lacks
 lacks_other rows first others (fault.Usage said) lacks = λ texts given.
     let parts = given_first rows first others texts given in lacks parts.1 parts.3
 lacks_other rows first others fault.OutOfMemory lacks = tt
+
+-- ---- columns
+
+-- digits after a digit
+pub digits_next : (all rest more : List ℕ) (d : ℕ) → rest ≡ d ∷ more → digit_value d < 10 → (AllDigits 10 all → AllDigits 10 rest) × (AllDigits 10 rest → AllDigits 10 all)
+    → (AllDigits 10 all → AllDigits 10 more) × (AllDigits 10 more → AllDigits 10 all)
+digits_next all rest more d is digit same =
+    (λ a. (subst (AllDigits 10) is (same.0 a)).1, λ m. same.1 (subst (AllDigits 10) (sym is) (digit, m)))
+
+-- after another byte there are none
+pub no_digit : (all rest more : List ℕ) (d : ℕ) → rest ≡ d ∷ more → is_ascii_digit d ≡ false → (AllDigits 10 all → AllDigits 10 rest) → AllDigits 10 all → ⊥
+no_digit all rest more d is other same a =
+    let inside = digit_from_value d (subst (AllDigits 10) is (same a)).0 in
+    let digit : is_ascii_digit d ≡ true = rw (le-leb 48 d inside.0, le-leb d 57 inside.1) refl in
+    let bad : true ≡ false = sym digit ∙ other in cc
+
+-- a decimal number is no name
+pub no_number : (text : Text) (heading : Bool) (f : WordsFault) → IsDecimal text → IsNoNumber text f → IsNoColumn text heading f
+no_number text heading (fault.Help said) decimal none = none
+no_number text heading (fault.Version said) decimal none = none
+no_number text heading (fault.Usage said) decimal none = by_column
+  where
+    by_column : (column : Column) → IsColumn text column → FitsHeading heading column → ⊥
+    by_column (columns.Number number) is fits = none number is
+    by_column (columns.Name name) is fits = is.1 decimal
+no_number text heading fault.OutOfMemory decimal none = tt
+
+-- and a name needs a heading
+pub no_name : (text : Text) (heading : Bool) → (IsDecimal text → ⊥) → heading ≡ false
+    → (column : Column) → IsColumn text column → FitsHeading heading column → ⊥
+no_name text heading other without (columns.Number number) is fits = other is.digits
+no_name text heading other without (columns.Name name) is fits = let bad : true ≡ false = sym fits ∙ without in cc
 
 -- ---- subcommands
 

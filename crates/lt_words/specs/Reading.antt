@@ -8,6 +8,8 @@ use Rattle.clap.specs.declared.error.kind.ErrorKind.TheVariants as kind
 use Rattle.lt_words.specs.CommandLine.{langtag, name_of, positionals_of}
 use Rattle.lt_words.specs.declared.subcommands.Subcommand.{Subcommand}
 use Rattle.lt_words.specs.declared.subcommands.Subcommand.TheVariants as sub
+use Rattle.lt_words.specs.declared.commands.Column.{Column}
+use Rattle.lt_words.specs.declared.commands.Column.TheVariants as columns
 use Rattle.lt_words.specs.declared.commands.Command.{Command}
 use Rattle.lt_words.specs.declared.commands.Run.{Run}
 use Rattle.lt_words.specs.declared.commands.Command.TheVariants as command
@@ -27,12 +29,26 @@ subcommand_for (command.Explain file tag) = sub.Explain
 subcommand_for (command.Verify file tag) = sub.Verify
 subcommand_for (command.Upgrade old new) = sub.Upgrade
 
+-- the text is a decimal number, which a plus may begin
+abbrev pub IsDecimal : Text → Type 0
+IsDecimal text = IsNumeral 10 (without_leading_plus text)
+
 -- the text is a decimal number from 1, and this is the number
-pub record IsColumn (text : Text) (column : ℕ) : Type 0 where
-  pub digits : IsNumeral 10 (without_leading_plus text)
+pub record IsNumber (text : Text) (column : ℕ) : Type 0 where
+  pub digits : IsDecimal text
   pub number : column ≡ digits_value 10 (without_leading_plus text)
   pub some : 0 < column
   pub fits : column < 2 ^ 64
+
+-- the column that a text names: by its number, or where it is no decimal number by its name
+abbrev pub IsColumn : Text → Column → Type 0
+IsColumn text (columns.Number number) = IsNumber text number
+IsColumn text (columns.Name name) = (string_bytes name ≡ text) × (IsDecimal text → ⊥)
+
+-- a name is looked for in a heading
+abbrev pub FitsHeading : (heading : Bool) → Column → Type 0
+FitsHeading heading (columns.Number number) = Unit {0}
+FitsHeading heading (columns.Name name) = heading ≡ true
 
 -- the texts that give a command its values
 abbrev pub AreValues : Command → List Text → Type 0
@@ -40,9 +56,9 @@ AreValues (command.Classify tag) texts = texts ≡ string_bytes tag ∷ []
 AreValues (command.Check file) texts = texts ≡ string_bytes file ∷ []
 AreValues (command.Canon run) texts = texts ≡ string_bytes run.registry ∷ []
 AreValues (command.Tsv run rows) texts =
-    (text : Text) × IsColumn text rows.column × (texts ≡ string_bytes run.registry ∷ text ∷ [])
+    (text : Text) × IsColumn text rows.column × FitsHeading rows.heading rows.column × (texts ≡ string_bytes run.registry ∷ text ∷ [])
 AreValues (command.Csv run rows delimiter) texts =
-    (text : Text) × IsColumn text rows.column × (texts ≡ string_bytes run.registry ∷ text ∷ [])
+    (text : Text) × IsColumn text rows.column × FitsHeading rows.heading rows.column × (texts ≡ string_bytes run.registry ∷ text ∷ [])
 AreValues (command.Extlang file tag) texts = texts ≡ string_bytes file ∷ string_bytes tag ∷ []
 AreValues (command.Equal file tag other) texts = texts ≡ string_bytes file ∷ string_bytes tag ∷ string_bytes other ∷ []
 AreValues (command.Explain file tag) texts = texts ≡ string_bytes file ∷ string_bytes tag ∷ []
@@ -164,12 +180,19 @@ LacksValue rows positionals (fault.Version text) = ⊥
 LacksValue rows positionals (fault.Usage text) = (texts : List Text) → AreGiven rows positionals texts → ⊥
 LacksValue rows positionals fault.OutOfMemory = ⊤
 
--- running out of memory aside, the text is no column
-abbrev pub IsNoColumn : Text → WordsFault → Type 0
-IsNoColumn text (fault.Help said) = ⊥
-IsNoColumn text (fault.Version said) = ⊥
-IsNoColumn text (fault.Usage said) = (column : ℕ) → IsColumn text column → ⊥
-IsNoColumn text fault.OutOfMemory = ⊤
+-- running out of memory aside, the text is no number of a column
+abbrev pub IsNoNumber : Text → WordsFault → Type 0
+IsNoNumber text (fault.Help said) = ⊥
+IsNoNumber text (fault.Version said) = ⊥
+IsNoNumber text (fault.Usage said) = (column : ℕ) → IsNumber text column → ⊥
+IsNoNumber text fault.OutOfMemory = ⊤
+
+-- running out of memory aside, the text names no column of rows with a heading or without one
+abbrev pub IsNoColumn : Text → (heading : Bool) → WordsFault → Type 0
+IsNoColumn text heading (fault.Help said) = ⊥
+IsNoColumn text heading (fault.Version said) = ⊥
+IsNoColumn text heading (fault.Usage said) = (column : Column) → IsColumn text column → FitsHeading heading column → ⊥
+IsNoColumn text heading fault.OutOfMemory = ⊤
 
 -- running out of memory aside, the option names no byte that may stand between fields
 abbrev pub LacksDelimiter : List Row → WordsFault → Type 0

@@ -12,11 +12,20 @@ pub struct Run {
     pub summary: bool,
 }
 
+/// Which field of rows is a tag.
+#[derive(Debug, Drop)]
+pub enum Column {
+    /// The field of this number, counted from 1.
+    Number(usize),
+    /// The field that has this name in the heading.
+    Name(String),
+}
+
 /// Rows: which field of them is a tag, and how they are answered.
-#[derive(Clone, Copy, Debug)]
+#[derive(Debug, Drop)]
 pub struct Rows {
-    /// The number of the field that is a tag, counted from 1.
-    pub column: usize,
+    /// The field that is a tag.
+    pub column: Column,
     /// Whether the first row is a heading, in which no tag is looked for.
     pub heading: bool,
     /// Whether a row stays as it is, and its answer is added to it in two fields.

@@ -46,7 +46,7 @@ pub(crate) static REGISTRY: Argument = Argument {
 pub(crate) static COLUMN: Argument = Argument {
     name: "COLUMN",
     form: Form::Positional,
-    help: "The number of the field that is a tag, counted from 1",
+    help: "The field that is a tag: its number, counted from 1, or its name in the heading",
 };
 
 pub(crate) static OLD: Argument = Argument {
@@ -91,7 +91,7 @@ Status:
   0  done
   1  a tag was refused, or the tags are different, or the steps are no explanation
   2  a registry or an upgrade was refused
-  3  the words name no command
+  3  the words name no command, or a column that is missing or stands twice
   4  a file, the input, the output or memory failed";
 
 /// The version, and the line of the kit that proves and builds the program.

@@ -30,9 +30,10 @@ fn read_tsv(alloc: Global, values: &ArgMatches<'_>) -> Result<Command, WordsFaul
     ensures unnamed { IfErr result (NamesNone (Some (name_of Subcommand.Tsv, rows_of (found_of values.now)))) }
 {
     let (registry, column) = two_values(alloc, values, &REGISTRY, &COLUMN)?;
+    let heading = is_flagged(values, &HEADING);
     let rows = Rows {
-        column: column_of(alloc, &column)?,
-        heading: is_flagged(values, &HEADING),
+        column: column_of(alloc, &column, heading)?,
+        heading,
         keep: is_flagged(values, &KEEP),
     };
     let summary = is_flagged(values, &SUMMARY);
@@ -46,7 +47,7 @@ fn read_csv(alloc: Global, values: &ArgMatches<'_>) -> Result<Command, WordsFaul
 {
     let (registry, column) = two_values(alloc, values, &REGISTRY, &COLUMN)?;
     let rows = Rows {
-        column: column_of(alloc, &column)?,
+        column: column_of(alloc, &column, true)?,
         heading: true,
         keep: is_flagged(values, &KEEP),
     };

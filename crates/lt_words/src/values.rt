@@ -1,9 +1,11 @@
 //! The values of a subcommand's positionals.
-ghost use Rattle.std.specs.Prelude.{◌≡◌, [], ◌∷◌, IfOk, IfErr, Some, string_bytes};
-ghost use Rattle.lt_words.specs.Reading.{AreGiven, IsColumn, IsNoColumn, LacksDelimiter, LacksValue, delimiter_given};
+ghost use Rattle.std.specs.Prelude.{◌≡◌, ◌↔◌, [], ◌∷◌, IfOk, IfErr, IsTrue, Some, string_bytes};
+ghost use Rattle.std.specs.Str.Parse.{AllDigits, without_leading_plus};
+ghost use Rattle.lt_words.specs.Reading.{AreGiven, FitsHeading, IsColumn, IsDecimal, IsNoColumn, IsNoNumber, IsNumber, LacksDelimiter, LacksValue, delimiter_given};
 ghost use Rattle.lt_words.specs.Reading as spec;
 ghost use Rattle.clap.specs.Words.{found_of, rows_of};
 
+use crate::commands::Column;
 use crate::faults::WordsFault;
 use crate::program::{Argument, DELIMITER};
 use clap::ArgMatches;
@@ -51,10 +53,43 @@ pub(crate) fn is_flagged(matches: &ArgMatches<'_>, flag: &Argument) -> bool
     }
 }
 
+/// A text without the plus that may begin it.
+fn without_plus(text: &[u8]) -> &[u8]
+    ensures { result.now ≡ without_leading_plus text.now }
+{
+    match text.first() {
+        Some(b'+') => &text[1..],
+        _ => text,
+    }
+}
+
+/// Whether each byte is a digit.
+#[tactic(auto, using(crate::proofs::ValueLemmas::digits_next, crate::proofs::ValueLemmas::no_digit))]
+fn are_digits(bytes: &[u8]) -> bool
+    ensures { IsTrue result ↔ AllDigits 10 bytes.now }
+{
+    let mut rest = bytes;
+    while let Some((byte, more)) = rest.split_first() {
+        if !byte.is_ascii_digit() {
+            return false;
+        }
+        rest = more;
+    }
+    true
+}
+
+/// Whether a text is a decimal number, which a plus may begin.
+fn is_decimal(text: &str) -> bool
+    ensures { IsTrue result ↔ IsDecimal text.now }
+{
+    let digits = without_plus(text.as_bytes());
+    !digits.is_empty() && are_digits(digits)
+}
+
 /// The number of a column, counted from 1.
-pub(crate) fn column_of(alloc: Global, text: &str) -> Result<usize, WordsFault>
-    ensures column { IfOk result (IsColumn text.now) }
-    ensures none { IfErr result (IsNoColumn text.now) }
+fn number_of(alloc: Global, text: &str) -> Result<usize, WordsFault>
+    ensures number { IfOk result (IsNumber text.now) }
+    ensures none { IfErr result (IsNoNumber text.now) }
 {
     match text.parse::<usize>() {
         Ok(column) if column > 0 => Ok(column),
@@ -62,6 +97,24 @@ pub(crate) fn column_of(alloc: Global, text: &str) -> Result<usize, WordsFault>
             "error: COLUMN is a number from 1, and not {text}\n\nFor more information, try '--help'.\n"
         )?)),
     }
+}
+
+/// The column that a text names, by its number, or where there is a heading by its name.
+#[tactic(auto, using(crate::proofs::ValueLemmas::no_number, crate::proofs::ValueLemmas::no_name))]
+pub(crate) fn column_of(alloc: Global, text: &str, heading: bool) -> Result<Column, WordsFault>
+    ensures column { IfOk result (IsColumn text.now) }
+    ensures fits { IfOk result (FitsHeading heading) }
+    ensures none { IfErr result (IsNoColumn text.now heading) }
+{
+    if is_decimal(text) {
+        return Ok(Column::Number(number_of(alloc, text)?));
+    }
+    if !heading {
+        return Err(WordsFault::Usage(format!(in alloc;
+            "error: without --heading COLUMN is a number from 1, and not {text}\n\nFor more information, try '--help'.\n"
+        )?));
+    }
+    Ok(Column::Name(String::from_str(alloc, text)?))
 }
 
 /// Whether a byte may stand between fields.

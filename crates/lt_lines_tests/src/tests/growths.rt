@@ -210,6 +210,14 @@ fn tags_are_canonicalised(rt: HostRuntime) -> Result<(), Fail> {
 }
 
 #[test]
+fn columns_are_found(rt: HostRuntime) -> Result<(), Fail> {
+    let words = ["csv", "registry", "zh-yue"];
+    let printed = "zh-yue,langtag_fault\r\nfr,UnknownLanguage 1\n,EmptySubtag 1\ngsg,\n";
+    assert!(rt; prints_of_sample(rt.alloc(), &words, printed, 1)?);
+    Ok(())
+}
+
+#[test]
 fn extlang_forms_are_made(rt: HostRuntime) -> Result<(), Fail> {
     let words = ["extlang", "registry", "cmn-hans"];
     assert!(rt; prints_of_sample(rt.alloc(), &words, "zh-cmn-Hans\n", 0)?);
@@ -238,7 +246,7 @@ fn upgrades_are_judged(rt: HostRuntime) -> Result<(), Fail> {
 }
 
 /// Words, and what the answer to them begins with as text.
-const WORDS: [(&[&str], &str); 11] = [
+const WORDS: [(&[&str], &str); 12] = [
     (&["classify", "en"], "Ok(Classify(\"en\"))"),
     (&["check", "registry"], "Ok(Check(\"registry\"))"),
     (
@@ -247,7 +255,11 @@ const WORDS: [(&[&str], &str); 11] = [
     ),
     (
         &["csv", "registry", "2", "--delimiter", ";", "--summary"],
-        "Ok(Csv(Run { registry: \"registry\", summary: true }, Rows { column: 2, heading: true, keep: false }, 59))",
+        "Ok(Csv(Run { registry: \"registry\", summary: true }, Rows { column: Number(2), heading: true, keep: false }, 59))",
+    ),
+    (
+        &["tsv", "registry", "tag", "--heading"],
+        "Ok(Tsv(Run { registry: \"registry\", summary: false }, Rows { column: Name(\"tag\"), heading: true, keep: false }))",
     ),
     (
         &["extlang", "registry", "en"],

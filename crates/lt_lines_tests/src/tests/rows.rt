@@ -3,7 +3,7 @@ use lt_canon::Checked;
 use lt_jar::Pieces;
 use lt_registry::SortedTable;
 use lt_testing::sample_text;
-use lt_tool::{ToolFault, WordsFault};
+use lt_tool::{Column, Command, ToolFault, WordsFault};
 use lt_tool_testing::{SECOND_OF_ROW, answer_lines, checked_sample, prints, read};
 use std::alloc::Global;
 use std::io::Cursor;
@@ -55,16 +55,43 @@ fn other_columns(rt: HostRuntime) -> Result<(), Fail> {
     Ok(())
 }
 
-/// What is no column.
-const NO_COLUMNS: [&str; 6] = ["0", "000", "", "two", "18446744073709551616", "2.0"];
+/// What is no number of a column, and no name of one.
+const NO_NUMBERS: [&str; 4] = ["0", "000", "+0", "18446744073709551616"];
+
+/// What is a name.
+const NAMES: [&str; 6] = ["", "two", "2.0", "2 ", "+", "0x2"];
+
+/// Whether the words name a command whose column has this name.
+fn has_name(read: &Result<Command, WordsFault>, name: &str) -> bool {
+    match read {
+        Ok(Command::Csv(_, rows, _)) | Ok(Command::Tsv(_, rows)) => {
+            matches!(&rows.column, Column::Name(own) if own.as_str() == name)
+        }
+        _ => false,
+    }
+}
 
 #[test]
 fn words_that_are_no_column(rt: HostRuntime) {
-    for column in &NO_COLUMNS {
-        for command in ["tsv", "csv"] {
-            let words = [command, "registry", *column];
+    for column in &NO_NUMBERS {
+        for words in [
+            ["csv", "registry", *column, "--keep"],
+            ["tsv", "registry", *column, "--keep"],
+            ["tsv", "registry", *column, "--heading"],
+        ] {
             assert!(rt; matches!(read(rt.alloc(), &words), Err(WordsFault::Usage(_))));
         }
+    }
+}
+
+#[test]
+fn words_that_are_a_name(rt: HostRuntime) {
+    for name in &NAMES {
+        assert!(rt; has_name(&read(rt.alloc(), &["csv", "registry", *name]), name));
+        let words = ["tsv", "--heading", "registry", *name];
+        assert!(rt; has_name(&read(rt.alloc(), &words), name));
+        let words = ["tsv", "registry", *name];
+        assert!(rt; matches!(read(rt.alloc(), &words), Err(WordsFault::Usage(_))));
     }
 }
 

@@ -4,16 +4,7 @@ use Rattle.lt_tool.proofs.AnswerLemmas.{printed_answer, read_more, refused_answe
 use Rattle.lt_tool.proofs.printing.answer_lines.Goals as goal
 
 pub returns-in-Ok : goal.returns-in-Ok
-returns-in-Ok g c = read_more _ _ _ c.in-Ok.ensures (λ reading holds. inr (record {
-  entries = c.in-Ok.checked;
-  registry = holds;
-  end = c.run_lines-end.result;
-  tallies = c.run_lines-end.new.tallies;
-  runs = c.run_lines-end.ensures;
-  handed = c.drop_unknown.ensures;
-  counts = c.ok-answered.ensures.value;
-  ends = c.end_run.ensures;
-}))
+returns-in-Ok g c = read_more _ _ _ c.in-Ok.ensures (λ reading holds. inr (c.run_by_registry.ensures reading holds))
 
 pub returns-in-Err : goal.returns-in-Err
 returns-in-Err g c = read_more _ _ _ c.in-Err.ensures (λ reading is.

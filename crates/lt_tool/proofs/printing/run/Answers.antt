@@ -18,14 +18,10 @@ pub returns-in-Canon : goal.returns-in-Canon
 returns-in-Canon g c = rw c.in-Canon.is (refl, c.answer_lines.ensures)
 
 pub returns-in-Tsv : goal.returns-in-Tsv
-returns-in-Tsv g c =
-    let form = c.row_form.ensures in
-    rw c.in-Tsv.is (refl, rw form at c.answer_lines-in-Tsv.ensures)
+returns-in-Tsv g c = rw c.in-Tsv.is (refl, c.answer_rows.ensures)
 
 pub returns-in-Csv : goal.returns-in-Csv
-returns-in-Csv g c =
-    let form = c.row_form-in-Csv.ensures in
-    rw c.in-Csv.is (refl, rw form at c.answer_lines-in-Csv.ensures)
+returns-in-Csv g c = rw c.in-Csv.is (refl, c.answer_rows-in-Csv.ensures)
 
 pub returns-in-Extlang : goal.returns-in-Extlang
 returns-in-Extlang g c =

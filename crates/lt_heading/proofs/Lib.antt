@@ -1,0 +1,5 @@
+-- Lemmas on headings.
+pub mod NameLemmas
+pub mod RowLemmas
+pub mod TakenLemmas
+pub mod ReadLemmas

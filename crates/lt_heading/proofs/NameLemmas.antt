@@ -1,0 +1,102 @@
+-- Names, one after another.
+use Rattle.std.proofs.Common.{◌≡◌, ◌≢◌, ◌≤◌, ◌<◌, ◌+◌, ◌++◌, ◌∷◌, ◌∙◌, ℕ, Bool, true, false, List, [], inl, inr, length, sym, ap, refl, subst, arith, append_assoc, length-append}
+use Rattle.std.specs.List.{AllByRecursion, flat_map}
+use Rattle.std.proofs.lemmas.List.{flat_map_more, nil_from_length}
+use Rattle.lt_rows.specs.Rows.{HasField, IsAfterField, IsClosed, IsEnded, IsRowField, separated, separator}
+use Rattle.lt_rows.specs.declared.rows.Separator.{Separator}
+use Rattle.lt_rows.proofs.RowLemmas.{each-last}
+use Rattle.lt_heading.specs.Names.{AreNames, IsFound, IsNameOf, IsOnly, IsRepeated, Lacks, LooksSo, found_then, shown_name, shown_names}
+use Rattle.lt_heading.specs.declared.names.Found.{Found}
+use Rattle.lt_heading.specs.declared.names.Found.TheVariants as founds
+
+-- ---- where a name stands
+
+-- a name that is repeated stays so
+repeated_more : (name : List ℕ) (names : List (List ℕ)) (other : List ℕ) → IsRepeated name names → IsRepeated name (names ++ other ∷ [])
+repeated_more name names other f = record {
+  first = f.first;
+  between = f.between;
+  last = f.last ++ other ∷ [];
+  cut = ap (λ l. l ++ other ∷ []) f.cut ∙ append_assoc f.first (name ∷ (f.between ++ name ∷ f.last)) (other ∷ [])
+      ∙ ap (λ l. f.first ++ name ∷ l) (append_assoc f.between (name ∷ f.last) (other ∷ []));
+}
+
+-- with one name more
+pub found_more : (name : List ℕ) (names : List (List ℕ)) (found : Found) (number : ℕ) (is : Bool) (other : List ℕ) → number ≡ length names + 1
+    → (is ≡ true → other ≡ name) → (other ≡ name → is ≡ true) → IsFound name names found → IsFound name (names ++ other ∷ []) (found_then found number is)
+found_more name names founds.Missing number false other n same same_is f = each-last (λ o. o ≢ name) names other f (λ e. let bad : false ≡ true = same_is e in cc)
+found_more name names (founds.Only m) number false other n same same_is f = record {
+  first = f.first;
+  others = f.others ++ other ∷ [];
+  cut = ap (λ l. l ++ other ∷ []) f.cut ∙ append_assoc f.first (name ∷ f.others) (other ∷ []);
+  number_is = f.number_is;
+  none_before = f.none_before;
+  none_after = each-last (λ o. o ≢ name) f.others other f.none_after (λ e. let bad : false ≡ true = same_is e in cc);
+}
+found_more name names founds.Repeated number false other n same same_is f = repeated_more name names other f
+found_more name names founds.Missing number true other n same same_is f = record {
+  first = names;
+  others = [];
+  cut = ap (λ o. names ++ o ∷ []) (same refl);
+  number_is = n;
+  none_before = f;
+  none_after = tt;
+}
+found_more name names (founds.Only m) number true other n same same_is f = record {
+  first = f.first;
+  between = f.others;
+  last = [];
+  cut = ap (λ l. l ++ other ∷ []) f.cut ∙ append_assoc f.first (name ∷ f.others) (other ∷ []) ∙ ap (λ o. f.first ++ name ∷ (f.others ++ o ∷ [])) (same refl);
+}
+found_more name names founds.Repeated number true other n same same_is f = repeated_more name names other f
+
+-- ---- the fields of a row
+
+-- the first field of a row
+pub first_is : (S : Separator) (row front field after : List ℕ) → HasField S 0 row front field after → row ≡ field ++ after
+first_is S row front field after h =
+    let none : front ≡ [] = h.front_is ∙ ap (separated S) (nil_from_length h.before h.number) in
+    rw none at h.row_is
+
+-- and what follows it, where that is anything
+pub after_is : (S : Separator) (field after more : List ℕ) (byte : ℕ) → IsAfterField S field after → after ≡ byte ∷ more → IsClosed S field × (after ≡ separator S ∷ more)
+after_is S field after more byte (inl none) is = let bad : [] ≡ byte ∷ more = sym none ∙ is in cc
+after_is S field after more byte (inr e) is =
+    let both : separator S ∷ e.0 ≡ byte ∷ more = sym e.2 ∙ is in
+    let tails : e.0 ≡ more = cc in
+    (e.1, e.2 ∙ ap (λ l. separator S ∷ l) tails)
+
+-- one name more, which another follows
+names_more : (S : Separator) (row rest field more name : List ℕ) (names : List (List ℕ))
+    → ((others : List (List ℕ)) → AreNames S rest others → AreNames S row (names ++ others))
+    → IsEnded S field → rest ≡ field ++ separator S ∷ more → IsNameOf S field name
+    → (others : List (List ℕ)) → AreNames S more others → AreNames S row ((names ++ name ∷ []) ++ others)
+names_more S row rest field more name names so one cut is [] are = absurd are
+names_more S row rest field more name names so one cut is (next ∷ others) are =
+    subst (AreNames S row) (sym (append_assoc names (name ∷ []) (next ∷ others))) (so (name ∷ next ∷ others) (field, more, one, cut, is, are))
+
+-- the names so far, and one more
+pub looks_next : (S : Separator) (row rest field more name other : List ℕ) (found : Found) (listed : List ℕ) (count : ℕ) (is : Bool)
+    → LooksSo S row rest name found listed count → IsEnded S field → rest ≡ field ++ separator S ∷ more → IsNameOf S field other
+    → (is ≡ true → other ≡ name) → (other ≡ name → is ≡ true)
+    → LooksSo S row more name (found_then found (count + 1) is) (listed ++ shown_name other) (count + 1)
+looks_next S row rest field more name other found listed count is l one cut named same same_is = record {
+  names = l.names ++ other ∷ [];
+  are_names = names_more S row rest field more other l.names l.are_names one cut named;
+  number = ap (λ n. n + 1) l.number ∙ sym (length-append l.names (other ∷ []));
+  is_found = found_more name l.names found (count + 1) is other (ap (λ n. n + 1) l.number) same same_is l.is_found;
+  listed_is = ap (λ t. t ++ shown_name other) l.listed_is ∙ flat_map_more shown_name [] l.names other;
+  room = omega (arith, l.room, ap length cut, length-append field (separator S ∷ more));
+}
+
+-- and the last
+pub looks_last : (S : Separator) (row rest name other : List ℕ) (found : Found) (listed : List ℕ) (count : ℕ) (is : Bool)
+    → LooksSo S row rest name found listed count → IsRowField S rest → IsNameOf S rest other
+    → (is ≡ true → other ≡ name) → (other ≡ name → is ≡ true)
+    → (names : List (List ℕ)) × AreNames S row names × IsFound name names (found_then found (count + 1) is) × (listed ++ shown_name other ≡ shown_names names)
+looks_last S row rest name other found listed count is l one named same same_is = (
+  l.names ++ other ∷ [],
+  l.are_names (other ∷ []) (one, named),
+  found_more name l.names found (count + 1) is other (ap (λ n. n + 1) l.number) same same_is l.is_found,
+  ap (λ t. t ++ shown_name other) l.listed_is ∙ flat_map_more shown_name [] l.names other,
+)

@@ -1,0 +1,58 @@
+-- The column that has a name in the heading of a reader's rows.
+use Rattle.std.specs.Prelude.{◌≡◌, ◌≤◌, ◌⊎◌, ℕ, List, Option, Result, Ok, Err, codes, string_bytes}
+use Rattle.std.specs.Io.KnownBytes.{Consumes}
+use Rattle.lt_jar.specs.Devices.{inner_of}
+use Rattle.lt_jar.specs.Sources.{most_reads}
+use Rattle.lt_jar.specs.declared.devices.Device.{Device}
+use Rattle.lt_rows.specs.declared.rows.Separator.{Separator}
+use Rattle.lt_lines.specs.Running.{HasRead}
+use Rattle.lt_lines.specs.declared.faults.ToolFault.TheVariants as faults
+use Rattle.lt_heading.specs.Headings.{KnowsHeading, StopsHeading}
+use Rattle.lt_heading.specs.Names.{AreNamesIn, IsOnly, IsRepeated, Lacks, name_line}
+use Rattle.lt_heading.specs.declared.finding.ColumnFault.{ColumnFault}
+use Rattle.lt_heading.specs.declared.finding.ColumnFault.TheVariants as refusals
+use Rattle.lt_heading.specs.declared.finding.FoundColumn.{FoundColumn}
+
+-- no column has the name, or more than one, and this line says which
+abbrev pub IsNameFault : (name : List ℕ) → List (List ℕ) → (line : List ℕ) → Type 0
+IsNameFault name names line =
+    (Lacks name names × (line ≡ name_line (codes "no column") name names))
+    ⊎ (IsRepeated name names × (line ≡ name_line (codes "more than one column") name names))
+
+-- the names of the columns were read, and this holds of them
+pub record ReadsNames {I : Type 0} (S : Separator) (remaining : I → Option (List ℕ)) (after : Device I) (read : List ℕ)
+    (Holds : List (List ℕ) → Type 0) : Type 0 where
+  pub heading : Option (List ℕ)
+  pub known : KnowsHeading S remaining after read heading
+  pub names : List (List ℕ)
+  pub are_names : AreNamesIn S heading names
+  pub holds : Holds names
+
+-- how the search for a column ended: it is the only one of its name, and all bytes that were read are kept; or the line that
+-- is said; or why the heading was not read
+abbrev pub EndsFinding : {I : Type 0} → Separator → (name : List ℕ) → (I → Option (List ℕ)) → (before after : Device I)
+    → (reads : ℕ) → (read : List ℕ) → Result FoundColumn ColumnFault → Type 0
+EndsFinding S name remaining before after reads read (Ok found) = (found.front.items ≡ read)
+    × ReadsNames S remaining after read (λ names. IsOnly name names found.number)
+EndsFinding S name remaining before after reads read (Err (refusals.Name said)) =
+    ReadsNames S remaining after read (λ names. IsNameFault name names (string_bytes said))
+EndsFinding S name remaining before after reads read (Err (refusals.Heading f)) =
+    StopsHeading S remaining before after reads read f
+
+-- the column that has a name was looked for
+pub record FindsColumn {I : Type 0} (S : Separator) (name : List ℕ) (remaining : I → Option (List ℕ))
+    (before after : Device I) (result : Result FoundColumn ColumnFault) : Type 0 where
+  pub read : List ℕ
+  pub reads : ℕ
+  pub consumes : Consumes (remaining (inner_of before)) (remaining (inner_of after)) read
+  pub calls : HasRead before after reads
+  pub bounded : reads ≤ most_reads
+  pub ends : EndsFinding S name remaining before after reads read result
+
+-- ---- the steps
+
+-- the column was picked of these names
+abbrev pub PicksColumn : (name : List ℕ) → List (List ℕ) → Result ℕ ColumnFault → Type 0
+PicksColumn name names (Ok number) = IsOnly name names number
+PicksColumn name names (Err (refusals.Name said)) = IsNameFault name names (string_bytes said)
+PicksColumn name names (Err (refusals.Heading f)) = f ≡ faults.OutOfMemory

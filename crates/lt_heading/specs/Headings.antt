@@ -1,0 +1,219 @@
+-- The heading of a text of rows: its first row or record, after a byte order mark.
+use Rattle.std.specs.Prelude.{◌≡◌, ◌<◌, ◌≤◌, ◌⊎◌, ℕ, Bool, true, false, List, [], ◌∷◌, ◌++◌, Option, Some, None, Result, Ok, Err, length, take}
+use Rattle.std.specs.Io.KnownBytes.{Consumes, IsAtEnd}
+use Rattle.lt_jar.specs.Devices.{HasFailed, inner_of}
+use Rattle.lt_jar.specs.Lines.{HoldsOfWhole, IsOneLine, lines_of}
+use Rattle.lt_jar.specs.Sources.{most_reads}
+use Rattle.lt_jar.specs.declared.devices.Device.{Device}
+use Rattle.lt_rows.specs.Marks.{IsWide, MayBeMark, SplitsMark}
+use Rattle.lt_rows.specs.Quotes.{IsFreeOutside, is_quoted, place_at, records_from}
+use Rattle.lt_rows.specs.declared.quotes.Place.{Place}
+use Rattle.lt_rows.specs.declared.quotes.Place.TheVariants as places
+use Rattle.lt_rows.specs.declared.rows.Separator.{Separator}
+use Rattle.lt_rows.specs.declared.rows.Separator.TheVariants as separators
+use Rattle.lt_lines.specs.Owed.{longest_row}
+use Rattle.lt_lines.specs.Running.{HasRead}
+use Rattle.lt_lines.specs.declared.faults.ToolFault.{ToolFault}
+use Rattle.lt_lines.specs.declared.faults.ToolFault.TheVariants as faults
+use Rattle.lt_heading.specs.declared.first_rows.FirstRow.{FirstRow}
+
+-- the rows of a text: its lines, or its records where a delimiter parts fields
+abbrev pub rows_of : Separator → List ℕ → List (List ℕ)
+rows_of separators.Tab text = lines_of text
+rows_of (separators.Delimiter delimiter) text = records_from delimiter places.Fresh text
+
+-- no line feed (10) in the text ends a row
+abbrev pub IsOneRow : Separator → List ℕ → Type 0
+IsOneRow separators.Tab text = IsOneLine text
+IsOneRow (separators.Delimiter delimiter) text = IsFreeOutside delimiter 10 places.Fresh text
+
+-- the place after more bytes of a row, by that before them
+abbrev pub place_then : Separator → Place → List ℕ → Place
+place_then separators.Tab place part = places.Fresh
+place_then (separators.Delimiter delimiter) place part = place_at delimiter place part
+
+-- whether a text ends within the quotes of a row
+abbrev pub is_open : Separator → List ℕ → Bool
+is_open S text = is_quoted (place_then S places.Fresh text)
+
+-- a row that does not end within quotes and is not too long
+pub record IsWholeRow (S : Separator) (row : List ℕ) : Type 0 where
+  pub one : IsOneRow S row
+  pub closed : is_open S row ≡ false
+  pub short : length row ≤ longest_row
+
+-- the first of these rows, if there is one
+abbrev pub IsFirstOf : Separator → List (List ℕ) → Option (List ℕ) → Type 0
+IsFirstOf S rows None = rows ≡ []
+IsFirstOf S rows (Some row) = (others : List (List ℕ)) × (rows ≡ row ∷ others) × IsWholeRow S row
+
+-- the first row of these bytes, after a byte order mark, if they have one; they are not in UTF-16
+pub record HasHeading (S : Separator) (bytes : List ℕ) (heading : Option (List ℕ)) : Type 0 where
+  pub mark : List ℕ
+  pub text : List ℕ
+  pub split : SplitsMark bytes mark text
+  pub narrow : IsWide bytes → ⊥
+  pub first : IsFirstOf S (rows_of S text) heading
+
+-- the bytes end within the quotes of their first row
+pub record HasOpenHeading (S : Separator) (bytes : List ℕ) : Type 0 where
+  pub mark : List ℕ
+  pub text : List ℕ
+  pub split : SplitsMark bytes mark text
+  pub one : IsOneRow S text
+  pub inside : is_open S text ≡ true
+
+-- the text begins with a row that is too long
+pub record BeginsLong (S : Separator) (text : List ℕ) : Type 0 where
+  pub begun : List ℕ
+  pub rest : List ℕ
+  pub cut : text ≡ begun ++ rest
+  pub one : IsOneRow S begun
+  pub long : longest_row < length begun
+
+-- the first row of the bytes is too long
+pub record HasLongHeading (S : Separator) (bytes : List ℕ) : Type 0 where
+  pub mark : List ℕ
+  pub text : List ℕ
+  pub split : SplitsMark bytes mark text
+  pub begins : BeginsLong S text
+
+-- the fault of a first row that is too long
+abbrev pub long_fault : Separator → ToolFault
+long_fault separators.Tab = faults.BadTsv 1
+long_fault (separators.Delimiter delimiter) = faults.BadCsv 1
+
+-- why a heading was not read
+abbrev pub StopsHeading : {I : Type 0} → Separator → (I → Option (List ℕ)) → (before after : Device I)
+    → (reads : ℕ) → (read : List ℕ) → ToolFault → Type 0
+StopsHeading S remaining before after reads read faults.Read = HasFailed before after
+StopsHeading S remaining before after reads read faults.TooManyTurns = reads ≡ most_reads
+StopsHeading S remaining before after reads read (faults.BadCsv line) =
+    ((line ≡ 1) × IsAtEnd (remaining (inner_of after)) × HasOpenHeading S read)
+    ⊎ ((faults.BadCsv line ≡ long_fault S) × HasLongHeading S read)
+StopsHeading S remaining before after reads read (faults.BadTsv line) =
+    (faults.BadTsv line ≡ long_fault S) × HasLongHeading S read
+StopsHeading S remaining before after reads read faults.Utf16 = IsWide read
+StopsHeading S remaining before after reads read faults.Write = ⊥
+StopsHeading S remaining before after reads read faults.OutOfMemory = Unit {0}
+
+-- the heading of all bytes, of which these were read: whatever follows them, or at their end
+abbrev pub KnowsHeading : {I : Type 0} → Separator → (I → Option (List ℕ)) → (after : Device I)
+    → (read : List ℕ) → (heading : Option (List ℕ)) → Type 0
+KnowsHeading S remaining after read heading =
+    HoldsOfWhole (λ bytes. HasHeading S bytes heading) (IsAtEnd (remaining (inner_of after))) read
+
+-- ---- the steps
+
+-- a text is one row so far, and not too long, and this is the place after it
+pub record IsRowSoFar (S : Separator) (text : List ℕ) (place : Place) : Type 0 where
+  pub one : IsOneRow S text
+  pub place_is : place ≡ place_then S places.Fresh text
+  pub short : length text ≤ longest_row
+
+-- the first row of a text has this length, and a line feed ends it
+pub record EndsRow (S : Separator) (text : List ℕ) (end : ℕ) : Type 0 where
+  pub row : List ℕ
+  pub rest : List ℕ
+  pub cut : text ≡ row ++ 10 ∷ rest
+  pub end_is : end ≡ length row
+  pub whole : IsWholeRow S row
+
+-- the part of a text before this place, if there is a text
+abbrev pub heading_in : (text : List ℕ) → (end : ℕ) → Option (List ℕ)
+heading_in [] end = None
+heading_in (byte ∷ text) end = Some (take end (byte ∷ text))
+
+-- more bytes were appended to a row
+abbrev pub AppendsPart : Separator → Place → (part old new : List ℕ) → Result Place ToolFault → Type 0
+AppendsPart S place part old new (Ok next) =
+    (new ≡ old ++ part) × (next ≡ place_then S place part) × (length new ≤ longest_row)
+AppendsPart S place part old new (Err f) =
+    (f ≡ faults.OutOfMemory) ⊎ ((f ≡ long_fault S) × (longest_row < length (old ++ part)))
+
+-- a text is one row so far, or its first row has this length
+abbrev pub IsRowIn : Separator → (text : List ℕ) → Place → (end : Option ℕ) → Type 0
+IsRowIn S text place None = IsRowSoFar S text place
+IsRowIn S text place (Some end) = EndsRow S text end
+
+-- a piece was appended to a text that was one row so far
+abbrev pub TakesText : Separator → (piece old new : List ℕ) → Place → Result (Option ℕ) ToolFault → Type 0
+TakesText S piece old new place (Ok end) = (new ≡ old ++ piece) × IsRowIn S new place end
+TakesText S piece old new place (Err f) =
+    (f ≡ faults.OutOfMemory) ⊎ ((f ≡ long_fault S) × BeginsLong S (old ++ piece))
+
+-- all bytes that were taken
+abbrev pub taken_by : FirstRow → List ℕ
+taken_by state = state.mark.items ++ state.text.items
+
+-- the mark is known, whatever bytes follow, and is none of UTF-16
+pub record IsMarked (state : FirstRow) : Type 0 where
+  pub split : (more : List ℕ) → SplitsMark (taken_by state ++ more) state.mark.items (state.text.items ++ more)
+  pub narrow : (more : List ℕ) → IsWide (taken_by state ++ more) → ⊥
+
+-- the mark is known, and the text after it is one row so far
+pub record IsBegun (S : Separator) (state : FirstRow) : Type 0 where
+  pub begun : state.is_begun ≡ true
+  pub marked : IsMarked state
+  pub so_far : IsRowSoFar S state.text.items state.place
+
+-- the bytes may be a part of a mark
+pub record IsUndecided (state : FirstRow) : Type 0 where
+  pub begun : state.is_begun ≡ false
+  pub may_be : MayBeMark state.mark.items
+  pub none : state.text.items ≡ []
+  pub fresh : state.place ≡ places.Fresh
+
+-- bytes were taken that do not end the first row
+abbrev pub IsGoing : Separator → FirstRow → Type 0
+IsGoing S state = IsBegun S state ⊎ IsUndecided state
+
+-- why the bytes have no heading that is not too long
+abbrev pub StopsText : Separator → (bytes : List ℕ) → ToolFault → Type 0
+StopsText S bytes f = (f ≡ faults.OutOfMemory) ⊎ (((f ≡ faults.Utf16) × IsWide bytes)
+    ⊎ ((f ≡ long_fault S) × HasLongHeading S bytes))
+
+-- a piece was taken
+abbrev pub TakesPiece : Separator → (piece : List ℕ) → (old new : FirstRow) → Result (Option ℕ) ToolFault → Type 0
+TakesPiece S piece old new (Ok None) = (taken_by new ≡ taken_by old ++ piece) × IsGoing S new
+TakesPiece S piece old new (Ok (Some end)) =
+    (taken_by new ≡ taken_by old ++ piece) × IsMarked new × EndsRow S new.text.items end
+TakesPiece S piece old new (Err f) = StopsText S (taken_by old ++ piece) f
+
+-- the mark in the bytes that are kept was split off, and the text after it taken
+abbrev pub BeginsText : Separator → (old new : FirstRow) → Result (Option ℕ) ToolFault → Type 0
+BeginsText S old new (Ok end) = (new.is_begun ≡ true)
+    × SplitsMark old.mark.items new.mark.items new.text.items × IsRowIn S new.text.items new.place end
+BeginsText S old new (Err f) = (f ≡ faults.OutOfMemory) ⊎ ((f ≡ long_fault S) × HasLongHeading S old.mark.items)
+
+-- a text that was one row so far ended, and this is its length, or it ends within quotes
+abbrev pub EndsText : Separator → FirstRow → Result ℕ ToolFault → Type 0
+EndsText S state (Ok end) = (end ≡ length state.text.items)
+    × (IsRowSoFar S state.text.items state.place → IsWholeRow S state.text.items)
+EndsText S state (Err f) = (f ≡ faults.BadCsv 1)
+    × (IsRowSoFar S state.text.items state.place → is_open S state.text.items ≡ true)
+
+-- the bytes ended: this is the length of their first row, or they end within its quotes
+abbrev pub FinishesText : Separator → (old new : FirstRow) → Result ℕ ToolFault → Type 0
+FinishesText S old new (Ok end) = (taken_by new ≡ taken_by old)
+    × SplitsMark (taken_by old) new.mark.items new.text.items × (IsWide (taken_by old) → ⊥)
+    × (EndsRow S new.text.items end ⊎ ((end ≡ length new.text.items) × IsWholeRow S new.text.items))
+FinishesText S old new (Err f) = ((f ≡ faults.BadCsv 1) × HasOpenHeading S (taken_by old))
+    ⊎ StopsText S (taken_by old) f
+
+-- how the reading of the first row of a reader ended
+abbrev pub EndsReading : {I : Type 0} → Separator → (I → Option (List ℕ)) → (before after : Device I)
+    → FirstRow → (reads : ℕ) → (read : List ℕ) → Result ℕ ToolFault → Type 0
+EndsReading S remaining before after state reads read (Ok end) = (taken_by state ≡ read)
+    × (end ≤ length state.text.items) × KnowsHeading S remaining after read (heading_in state.text.items end)
+EndsReading S remaining before after state reads read (Err f) = StopsHeading S remaining before after reads read f
+
+-- the first row of a reader was read
+pub record ReadsHeading {I : Type 0} (S : Separator) (remaining : I → Option (List ℕ)) (before after : Device I)
+    (state : FirstRow) (result : Result ℕ ToolFault) : Type 0 where
+  pub read : List ℕ
+  pub reads : ℕ
+  pub consumes : Consumes (remaining (inner_of before)) (remaining (inner_of after)) read
+  pub calls : HasRead before after reads
+  pub bounded : reads ≤ most_reads
+  pub ends : EndsReading S remaining before after state reads read result

@@ -1,0 +1,4 @@
+-- What the contracts on headings cite.
+pub mod Names
+pub mod Headings
+pub mod Finding

@@ -1,0 +1,209 @@
+//! Reading the first row of a text.
+ghost use Rattle.std.specs.Prelude.{◌≡◌, [], IfOk};
+ghost use Rattle.lt_heading.specs.Headings as spec;
+ghost use Rattle.lt_heading.specs.Headings.{AppendsPart, BeginsText, EndsText, FinishesText, IsGoing, IsRowSoFar, IsUndecided, ReadsHeading, TakesPiece, TakesText};
+
+use lt_jar::Device;
+use lt_lines::ToolFault;
+use lt_rows::{Place, Separator, after_text, is_wide, may_be_mark, split_first, split_mark};
+use std::alloc::{AllocError, Global};
+use std::io::Read;
+
+/// The most bytes of a row: 16 MiB.
+const LONGEST_ROW: usize = 16_777_216;
+
+/// The most reads of one heading.
+const MOST_READS: u32 = 10_000_000;
+
+/// The most bytes that a read is asked for.
+const PIECE: usize = 65536;
+
+/// The first row of a text that comes in pieces.
+#[derive(Drop)]
+pub(crate) struct FirstRow {
+    /// The first bytes, while they may be a part of a byte order mark, and then the mark.
+    pub(crate) mark: Vec<u8>,
+    /// Whether the mark is known.
+    is_begun: bool,
+    /// The text after the mark.
+    pub(crate) text: Vec<u8>,
+    /// The place after that, while it is one row.
+    place: Place,
+}
+
+/// The place after more bytes of a row, by that before them.
+fn place_then(separator: Separator, place: Place, part: &[u8]) -> Place
+    ensures { result ≡ spec.place_then separator place part.now }
+{
+    match separator {
+        Separator::Tab => Place::Fresh,
+        Separator::Delimiter(delimiter) => after_text(delimiter, place, part),
+    }
+}
+
+/// The fault of a first row that is too long.
+fn long_fault(separator: Separator) -> ToolFault
+    ensures { result ≡ spec.long_fault separator }
+{
+    match separator {
+        Separator::Tab => ToolFault::BadTsv(1),
+        Separator::Delimiter(_) => ToolFault::BadCsv(1),
+    }
+}
+
+/// Appends more bytes to a row, and gives the place after them.
+fn append_part(
+    separator: Separator,
+    text: &mut Vec<u8>,
+    place: Place,
+    part: &[u8],
+) -> Result<Place, ToolFault>
+    ensures { AppendsPart separator place part.now text.old.items text.new.items result }
+{
+    if text.len().saturating_add(part.len()) > LONGEST_ROW {
+        return Err(long_fault(separator));
+    }
+    text.extend_from_slice(part)?;
+    Ok(place_then(separator, place, part))
+}
+
+/// Appends a piece to a text that is one row so far, and tells where the first row ends, if it does.
+fn take_text(
+    separator: Separator,
+    text: &mut Vec<u8>,
+    place: &mut Place,
+    piece: &[u8],
+) -> Result<Option<usize>, ToolFault>
+    requires { IsRowSoFar separator text.old.items place.old }
+    ensures { TakesText separator piece.now text.old.items text.new.items place.new result }
+{
+    let mut rest = piece;
+    while let Some((part, after)) = split_first(b'\n', rest) {
+        *place = append_part(separator, text, *place, part)?;
+        if !place.is_quoted() {
+            let end = text.len();
+            text.extend_from_slice(b"\n")?;
+            text.extend_from_slice(after)?;
+            return Ok(Some(end));
+        }
+        *place = append_part(separator, text, *place, b"\n")?;
+        rest = after;
+    }
+    *place = append_part(separator, text, *place, rest)?;
+    Ok(None)
+}
+
+impl FirstRow {
+    /// Nothing taken so far.
+    pub(crate) fn new(alloc: Global) -> FirstRow
+        ensures undecided { IsUndecided result }
+        ensures nothing { spec.taken_by result ≡ [] }
+    {
+        FirstRow {
+            mark: Vec::new(alloc),
+            is_begun: false,
+            text: Vec::new(alloc),
+            place: Place::Fresh,
+        }
+    }
+
+    /// Splits the mark off the bytes that are kept, and takes the text after it.
+    fn begin(&mut self, separator: Separator) -> Result<Option<usize>, ToolFault>
+        requires none { self.old.text.items ≡ [] }
+        requires fresh { self.old.place ≡ Place.Fresh }
+        ensures { BeginsText separator self.old self.new result }
+    {
+        let (mark, text) = split_mark(&self.mark);
+        let count = mark.len();
+        let end = take_text(separator, &mut self.text, &mut self.place, text)?;
+        self.mark.truncate(count);
+        self.is_begun = true;
+        Ok(end)
+    }
+
+    /// Takes the next bytes, and tells where the first row ends in the text after the mark, if it does.
+    fn take_piece(
+        &mut self,
+        separator: Separator,
+        piece: &[u8],
+    ) -> Result<Option<usize>, ToolFault>
+        requires { IsGoing separator self.old }
+        ensures { TakesPiece separator piece.now self.old self.new result }
+    {
+        if self.is_begun {
+            return take_text(separator, &mut self.text, &mut self.place, piece);
+        }
+        self.mark.extend_from_slice(piece)?;
+        if is_wide(&self.mark) {
+            return Err(ToolFault::Utf16);
+        }
+        if may_be_mark(&self.mark) {
+            return Ok(None);
+        }
+        self.begin(separator)
+    }
+
+    /// All bytes that were taken.
+    pub(crate) fn into_bytes(self) -> Result<Vec<u8>, AllocError>
+        ensures { IfOk result (λ bytes. bytes.items ≡ spec.taken_by self) }
+    {
+        let FirstRow {
+            mut mark,
+            text,
+            is_begun: _,
+            place: _,
+        } = self;
+        mark.extend_from_slice(&text)?;
+        Ok(mark)
+    }
+
+    /// Ends the text, which is one row, and tells its length.
+    fn end_text(&self) -> Result<usize, ToolFault>
+        ensures { (separator : Separator) → EndsText separator self.now result }
+    {
+        if self.place.is_quoted() {
+            return Err(ToolFault::BadCsv(1));
+        }
+        Ok(self.text.len())
+    }
+
+    /// Ends the bytes, and tells where the first row ends.
+    fn finish(&mut self, separator: Separator) -> Result<usize, ToolFault>
+        requires { IsGoing separator self.old }
+        ensures { FinishesText separator self.old self.new result }
+    {
+        if self.is_begun {
+            return self.end_text();
+        }
+        match self.begin(separator)? {
+            Some(end) => Ok(end),
+            None => self.end_text(),
+        }
+    }
+}
+
+/// Reads the first row, and tells where it ends in the text after the mark.
+pub(crate) fn read_heading<R: Read>(
+    alloc: Global,
+    separator: Separator,
+    input: &mut Device<R>,
+    first: &mut FirstRow,
+) -> Result<usize, ToolFault>
+    requires undecided { IsUndecided first.old }
+    requires nothing { spec.taken_by first.old ≡ [] }
+    ensures { ReadsHeading separator R.remaining input.old input.new first.new result }
+{
+    let mut buffer = vec![in alloc; 0u8; PIECE]?;
+    for _read in 0..MOST_READS {
+        match input.read(&mut buffer) {
+            Ok(0) => return first.finish(separator),
+            Ok(count) => {
+                if let Some(end) = first.take_piece(separator, &buffer[..count])? {
+                    return Ok(end);
+                }
+            }
+            Err(_) => return Err(ToolFault::Read),
+        }
+    }
+    Err(ToolFault::TooManyTurns)
+}

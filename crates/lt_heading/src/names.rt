@@ -1,0 +1,141 @@
+//! The names of a heading, and where a name stands among them.
+ghost use Rattle.std.specs.Prelude.{◌≡◌, ◌++◌, ℕ, List, IfOk, OnOk, false, string_bytes};
+ghost use Rattle.std.specs.Option.{option_map};
+ghost use Rattle.lt_jar.specs.Lines.{content_of};
+ghost use Rattle.lt_heading.specs.Names as spec;
+ghost use Rattle.lt_heading.specs.Names.{AreNames, IsFound, IsNameOf, LooksUp, found_then, shown_name, shown_names};
+
+use lt_rows::{Separator, find_field, text_in};
+use lt_words::escaped;
+use std::alloc::{AllocError, Global};
+
+/// Where a name stands among others.
+#[derive(Clone, Copy)]
+pub(crate) enum Found {
+    /// It is none of them.
+    Missing,
+    /// It is the one of this number, counted from 1, alone.
+    Only(usize),
+    /// It is more than one of them.
+    Repeated,
+}
+
+impl Found {
+    /// The same with one name more, which has this number.
+    fn with(self, number: usize, is_name: bool) -> Found
+        ensures { result ≡ found_then self number is_name }
+    {
+        match self {
+            _ if !is_name => self,
+            Found::Missing => Found::Only(number),
+            Found::Only(_) | Found::Repeated => Found::Repeated,
+        }
+    }
+}
+
+/// What was found of a name in a heading.
+#[derive(Drop)]
+pub(crate) struct Looked {
+    pub(crate) found: Found,
+    /// All names, each after a space and between quotes.
+    pub(crate) listed: String,
+}
+
+/// A text in quotes as it is meant: a quote that follows another one that stays is left out.
+fn undoubled(alloc: Global, text: &[u8]) -> Result<Vec<u8>, AllocError>
+    ensures { IfOk result (λ name. name.items ≡ spec.undoubled false text.now) }
+{
+    let mut name = Vec::new(alloc);
+    let mut is_after_quote = false;
+    for byte in text {
+        if is_after_quote && *byte == b'"' {
+            is_after_quote = false;
+            continue;
+        }
+        name.push(*byte)?;
+        is_after_quote = *byte == b'"';
+    }
+    Ok(name)
+}
+
+/// The name of the column that has this field in the heading.
+fn name_of(alloc: Global, separator: Separator, field: &[u8]) -> Result<Vec<u8>, AllocError>
+    ensures { IfOk result (λ name. IsNameOf separator field.now name.items) }
+{
+    let (quotes, text) = text_in(separator, field);
+    if !quotes.is_empty() {
+        return undoubled(alloc, text);
+    }
+    let mut name = Vec::new(alloc);
+    name.extend_from_slice(text)?;
+    Ok(name)
+}
+
+/// Appends a name as it is shown, after a space and between quotes.
+pub(crate) fn append_shown(
+    shown: &mut String,
+    alloc: Global,
+    name: &[u8],
+) -> Result<(), AllocError>
+    ensures { OnOk result (string_bytes shown.new ≡ string_bytes shown.old ++ shown_name name.now) }
+{
+    let name = escaped(alloc, name)?;
+    shown.push_str(" \"")?;
+    shown.push_str(&name)?;
+    shown.push('"')
+}
+
+/// Looks a name up in the row that a heading is.
+fn look_up_in_row(
+    alloc: Global,
+    separator: Separator,
+    row: &[u8],
+    name: &[u8],
+) -> Result<Looked, AllocError>
+    ensures { IfOk result (λ looked. (names : List (List ℕ)) × AreNames separator row.now names × IsFound name.now names looked.found
+        × (string_bytes looked.listed ≡ shown_names names)) }
+{
+    let mut found = Found::Missing;
+    let mut listed = String::new(alloc);
+    let mut count = 0;
+    let mut rest = row;
+    while let Some((_, field, after)) = find_field(separator, rest, 0) {
+        let other = name_of(alloc, separator, field)?;
+        append_shown(&mut listed, alloc, &other)?;
+        count += 1;
+        found = found.with(count, other.as_slice() == name);
+        match after.split_first() {
+            Some((_, more)) => rest = more,
+            None => return Ok(Looked { found, listed }),
+        }
+    }
+    Ok(Looked { found, listed })
+}
+
+/// A row without the carriage return that may end it.
+fn without_return(row: &[u8]) -> &[u8]
+    ensures { result.now ≡ content_of row.now }
+{
+    match row.last() {
+        Some(b'\r') => &row[..row.len() - 1],
+        _ => row,
+    }
+}
+
+/// Looks a name up in a heading, if there is one.
+pub(crate) fn look_up(
+    alloc: Global,
+    separator: Separator,
+    heading: Option<&[u8]>,
+    name: &[u8],
+) -> Result<Looked, AllocError>
+    ensures { IfOk result (LooksUp separator (option_map (λ row. row.now) heading.entry) name.now) }
+{
+    match heading {
+        Some(row) => look_up_in_row(alloc, separator, without_return(row), name),
+        None => Ok(Looked {
+            found: Found::Missing,
+            listed: String::new(alloc),
+        }),
+    }
+}

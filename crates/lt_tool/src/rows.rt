@@ -1,0 +1,132 @@
+//! What is answered to rows.
+ghost use Rattle.std.specs.Prelude.{◌≡◌};
+ghost use Rattle.std.specs.Io.KnownBytes.{prepend_known};
+ghost use Rattle.lt_jar.specs.Devices.{inner_of};
+ghost use Rattle.lt_registry.specs.ReadRegistry.{Reading};
+ghost use Rattle.lt_tool.specs.Codes.{code_of};
+ghost use Rattle.lt_tool.specs.Printed as spec;
+ghost use Rattle.lt_tool.specs.Printed.{AnswersRows, RunsAfter, RunsNamed};
+ghost use Rattle.lt_tool.specs.Registries.{HoldsRegistry, ReadsFile};
+ghost use Rattle.lt_tool.specs.Streams.{handed, stream};
+
+use crate::answered::Answered;
+use crate::printing::{answer_lines, print_answer, run_by_registry, say, say_fault};
+use crate::registries::{read_registry, refuse};
+use crate::status::Status;
+use lt_canon::Checked;
+use lt_heading::{ColumnFault, find_column};
+use lt_jar::Device;
+use lt_lines::{LineForm, RowForm};
+use lt_registry::Lookup;
+use lt_rows::Separator;
+use lt_words::{Column, Rows};
+use std::alloc::Global;
+use std::io::{Read, Write};
+
+/// What rows are whose words are these, and whose column has this number.
+fn row_form(rows: &Rows, number: usize) -> RowForm
+    ensures { result ≡ spec.row_form rows.now number }
+{
+    RowForm {
+        before: number.saturating_sub(1),
+        has_heading: rows.heading,
+        is_kept: rows.keep,
+    }
+}
+
+/// What each line is, if this parts the fields of rows.
+fn line_form(separator: Separator, rows: &Rows, number: usize) -> LineForm
+    ensures { result ≡ spec.line_form separator rows.now number }
+{
+    let form = row_form(rows, number);
+    match separator {
+        Separator::Tab => LineForm::Row(form),
+        Separator::Delimiter(delimiter) => LineForm::Csv(form, delimiter),
+    }
+}
+
+/// Answers these bytes and then those of the input.
+fn answer_after<L: Lookup, I: Read, O: Write, E: Write>(
+    alloc: Global,
+    checked: &Checked<L>,
+    form: LineForm,
+    front: &[u8],
+    input: &mut Device<I>,
+    output: &mut Device<O>,
+    errors: &mut Device<E>,
+    answered: &mut Answered,
+) -> Status
+    ensures { (reading : Reading) → HoldsRegistry reading (L.listed checked.now) → RunsAfter form reading I.remaining (prepend_known front.now (I.remaining (inner_of input.old)))
+        (stream O.contents output.old output.new) (stream E.contents errors.old errors.new) (handed answered.old answered.new) (code_of result) }
+{
+    let mut ahead = Device::new(front.chain(input));
+    run_by_registry(alloc, checked, form, &mut ahead, output, errors, answered)
+}
+
+/// Answers the rows of the input by the column of this name and by a registry.
+fn answer_named<L: Lookup, I: Read, O: Write, E: Write>(
+    alloc: Global,
+    checked: &Checked<L>,
+    separator: Separator,
+    rows: &Rows,
+    name: &str,
+    input: &mut Device<I>,
+    output: &mut Device<O>,
+    errors: &mut Device<E>,
+    answered: &mut Answered,
+) -> Status
+    ensures { (reading : Reading) → HoldsRegistry reading (L.listed checked.now) → RunsNamed separator rows.now name.now reading (stream I.remaining input.old input.new)
+        (stream O.contents output.old output.new) (stream E.contents errors.old errors.new) (handed answered.old answered.new) (code_of result) }
+{
+    match find_column(alloc, separator, name, input) {
+        Ok(found) => {
+            let form = line_form(separator, rows, found.number);
+            answer_after(
+                alloc,
+                checked,
+                form,
+                &found.front,
+                input,
+                output,
+                errors,
+                answered,
+            )
+        }
+        Err(ColumnFault::Name(line)) => {
+            say(line.as_bytes(), errors);
+            Status::Usage
+        }
+        Err(ColumnFault::Heading(fault)) => {
+            say_fault(fault, errors);
+            Status::Failed
+        }
+    }
+}
+
+/// Answers the rows of the input by their column and by the registry of a file.
+pub(crate) fn answer_rows<F: Read, I: Read, O: Write, E: Write>(
+    alloc: Global,
+    separator: Separator,
+    rows: &Rows,
+    file: &mut Device<F>,
+    input: &mut Device<I>,
+    output: &mut Device<O>,
+    errors: &mut Device<E>,
+    answered: &mut Answered,
+) -> Status
+    ensures { ReadsFile (stream F.remaining file.old file.new) (AnswersRows separator rows.now rows.now.column (stream I.remaining input.old input.new)
+        (stream O.contents output.old output.new) (stream E.contents errors.old errors.new) (handed answered.old answered.new) (code_of result)) }
+{
+    match &rows.column {
+        Column::Number(number) => {
+            let form = line_form(separator, rows, *number);
+            answer_lines(alloc, form, file, input, output, errors, answered)
+        }
+        Column::Name(name) => match read_registry(alloc, file) {
+            Ok(checked) => answer_named(
+                alloc, &checked, separator, rows, name, input, output, errors, answered,
+            ),
+            Err(refusal) => print_answer(refuse(alloc, &refusal), output, errors),
+        },
+    }
+}
