@@ -38,13 +38,18 @@ pub begin_stopped : (S : Separator) (kept mark text old_text new_text : List ℕ
 begin_stopped S kept mark text old_text new_text place f s none (inl memory) = inl memory
 begin_stopped S kept mark text old_text new_text place f s none (inr long) = inr (
   long.0,
-  record { mark = mark; text = text; split = s; begins = record {
-    begun = long.1.begun;
-    rest = long.1.rest;
-    cut = sym (ap (λ l. l ++ text) none) ∙ long.1.cut;
-    one = long.1.one;
-    long = long.1.long;
-  } },
+  record {
+    mark = mark;
+    text = text;
+    split = s;
+    begins = record {
+      begun = long.1.begun;
+      rest = long.1.rest;
+      cut = sym (ap (λ l. l ++ text) none) ∙ long.1.cut;
+      one = long.1.one;
+      long = long.1.long;
+    };
+  },
 )
 
 -- ---- pieces

@@ -122,11 +122,7 @@ impl FirstRow {
     }
 
     /// Takes the next bytes, and tells where the first row ends in the text after the mark, if it does.
-    fn take_piece(
-        &mut self,
-        separator: Separator,
-        piece: &[u8],
-    ) -> Result<Option<usize>, ToolFault>
+    fn take_piece(&mut self, separator: Separator, piece: &[u8]) -> Result<Option<usize>, ToolFault>
         requires { IsGoing separator self.old }
         ensures { TakesPiece separator piece.now self.old self.new result }
     {

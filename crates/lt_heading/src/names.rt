@@ -72,11 +72,7 @@ fn name_of(alloc: Global, separator: Separator, field: &[u8]) -> Result<Vec<u8>,
 }
 
 /// Appends a name as it is shown, after a space and between quotes.
-pub(crate) fn append_shown(
-    shown: &mut String,
-    alloc: Global,
-    name: &[u8],
-) -> Result<(), AllocError>
+pub(crate) fn append_shown(shown: &mut String, alloc: Global, name: &[u8]) -> Result<(), AllocError>
     ensures { OnOk result (string_bytes shown.new ≡ string_bytes shown.old ++ shown_name name.now) }
 {
     let name = escaped(alloc, name)?;

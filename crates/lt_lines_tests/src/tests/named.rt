@@ -206,7 +206,10 @@ fn names_are_found(rt: HostRuntime) -> Result<(), Fail> {
     for (words, input, printed, said, status) in &RUNS {
         for piece in [1usize, 2, 3, 64] {
             let ended = run(rt.alloc(), words, &sample, input, piece, 1000);
-            assert!(rt; is_so(&ended, printed.as_bytes(), said.as_bytes(), *status), "{printed}{said}");
+            assert!(rt;
+                is_so(&ended, printed.as_bytes(), said.as_bytes(), *status),
+                "{printed}{said}"
+            );
         }
     }
     Ok(())
@@ -239,7 +242,11 @@ fn names_are_numbers(rt: HostRuntime) -> Result<(), Fail> {
 fn is_failed(ended: &Option<Ended>, wanted: &Option<Ended>, whole: &[u8]) -> bool {
     match (ended, wanted) {
         (Some(ended), Some(wanted)) => {
-            let printed = if wanted.output.len() > 3 { wanted.output.as_slice() } else { b"".as_slice() };
+            let printed = if wanted.output.len() > 3 {
+                wanted.output.as_slice()
+            } else {
+                b"".as_slice()
+            };
             whole.starts_with(&ended.output)
                 && ended.output.as_slice() == printed
                 && ended.errors.as_slice() == b"! Read\n".as_slice()
