@@ -2,3 +2,4 @@ pub mod FrontLemmas
 pub mod TurnLemmas
 pub mod PieceLemmas
 pub mod FilterLemmas
+pub mod GrammarLaws

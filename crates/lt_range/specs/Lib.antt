@@ -4,3 +4,4 @@ pub mod Matching
 pub mod Filtering
 pub mod Lookup
 pub mod Names
+pub mod Laws

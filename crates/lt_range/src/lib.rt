@@ -5,6 +5,7 @@
 mod cuts;
 mod faults;
 mod filters;
+pub mod laws;
 mod lookups;
 mod matching;
 mod ranges;

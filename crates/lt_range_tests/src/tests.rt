@@ -3,6 +3,7 @@ mod faults;
 mod growths;
 mod lists;
 mod matching;
+mod peers;
 
 use lt_range::{LanguageRange, RangeFault, TagSubtags};
 use lt_tag::read_tag;
