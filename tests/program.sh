@@ -172,7 +172,7 @@ printf '\357\273\277tag,"say ""tag""",tag\nde,iw,x\n' > twice
 "$program" csv "$sample" 'say "tag"' < twice > out 2> err; is 'csv: a name with quotes' 0 '\357\273\277tag,"say ""tag""",tag,langtag_fault\nde,he,x,\n' ''
 "$program" csv "$sample" tag < twice > out 2> err; is 'csv: a name that stands twice' 3 '' 'error: more than one column has the name "tag"; names: "tag" "say "tag"" "tag"\n'
 "$program" csv "$sample" Tag < records > out 2> err; is 'csv: a name that is missing' 3 '' 'error: no column has the name "Tag"; names: "id" "tag"\n'
-printf 'Gr\303\266\303\237e\033,tag\n' | "$program" csv "$sample" x > out 2> err; is 'csv: names as they are told' 3 '' 'error: no column has the name "x"; names: "Gr\\\\xc3\\\\xb6\\\\xc3\\\\x9fe\\\\x1b" "tag"\n'
+printf 'Gr\303\266\303\237e\033,tag\n' | "$program" csv "$sample" x > out 2> err; is 'csv: names as they are told' 3 '' 'error: no column has the name "x"; names: "Gr\\xc3\\xb6\\xc3\\x9fe\\x1b" "tag"\n'
 "$program" csv "$sample" tag < empty > out 2> err; is 'csv: a name in no row' 3 '' 'error: no column has the name "tag"; names:\n'
 printf 'id,"tag' | "$program" csv "$sample" tag > out 2> err; is 'csv: a heading in an open quote' 4 '' '! BadCsv line 1\n'
 printf '\377\376i\0' | "$program" csv "$sample" tag > out 2> err; is 'csv: a name in UTF-16' 4 '' '! Utf16\n'
