@@ -200,16 +200,19 @@ fn append_row<L: Lookup>(
         → AreRecent (terms (L.listed checked.now) (LineForm.Row form)) recent.new) }
 {
     let line = &text[..count];
+    let row = without_return(line);
     match looked_at(separator, form.before, look, text, count).found {
         Found::Return => {
-            append_longer(lines, form.is_kept, separator, without_return(line), "", "BadReturn", line)?;
+            append_longer(lines, form.is_kept, separator, row, "", "BadReturn", line)?;
             Ok(true)
         }
         Found::Fewer => {
-            append_longer(lines, form.is_kept, separator, without_return(line), "", "NoColumn", line)?;
+            append_longer(lines, form.is_kept, separator, row, "", "NoColumn", line)?;
             Ok(true)
         }
-        Found::Text(place) => append_found(lines, alloc, checked, separator, form, recent, place, text, count),
+        Found::Text(place) => append_found(
+            lines, alloc, checked, separator, form, recent, place, text, count,
+        ),
     }
 }
 

@@ -99,28 +99,28 @@ fn append_found<L: Lookup>(
     Ok(refused)
 }
 
-/// Appends the canonical text of a field, the first `count` bytes of a text, or tells why it is refused. A field whose
-/// subtags stay as they are is answered at once, and another canonical text that was found lately is not worked out again:
-/// where 32 bytes are left of the text, it is looked for without a copy.
+/// Appends the canonical text of a field, the first `count` bytes of the rest of a text, or tells why it is refused. A field
+/// whose subtags stay as they are is answered at once, and another canonical text that was found lately is not worked out
+/// again: where the rest has 32 bytes, it is looked for without a copy.
 pub(crate) fn append_field<L: Lookup>(
     lines: &mut Vec<u8>,
     alloc: Global,
     checked: &Checked<L>,
     row: RowForm,
     recent: &mut RecentAnswers,
-    text: &[u8],
+    rest: &[u8],
     count: usize,
 ) -> Result<Option<TextRefusal>, OutOfMemory>
-    requires { count ≤ length text.now }
+    requires { count ≤ length rest.now }
     ensures owed { IfOk result (λ refusal. AreRecent (terms (L.listed checked.now) (LineForm.Row row)) recent.old
-        → FieldReply (L.listed checked.now) (take count text.now) lines.old.items lines.new.items refusal) }
+        → FieldReply (L.listed checked.now) (take count rest.now) lines.old.items lines.new.items refusal) }
     ensures recent { OnOk result (AreRecent (terms (L.listed checked.now) (LineForm.Row row)) recent.old
         → AreRecent (terms (L.listed checked.now) (LineForm.Row row)) recent.new) }
 {
-    if append_usual_text(checked, &text[..count], lines)? {
+    if append_usual_text(checked, &rest[..count], lines)? {
         return Ok(None);
     }
-    append_found_field(lines, alloc, checked, row, recent, text, count)
+    append_found_field(lines, alloc, checked, row, recent, rest, count)
 }
 
 /// The same of any field, by the canonical texts that were found lately.
@@ -130,20 +130,20 @@ fn append_found_field<L: Lookup>(
     checked: &Checked<L>,
     row: RowForm,
     recent: &mut RecentAnswers,
-    text: &[u8],
+    rest: &[u8],
     count: usize,
 ) -> Result<Option<TextRefusal>, OutOfMemory>
-    requires { count ≤ length text.now }
+    requires { count ≤ length rest.now }
     ensures owed { IfOk result (λ refusal. AreRecent (terms (L.listed checked.now) (LineForm.Row row)) recent.old
-        → FieldReply (L.listed checked.now) (take count text.now) lines.old.items lines.new.items refusal) }
+        → FieldReply (L.listed checked.now) (take count rest.now) lines.old.items lines.new.items refusal) }
     ensures recent { OnOk result (AreRecent (terms (L.listed checked.now) (LineForm.Row row)) recent.old
         → AreRecent (terms (L.listed checked.now) (LineForm.Row row)) recent.new) }
 {
-    if let Some(found) = recent.whole.find(text, count) {
+    if let Some(found) = recent.whole.find(rest, count) {
         found.answer.append_to(lines)?;
         return Ok(None);
     }
-    let field = &text[..count];
+    let field = &rest[..count];
     let start = lines.len();
     match recent
         .ends

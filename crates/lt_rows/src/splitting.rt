@@ -65,13 +65,7 @@ pub(crate) fn is_free_of_both(one: u8, other: u8, text: &[u8], count: usize) -> 
     ensures { IsTrue result ↔ (IsFreeOf one (take count text.now) × IsFreeOf other (take count text.now)) }
 {
     match memchr2(one, other, near(text, count)) {
-        Some(index) => {
-            if index < count {
-                false
-            } else {
-                true
-            }
-        }
+        Some(index) => count <= index,
         None => true,
     }
 }
