@@ -69,7 +69,7 @@ content_quoted d line = elim (cases_Bool (ends_with_byte 13 line)) [
 
 -- what a look tells of a line of which nothing is kept
 look_open : (form : LineForm) (line : List ℕ) (look : Look) → IsLook form line (Some look) → look.is_open ≡ is_quoted (place_then form places.Fresh line)
-look_open forms.Tag line look is = cc
+look_open forms.Tag line look is = let bad : Some look ≡ None = is in cc
 look_open (forms.Row row) line look is = is.open
 look_open (forms.Csv row delimiter) line look is = is.open ∙ content_quoted delimiter line
 

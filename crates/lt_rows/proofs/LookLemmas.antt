@@ -1,7 +1,7 @@
 -- What a row is answered by.
 use Rattle.std.proofs.Common.{refl, ◌≡◌, ◌≢◌, ◌≤◌, ◌+◌, ◌-◌, ◌++◌, [], ◌∷◌, ◌∙◌, ℕ, Bool, true, false, List, length, sym, ap, arith, subst, take, drop, append_assoc, length-append, take-append-drop}
 use Rattle.std.proofs.Math.Seq.{take-append_seam, drop-append_seam}
-use Rattle.std.proofs.lemmas.List.{length-drop, length-take-le}
+use Rattle.std.proofs.lemmas.List.{drop-take, length-drop, length-take-le}
 use Rattle.std.specs.List.{AllByRecursion}
 use Rattle.lt_rows.specs.Quotes.{IsFreeOutside, is_quoted, place_after, place_at}
 use Rattle.lt_rows.specs.Rows.{HasField, HasReturn, IsEnded, IsFieldAt, IsTextIn, Skips, separated}
@@ -22,6 +22,10 @@ use Rattle.lt_rows.proofs.RowLemmas.{after_other, closed_of_free, free_of_none, 
 pub closed_rest : (d start count : ℕ) (text : List ℕ) → start ≤ count → IsFreeOf 34 (take (count - start) (take (length text - start) (drop start text)))
     → is_quoted (place_at d places.Fresh (drop start (take count text))) ≡ false
 closed_rest d start count text le free = closed_of_free d places.Fresh (drop start (take count text)) refl (subst (IsFreeOf 34) (left_is text count start le) free)
+
+-- the rest as a slice
+pub rest_slice : (start count : ℕ) (text : List ℕ) → start ≤ count → take (count - start) (drop start text) ≡ drop start (take count text)
+rest_slice start count text le = sym (drop-take start (count - start) text) ∙ ap (λ n. drop start (take n text)) (omega (arith, le))
 
 -- a field begins fresh after a separator
 module _ (d : ℕ) (unquoted : d ≢ 34) where
@@ -57,7 +61,8 @@ text_there S before row start end quotes text place f is first last =
     let front = take start row in
     let after = drop end row in
     let field = take (end - start) (drop start row) in
-    let split : row ≡ (front ++ quotes) ++ (text ++ (quotes ++ after)) = f.at.row_is ∙ ap (λ l. front ++ (l ++ after)) is.field_is ∙ simp append_assoc in
+    let parts : front ++ ((quotes ++ (text ++ quotes)) ++ after) ≡ (front ++ quotes) ++ (text ++ (quotes ++ after)) = simp append_assoc in
+    let split : row ≡ (front ++ quotes) ++ (text ++ (quotes ++ after)) = f.at.row_is ∙ ap (λ l. front ++ (l ++ after)) is.field_is ∙ parts in
     let front_long : length front ≡ start = length-take-le start row (omega (arith, f.ordered, f.inside)) in
     let begins : place.start ≡ length (front ++ quotes) = omega (arith, first, front_long, length-append front quotes) in
     let cut = cut_in_three row (front ++ quotes) text (quotes ++ after) place.start place.end split begins last in

@@ -51,7 +51,7 @@ fn is_plain_line(separator: Separator, text: &[u8], count: usize) -> bool
 }
 
 /// Whether the first `count` bytes of a text end within quotes, where a field begins at this place of them.
-#[tactic(auto, using(crate::proofs::LookLemmas::closed_rest))]
+#[tactic(auto, using(crate::proofs::LookLemmas::closed_rest, crate::proofs::LookLemmas::rest_slice))]
 #[inline(always)]
 fn is_open_from(delimiter: u8, text: &[u8], count: usize, start: usize) -> bool
     requires { (start ≤ count) × (count ≤ length text.now) }
@@ -72,8 +72,13 @@ fn is_open(separator: Separator, text: &[u8], count: usize, start: usize) -> boo
 {
     match separator {
         Separator::Tab => false,
-        Separator::Delimiter(b'"') => is_open_from(b'"', text, count, 0),
-        Separator::Delimiter(delimiter) => is_open_from(delimiter, text, count, start),
+        Separator::Delimiter(delimiter) => {
+            if delimiter == b'"' {
+                is_open_from(delimiter, text, count, 0)
+            } else {
+                is_open_from(delimiter, text, count, start)
+            }
+        }
     }
 }
 
