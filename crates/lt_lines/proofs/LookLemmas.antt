@@ -70,8 +70,8 @@ content_quoted d line = elim (cases_Bool (ends_with_byte 13 line)) [
 -- what a look tells of a line of which nothing is kept
 look_open : (form : LineForm) (line : List ℕ) (look : Look) → IsLook form line (Some look) → look.is_open ≡ is_quoted (place_then form places.Fresh line)
 look_open forms.Tag line look is = let bad : Some look ≡ None = is in cc
-look_open (forms.Row row) line look is = is.open
-look_open (forms.Csv row delimiter) line look is = is.open ∙ content_quoted delimiter line
+look_open (forms.Row row) line look is = is.ends
+look_open (forms.Csv row delimiter) line look is = is.ends ∙ content_quoted delimiter line
 
 pub open_is : (form : LineForm) (kept line : List ℕ) (place : Place) (look : Option Look) (open : Bool) → IsAhead form kept line look
     → MatchOption look (open ≡ is_quoted (place_then form place line)) (λ l. open ≡ l.is_open) → (kept ≡ [] → place ≡ places.Fresh) → open ≡ is_quoted (place_then form place line)

@@ -91,22 +91,24 @@ end_by_parts S row field more ended split =
 -- a rest that begins with a field in quotes: the quote that closes it is at `within` after the first byte
 module _ (d : ℕ) (text : List ℕ) (count : ℕ) (some : 0 < count) (le : count ≤ length text) (quote : get_or text 0 0 ≡ 34) (within : ℕ)
     (p : IsPlaceOf 34 (take (count - 1) (take (length text - 1) (drop 1 text))) (Some within)) (unquoted : d ≢ 34) where
-  row : List ℕ
+  abbrev row : List ℕ
   row = take count text
 
-  tail : List ℕ
+  abbrev tail : List ℕ
   tail = take (count - 1) (take (length text - 1) (drop 1 text))
 
-  body : List ℕ
+  abbrev body : List ℕ
   body = take within tail
 
   row_long : length row ≡ count
   row_long = length-take-le count text le
 
   tail_is : tail ≡ drop 1 row
-  tail_is = ap (take (count - 1)) (take_rest text 1) ∙ sym (drop-take 1 (count - 1) text) ∙ ap (λ n. drop 1 (take n text)) (omega (arith, some))
+  tail_is =
+      let whole : 1 + (count - 1) ≡ count = omega (arith, some) in
+      ap (take (count - 1)) (take_rest text 1) ∙ sym (drop-take 1 (count - 1) text) ∙ ap (λ n. drop 1 (take n text)) whole
 
-  tail_long : length tail ≡ count - 1
+  pub tail_long : length tail ≡ count - 1
   tail_long = ap length tail_is ∙ length-drop 1 row ∙ ap (λ n. n - 1) row_long
 
   body_long : length body ≡ within
@@ -164,7 +166,7 @@ field_there S before start row field after inside s one ends split = record {
   front_is = front_skipped S before start row inside s;
   one = one;
   ends = ends;
-  row_is = sym (take-append-drop start row) ∙ ap (λ l. take start row ++ l) split;
+  row_is = sym (take-append-drop start row) ∙ ap (λ l. take start row ++ l) split ∙ sym (append_assoc (take start row) field after);
 }
 
 -- a separator ends it

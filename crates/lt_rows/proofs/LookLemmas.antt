@@ -61,8 +61,8 @@ text_there S before row start end quotes text place f is first last =
     let front = take start row in
     let after = drop end row in
     let field = take (end - start) (drop start row) in
-    let parts : front ++ ((quotes ++ (text ++ quotes)) ++ after) ≡ (front ++ quotes) ++ (text ++ (quotes ++ after)) = simp append_assoc in
-    let split : row ≡ (front ++ quotes) ++ (text ++ (quotes ++ after)) = f.at.row_is ∙ ap (λ l. front ++ (l ++ after)) is.field_is ∙ parts in
+    let parts : (front ++ ((quotes ++ text) ++ quotes)) ++ after ≡ (front ++ quotes) ++ (text ++ (quotes ++ after)) = simp append_assoc in
+    let split : row ≡ (front ++ quotes) ++ (text ++ (quotes ++ after)) = f.at.row_is ∙ ap (λ l. (front ++ l) ++ after) is.field_is ∙ parts in
     let front_long : length front ≡ start = length-take-le start row (omega (arith, f.ordered, f.inside)) in
     let begins : place.start ≡ length (front ++ quotes) = omega (arith, first, front_long, length-append front quotes) in
     let cut = cut_in_three row (front ++ quotes) text (quotes ++ after) place.start place.end split begins last in
@@ -85,8 +85,8 @@ text_there S before row start end quotes text place f is first last =
 pub text_inside : (S : Separator) (row : List ℕ) (start end : ℕ) (quotes text : List ℕ) → start ≤ end → end ≤ length row → IsTextIn S (take (end - start) (drop start row)) quotes text
     → start + length quotes + length text ≤ length row
 text_inside S row start end quotes text ordered inside is =
-    let long = ap length is.field_is ∙ length-append quotes (text ++ quotes) in
-    omega (arith, long, length-append text quotes, length-take-le (end - start) (drop start row) (omega (arith, ordered, inside, length-drop start row)), ordered, inside)
+    let long = ap length is.field_is ∙ length-append (quotes ++ text) quotes in
+    omega (arith, long, length-append quotes text, length-take-le (end - start) (drop start row) (omega (arith, ordered, inside, length-drop start row)), ordered, inside)
 
 -- ---- looks
 

@@ -33,7 +33,7 @@ module _ (count : ℕ) (text near : List ℕ) (is : IsNear count text near) wher
       let short : length (take stop (take count text)) ≡ stop = length-take-le stop (take count text) (omega (arith, le, row_long)) in
       All-from_get_or (λ other. other ≢ byte) (take stop (take count text)) 0
       (λ k inside e. none k (omega arith) (omega (arith, inside, short))
-        (eq-eqb (get_or near k 0) byte (sym (byte_is k (omega (arith, inside, short, le))) ∙ sym (get_or-take stop (take count text) k 0 (omega (arith, inside, short))) ∙ e)))
+      (eq-eqb (get_or near k 0) byte (sym (byte_is k (omega (arith, inside, short, le))) ∙ sym (get_or-take stop (take count text) k 0 (omega (arith, inside, short))) ∙ e)))
 
   none_at_all : (byte stop : ℕ) → count ≤ stop → Nowhere (Passes (is_byte byte) near) 0 stop → IsFreeOf byte (take count text)
   none_at_all byte stop le none =

@@ -45,5 +45,5 @@ IsFound S before row founds.Fewer = (HasReturn S row → ⊥) × HasFewer S befo
 IsFound S before row (founds.Text place) = (HasReturn S row → ⊥) × HasTextAt S before row place
 
 pub record IsLookAt (S : Separator) (before : ℕ) (row : List ℕ) (look : Look) : Type 0 where
-  pub open : look.is_open ≡ ends_quoted S row
+  pub ends : look.is_open ≡ ends_quoted S row
   pub found : IsFound S before row look.found

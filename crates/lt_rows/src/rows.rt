@@ -92,7 +92,13 @@ fn quoted_end(delimiter: u8, text: &[u8], count: usize) -> Option<usize>
 }
 
 /// Where the rest of a row begins after this many fields, if it has more. The row is the first `count` bytes of a text.
-fn skip_fields(separator: Separator, is_line: bool, text: &[u8], count: usize, before: usize) -> Option<usize>
+fn skip_fields(
+    separator: Separator,
+    is_line: bool,
+    text: &[u8],
+    count: usize,
+    before: usize,
+) -> Option<usize>
     requires count { count ≤ length text.now }
     requires line { IsTrue is_line → IsFreeOf 10 (take count text.now) }
     ensures { MatchOption result (HasFewer separator before (take count text.now)) (λ at. (at ≤ count) × Skips separator before (take count text.now) (drop at (take count text.now))) }
@@ -109,7 +115,13 @@ fn skip_fields(separator: Separator, is_line: bool, text: &[u8], count: usize, b
 
 /// Where the field of a row after this many others begins and ends, if there is one. The row is the first `count` bytes of
 /// a text, and `is_line` tells only of a row without line feeds.
-pub(crate) fn field_at(separator: Separator, is_line: bool, text: &[u8], count: usize, before: usize) -> Option<(usize, usize)>
+pub(crate) fn field_at(
+    separator: Separator,
+    is_line: bool,
+    text: &[u8],
+    count: usize,
+    before: usize,
+) -> Option<(usize, usize)>
     requires count { count ≤ length text.now }
     requires line { IsTrue is_line → IsFreeOf 10 (take count text.now) }
     ensures { MatchOption result (HasFewer separator before (take count text.now)) (λ p. IsFieldAt separator before (take count text.now) p.0 p.1) }

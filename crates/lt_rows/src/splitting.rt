@@ -46,13 +46,7 @@ pub(crate) fn place_within(byte: u8, text: &[u8], count: usize) -> Option<usize>
     ensures { IsPlaceOf byte (take count text.now) result }
 {
     match first_place(byte, near(text, count)) {
-        Some(index) => {
-            if index < count {
-                Some(index)
-            } else {
-                None
-            }
-        }
+        Some(index) => { if index < count { Some(index) } else { None } }
         None => None,
     }
 }
