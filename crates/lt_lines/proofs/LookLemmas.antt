@@ -73,10 +73,10 @@ look_open forms.Tag line look is = let bad : Some look ≡ None = is in cc
 look_open (forms.Row row) line look is = is.ends
 look_open (forms.Csv row delimiter) line look is = is.ends ∙ content_quoted delimiter line
 
-pub open_is : (form : LineForm) (kept line : List ℕ) (place : Place) (look : Option Look) (open : Bool) → IsAhead form kept line look
-    → MatchOption look (open ≡ is_quoted (place_then form place line)) (λ l. open ≡ l.is_open) → (kept ≡ [] → place ≡ places.Fresh) → open ≡ is_quoted (place_then form place line)
-open_is form kept line place None open ahead tells fresh = tells
-open_is form kept line place (Some look) open ahead tells fresh =
+pub open_is : (form : LineForm) (kept line : List ℕ) (place : Place) (look : Option Look) (result : Bool) → IsAhead form kept line look
+    → MatchOption look (result ≡ is_quoted (place_then form place line)) (λ l. result ≡ l.is_open) → (kept ≡ [] → place ≡ places.Fresh) → result ≡ is_quoted (place_then form place line)
+open_is form kept line place None result ahead tells fresh = tells
+open_is form kept line place (Some look) result ahead tells fresh =
     tells ∙ look_open form line look ahead.is_look ∙ ap (λ p. is_quoted (place_then form p line)) (sym (fresh ahead.whole))
 
 -- a line of which nothing is kept begins fresh

@@ -154,7 +154,7 @@ text_within text count place le ordered inside =
 
 module _ (S : Separator) (R : List EntryParts) (row : RowForm) (line old fronted filled new : List ℕ) (place : TextAt) (h : HasTextAt S row.before (content_of line) place)
     (none : HasReturn S (content_of line) → ⊥) where
-  text : List ℕ
+  abbrev text : List ℕ
   text = take (place.end - place.start) (drop place.start (content_of line))
 
   pub found_answered : row.is_kept ≡ false → fronted ≡ old ++ take place.start (content_of line) → AppendsCanonicalText R text fronted filled

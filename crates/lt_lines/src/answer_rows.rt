@@ -147,7 +147,9 @@ fn append_found<L: Lookup>(
     let field = &text[place.start..];
     let length = place.end - place.start;
     if form.is_kept {
-        return append_kept(lines, alloc, checked, separator, form, recent, field, length, line);
+        return append_kept(
+            lines, alloc, checked, separator, form, recent, field, length, line,
+        );
     }
     lines.extend_from_slice(&row[..place.start])?;
     match append_field(lines, alloc, checked, form, recent, field, length)? {
@@ -156,7 +158,8 @@ fn append_found<L: Lookup>(
             Ok(false)
         }
         Some(refusal) => {
-            end_refused(lines, separator, &refusal, &row[place.start..], b"", b"", line)?;
+            let rest = &row[place.start..];
+            end_refused(lines, separator, &refusal, rest, b"", b"", line)?;
             Ok(true)
         }
     }
@@ -267,5 +270,7 @@ pub(crate) fn append_among<L: Lookup>(
         let refused = append_heading(lines, form.is_kept, separator, &text[..count])?;
         return Ok(refused);
     }
-    append_row(lines, alloc, checked, separator, form, recent, look, text, count)
+    append_row(
+        lines, alloc, checked, separator, form, recent, look, text, count,
+    )
 }

@@ -16,7 +16,8 @@ pub(crate) fn look_at_row(separator: Separator, before: usize, text: &[u8], coun
     requires { count ≤ length text.now }
     ensures { IsLookAt separator before (content_of (take count text.now)) result }
 {
-    look_at(separator, text, without_return(&text[..count]).len(), before)
+    let row = without_return(&text[..count]);
+    look_at(separator, text, row.len(), before)
 }
 
 /// The same of a line of this form, if it is a row or a record, and nothing of it is kept.
