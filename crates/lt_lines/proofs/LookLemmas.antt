@@ -1,10 +1,9 @@
 -- Lines of rows that are looked at before they are answered.
-use Rattle.std.proofs.Common.{refl, ◌≡◌, ◌≤◌, ◌<◌, ◌+◌, ◌-◌, ◌==◌, ◌&&◌, ◌++◌, [], ◌∷◌, ◌∙◌, ℕ, Bool, true, false, List, Option, Some, None, MatchOption, inl, inr, length, sym, ap, arith, subst, take, drop, if◌then◌else◌}
+use Rattle.std.proofs.Common.{refl, ◌≡◌, ◌≤◌, ◌<◌, ◌+◌, ◌-◌, ◌&&◌, ◌++◌, [], ◌∷◌, ◌∙◌, ℕ, Bool, true, false, List, Option, Some, None, MatchOption, inl, inr, length, sym, ap, arith, take, if◌then◌else◌}
 use Rattle.std.proofs.lemmas.Bool.{cases_Bool, eqb-true, ltb-true}
 use Rattle.std.proofs.lemmas.List.{drop_all, length-take-le, take-take}
 use Rattle.std.specs.Io.BufRead.{ends_with_byte}
 use Rattle.lt_jar.specs.Lines.{content_of}
-use Rattle.lt_rows.specs.Looks.{IsLookAt}
 use Rattle.lt_rows.specs.Quotes.{is_quoted, place_after, place_at}
 use Rattle.lt_rows.specs.declared.looks.Look.{Look}
 use Rattle.lt_rows.specs.declared.quotes.Place.{Place}

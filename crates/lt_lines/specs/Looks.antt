@@ -1,5 +1,5 @@
 -- Lines of rows that are looked at before they are answered. No public contract cites this.
-use Rattle.std.specs.Prelude.{◌≡◌, ℕ, List, [], Option, Some, None, MatchOption}
+use Rattle.std.specs.Prelude.{◌≡◌, ℕ, List, [], Option, None, MatchOption}
 use Rattle.lt_jar.specs.Lines.{content_of}
 use Rattle.lt_rows.specs.Looks.{IsLookAt}
 use Rattle.lt_rows.specs.declared.looks.Look.{Look}

@@ -1,18 +1,16 @@
 -- Where the first field of the rest of a row ends.
-use Rattle.std.proofs.Common.{refl, ◌≡◌, ◌≢◌, ◌≤◌, ◌<◌, ◌+◌, ◌-◌, ◌==◌, ◌↔◌, ◌++◌, [], ◌∷◌, ◌∙◌, ℕ, zero, suc, Bool, true, false, IsTrue, List, Option, Some, None, inl, inr, length, sym, ap, arith, subst, take, drop, get_or, All, ne_eqb, append_assoc, append-nil, length-append, take-append-drop, ◌||◌, if◌then◌else◌}
-use Rattle.std.proofs.Math.Seq.{take-append_seam, drop-append_seam, drop-length, take-length}
-use Rattle.std.proofs.lemmas.Bool.{eq-eqb}
+use Rattle.std.proofs.Common.{refl, ◌≡◌, ◌≢◌, ◌≤◌, ◌<◌, ◌+◌, ◌-◌, ◌↔◌, ◌++◌, [], ◌∷◌, ◌∙◌, ℕ, zero, suc, Bool, true, false, IsTrue, List, Option, Some, None, inl, inr, length, sym, ap, arith, subst, take, drop, get_or, ne_eqb, append_assoc, append-nil, length-append, take-append-drop}
+use Rattle.std.proofs.Math.Seq.{take-append_seam, drop-append_seam, drop-length}
 use Rattle.std.proofs.lemmas.List.{append_cancel_left, append_cancel_right, drop-drop, drop-take, get_or-take, length-drop, length-take-le, take_rest}
-use Rattle.std.proofs.lemmas.List.Elements.{All-drop, All-head, All-tail, All-take}
-use Rattle.std.specs.List.{AllByRecursion}
+use Rattle.std.proofs.lemmas.List.Elements.{All-head, All-tail}
 use Rattle.lt_rows.specs.Quotes.{IsFreeOutside, is_quoted, place_after, place_at, place_outside}
-use Rattle.lt_rows.specs.Rows.{EndsField, HasField, IsAfterField, IsClosed, IsEnded, IsFieldAt, IsRowField, Skips, separated, separator}
+use Rattle.lt_rows.specs.Rows.{EndsField, HasField, IsAfterField, IsEnded, IsFieldAt, IsRowField, Skips, separated, separator}
 use Rattle.lt_rows.specs.Splitting.{IsFreeOf, IsPlaceOf}
 use Rattle.lt_rows.specs.declared.quotes.Place.TheVariants as places
 use Rattle.lt_rows.specs.declared.rows.Separator.{Separator}
 use Rattle.lt_rows.specs.declared.rows.Separator.TheVariants as separators
 use Rattle.lt_rows.proofs.NearLemmas.{split_there}
-use Rattle.lt_rows.proofs.RowLemmas.{free_of_none, place_at-append, quoted_of_free, skips_more, skips_none}
+use Rattle.lt_rows.proofs.RowLemmas.{free_of_none, place_at-append, quoted_of_free, skips_more}
 
 -- ---- fields by their first byte
 

@@ -1,13 +1,12 @@
 -- What a row is answered by.
-use Rattle.std.proofs.Common.{refl, ◌≡◌, ◌≢◌, ◌≤◌, ◌+◌, ◌-◌, ◌++◌, [], ◌∷◌, ◌∙◌, ℕ, Bool, true, false, List, length, sym, ap, arith, subst, take, drop, append_assoc, length-append, take-append-drop}
+use Rattle.std.proofs.Common.{refl, ◌≡◌, ◌≢◌, ◌≤◌, ◌+◌, ◌-◌, ◌++◌, [], ◌∷◌, ◌∙◌, ℕ, false, List, length, sym, ap, arith, subst, take, drop, append_assoc, length-append, take-append-drop}
 use Rattle.std.proofs.Math.Seq.{take-append_seam, drop-append_seam}
 use Rattle.std.proofs.lemmas.List.{drop-take, length-drop, length-take-le}
 use Rattle.std.specs.List.{AllByRecursion}
-use Rattle.lt_rows.specs.Quotes.{IsFreeOutside, is_quoted, place_after, place_at}
-use Rattle.lt_rows.specs.Rows.{HasField, HasReturn, IsEnded, IsFieldAt, IsTextIn, Skips, separated}
+use Rattle.lt_rows.specs.Quotes.{is_quoted, place_after, place_at}
+use Rattle.lt_rows.specs.Rows.{HasReturn, IsEnded, IsFieldAt, IsTextIn, Skips, separated}
 use Rattle.lt_rows.specs.Splitting.{IsFreeOf}
-use Rattle.lt_rows.specs.Looks.{HasTextAt, IsFound, IsLookAt, IsPlainLine, ends_quoted}
-use Rattle.lt_rows.specs.declared.looks.Look.{Look}
+use Rattle.lt_rows.specs.Looks.{HasTextAt, IsPlainLine}
 use Rattle.lt_rows.specs.declared.looks.TextAt.{TextAt}
 use Rattle.lt_rows.specs.declared.quotes.Place.TheVariants as places
 use Rattle.lt_rows.specs.declared.rows.Separator.{Separator}

@@ -1,6 +1,6 @@
 -- What a row is answered by: whether it ends within quotes, whether it has a carriage return outside of them, and where the
 -- text of one of its fields is.
-use Rattle.std.specs.Prelude.{◌≡◌, ◌≤◌, ◌-◌, ◌++◌, ℕ, Bool, true, false, List, drop, length, take}
+use Rattle.std.specs.Prelude.{◌≡◌, ◌≤◌, ◌-◌, ◌++◌, ℕ, Bool, false, List, drop, length, take}
 use Rattle.lt_rows.specs.Quotes.{is_quoted, place_at}
 use Rattle.lt_rows.specs.Rows.{HasFewer, HasField, HasReturn, IsTextIn}
 use Rattle.lt_rows.specs.Splitting.{IsFreeOf}

@@ -52,4 +52,4 @@ returns-then-form-clause-owed g c =
     let old = c.args.lines.now.items in
     let new = c.append_kept.new.lines.items in
     IfOk-weaker c.append_kept.result _ _ (λ refused kept recent. found_kept c.args.separator R c.args.form line old old old new c.args.place c.requires.place c.requires.none refused c.if-form.true
-        (subst (λ (t : List ℕ). AppendsKept c.args.separator R t line old new refused) (text_is g at.After-without_return-row) (kept recent))) c.append_kept.ensures.owed
+    (subst (λ (t : List ℕ). AppendsKept c.args.separator R t line old new refused) (text_is g at.After-without_return-row) (kept recent))) c.append_kept.ensures.owed

@@ -1,4 +1,4 @@
-use Rattle.std.proofs.Common.{◌≢◌, ℕ, List, Some, arith, length-take-le, subst, sym, take, drop}
+use Rattle.std.proofs.Common.{◌≢◌, ℕ, List, Some, arith, length-take-le, subst, sym, take}
 use Rattle.std.proofs.lemmas.List.Elements.{All-drop}
 use Rattle.lt_rows.specs.Rows.{EndsField, IsRowField}
 use Rattle.lt_rows.specs.Splitting.{IsFreeOf}

@@ -1,4 +1,4 @@
-use Rattle.std.proofs.Common.{◌≡◌, ◌∙◌, ℕ, List, [], ap, subst, sym, take}
+use Rattle.std.proofs.Common.{◌≡◌, ◌∙◌, ℕ, List, [], subst, sym, take}
 use Rattle.std.proofs.lemmas.Result.{on_ok_weaker}
 use Rattle.lt_rows.specs.Quotes.{is_quoted}
 use Rattle.lt_rows.specs.declared.quotes.Place.TheVariants as places
@@ -23,11 +23,11 @@ returns-then-is_open-clause-taken g c =
     let T = terms (g.L.Lookup.listed c.args.checked.now) c.args.form in
     let is = open_there g (goal.at.returns-then-is_open-clause-taken g c).After-is_open in
     on_ok_weaker c.go_on.result (λ goes bytes out one room t. taken_within T bytes out (take c.args.count c.args.text.now) c.args.self.now c.go_on.new.self t one
-        (sym (is (fresh_place T bytes out c.args.self.now t)) ∙ c.if-is_open.true) goes) c.go_on.ensures.taken
+    (sym (is (fresh_place T bytes out c.args.self.now t)) ∙ c.if-is_open.true) goes) c.go_on.ensures.taken
 
 pub returns-clause-taken : goal.returns-clause-taken
 returns-clause-taken g c =
     let T = terms (g.L.Lookup.listed c.args.checked.now) c.args.form in
     let is = open_there g (goal.at.returns-clause-taken g c).After-is_open in
     on_ok_weaker c.answer_line.result (λ taken bytes out one room t. taken bytes out
-        (record { one = one; closed = sym (is (fresh_place T bytes out c.args.self.now t)) ∙ c.if-is_open.false; short = short_by c.args.form c.args.self.now.kept.items _ room }) t) c.answer_line.ensures.taken
+    (record { one = one; closed = sym (is (fresh_place T bytes out c.args.self.now t)) ∙ c.if-is_open.false; short = short_by c.args.form c.args.self.now.kept.items _ room }) t) c.answer_line.ensures.taken
