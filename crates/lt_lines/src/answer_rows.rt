@@ -18,6 +18,7 @@ use lt_tag::OutOfMemory;
 use std::alloc::{AllocError, Global};
 
 /// Appends what ends a line.
+#[inline(always)]
 fn append_end(lines: &mut Vec<u8>, line: &[u8]) -> Result<(), AllocError>
     ensures { OnOk result (lines.new.items ≡ lines.old.items ++ end_of line.now) }
 {
@@ -31,6 +32,7 @@ fn append_end(lines: &mut Vec<u8>, line: &[u8]) -> Result<(), AllocError>
 }
 
 /// Appends a row, this field more where rows are kept, and a last field.
+#[inline(never)]
 fn append_longer(
     lines: &mut Vec<u8>,
     is_kept: bool,
@@ -53,6 +55,7 @@ fn append_longer(
 }
 
 /// Appends what follows the canonical text of a field in a row, and one field more, which is empty.
+#[inline(always)]
 fn end_answered(
     lines: &mut Vec<u8>,
     separator: Separator,
@@ -90,6 +93,7 @@ fn end_refused(
 
 /// Appends a row as it is, with the canonical text of the first `count` bytes of a text, which are that of its field, or with
 /// why it is refused, and tells whether it is.
+#[inline(never)]
 fn append_kept<L: Lookup>(
     lines: &mut Vec<u8>,
     alloc: Global,
@@ -123,6 +127,7 @@ fn append_kept<L: Lookup>(
 
 /// Appends what is owed for a row whose field has its text there, and tells whether it is refused. The row's line is the
 /// first `count` bytes of a text.
+#[inline(always)]
 fn append_found<L: Lookup>(
     lines: &mut Vec<u8>,
     alloc: Global,
@@ -165,25 +170,36 @@ fn append_found<L: Lookup>(
     }
 }
 
+/// Looks at a row of which a front was kept.
+#[inline(never)]
+fn look_at_kept(separator: Separator, before: usize, text: &[u8], count: usize) -> Look
+    requires { count ≤ length text.now }
+    ensures { IsLookAt separator before (content_of (take count text.now)) result }
+{
+    look_at_row(separator, before, text, count)
+}
+
 /// What the line that the first `count` bytes of a text are is answered by, if it was not looked at before.
+#[inline(always)]
 fn looked_at(
     separator: Separator,
     before: usize,
-    look: Option<Look>,
+    look: &Option<Look>,
     text: &[u8],
     count: usize,
 ) -> Look
     requires count { count ≤ length text.now }
-    requires look { IsRowLook separator before (take count text.now) look }
+    requires look { IsRowLook separator before (take count text.now) look.now }
     ensures { IsLookAt separator before (content_of (take count text.now)) result }
 {
     match look {
-        Some(look) => look,
-        None => look_at_row(separator, before, text, count),
+        Some(look) => *look,
+        None => look_at_kept(separator, before, text, count),
     }
 }
 
 /// Appends what is owed for a row, the first `count` bytes of a text, and tells whether it is refused.
+#[inline(always)]
 fn append_row<L: Lookup>(
     lines: &mut Vec<u8>,
     alloc: Global,
@@ -191,12 +207,12 @@ fn append_row<L: Lookup>(
     separator: Separator,
     form: RowForm,
     recent: &mut RecentAnswers,
-    look: Option<Look>,
+    look: &Option<Look>,
     text: &[u8],
     count: usize,
 ) -> Result<bool, OutOfMemory>
     requires count { count ≤ length text.now }
-    requires look { IsRowLook separator form.before (take count text.now) look }
+    requires look { IsRowLook separator form.before (take count text.now) look.now }
     ensures owed { IfOk result (λ refused. AreRecent (terms (L.listed checked.now) (LineForm.Row form)) recent.old
         → AppendsRowReply separator (L.listed checked.now) form (take count text.now) lines.old.items lines.new.items refused) }
     ensures recent { OnOk result (AreRecent (terms (L.listed checked.now) (LineForm.Row form)) recent.old
@@ -220,6 +236,7 @@ fn append_row<L: Lookup>(
 }
 
 /// Appends what is owed for a heading, and tells whether it is refused.
+#[inline(never)]
 fn append_heading(
     lines: &mut Vec<u8>,
     is_kept: bool,
@@ -247,6 +264,7 @@ fn append_heading(
 
 /// Appends what is owed for a line, the first `count` bytes of a text, which may be the first of all, and so a heading, or a
 /// row, and tells whether it is refused.
+#[inline(always)]
 pub(crate) fn append_among<L: Lookup>(
     lines: &mut Vec<u8>,
     alloc: Global,
@@ -255,12 +273,12 @@ pub(crate) fn append_among<L: Lookup>(
     form: RowForm,
     is_first: bool,
     recent: &mut RecentAnswers,
-    look: Option<Look>,
+    look: &Option<Look>,
     text: &[u8],
     count: usize,
 ) -> Result<bool, OutOfMemory>
     requires count { count ≤ length text.now }
-    requires look { IsRowLook separator form.before (take count text.now) look }
+    requires look { IsRowLook separator form.before (take count text.now) look.now }
     ensures owed { IfOk result (λ refused. AreRecent (terms (L.listed checked.now) (LineForm.Row form)) recent.old
         → AppendsReplyAmong separator (L.listed checked.now) form (form.has_heading && is_first) (take count text.now) lines.old.items lines.new.items refused) }
     ensures recent { OnOk result (AreRecent (terms (L.listed checked.now) (LineForm.Row form)) recent.old

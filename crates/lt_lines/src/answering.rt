@@ -86,12 +86,12 @@ fn append_reply<L: Lookup>(
     form: LineForm,
     is_first: bool,
     recent: &mut RecentAnswers,
-    look: Option<Look>,
+    look: &Option<Look>,
     text: &[u8],
     count: usize,
 ) -> Result<bool, OutOfMemory>
     requires count { count ≤ length text.now }
-    requires look { IsLook form (take count text.now) look }
+    requires look { IsLook form (take count text.now) look.now }
     ensures owed { IfOk result (λ refused. spec.AreRecent (terms (L.listed checked.now) form) recent.old
         → spec.AppendsReply (terms (L.listed checked.now) form) is_first (take count text.now) lines.old.items lines.new.items refused) }
     ensures recent { OnOk result (spec.AreRecent (terms (L.listed checked.now) form) recent.old → spec.AreRecent (terms (L.listed checked.now) form) recent.new) }
@@ -141,13 +141,13 @@ fn append_line<L: Lookup>(
     form: LineForm,
     is_first: bool,
     recent: &mut RecentAnswers,
-    look: Option<Look>,
+    look: &Option<Look>,
     kept: &mut Vec<u8>,
     text: &[u8],
     count: usize,
 ) -> Result<bool, OutOfMemory>
     requires count { count ≤ length text.now }
-    requires look { IsAhead form kept.old.items (take count text.now) look }
+    requires look { IsAhead form kept.old.items (take count text.now) look.now }
     ensures owed { IfOk result (λ refused. spec.AreRecent (terms (L.listed checked.now) form) recent.old
         → spec.AppendsLine (terms (L.listed checked.now) form) is_first kept.old.items (take count text.now) lines.old.items lines.new.items refused) }
     ensures kept { OnOk result (spec.KeepsPart form kept.old.items (take count text.now) kept.new.items) }
@@ -166,7 +166,7 @@ fn append_line<L: Lookup>(
         form,
         is_first,
         recent,
-        None,
+        &None,
         kept,
         kept.len(),
     )
@@ -209,13 +209,13 @@ impl Answering {
         alloc: Global,
         checked: &Checked<L>,
         form: LineForm,
-        look: Option<Look>,
+        look: &Option<Look>,
         text: &[u8],
         count: usize,
     ) -> Result<(), OutOfMemory>
         requires room { spec.HasRoom self.old 1 }
         requires count { count ≤ length text.now }
-        requires look { IsAhead form self.old.kept.items (take count text.now) look }
+        requires look { IsAhead form self.old.kept.items (take count text.now) look.now }
         ensures taken { OnOk result ((bytes out : List ℕ) → spec.IsWholeAfter form self.old.kept.items self.old.place (take count text.now) → spec.IsTaken (terms (L.listed checked.now) form) bytes out self.old
             → spec.IsTaken (terms (L.listed checked.now) form) (bytes ++ (take count text.now ++ 10 ∷ [])) out self.new) }
         ensures kept { OnOk result (self.new.kept.items ≡ []) }
@@ -281,10 +281,10 @@ impl Answering {
     {
         let part = &text[..count];
         let look = look_ahead(form, &self.kept, text, count);
-        if is_open(form, look, self.place, part) {
+        if is_open(form, &look, self.place, part) {
             return self.go_on(form, part);
         }
-        self.answer_line(alloc, checked, form, look, text, count)
+        self.answer_line(alloc, checked, form, &look, text, count)
     }
 
     /// Writes what is owed.
@@ -385,7 +385,7 @@ impl Answering {
         if self.kept.is_empty() {
             return Ok(());
         }
-        self.answer_line(alloc, checked, form, None, &[], 0)
+        self.answer_line(alloc, checked, form, &None, &[], 0)
     }
 
     /// Ends the lines, and writes what is owed; no quote is open.

@@ -12,6 +12,7 @@ use lt_rows::{Look, Place, Separator, after_text, look_at};
 
 /// Looks at the line that the first `count` bytes of a text are, for the field of its row after this many others.
 #[tactic(auto, using(crate::proofs::LookLemmas::content_front, crate::proofs::LookLemmas::content_short))]
+#[inline(always)]
 pub(crate) fn look_at_row(separator: Separator, before: usize, text: &[u8], count: usize) -> Look
     requires { count ≤ length text.now }
     ensures { IsLookAt separator before (content_of (take count text.now)) result }
@@ -50,8 +51,8 @@ pub(crate) fn place_then(form: LineForm, place: Place, part: &[u8]) -> Place
 
 /// Whether a line ends within quotes with these bytes more, as a look at it tells, or its place before them.
 #[inline(always)]
-pub(crate) fn is_open(form: LineForm, look: Option<Look>, place: Place, part: &[u8]) -> bool
-    ensures { MatchOption look (result ≡ is_quoted (spec.place_then form place part.now)) (λ look. result ≡ look.is_open) }
+pub(crate) fn is_open(form: LineForm, look: &Option<Look>, place: Place, part: &[u8]) -> bool
+    ensures { MatchOption look.now (result ≡ is_quoted (spec.place_then form place part.now)) (λ look. result ≡ look.is_open) }
 {
     match look {
         Some(look) => look.is_open,

@@ -102,6 +102,7 @@ fn append_found<L: Lookup>(
 /// Appends the canonical text of a field, the first `count` bytes of the rest of a text, or tells why it is refused. A field
 /// whose subtags stay as they are is answered at once, and another canonical text that was found lately is not worked out
 /// again: where the rest has 32 bytes, it is looked for without a copy.
+#[inline(always)]
 pub(crate) fn append_field<L: Lookup>(
     lines: &mut Vec<u8>,
     alloc: Global,
@@ -124,6 +125,7 @@ pub(crate) fn append_field<L: Lookup>(
 }
 
 /// The same of any field, by the canonical texts that were found lately.
+#[inline(never)]
 fn append_found_field<L: Lookup>(
     lines: &mut Vec<u8>,
     alloc: Global,

@@ -98,6 +98,7 @@ fn text_at(separator: Separator, row: &[u8], start: usize, end: usize) -> TextAt
 
 /// Looks for the field of a row after this many others, and whether the row ends within quotes. The row is the first
 /// `count` bytes of a text.
+#[inline(always)]
 pub fn look_at(separator: Separator, text: &[u8], count: usize, before: usize) -> Look
     requires { count ≤ length text.now }
     ensures { IsLookAt separator before (take count text.now) result }

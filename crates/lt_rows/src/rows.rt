@@ -92,6 +92,7 @@ fn quoted_end(delimiter: u8, text: &[u8], count: usize) -> Option<usize>
 }
 
 /// Where the rest of a row begins after this many fields, if it has more. The row is the first `count` bytes of a text.
+#[inline(always)]
 fn skip_fields(
     separator: Separator,
     is_line: bool,
@@ -115,6 +116,7 @@ fn skip_fields(
 
 /// Where the field of a row after this many others begins and ends, if there is one. The row is the first `count` bytes of
 /// a text, and `is_line` tells only of a row without line feeds.
+#[inline(always)]
 pub(crate) fn field_at(
     separator: Separator,
     is_line: bool,
