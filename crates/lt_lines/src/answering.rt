@@ -263,9 +263,10 @@ impl Answering {
         Ok(())
     }
 
-    /// Answers the line that the first `count` bytes of a text end, unless the line feed after them is within quotes.
+    /// Answers the row or the record that the first `count` bytes of a text end, unless the line feed after them is within
+    /// quotes.
     #[inline(always)]
-    fn end_line<L: Lookup>(
+    fn end_row<L: Lookup>(
         &mut self,
         alloc: Global,
         checked: &Checked<L>,
@@ -285,6 +286,30 @@ impl Answering {
             return self.go_on(form, part);
         }
         self.answer_line(alloc, checked, form, &look, text, count)
+    }
+
+    /// Answers the line that the first `count` bytes of a text end, unless the line feed after them is within quotes.
+    #[inline(always)]
+    fn end_line<L: Lookup>(
+        &mut self,
+        alloc: Global,
+        checked: &Checked<L>,
+        form: LineForm,
+        text: &[u8],
+        count: usize,
+    ) -> Result<(), OutOfMemory>
+        requires room { spec.HasRoom self.old 1 }
+        requires count { count ≤ length text.now }
+        ensures taken { OnOk result ((bytes out : List ℕ) → IsOneLine (take count text.now) → (spec.IsLongBy form (length self.old.kept.items) (length (take count text.now)) → ⊥) → spec.IsTaken (terms (L.listed checked.now) form) bytes out self.old
+            → spec.IsTaken (terms (L.listed checked.now) form) (bytes ++ (take count text.now ++ 10 ∷ [])) out self.new) }
+        ensures counted { OnOk result (spec.CountsFeed self.old self.new) }
+    {
+        match form {
+            LineForm::Tag => self.answer_line(alloc, checked, form, &None, text, count),
+            LineForm::Row(_) | LineForm::Csv(_, _) => {
+                self.end_row(alloc, checked, form, text, count)
+            }
+        }
     }
 
     /// Writes what is owed.
