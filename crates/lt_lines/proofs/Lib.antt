@@ -1,8 +1,9 @@
 -- Lemmas on answers to lines.
 pub mod DeviceLemmas
-pub mod RowLemmas
 mod FormLemmas
 pub mod PartLemmas
+pub mod LookLemmas
+pub mod RowLemmas
 mod TakenLemmas
 mod EndLemmas
 mod TalliedLemmas

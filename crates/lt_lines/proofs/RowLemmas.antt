@@ -1,13 +1,17 @@
 -- What is owed for a row.
-use Rattle.std.proofs.Common.{refl, ◌≡◌, ◌++◌, ◌∷◌, [], ℕ, Bool, false, true, List, inl, inr, append_assoc}
+use Rattle.std.proofs.Common.{refl, ◌≡◌, ◌≤◌, ◌-◌, ◌++◌, ◌∷◌, ◌∙◌, [], ℕ, Bool, false, true, List, inl, inr, ap, arith, append_assoc, append-nil, codes, drop, length, subst, sym, take, take-append-drop}
+use Rattle.std.proofs.lemmas.List.{drop-drop, drop-take, take_rest, take-take}
 use Rattle.lt_jar.specs.Lines.{content_of}
 use Rattle.lt_registry.specs.Parts.{EntryParts}
 use Rattle.lt_canon.specs.Texts.{AppendsCanonicalText, IsTextRefusal}
 use Rattle.lt_canon.specs.declared.refusals.TextRefusal.{TextRefusal}
 use Rattle.lt_lines.specs.Answering.{AppendsKept, AppendsRowReply, EndsRefused}
-use Rattle.lt_lines.specs.Owed.{row_line, with_canonical}
+use Rattle.lt_lines.specs.Owed.{refused_line, row_line, with_canonical}
 use Rattle.lt_lines.specs.declared.forms.RowForm.{RowForm}
-use Rattle.lt_rows.specs.Rows.{HasField, HasReturn, IsTextIn, separator}
+use Rattle.lt_rows.specs.Looks.{HasTextAt}
+use Rattle.lt_rows.specs.Rows.{HasFewer, HasField, HasReturn, IsTextIn, separator}
+use Rattle.lt_rows.specs.declared.looks.TextAt.{TextAt}
+use Rattle.lt_lines.proofs.LookLemmas.{content_front}
 use Rattle.lt_rows.specs.declared.rows.Separator.{Separator}
 
 module _ (S : Separator) (R : List EntryParts) (row : RowForm) (line front field after quotes text old fronted filled new : List ℕ) (at : HasField S row.before (content_of line) front field after)
@@ -126,3 +130,65 @@ module _ (S : Separator) (R : List EntryParts) (line text old fronted filled new
     grown = rw (e.grown, same, first) (simp append_assoc);
     owed = inr (refusal, is, e.is_told, refl, refl);
   }
+
+-- ---- by the place of the field's text
+
+-- what follows the first byte of a text in its row
+text_and_rest : (row text after : List ℕ) (place : TextAt) → place.start ≤ place.end → take (place.end - place.start) (drop place.start row) ≡ text → drop place.end row ≡ after → drop place.start row ≡ text ++ after
+text_and_rest row text after place ordered is follows =
+    let rest = drop place.start row in
+    sym (take-append-drop (place.end - place.start) rest)
+    ∙ ap (λ l. take (place.end - place.start) rest ++ l) (drop-drop (place.end - place.start) place.start row ∙ ap (λ n. drop n row) (omega (arith, ordered)) ∙ follows)
+    ∙ ap (λ l. l ++ after) is
+
+-- the text of a field in a longer text
+pub text_within : (text : List ℕ) (count : ℕ) (place : TextAt) → count ≤ length text → place.start ≤ place.end → place.end ≤ length (content_of (take count text))
+    → take (place.end - place.start) (take (length text - place.start) (drop place.start text)) ≡ take (place.end - place.start) (drop place.start (content_of (take count text)))
+text_within text count place le ordered inside =
+    let row = content_of (take count text) in
+    let n = length row in
+    let long = place.end - place.start in
+    let row_is : drop place.start row ≡ take (n - place.start) (drop place.start text) =
+    ap (drop place.start) (sym (content_front text count le)) ∙ ap (λ m. drop place.start (take m text)) (omega (arith, ordered, inside)) ∙ drop-take place.start (n - place.start) text in
+    ap (take long) (take_rest text place.start) ∙ sym (ap (take long) row_is ∙ take-take long (n - place.start) (drop place.start text) (omega (arith, inside)))
+
+module _ (S : Separator) (R : List EntryParts) (row : RowForm) (line old fronted filled new : List ℕ) (place : TextAt) (h : HasTextAt S row.before (content_of line) place)
+    (none : HasReturn S (content_of line) → ⊥) where
+  abbrev text : List ℕ
+  text = take (place.end - place.start) (drop place.start (content_of line))
+
+  pub found_answered : row.is_kept ≡ false → fronted ≡ old ++ take place.start (content_of line) → AppendsCanonicalText R text fronted filled
+      → new ≡ filled ++ row_line S (drop place.end (content_of line)) [] line → AppendsRowReply S R row line old new false
+  found_answered replaced first a last =
+      row_answered S R row line h.front h.field h.after h.quotes h.text old fronted filled new h.at h.is_text none replaced (first ∙ ap (λ l. old ++ l) h.front_is)
+      (subst (λ t. AppendsCanonicalText R t fronted filled) h.text_is a) (last ∙ ap (λ l. filled ++ row_line S l [] line) h.after_is)
+
+  pub found_refused : row.is_kept ≡ false → fronted ≡ old ++ take place.start (content_of line) → (refusal : TextRefusal) → IsTextRefusal R text refusal → filled ≡ fronted
+      → EndsRefused S refusal (drop place.start (content_of line)) [] [] line filled new → AppendsRowReply S R row line old new true
+  found_refused replaced first refusal is same e =
+      let rest = text_and_rest (content_of line) h.text (h.quotes ++ h.after) place h.ordered h.text_is h.after_is in
+      row_refused S R row line h.front h.field h.after h.quotes h.text old fronted filled new h.at h.is_text none replaced (first ∙ ap (λ l. old ++ l) h.front_is) refusal
+      (subst (λ t. IsTextRefusal R t refusal) h.text_is is) same
+      (record { told = e.told; is_told = e.is_told; grown = e.grown ∙ ap (λ l. filled ++ row_line S l e.told line) (append-nil (drop place.start (content_of line)) ∙ rest) })
+
+  pub found_kept : (refused : Bool) → row.is_kept ≡ true → AppendsKept S R text line old new refused → AppendsRowReply S R row line old new refused
+  found_kept refused kept a =
+      row_kept S R row line h.front h.field h.after h.quotes h.text old new refused h.at h.is_text none kept (subst (λ t. AppendsKept S R t line old new refused) h.text_is a)
+
+-- ---- a row without its field
+
+pub row_returns : (S : Separator) (R : List EntryParts) (row : RowForm) (line old new : List ℕ) → HasReturn S (content_of line)
+    → new ≡ old ++ refused_line row.is_kept S line (codes "BadReturn") → AppendsRowReply S R row line old new true
+row_returns S R row line old new returns grown = record {
+  bytes = refused_line row.is_kept S line (codes "BadReturn");
+  grown = grown;
+  owed = inl (record { returns = returns; line_is = refl; refused = refl });
+}
+
+pub row_lacks : (S : Separator) (R : List EntryParts) (row : RowForm) (line old new : List ℕ) → (HasReturn S (content_of line) → ⊥) × HasFewer S row.before (content_of line)
+    → new ≡ old ++ refused_line row.is_kept S line (codes "NoColumn") → AppendsRowReply S R row line old new true
+row_lacks S R row line old new lacks grown = record {
+  bytes = refused_line row.is_kept S line (codes "NoColumn");
+  grown = grown;
+  owed = inr (record { none = lacks.0; owed = inr (inr (record { fewer = lacks.1; line_is = refl }), refl) });
+}

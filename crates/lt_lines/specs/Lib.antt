@@ -4,6 +4,7 @@ pub mod DeviceOutput
 pub mod Refusals
 pub mod Owed
 pub mod Tallied
+pub mod Looks
 pub mod Answering
 pub mod Marked
 pub mod Running

@@ -1,28 +1,38 @@
 //! The line that is owed for a row.
-ghost use Rattle.std.specs.Prelude.{◌≡◌, ◌++◌, ◌&&◌, [], IfOk, OnOk};
+ghost use Rattle.std.specs.Prelude.{◌≡◌, ◌≤◌, ◌++◌, ◌&&◌, [], IfOk, OnOk, length, take};
+ghost use Rattle.lt_jar.specs.Lines.{content_of};
+ghost use Rattle.lt_rows.specs.Looks.{HasTextAt, IsLookAt};
+ghost use Rattle.lt_rows.specs.Rows.{HasReturn};
 ghost use Rattle.lt_lines.specs.Answering.{AppendsHeadingReply, AppendsKept, AppendsReplyAmong, AppendsRowReply, AreRecent, EndsRefused};
+ghost use Rattle.lt_lines.specs.Looks.{IsRowLook};
 ghost use Rattle.lt_lines.specs.Owed.{end_of, row_line, terms, with_canonical};
 
 use crate::answer_lines::{append_told, without_return};
 use crate::forms::{LineForm, RowForm};
+use crate::line_looks::look_at_row;
 use crate::recent_answers::{RecentAnswers, append_field};
 use lt_canon::{Checked, TextRefusal};
 use lt_registry::Lookup;
-use lt_rows::{Separator, find_field, has_return, text_in};
+use lt_rows::{Found, Look, Separator, TextAt, has_return};
 use lt_tag::OutOfMemory;
 use std::alloc::{AllocError, Global};
 
 /// Appends what ends a line.
+#[inline(always)]
 fn append_end(lines: &mut Vec<u8>, line: &[u8]) -> Result<(), AllocError>
     ensures { OnOk result (lines.new.items ≡ lines.old.items ++ end_of line.now) }
 {
     match line.last() {
         Some(b'\r') => lines.extend_from_slice(b"\r\n"),
-        _ => lines.extend_from_slice(b"\n"),
+        _ => {
+            lines.push(b'\n')?;
+            Ok(())
+        }
     }
 }
 
 /// Appends a row, this field more where rows are kept, and a last field.
+#[inline(never)]
 fn append_longer(
     lines: &mut Vec<u8>,
     is_kept: bool,
@@ -45,22 +55,22 @@ fn append_longer(
 }
 
 /// Appends what follows the canonical text of a field in a row, and one field more, which is empty.
+#[inline(always)]
 fn end_answered(
     lines: &mut Vec<u8>,
     separator: Separator,
-    quotes: &[u8],
     after: &[u8],
     line: &[u8],
 ) -> Result<(), AllocError>
-    ensures { OnOk result (lines.new.items ≡ lines.old.items ++ row_line separator (quotes.now ++ after.now) [] line.now) }
+    ensures { OnOk result (lines.new.items ≡ lines.old.items ++ row_line separator after.now [] line.now) }
 {
-    lines.extend_from_slice(quotes)?;
     lines.extend_from_slice(after)?;
     lines.push(separator.byte())?;
     append_end(lines, line)
 }
 
 /// Appends the text of a field that is refused, what follows it in a row, and one field more, which says why.
+#[inline(never)]
 fn end_refused(
     lines: &mut Vec<u8>,
     separator: Separator,
@@ -81,8 +91,9 @@ fn end_refused(
     Ok(())
 }
 
-/// Appends a row as it is, with the canonical text of this text of its field, or with why that is refused, and tells
-/// whether it is.
+/// Appends a row as it is, with the canonical text of the first `count` bytes of a text, which are that of its field, or with
+/// why it is refused, and tells whether it is.
+#[inline(never)]
 fn append_kept<L: Lookup>(
     lines: &mut Vec<u8>,
     alloc: Global,
@@ -91,18 +102,20 @@ fn append_kept<L: Lookup>(
     form: RowForm,
     recent: &mut RecentAnswers,
     text: &[u8],
+    count: usize,
     line: &[u8],
 ) -> Result<bool, OutOfMemory>
+    requires { count ≤ length text.now }
     ensures owed { IfOk result (λ refused. AreRecent (terms (L.listed checked.now) (LineForm.Row form)) recent.old
-        → AppendsKept separator (L.listed checked.now) text.now line.now lines.old.items lines.new.items refused) }
+        → AppendsKept separator (L.listed checked.now) (take count text.now) line.now lines.old.items lines.new.items refused) }
     ensures recent { OnOk result (AreRecent (terms (L.listed checked.now) (LineForm.Row form)) recent.old
         → AreRecent (terms (L.listed checked.now) (LineForm.Row form)) recent.new) }
 {
     lines.extend_from_slice(without_return(line))?;
     lines.push(separator.byte())?;
-    match append_field(lines, alloc, checked, form, recent, text)? {
+    match append_field(lines, alloc, checked, form, recent, text, count)? {
         None => {
-            end_answered(lines, separator, b"", b"", line)?;
+            end_answered(lines, separator, b"", line)?;
             Ok(false)
         }
         Some(refusal) => {
@@ -112,7 +125,81 @@ fn append_kept<L: Lookup>(
     }
 }
 
-/// Appends what is owed for a row, and tells whether it is refused.
+/// Appends what is owed for a row whose field has its text there, and tells whether it is refused. The row's line is the
+/// first `count` bytes of a text.
+#[inline(always)]
+fn append_found<L: Lookup>(
+    lines: &mut Vec<u8>,
+    alloc: Global,
+    checked: &Checked<L>,
+    separator: Separator,
+    form: RowForm,
+    recent: &mut RecentAnswers,
+    place: TextAt,
+    text: &[u8],
+    count: usize,
+) -> Result<bool, OutOfMemory>
+    requires count { count ≤ length text.now }
+    requires place { HasTextAt separator form.before (content_of (take count text.now)) place }
+    requires none { HasReturn separator (content_of (take count text.now)) → ⊥ }
+    ensures owed { IfOk result (λ refused. AreRecent (terms (L.listed checked.now) (LineForm.Row form)) recent.old
+        → AppendsRowReply separator (L.listed checked.now) form (take count text.now) lines.old.items lines.new.items refused) }
+    ensures recent { OnOk result (AreRecent (terms (L.listed checked.now) (LineForm.Row form)) recent.old
+        → AreRecent (terms (L.listed checked.now) (LineForm.Row form)) recent.new) }
+{
+    let line = &text[..count];
+    let row = without_return(line);
+    let field = &text[place.start..];
+    let length = place.end - place.start;
+    if form.is_kept {
+        return append_kept(
+            lines, alloc, checked, separator, form, recent, field, length, line,
+        );
+    }
+    lines.extend_from_slice(&row[..place.start])?;
+    match append_field(lines, alloc, checked, form, recent, field, length)? {
+        None => {
+            end_answered(lines, separator, &row[place.end..], line)?;
+            Ok(false)
+        }
+        Some(refusal) => {
+            let rest = &row[place.start..];
+            end_refused(lines, separator, &refusal, rest, b"", b"", line)?;
+            Ok(true)
+        }
+    }
+}
+
+/// Looks at a row of which a front was kept.
+#[inline(never)]
+fn look_at_kept(separator: Separator, before: usize, text: &[u8], count: usize) -> Look
+    requires { count ≤ length text.now }
+    ensures { IsLookAt separator before (content_of (take count text.now)) result }
+{
+    look_at_row(separator, before, text, count)
+}
+
+/// What the line that the first `count` bytes of a text are is answered by, if it was not looked at before.
+#[inline(always)]
+fn looked_at(
+    separator: Separator,
+    before: usize,
+    look: &Option<Look>,
+    text: &[u8],
+    count: usize,
+) -> Look
+    requires count { count ≤ length text.now }
+    requires look { IsRowLook separator before (take count text.now) look.now }
+    ensures { IsLookAt separator before (content_of (take count text.now)) result }
+{
+    match look {
+        Some(look) => *look,
+        None => look_at_kept(separator, before, text, count),
+    }
+}
+
+/// Appends what is owed for a row, the first `count` bytes of a text, and tells whether it is refused.
+#[inline(always)]
 fn append_row<L: Lookup>(
     lines: &mut Vec<u8>,
     alloc: Global,
@@ -120,41 +207,36 @@ fn append_row<L: Lookup>(
     separator: Separator,
     form: RowForm,
     recent: &mut RecentAnswers,
-    line: &[u8],
+    look: &Option<Look>,
+    text: &[u8],
+    count: usize,
 ) -> Result<bool, OutOfMemory>
+    requires count { count ≤ length text.now }
+    requires look { IsRowLook separator form.before (take count text.now) look.now }
     ensures owed { IfOk result (λ refused. AreRecent (terms (L.listed checked.now) (LineForm.Row form)) recent.old
-        → AppendsRowReply separator (L.listed checked.now) form line.now lines.old.items lines.new.items refused) }
+        → AppendsRowReply separator (L.listed checked.now) form (take count text.now) lines.old.items lines.new.items refused) }
     ensures recent { OnOk result (AreRecent (terms (L.listed checked.now) (LineForm.Row form)) recent.old
         → AreRecent (terms (L.listed checked.now) (LineForm.Row form)) recent.new) }
 {
+    let line = &text[..count];
     let row = without_return(line);
-    if has_return(separator, row) {
-        append_longer(lines, form.is_kept, separator, row, "", "BadReturn", line)?;
-        return Ok(true);
-    }
-    let Some((front, field, after)) = find_field(separator, row, form.before) else {
-        append_longer(lines, form.is_kept, separator, row, "", "NoColumn", line)?;
-        return Ok(true);
-    };
-    let (quotes, text) = text_in(separator, field);
-    if form.is_kept {
-        return append_kept(lines, alloc, checked, separator, form, recent, text, line);
-    }
-    lines.extend_from_slice(front)?;
-    lines.extend_from_slice(quotes)?;
-    match append_field(lines, alloc, checked, form, recent, text)? {
-        None => {
-            end_answered(lines, separator, quotes, after, line)?;
-            Ok(false)
-        }
-        Some(refusal) => {
-            end_refused(lines, separator, &refusal, text, quotes, after, line)?;
+    match looked_at(separator, form.before, look, text, count).found {
+        Found::Return => {
+            append_longer(lines, form.is_kept, separator, row, "", "BadReturn", line)?;
             Ok(true)
         }
+        Found::Fewer => {
+            append_longer(lines, form.is_kept, separator, row, "", "NoColumn", line)?;
+            Ok(true)
+        }
+        Found::Text(place) => append_found(
+            lines, alloc, checked, separator, form, recent, place, text, count,
+        ),
     }
 }
 
 /// Appends what is owed for a heading, and tells whether it is refused.
+#[inline(never)]
 fn append_heading(
     lines: &mut Vec<u8>,
     is_kept: bool,
@@ -180,7 +262,9 @@ fn append_heading(
     Ok(false)
 }
 
-/// Appends what is owed for a line, which may be the first, and so a heading, or a row, and tells whether it is refused.
+/// Appends what is owed for a line, the first `count` bytes of a text, which may be the first of all, and so a heading, or a
+/// row, and tells whether it is refused.
+#[inline(always)]
 pub(crate) fn append_among<L: Lookup>(
     lines: &mut Vec<u8>,
     alloc: Global,
@@ -189,16 +273,22 @@ pub(crate) fn append_among<L: Lookup>(
     form: RowForm,
     is_first: bool,
     recent: &mut RecentAnswers,
-    line: &[u8],
+    look: &Option<Look>,
+    text: &[u8],
+    count: usize,
 ) -> Result<bool, OutOfMemory>
+    requires count { count ≤ length text.now }
+    requires look { IsRowLook separator form.before (take count text.now) look.now }
     ensures owed { IfOk result (λ refused. AreRecent (terms (L.listed checked.now) (LineForm.Row form)) recent.old
-        → AppendsReplyAmong separator (L.listed checked.now) form (form.has_heading && is_first) line.now lines.old.items lines.new.items refused) }
+        → AppendsReplyAmong separator (L.listed checked.now) form (form.has_heading && is_first) (take count text.now) lines.old.items lines.new.items refused) }
     ensures recent { OnOk result (AreRecent (terms (L.listed checked.now) (LineForm.Row form)) recent.old
         → AreRecent (terms (L.listed checked.now) (LineForm.Row form)) recent.new) }
 {
     if form.has_heading && is_first {
-        let refused = append_heading(lines, form.is_kept, separator, line)?;
+        let refused = append_heading(lines, form.is_kept, separator, &text[..count])?;
         return Ok(refused);
     }
-    append_row(lines, alloc, checked, separator, form, recent, line)
+    append_row(
+        lines, alloc, checked, separator, form, recent, look, text, count,
+    )
 }

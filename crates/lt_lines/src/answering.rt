@@ -4,6 +4,7 @@ ghost use Rattle.lt_jar.specs.Lines.{IsOneLine};
 ghost use Rattle.lt_lines.specs.Owed.{Terms, terms};
 ghost use Rattle.lt_rows.specs.Quotes.{is_quoted};
 ghost use Rattle.lt_lines.specs.Tallied.{line_at as at_line};
+ghost use Rattle.lt_lines.specs.Looks.{IsAhead, IsLook};
 ghost use Rattle.lt_lines.specs.Answering as spec;
 ghost use Rattle.lt_lines.specs.Owed as owed;
 
@@ -12,13 +13,14 @@ use crate::answer_rows::append_among;
 use crate::device_output::write_text;
 use crate::faults::ToolFault;
 use crate::forms::LineForm;
+use crate::line_looks::{is_open, look_ahead, place_then};
 use crate::recent_answers::{RecentAnswers, append_again};
 use crate::runs::Counts;
 use crate::tallying::count_if;
 use lt_canon::Checked;
 use lt_jar::Device;
 use lt_registry::Lookup;
-use lt_rows::{Place, Separator, after_text, split_first};
+use lt_rows::{Look, Place, Separator, split_first};
 use lt_tag::OutOfMemory;
 use lt_tallies::Tallies;
 use std::alloc::{AllocError, Global};
@@ -65,16 +67,6 @@ fn keep(form: LineForm, kept: &mut Vec<u8>, part: &[u8]) -> Result<(), AllocErro
     }
 }
 
-/// The place after more bytes of a line, by that before them.
-fn place_then(form: LineForm, place: Place, part: &[u8]) -> Place
-    ensures { result ≡ spec.place_then form place part.now }
-{
-    match form {
-        LineForm::Tag | LineForm::Row(_) => Place::Fresh,
-        LineForm::Csv(_, delimiter) => after_text(delimiter, place, part),
-    }
-}
-
 /// The fault of a row or a record that is too long and begins in this line.
 fn long_fault(form: LineForm, line: u64) -> ToolFault
     ensures { result ≡ owed.long_fault form line }
@@ -94,15 +86,16 @@ fn append_reply<L: Lookup>(
     form: LineForm,
     is_first: bool,
     recent: &mut RecentAnswers,
+    look: &Option<Look>,
     text: &[u8],
     count: usize,
 ) -> Result<bool, OutOfMemory>
-    requires { count ≤ length text.now }
+    requires count { count ≤ length text.now }
+    requires look { IsLook form (take count text.now) look.now }
     ensures owed { IfOk result (λ refused. spec.AreRecent (terms (L.listed checked.now) form) recent.old
         → spec.AppendsReply (terms (L.listed checked.now) form) is_first (take count text.now) lines.old.items lines.new.items refused) }
     ensures recent { OnOk result (spec.AreRecent (terms (L.listed checked.now) form) recent.old → spec.AreRecent (terms (L.listed checked.now) form) recent.new) }
 {
-    let line = &text[..count];
     match form {
         LineForm::Tag => append_again(
             lines,
@@ -110,7 +103,7 @@ fn append_reply<L: Lookup>(
             checked,
             recent,
             text,
-            without_return(line).len(),
+            without_return(&text[..count]).len(),
         ),
         LineForm::Row(row) => append_among(
             lines,
@@ -120,7 +113,9 @@ fn append_reply<L: Lookup>(
             row,
             is_first,
             recent,
-            line,
+            look,
+            text,
+            count,
         ),
         LineForm::Csv(row, delimiter) => append_among(
             lines,
@@ -130,7 +125,9 @@ fn append_reply<L: Lookup>(
             row,
             is_first,
             recent,
-            line,
+            look,
+            text,
+            count,
         ),
     }
 }
@@ -144,18 +141,22 @@ fn append_line<L: Lookup>(
     form: LineForm,
     is_first: bool,
     recent: &mut RecentAnswers,
+    look: &Option<Look>,
     kept: &mut Vec<u8>,
     text: &[u8],
     count: usize,
 ) -> Result<bool, OutOfMemory>
-    requires { count ≤ length text.now }
+    requires count { count ≤ length text.now }
+    requires look { IsAhead form kept.old.items (take count text.now) look.now }
     ensures owed { IfOk result (λ refused. spec.AreRecent (terms (L.listed checked.now) form) recent.old
         → spec.AppendsLine (terms (L.listed checked.now) form) is_first kept.old.items (take count text.now) lines.old.items lines.new.items refused) }
     ensures kept { OnOk result (spec.KeepsPart form kept.old.items (take count text.now) kept.new.items) }
     ensures recent { OnOk result (spec.AreRecent (terms (L.listed checked.now) form) recent.old → spec.AreRecent (terms (L.listed checked.now) form) recent.new) }
 {
     if kept.is_empty() {
-        return append_reply(lines, alloc, checked, form, is_first, recent, text, count);
+        return append_reply(
+            lines, alloc, checked, form, is_first, recent, look, text, count,
+        );
     }
     keep(form, kept, &text[..count])?;
     append_reply(
@@ -165,6 +166,7 @@ fn append_line<L: Lookup>(
         form,
         is_first,
         recent,
+        &None,
         kept,
         kept.len(),
     )
@@ -207,11 +209,13 @@ impl Answering {
         alloc: Global,
         checked: &Checked<L>,
         form: LineForm,
+        look: &Option<Look>,
         text: &[u8],
         count: usize,
     ) -> Result<(), OutOfMemory>
         requires room { spec.HasRoom self.old 1 }
         requires count { count ≤ length text.now }
+        requires look { IsAhead form self.old.kept.items (take count text.now) look.now }
         ensures taken { OnOk result ((bytes out : List ℕ) → spec.IsWholeAfter form self.old.kept.items self.old.place (take count text.now) → spec.IsTaken (terms (L.listed checked.now) form) bytes out self.old
             → spec.IsTaken (terms (L.listed checked.now) form) (bytes ++ (take count text.now ++ 10 ∷ [])) out self.new) }
         ensures kept { OnOk result (self.new.kept.items ≡ []) }
@@ -225,6 +229,7 @@ impl Answering {
             form,
             self.counts.lines == 0,
             &mut self.recent,
+            look,
             &mut self.kept,
             text,
             count,
@@ -258,6 +263,31 @@ impl Answering {
         Ok(())
     }
 
+    /// Answers the row or the record that the first `count` bytes of a text end, unless the line feed after them is within
+    /// quotes.
+    #[inline(always)]
+    fn end_row<L: Lookup>(
+        &mut self,
+        alloc: Global,
+        checked: &Checked<L>,
+        form: LineForm,
+        text: &[u8],
+        count: usize,
+    ) -> Result<(), OutOfMemory>
+        requires room { spec.HasRoom self.old 1 }
+        requires count { count ≤ length text.now }
+        ensures taken { OnOk result ((bytes out : List ℕ) → IsOneLine (take count text.now) → (spec.IsLongBy form (length self.old.kept.items) (length (take count text.now)) → ⊥) → spec.IsTaken (terms (L.listed checked.now) form) bytes out self.old
+            → spec.IsTaken (terms (L.listed checked.now) form) (bytes ++ (take count text.now ++ 10 ∷ [])) out self.new) }
+        ensures counted { OnOk result (spec.CountsFeed self.old self.new) }
+    {
+        let part = &text[..count];
+        let look = look_ahead(form, &self.kept, text, count);
+        if is_open(form, &look, self.place, part) {
+            return self.go_on(form, part);
+        }
+        self.answer_line(alloc, checked, form, &look, text, count)
+    }
+
     /// Answers the line that the first `count` bytes of a text end, unless the line feed after them is within quotes.
     #[inline(always)]
     fn end_line<L: Lookup>(
@@ -274,11 +304,12 @@ impl Answering {
             → spec.IsTaken (terms (L.listed checked.now) form) (bytes ++ (take count text.now ++ 10 ∷ [])) out self.new) }
         ensures counted { OnOk result (spec.CountsFeed self.old self.new) }
     {
-        let part = &text[..count];
-        if place_then(form, self.place, part).is_quoted() {
-            return self.go_on(form, part);
+        match form {
+            LineForm::Tag => self.answer_line(alloc, checked, form, &None, text, count),
+            LineForm::Row(_) | LineForm::Csv(_, _) => {
+                self.end_row(alloc, checked, form, text, count)
+            }
         }
-        self.answer_line(alloc, checked, form, text, count)
     }
 
     /// Writes what is owed.
@@ -379,7 +410,7 @@ impl Answering {
         if self.kept.is_empty() {
             return Ok(());
         }
-        self.answer_line(alloc, checked, form, &[], 0)
+        self.answer_line(alloc, checked, form, &None, &[], 0)
     }
 
     /// Ends the lines, and writes what is owed; no quote is open.

@@ -8,6 +8,7 @@ mod answering;
 mod device_output;
 mod faults;
 mod forms;
+mod line_looks;
 mod marked;
 mod recent_answers;
 mod runs;

@@ -99,45 +99,53 @@ fn append_found<L: Lookup>(
     Ok(refused)
 }
 
-/// Appends the canonical text of a field, or tells why it is refused. A field whose subtags stay as they are is answered
-/// at once, and another canonical text that was found lately is not worked out again.
+/// Appends the canonical text of a field, the first `count` bytes of the rest of a text, or tells why it is refused. A field
+/// whose subtags stay as they are is answered at once, and another canonical text that was found lately is not worked out
+/// again: where the rest has 32 bytes, it is looked for without a copy.
+#[inline(always)]
 pub(crate) fn append_field<L: Lookup>(
     lines: &mut Vec<u8>,
     alloc: Global,
     checked: &Checked<L>,
     row: RowForm,
     recent: &mut RecentAnswers,
-    field: &[u8],
+    rest: &[u8],
+    count: usize,
 ) -> Result<Option<TextRefusal>, OutOfMemory>
+    requires { count ≤ length rest.now }
     ensures owed { IfOk result (λ refusal. AreRecent (terms (L.listed checked.now) (LineForm.Row row)) recent.old
-        → FieldReply (L.listed checked.now) field.now lines.old.items lines.new.items refusal) }
+        → FieldReply (L.listed checked.now) (take count rest.now) lines.old.items lines.new.items refusal) }
     ensures recent { OnOk result (AreRecent (terms (L.listed checked.now) (LineForm.Row row)) recent.old
         → AreRecent (terms (L.listed checked.now) (LineForm.Row row)) recent.new) }
 {
-    if append_usual_text(checked, field, lines)? {
+    if append_usual_text(checked, &rest[..count], lines)? {
         return Ok(None);
     }
-    append_found_field(lines, alloc, checked, row, recent, field)
+    append_found_field(lines, alloc, checked, row, recent, rest, count)
 }
 
 /// The same of any field, by the canonical texts that were found lately.
+#[inline(never)]
 fn append_found_field<L: Lookup>(
     lines: &mut Vec<u8>,
     alloc: Global,
     checked: &Checked<L>,
     row: RowForm,
     recent: &mut RecentAnswers,
-    field: &[u8],
+    rest: &[u8],
+    count: usize,
 ) -> Result<Option<TextRefusal>, OutOfMemory>
+    requires { count ≤ length rest.now }
     ensures owed { IfOk result (λ refusal. AreRecent (terms (L.listed checked.now) (LineForm.Row row)) recent.old
-        → FieldReply (L.listed checked.now) field.now lines.old.items lines.new.items refusal) }
+        → FieldReply (L.listed checked.now) (take count rest.now) lines.old.items lines.new.items refusal) }
     ensures recent { OnOk result (AreRecent (terms (L.listed checked.now) (LineForm.Row row)) recent.old
         → AreRecent (terms (L.listed checked.now) (LineForm.Row row)) recent.new) }
 {
-    if let Some(found) = recent.whole.find(field, field.len()) {
+    if let Some(found) = recent.whole.find(rest, count) {
         found.answer.append_to(lines)?;
         return Ok(None);
     }
+    let field = &rest[..count];
     let start = lines.len();
     match recent
         .ends

@@ -22,11 +22,11 @@ module _ (delimiter : ℕ) where
   place_after_feed places.Plain closed = refl
   place_after_feed places.Quoted closed = let bad : true ≡ false = closed in cc
 
-  outside_closed : (byte : ℕ) → is_quoted (place_outside delimiter byte) ≡ false
+  pub outside_closed : (byte : ℕ) → is_quoted (place_outside delimiter byte) ≡ false
   outside_closed byte = elim ((byte == 10) || (byte == delimiter)) as (λ t. is_quoted (if t then places.Fresh else places.Plain) ≡ false) [ true ↦ refl | false ↦ refl ]
 
   -- outside of quotes, after a byte that is no quote
-  after_other : (place : Place) (byte : ℕ) → is_quoted place ≡ false → byte ≢ 34 → place_after delimiter place byte ≡ place_outside delimiter byte
+  pub after_other : (place : Place) (byte : ℕ) → is_quoted place ≡ false → byte ≢ 34 → place_after delimiter place byte ≡ place_outside delimiter byte
   after_other places.Fresh byte closed other = rw (ne_eqb byte 34 other) refl
   after_other places.Plain byte closed other = refl
   after_other places.Quoted byte closed other = let bad : true ≡ false = closed in cc

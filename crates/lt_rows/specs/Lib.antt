@@ -2,5 +2,6 @@
 pub mod Splitting
 pub mod Quotes
 pub mod Rows
+pub mod Looks
 pub mod Marks
 pub mod Records

@@ -1,6 +1,5 @@
 -- Rows: fields with a tab (9) between them, or a delimiter outside of quotes.
-use Rattle.std.specs.Prelude.{◌≡◌, ◌≢◌, ◌<◌, ◌⊎◌, ℕ, false, List, [], ◌∷◌, ◌++◌, length, Option, MatchOption}
-use Rattle.std.specs.Borrow.{Bor}
+use Rattle.std.specs.Prelude.{◌≡◌, ◌≢◌, ◌<◌, ◌≤◌, ◌+◌, ◌-◌, ◌⊎◌, ℕ, false, List, [], ◌∷◌, ◌++◌, drop, length, take, Option, MatchOption}
 use Rattle.std.specs.List.{All, AllByRecursion}
 use Rattle.lt_rows.specs.Quotes.{IsFreeOutside, is_quoted, place_at}
 use Rattle.lt_rows.specs.declared.quotes.Place.TheVariants as places
@@ -81,7 +80,13 @@ pub record IsTextIn (S : Separator) (field quotes text : List ℕ) : Type 0 wher
   pub field_is : field ≡ quotes ++ text ++ quotes
   pub are_quotes : AreQuotes S field quotes
 
--- what is before the first separator and after it
-abbrev pub SplitsField : Separator → List ℕ → Option (Bor (List ℕ) × Bor (List ℕ)) → Type 0
-SplitsField S rest parts = MatchOption parts (IsRowField S rest)
-    (λ p. IsEnded S p.0.now × (rest ≡ p.0.now ++ separator S ∷ p.1.now))
+-- where the first separator is, which ends the first field of the rest of a row
+abbrev pub EndsField : Separator → List ℕ → Option ℕ → Type 0
+EndsField S rest end = MatchOption end (IsRowField S rest)
+    (λ i. (i < length rest) × IsEnded S (take i rest) × (rest ≡ take i rest ++ separator S ∷ drop (i + 1) rest))
+
+-- the field of a row with this many fields before it goes from this byte up to that
+pub record IsFieldAt (S : Separator) (count : ℕ) (row : List ℕ) (start end : ℕ) : Type 0 where
+  pub ordered : start ≤ end
+  pub inside : end ≤ length row
+  pub at : HasField S count row (take start row) (take (end - start) (drop start row)) (drop end row)

@@ -2,12 +2,14 @@
 //! program `langtag`; a program of your own begins with the crate `bcp47`.
 #![tactic(auto)]
 
+mod looks;
 mod marks;
 mod quotes;
 mod records;
 mod rows;
 mod splitting;
 
+pub use looks::{Found, Look, TextAt, look_at};
 pub use marks::{is_wide, may_be_mark, split_mark};
 pub use quotes::{Place, after_text};
 pub use records::records_are_those_of_the_grammar;

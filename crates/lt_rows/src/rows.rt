@@ -1,9 +1,11 @@
 //! The fields of a row.
-ghost use Rattle.std.specs.Prelude.{◌≡◌, ◌++◌, ◌↔◌, IsTrue, MatchOption};
-ghost use Rattle.lt_rows.specs.Rows.{HasFewer, HasField, HasReturn, IsAfterField, IsQuoted, IsRowField, IsTextIn, Skips, SplitsField, separator};
+ghost use Rattle.std.specs.Prelude.{◌≡◌, ◌≤◌, ◌<◌, ◌↔◌, IsTrue, MatchOption, drop, length, slice_index, take};
+ghost use Rattle.lt_rows.specs.Rows.{EndsField, HasFewer, HasField, HasReturn, IsFieldAt, IsQuoted, IsTextIn, Skips, separator};
+ghost use Rattle.lt_rows.specs.Splitting.{IsFreeOf};
+ghost use Rattle.lt_rows.specs.declared.rows.Separator.TheVariants as separators;
 
 use crate::quotes::split_outside;
-use crate::splitting::split_first;
+use crate::splitting::{place_within, split_first};
 
 /// What is between the fields of a row.
 #[derive(Clone, Copy, Debug, PartialEq, Eq)]
@@ -25,44 +27,111 @@ impl Separator {
         }
     }
 
-    /// The first field of the rest of a row and what is after the separator that ends it, if one does.
-    #[tactic(auto, using(crate::proofs::RowLemmas::free_of_none, crate::proofs::RowLemmas::closed_of_free))]
-    fn split(self, rest: &[u8]) -> Option<(&[u8], &[u8])>
-        ensures { SplitsField self rest.now result }
+    /// Where the first field of the rest of a row ends, if a separator ends it. The rest is the first `count` bytes of a
+    /// text, and `is_line` tells only of a rest without line feeds.
+    #[inline(always)]
+    fn field_end(self, is_line: bool, text: &[u8], count: usize) -> Option<usize>
+        requires count { count ≤ length text.now }
+        requires line { IsTrue is_line → IsFreeOf 10 (take count text.now) }
+        ensures { EndsField self (take count text.now) result }
     {
-        let parts = split_first(self.byte(), rest);
-        match (self, parts) {
-            (Separator::Delimiter(byte), Some((field, _))) if split_first(b'"', field).is_some() =>
-                { split_outside(byte, byte, rest) }
-            _ => parts,
+        match self {
+            Separator::Tab => place_within(b'\t', text, count),
+            Separator::Delimiter(delimiter) => {
+                if begins_quoted(text, count) {
+                    return quoted_end(delimiter, text, count);
+                }
+                if is_line {
+                    return place_within(delimiter, text, count);
+                }
+                end_outside(delimiter, &text[..count])
+            }
         }
     }
 }
 
-/// The rest of a row, after this many fields, if it has more.
-#[tactic(auto, using(crate::proofs::RowLemmas::skips_none, crate::proofs::RowLemmas::skips_more, crate::proofs::RowLemmas::skips_last))]
-fn skip_fields(separator: Separator, row: &[u8], count: usize) -> Option<&[u8]>
-    ensures { MatchOption result (HasFewer separator count row.now) (λ rest. Skips separator count row.now rest.now) }
+/// Whether the first byte of `count` bytes of a text is a quote.
+#[inline(always)]
+fn begins_quoted(text: &[u8], count: usize) -> bool
+    requires { count ≤ length text.now }
+    ensures { IsTrue result ↔ ((0 < count) × (slice_index text.now 0 ≡ 34)) }
 {
-    let mut rest = row;
-    for _field in 0..count {
-        match separator.split(rest) {
-            Some((_, after)) => rest = after,
+    count > 0 && text[0] == b'"'
+}
+
+/// Where the first delimiter outside of quotes is, if there is one.
+fn end_outside(delimiter: u8, rest: &[u8]) -> Option<usize>
+    ensures { EndsField (separators.Delimiter delimiter) rest.now result }
+{
+    match split_outside(delimiter, delimiter, rest) {
+        Some((field, _)) => Some(field.len()),
+        None => None,
+    }
+}
+
+/// The same of the first `count` bytes of a text that begins with a quote: they are likely to be a field in which no quote
+/// is doubled, and more.
+#[inline(always)]
+fn quoted_end(delimiter: u8, text: &[u8], count: usize) -> Option<usize>
+    requires count { (0 < count) × (count ≤ length text.now) }
+    requires quote { slice_index text.now 0 ≡ 34 }
+    ensures { EndsField (separators.Delimiter delimiter) (take count text.now) result }
+{
+    if delimiter != b'"' {
+        if let Some(within) = place_within(b'"', &text[1..], count - 1) {
+            let end = within + 2;
+            if end == count {
+                return None;
+            }
+            if text[end] == delimiter {
+                return Some(end);
+            }
+        }
+    }
+    end_outside(delimiter, &text[..count])
+}
+
+/// Where the rest of a row begins after this many fields, if it has more. The row is the first `count` bytes of a text.
+#[inline(always)]
+fn skip_fields(
+    separator: Separator,
+    is_line: bool,
+    text: &[u8],
+    count: usize,
+    before: usize,
+) -> Option<usize>
+    requires count { count ≤ length text.now }
+    requires line { IsTrue is_line → IsFreeOf 10 (take count text.now) }
+    ensures { MatchOption result (HasFewer separator before (take count text.now)) (λ at. (at ≤ count) × Skips separator before (take count text.now) (drop at (take count text.now))) }
+{
+    let mut at = 0;
+    for _field in 0..before {
+        match separator.field_end(is_line, &text[at..], count - at) {
+            Some(end) => at += end + 1,
             None => return None,
         }
     }
-    Some(rest)
+    Some(at)
 }
 
-/// The first field of the rest of a row, and what follows it.
-fn first_field(separator: Separator, rest: &[u8]) -> (&[u8], &[u8])
-    ensures field { IsRowField separator result.0.now }
-    ensures after { IsAfterField separator result.0.now result.1.now }
-    ensures whole { rest.now ≡ result.0.now ++ result.1.now }
+/// Where the field of a row after this many others begins and ends, if there is one. The row is the first `count` bytes of
+/// a text, and `is_line` tells only of a row without line feeds.
+#[inline(always)]
+pub(crate) fn field_at(
+    separator: Separator,
+    is_line: bool,
+    text: &[u8],
+    count: usize,
+    before: usize,
+) -> Option<(usize, usize)>
+    requires count { count ≤ length text.now }
+    requires line { IsTrue is_line → IsFreeOf 10 (take count text.now) }
+    ensures { MatchOption result (HasFewer separator before (take count text.now)) (λ p. IsFieldAt separator before (take count text.now) p.0 p.1) }
 {
-    match separator.split(rest) {
-        Some((field, _)) => rest.split_at(field.len()),
-        None => rest.split_at(rest.len()),
+    let start = skip_fields(separator, is_line, text, count, before)?;
+    match separator.field_end(is_line, &text[start..], count - start) {
+        Some(end) => Some((start, start + end)),
+        None => Some((start, count)),
     }
 }
 
@@ -70,9 +139,8 @@ fn first_field(separator: Separator, rest: &[u8]) -> (&[u8], &[u8])
 pub fn find_field(separator: Separator, row: &[u8], count: usize) -> Option<(&[u8], &[u8], &[u8])>
     ensures { MatchOption result (HasFewer separator count row.now) (λ p. HasField separator count row.now p.0.now p.1.now p.2.now) }
 {
-    let rest = skip_fields(separator, row, count)?;
-    let (field, after) = first_field(separator, rest);
-    Some((&row[..row.len().saturating_sub(rest.len())], field, after))
+    let (start, end) = field_at(separator, false, row, row.len(), count)?;
+    Some((&row[..start], &row[start..end], &row[end..]))
 }
 
 /// Whether a carriage return is in a row of CSV, outside of quotes. One that ends the row's line is no part of the row.

@@ -1,8 +1,12 @@
 //! Splitting bytes at a byte.
+ghost use Rattle.std.specs.Prelude.{◌≤◌, ◌↔◌, IsTrue, length, take};
 ghost use Rattle.memchr.specs.Find.{IsFirstByte, is_byte};
-ghost use Rattle.lt_rows.specs.Splitting.{SplitsAt};
+ghost use Rattle.lt_rows.specs.Splitting.{IsFreeOf, IsNear, IsPlaceOf, SplitsAt};
 
-use memchr::memchr_iter;
+use memchr::{memchr_iter, memchr2};
+
+/// So many bytes of a text are looked at together.
+const TOGETHER: usize = 32;
 
 /// Where the first such byte is, which is likely to be near: the next 32 bytes are looked at first.
 #[tactic(auto, using(crate::proofs::SplitLemmas::first_byte))]
@@ -22,5 +26,40 @@ pub fn split_first(byte: u8, bytes: &[u8]) -> Option<(&[u8], &[u8])>
     match first_place(byte, bytes) {
         Some(index) => Some((&bytes[..index], &bytes[index + 1..])),
         None => None,
+    }
+}
+
+/// The first `count` bytes of a text, and those after them that are looked at together with them, where it has as many.
+#[inline(always)]
+fn near(text: &[u8], count: usize) -> &[u8]
+    requires { count ≤ length text.now }
+    ensures { IsNear count text.now result.now }
+{
+    &text[..text.len().min(count.max(TOGETHER))]
+}
+
+/// Where the first such byte is among the first `count` bytes of a text, if it is there.
+#[tactic(auto, using(crate::proofs::NearLemmas::none_near, crate::proofs::NearLemmas::none_before, crate::proofs::NearLemmas::place_near))]
+#[inline(always)]
+pub(crate) fn place_within(byte: u8, text: &[u8], count: usize) -> Option<usize>
+    requires { count ≤ length text.now }
+    ensures { IsPlaceOf byte (take count text.now) result }
+{
+    match first_place(byte, near(text, count)) {
+        Some(index) => { if index < count { Some(index) } else { None } }
+        None => None,
+    }
+}
+
+/// Whether neither byte is among the first `count` bytes of a text.
+#[tactic(auto, using(crate::proofs::NearLemmas::neither_near, crate::proofs::NearLemmas::neither_before, crate::proofs::NearLemmas::either_near))]
+#[inline(always)]
+pub(crate) fn is_free_of_both(one: u8, other: u8, text: &[u8], count: usize) -> bool
+    requires { count ≤ length text.now }
+    ensures { IsTrue result ↔ (IsFreeOf one (take count text.now) × IsFreeOf other (take count text.now)) }
+{
+    match memchr2(one, other, near(text, count)) {
+        Some(index) => count <= index,
+        None => true,
     }
 }

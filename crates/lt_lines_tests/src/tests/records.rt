@@ -18,7 +18,7 @@ const HEADINGS: [(&[u8], &str); 4] = [
 ];
 
 /// Records after a heading, what `csv` makes of them by their second fields, and its status.
-const RECORDS: [(&str, &str, u8); 19] = [
+const RECORDS: [(&str, &str, u8); 27] = [
     ("1,\"zh-yue\",b\n", "1,\"yue\",b,\n", 0),
     ("1,DE", "1,de,\n", 0),
     ("1,iw\r\n2,iw\n", "1,he,\r\n2,he,\n", 0),
@@ -42,6 +42,26 @@ const RECORDS: [(&str, &str, u8); 19] = [
     ("x, \"q,iw\n", "x, \"q,iw,BadByte 1\n", 1),
     ("\"a\"b,iw\n", "\"a\"b,he,\n", 0),
     ("\"a\"b\"c,iw\n2,iw\n", "\"a\"b\"c,he,\n2,he,\n", 0),
+    ("1,iw,\"a\nb\",c\n2,iw\n", "1,he,\"a\nb\",c,\n2,he,\n", 0),
+    ("1,\"iw\",x\"y\n2,iw\n", "1,\"he\",x\"y,\n2,he,\n", 0),
+    ("\"1\"\"2\",iw,\"\"\n", "\"1\"\"2\",he,\"\",\n", 0),
+    ("\"1\" ,iw\n\"\",iw\n", "\"1\" ,he,\n\"\",he,\n", 0),
+    ("\"1\"\n\"1\",\n", "\"1\",NoColumn\n\"1\",,EmptySubtag 1\n", 1),
+    (
+        "\"A title of a book, and more than 32 bytes of it\",zh-yue,\"1,2\"\n",
+        "\"A title of a book, and more than 32 bytes of it\",yue,\"1,2\",\n",
+        0,
+    ),
+    (
+        "A title of a book with more than 32 bytes,iw,\"it goes on\nhere\"\n2,iw",
+        "A title of a book with more than 32 bytes,he,\"it goes on\nhere\",\n2,he,\n",
+        0,
+    ),
+    (
+        "A row with more than 32 bytes and one field\n1,iw\n",
+        "A row with more than 32 bytes and one field,NoColumn\n1,he,\n",
+        1,
+    ),
 ];
 
 /// Whether `csv` makes this of records by their second fields, and ends so.

@@ -1,0 +1,83 @@
+-- Lines of rows that are looked at before they are answered.
+use Rattle.std.proofs.Common.{refl, ◌≡◌, ◌≤◌, ◌<◌, ◌+◌, ◌-◌, ◌&&◌, ◌++◌, [], ◌∷◌, ◌∙◌, ℕ, Bool, true, false, List, Option, Some, None, MatchOption, inl, inr, length, sym, ap, arith, take, if◌then◌else◌}
+use Rattle.std.proofs.lemmas.Bool.{cases_Bool, eqb-true, ltb-true}
+use Rattle.std.proofs.lemmas.List.{drop_all, length-take-le, take-take}
+use Rattle.std.specs.Io.BufRead.{ends_with_byte}
+use Rattle.lt_jar.specs.Lines.{content_of}
+use Rattle.lt_rows.specs.Quotes.{is_quoted, place_after, place_at}
+use Rattle.lt_rows.specs.declared.looks.Look.{Look}
+use Rattle.lt_rows.specs.declared.quotes.Place.{Place}
+use Rattle.lt_rows.specs.declared.quotes.Place.TheVariants as places
+use Rattle.lt_rows.proofs.NearLemmas.{split_there}
+use Rattle.lt_rows.proofs.RowLemmas.{outside_closed, place_at-append}
+use Rattle.lt_lines.specs.Answering.{IsTaken, place_then}
+use Rattle.lt_lines.specs.Looks.{IsAhead, IsLook}
+use Rattle.lt_lines.specs.Owed.{Terms, place_of}
+use Rattle.lt_lines.specs.declared.answering.Answering.{Answering}
+use Rattle.lt_lines.specs.declared.forms.LineForm.{LineForm}
+use Rattle.lt_lines.specs.declared.forms.LineForm.TheVariants as forms
+use Rattle.lt_lines.proofs.FormLemmas.{of_none}
+use Rattle.lt_lines.proofs.PartLemmas.{nothing_kept}
+
+-- the content of a line is a front of the text that the line is a front of
+pub content_front : (text : List ℕ) (count : ℕ) → count ≤ length text → take (length (content_of (take count text))) text ≡ content_of (take count text)
+content_front text count le =
+    let line = take count text in
+    let long : length line ≡ count = length-take-le count text le in
+    elim (ends_with_byte 13 line) as (λ t. take (length (if t then take (length line - 1) line else line)) text ≡ (if t then take (length line - 1) line else line)) [
+      | true ↦ ap (λ n. take n text) (length-take-le (length line - 1) line (omega arith)) ∙ sym (take-take (length line - 1) count text (omega (arith, long)))
+      | false ↦ ap (λ n. take n text) long
+    ]
+
+pub content_short : (text : List ℕ) (count : ℕ) → count ≤ length text → length (content_of (take count text)) ≤ count
+content_short text count le =
+    let line = take count text in
+    let long : length line ≡ count = length-take-le count text le in
+    elim (ends_with_byte 13 line) as (λ t. length (if t then take (length line - 1) line else line) ≤ count) [
+      | true ↦ omega (arith, long, length-take-le (length line - 1) line (omega arith))
+      | false ↦ omega (arith, long)
+    ]
+
+-- a line that a carriage return ends
+both : (x y : Bool) → (x && y) ≡ true → (x ≡ true) × (y ≡ true)
+both true y e = (refl, e)
+both false y e = let bad : false ≡ true = e in cc
+
+last_return : (line : List ℕ) → ends_with_byte 13 line ≡ true → line ≡ take (length line - 1) line ++ 13 ∷ []
+last_return line e =
+    let is = both _ _ e in
+    let some : 0 < length line = ltb-true 0 (length line) is.0 in
+    split_there 13 line (length line - 1) (omega (arith, some)) (eqb-true _ 13 is.1)
+    ∙ ap (λ l. take (length line - 1) line ++ 13 ∷ l) (drop_all (length line - 1 + 1) line (omega (arith, some)))
+
+-- it changes nothing of what is within quotes
+return_quoted : (d : ℕ) (place : Place) → is_quoted (place_after d place 13) ≡ is_quoted place
+return_quoted d places.Fresh = outside_closed d 13
+return_quoted d places.Plain = outside_closed d 13
+return_quoted d places.Quoted = refl
+
+content_quoted : (d : ℕ) (line : List ℕ) → is_quoted (place_at d places.Fresh (content_of line)) ≡ is_quoted (place_at d places.Fresh line)
+content_quoted d line = elim (cases_Bool (ends_with_byte 13 line)) [
+  | inl e ↦
+      let front = take (length line - 1) line in
+      let whole : is_quoted (place_at d places.Fresh line) ≡ is_quoted (place_at d places.Fresh front) =
+      ap (λ l. is_quoted (place_at d places.Fresh l)) (last_return line e) ∙ ap is_quoted (place_at-append d places.Fresh front (13 ∷ [])) ∙ return_quoted d (place_at d places.Fresh front) in
+      rw e (sym whole)
+  | inr e ↦ rw e refl
+]
+
+-- what a look tells of a line of which nothing is kept
+look_open : (form : LineForm) (line : List ℕ) (look : Look) → IsLook form line (Some look) → look.is_open ≡ is_quoted (place_then form places.Fresh line)
+look_open forms.Tag line look is = let bad : Some look ≡ None = is in cc
+look_open (forms.Row row) line look is = is.ends
+look_open (forms.Csv row delimiter) line look is = is.ends ∙ content_quoted delimiter line
+
+pub open_is : (form : LineForm) (kept line : List ℕ) (place : Place) (look : Option Look) (result : Bool) → IsAhead form kept line look
+    → MatchOption look (result ≡ is_quoted (place_then form place line)) (λ l. result ≡ l.is_open) → (kept ≡ [] → place ≡ places.Fresh) → result ≡ is_quoted (place_then form place line)
+open_is form kept line place None result ahead tells fresh = tells
+open_is form kept line place (Some look) result ahead tells fresh =
+    tells ∙ look_open form line look ahead.is_look ∙ ap (λ p. is_quoted (place_then form p line)) (sym (fresh ahead.whole))
+
+-- a line of which nothing is kept begins fresh
+pub fresh_place : (T : Terms) (bytes out : List ℕ) (state : Answering) → IsTaken T bytes out state → state.kept.items ≡ [] → state.place ≡ places.Fresh
+fresh_place T bytes out state t none = t.goes_on ∙ ap (place_of T.form) (nothing_kept T.form state.kept.items t.last t.kept none) ∙ (of_none T.form).closed

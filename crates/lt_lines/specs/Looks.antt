@@ -1,0 +1,24 @@
+-- Lines of rows that are looked at before they are answered. No public contract cites this.
+use Rattle.std.specs.Prelude.{◌≡◌, ℕ, List, [], Option, None, MatchOption}
+use Rattle.lt_jar.specs.Lines.{content_of}
+use Rattle.lt_rows.specs.Looks.{IsLookAt}
+use Rattle.lt_rows.specs.declared.looks.Look.{Look}
+use Rattle.lt_rows.specs.declared.rows.Separator.{Separator}
+use Rattle.lt_rows.specs.declared.rows.Separator.TheVariants as separators
+use Rattle.lt_lines.specs.declared.forms.LineForm.{LineForm}
+use Rattle.lt_lines.specs.declared.forms.LineForm.TheVariants as forms
+
+-- the line of a row was looked at, if it was
+abbrev pub IsRowLook : Separator → ℕ → List ℕ → Option Look → Type 0
+IsRowLook S before line look = MatchOption look (Unit {0}) (λ l. IsLookAt S before (content_of line) l)
+
+-- the same of a line of this form
+abbrev pub IsLook : LineForm → List ℕ → Option Look → Type 0
+IsLook forms.Tag line look = look ≡ None
+IsLook (forms.Row row) line look = IsRowLook separators.Tab row.before line look
+IsLook (forms.Csv row delimiter) line look = IsRowLook (separators.Delimiter delimiter) row.before line look
+
+-- nothing is kept of the line, where it was
+pub record IsAhead (form : LineForm) (kept line : List ℕ) (look : Option Look) : Type 0 where
+  pub is_look : IsLook form line look
+  pub whole : MatchOption look (Unit {0}) (λ _. kept ≡ [])

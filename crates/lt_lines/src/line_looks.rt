@@ -1,0 +1,61 @@
+//! Lines of rows that are looked at before they are answered.
+ghost use Rattle.std.specs.Prelude.{◌≡◌, ◌≤◌, MatchOption, length, take};
+ghost use Rattle.lt_jar.specs.Lines.{content_of};
+ghost use Rattle.lt_rows.specs.Looks.{IsLookAt};
+ghost use Rattle.lt_rows.specs.Quotes.{is_quoted};
+ghost use Rattle.lt_lines.specs.Answering as spec;
+ghost use Rattle.lt_lines.specs.Looks.{IsAhead};
+
+use crate::answer_lines::without_return;
+use crate::forms::LineForm;
+use lt_rows::{Look, Place, Separator, after_text, look_at};
+
+/// Looks at the line that the first `count` bytes of a text are, for the field of its row after this many others.
+#[tactic(auto, using(crate::proofs::LookLemmas::content_front, crate::proofs::LookLemmas::content_short))]
+#[inline(always)]
+pub(crate) fn look_at_row(separator: Separator, before: usize, text: &[u8], count: usize) -> Look
+    requires { count ≤ length text.now }
+    ensures { IsLookAt separator before (content_of (take count text.now)) result }
+{
+    let row = without_return(&text[..count]);
+    look_at(separator, text, row.len(), before)
+}
+
+/// The same of a line of this form, if it is a row or a record, and nothing of it is kept.
+#[inline(always)]
+pub(crate) fn look_ahead(form: LineForm, kept: &[u8], text: &[u8], count: usize) -> Option<Look>
+    requires { count ≤ length text.now }
+    ensures { IsAhead form kept.now (take count text.now) result }
+{
+    if !kept.is_empty() {
+        return None;
+    }
+    match form {
+        LineForm::Tag => None,
+        LineForm::Row(row) => Some(look_at_row(Separator::Tab, row.before, text, count)),
+        LineForm::Csv(row, delimiter) => {
+            Some(look_at_row(Separator::Delimiter(delimiter), row.before, text, count))
+        }
+    }
+}
+
+/// The place after more bytes of a line, by that before them.
+pub(crate) fn place_then(form: LineForm, place: Place, part: &[u8]) -> Place
+    ensures { result ≡ spec.place_then form place part.now }
+{
+    match form {
+        LineForm::Tag | LineForm::Row(_) => Place::Fresh,
+        LineForm::Csv(_, delimiter) => after_text(delimiter, place, part),
+    }
+}
+
+/// Whether a line ends within quotes with these bytes more, as a look at it tells, or its place before them.
+#[inline(always)]
+pub(crate) fn is_open(form: LineForm, look: &Option<Look>, place: Place, part: &[u8]) -> bool
+    ensures { MatchOption look.now (result ≡ is_quoted (spec.place_then form place part.now)) (λ look. result ≡ look.is_open) }
+{
+    match look {
+        Some(look) => look.is_open,
+        None => place_then(form, place, part).is_quoted(),
+    }
+}

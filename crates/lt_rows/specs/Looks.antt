@@ -1,0 +1,49 @@
+-- What a row is answered by: whether it ends within quotes, whether it has a carriage return outside of them, and where the
+-- text of one of its fields is.
+use Rattle.std.specs.Prelude.{◌≡◌, ◌≤◌, ◌-◌, ◌++◌, ℕ, Bool, false, List, drop, length, take}
+use Rattle.lt_rows.specs.Quotes.{is_quoted, place_at}
+use Rattle.lt_rows.specs.Rows.{HasFewer, HasField, HasReturn, IsTextIn}
+use Rattle.lt_rows.specs.Splitting.{IsFreeOf}
+use Rattle.lt_rows.specs.declared.quotes.Place.TheVariants as places
+use Rattle.lt_rows.specs.declared.rows.Separator.{Separator}
+use Rattle.lt_rows.specs.declared.rows.Separator.TheVariants as separators
+use Rattle.lt_rows.specs.declared.looks.Found.{Found}
+use Rattle.lt_rows.specs.declared.looks.Found.TheVariants as founds
+use Rattle.lt_rows.specs.declared.looks.Look.{Look}
+use Rattle.lt_rows.specs.declared.looks.TextAt.{TextAt}
+
+-- whether a row ends within quotes, where delimiters part fields
+abbrev pub ends_quoted : Separator → List ℕ → Bool
+ends_quoted separators.Tab row = false
+ends_quoted (separators.Delimiter delimiter) row = is_quoted (place_at delimiter places.Fresh row)
+
+-- a record of one line: neither a carriage return (13) nor a line feed (10) is in it
+abbrev pub IsPlainLine : Separator → List ℕ → Type 0
+IsPlainLine separators.Tab row = ⊥
+IsPlainLine (separators.Delimiter delimiter) row = IsFreeOf 13 row × IsFreeOf 10 row
+
+-- the text of the field after this many others, by its first byte and the byte after its last; what is at both of its ends
+-- and the rest of the row are around it
+pub record HasTextAt (S : Separator) (before : ℕ) (row : List ℕ) (place : TextAt) : Type 0 where
+  pub front : List ℕ
+  pub field : List ℕ
+  pub after : List ℕ
+  pub at : HasField S before row front field after
+  pub quotes : List ℕ
+  pub text : List ℕ
+  pub is_text : IsTextIn S field quotes text
+  pub ordered : place.start ≤ place.end
+  pub inside : place.end ≤ length row
+  pub front_is : take place.start row ≡ front ++ quotes
+  pub text_is : take (place.end - place.start) (drop place.start row) ≡ text
+  pub after_is : drop place.end row ≡ quotes ++ after
+
+-- what is found in a row: a carriage return outside of quotes, or else fewer fields, or the text of a field
+abbrev pub IsFound : Separator → ℕ → List ℕ → Found → Type 0
+IsFound S before row founds.Return = HasReturn S row
+IsFound S before row founds.Fewer = (HasReturn S row → ⊥) × HasFewer S before row
+IsFound S before row (founds.Text place) = (HasReturn S row → ⊥) × HasTextAt S before row place
+
+pub record IsLookAt (S : Separator) (before : ℕ) (row : List ℕ) (look : Look) : Type 0 where
+  pub ends : look.is_open ≡ ends_quoted S row
+  pub found : IsFound S before row look.found

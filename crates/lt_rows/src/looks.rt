@@ -1,0 +1,124 @@
+//! What a row is answered by.
+ghost use Rattle.std.specs.Prelude.{◌≡◌, ◌≤◌, ◌↔◌, ℕ, IsTrue, drop, length, take};
+ghost use Rattle.lt_rows.specs.Looks.{HasTextAt, IsLookAt, IsPlainLine, ends_quoted};
+ghost use Rattle.lt_rows.specs.Rows.{IsFieldAt, Skips};
+ghost use Rattle.lt_rows.specs.Quotes.{is_quoted, place_at};
+ghost use Rattle.lt_rows.specs.declared.quotes.Place.TheVariants as places;
+
+use crate::quotes::{Place, after_text};
+use crate::rows::{Separator, field_at, has_return, text_in};
+use crate::splitting::{is_free_of_both, place_within};
+
+/// Where the text of a field is in its row.
+#[derive(Clone, Copy, Debug, PartialEq, Eq)]
+pub struct TextAt {
+    /// The place of its first byte.
+    pub start: usize,
+    /// The place after its last byte.
+    pub end: usize,
+}
+
+/// What a row is answered by.
+#[derive(Clone, Copy, Debug, PartialEq, Eq)]
+pub enum Found {
+    /// A carriage return is in it, outside of quotes.
+    Return,
+    /// It has no such field.
+    Fewer,
+    /// The text of the field.
+    Text(TextAt),
+}
+
+/// A row that was looked at for one of its fields.
+#[derive(Clone, Copy, Debug, PartialEq, Eq)]
+pub struct Look {
+    /// Whether it ends within quotes, where delimiters part fields.
+    pub is_open: bool,
+    /// What it is answered by.
+    pub found: Found,
+}
+
+/// Whether the first `count` bytes of a text are a record without line feeds and carriage returns.
+#[inline(always)]
+fn is_plain_line(separator: Separator, text: &[u8], count: usize) -> bool
+    requires { count ≤ length text.now }
+    ensures { IsTrue result ↔ IsPlainLine separator (take count text.now) }
+{
+    match separator {
+        Separator::Tab => false,
+        Separator::Delimiter(_) => is_free_of_both(b'\r', b'\n', text, count),
+    }
+}
+
+/// Whether the first `count` bytes of a text end within quotes, where a field begins at this place of them.
+#[tactic(auto, using(crate::proofs::LookLemmas::closed_rest, crate::proofs::LookLemmas::rest_slice))]
+#[inline(always)]
+fn is_open_from(delimiter: u8, text: &[u8], count: usize, start: usize) -> bool
+    requires { (start ≤ count) × (count ≤ length text.now) }
+    ensures { result ≡ is_quoted (place_at delimiter places.Fresh (drop start (take count text.now))) }
+{
+    match place_within(b'"', &text[start..], count - start) {
+        Some(_) => after_text(delimiter, Place::Fresh, &text[start..count]).is_quoted(),
+        None => false,
+    }
+}
+
+/// Whether a row ends within quotes, where fields are skipped up to this place of it. The row is the first `count` bytes of
+/// a text.
+#[inline(always)]
+fn is_open(separator: Separator, text: &[u8], count: usize, start: usize) -> bool
+    requires { (start ≤ count) × (count ≤ length text.now) }
+    ensures { (before : ℕ) → Skips separator before (take count text.now) (drop start (take count text.now)) → result ≡ ends_quoted separator (take count text.now) }
+{
+    match separator {
+        Separator::Tab => false,
+        Separator::Delimiter(delimiter) => {
+            if delimiter == b'"' {
+                is_open_from(delimiter, text, count, 0)
+            } else {
+                is_open_from(delimiter, text, count, start)
+            }
+        }
+    }
+}
+
+/// The text of a field that goes from this place of a row up to that.
+#[inline(always)]
+fn text_at(separator: Separator, row: &[u8], start: usize, end: usize) -> TextAt
+    requires { (start ≤ end) × (end ≤ length row.now) }
+    ensures { (before : ℕ) → IsFieldAt separator before row.now start end → HasTextAt separator before row.now result }
+{
+    let (quotes, text) = text_in(separator, &row[start..end]);
+    let first = start + quotes.len();
+    TextAt {
+        start: first,
+        end: first + text.len(),
+    }
+}
+
+/// Looks for the field of a row after this many others, and whether the row ends within quotes. The row is the first
+/// `count` bytes of a text.
+#[inline(always)]
+pub fn look_at(separator: Separator, text: &[u8], count: usize, before: usize) -> Look
+    requires { count ≤ length text.now }
+    ensures { IsLookAt separator before (take count text.now) result }
+{
+    let row = &text[..count];
+    let is_line = is_plain_line(separator, text, count);
+    if !is_line && has_return(separator, row) {
+        return Look {
+            is_open: is_open(separator, text, count, 0),
+            found: Found::Return,
+        };
+    }
+    match field_at(separator, is_line, text, count, before) {
+        Some((start, end)) => Look {
+            is_open: is_open(separator, text, count, start),
+            found: Found::Text(text_at(separator, row, start, end)),
+        },
+        None => Look {
+            is_open: is_open(separator, text, count, 0),
+            found: Found::Fewer,
+        },
+    }
+}
