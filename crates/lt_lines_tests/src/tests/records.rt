@@ -46,7 +46,11 @@ const RECORDS: [(&str, &str, u8); 27] = [
     ("1,\"iw\",x\"y\n2,iw\n", "1,\"he\",x\"y,\n2,he,\n", 0),
     ("\"1\"\"2\",iw,\"\"\n", "\"1\"\"2\",he,\"\",\n", 0),
     ("\"1\" ,iw\n\"\",iw\n", "\"1\" ,he,\n\"\",he,\n", 0),
-    ("\"1\"\n\"1\",\n", "\"1\",NoColumn\n\"1\",,EmptySubtag 1\n", 1),
+    (
+        "\"1\"\n\"1\",\n",
+        "\"1\",NoColumn\n\"1\",,EmptySubtag 1\n",
+        1,
+    ),
     (
         "\"A title of a book, and more than 32 bytes of it\",zh-yue,\"1,2\"\n",
         "\"A title of a book, and more than 32 bytes of it\",yue,\"1,2\",\n",
