@@ -75,7 +75,7 @@ static const word faults[] = {
     {"C10", "The value of a whole tag leads on to another whole tag, or repeats a variant: mend the Preferred-Value."},
     {"C11", "By its subtags a redundant tag leads elsewhere than by its value: mend the Preferred-Value."},
     {"C12", "A range has a Preferred-Value: remove it."},
-    {"U1", "The newer registry lacks a subtag, or a part of a range, of the older one: register it."},
+    {"U1", "The newer registry lacks a subtag of the older one, or has no one range that holds a range of it: register it."},
     {"U2", "By the newer registry a subtag and its older value lead to two subtags: lead both to one."},
     {"U3", "The newer registry lacks an extlang, or gives it another Prefix or leads it elsewhere: keep what it was."},
     {"U4", "By the newer registry a variant becomes a language no longer, or by other Prefixes, or another one: keep what it was."},
