@@ -113,8 +113,8 @@ const FULL: usize = 65_536;
 /// A tag of 60 attributes in falling order: 1,770 steps, whose lines are 575,000 bytes, more than are kept at a time.
 fn long_tag(alloc: Global) -> Result<String, AllocError> {
     let mut tag = String::from_str(alloc, "en-u")?;
-    for number in 0..60 {
-        let below = 159 - number;
+    for number in 0..60u32 {
+        let below = 159u32.saturating_sub(number);
         tag.push_str(&format!(in alloc; "-a{below}")?)?;
     }
     Ok(tag)
@@ -151,7 +151,7 @@ fn a_long_explanation(rt: HostRuntime) -> Result<(), Fail> {
     assert!(rt; lines.len() > 8 * FULL);
     let mut writer = Takes::new(rt.alloc(), 1_000_000);
     let end = explain_into(rt.alloc(), &sample, &tag, &mut writer);
-    assert!(rt; matches!(end, Some((0, errors)) if errors.is_empty()));
+    assert!(rt; matches!(&end, Some((0, errors)) if errors.is_empty()));
     assert!(rt; writer.taken() == lines.as_slice());
     Ok(())
 }
@@ -161,7 +161,7 @@ fn explain_stops(alloc: Global, registry: &str, tag: &str, lines: &[u8], count: 
     let mut writer = Takes::new(alloc, 1_000_000);
     writer.fail_at((count as u64).saturating_add(1));
     let end = explain_into(alloc, registry, tag, &mut writer);
-    matches!(end, Some((4, errors)) if errors.as_slice() == b"! Write\n".as_slice())
+    matches!(&end, Some((4, errors)) if errors.as_slice() == b"! Write\n".as_slice())
         && lines.starts_with(writer.taken())
         && writer.taken().len() / FULL == count
 }

@@ -315,7 +315,7 @@ fn headings_that_are_long(rt: HostRuntime) -> Result<(), Fail> {
     let words = ["tsv", "--heading", "registry", "tag"];
     let ended = run(rt.alloc(), &words, &sample, &long, piece, 1000);
     assert!(rt; is_so(&ended, b"", b"! BadTsv line 1\n", 4));
-    let longest = &long[1..];
+    let longest = long.get(1..).unwrap_or(&[]);
     let ended = run(rt.alloc(), &words, &sample, longest, piece, 1000);
     assert!(rt; matches!(&ended, Some(run) if run.status == 3 && run.output.is_empty()));
     Ok(())
