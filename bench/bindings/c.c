@@ -1,5 +1,5 @@
 /* Calls a second of bcp47_canonical, of ICU and, where LIBLANGTAG is defined, of liblangtag, in turns: the best round of each. With
-   ICU a tag is read, made canonical and written as a tag. Arguments: registry, tags. */
+   ICU a tag is read, made canonical and written as a tag; liblangtag is asked for the first tags alone. Arguments: registry, tags. */
 #include "../../tests/bindings/support.h"
 #include <time.h>
 #include <unicode/uloc.h>
@@ -7,7 +7,7 @@
 #include <liblangtag/langtag.h>
 #endif
 
-enum { MOST = 1 << 20, ROUNDS = 9 };
+enum { MOST = 1 << 20, FEW = 2000, ROUNDS = 9 };
 static const char *texts[MOST];
 static size_t lengths[MOST], count = 0;
 static bcp47_registry *registry;
@@ -44,7 +44,7 @@ static size_t ask_icu(void) {
 static size_t ask_liblangtag(void) {
     size_t done = 0;
     lt_tag_t *tag = lt_tag_new();
-    for (size_t i = 0; i < count; i++) {
+    for (size_t i = 0; i < count && i < FEW; i++) {
         lt_error_t *error = NULL;
         char *canonical = lt_tag_parse(tag, texts[i], &error) ? lt_tag_canonicalize(tag, &error) : NULL;
         done += canonical != NULL;
@@ -59,11 +59,12 @@ static size_t ask_liblangtag(void) {
 static const struct {
     const char *name;
     size_t (*ask)(void);
+    size_t most;
 } asked[] = {
-    {"bcp47_canonical", ask},
-    {"ICU", ask_icu},
+    {"bcp47_canonical", ask, MOST},
+    {"ICU", ask_icu, MOST},
 #ifdef LIBLANGTAG
-    {"liblangtag", ask_liblangtag},
+    {"liblangtag", ask_liblangtag, FEW},
 #endif
 };
 enum { ASKED = sizeof asked / sizeof *asked };
@@ -74,6 +75,9 @@ int main(int words_count, char **words) {
     if (words_count < 3) return 3;
     char *tags = read_all(words[2], &n);
     registry = opened(words[1]);
+#ifdef LIBLANGTAG
+    lt_db_initialize();
+#endif
     for (size_t i = 0; i < n && count < MOST; i += lengths[count++] + 1) {
         texts[count] = tags + i;
         lengths[count] = (size_t)((char *)memchr(tags + i, '\n', n - i) - texts[count]);
@@ -86,9 +90,11 @@ int main(int words_count, char **words) {
             double seconds = now() - begun;
             if (round == 0 || seconds < best[k]) best[k] = seconds;
         }
-    for (int k = 0; k < ASKED; k++)
-        printf("C, %s: %.3f million calls a second (%zu of %zu canonical), %.1f times as many by bcp47_canonical\n", asked[k].name,
-               (double)count / best[k] / 1e6, done[k], count, best[k] / best[0]);
+    for (int k = 0; k < ASKED; k++) {
+        size_t tried = count < asked[k].most ? count : asked[k].most;
+        printf("C, %s: %.4f million calls a second (%zu of %zu canonical), %.1f times as many by bcp47_canonical\n", asked[k].name,
+               (double)tried / best[k] / 1e6, done[k], tried, best[k] / (double)tried * (double)count / best[0]);
+    }
     bcp47_close(registry);
     free(tags);
     return 0;
