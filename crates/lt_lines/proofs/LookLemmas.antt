@@ -1,17 +1,22 @@
 -- Lines of rows that are looked at before they are answered.
-use Rattle.std.proofs.Common.{refl, ◌≡◌, ◌≤◌, ◌<◌, ◌+◌, ◌-◌, ◌&&◌, ◌++◌, [], ◌∷◌, ◌∙◌, ℕ, Bool, true, false, List, Option, Some, None, MatchOption, inl, inr, length, sym, ap, arith, take, if◌then◌else◌}
+use Rattle.std.proofs.Common.{refl, ◌≡◌, ◌≤◌, ◌<◌, ◌+◌, ◌-◌, ◌&&◌, ◌++◌, [], ◌∷◌, ◌∙◌, ℕ, Bool, true, false, List, Option, Some, None, MatchOption, inl, inr, length, sym, ap, arith, subst, take, drop, if◌then◌else◌, append_assoc, length-append}
 use Rattle.std.proofs.lemmas.Bool.{cases_Bool, eqb-true, ltb-true}
+use Rattle.std.proofs.Math.Seq.{take-append_seam, drop-append_seam}
 use Rattle.std.proofs.lemmas.List.{drop_all, length-take-le, take-take}
+use Rattle.std.proofs.lemmas.List.Elements.{All-drop, All-take}
 use Rattle.std.specs.Io.BufRead.{ends_with_byte}
-use Rattle.lt_jar.specs.Lines.{content_of}
+use Rattle.lt_jar.specs.Lines.{IsOneLine, content_of}
+use Rattle.lt_rows.specs.Looks.{LacksIn}
 use Rattle.lt_rows.specs.Quotes.{is_quoted, place_after, place_at}
+use Rattle.lt_rows.specs.Splitting.{IsFreeOf}
+use Rattle.lt_rows.specs.declared.looks.Lacks.{Lacks}
 use Rattle.lt_rows.specs.declared.looks.Look.{Look}
 use Rattle.lt_rows.specs.declared.quotes.Place.{Place}
 use Rattle.lt_rows.specs.declared.quotes.Place.TheVariants as places
 use Rattle.lt_rows.proofs.NearLemmas.{split_there}
 use Rattle.lt_rows.proofs.RowLemmas.{outside_closed, place_at-append}
 use Rattle.lt_lines.specs.Answering.{IsTaken, place_then}
-use Rattle.lt_lines.specs.Looks.{IsAhead, IsLook}
+use Rattle.lt_lines.specs.Looks.{IsAhead, IsKnownToLack, IsLook}
 use Rattle.lt_lines.specs.Owed.{Terms, place_of}
 use Rattle.lt_lines.specs.declared.answering.Answering.{Answering}
 use Rattle.lt_lines.specs.declared.forms.LineForm.{LineForm}
@@ -81,3 +86,41 @@ open_is form kept line place (Some look) result ahead tells fresh =
 -- a line of which nothing is kept begins fresh
 pub fresh_place : (T : Terms) (bytes out : List ℕ) (state : Answering) → IsTaken T bytes out state → state.kept.items ≡ [] → state.place ≡ places.Fresh
 fresh_place T bytes out state t none = t.goes_on ∙ ap (place_of T.form) (nothing_kept T.form state.kept.items t.last t.kept none) ∙ (of_none T.form).closed
+
+-- ---- what lines lack
+
+lacks_front : (text : List ℕ) (lacks : Lacks) (n : ℕ) → LacksIn text lacks → LacksIn (take n text) lacks
+lacks_front text lacks n known = record {
+  returns = λ is. (All-take (λ byte. byte ≢ 13) n text (known.returns is).0, All-take (λ byte. byte ≢ 10) n text (known.returns is).1);
+  quotes = λ is. All-take (λ byte. byte ≢ 34) n text (known.quotes is);
+}
+
+-- the content of a line lacks what the line lacks
+pub content_lacks : (line : List ℕ) (lacks : Lacks) → LacksIn line lacks → LacksIn (content_of line) lacks
+content_lacks line lacks known = elim (ends_with_byte 13 line) as (λ t. LacksIn (if t then take (length line - 1) line else line) lacks) [
+  | true ↦ lacks_front line lacks (length line - 1) known
+  | false ↦ known
+]
+
+-- a line of a text lacks what the text is known to lack
+pub line_lacks : (line after text : List ℕ) (lacks : Lacks) → IsOneLine line → text ≡ line ++ 10 ∷ after → IsKnownToLack text lacks
+    → LacksIn (take (length line) text) lacks
+line_lacks line after text lacks one split known = record {
+  returns = λ is. (
+    All-take (λ byte. byte ≢ 13) (length line) text (known.returns is),
+    subst IsOneLine (sym (ap (take (length line)) split ∙ take-append_seam line (10 ∷ after))) one,
+  );
+  quotes = λ is. All-take (λ byte. byte ≢ 34) (length line) text (known.quotes is);
+}
+
+-- so does what follows it
+pub after_lacks : (line after text : List ℕ) (lacks : Lacks) → text ≡ line ++ 10 ∷ after → IsKnownToLack text lacks → IsKnownToLack after lacks
+after_lacks line after text lacks split known =
+    let ended = line ++ 10 ∷ [] in
+    let long : length line + 1 ≡ length ended = sym (length-append line (10 ∷ [])) in
+    let is : drop (length line + 1) text ≡ after =
+    rw (split ∙ sym (append_assoc line (10 ∷ []) after), long) (drop-append_seam ended after) in
+    record {
+      returns = λ yes. subst (IsFreeOf 13) is (All-drop (λ byte. byte ≢ 13) (length line + 1) text (known.returns yes));
+      quotes = λ yes. subst (IsFreeOf 34) is (All-drop (λ byte. byte ≢ 34) (length line + 1) text (known.quotes yes));
+    }

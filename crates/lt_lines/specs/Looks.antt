@@ -1,7 +1,9 @@
 -- Lines of rows that are looked at before they are answered. No public contract cites this.
-use Rattle.std.specs.Prelude.{◌≡◌, ℕ, List, [], Option, None, MatchOption}
+use Rattle.std.specs.Prelude.{◌≡◌, ℕ, IsTrue, List, [], Option, None, MatchOption}
 use Rattle.lt_jar.specs.Lines.{content_of}
 use Rattle.lt_rows.specs.Looks.{IsLookAt}
+use Rattle.lt_rows.specs.Splitting.{IsFreeOf}
+use Rattle.lt_rows.specs.declared.looks.Lacks.{Lacks}
 use Rattle.lt_rows.specs.declared.looks.Look.{Look}
 use Rattle.lt_rows.specs.declared.rows.Separator.{Separator}
 use Rattle.lt_rows.specs.declared.rows.Separator.TheVariants as separators
@@ -22,3 +24,8 @@ IsLook (forms.Csv row delimiter) line look = IsRowLook (separators.Delimiter del
 pub record IsAhead (form : LineForm) (kept line : List ℕ) (look : Option Look) : Type 0 where
   pub is_look : IsLook form line look
   pub whole : MatchOption look (Unit {0}) (λ _. kept ≡ [])
+
+-- what is known of a text holds: carriage returns (13) are not in it, or quotes (34)
+pub record IsKnownToLack (text : List ℕ) (lacks : Lacks) : Type 0 where
+  pub returns : IsTrue lacks.returns → IsFreeOf 13 text
+  pub quotes : IsTrue lacks.quotes → IsFreeOf 34 text

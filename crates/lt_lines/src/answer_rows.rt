@@ -9,7 +9,7 @@ ghost use Rattle.lt_lines.specs.Owed.{end_of, row_line, terms, with_canonical};
 
 use crate::answer_lines::{append_told, without_return};
 use crate::forms::{LineForm, RowForm};
-use crate::line_looks::look_at_row;
+use crate::line_looks::{UNKNOWN, look_at_row};
 use crate::recent_answers::{RecentAnswers, append_field};
 use lt_canon::{Checked, TextRefusal};
 use lt_registry::Lookup;
@@ -176,7 +176,7 @@ fn look_at_kept(separator: Separator, before: usize, text: &[u8], count: usize) 
     requires { count ≤ length text.now }
     ensures { IsLookAt separator before (content_of (take count text.now)) result }
 {
-    look_at_row(separator, before, text, count)
+    look_at_row(separator, UNKNOWN, before, text, count)
 }
 
 /// What the line that the first `count` bytes of a text are is answered by, if it was not looked at before.

@@ -2,6 +2,7 @@
 ghost use Rattle.std.specs.Prelude.{◌≡◌, ◌≤◌, ◌+◌, ◌++◌, ◌∷◌, ◌↔◌, List, ℕ, [], false, IfOk, IsTrue, OnOk, length, take, vec_len};
 ghost use Rattle.lt_jar.specs.Lines.{IsOneLine};
 ghost use Rattle.lt_lines.specs.Owed.{Terms, terms};
+ghost use Rattle.lt_rows.specs.Looks.{LacksIn};
 ghost use Rattle.lt_rows.specs.Quotes.{is_quoted};
 ghost use Rattle.lt_lines.specs.Tallied.{line_at as at_line};
 ghost use Rattle.lt_lines.specs.Looks.{IsAhead, IsLook};
@@ -13,14 +14,14 @@ use crate::answer_rows::append_among;
 use crate::device_output::write_text;
 use crate::faults::ToolFault;
 use crate::forms::LineForm;
-use crate::line_looks::{is_open, look_ahead, place_then};
+use crate::line_looks::{is_open, lacks_in, look_ahead, place_then};
 use crate::recent_answers::{RecentAnswers, append_again};
 use crate::runs::Counts;
 use crate::tallying::count_if;
 use lt_canon::Checked;
 use lt_jar::Device;
 use lt_registry::Lookup;
-use lt_rows::{Look, Place, Separator, split_first};
+use lt_rows::{Lacks, Look, Place, Separator, split_first};
 use lt_tag::OutOfMemory;
 use lt_tallies::Tallies;
 use std::alloc::{AllocError, Global};
@@ -271,17 +272,19 @@ impl Answering {
         alloc: Global,
         checked: &Checked<L>,
         form: LineForm,
+        lacks: Lacks,
         text: &[u8],
         count: usize,
     ) -> Result<(), OutOfMemory>
         requires room { spec.HasRoom self.old 1 }
         requires count { count ≤ length text.now }
+        requires lacks { LacksIn (take count text.now) lacks }
         ensures taken { OnOk result ((bytes out : List ℕ) → IsOneLine (take count text.now) → (spec.IsLongBy form (length self.old.kept.items) (length (take count text.now)) → ⊥) → spec.IsTaken (terms (L.listed checked.now) form) bytes out self.old
             → spec.IsTaken (terms (L.listed checked.now) form) (bytes ++ (take count text.now ++ 10 ∷ [])) out self.new) }
         ensures counted { OnOk result (spec.CountsFeed self.old self.new) }
     {
         let part = &text[..count];
-        let look = look_ahead(form, &self.kept, text, count);
+        let look = look_ahead(form, lacks, &self.kept, text, count);
         if is_open(form, &look, self.place, part) {
             return self.go_on(form, part);
         }
@@ -295,11 +298,13 @@ impl Answering {
         alloc: Global,
         checked: &Checked<L>,
         form: LineForm,
+        lacks: Lacks,
         text: &[u8],
         count: usize,
     ) -> Result<(), OutOfMemory>
         requires room { spec.HasRoom self.old 1 }
         requires count { count ≤ length text.now }
+        requires lacks { LacksIn (take count text.now) lacks }
         ensures taken { OnOk result ((bytes out : List ℕ) → IsOneLine (take count text.now) → (spec.IsLongBy form (length self.old.kept.items) (length (take count text.now)) → ⊥) → spec.IsTaken (terms (L.listed checked.now) form) bytes out self.old
             → spec.IsTaken (terms (L.listed checked.now) form) (bytes ++ (take count text.now ++ 10 ∷ [])) out self.new) }
         ensures counted { OnOk result (spec.CountsFeed self.old self.new) }
@@ -307,7 +312,7 @@ impl Answering {
         match form {
             LineForm::Tag => self.answer_line(alloc, checked, form, &None, text, count),
             LineForm::Row(_) | LineForm::Csv(_, _) => {
-                self.end_row(alloc, checked, form, text, count)
+                self.end_row(alloc, checked, form, lacks, text, count)
             }
         }
     }
@@ -378,12 +383,13 @@ impl Answering {
         requires { spec.HasRoom self.old (length piece.now + 1) }
         ensures { spec.TakesPiece (terms (L.listed checked.now) form) W.contents piece.now self.old self.new output.old output.new result }
     {
+        let lacks = lacks_in(form, piece);
         let mut rest = piece;
         while let Some((line, after)) = split_first(b'\n', rest) {
             if self.is_too_long(form, line.len()) {
                 return Err(self.stop_long(form, output));
             }
-            self.end_line(alloc, checked, form, rest, line.len())?;
+            self.end_line(alloc, checked, form, lacks, rest, line.len())?;
             self.write_much(output)?;
             rest = after;
         }

@@ -1,30 +1,60 @@
 //! Lines of rows that are looked at before they are answered.
 ghost use Rattle.std.specs.Prelude.{◌≡◌, ◌≤◌, MatchOption, length, take};
 ghost use Rattle.lt_jar.specs.Lines.{content_of};
-ghost use Rattle.lt_rows.specs.Looks.{IsLookAt};
+ghost use Rattle.lt_rows.specs.Looks.{IsLookAt, LacksIn};
 ghost use Rattle.lt_rows.specs.Quotes.{is_quoted};
 ghost use Rattle.lt_lines.specs.Answering as spec;
-ghost use Rattle.lt_lines.specs.Looks.{IsAhead};
+ghost use Rattle.lt_lines.specs.Looks.{IsAhead, IsKnownToLack};
 
 use crate::answer_lines::without_return;
 use crate::forms::LineForm;
-use lt_rows::{Look, Place, Separator, after_text, look_at};
+use lt_rows::{Lacks, Look, Place, Separator, after_text, lacks_of, look_at};
+
+/// Nothing is known of what a text lacks.
+pub(crate) const UNKNOWN: Lacks = Lacks {
+    returns: false,
+    quotes: false,
+};
+
+/// What is known of the lines of a piece, where it is asked for.
+pub(crate) fn lacks_in(form: LineForm, piece: &[u8]) -> Lacks
+    ensures { IsKnownToLack piece.now result }
+{
+    match form {
+        LineForm::Csv(_, _) => lacks_of(piece),
+        LineForm::Tag | LineForm::Row(_) => UNKNOWN,
+    }
+}
 
 /// Looks at the line that the first `count` bytes of a text are, for the field of its row after this many others.
-#[tactic(auto, using(crate::proofs::LookLemmas::content_front, crate::proofs::LookLemmas::content_short))]
+#[tactic(auto, using(crate::proofs::LookLemmas::content_front, crate::proofs::LookLemmas::content_short, crate::proofs::LookLemmas::content_lacks))]
 #[inline(always)]
-pub(crate) fn look_at_row(separator: Separator, before: usize, text: &[u8], count: usize) -> Look
-    requires { count ≤ length text.now }
+pub(crate) fn look_at_row(
+    separator: Separator,
+    lacks: Lacks,
+    before: usize,
+    text: &[u8],
+    count: usize,
+) -> Look
+    requires count { count ≤ length text.now }
+    requires lacks { LacksIn (take count text.now) lacks }
     ensures { IsLookAt separator before (content_of (take count text.now)) result }
 {
     let row = without_return(&text[..count]);
-    look_at(separator, text, row.len(), before)
+    look_at(separator, lacks, text, row.len(), before)
 }
 
 /// The same of a line of this form, if it is a row or a record, and nothing of it is kept.
 #[inline(always)]
-pub(crate) fn look_ahead(form: LineForm, kept: &[u8], text: &[u8], count: usize) -> Option<Look>
-    requires { count ≤ length text.now }
+pub(crate) fn look_ahead(
+    form: LineForm,
+    lacks: Lacks,
+    kept: &[u8],
+    text: &[u8],
+    count: usize,
+) -> Option<Look>
+    requires count { count ≤ length text.now }
+    requires lacks { LacksIn (take count text.now) lacks }
     ensures { IsAhead form kept.now (take count text.now) result }
 {
     if !kept.is_empty() {
@@ -32,9 +62,12 @@ pub(crate) fn look_ahead(form: LineForm, kept: &[u8], text: &[u8], count: usize)
     }
     match form {
         LineForm::Tag => None,
-        LineForm::Row(row) => Some(look_at_row(Separator::Tab, row.before, text, count)),
+        LineForm::Row(row) => {
+            Some(look_at_row(Separator::Tab, lacks, row.before, text, count))
+        }
         LineForm::Csv(row, delimiter) => {
-            Some(look_at_row(Separator::Delimiter(delimiter), row.before, text, count))
+            let separator = Separator::Delimiter(delimiter);
+            Some(look_at_row(separator, lacks, row.before, text, count))
         }
     }
 }

@@ -6,7 +6,7 @@ use Rattle.std.specs.List.{AllByRecursion}
 use Rattle.lt_rows.specs.Quotes.{is_quoted, place_after, place_at}
 use Rattle.lt_rows.specs.Rows.{HasReturn, IsEnded, IsFieldAt, IsTextIn, Skips, separated}
 use Rattle.lt_rows.specs.Splitting.{IsFreeOf}
-use Rattle.lt_rows.specs.Looks.{HasTextAt, IsPlainLine}
+use Rattle.lt_rows.specs.Looks.{HasTextAt, IsPlainLine, ends_quoted}
 use Rattle.lt_rows.specs.declared.looks.TextAt.{TextAt}
 use Rattle.lt_rows.specs.declared.quotes.Place.TheVariants as places
 use Rattle.lt_rows.specs.declared.rows.Separator.{Separator}
@@ -17,7 +17,12 @@ use Rattle.lt_rows.proofs.RowLemmas.{after_other, closed_of_free, free_of_none, 
 
 -- ---- the end of a row
 
--- a rest without quotes ends outside of them
+-- a row without quotes ends outside of them
+pub closed_row : (S : Separator) (row : List ℕ) → IsFreeOf 34 row → ends_quoted S row ≡ false
+closed_row separators.Tab row free = refl
+closed_row (separators.Delimiter d) row free = closed_of_free d places.Fresh row refl free
+
+-- so does a rest
 pub closed_rest : (d start count : ℕ) (text : List ℕ) → start ≤ count → IsFreeOf 34 (take (count - start) (take (length text - start) (drop start text)))
     → is_quoted (place_at d places.Fresh (drop start (take count text))) ≡ false
 closed_rest d start count text le free = closed_of_free d places.Fresh (drop start (take count text)) refl (subst (IsFreeOf 34) (left_is text count start le) free)

@@ -1,5 +1,5 @@
 -- Where a byte is first.
-use Rattle.std.proofs.Common.{refl, ◌≡◌, ◌≢◌, ◌≤◌, ◌<◌, ◌+◌, ◌-◌, ◌==◌, ◌++◌, [], ◌∷◌, ◌∙◌, ℕ, true, false, List, Option, Some, None, length, sym, ap, arith, zero, suc, subst, take, drop, get_or, add-one, take-append-drop, inl, inr, not}
+use Rattle.std.proofs.Common.{refl, ◌≡◌, ◌≢◌, ◌≤◌, ◌<◌, ◌+◌, ◌-◌, ◌==◌, ◌++◌, [], ◌∷◌, ◌∙◌, ℕ, true, false, List, Option, Some, None, length, length-append, sym, ap, arith, zero, suc, subst, take, drop, get_or, add-one, take-append-drop, inl, inr, not}
 use Rattle.std.proofs.Math.Seq.{drop-cons, take-length}
 use Rattle.std.proofs.lemmas.Bool.{eq-eqb, cases_Bool, cases_eq}
 use Rattle.std.proofs.lemmas.List.{take_rest, length-take-le, get_or-take}
@@ -63,3 +63,9 @@ module _ (byte : ℕ) (text : List ℕ) where
   pub first_byte : (r : Option ℕ) (rest : List ℕ) → TakesFirst (places (is_byte byte) text) r rest → IsFirstByte (is_byte byte) text r
   first_byte None rest h = subst (Nowhere has 0) (omega arith) (none_from 0 (length text - 0) h.0)
   first_byte (Some k) rest h = subst (λ n. NoneBefore has 0 n k × has k) (omega arith) (first_from 0 (length text - 0) k rest h)
+
+-- ---- bytes that are nowhere
+
+-- a list that is free of a byte is not parted by it
+pub no_split : (byte : ℕ) (line x r : List ℕ) → IsFreeOf byte line → line ≡ x ++ byte ∷ r → ⊥
+no_split byte line x r free e = free (length x) 0 (omega (arith, ap length e, length-append x (byte ∷ r))) (ap (λ l. get_or l (length x) 0) e ∙ get_or-append_seam x byte r 0)

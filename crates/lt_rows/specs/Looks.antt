@@ -1,6 +1,6 @@
 -- What a row is answered by: whether it ends within quotes, whether it has a carriage return outside of them, and where the
 -- text of one of its fields is.
-use Rattle.std.specs.Prelude.{◌≡◌, ◌≤◌, ◌-◌, ◌++◌, ℕ, Bool, false, List, drop, length, take}
+use Rattle.std.specs.Prelude.{◌≡◌, ◌≤◌, ◌-◌, ◌++◌, ◌↔◌, ℕ, Bool, IsTrue, false, List, drop, length, take}
 use Rattle.lt_rows.specs.Quotes.{is_quoted, place_at}
 use Rattle.lt_rows.specs.Rows.{HasFewer, HasField, HasReturn, IsTextIn}
 use Rattle.lt_rows.specs.Splitting.{IsFreeOf}
@@ -9,6 +9,7 @@ use Rattle.lt_rows.specs.declared.rows.Separator.{Separator}
 use Rattle.lt_rows.specs.declared.rows.Separator.TheVariants as separators
 use Rattle.lt_rows.specs.declared.looks.Found.{Found}
 use Rattle.lt_rows.specs.declared.looks.Found.TheVariants as founds
+use Rattle.lt_rows.specs.declared.looks.Lacks.{Lacks}
 use Rattle.lt_rows.specs.declared.looks.Look.{Look}
 use Rattle.lt_rows.specs.declared.looks.TextAt.{TextAt}
 
@@ -21,6 +22,16 @@ ends_quoted (separators.Delimiter delimiter) row = is_quoted (place_at delimiter
 abbrev pub IsPlainLine : Separator → List ℕ → Type 0
 IsPlainLine separators.Tab row = ⊥
 IsPlainLine (separators.Delimiter delimiter) row = IsFreeOf 13 row × IsFreeOf 10 row
+
+-- which of these bytes a text lacks: carriage returns (13) and quotes (34)
+pub record AreLackedIn (text : List ℕ) (lacks : Lacks) : Type 0 where
+  pub returns : IsTrue lacks.returns ↔ IsFreeOf 13 text
+  pub quotes : IsTrue lacks.quotes ↔ IsFreeOf 34 text
+
+-- what is known of a row: one that lacks carriage returns has no line feeds (10) either
+pub record LacksIn (row : List ℕ) (lacks : Lacks) : Type 0 where
+  pub returns : IsTrue lacks.returns → IsFreeOf 13 row × IsFreeOf 10 row
+  pub quotes : IsTrue lacks.quotes → IsFreeOf 34 row
 
 -- the text of the field after this many others, by its first byte and the byte after its last; what is at both of its ends
 -- and the rest of the row are around it

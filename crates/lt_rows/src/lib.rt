@@ -9,7 +9,7 @@ mod records;
 mod rows;
 mod splitting;
 
-pub use looks::{Found, Look, TextAt, look_at};
+pub use looks::{Found, Lacks, Look, TextAt, lacks_of, look_at};
 pub use marks::{is_wide, may_be_mark, split_mark};
 pub use quotes::{Place, after_text};
 pub use records::records_are_those_of_the_grammar;

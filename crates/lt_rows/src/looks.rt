@@ -1,13 +1,14 @@
 //! What a row is answered by.
 ghost use Rattle.std.specs.Prelude.{◌≡◌, ◌≤◌, ◌↔◌, ℕ, IsTrue, drop, length, take};
-ghost use Rattle.lt_rows.specs.Looks.{HasTextAt, IsLookAt, IsPlainLine, ends_quoted};
+ghost use Rattle.lt_rows.specs.Looks.{AreLackedIn, HasTextAt, IsLookAt, IsPlainLine, LacksIn, ends_quoted};
 ghost use Rattle.lt_rows.specs.Rows.{IsFieldAt, Skips};
 ghost use Rattle.lt_rows.specs.Quotes.{is_quoted, place_at};
+ghost use Rattle.lt_rows.specs.Splitting.{IsFreeOf};
 ghost use Rattle.lt_rows.specs.declared.quotes.Place.TheVariants as places;
 
 use crate::quotes::{Place, after_text};
 use crate::rows::{Separator, field_at, has_return, text_in};
-use crate::splitting::{is_free_of_both, place_within};
+use crate::splitting::{is_free_of_both, place_within, split_first};
 
 /// Where the text of a field is in its row.
 #[derive(Clone, Copy, Debug, PartialEq, Eq)]
@@ -38,15 +39,46 @@ pub struct Look {
     pub found: Found,
 }
 
+/// Which bytes are in no row of a text, as far as that is known.
+#[derive(Clone, Copy, Debug, PartialEq, Eq)]
+pub struct Lacks {
+    /// Carriage returns are in none.
+    pub returns: bool,
+    /// Quotes are in none.
+    pub quotes: bool,
+}
+
+/// Whether such a byte is nowhere in a text.
+#[tactic(auto, using(crate::proofs::SplitLemmas::no_split))]
+fn is_free_of(byte: u8, text: &[u8]) -> bool
+    ensures { IsTrue result ↔ IsFreeOf byte text.now }
+{
+    match split_first(byte, text) {
+        Some(_) => false,
+        None => true,
+    }
+}
+
+/// Which bytes a text lacks.
+pub fn lacks_of(text: &[u8]) -> Lacks
+    ensures { AreLackedIn text.now result }
+{
+    Lacks {
+        returns: is_free_of(b'\r', text),
+        quotes: is_free_of(b'"', text),
+    }
+}
+
 /// Whether the first `count` bytes of a text are a record without line feeds and carriage returns.
 #[inline(always)]
-fn is_plain_line(separator: Separator, text: &[u8], count: usize) -> bool
-    requires { count ≤ length text.now }
+fn is_plain_line(separator: Separator, lacks: Lacks, text: &[u8], count: usize) -> bool
+    requires count { count ≤ length text.now }
+    requires lacks { LacksIn (take count text.now) lacks }
     ensures { IsTrue result ↔ IsPlainLine separator (take count text.now) }
 {
     match separator {
         Separator::Tab => false,
-        Separator::Delimiter(_) => is_free_of_both(b'\r', b'\n', text, count),
+        Separator::Delimiter(_) => lacks.returns || is_free_of_both(b'\r', b'\n', text, count),
     }
 }
 
@@ -65,11 +97,22 @@ fn is_open_from(delimiter: u8, text: &[u8], count: usize, start: usize) -> bool
 
 /// Whether a row ends within quotes, where fields are skipped up to this place of it. The row is the first `count` bytes of
 /// a text.
+#[tactic(auto, using(crate::proofs::LookLemmas::closed_row))]
 #[inline(always)]
-fn is_open(separator: Separator, text: &[u8], count: usize, start: usize) -> bool
-    requires { (start ≤ count) × (count ≤ length text.now) }
+fn is_open(
+    separator: Separator,
+    lacks: Lacks,
+    text: &[u8],
+    count: usize,
+    start: usize,
+) -> bool
+    requires count { (start ≤ count) × (count ≤ length text.now) }
+    requires lacks { LacksIn (take count text.now) lacks }
     ensures { (before : ℕ) → Skips separator before (take count text.now) (drop start (take count text.now)) → result ≡ ends_quoted separator (take count text.now) }
 {
+    if lacks.quotes {
+        return false;
+    }
     match separator {
         Separator::Tab => false,
         Separator::Delimiter(delimiter) => {
@@ -97,27 +140,34 @@ fn text_at(separator: Separator, row: &[u8], start: usize, end: usize) -> TextAt
 }
 
 /// Looks for the field of a row after this many others, and whether the row ends within quotes. The row is the first
-/// `count` bytes of a text.
+/// `count` bytes of a text; one that lacks carriage returns by `lacks` has no line feeds either.
 #[inline(always)]
-pub fn look_at(separator: Separator, text: &[u8], count: usize, before: usize) -> Look
-    requires { count ≤ length text.now }
+pub fn look_at(
+    separator: Separator,
+    lacks: Lacks,
+    text: &[u8],
+    count: usize,
+    before: usize,
+) -> Look
+    requires count { count ≤ length text.now }
+    requires lacks { LacksIn (take count text.now) lacks }
     ensures { IsLookAt separator before (take count text.now) result }
 {
     let row = &text[..count];
-    let is_line = is_plain_line(separator, text, count);
+    let is_line = is_plain_line(separator, lacks, text, count);
     if !is_line && has_return(separator, row) {
         return Look {
-            is_open: is_open(separator, text, count, 0),
+            is_open: is_open(separator, lacks, text, count, 0),
             found: Found::Return,
         };
     }
     match field_at(separator, is_line, text, count, before) {
         Some((start, end)) => Look {
-            is_open: is_open(separator, text, count, start),
+            is_open: is_open(separator, lacks, text, count, start),
             found: Found::Text(text_at(separator, row, start, end)),
         },
         None => Look {
-            is_open: is_open(separator, text, count, 0),
+            is_open: is_open(separator, lacks, text, count, 0),
             found: Found::Fewer,
         },
     }

@@ -72,10 +72,6 @@ one_split byte (b ∷ x) (c ∷ y) r s fx fy e =
     let rest = one_split byte x y r s (All-tail (λ other. other ≢ byte) b x fx) (All-tail (λ other. other ≢ byte) c y fy) (cc) in
     (cc, rest.1)
 
--- a list that is free of a byte is not parted by it
-pub no_split : (byte : ℕ) (line x r : List ℕ) → IsFreeOf byte line → line ≡ x ++ byte ∷ r → ⊥
-no_split byte line x r free e = free (length x) 0 (omega (arith, ap length e, length-append x (byte ∷ r))) (ap (λ l. get_or l (length x) 0) e ∙ get_or-append_seam x byte r 0)
-
 -- ---- the kinds
 
 -- each kind is among them
