@@ -27,7 +27,7 @@ pub(crate) fn lacks_in(form: LineForm, piece: &[u8]) -> Lacks
 }
 
 /// Looks at the line that the first `count` bytes of a text are, for the field of its row after this many others.
-#[tactic(auto, using(crate::proofs::LookLemmas::content_front, crate::proofs::LookLemmas::content_short, crate::proofs::LookLemmas::content_lacks))]
+#[tactic(auto, using(crate::proofs::LookLemmas::content_short))]
 #[inline(always)]
 pub(crate) fn look_at_row(
     separator: Separator,

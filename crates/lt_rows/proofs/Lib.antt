@@ -4,6 +4,7 @@ pub mod NearLemmas
 pub mod RowLemmas
 pub mod StopLemmas
 pub mod FieldLemmas
+pub mod PlainLemmas
 pub mod LookLemmas
 pub mod MarkLemmas
 pub mod GrammarLemmas

@@ -21,10 +21,10 @@ module _ (count : ℕ) (text near : List ℕ) (is : IsNear count text near) wher
   long : length near ≡ is.0
   long = ap length is.3 ∙ length-take-le is.0 text is.2
 
-  row_long : length (take count text) ≡ count
+  pub row_long : length (take count text) ≡ count
   row_long = length-take-le count text (omega (arith, is.1, is.2))
 
-  byte_is : (i : ℕ) → i < count → get_or (take count text) i 0 ≡ get_or near i 0
+  pub byte_is : (i : ℕ) → i < count → get_or (take count text) i 0 ≡ get_or near i 0
   byte_is i below = ap (λ l. get_or l i 0) (sym front_is) ∙ get_or-take count near i 0 below
 
   -- no byte before this place passes

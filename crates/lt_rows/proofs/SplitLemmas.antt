@@ -1,6 +1,6 @@
 -- Where a byte is first.
 use Rattle.std.proofs.Common.{refl, ◌≡◌, ◌≢◌, ◌≤◌, ◌<◌, ◌+◌, ◌-◌, ◌==◌, ◌++◌, [], ◌∷◌, ◌∙◌, ℕ, true, false, List, Option, Some, None, length, length-append, sym, ap, arith, zero, suc, subst, take, drop, get_or, add-one, take-append-drop, inl, inr, not}
-use Rattle.std.proofs.Math.Seq.{drop-cons, take-length}
+use Rattle.std.proofs.Math.Seq.{drop-cons, get_or-append_seam, take-length}
 use Rattle.std.proofs.lemmas.Bool.{eq-eqb, cases_Bool, cases_eq}
 use Rattle.std.proofs.lemmas.List.{take_rest, length-take-le, get_or-take}
 use Rattle.std.proofs.lemmas.List.Elements.{All-from_get_or}
@@ -37,7 +37,7 @@ module _ (byte : ℕ) (text : List ℕ) where
   ]
 
   -- the first place of a list of places
-  first_from : (i n k : ℕ) (rest : List ℕ) → places_from (is_byte byte) text i n ≡ k ∷ rest → NoneBefore has i (i + n) k × has k
+  pub first_from : (i n k : ℕ) (rest : List ℕ) → places_from (is_byte byte) text i n ≡ k ∷ rest → NoneBefore has i (i + n) k × has k
   unfolding places_from
   first_from i zero k rest e = cc
   first_from i (suc n) k rest e = elim (cases_Bool (get_or text i 0 == byte)) [
@@ -51,7 +51,7 @@ module _ (byte : ℕ) (text : List ℕ) where
   ]
 
   -- an empty one
-  none_from : (i n : ℕ) → places_from (is_byte byte) text i n ≡ [] → Nowhere has i (i + n)
+  pub none_from : (i n : ℕ) → places_from (is_byte byte) text i n ≡ [] → Nowhere has i (i + n)
   unfolding places_from
   none_from i zero e = λ j low high. absurd (omega (arith, low, high))
   none_from i (suc n) e = elim (cases_Bool (get_or text i 0 == byte)) [

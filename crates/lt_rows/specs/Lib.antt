@@ -2,6 +2,7 @@
 pub mod Splitting
 pub mod Quotes
 pub mod Rows
+pub mod Plain
 pub mod Looks
 pub mod Marks
 pub mod Records

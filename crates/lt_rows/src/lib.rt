@@ -4,6 +4,7 @@
 
 mod looks;
 mod marks;
+mod plain_rows;
 mod quotes;
 mod records;
 mod rows;

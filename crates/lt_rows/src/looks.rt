@@ -1,6 +1,7 @@
 //! What a row is answered by.
-ghost use Rattle.std.specs.Prelude.{◌≡◌, ◌≤◌, ◌↔◌, ℕ, IsTrue, drop, length, take};
+ghost use Rattle.std.specs.Prelude.{◌≡◌, ◌≤◌, ◌↔◌, ℕ, List, IsTrue, drop, length, take};
 ghost use Rattle.lt_rows.specs.Looks.{AreLackedIn, HasTextAt, IsLookAt, IsPlainLine, LacksIn, ends_quoted};
+ghost use Rattle.lt_rows.specs.Plain.{IsPlain};
 ghost use Rattle.lt_rows.specs.Rows.{IsFieldAt, Skips};
 ghost use Rattle.lt_rows.specs.Quotes.{is_quoted, place_at};
 ghost use Rattle.lt_rows.specs.Splitting.{IsFreeOf};
@@ -49,7 +50,6 @@ pub struct Lacks {
 }
 
 /// Whether such a byte is nowhere in a text.
-#[tactic(auto, using(crate::proofs::SplitLemmas::no_split))]
 fn is_free_of(byte: u8, text: &[u8]) -> bool
     ensures { IsTrue result ↔ IsFreeOf byte text.now }
 {
@@ -79,6 +79,16 @@ fn is_plain_line(separator: Separator, lacks: Lacks, text: &[u8], count: usize) 
     match separator {
         Separator::Tab => false,
         Separator::Delimiter(_) => lacks.returns || is_free_of_both(b'\r', b'\n', text, count),
+    }
+}
+
+/// Whether each separator parts fields, in a row of which this is known.
+fn is_plain(separator: Separator, is_line: bool, lacks: Lacks) -> bool
+    ensures { (row : List ℕ) → LacksIn row lacks → (IsTrue is_line → IsFreeOf 10 row) → IsTrue result → IsPlain separator row }
+{
+    match separator {
+        Separator::Tab => true,
+        Separator::Delimiter(_) => is_line && lacks.quotes,
     }
 }
 
@@ -161,7 +171,8 @@ pub fn look_at(
             found: Found::Return,
         };
     }
-    match field_at(separator, is_line, text, count, before) {
+    let is_plain = is_plain(separator, is_line, lacks);
+    match field_at(separator, is_line, is_plain, text, count, before) {
         Some((start, end)) => Look {
             is_open: is_open(separator, lacks, text, count, start),
             found: Found::Text(text_at(separator, row, start, end)),

@@ -1,9 +1,11 @@
 //! The fields of a row.
 ghost use Rattle.std.specs.Prelude.{◌≡◌, ◌≤◌, ◌<◌, ◌↔◌, IsTrue, MatchOption, drop, length, slice_index, take};
+ghost use Rattle.lt_rows.specs.Plain.{IsPlain};
 ghost use Rattle.lt_rows.specs.Rows.{EndsField, HasFewer, HasField, HasReturn, IsFieldAt, IsQuoted, IsTextIn, Skips, separator};
 ghost use Rattle.lt_rows.specs.Splitting.{IsFreeOf};
 ghost use Rattle.lt_rows.specs.declared.rows.Separator.TheVariants as separators;
 
+use crate::plain_rows::plain_field_at;
 use crate::quotes::split_outside;
 use crate::splitting::{place_within, split_first};
 
@@ -115,19 +117,24 @@ fn skip_fields(
 }
 
 /// Where the field of a row after this many others begins and ends, if there is one. The row is the first `count` bytes of
-/// a text, and `is_line` tells only of a row without line feeds.
+/// a text; `is_line` tells only of a row without line feeds, and `is_plain` of one in which each separator parts fields.
 #[inline(always)]
 pub(crate) fn field_at(
     separator: Separator,
     is_line: bool,
+    is_plain: bool,
     text: &[u8],
     count: usize,
     before: usize,
 ) -> Option<(usize, usize)>
     requires count { count ≤ length text.now }
     requires line { IsTrue is_line → IsFreeOf 10 (take count text.now) }
+    requires plain { IsTrue is_plain → IsPlain separator (take count text.now) }
     ensures { MatchOption result (HasFewer separator before (take count text.now)) (λ p. IsFieldAt separator before (take count text.now) p.0 p.1) }
 {
+    if is_plain {
+        return plain_field_at(separator, text, count, before);
+    }
     let start = skip_fields(separator, is_line, text, count, before)?;
     match separator.field_end(is_line, &text[start..], count - start) {
         Some(end) => Some((start, start + end)),
@@ -139,7 +146,7 @@ pub(crate) fn field_at(
 pub fn find_field(separator: Separator, row: &[u8], count: usize) -> Option<(&[u8], &[u8], &[u8])>
     ensures { MatchOption result (HasFewer separator count row.now) (λ p. HasField separator count row.now p.0.now p.1.now p.2.now) }
 {
-    let (start, end) = field_at(separator, false, row, row.len(), count)?;
+    let (start, end) = field_at(separator, false, false, row, row.len(), count)?;
     Some((&row[..start], &row[start..end], &row[end..]))
 }
 

@@ -6,7 +6,7 @@ ghost use Rattle.lt_rows.specs.Splitting.{IsFreeOf, IsNear, IsPlaceOf, SplitsAt}
 use memchr::{memchr_iter, memchr2};
 
 /// So many bytes of a text are looked at together.
-const TOGETHER: usize = 32;
+pub(crate) const TOGETHER: usize = 32;
 
 /// Where the first such byte is, which is likely to be near: the next 32 bytes are looked at first.
 #[tactic(auto, using(crate::proofs::SplitLemmas::first_byte))]

@@ -1,0 +1,128 @@
+-- Rows in which each separator parts fields.
+use Rattle.std.proofs.Common.{◌≡◌, ◌≢◌, ◌≤◌, ◌<◌, ◌+◌, ◌-◌, ◌==◌, [], ◌∷◌, ◌∙◌, ℕ, zero, suc, List, Option, Some, None, inl, inr, length, sym, ap, arith, subst, take, drop, get_or}
+use Rattle.std.proofs.lemmas.Bool.{eq-eqb, eqb-true, cases_Bool}
+use Rattle.std.proofs.lemmas.List.{get_or-drop, get_or-take, length-drop, length-take-le, take_rest}
+use Rattle.std.proofs.lemmas.List.Elements.{All-drop, All-from_get_or}
+use Rattle.memchr.specs.Find.{Nowhere, NoneBefore, Passes, is_byte, places_from}
+use Rattle.lt_rows.specs.Plain.{IsNextPlace, IsPlain}
+use Rattle.lt_rows.specs.Rows.{EndsField, HasFewer, IsFieldAt, Skips}
+use Rattle.lt_rows.specs.Rows as rows
+use Rattle.lt_rows.specs.Splitting.{IsFreeOf, IsNear, IsPlaceOf}
+use Rattle.lt_rows.specs.declared.rows.Separator.{Separator}
+use Rattle.lt_rows.specs.declared.rows.Separator.TheVariants as separators
+use Rattle.lt_rows.proofs.FieldLemmas.{field_ended, field_last, line_end, skips_one, tab_end}
+use Rattle.lt_rows.proofs.NearLemmas.{byte_is, row_long, split_there}
+use Rattle.lt_rows.proofs.RowLemmas.{skips_last}
+use Rattle.lt_rows.proofs.SplitLemmas.{first_from, none_from}
+
+-- ---- the places of a byte, one after another
+
+tail_is : (a b : ℕ) (more others : List ℕ) → a ∷ more ≡ b ∷ others → (a ≡ b) × (more ≡ others)
+tail_is a b more others e = (cc, cc)
+
+-- those after the first
+pub rest_from : (byte : ℕ) (text : List ℕ) (i n k : ℕ) (rest : List ℕ) → places_from (is_byte byte) text i n ≡ k ∷ rest
+    → rest ≡ places_from (is_byte byte) text (k + 1) (i + n - (k + 1))
+unfolding places_from
+rest_from byte text i zero k rest e = cc
+rest_from byte text i (suc n) k rest e = elim (cases_Bool (get_or text i 0 == byte)) [
+  | inl is ↦
+      let both = tail_is i k (places_from (is_byte byte) text (i + 1) n) rest (rw is at e) in
+      let left : i + suc n - (k + 1) ≡ n = omega (arith, both.0) in
+      sym both.1 ∙ ap (λ j. places_from (is_byte byte) text (j + 1) n) both.0 ∙ ap (places_from (is_byte byte) text (k + 1)) (sym left)
+  | inr not ↦
+      let left : i + 1 + n - (k + 1) ≡ i + suc n - (k + 1) = omega arith in
+      rest_from byte text (i + 1) n k rest (rw not at e) ∙ ap (places_from (is_byte byte) text (k + 1)) left
+]
+
+module _ (byte count start : ℕ) (text near : List ℕ) (is : IsNear count text near) (le : start ≤ count) where
+  abbrev has : ℕ → Type 0
+  has = Passes (is_byte byte) near
+
+  abbrev row : List ℕ
+  row = take count text
+
+  abbrev left : List ℕ
+  left = drop start row
+
+  left_long : length left ≡ count - start
+  left_long = length-drop start row ∙ ap (λ n. n - start) (row_long count text near is)
+
+  byte_there : (k : ℕ) → start + k < count → get_or left k 0 ≡ get_or near (start + k) 0
+  byte_there k below = get_or-drop start row k 0 ∙ byte_is count text near is (start + k) below
+
+  free_to : (stop : ℕ) → stop ≤ count → Nowhere has start stop → IsFreeOf byte (take (stop - start) left)
+  free_to stop below none =
+      let short : length (take (stop - start) left) ≡ stop - start = length-take-le (stop - start) left (omega (arith, below, left_long)) in
+      All-from_get_or (λ other. other ≢ byte) (take (stop - start) left) 0
+      (λ k inside e. none (start + k) (omega arith) (omega (arith, inside, short))
+      (eq-eqb (get_or near (start + k) 0) byte (sym (byte_there k (omega (arith, inside, short, below))) ∙ sym (get_or-take (stop - start) left k 0 (omega (arith, inside, short))) ∙ e)))
+
+  none_left : (stop : ℕ) → count ≤ stop → Nowhere has start stop → IsFreeOf byte left
+  none_left stop far none =
+      let whole : take (count - start) left ≡ left = ap (λ n. take (n - start) left) (sym (row_long count text near is)) ∙ take_rest row start in
+      subst (IsFreeOf byte) whole (free_to count (omega arith) (λ k low high. none k low (omega (arith, high, far))))
+
+  at_place : (end stop : ℕ) → end < count → NoneBefore has start stop end → has end → IsNextPlace byte start row (Some end)
+  at_place end stop below first passes =
+      let inside : end - start < length left = omega (arith, below, first.low, left_long) in
+      let there : start + (end - start) ≡ end = omega (arith, first.low) in
+      let here : get_or left (end - start) 0 ≡ byte = byte_there (end - start) (omega (arith, there, below)) ∙ ap (λ n. get_or near n 0) there ∙ eqb-true (get_or near end 0) byte passes in
+      (first.low, (inside, free_to end (omega (arith, below)) first.before, split_there byte left (end - start) inside here))
+
+  -- the first of the places, which is in the row, or further on, or none
+  pub next_inside : (end : ℕ) (rest : List ℕ) → end < count → places_from (is_byte byte) near start (length near - start) ≡ end ∷ rest → IsNextPlace byte start row (Some end)
+  next_inside end rest below e =
+      let first = first_from byte near start (length near - start) end rest e in
+      at_place end (start + (length near - start)) below first.0 first.1
+
+  pub next_far : (end : ℕ) (rest : List ℕ) → count ≤ end → places_from (is_byte byte) near start (length near - start) ≡ end ∷ rest → IsNextPlace byte start row None
+  next_far end rest far e =
+      let first = first_from byte near start (length near - start) end rest e in
+      none_left end far first.0.before
+
+  pub next_none : places_from (is_byte byte) near start (length near - start) ≡ [] → IsNextPlace byte start row None
+  next_none e = none_left (start + (length near - start)) (omega (arith, is.1, is.2, ap length is.3, length-take-le is.0 text is.2)) (none_from byte near start (length near - start) e)
+
+-- the places after one
+pub places_on : (byte start end : ℕ) (near rest : List ℕ) → places_from (is_byte byte) near start (length near - start) ≡ end ∷ rest
+    → rest ≡ places_from (is_byte byte) near (end + 1) (length near - (end + 1))
+places_on byte start end near rest e =
+    let first = first_from byte near start (length near - start) end rest e in
+    let same : start + (length near - start) - (end + 1) ≡ length near - (end + 1) = omega (arith, first.0.low, first.0.high) in
+    rest_from byte near start (length near - start) end rest e ∙ ap (places_from (is_byte byte) near (end + 1)) same
+
+-- ---- where fields end
+
+no_quote : (row : List ℕ) → IsFreeOf 34 row → get_or row 0 0 ≡ 34 → ⊥
+no_quote [] free e = absurd (omega (arith, e))
+no_quote (byte ∷ row) free e = free 0 0 (omega arith) e
+
+-- in the rest of a plain row
+pub plain_end : (S : Separator) (start : ℕ) (row : List ℕ) (end : Option ℕ) → IsPlain S row → IsPlaceOf (rows.separator S) (drop start row) end → EndsField S (drop start row) end
+plain_end separators.Tab start row end plain p = tab_end (drop start row) end p
+plain_end (separators.Delimiter d) start row end plain p =
+    line_end d (drop start row) end (no_quote (drop start row) (All-drop (λ byte. byte ≢ 34) start row plain.1)) (All-drop (λ byte. byte ≢ 10) start row plain.0) p
+
+module _ (S : Separator) (before start : ℕ) (row : List ℕ) (plain : IsPlain S row) (s : Skips S before row (drop start row)) where
+  ends_there : (end : ℕ) → IsNextPlace (rows.separator S) start row (Some end) → EndsField S (drop start row) (Some (end - start))
+  ends_there end p = plain_end S start row (Some (end - start)) plain p.1
+
+  -- one field more is skipped
+  pub one_more : (end : ℕ) → IsNextPlace (rows.separator S) start row (Some end) → (end + 1 ≤ length row) × Skips S (before + 1) row (drop (end + 1) row)
+  one_more end p =
+      let there : start + (end - start + 1) ≡ end + 1 = omega (arith, p.0) in
+      subst (λ (n : ℕ). (n ≤ length row) × Skips S (before + 1) row (drop n row)) there (skips_one S before start (end - start) row s (ends_there end p))
+
+  -- the rest is the last field
+  pub no_more : (wanted : ℕ) → before < wanted → IsNextPlace (rows.separator S) start row None → HasFewer S wanted row
+  no_more wanted few p = skips_last S before wanted row (drop start row) s (plain_end S start row None plain p) few
+
+  -- the field that begins here
+  pub field_up_to : (end : ℕ) → start ≤ length row → IsNextPlace (rows.separator S) start row (Some end) → IsFieldAt S before row start end
+  field_up_to end inside p =
+      let there : start + (end - start) ≡ end = omega (arith, p.0) in
+      subst (IsFieldAt S before row start) there (field_ended S before start (end - start) row inside s (ends_there end p))
+
+  pub field_to_end : (count : ℕ) → count ≡ length row → start ≤ count → IsNextPlace (rows.separator S) start row None → IsFieldAt S before row start count
+  field_to_end count is inside p = field_last S before start count row is inside s (plain_end S start row None plain p)
