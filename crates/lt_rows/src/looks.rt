@@ -63,6 +63,12 @@ fn is_free_of(byte: u8, text: &[u8]) -> bool
 pub fn lacks_of(text: &[u8]) -> Lacks
     ensures { AreLackedIn text.now result }
 {
+    if is_free_of_both(b'\r', b'"', text, text.len()) {
+        return Lacks {
+            returns: true,
+            quotes: true,
+        };
+    }
     Lacks {
         returns: is_free_of(b'\r', text),
         quotes: is_free_of(b'"', text),
