@@ -1,48 +1,37 @@
 -- Texts and lines that ranges match.
-use Rattle.std.proofs.Common.{◌≡◌, ◌≤◌, ◌<◌, ◌+◌, ◌-◌, ◌↔◌, ◌∷◌, ◌∙◌, inl, inr, Bool, IsTrue, true, false, ℕ, List, [], length, take, sym, ap, refl, subst, arith, if◌then◌else◌, length-take-le}
+use Rattle.std.proofs.Common.{◌≡◌, ◌≤◌, ◌+◌, ◌-◌, ◌↔◌, ◌∙◌, inl, inr, Bool, IsTrue, true, false, ℕ, List, length, take, sym, refl, subst, arith, if◌then◌else◌, length-take-le}
 use Rattle.std.proofs.lemmas.Bool.Decides.{leb_tells}
 use Rattle.std.specs.Io.BufRead.{ends_with_byte}
 use Rattle.lt_jar.specs.Lines.{content_of}
+use Rattle.lt_tag.specs.Faults.{HasTag}
 use Rattle.lt_tag.specs.Parts.{TagForm}
-use Rattle.lt_tag.specs.Lists.{longest_text}
 use Rattle.lt_tag.proofs.OneTagLemmas.{one_tag_of_text}
 use Rattle.lt_registry.specs.Parts.{EntryParts}
-use Rattle.lt_registry.specs.Validity.{IsValid}
-use Rattle.lt_rewrite.specs.TagSteps.{CanRepeat}
 use Rattle.lt_canon.specs.Texts.{IsTextRefusal, ReadsAs}
 use Rattle.lt_canon.specs.declared.refusals.TextRefusal.{TextRefusal}
 use Rattle.lt_canon.specs.declared.refusals.TextRefusal.TheVariants as refusals
 use Rattle.lt_canon.proofs.CanonicalForms.{text_repeats_answered}
 use Rattle.lt_range.specs.Ranges.{RangeParts}
 use Rattle.lt_match.specs.Laws.{MatchingIsDetermined}
-use Rattle.lt_match.specs.Matched.{HasCanonicalList, MatchesBy, MatchingScheme}
+use Rattle.lt_match.specs.Matched.{HasCanonicalList}
 use Rattle.lt_select.proofs.TakenLemmas.{TellsByFront}
 use Rattle.lt_select.specs.Selecting.{longest_kept}
 use Rattle.lt_select.specs.Selection.{AnyMatches, IsMatched, IsSelected, scheme_of}
 use Rattle.lt_select.specs.declared.schemes.Scheme.{Scheme}
 
--- ---- ranges
-
--- a range that matches is one of them
-pub any_here : (scheme : MatchingScheme) (range : RangeParts) (ranges : List RangeParts) (list : List (List ℕ)) → MatchesBy scheme range list → AnyMatches scheme (range ∷ ranges) list
-any_here scheme range ranges list matches = inl matches
-
--- behind one that does not match
-pub any_behind : (scheme : MatchingScheme) (range : RangeParts) (ranges : List RangeParts) (list : List (List ℕ)) → (MatchesBy scheme range list → ⊥) → AnyMatches scheme (range ∷ ranges) list → AnyMatches scheme ranges list
-any_behind scheme range ranges list not (inl matches) = absurd (not matches)
-any_behind scheme range ranges list not (inr others) = others
-
 -- ---- texts
 
 module _ (R : List EntryParts) (scheme : Scheme) (ranges : List RangeParts) (text : List ℕ) where
+  -- the tag that the text is read as has the list that is matched
+  same_tag : (tag : TagForm) → HasTag text tag → (m : IsMatched R scheme ranges text) → HasCanonicalList R tag m.list
+  same_tag tag read m = subst (λ (t : TagForm). HasCanonicalList R t m.list) (one_tag_of_text text m.tag tag m.read read) m.canonical
+
   -- a text with these subtags is matched where they are
   pub matched_as : (list : List (List ℕ)) (matched : Bool) → MatchingIsDetermined R → ReadsAs text (λ tag. HasCanonicalList R tag list) → IsTrue matched ↔ AnyMatches (scheme_of scheme) ranges list
       → IsTrue matched ↔ IsMatched R scheme ranges text
   matched_as list matched one reads tells = (
     λ is. record { tag = reads.tag; read = reads.read; list = list; canonical = reads.holds; matches = tells.0 is },
-    λ m.
-        let here : HasCanonicalList R reads.tag m.list = subst (λ (t : TagForm). HasCanonicalList R t m.list) (one_tag_of_text text m.tag reads.tag m.read reads.read) m.canonical in
-        tells.1 (subst (AnyMatches (scheme_of scheme) ranges) (one.list reads.tag m.list list here reads.holds) m.matches),
+    λ m. tells.1 (subst (AnyMatches (scheme_of scheme) ranges) (one.list reads.tag m.list list (same_tag reads.tag reads.read m) reads.holds) m.matches),
   )
 
   -- a text that is refused is matched by none
@@ -50,10 +39,10 @@ module _ (R : List EntryParts) (scheme : Scheme) (ranges : List RangeParts) (tex
   refused_unmatched (refusals.NotATag fault) owed other m = text_repeats_answered R text (refusals.NotATag fault) owed m.tag m.read
   refused_unmatched (refusals.Invalid fault) owed other m =
       let a = text_repeats_answered R text (refusals.Invalid fault) owed in
-      a.2 (subst (IsValid R) (one_tag_of_text text m.tag a.0 m.read a.1) m.canonical.is_form.valid)
+      a.2 (same_tag a.0 a.1 m).is_form.valid
   refused_unmatched (refusals.ReplacementRepeats v) owed other m =
       let a = text_repeats_answered R text (refusals.ReplacementRepeats v) owed in
-      m.canonical.is_form.repeats_none (subst (CanRepeat R) (one_tag_of_text text a.0 m.tag a.1 m.read) a.3)
+      (same_tag a.0 a.1 m).is_form.repeats_none a.3
   refused_unmatched refusals.OutOfMemory owed other m = absurd (other refl)
 
   pub none_matched : (refusal kind : TextRefusal) → refusal ≡ kind → IsTextRefusal R text refusal → (kind ≡ refusals.OutOfMemory → ⊥) → IsTrue false ↔ IsMatched R scheme ranges text

@@ -1,5 +1,5 @@
 -- What the turns of a run over lines keep, and how it ends.
-use Rattle.std.proofs.Common.{◌≡◌, ◌≤◌, ◌<◌, ◌+◌, ◌*◌, ◌^◌, ◌++◌, ◌∙◌, inl, inr, ℕ, List, [], Option, Result, Ok, Err, length, sym, ap, refl, subst, arith, append-nil, length-append}
+use Rattle.std.proofs.Common.{◌≡◌, ◌≤◌, ◌<◌, ◌+◌, ◌*◌, ◌^◌, ◌++◌, ◌∙◌, inl, inr, ℕ, List, [], Option, Result, Ok, Err, length, refl, arith, append-nil, length-append}
 use Rattle.std.specs.Io.KnownBytes.{Appends, Consumes, IsAtEnd, Keeps}
 use Rattle.std.proofs.KnownBytes.{Appends-nil, Appends-trans, Consumes-kept, Consumes-nil, Consumes-trans}
 use Rattle.lt_jar.specs.Devices.{HasFailed, failures_of, inner_of, last_given_of, one_more, reads_of}

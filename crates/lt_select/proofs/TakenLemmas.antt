@@ -1,5 +1,5 @@
 -- What was taken of lines that come in pieces, and what is owed for it.
-use Rattle.std.proofs.Common.{◌≡◌, ◌≢◌, ◌≤◌, ◌<◌, ◌+◌, ◌-◌, ◌++◌, ◌∷◌, ◌∙◌, inl, inr, ℕ, List, [], length, take, sym, ap, refl, subst, arith, append_assoc, append-nil, length-append, take_all}
+use Rattle.std.proofs.Common.{◌≡◌, ◌≢◌, ◌≤◌, ◌<◌, ◌-◌, ◌++◌, ◌∷◌, ◌∙◌, inl, inr, ℕ, List, [], length, take, sym, ap, refl, subst, arith, append_assoc, append-nil, length-append, take_all}
 use Rattle.std.proofs.lemmas.List.Elements.{All-append, All-nil}
 use Rattle.lt_jar.specs.Lines.{IsOneLine, lines_of, whole_lines}
 use Rattle.lt_jar.proofs.CutLemmas.{lines_of-ended, lines_of-last}
@@ -9,7 +9,7 @@ use Rattle.lt_lines.specs.DeviceOutput.{IsFrontOf}
 use Rattle.lt_lines.specs.declared.forms.LineForm.TheVariants as forms
 use Rattle.lt_lines.proofs.PartLemmas.{kept_more, nothing_kept}
 use Rattle.lt_select.specs.Selecting.{EndsLine, IsAnswered, IsFresh, IsTaken, KeepsMore, SelectsKept, SelectsNothing, Takes, longest_kept}
-use Rattle.lt_select.specs.Selection.{AreSelected, IsBegun, IsOwed, IsOwedToLastFeed, Selection}
+use Rattle.lt_select.specs.Selection.{IsBegun, IsOwed, IsOwedToLastFeed, Selection}
 use Rattle.lt_select.specs.declared.selecting.Selecting.{Selecting}
 use Rattle.lt_select.proofs.SelectionLemmas.{selected_no, selected_yes}
 

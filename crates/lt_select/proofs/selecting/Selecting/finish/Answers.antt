@@ -1,7 +1,6 @@
-use Rattle.std.proofs.Common.{[], inl, inr, refl, sym, append-nil}
+use Rattle.std.proofs.Common.{[], inl, inr, refl, append-nil}
 use Rattle.std.proofs.KnownBytes.{Appends-nil}
 use Rattle.std.proofs.lemmas.Result.{err_from_is_err_and}
-use Rattle.lt_select.specs.Selection.{IsSelected}
 use Rattle.lt_select.proofs.TakenLemmas.{begun_answered, begun_taken, owed_all}
 use Rattle.lt_select.proofs.selecting.Selecting.finish.Goals as goal
 
