@@ -6,7 +6,7 @@ mod selected;
 use lt_check::Checked;
 use lt_jar::Device;
 use lt_lines::ToolFault;
-use lt_match::{LanguageRange, canonical_range};
+use lt_match::{LanguageRange, RangeRefusal, canonical_range};
 use lt_registry::SortedTable;
 use lt_select::{Scheme, select_lines};
 use lt_test_tables::{registry_of, sorted};
@@ -42,10 +42,13 @@ fn read_ranges(
     alloc: Global,
     checked: &Checked<SortedTable>,
     texts: &[&str],
-) -> Result<Vec<LanguageRange>, Fail> {
+) -> Result<Vec<LanguageRange>, RangeRefusal> {
     let mut ranges = Vec::new(alloc);
     for text in texts {
-        ranges.push(canonical_range(alloc, checked, text.as_bytes())?)?;
+        let range = canonical_range(alloc, checked, text.as_bytes())?;
+        if ranges.push(range).is_err() {
+            return Err(RangeRefusal::OutOfMemory);
+        }
     }
     Ok(ranges)
 }
@@ -56,7 +59,7 @@ fn ranges_of(
     checked: &Checked<SortedTable>,
     texts: &[&str],
 ) -> Result<Vec<LanguageRange>, Fail> {
-    twice(|| read_ranges(alloc, checked, texts))
+    Ok(twice(|| read_ranges(alloc, checked, texts))?)
 }
 
 /// How a run over the lines of a reader ends that writes to this writer.

@@ -40,7 +40,10 @@ fn reads_that_fail(rt: HostRuntime) -> Result<(), Fail> {
     for (piece, call, owed) in &READS {
         let reader = Pieces::once(INPUT, *piece).failing_at(*call);
         let (end, output) = run(rt.alloc(), &checked, reader)?;
-        assert!(rt; end == Err(ToolFault::Read) && output.as_slice() == *owed, "{piece} {call}");
+        assert!(rt;
+            end == Err(ToolFault::Read) && output.as_slice() == *owed,
+            "{piece} {call}"
+        );
     }
     Ok(())
 }
@@ -70,11 +73,17 @@ fn writes_that_fail(rt: HostRuntime) -> Result<(), Fail> {
         let mut writer = Takes::new(rt.alloc(), 3);
         writer.fail_at(call);
         let end = run_into(rt.alloc(), &checked, &mut writer)?;
-        assert!(rt; end == Err(ToolFault::Write) && OWED.starts_with(writer.taken()), "{call}");
+        assert!(rt;
+            end == Err(ToolFault::Write) && OWED.starts_with(writer.taken()),
+            "{call}"
+        );
         let mut full = Takes::new(rt.alloc(), 3);
         full.take_none_at(call);
         let end = run_into(rt.alloc(), &checked, &mut full)?;
-        assert!(rt; end == Err(ToolFault::Write) && full.taken() == writer.taken(), "{call}");
+        assert!(rt;
+            end == Err(ToolFault::Write) && full.taken() == writer.taken(),
+            "{call}"
+        );
     }
     let mut writer = Takes::new(rt.alloc(), 3);
     assert!(rt; run_into(rt.alloc(), &checked, &mut writer)? == Ok(3));

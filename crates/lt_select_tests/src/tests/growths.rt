@@ -43,9 +43,7 @@ fn lines_are_selected(rt: HostRuntime) -> Result<(), Fail> {
         &ranges,
         || run(rt.alloc(), &checked, &ranges),
         |(end, page)| *end == Ok(2) && text_of(page) == OWED,
-        |(end, page)| {
-            *end == Err(ToolFault::OutOfMemory) && OWED.starts_with(text_of(page))
-        },
+        |(end, page)| { *end == Err(ToolFault::OutOfMemory) && OWED.starts_with(text_of(page)) },
     );
     assert!(rt; are_selected?);
     Ok(())

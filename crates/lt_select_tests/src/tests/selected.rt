@@ -72,9 +72,21 @@ const ROWS: [(Scheme, &[&str], &str, &str, u64); 14] = [
         "en\nx-any\n",
         2,
     ),
-    (Scheme::Extended, &["*"], "i-klingon\nabc\n", "i-klingon\n", 1),
+    (
+        Scheme::Extended,
+        &["*"],
+        "i-klingon\nabc\n",
+        "i-klingon\n",
+        1,
+    ),
     // line ends
-    (Scheme::Basic, &["en"], "en\r\nde\r\nEN\r\n", "en\r\nEN\r\n", 2),
+    (
+        Scheme::Basic,
+        &["en"],
+        "en\r\nde\r\nEN\r\n",
+        "en\r\nEN\r\n",
+        2,
+    ),
     (Scheme::Basic, &["en"], "en\r\r\n\ren\nen\r", "en\r\n", 1),
     (Scheme::Basic, &["en"], "de\nen-GB", "en-GB\n", 1),
     (Scheme::Basic, &["en"], "", "", 0),
@@ -136,7 +148,9 @@ fn long_lines(rt: HostRuntime) -> Result<(), Fail> {
     let longest = long_text(rt.alloc(), "en-x", "-aa")?;
     let longer = long_text(rt.alloc(), "en-x", "-aaa")?;
     assert!(rt; longest.len() == 1024 && longer.len() == 1025);
-    let input = format!(in rt.alloc(); "{longer}\n{longest}\r\n{longer}\r\n{longest}\r\r\n{longest}\n{longest}{longest}\nen\n{longest}")?;
+    let input = format!(in rt.alloc();
+        "{longer}\n{longest}\r\n{longer}\r\n{longest}\r\r\n{longest}\n{longest}{longest}\nen\n{longest}"
+    )?;
     let owed = format!(in rt.alloc(); "{longest}\r\n{longest}\nen\n{longest}\n")?;
     for piece in [1usize, 1025, 1026, 65_536] {
         let reader = Pieces::once(input.as_bytes(), piece);
