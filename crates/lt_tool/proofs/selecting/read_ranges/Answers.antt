@@ -1,4 +1,4 @@
-use Rattle.std.proofs.Common.{◌+◌, ◌∙◌, List, map, string_bytes, subst, sym, take}
+use Rattle.std.proofs.Common.{◌+◌, List, map, string_bytes, subst, sym, take}
 use Rattle.std.proofs.lemmas.Result.{err_from_is_err_and}
 use Rattle.lt_range.specs.Ranges.{RangeParts}
 use Rattle.lt_match.specs.declared.refusals.RangeRefusal.TheVariants as refusals

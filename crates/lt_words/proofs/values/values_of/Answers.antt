@@ -1,4 +1,4 @@
-use Rattle.std.proofs.Common.{◌∙◌, ℕ, List, [], Option, ap, map, option_map, string_bytes, sym}
+use Rattle.std.proofs.Common.{◌∙◌, List, [], Option, ap, map, option_map, string_bytes, sym}
 use Rattle.std.proofs.lemmas.Result.{IfOk-weaker}
 use Rattle.std.specs.Borrow.{Bor}
 use Rattle.std.specs.Option.{option_map_or}
