@@ -75,6 +75,7 @@ COMMANDS = [
     (["equal", SAMPLE, "YUE", "zh-yue"], b""),
     (["explain", SAMPLE, "sgn-dd"], b""),
     (["explain", SAMPLE, "en-u-foo-bar-foo-nu-latn-ca-buddhist-NU-arab"], b""),
+    (["match", SAMPLE, "zh-yue", "de"], b"yue\nfr\nde-DE\n"),
     (["verify", SAMPLE, "sgn-dd"], b"Region 2 27 sgn-DE\nWhole 1 44 gsg\n= gsg\n"),
     (["verify", SAMPLE, "sgn-dd"], b"Region 2 27 sgn-DE" + b" " * 40),
     (["upgrade", SAMPLE, SAMPLE], b""),

@@ -3,7 +3,7 @@ _langtag() {
     local word=${COMP_WORDS[COMP_CWORD]}
     COMPREPLY=()
     if [ "$COMP_CWORD" = 1 ]; then
-        mapfile -t COMPREPLY < <(compgen -W 'classify check canon tsv csv extlang equal explain verify upgrade help --help --version' -- "$word")
+        mapfile -t COMPREPLY < <(compgen -W 'classify check canon tsv csv match extlang equal explain verify upgrade help --help --version' -- "$word")
         return
     fi
     case ${COMP_WORDS[1]}:$word in
@@ -15,18 +15,22 @@ _langtag() {
             mapfile -t COMPREPLY < <(compgen -W '--heading --keep --summary --help' -- "$word")
             return
             ;;
+        match:-*)
+            mapfile -t COMPREPLY < <(compgen -W '--extended --help' -- "$word")
+            return
+            ;;
         canon:-*)
             mapfile -t COMPREPLY < <(compgen -W '--summary --help' -- "$word")
             return
             ;;
     esac
     case ${COMP_WORDS[1]}:$COMP_CWORD in
-        check:2 | canon:2 | tsv:2 | csv:2 | extlang:2 | equal:2 | explain:2 | verify:2 | upgrade:2 | upgrade:3)
+        check:2 | canon:2 | tsv:2 | csv:2 | match:2 | extlang:2 | equal:2 | explain:2 | verify:2 | upgrade:2 | upgrade:3)
             mapfile -t COMPREPLY < <(compgen -f -- "$word")
             compopt -o filenames 2> /dev/null
             ;;
         help:2)
-            mapfile -t COMPREPLY < <(compgen -W 'classify check canon tsv csv extlang equal explain verify upgrade' -- "$word")
+            mapfile -t COMPREPLY < <(compgen -W 'classify check canon tsv csv match extlang equal explain verify upgrade' -- "$word")
             ;;
     esac
 }

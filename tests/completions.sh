@@ -51,6 +51,7 @@ is 'bash: a file' 'registry.txt' < <(by_bash langtag tsv reg)
 is 'bash: the second file' 'registry.txt' < <(by_bash langtag upgrade old reg)
 is 'bash: options of csv' '--delimiter' < <(by_bash langtag csv --d)
 is 'bash: options of tsv' '--heading --help --keep --summary' < <(by_bash langtag tsv registry.txt -)
+is 'bash: options of match' '--extended' < <(by_bash langtag match registry.txt --e)
 is 'bash: a tag is not completed' '' < <(by_bash langtag classify reg)
 if command -v fish > /dev/null; then
     is 'fish: a command' 'canon check classify csv' < <(by_fish 'langtag c')

@@ -87,6 +87,22 @@ printf 'zh-yue\nDE\n' > lines
 "$program" canon "$sample" < lines > out 2> err; is canon 0 'yue\nde\n' ''
 "$program" canon other < lines > out 2> err; is 'canon: the registry is refused' 2 'jar BadLine line 1\n' ''
 
+# the lines that ranges match
+printf 'zh-yue\r\nzh\nyue-Hans\nen_US\nde-Latn-DE\nde-DE' > tags
+"$program" match "$sample" yue < tags > out 2> err; is match 0 'zh-yue\r\nyue-Hans\n' ''
+"$program" match "$sample" de-de zh < tags > out 2> err; is 'match: two ranges' 0 'zh\nde-DE\n' ''
+"$program" match --extended "$sample" de-de < tags > out 2> err; is 'match --extended' 0 'de-Latn-DE\nde-DE\n' ''
+dd bs=1 status=none < tags | "$program" match "$sample" 'zh-yue' > out 2> err; is 'match: the same byte by byte' 0 'zh-yue\r\nyue-Hans\n' ''
+"$program" match "$sample" ja < tags > out 2> err; is 'match: none' 1 '' ''
+"$program" match "$sample" de en_US < tags > out 2> err; is 'match: a range is refused' 3 '' '! BadByte\n'
+"$program" match other de < tags > out 2> err; is 'match: the registry is refused' 2 'jar BadLine line 1\n' ''
+"$program" match "$sample" de <&- > out 2> err; is 'match: closed input' 4 '' '! Read\n'
+: > out
+"$program" match "$sample" de < tags > /dev/full 2> err; is 'match: full output' 4 '' '! Write\n'
+"$program" match "$sample" < tags > out 2> usage; ended=$?
+head -c 7 usage > err
+(exit "$ended"); is 'match: no range' 3 '' 'error: '
+
 # rows with tabs between their fields, by their second fields
 printf '1\tzh-yue\tbook\r\n2\ten_US\n3\n' > rows
 "$program" tsv "$sample" 2 < rows > out 2> err; is 'tsv refuses two' 1 '1\tyue\tbook\t\r\n2\ten_US\tBadByte 1\n3\tNoColumn\n' ''
@@ -252,7 +268,7 @@ run check .; is 'check: a folder' 4 'jar Read line 1\n' ''
 grep '^Usage: ' help > out
 (exit "$ended"); is help 0 'Usage: langtag <COMMAND>\n' ''
 sed -n '/^Status:/,$p' help > out
-(exit "$ended"); is 'help: the statuses' 0 'Status:\n  0  done\n  1  a tag was refused, or the tags are different, or the steps are no explanation\n  2  a registry or an upgrade was refused\n  3  the words name no command, or a column that is missing or stands twice\n  4  a file, the input, the output or memory failed\n' ''
+(exit "$ended"); is 'help: the statuses' 0 'Status:\n  0  done\n  1  a tag was refused, or the tags are different, or the steps are no explanation, or no line was matched\n  2  a registry or an upgrade was refused\n  3  the words name no command, or a column that is missing or stands twice, or a range that is refused\n  4  a file, the input, the output or memory failed\n' ''
 "$program" --version < empty > version 2> err; ended=$?
 cut -d '(' -f 1 version > out
 (exit "$ended"); is version 0 "langtag $number \n" ''

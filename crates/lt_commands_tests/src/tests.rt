@@ -1,5 +1,6 @@
 //! The commands on registries and tags.
 mod hostile;
+mod matched;
 mod registries;
 mod tags;
 mod upgrades;

@@ -3,3 +3,4 @@ pub mod AheadLemmas
 pub mod AnswerLemmas
 pub mod VerdictLemmas
 pub mod ExplainedLemmas
+pub mod RangeLemmas

@@ -7,4 +7,5 @@ pub mod Registries
 pub mod TagCommands
 pub mod UpgradeCommand
 pub mod Verified
+pub mod Selected
 pub mod Program

@@ -49,6 +49,7 @@ use Rattle.lt_tool.specs.declared.lines.Answer.{Answer}
 use Rattle.lt_tag.specs.declared.faults.OutOfMemory.{OutOfMemory}
 use Rattle.lt_tool.specs.TagCommands.{Compares, Explains, FormsExtlang}
 use Rattle.lt_tool.specs.UpgradeCommand.{UpgradesFiles}
+use Rattle.lt_tool.specs.Selected.{Selects}
 use Rattle.lt_tool.specs.Verified.{Verifies}
 use Rattle.lt_tool.specs.Streams.{IsUntouched, HandsNone, Stream, Handed, stream}
 use Rattle.lt_tool.specs.Written.{LacksMemory, LacksRest, Prints, Says}
@@ -221,6 +222,10 @@ Performs (command.Tsv run rows) first second input output errors answered result
 Performs (command.Csv run rows delimiter) first second input output errors answered result =
     IsUntouched second
     × ReadsFile first (AnswersRows (separators.Delimiter delimiter) rows rows.column input output errors answered result)
+Performs (command.Match name ranges) first second input output errors answered result =
+    HandsNone answered × IsUntouched second
+    × ReadsFile first (Selects (λ IsAnswer. PrintsOrLacks IsAnswer output errors result)
+    ranges input output errors result)
 Performs (command.Extlang name tag) first second input output errors answered result =
     HandsNone answered × IsUntouched second × IsUntouched input
     × PrintsByFile (ByRegistry (λ R. FormsExtlang R (string_bytes tag))) first output errors result

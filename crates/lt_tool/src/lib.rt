@@ -9,6 +9,7 @@ mod printing;
 mod program;
 mod registries;
 mod rows;
+mod selecting;
 mod status;
 mod tag_commands;
 mod upgrade_command;
@@ -16,7 +17,7 @@ mod verifying;
 
 pub use answered::Answered;
 pub use lt_lines::{Counts, LineForm, RowForm, Tallies, Tally, ToolFault, run_lines};
-pub use lt_words::{Column, Command, Rows, Run, WordsFault, read_words, word_text};
+pub use lt_words::{Column, Command, Ranges, Rows, Run, WordsFault, read_words, word_text};
 pub use printing::{perform, report, report_file};
 pub use program::run_program;
 pub use status::Status;

@@ -14,6 +14,7 @@ use crate::explaining::explain;
 use crate::lines::{Answer, classify};
 use crate::registries::{check, read_registry, refuse};
 use crate::rows::answer_rows;
+use crate::selecting::select;
 use crate::status::Status;
 use crate::tag_commands::{equal, extlang};
 use crate::upgrade_command::upgrade;
@@ -188,6 +189,7 @@ fn run<F: Read, G: Read, I: Read, O: Write, E: Write>(
                 alloc, separator, rows, first, input, output, errors, answered,
             )
         }
+        Command::Match(_, ranges) => select(alloc, ranges, first, input, output, errors),
         Command::Extlang(_, tag) => {
             print_answer(extlang(alloc, first, tag.as_bytes()), output, errors)
         }
@@ -206,13 +208,14 @@ fn run<F: Read, G: Read, I: Read, O: Write, E: Write>(
 /// `first` and `second` are the files that the command names, in order; one that it does not name is left as it
 /// is, and so is the second of `upgrade` where the first is refused. A file is read record by record, up to its
 /// end or the first line at fault. The answer is written to `output` at once, but by `explain` as its lines are made;
-/// `canon`, `tsv` and `csv` answer the lines or records of `input` as they come, and `verify` reads them up to the first
-/// that settles its answer.
+/// `canon`, `tsv` and `csv` answer the lines or records of `input` as they come, `match` prints those of its lines that a
+/// range matches, and `verify` reads them up to the first that settles its answer.
 ///
 /// A read of a file that fails, or is one too many, is answered as a fault of the file. A write to `output`
 /// that fails, a read of `input` that fails, its end within quotes, and an allocation that fails are named on `errors`; a write there
 /// that fails is counted by the device alone. Where a column has a name, it is found in the heading of `input` before a byte is
-/// written to `output`; a name that no column has, or more than one, is told on `errors`, and the status is 3.
+/// written to `output`; a name that no column has, or more than one, is told on `errors`, and the status is 3. So it is where
+/// a range of `match` is refused, and no line is read.
 ///
 /// `answered` is set to what [`run_lines`] says of the lines of `input`, but for the tallies where a write or memory fails,
 /// which are none, since it is not known which answers were written; it stays where no lines were to be answered.

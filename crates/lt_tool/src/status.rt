@@ -5,13 +5,13 @@ ghost use Rattle.lt_tool.specs.Codes.{code_of};
 /// How a run of the program ended.
 #[derive(Clone, Copy, Debug, PartialEq, Eq)]
 pub enum Status {
-    /// All that was asked for was done, help and the version included.
+    /// All that was asked for was done, help and the version included; some line was selected.
     Done = 0,
-    /// A tag, a row or a record was refused, two tags are different, or lines explain no tag.
+    /// A tag, a row or a record was refused, two tags are different, lines explain no tag, or none was selected.
     Refused = 1,
     /// A registry or an upgrade was refused.
     RegistryRefused = 2,
-    /// The words name no command, or a column that the input has not, or more than once.
+    /// The words name no command, a column that the input has not, or more than once, or a range that is refused.
     Usage = 3,
     /// A file was not opened, a read or a write failed, the reads were too many, records of CSV end within quotes, a row
     /// or a record is too long, the input is in UTF-16, or memory ran out.

@@ -30,7 +30,7 @@ fn words_that_name_a_command(rt: HostRuntime) {
 }
 
 /// Words that name no command.
-const USAGES: [&[&str]; 9] = [
+const USAGES: [&[&str]; 12] = [
     &[],
     &["unknown"],
     &["unknown", "en"],
@@ -38,6 +38,9 @@ const USAGES: [&[&str]; 9] = [
     &["classify", "en", "fr"],
     &["classify", "-x"],
     &["upgrade", "registry"],
+    &["match", "registry"],
+    &["match", "registry", "de", "-x"],
+    &["match", "registry", "de", "--extended", "--extended"],
     &["help", "unknown"],
     &["classify", "--version"],
 ];
@@ -64,7 +67,7 @@ const HELPS: [(&[&str], &str); 6] = [
     (&["classify", "--help"], "Usage: langtag classify <TAG>"),
     (
         &["canon", "--help"],
-        "  1  a tag was refused, or the tags are different, or the steps are no explanation\n",
+        "  1  a tag was refused, or the tags are different, or the steps are no explanation, or no line was matched\n",
     ),
 ];
 
@@ -92,12 +95,13 @@ fn words_that_ask_for_the_version(rt: HostRuntime) {
 }
 
 /// Words, and the file that their command names first.
-const FILES: [(&[&str], Option<&str>); 10] = [
+const FILES: [(&[&str], Option<&str>); 11] = [
     (&["classify", "en"], None),
     (&["check", "registry"], Some("registry")),
     (&["canon", "registry"], Some("registry")),
     (&["tsv", "registry", "1"], Some("registry")),
     (&["csv", "registry", "1"], Some("registry")),
+    (&["match", "registry", "de", "fr"], Some("registry")),
     (&["extlang", "registry", "en"], Some("registry")),
     (&["equal", "registry", "en", "fr"], Some("registry")),
     (&["explain", "registry", "en"], Some("registry")),
@@ -127,6 +131,7 @@ fn commands_that_read_the_input(rt: HostRuntime) {
     assert!(rt; reads_input(&read(rt.alloc(), &["canon", "registry"])));
     assert!(rt; reads_input(&read(rt.alloc(), &["tsv", "registry", "1"])));
     assert!(rt; reads_input(&read(rt.alloc(), &["csv", "registry", "1"])));
+    assert!(rt; reads_input(&read(rt.alloc(), &["match", "registry", "en"])));
     assert!(rt; reads_input(&read(rt.alloc(), &["verify", "registry", "en"])));
     assert!(rt; !reads_input(&read(rt.alloc(), &["check", "registry"])));
 }

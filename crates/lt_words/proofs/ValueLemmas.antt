@@ -95,7 +95,7 @@ by_letters a first =
     else if a == 101 then sub.Check
     else if a == 110 then sub.Canon
     else if a == 118 then (if first == 116 then sub.Tsv else sub.Csv)
-    else if a == 116 then sub.Extlang
+    else if a == 116 then (if first == 109 then sub.Match else sub.Extlang)
     else if a == 117 then sub.Equal
     else if a == 112 then sub.Explain
     else if a == 114 then sub.Verify
@@ -108,6 +108,7 @@ named_back sub.Check = refl
 named_back sub.Canon = refl
 named_back sub.Tsv = refl
 named_back sub.Csv = refl
+named_back sub.Match = refl
 named_back sub.Extlang = refl
 named_back sub.Equal = refl
 named_back sub.Explain = refl

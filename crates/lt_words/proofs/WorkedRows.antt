@@ -4,6 +4,7 @@ use Rattle.clap.proofs.OnLiterals.{clap_on_literals}
 use Rattle.clap.specs.Words.{Text, fault_of, first_of, subcommand_of}
 use Rattle.clap.specs.declared.error.kind.ErrorKind.TheVariants as kind
 use Rattle.lt_words.specs.CommandLine.{langtag}
+use Rattle.lt_words.specs.Reading.{values_given}
 
 -- the subcommand, and the value of this positional
 read_as : Text → List Text → Option (Text × Option Text)
@@ -93,3 +94,27 @@ keep-read = refl
 heading-wrong : fault_of langtag (csv (codes "R" ∷ codes "2" ∷ codes "--heading" ∷ [])) ≡ kind.UnknownArgument ∷ []
 unfolding clap_on_literals
 heading-wrong = refl
+
+-- ranges, as many as there are
+abbrev match : List Text → List Text
+match words = codes "langtag" ∷ codes "match" ∷ words
+
+values_as : Text → List Text → Option (Text × List Text)
+values_as name words = option_map (λ found. (found.0, values_given name found.1)) (subcommand_of langtag words)
+
+ranges-read : values_as (codes "RANGE") (match (codes "R" ∷ codes "de" ∷ codes "--extended" ∷ codes "*-CH" ∷ [])) ≡ Some (codes "match", codes "de" ∷ codes "*-CH" ∷ [])
+unfolding clap_on_literals values_as
+ranges-read = refl
+
+ranges-right : fault_of langtag (match (codes "R" ∷ codes "de" ∷ codes "--extended" ∷ codes "*-CH" ∷ [])) ≡ []
+unfolding clap_on_literals
+ranges-right = refl
+
+extended-read : read_as (codes "extended") (match (codes "R" ∷ codes "de" ∷ codes "--extended" ∷ [])) ≡ Some (codes "match", Some (codes "true"))
+unfolding clap_on_literals read_as
+extended-read = refl
+
+-- none
+range-missing : fault_of langtag (match (codes "R" ∷ [])) ≡ kind.MissingRequiredArgument ∷ []
+unfolding clap_on_literals
+range-missing = refl

@@ -1,7 +1,7 @@
 -- The command line of the program, as `clap` sees it.
 use Rattle.std.specs.Prelude.{List, [], ◌∷◌, ◌++◌, Some, true, codes, map}
 use Rattle.clap.specs.Words.{App, Rule, Text, new_app, new_rule, with_rule, with_subcommand}
-use Rattle.clap.specs.declared.builder.action.ArgAction.TheVariants.{Set, SetTrue}
+use Rattle.clap.specs.declared.builder.action.ArgAction.TheVariants.{Append, Set, SetTrue}
 use Rattle.lt_words.specs.declared.program.Form.{Form}
 use Rattle.lt_words.specs.declared.program.Form.TheVariants as forms
 use Rattle.lt_words.specs.declared.subcommands.Subcommand.{Subcommand}
@@ -10,6 +10,10 @@ use Rattle.lt_words.specs.declared.subcommands.Subcommand.TheVariants as sub
 -- a required positional of this name
 abbrev pub positional : Text → Rule
 positional name = record (new_rule name) { action = Some Set; required = true }
+
+-- a required positional of this name, which takes each of the words that are left
+abbrev pub repeated : Text → Rule
+repeated name = record (new_rule name) { action = Some Append; required = true }
 
 -- an option of this name, which takes a value
 abbrev pub option : (id name : Text) → Rule
@@ -22,6 +26,7 @@ flag name = record (new_rule name) { long = Some name; action = Some SetTrue }
 -- how an argument is given
 abbrev pub rule_for : Form → Text → Rule
 rule_for forms.Positional id = positional id
+rule_for forms.Repeated id = repeated id
 rule_for (forms.Option name) id = option id name.now
 rule_for forms.Flag id = flag id
 
@@ -47,31 +52,34 @@ name_of sub.Check = codes "check"
 name_of sub.Canon = codes "canon"
 name_of sub.Tsv = codes "tsv"
 name_of sub.Csv = codes "csv"
+name_of sub.Match = codes "match"
 name_of sub.Extlang = codes "extlang"
 name_of sub.Equal = codes "equal"
 name_of sub.Explain = codes "explain"
 name_of sub.Verify = codes "verify"
 name_of sub.Upgrade = codes "upgrade"
 
--- the names of its positionals
+-- the names of its positionals, but for one that is repeated
 abbrev pub positionals_of : Subcommand → List Text
 positionals_of sub.Classify = codes "TAG" ∷ []
 positionals_of sub.Check = codes "REGISTRY" ∷ []
 positionals_of sub.Canon = codes "REGISTRY" ∷ []
 positionals_of sub.Tsv = codes "REGISTRY" ∷ codes "COLUMN" ∷ []
 positionals_of sub.Csv = codes "REGISTRY" ∷ codes "COLUMN" ∷ []
+positionals_of sub.Match = codes "REGISTRY" ∷ []
 positionals_of sub.Extlang = codes "REGISTRY" ∷ codes "TAG" ∷ []
 positionals_of sub.Equal = codes "REGISTRY" ∷ codes "TAG" ∷ codes "OTHER" ∷ []
 positionals_of sub.Explain = codes "REGISTRY" ∷ codes "TAG" ∷ []
 positionals_of sub.Verify = codes "REGISTRY" ∷ codes "TAG" ∷ []
 positionals_of sub.Upgrade = codes "OLD" ∷ codes "NEW" ∷ []
 
--- its options
+-- its options, after a positional that is repeated
 abbrev pub options_of : Subcommand → List Rule
 options_of sub.Canon = flag (codes "summary") ∷ []
 options_of sub.Tsv = flag (codes "heading") ∷ flag (codes "keep") ∷ flag (codes "summary") ∷ []
 options_of sub.Csv =
     option (codes "C") (codes "delimiter") ∷ flag (codes "keep") ∷ flag (codes "summary") ∷ []
+options_of sub.Match = repeated (codes "RANGE") ∷ flag (codes "extended") ∷ []
 options_of _ = []
 
 -- its arguments, each of its positionals required
@@ -81,7 +89,7 @@ arguments_of s = map positional (positionals_of s) ++ options_of s
 -- the subcommands, in the order in which help names them
 abbrev pub subcommands : List Subcommand
 subcommands =
-    sub.Classify ∷ sub.Check ∷ sub.Canon ∷ sub.Tsv ∷ sub.Csv ∷ sub.Extlang
+    sub.Classify ∷ sub.Check ∷ sub.Canon ∷ sub.Tsv ∷ sub.Csv ∷ sub.Match ∷ sub.Extlang
     ∷ sub.Equal ∷ sub.Explain ∷ sub.Verify ∷ sub.Upgrade ∷ []
 
 -- a program with these subcommands, in this order

@@ -2,7 +2,7 @@
 use Rattle.std.specs.Prelude.{◌≡◌, ◌<◌, ◌^◌, ◌==◌, ◌&&◌, not, ⊤, ℕ, Bool, true, false, List, [], ◌∷◌, Option, Some, None, if◌then◌else◌, bytes_eq, codes, map, nat_lt, string_bytes}
 use Rattle.std.specs.Option.{option_map_or}
 use Rattle.std.specs.Str.Parse.{IsNumeral, digits_value, without_leading_plus}
-use Rattle.clap.specs.Words.{Row, Text, first_of, subcommand_of, fault_of, IsAmong}
+use Rattle.clap.specs.Words.{Row, Text, all_of, first_of, subcommand_of, fault_of, IsAmong}
 use Rattle.clap.specs.declared.error.kind.ErrorKind.{ErrorKind}
 use Rattle.clap.specs.declared.error.kind.ErrorKind.TheVariants as kind
 use Rattle.lt_words.specs.CommandLine.{langtag, name_of, positionals_of}
@@ -23,6 +23,7 @@ subcommand_for (command.Check file) = sub.Check
 subcommand_for (command.Canon run) = sub.Canon
 subcommand_for (command.Tsv run rows) = sub.Tsv
 subcommand_for (command.Csv run rows delimiter) = sub.Csv
+subcommand_for (command.Match file ranges) = sub.Match
 subcommand_for (command.Extlang file tag) = sub.Extlang
 subcommand_for (command.Equal file tag other) = sub.Equal
 subcommand_for (command.Explain file tag) = sub.Explain
@@ -59,6 +60,7 @@ AreValues (command.Tsv run rows) texts =
     (text : Text) × IsColumn text rows.column × FitsHeading rows.heading rows.column × (texts ≡ string_bytes run.registry ∷ text ∷ [])
 AreValues (command.Csv run rows delimiter) texts =
     (text : Text) × IsColumn text rows.column × FitsHeading rows.heading rows.column × (texts ≡ string_bytes run.registry ∷ text ∷ [])
+AreValues (command.Match file ranges) texts = texts ≡ string_bytes file ∷ []
 AreValues (command.Extlang file tag) texts = texts ≡ string_bytes file ∷ string_bytes tag ∷ []
 AreValues (command.Equal file tag other) texts = texts ≡ string_bytes file ∷ string_bytes tag ∷ string_bytes other ∷ []
 AreValues (command.Explain file tag) texts = texts ≡ string_bytes file ∷ string_bytes tag ∷ []
@@ -86,6 +88,10 @@ delimiter_given rows = option_map_or delimiter_named (first_of (codes "C") rows)
 abbrev pub is_flagged : (name : Text) → List Row → Bool
 is_flagged name rows = option_map_or (λ text. bytes_eq text (codes "true")) (first_of name rows) false
 
+-- the values of a positional that is repeated
+abbrev pub values_given : (name : Text) → List Row → List Text
+values_given name rows = option_map_or (λ texts. texts) (all_of name rows) []
+
 -- what the options of a run over lines give it
 abbrev pub AreRunOptions : Run → List Row → Type 0
 AreRunOptions run rows = run.summary ≡ is_flagged (codes "summary") rows
@@ -98,6 +104,8 @@ AreOptions (command.Tsv run rows) found =
 AreOptions (command.Csv run rows delimiter) found =
     AreRunOptions run found × (rows.heading ≡ true) × (rows.keep ≡ is_flagged (codes "keep") found)
     × (delimiter_given found ≡ Some delimiter)
+AreOptions (command.Match file ranges) found =
+    (map string_bytes ranges.texts.items ≡ values_given (codes "RANGE") found) × (ranges.extended ≡ is_flagged (codes "extended") found)
 AreOptions _ found = ⊤
 
 -- these are the values of positionals
@@ -120,6 +128,7 @@ first_file_of (command.Check file) = Some (string_bytes file)
 first_file_of (command.Canon run) = Some (string_bytes run.registry)
 first_file_of (command.Tsv run rows) = Some (string_bytes run.registry)
 first_file_of (command.Csv run rows delimiter) = Some (string_bytes run.registry)
+first_file_of (command.Match file ranges) = Some (string_bytes file)
 first_file_of (command.Extlang file tag) = Some (string_bytes file)
 first_file_of (command.Equal file tag other) = Some (string_bytes file)
 first_file_of (command.Explain file tag) = Some (string_bytes file)
@@ -136,6 +145,7 @@ abbrev pub reads_input_of : Command → Bool
 reads_input_of (command.Canon run) = true
 reads_input_of (command.Tsv run rows) = true
 reads_input_of (command.Csv run rows delimiter) = true
+reads_input_of (command.Match file ranges) = true
 reads_input_of (command.Verify file tag) = true
 reads_input_of _ = false
 

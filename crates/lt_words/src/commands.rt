@@ -32,6 +32,15 @@ pub struct Rows {
     pub keep: bool,
 }
 
+/// Language ranges, and how they match tags.
+#[derive(Debug, Drop)]
+pub struct Ranges {
+    /// The texts of the ranges.
+    pub texts: Vec<String>,
+    /// Whether they match by extended filtering, and not by basic filtering (RFC 4647, 3.3).
+    pub extended: bool,
+}
+
 /// What the words ask for.
 #[derive(Debug, Drop)]
 pub enum Command {
@@ -46,6 +55,8 @@ pub enum Command {
     /// The records of CSV of the input, after a heading, with the canonical form of a field; the byte stands between their
     /// fields.
     Csv(Run, Rows, u8),
+    /// The lines of the input that one of these ranges matches, by the registry of this file, which comes first.
+    Match(String, Ranges),
     /// The extlang form of this tag, by the registry of this file, which comes first.
     Extlang(String, String),
     /// Whether these two tags are equivalent, by the registry of this file, which comes first.
@@ -69,20 +80,21 @@ impl Command {
             Command::Canon(run) | Command::Tsv(run, _) | Command::Csv(run, _, _) => {
                 Some(run.registry.as_str())
             }
+            Command::Match(file, _) => Some(file.as_str()),
             Command::Extlang(file, _) | Command::Explain(file, _) => Some(file.as_str()),
             Command::Verify(file, _) => Some(file.as_str()),
             Command::Equal(file, _, _) | Command::Upgrade(file, _) => Some(file.as_str()),
         }
     }
 
-    /// Whether the command reads the standard input, whatever file it names: `canon`, `tsv`, `csv` and `verify`
-    /// do.
+    /// Whether the command reads the standard input, whatever file it names: `canon`, `tsv`, `csv`, `match` and
+    /// `verify` do.
     pub fn reads_input(&self) -> bool
         ensures { result ≡ reads_input_of self.now }
     {
         match self {
             Command::Canon(_) | Command::Verify(_, _) => true,
-            Command::Tsv(_, _) | Command::Csv(_, _, _) => true,
+            Command::Tsv(_, _) | Command::Csv(_, _, _) | Command::Match(_, _) => true,
             _ => false,
         }
     }

@@ -12,6 +12,8 @@ use std::alloc::{AllocError, Global};
 pub(crate) enum Form {
     /// By its place; it has to be there.
     Positional,
+    /// By its place, as each of the words that are left; one has to be there.
+    Repeated,
     /// After two hyphens and this name, if it is there.
     Option(&'static str),
     /// As two hyphens and its name, without a value.
@@ -49,6 +51,12 @@ pub(crate) static COLUMN: Argument = Argument {
     help: "The field that is a tag: its number, counted from 1, or its name in the heading",
 };
 
+pub(crate) static RANGE: Argument = Argument {
+    name: "RANGE",
+    form: Form::Repeated,
+    help: "A language range of RFC 4647, as de-CH or *, or a tag",
+};
+
 pub(crate) static OLD: Argument = Argument {
     name: "OLD",
     form: Form::Positional,
@@ -79,6 +87,12 @@ pub(crate) static KEEP: Argument = Argument {
     help: "Leaves each row as it is, and adds two fields to it: langtag, the canonical form, and langtag_fault, why the tag is refused",
 };
 
+pub(crate) static EXTENDED: Argument = Argument {
+    name: "extended",
+    form: Form::Flag,
+    help: "Matches by extended filtering (RFC 4647, 3.3.2), by which de-DE matches de-Latn-DE too",
+};
+
 pub(crate) static SUMMARY: Argument = Argument {
     name: "summary",
     form: Form::Flag,
@@ -89,9 +103,9 @@ pub(crate) static SUMMARY: Argument = Argument {
 const STATUSES: &str = "\
 Status:
   0  done
-  1  a tag was refused, or the tags are different, or the steps are no explanation
+  1  a tag was refused, or the tags are different, or the steps are no explanation, or no line was matched
   2  a registry or an upgrade was refused
-  3  the words name no command, or a column that is missing or stands twice
+  3  the words name no command, or a column that is missing or stands twice, or a range that is refused
   4  a file, the input, the output or memory failed";
 
 /// The version, and the line of the kit that proves and builds the program.
@@ -105,6 +119,7 @@ fn new_argument<'a>(alloc: Global, wanted: &Argument) -> Arg<'a>
     let argument = Arg::new(alloc, wanted.name).help(wanted.help);
     match wanted.form {
         Form::Positional => argument.required(true).action(ArgAction::Set),
+        Form::Repeated => argument.required(true).action(ArgAction::Append),
         Form::Option(name) => argument.long(name).action(ArgAction::Set),
         Form::Flag => argument.long(wanted.name).action(ArgAction::SetTrue),
     }
@@ -171,6 +186,14 @@ pub(crate) fn new_langtag<'a>(alloc: Global) -> Result<Command<'a>, AllocError>
         "Replaces a field of each record of CSV of the standard input, but for the heading, by its canonical form";
     let arguments = &[&REGISTRY, &COLUMN, &DELIMITER, &KEEP, &SUMMARY];
     let program = with_new(alloc, program, "csv", about, arguments)?;
+    let about = "Prints the lines of the standard input, each a tag, that a language range matches";
+    let program = with_new(
+        alloc,
+        program,
+        "match",
+        about,
+        &[&REGISTRY, &RANGE, &EXTENDED],
+    )?;
     let about = "Prints the extlang form of a tag";
     let program = with_new(alloc, program, "extlang", about, &[&REGISTRY, &TAG])?;
     let about = "Tells whether two tags are equivalent";

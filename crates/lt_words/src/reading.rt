@@ -4,11 +4,13 @@ ghost use Rattle.lt_words.specs.CommandLine.{name_of};
 ghost use Rattle.lt_words.specs.Reading.{Reads, IsRefused, IsNamed, NamesNone, IsFaultOf};
 ghost use Rattle.clap.specs.Words.{found_of, rows_of, subcommand_rows_of};
 
-use crate::commands::{Command, Rows, Run};
+use crate::commands::{Command, Ranges, Rows, Run};
 use crate::faults::WordsFault;
-use crate::program::{COLUMN, HEADING, KEEP, NEW, OLD, OTHER, REGISTRY, SUMMARY, TAG, new_langtag};
+use crate::program::{
+    COLUMN, EXTENDED, HEADING, KEEP, NEW, OLD, OTHER, RANGE, REGISTRY, SUMMARY, TAG, new_langtag,
+};
 use crate::subcommands::{Subcommand, subcommand_named};
-use crate::values::{column_of, delimiter_of, is_flagged, two_values, value_of};
+use crate::values::{column_of, delimiter_of, is_flagged, two_values, value_of, values_of};
 use clap::ArgMatches;
 use clap::error::ErrorKind;
 use std::alloc::Global;
@@ -56,6 +58,19 @@ fn read_csv(alloc: Global, values: &ArgMatches<'_>) -> Result<Command, WordsFaul
     Ok(Command::Csv(Run { registry, summary }, rows, delimiter))
 }
 
+/// The command for lines that ranges match.
+fn read_match(alloc: Global, values: &ArgMatches<'_>) -> Result<Command, WordsFault>
+    ensures named { IfOk result (IsNamed (Some (name_of Subcommand.Match, rows_of (found_of values.now)))) }
+    ensures unnamed { IfErr result (NamesNone (Some (name_of Subcommand.Match, rows_of (found_of values.now)))) }
+{
+    let registry = value_of(alloc, values, &REGISTRY)?;
+    let ranges = Ranges {
+        texts: values_of(alloc, values, &RANGE)?,
+        extended: is_flagged(values, &EXTENDED),
+    };
+    Ok(Command::Match(registry, ranges))
+}
+
 /// The command that compares two tags.
 fn read_equal(alloc: Global, values: &ArgMatches<'_>) -> Result<Command, WordsFault>
     ensures named { IfOk result (IsNamed (Some (name_of Subcommand.Equal, rows_of (found_of values.now)))) }
@@ -81,6 +96,7 @@ fn read_command(
         Subcommand::Canon => read_canon(alloc, values),
         Subcommand::Tsv => read_tsv(alloc, values),
         Subcommand::Csv => read_csv(alloc, values),
+        Subcommand::Match => read_match(alloc, values),
         Subcommand::Extlang => {
             let (file, tag) = two_values(alloc, values, &REGISTRY, &TAG)?;
             Ok(Command::Extlang(file, tag))

@@ -1,7 +1,7 @@
 //! The values of a subcommand's positionals.
-ghost use Rattle.std.specs.Prelude.{◌≡◌, ◌↔◌, [], ◌∷◌, IfOk, IfErr, IsTrue, Some, string_bytes};
+ghost use Rattle.std.specs.Prelude.{◌≡◌, ◌↔◌, [], ◌∷◌, IfOk, IfErr, IsTrue, Some, map, string_bytes};
 ghost use Rattle.std.specs.Str.Parse.{AllDigits, without_leading_plus};
-ghost use Rattle.lt_words.specs.Reading.{AreGiven, FitsHeading, IsColumn, IsDecimal, IsNoColumn, IsNoNumber, IsNumber, LacksDelimiter, LacksValue, delimiter_given};
+ghost use Rattle.lt_words.specs.Reading.{AreGiven, FitsHeading, IsColumn, IsDecimal, IsNoColumn, IsNoNumber, IsNumber, LacksDelimiter, LacksValue, delimiter_given, values_given};
 ghost use Rattle.lt_words.specs.Reading as spec;
 ghost use Rattle.clap.specs.Words.{found_of, rows_of};
 
@@ -9,7 +9,7 @@ use crate::commands::Column;
 use crate::faults::WordsFault;
 use crate::program::{Argument, DELIMITER};
 use clap::ArgMatches;
-use std::alloc::Global;
+use std::alloc::{AllocError, Global};
 
 /// The value of a positional.
 pub(crate) fn value_of(
@@ -41,6 +41,31 @@ pub(crate) fn two_values(
     let value = value_of(alloc, matches, first)?;
     let other = value_of(alloc, matches, second)?;
     Ok((value, other))
+}
+
+/// Copies of texts.
+fn copies_of(alloc: Global, texts: &[&str]) -> Result<Vec<String>, AllocError>
+    ensures { IfOk result (λ copies. map string_bytes copies.items ≡ map (λ text. text.now) texts.now) }
+{
+    let mut copies = Vec::new(alloc);
+    for text in texts {
+        copies.push(String::from_str(alloc, text)?)?;
+    }
+    Ok(copies)
+}
+
+/// The values of a positional that is repeated.
+pub(crate) fn values_of(
+    alloc: Global,
+    matches: &ArgMatches<'_>,
+    repeated: &Argument,
+) -> Result<Vec<String>, AllocError>
+    ensures { IfOk result (λ values. map string_bytes values.items ≡ values_given repeated.now.name.now (rows_of (found_of matches.now))) }
+{
+    match matches.get_strs(repeated.name) {
+        Some(texts) => copies_of(alloc, texts),
+        None => Ok(Vec::new(alloc)),
+    }
 }
 
 /// Whether a flag is given.

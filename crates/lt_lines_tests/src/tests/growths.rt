@@ -218,6 +218,13 @@ fn columns_are_found(rt: HostRuntime) -> Result<(), Fail> {
 }
 
 #[test]
+fn lines_are_matched(rt: HostRuntime) -> Result<(), Fail> {
+    let words = ["match", "registry", "zh-yue", "he"];
+    assert!(rt; prints_of_sample(rt.alloc(), &words, "zh-yue\r\n", 0)?);
+    Ok(())
+}
+
+#[test]
 fn extlang_forms_are_made(rt: HostRuntime) -> Result<(), Fail> {
     let words = ["extlang", "registry", "cmn-hans"];
     assert!(rt; prints_of_sample(rt.alloc(), &words, "zh-cmn-Hans\n", 0)?);
@@ -246,7 +253,7 @@ fn upgrades_are_judged(rt: HostRuntime) -> Result<(), Fail> {
 }
 
 /// Words, and what the answer to them begins with as text.
-const WORDS: [(&[&str], &str); 12] = [
+const WORDS: [(&[&str], &str); 13] = [
     (&["classify", "en"], "Ok(Classify(\"en\"))"),
     (&["check", "registry"], "Ok(Check(\"registry\"))"),
     (
@@ -260,6 +267,10 @@ const WORDS: [(&[&str], &str); 12] = [
     (
         &["tsv", "registry", "tag", "--heading"],
         "Ok(Tsv(Run { registry: \"registry\", summary: false }, Rows { column: Name(\"tag\"), heading: true, keep: false }))",
+    ),
+    (
+        &["match", "registry", "de", "--extended", "*-CH"],
+        "Ok(Match(\"registry\", Ranges { texts: [\"de\", \"*-CH\"], extended: true }))",
     ),
     (
         &["extlang", "registry", "en"],

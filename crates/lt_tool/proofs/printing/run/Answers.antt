@@ -49,3 +49,6 @@ returns-in-Upgrade g c =
       upgrades_more _ _ _ _ c.upgrade.ensures
           (λ IsAnswer made. printed_answer IsAnswer _ _ c.upgrade.result _ made c.print_answer-in-Upgrade.ensures),
     )
+
+pub returns-in-Match : goal.returns-in-Match
+returns-in-Match g c = rw c.in-Match.is (refl, refl, c.select.ensures)

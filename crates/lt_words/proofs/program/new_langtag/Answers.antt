@@ -18,4 +18,5 @@ returns c =
     let seven = adds _ (app_of c.in_ok-program-7.program) _ _ six c.in_ok-program-7.ensures in
     let eight = adds _ (app_of c.in_ok-program-8.program) _ _ seven c.in_ok-program-8.ensures in
     let nine = adds _ (app_of c.in_ok-program-9.program) _ _ eight c.in_ok-program-9.ensures in
-    IfOk-weaker c.with_new-10.result _ _ (λ r is. adds _ (app_of r) _ _ nine is) c.with_new-10.ensures
+    let ten = adds _ (app_of c.in_ok-program-10.program) _ _ nine c.in_ok-program-10.ensures in
+    IfOk-weaker c.with_new-11.result _ _ (λ r is. adds _ (app_of r) _ _ ten is) c.with_new-11.ensures

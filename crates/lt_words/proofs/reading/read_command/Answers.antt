@@ -11,3 +11,6 @@ returns-in-Equal-clause-unnamed c = rw c.in-Equal.is c.read_equal.ensures.unname
 
 pub returns-in-Canon-clause-unnamed : goal.returns-in-Canon-clause-unnamed
 returns-in-Canon-clause-unnamed c = rw c.in-Canon.is c.read_canon.ensures.unnamed
+
+pub returns-in-Match-clause-unnamed : goal.returns-in-Match-clause-unnamed
+returns-in-Match-clause-unnamed c = rw c.in-Match.is c.read_match.ensures.unnamed

@@ -1,0 +1,60 @@
+-- What a run that selects lines of a reader read and wrote, and how it ended.
+use Rattle.std.specs.Prelude.{◌≡◌, ◌<◌, ◌≤◌, ℕ, List, length, Option, Result, Ok, Err}
+use Rattle.std.specs.Io.KnownBytes.{Appends, Consumes, IsAtEnd}
+use Rattle.lt_jar.specs.Devices.{HasFailed, failures_of, inner_of, last_given_of}
+use Rattle.lt_jar.specs.Sources.{most_reads}
+use Rattle.lt_jar.specs.declared.devices.Device.{Device}
+use Rattle.lt_lines.specs.Running.{HasRead}
+use Rattle.lt_lines.specs.declared.faults.ToolFault.{ToolFault}
+use Rattle.lt_lines.specs.declared.faults.ToolFault.TheVariants as faults
+use Rattle.lt_select.specs.Selection.{IsBegun, IsOwed, IsOwedToLastFeed, Selection}
+
+-- the reader was read to its end, and all that is owed was written
+pub record IsDone {I : Type 0} (P : Selection) (remaining : I → Option (List ℕ)) (input' : Device I)
+    (read written : List ℕ) (count : ℕ) : Type 0 where
+  pub end : IsAtEnd (remaining (inner_of input'))
+  pub owed : IsOwed P read written count
+
+-- the reader failed, and what is owed up to the last line feed was written
+pub record IsStoppedByRead {I : Type 0} (P : Selection) (input input' : Device I) (read written : List ℕ) : Type 0 where
+  pub failed : HasFailed input input'
+  pub owed : IsOwedToLastFeed P read written
+
+-- the most reads were made, the last of them gave bytes, and what is owed up to the last line feed was written
+pub record IsStoppedByTurns {I : Type 0} (P : Selection) (input' : Device I) (reads : ℕ) (read written : List ℕ)
+    : Type 0 where
+  pub all_made : reads ≡ most_reads
+  pub gave_bytes : most_reads ≤ length read
+  pub last_gave : 0 < last_given_of input'
+  pub owed : IsOwedToLastFeed P read written
+
+-- how the run ended
+abbrev pub EndsAs : {I O : Type 0} → Selection → (I → Option (List ℕ)) → (input input' : Device I)
+    → (output output' : Device O) → ℕ → (read written : List ℕ) → Result ℕ ToolFault → Type 0
+EndsAs P remaining input input' output output' reads read written (Ok count) = IsDone P remaining input' read written count
+EndsAs P remaining input input' output output' reads read written (Err faults.Read) =
+    IsStoppedByRead P input input' read written
+EndsAs P remaining input input' output output' reads read written (Err faults.TooManyTurns) =
+    IsStoppedByTurns P input' reads read written
+EndsAs P remaining input input' output output' reads read written (Err faults.Write) = HasFailed output output'
+EndsAs P remaining input input' output output' reads read written (Err faults.OutOfMemory) = Unit {0}
+EndsAs P remaining input input' output output' reads read written (Err (faults.BadCsv line)) = ⊥
+EndsAs P remaining input input' output output' reads read written (Err (faults.BadTsv line)) = ⊥
+EndsAs P remaining input input' output output' reads read written (Err faults.Utf16) = ⊥
+
+-- A run that writes the lines of a reader that are selected. Whatever ended it, what was written is a front of what is
+-- owed.
+pub record SelectsLines {I O : Type 0} (P : Selection) (remaining : I → Option (List ℕ))
+    (contents : O → Option (List ℕ)) (input input' : Device I) (output output' : Device O)
+    (result : Result ℕ ToolFault) : Type 0 where
+  pub read : List ℕ
+  pub written : List ℕ
+  pub reads : ℕ
+  pub consumes : Consumes (remaining (inner_of input)) (remaining (inner_of input')) read
+  pub appends : Appends (contents (inner_of output)) (contents (inner_of output')) written
+  pub begun : IsBegun P read written
+  pub calls : HasRead input input' reads
+  pub bounded : reads ≤ most_reads
+  pub ends : EndsAs P remaining input input' output output' reads read written result
+  pub read_rises : failures_of input < failures_of input' → result ≡ Err faults.Read
+  pub write_rises : failures_of output < failures_of output' → result ≡ Err faults.Write

@@ -1,0 +1,73 @@
+-- Which lines language ranges select, and what is owed for bytes (RFC 4647, 3.3).
+use Rattle.std.specs.Prelude.{◌≡◌, ◌⊎◌, ◌++◌, ◌∷◌, ℕ, List, [], length}
+use Rattle.std.specs.List.{AllByRecursion}
+use Rattle.lt_jar.specs.Lines.{IsOneLine, content_of, lines_of, whole_lines}
+use Rattle.lt_tag.specs.Parts.{TagForm}
+use Rattle.lt_tag.specs.Faults.{HasTag}
+use Rattle.lt_registry.specs.Parts.{EntryParts}
+use Rattle.lt_range.specs.Ranges.{RangeParts}
+use Rattle.lt_match.specs.Matched.{BasicFiltering, ExtendedFiltering, HasCanonicalList, MatchesBy, MatchingScheme}
+use Rattle.lt_select.specs.declared.schemes.Scheme.{Scheme}
+use Rattle.lt_select.specs.declared.schemes.Scheme.TheVariants as schemes
+
+-- the schemes of filtering among those of matching (RFC 4647, 3.3.1 and 3.3.2)
+abbrev pub scheme_of : Scheme → MatchingScheme
+scheme_of schemes.Basic = BasicFiltering
+scheme_of schemes.Extended = ExtendedFiltering
+
+-- one of the ranges matches the subtags of a tag
+abbrev pub AnyMatches : MatchingScheme → List RangeParts → List (List ℕ) → Type 0
+AnyMatches scheme [] list = ⊥
+AnyMatches scheme (range ∷ ranges) list = MatchesBy scheme range list ⊎ AnyMatches scheme ranges list
+
+-- The text is a tag, and one of the ranges matches the subtags of its canonical form (RFC 5646, 4.5). So none matches a
+-- text that is no valid tag, or of which steps can repeat a variant.
+pub record IsMatched (R : List EntryParts) (scheme : Scheme) (ranges : List RangeParts) (text : List ℕ) : Type 0 where
+  pub tag : TagForm
+  pub read : HasTag text tag
+  pub list : List (List ℕ)
+  pub canonical : HasCanonicalList R tag list
+  pub matches : AnyMatches (scheme_of scheme) ranges list
+
+-- the line is selected; a carriage return that ends it is no part of the tag
+abbrev pub IsSelected : List EntryParts → Scheme → List RangeParts → List ℕ → Type 0
+IsSelected R scheme ranges line = IsMatched R scheme ranges (content_of line)
+
+-- what holds of the lines that are selected
+abbrev pub Selection : Type 1
+Selection = List ℕ → Type 0
+
+-- these are the lines that are selected, in their order
+abbrev pub AreSelected : Selection → (lines selected : List (List ℕ)) → Type 0
+AreSelected P [] selected = selected ≡ []
+AreSelected P (line ∷ lines) selected =
+    (P line × (rest : List (List ℕ)) × (selected ≡ line ∷ rest) × AreSelected P lines rest)
+    ⊎ ((P line → ⊥) × AreSelected P lines selected)
+
+-- all that is owed for the bytes was written: their lines that are selected, each with a line feed; and they are so many
+pub record IsOwed (P : Selection) (bytes written : List ℕ) (count : ℕ) : Type 0 where
+  pub selected : List (List ℕ)
+  pub are : AreSelected P (lines_of bytes) selected
+  pub all : written ≡ whole_lines selected
+  pub counted : count ≡ length selected
+
+-- what was written is what is owed for the bytes up to the last line feed
+pub record IsOwedToLastFeed (P : Selection) (bytes written : List ℕ) : Type 0 where
+  pub lines : List (List ℕ)
+  pub last : List ℕ
+  pub cut : bytes ≡ whole_lines lines ++ last
+  pub each_one : AllByRecursion IsOneLine lines
+  pub last_one : IsOneLine last
+  pub selected : List (List ℕ)
+  pub are : AreSelected P lines selected
+  pub all : written ≡ whole_lines selected
+
+-- what was written is a front of what is owed for the first lines of the bytes
+pub record IsBegun (P : Selection) (bytes written : List ℕ) : Type 0 where
+  pub lines : List (List ℕ)
+  pub others : List (List ℕ)
+  pub cut : lines_of bytes ≡ lines ++ others
+  pub selected : List (List ℕ)
+  pub are : AreSelected P lines selected
+  pub rest : List ℕ
+  pub front : whole_lines selected ≡ written ++ rest
