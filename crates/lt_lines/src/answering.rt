@@ -4,7 +4,6 @@ ghost use Rattle.lt_jar.specs.Lines.{IsOneLine};
 ghost use Rattle.lt_lines.specs.Owed.{Terms, terms};
 ghost use Rattle.lt_rows.specs.Looks.{LacksIn};
 ghost use Rattle.lt_rows.specs.Quotes.{is_quoted};
-ghost use Rattle.lt_rows.specs.Splitting.{SplitsAt};
 ghost use Rattle.lt_lines.specs.Tallied.{line_at as at_line};
 ghost use Rattle.lt_lines.specs.Looks.{IsAhead, IsLook};
 ghost use Rattle.lt_lines.specs.Answering as spec;
@@ -22,7 +21,7 @@ use crate::tallying::count_if;
 use lt_canon::Checked;
 use lt_jar::Device;
 use lt_registry::Lookup;
-use lt_rows::{Lacks, Look, Place, Separator, split_far, split_first};
+use lt_rows::{Lacks, Look, Place, Separator, split_first};
 use lt_tag::OutOfMemory;
 use lt_tallies::Tallies;
 use std::alloc::{AllocError, Global};
@@ -179,17 +178,6 @@ fn line_at<'a>(kept: &'a [u8], part: &'a [u8]) -> &'a [u8]
     ensures { result.now ≡ at_line kept.now part.now }
 {
     if kept.is_empty() { part } else { kept }
-}
-
-/// What is before the first line feed and after it, if there is one: near the front of tags, further on in rows.
-#[inline(always)]
-fn split_line(form: LineForm, text: &[u8]) -> Option<(&[u8], &[u8])>
-    ensures { SplitsAt 10 text.now result }
-{
-    match form {
-        LineForm::Tag => split_first(b'\n', text),
-        LineForm::Row(_) | LineForm::Csv(_, _) => split_far(b'\n', text),
-    }
 }
 
 impl Answering {
@@ -397,7 +385,7 @@ impl Answering {
     {
         let lacks = lacks_in(form, piece);
         let mut rest = piece;
-        while let Some((line, after)) = split_line(form, rest) {
+        while let Some((line, after)) = split_first(b'\n', rest) {
             if self.is_too_long(form, line.len()) {
                 return Err(self.stop_long(form, output));
             }

@@ -15,4 +15,4 @@ pub use marks::{is_wide, may_be_mark, split_mark};
 pub use quotes::{Place, after_text};
 pub use records::records_are_those_of_the_grammar;
 pub use rows::{Separator, find_field, has_return, text_in};
-pub use splitting::{split_far, split_first};
+pub use splitting::split_first;

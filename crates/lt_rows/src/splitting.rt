@@ -3,7 +3,7 @@ ghost use Rattle.std.specs.Prelude.{◌≤◌, ◌↔◌, IsTrue, length, take};
 ghost use Rattle.memchr.specs.Find.{IsFirstByte, is_byte};
 ghost use Rattle.lt_rows.specs.Splitting.{IsFreeOf, IsNear, IsPlaceOf, SplitsAt};
 
-use memchr::{memchr, memchr_iter, memchr2};
+use memchr::{memchr_iter, memchr2};
 
 /// So many bytes of a text are looked at together.
 pub(crate) const TOGETHER: usize = 32;
@@ -24,18 +24,6 @@ pub fn split_first(byte: u8, bytes: &[u8]) -> Option<(&[u8], &[u8])>
     ensures { SplitsAt byte bytes.now result }
 {
     match first_place(byte, bytes) {
-        Some(index) => Some((&bytes[..index], &bytes[index + 1..])),
-        None => None,
-    }
-}
-
-/// The same of a byte that is likely to be further on.
-#[tactic(auto, using(crate::proofs::SplitLemmas::free_front, crate::proofs::SplitLemmas::free_whole, crate::proofs::SplitLemmas::split_at))]
-#[inline(always)]
-pub fn split_far(byte: u8, bytes: &[u8]) -> Option<(&[u8], &[u8])>
-    ensures { SplitsAt byte bytes.now result }
-{
-    match memchr(byte, bytes) {
         Some(index) => Some((&bytes[..index], &bytes[index + 1..])),
         None => None,
     }
