@@ -24,7 +24,7 @@ from pathlib import Path
 
 ROOT = Path(__file__).resolve().parent.parent
 CRATES = ["lt_tag_tests", "lt_range_tests", "lt_accept_tests", "lt_parts_tests", "lt_jar_tests", "lt_registry_tests", "lt_rewrite_tests",
-          "lt_canon_tests", "lt_match_tests", "lt_lines_tests"]
+          "lt_canon_tests", "lt_match_tests", "lt_lines_tests", "lt_select_tests"]
 PROGRAM = ROOT / "build" / "langtag"
 SECONDS = 60
 NONE = "_without_growth"
