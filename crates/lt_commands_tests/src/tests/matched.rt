@@ -9,7 +9,10 @@ const LINES: &[u8] = b"de-Latn-DE\r\niw\nfr\n\nde-DD\nyue-Hans";
 /// Words, and what is printed of these lines.
 const RUNS: [(&[&str], &str); 5] = [
     (&["match", "registry", "de-de"], "de-DD\n"),
-    (&["match", "--extended", "registry", "de-de"], "de-Latn-DE\r\nde-DD\n"),
+    (
+        &["match", "--extended", "registry", "de-de"],
+        "de-Latn-DE\r\nde-DD\n",
+    ),
     (&["match", "registry", "zh-yue", "he"], "iw\nyue-Hans\n"),
     (
         &["match", "registry", "*"],
@@ -22,7 +25,10 @@ const RUNS: [(&[&str], &str); 5] = [
 fn lines_that_match(rt: HostRuntime) -> Result<(), Fail> {
     let sample = sample_text(rt.alloc())?;
     for (words, shown) in &RUNS {
-        assert!(rt; prints(rt.alloc(), words, sample.as_bytes(), LINES, shown, 0), "{shown}");
+        assert!(rt;
+            prints(rt.alloc(), words, sample.as_bytes(), LINES, shown, 0),
+            "{shown}"
+        );
     }
     Ok(())
 }
