@@ -108,7 +108,6 @@ fn told_of(number: u32, outcome: Outcome) -> Outcome
 }
 
 /// Tells whether a language range matches a tag by a scheme, or which of the two is refused.
-#[tactic(auto, using(crate::proofs::Matching::told_by_parts))]
 pub(crate) fn answer_match(
     alloc: Global,
     registry: &Registry,
