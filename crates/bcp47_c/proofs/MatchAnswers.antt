@@ -22,7 +22,7 @@ by_parts : (R : List EntryParts) → IsChecked R → (scheme : Scheme) (range : 
 by_parts R C scheme range parts tag list p l m =
     let D : MatchingIsDetermined R = determined R C in
     let listed = subst (λ (x : List (List ℕ)). MatchesBy (matching scheme) m.range x)
-        (D.list tag m.list list m.canonical l) m.matches in
+    (D.list tag m.list list m.canonical l) m.matches in
     subst (λ (x : RangeParts). MatchesBy (matching scheme) x list) (D.range range m.range parts m.is_range p) listed
 
 pub told_by_parts : (R : List EntryParts) → IsChecked R → (scheme : Scheme) (range text : List ℕ) (parts : RangeParts)
@@ -36,13 +36,15 @@ told_by_parts R C scheme range text parts list answer p q d = record {
   read = q.read;
   list = list;
   canonical = q.holds;
-  matches =
-      (λ h. record { range = parts; is_range = p; list = list; canonical = q.holds; matches = d.0 h }, λ m. d.1 (by_parts R C scheme range parts q.tag list p q.holds m));
+  matches = (
+    λ h. record { range = parts; is_range = p; list = list; canonical = q.holds; matches = d.0 h },
+    λ m. d.1 (by_parts R C scheme range parts q.tag list p q.holds m),
+  );
 }
 
 -- what is said of an answer is delivered
-pub told_match : (R : List EntryParts) (scheme : Scheme) (range text before after : List ℕ) (answer : Bool) (said : Said)
-    (o : Outcome) → IsMatchOf R scheme range text answer → said ≡ ended (if answer then 0 else 6)
+pub told_match : (R : List EntryParts) (scheme : Scheme) (range text before after : List ℕ) (answer : Bool)
+    (said : Said) (o : Outcome) → IsMatchOf R scheme range text answer → said ≡ ended (if answer then 0 else 6)
     → IsDelivered said [] before after o → TellsMatch R scheme range text before after o
 told_match R scheme range text before after answer said o m e d =
     inl (record {

@@ -6,9 +6,7 @@ ghost use Rattle.bcp47_c.specs.Matches as spec;
 ghost use Rattle.bcp47_c.specs.Matches.{IsSchemeOf, TellsMatch, matching, of_text};
 ghost use Rattle.bcp47_c.specs.Outcomes.{IsDelivered};
 
-use crate::numbers::{
-    DIFFERENT, DONE, NOT_A_TAG, OUT_OF_MEMORY, REPLACEMENT_REPEATS, range_fault,
-};
+use crate::numbers::{DIFFERENT, DONE, NOT_A_TAG, OUT_OF_MEMORY, REPLACEMENT_REPEATS, range_fault};
 use crate::outcomes::{Outcome, Said, deliver, ended, refuse};
 use bcp47::{LanguageRange, RangeRefusal, Registry, Tag, TagSubtags, TextRefusal};
 use std::alloc::Global;
