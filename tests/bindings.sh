@@ -187,7 +187,7 @@ passes "nothing is global but constants" test -z "$(nm build/libbcp47.a | grep -
 made numbers tests/bindings/numbers.c $files
 passes "names" "$folder/numbers"
 sed -n 's/^    "\(.*\)",$/\1/p' crates/lt_terminal/src/meanings.rt > "$folder/messages"
-grep -vE '^(None|Failed|Done|NotATag|Invalid|BufferTooSmall|Different|BadFile|BadRecord|Rejected|NoUpgrade|NoSuchStep|WrongEnd|NotOpen|BadCall|Busy|TooManySteps): ' \
+grep -vE '^(None|Failed|BadFirst|Done|NotATag|Invalid|BufferTooSmall|Different|BadFile|BadRecord|Rejected|NoUpgrade|NoSuchStep|WrongEnd|NotOpen|BadCall|Busy|TooManySteps): ' \
     "$folder/out" > "$folder/helps"
 passes "meanings" test "$(grep -cvxFf "$folder/messages" "$folder/helps")" = 0 -a "$(wc -l < "$folder/helps")" = 53
 

@@ -364,6 +364,20 @@ bcp47_outcome bcp47_equal(const bcp47_registry *registry, const char *first, siz
     return outcome;
 }
 
+bcp47_outcome bcp47_match(const bcp47_registry *registry, int scheme, const char *range, size_t range_length, const char *tag,
+                          size_t tag_length, char *buffer, size_t room) {
+    uint8_t variant[8];
+    if (!is_open(registry)) return ended(BCP47_NOT_OPEN);
+    if (!are_apart(range, range_length, buffer, room) || !are_apart(tag, tag_length, buffer, room)) return ended(BCP47_BAD_CALL);
+    slot *s = take(registry);
+    if (!s) return ended(BCP47_BUSY);
+    bcp47_outcome outcome = bcp47_handle_match(&s->handle, (uint32_t)scheme, bytes_of(range), range_length, bytes_of(tag),
+                                               tag_length, variant, sizeof variant);
+    give(s);
+    tell(&outcome, variant, buffer, room);
+    return outcome;
+}
+
 bcp47_outcome bcp47_verify(const bcp47_registry *registry, const char *text, size_t length, const bcp47_step *steps,
                            size_t count, const char *last, size_t last_length) {
     static const bcp47_step no_step = {0, 0, 0};

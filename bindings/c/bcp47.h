@@ -22,7 +22,7 @@ typedef struct {
     int detail;    /* the number of a fault, which bcp47_fault_name names; for bcp47_classify the class; else 0 */
     size_t place;  /* of a fault: the subtag, the line, the record or the step, counted from 1; of parts or steps: how many; else 0 */
     size_t length; /* the bytes of the text, also where it does not fit the buffer */
-    int text;      /* where bcp47_equal or bcp47_verify refuses one of its two texts: which, 1 or 2; else 0 */
+    int text;      /* where bcp47_equal, bcp47_match or bcp47_verify refuses one of its two texts: which, 1 or 2; else 0 */
     int reserved;  /* 0 */
 } bcp47_outcome;
 
@@ -34,7 +34,7 @@ enum {
     BCP47_REPLACEMENT_REPEATS = 3, /* the text is the variant that would be repeated */
     BCP47_OUT_OF_MEMORY = 4,
     BCP47_BUFFER_TOO_SMALL = 5,    /* nothing was written: make room for `length` bytes, and call again */
-    BCP47_DIFFERENT = 6,           /* of bcp47_equal */
+    BCP47_DIFFERENT = 6,           /* of bcp47_equal and bcp47_match */
     BCP47_BAD_FILE = 7,            /* of bcp47_open, with the line that the program prints, as the two below */
     BCP47_BAD_RECORD = 8,
     BCP47_REJECTED = 9,
@@ -42,13 +42,16 @@ enum {
     BCP47_NO_SUCH_STEP = 11,       /* of bcp47_verify: the step at `place` does not lead on */
     BCP47_WRONG_END = 12,          /* of bcp47_verify: the steps lead to another tag than the last */
     BCP47_NOT_OPEN = 13,           /* the registry is NULL, or no registry that is open */
-    BCP47_BAD_CALL = 14,           /* NULL where something is needed, a length that no text has, or a buffer over a text */
+    BCP47_BAD_CALL = 14,           /* NULL where something is needed, a length that no text has, a buffer over a text, or no scheme */
     BCP47_BUSY = 15,               /* as many calls as there is room for are under way, and none ended for a while */
     BCP47_TOO_MANY_STEPS = 16      /* of bcp47_explanation: more than the steps that were allowed */
 };
 
 /* The classes of a tag, in `detail` of bcp47_classify. */
 enum { BCP47_LANGTAG = 1, BCP47_PRIVATE_USE = 2, BCP47_GRANDFATHERED = 3 };
+
+/* The schemes of matching, as bcp47_match takes them (RFC 4647, 3.3.1, 3.3.2 and 3.4). */
+enum { BCP47_BASIC = 1, BCP47_EXTENDED = 2, BCP47_LOOKUP = 3 };
 
 /* A step, as bcp47_verify takes it. The lines of bcp47_explain have its kind by name, its place and its number. */
 typedef struct {
@@ -153,6 +156,13 @@ bcp47_outcome bcp47_validate(const bcp47_registry *registry, const char *text, s
    BCP47_REPLACEMENT_REPEATS, if it fits: 9 bytes are room for each, with a zero. */
 bcp47_outcome bcp47_equal(const bcp47_registry *registry, const char *first, size_t first_length, const char *second,
                           size_t second_length, char *buffer, size_t room);
+
+/* Whether a language range matches a tag by a scheme: BCP47_DONE, or BCP47_DIFFERENT; by BCP47_LOOKUP, whether the range, cut
+   from its end, is the tag. Both are matched by their canonical forms, so that "zh-yue" matches "yue-HK"; a range that is no
+   valid tag, as "zh-*", is taken as it is written. The range is text 1: BCP47_NOT_A_TAG says of it that it is neither a valid
+   tag nor a range, and the place is 0. The buffer is that of bcp47_equal. */
+bcp47_outcome bcp47_match(const bcp47_registry *registry, int scheme, const char *range, size_t range_length, const char *tag,
+                          size_t tag_length, char *buffer, size_t room);
 
 /* The lines that `langtag explain` prints for a tag, written to a buffer. */
 bcp47_outcome bcp47_explain(const bcp47_registry *registry, const char *text, size_t length, char *buffer, size_t room);

@@ -132,6 +132,14 @@ template <class Call> result<std::string> text_of(Call call) {
     return refusal{outcome, std::move(text)};
 }
 
+/* Whether two texts go together, as a call tells it, or why one is refused. */
+template <class Call> result<bool> told_of_two(Call call) {
+    char variant[9];
+    bcp47_outcome outcome = call(variant, sizeof variant);
+    if (outcome.status == BCP47_DONE || outcome.status == BCP47_DIFFERENT) return outcome.status == BCP47_DONE;
+    return refusal{outcome, std::string(variant, outcome.length)};
+}
+
 inline result<void> nothing_of(bcp47_outcome outcome) {
     if (outcome.status == BCP47_DONE) return {};
     return refusal{outcome, {}};
@@ -187,11 +195,17 @@ class registry {
 
     /* Whether two tags are equivalent; `outcome.text` of a refusal says which of them it is of, 1 or 2. */
     result<bool> equal(std::string_view first, std::string_view second) const {
-        char variant[9];
-        bcp47_outcome outcome =
-            bcp47_equal(opened_.get(), first.data(), first.size(), second.data(), second.size(), variant, sizeof variant);
-        if (outcome.status == BCP47_DONE || outcome.status == BCP47_DIFFERENT) return outcome.status == BCP47_DONE;
-        return refusal{outcome, std::string(variant, outcome.length)};
+        return detail::told_of_two([&](char *buffer, std::size_t room) {
+            return bcp47_equal(opened_.get(), first.data(), first.size(), second.data(), second.size(), buffer, room);
+        });
+    }
+
+    /* Whether a language range matches a tag by a scheme, BCP47_BASIC, BCP47_EXTENDED or BCP47_LOOKUP; `outcome.text` of a refusal
+       is 1 of the range, and 2 of the tag. */
+    result<bool> match(std::string_view range, std::string_view tag, int scheme = BCP47_EXTENDED) const {
+        return detail::told_of_two([&](char *buffer, std::size_t room) {
+            return bcp47_match(opened_.get(), scheme, range.data(), range.size(), tag.data(), tag.size(), buffer, room);
+        });
     }
 
     /* The lines that `langtag explain` prints: BCP47_TOO_MANY_STEPS where there are more steps than `most`. */

@@ -24,6 +24,8 @@ bcp47_outcome bcp47_handle_verify(bcp47_handle *handle, const uint8_t *text, siz
 bcp47_outcome bcp47_handle_validate(bcp47_handle *handle, const uint8_t *text, size_t length);
 bcp47_outcome bcp47_handle_equal(bcp47_handle *handle, const uint8_t *first, size_t first_length, const uint8_t *second,
                                 size_t second_length, uint8_t *buffer, size_t room);
+bcp47_outcome bcp47_handle_match(bcp47_handle *handle, uint32_t scheme, const uint8_t *range, size_t range_length,
+                                const uint8_t *tag, size_t tag_length, uint8_t *buffer, size_t room);
 bcp47_outcome bcp47_handle_upgrade_check(bcp47_handle *older, bcp47_handle *newer);
 size_t bcp47_handle_entries(bcp47_handle *handle);
 /* `place` is how many steps the explanation has. */

@@ -9,12 +9,12 @@ typedef struct {
 
 static const word statuses[] = {
     {"Done", "The call did what was asked."},
-    {"NotATag", "The text is no tag: the fault and its place say what is wrong with it."},
+    {"NotATag", "The text is no tag, or the range no language range: the fault and its place say what is wrong with it."},
     {"Invalid", "The tag is not valid by the registry: the fault and its place say why."},
     {"ReplacementRepeats", "Replacements would repeat the variant that is named: remove one of the variants."},
     {"OutOfMemory", "No memory was left: end other programs, or use a larger machine."},
     {"BufferTooSmall", "The text does not fit the buffer: make room for as many bytes as its length says, and call again."},
-    {"Different", "The tags are not equivalent."},
+    {"Different", "The tags are not equivalent, or the range does not match the tag."},
     {"BadFile", "The bytes are no registry: the fault and the line say what is wrong."},
     {"BadRecord", "A record of the registry gives no entry: the fault and its number say why."},
     {"Rejected", "A record of the registry does not meet a condition: the fault names the condition."},
@@ -22,7 +22,7 @@ static const word statuses[] = {
     {"NoSuchStep", "The step at the place that is named does not lead on: mend it, or take the registry by which the tag was explained."},
     {"WrongEnd", "The steps lead to another tag than the last: mend the last tag, or the steps."},
     {"NotOpen", "The registry is not open: open it first, and ask nothing of it once it is closed."},
-    {"BadCall", "NULL where something is needed, a length that no text has, ends that fall, or a buffer over a text: mend the call."},
+    {"BadCall", "NULL where something is needed, a length that no text has, ends that fall, a buffer over a text, or a number of no scheme: mend the call."},
     {"Busy", "As many calls as there is room for are under way, and none ended for a while: call again, or open the registry once more."},
     {"TooManySteps", "The explanation has more steps than were allowed: allow more, or leave the tag unexplained."},
 };
@@ -81,6 +81,7 @@ static const word faults[] = {
     {"U4", "By the newer registry a variant becomes a language no longer, or by other Prefixes, or another one: keep what it was."},
     {"U5", "By the newer registry a variant of the older one becomes a language: remove its Preferred-Value."},
     {"U6", "By the newer registry a whole tag and its older value lead to two canonical tags: lead both to one."},
+    {"BadFirst", "The first subtag of a language range has a digit: begin with a language of letters alone, or with *."},
 };
 
 static const char *const kinds[] = {"", "Extlang", "Language", "Script", "Region", "Variant", "VariantLanguage", "Whole",

@@ -11,6 +11,10 @@ CREATE FUNCTION bcp47_equal(first text, second text, registry text) RETURNS bool
     AS 'MODULE_PATHNAME', 'equality_of' LANGUAGE C IMMUTABLE STRICT PARALLEL SAFE;
 CREATE FUNCTION bcp47_fault(tag text, registry text) RETURNS text
     AS 'MODULE_PATHNAME', 'fault_of' LANGUAGE C IMMUTABLE STRICT PARALLEL SAFE;
+CREATE FUNCTION bcp47_match(tag text, range text) RETURNS boolean
+    AS 'MODULE_PATHNAME', 'match_of' LANGUAGE C STABLE STRICT PARALLEL SAFE;
+CREATE FUNCTION bcp47_match(tag text, range text, registry text) RETURNS boolean
+    AS 'MODULE_PATHNAME', 'match_of' LANGUAGE C IMMUTABLE STRICT PARALLEL SAFE;
 CREATE FUNCTION bcp47_registry() RETURNS text
     AS 'MODULE_PATHNAME', 'registry_of' LANGUAGE C STABLE STRICT PARALLEL SAFE;
 CREATE FUNCTION bcp47_part(tag text, kind text) RETURNS text

@@ -208,6 +208,19 @@ Datum equality_of(PG_FUNCTION_ARGS) {
     PG_RETURN_BOOL(outcome.status == BCP47_DONE);
 }
 
+/* Whether a language range matches a tag by extended filtering: of (tag, range), and of (tag, range, name). */
+PG_FUNCTION_INFO_V1(match_of);
+Datum match_of(PG_FUNCTION_ARGS) {
+    text *tag = PG_GETARG_TEXT_PP(0), *range = PG_GETARG_TEXT_PP(1);
+    const named_registry *it = PG_NARGS() == 3 ? named(PG_GETARG_TEXT_PP(2)) : unnamed();
+    bcp47_outcome outcome = bcp47_match(it->registry, BCP47_EXTENDED, VARDATA_ANY(range), VARSIZE_ANY_EXHDR(range),
+                                        VARDATA_ANY(tag), VARSIZE_ANY_EXHDR(tag), NULL, 0);
+
+    check(outcome);
+    if (outcome.status != BCP47_DONE && outcome.status != BCP47_DIFFERENT) PG_RETURN_NULL();
+    PG_RETURN_BOOL(outcome.status == BCP47_DONE);
+}
+
 /* The parts of a kind, with hyphens between them: of (tag, kind). */
 PG_FUNCTION_INFO_V1(part_of);
 Datum part_of(PG_FUNCTION_ARGS) {

@@ -32,6 +32,14 @@ is parts 'HK|1994-nedis|NULL|NULL
 ERROR:  there is no kind of part "regions"' ask -c "SELECT bcp47_part('zh-hant-hk-1994-nedis', 'region'), bcp47_part('zh-hant-hk-1994-nedis', 'Variant'), bcp47_part('en', 'region'), bcp47_part('e_n', 'region')" \
     -c "SELECT bcp47_part('en', 'regions')"
 
+is matches 't|t|f|t
+NULL|NULL|NULL|NULL|NULL
+t' ask -c "SELECT bcp47_match('yue-HK', 'zh-yue'), bcp47_match('de-Latn-DE', 'de-DE'), bcp47_match('de', 'de-DE'), bcp47_match('de-CH', '*-CH')" \
+    -c "SELECT bcp47_match('e_n', 'en'), bcp47_match('en', 'e_n'), bcp47_match(NULL, 'en'), bcp47_match('en', NULL), bcp47_match('', '')" \
+    -c "SELECT bcp47_match('yue-HK', 'zh-yue', '$(sed -n '1s/File-Date: //p' registry)')"
+is 'an index by a range without a name' 'ERROR:  functions in index predicate must be marked IMMUTABLE' \
+    ask -c 'CREATE TEMP TABLE tagged (tag text)' -c "CREATE INDEX by_range ON tagged (tag) WHERE bcp47_match(tag, 'zh-yue')"
+
 is 'what is shown to others' '' sh -c 'nm -D --defined-only "$1" | grep -vE " (Pg_magic_func|_PG_init|pg_finfo_[a-z]+_of|[a-z]+_of)$"' - "$folder/built/bcp47.so"
 # A session takes no memory for the registry, which is the server's.
 is 'memory of a session' 'en-u-ca-buddhist-nu-latn

@@ -292,6 +292,12 @@ static int have_texts(PyObject *one, PyObject *other, text *first, text *second)
     return 0;
 }
 
+/* Whether two tags go together, as a call tells it; or what it refuses of them is raised. */
+static PyObject *told_of_two(bcp47_outcome outcome, const char *variant, PyObject *one, PyObject *other) {
+    if (outcome.status == BCP47_DONE || outcome.status == BCP47_DIFFERENT) return PyBool_FromLong(outcome.status == BCP47_DONE);
+    return raise_refusal("RefusedTag", outcome, variant, outcome.text == 2 ? other : one);
+}
+
 static PyObject *registry_equivalent(PyObject *self, PyObject *arguments) {
     char variant[BCP47_LINE];
     PyObject *one, *other, *made = NULL;
@@ -301,10 +307,25 @@ static PyObject *registry_equivalent(PyObject *self, PyObject *arguments) {
     if (registry) {
         bcp47_outcome outcome = bcp47_equal(registry->registry, first.bytes, first.length, second.bytes, second.length, variant,
                                             sizeof variant);
-        if (outcome.status == BCP47_DONE || outcome.status == BCP47_DIFFERENT)
-            made = PyBool_FromLong(outcome.status == BCP47_DONE);
-        else
-            made = raise_refusal("RefusedTag", outcome, variant, outcome.text == 2 ? other : one);
+        made = told_of_two(outcome, variant, one, other);
+    }
+    end_text(&first);
+    end_text(&second);
+    return made;
+}
+
+/* match(scheme, range, tag) */
+static PyObject *registry_match(PyObject *self, PyObject *arguments) {
+    char variant[BCP47_LINE];
+    int scheme;
+    PyObject *range, *tag, *made = NULL;
+    text first, second;
+    if (!PyArg_ParseTuple(arguments, "iOO", &scheme, &range, &tag) || !have_texts(range, tag, &first, &second)) return NULL;
+    registry_object *registry = opened(self);
+    if (registry) {
+        bcp47_outcome outcome = bcp47_match(registry->registry, scheme, first.bytes, first.length, second.bytes, second.length,
+                                            variant, sizeof variant);
+        made = told_of_two(outcome, variant, range, tag);
     }
     end_text(&first);
     end_text(&second);
@@ -524,6 +545,7 @@ static PyMethodDef registry_methods[] = {
      "for the second."},
     {"close", registry_close, METH_NOARGS,
      "close($self, /)\n--\n\nFrees the registry, once the calls of other threads have ended. No call but this one may follow."},
+    {"_match", registry_match, METH_VARARGS, NULL},
     {"_explain_lines", registry_explain_lines, METH_VARARGS, NULL},
     {"_verify_steps", registry_verify_steps, METH_VARARGS, NULL},
     {"_upgrade_to", registry_upgrade_to, METH_O, NULL},

@@ -274,6 +274,13 @@ static void explain(sqlite3_context *context, int count, sqlite3_value **values)
     else sqlite3_result_text(context, lines, (int)outcome.length - 1, bcp47_free);
 }
 
+/* 1 or 0, whether two texts go together; NULL where one of them is refused. */
+static void tell_of_two(sqlite3_context *context, bcp47_outcome outcome) {
+    if (is_error(context, outcome)) return;
+    if (outcome.status == BCP47_DONE || outcome.status == BCP47_DIFFERENT)
+        sqlite3_result_int(context, outcome.status == BCP47_DONE);
+}
+
 static void equal(sqlite3_context *context, int count, sqlite3_value **values) {
     connection *c = sqlite3_user_data(context);
     (void)count;
@@ -282,9 +289,19 @@ static void equal(sqlite3_context *context, int count, sqlite3_value **values) {
     const char *first = (const char *)sqlite3_value_text(values[0]), *second = (const char *)sqlite3_value_text(values[1]);
     bcp47_outcome outcome = bcp47_equal(c->held->registry, first, (size_t)sqlite3_value_bytes(values[0]), second,
                                         (size_t)sqlite3_value_bytes(values[1]), NULL, 0);
-    if (is_error(context, outcome)) return;
-    if (outcome.status == BCP47_DONE || outcome.status == BCP47_DIFFERENT)
-        sqlite3_result_int(context, outcome.status == BCP47_DONE);
+    tell_of_two(context, outcome);
+}
+
+/* bcp47_match(tag, range), by extended filtering */
+static void match(sqlite3_context *context, int count, sqlite3_value **values) {
+    connection *c = sqlite3_user_data(context);
+    (void)count;
+    if (sqlite3_value_type(values[0]) == SQLITE_NULL || sqlite3_value_type(values[1]) == SQLITE_NULL) return;
+    if (!is_ready(context, c)) return;
+    const char *tag = (const char *)sqlite3_value_text(values[0]), *range = (const char *)sqlite3_value_text(values[1]);
+    bcp47_outcome outcome = bcp47_match(c->held->registry, BCP47_EXTENDED, range, (size_t)sqlite3_value_bytes(values[1]), tag,
+                                        (size_t)sqlite3_value_bytes(values[0]), NULL, 0);
+    tell_of_two(context, outcome);
 }
 
 /* The canonical text of a text to compare. A collation can't answer an error, and the order of an index must not change: where
@@ -337,7 +354,7 @@ int sqlite3_extension_init(sqlite3 *database, char **error, const sqlite3_api_ro
         {"bcp47_load", 1, OWN, load},         {"bcp47_load", 2, OWN, load},   {"bcp47_registry", 0, SQLITE_UTF8, registry},
         {"bcp47_canonical", 1, PURE, canonical}, {"bcp47_canonical", 2, PURE, canonical},
         {"bcp47_equal", 2, PURE, equal},      {"bcp47_fault", 1, PURE, fault}, {"bcp47_explain", 1, PURE, explain},
-        {"bcp47_part", 2, PURE, part},
+        {"bcp47_part", 2, PURE, part},        {"bcp47_match", 2, PURE, match},
     };
     (void)error;
     SQLITE_EXTENSION_INIT2(api);

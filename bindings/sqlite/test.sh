@@ -24,6 +24,8 @@ got=$(sqlite3 :memory: ".load $1/bcp47_sqlite" "SELECT bcp47_load('$2');" \
     ".nullvalue NULL" \
     "SELECT bcp47_canonical('en_US'), bcp47_fault('zh-yue'), bcp47_equal('en', 'en_US'), bcp47_equal('en', 'zh');" \
     "SELECT bcp47_canonical(NULL), bcp47_fault(NULL), bcp47_equal(NULL, 'en'), bcp47_equal('en', NULL);" \
+    "SELECT bcp47_match('yue-GB', 'zh-yue'), bcp47_match('de-Latn-DE', 'de-DE'), bcp47_match('de', 'de-DE'), bcp47_match('de-GB', '*-GB');" \
+    "SELECT bcp47_match('e_n', 'en'), bcp47_match('en', 'e_n'), bcp47_match(NULL, 'en'), bcp47_match('en', NULL), bcp47_match('', '');" \
     "SELECT bcp47_explain(NULL), bcp47_explain('en_US'), bcp47_explain('EN');" \
     "SELECT bcp47_canonical(''), bcp47_fault(''), bcp47_fault(x'ff'), bcp47_fault(1);" \
     "SELECT length(bcp47_canonical('en-x-' || substr(replace(hex(zeroblob(700)), '00', 'abcdefgh-'), 1, 1007)));" \
@@ -40,6 +42,8 @@ Whole 1 44 gsg
 = gsg
 NULL|NULL|NULL|0
 NULL|NULL|NULL|NULL
+1|1|0|1
+NULL|NULL|NULL|NULL|NULL
 NULL|NULL|= en
 NULL|EmptySubtag 1|BadByte 1|BadLanguage 1
 1012

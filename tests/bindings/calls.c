@@ -17,6 +17,7 @@ static int is_ended(bcp47_outcome o, int status) {
 
 #define ASK(call, text) call(registry, text, strlen(text), buffer, sizeof buffer)
 #define EQUAL(first, second) bcp47_equal(registry, first, strlen(first), second, strlen(second), buffer, sizeof buffer)
+#define MATCH(scheme, range, tag) bcp47_match(registry, scheme, range, strlen(range), tag, strlen(tag), buffer, sizeof buffer)
 
 static void refused_registry(const char *bytes, int status, size_t place, const char *line) {
     bcp47_registry *refused = registry;
@@ -153,6 +154,75 @@ static void equal(void) {
     CHECK(o.length == 7 && !memcmp(buffer, "alalc97#", 8));
 }
 
+/* The examples of RFC 4647, 3.3.1, 3.3.2 and 3.4, as far as the sample has their subtags, and equivalent ranges and tags. */
+static void match(void) {
+    static const struct {
+        int scheme;
+        const char *range, *tag;
+        int status;
+    } rows[] = {
+        {BCP47_BASIC, "de-de", "de-DE-1996", BCP47_DONE},
+        {BCP47_BASIC, "de-de", "de-Latn-DE", BCP47_DIFFERENT},
+        {BCP47_BASIC, "*", "x-own", BCP47_DONE},
+        {BCP47_BASIC, "*-DE", "en", BCP47_DONE},
+        {BCP47_BASIC, "zh-yue", "yue-GB", BCP47_DONE},
+        {BCP47_BASIC, "zh", "zh-yue", BCP47_DIFFERENT},
+        {BCP47_BASIC, "iw", "he", BCP47_DONE},
+        {BCP47_BASIC, "xx", "en", BCP47_DIFFERENT},
+        {BCP47_EXTENDED, "de-*-DE", "de-DE", BCP47_DONE},
+        {BCP47_EXTENDED, "de-*-DE", "de-de", BCP47_DONE},
+        {BCP47_EXTENDED, "de-*-DE", "de-Latn-DE", BCP47_DONE},
+        {BCP47_EXTENDED, "de-DE", "de-DE-x-goethe", BCP47_DONE},
+        {BCP47_EXTENDED, "de-DE", "de-Latn-DE-1996", BCP47_DONE},
+        {BCP47_EXTENDED, "de-DE", "de", BCP47_DIFFERENT},
+        {BCP47_EXTENDED, "de-DE", "de-x-DE", BCP47_DIFFERENT},
+        {BCP47_EXTENDED, "de-DE", "de-Latn", BCP47_DIFFERENT},
+        {BCP47_EXTENDED, "*-DE", "de-Latn-DD", BCP47_DONE},
+        {BCP47_EXTENDED, "zh-yue", "yue-Hans-GB", BCP47_DONE},
+        {BCP47_LOOKUP, "zh-Hans-XA-x-private1-private2", "zh-Hans-XA-x-private1-private2", BCP47_DONE},
+        {BCP47_LOOKUP, "zh-Hans-XA-x-private1-private2", "zh-Hans-XA-x-private1", BCP47_DONE},
+        {BCP47_LOOKUP, "zh-Hans-XA-x-private1-private2", "zh-Hans-XA", BCP47_DONE},
+        {BCP47_LOOKUP, "zh-Hans-XA-x-private1-private2", "zh-Hans", BCP47_DONE},
+        {BCP47_LOOKUP, "zh-Hans-XA-x-private1-private2", "zh", BCP47_DONE},
+        {BCP47_LOOKUP, "zh-Hans-XA-x-private1-private2", "zh-XA", BCP47_DIFFERENT},
+        {BCP47_LOOKUP, "zh-yue-GB", "yue", BCP47_DONE},
+        {BCP47_LOOKUP, "de", "de-DE", BCP47_DIFFERENT},
+        {BCP47_LOOKUP, "*", "de", BCP47_DIFFERENT},
+    };
+    for (size_t i = 0; i < sizeof rows / sizeof *rows; i++) {
+        if (!is_ended(MATCH(rows[i].scheme, rows[i].range, rows[i].tag), rows[i].status)) fprintf(stderr, "%s %s\n", rows[i].range, rows[i].tag);
+        CHECK(is_ended(MATCH(rows[i].scheme, rows[i].range, rows[i].tag), rows[i].status));
+    }
+    CHECK(is_ended(bcp47_match(registry, BCP47_BASIC, "zh", 2, "yue", 3, NULL, 0), BCP47_DIFFERENT));
+}
+
+static int is_no_range(const char *range, const char *fault) {
+    bcp47_outcome o = MATCH(BCP47_EXTENDED, range, "en_US");
+    return is_refused(o, BCP47_NOT_A_TAG, 1, 0) && !strcmp(bcp47_fault_name(o.detail), fault);
+}
+
+static void match_refused(void) {
+    static const int wrong[] = {0, 4, -1, 257, INT32_MAX, INT32_MIN};
+    CHECK(is_no_range("", "EmptySubtag") && is_no_range("en--DE", "EmptySubtag") && is_no_range("en_US", "BadByte"));
+    CHECK(is_no_range("de-**", "BadByte") && is_no_range("de-abcdefghi", "LongSubtag") && is_no_range("1996-de", "BadFirst"));
+    CHECK(is_no_range("*-1996-de_1", "BadByte"));
+    CHECK(bcp47_match(registry, BCP47_BASIC, NULL, 0, "en", 2, NULL, 0).text == 1);
+    CHECK(is_refused(MATCH(BCP47_BASIC, "en", "en_US"), BCP47_NOT_A_TAG, 2, 1));
+    CHECK(is_refused(MATCH(BCP47_BASIC, "*", "*"), BCP47_NOT_A_TAG, 2, 1));
+    CHECK(is_refused(MATCH(BCP47_LOOKUP, "xx-*", "en-yy"), BCP47_INVALID, 2, 2));
+    CHECK(is_refused(MATCH(BCP47_LOOKUP, "xx", "xx"), BCP47_INVALID, 2, 1));
+    memset(buffer, '#', sizeof buffer);
+    bcp47_outcome o = MATCH(BCP47_BASIC, REPEATS, "en_US");
+    CHECK(is_refused(o, BCP47_REPLACEMENT_REPEATS, 1, 0) && o.length == 7 && !strcmp(buffer, "alalc97"));
+    memset(buffer, '#', sizeof buffer);
+    o = MATCH(BCP47_BASIC, "ja-*", REPEATS);
+    CHECK(is_refused(o, BCP47_REPLACEMENT_REPEATS, 2, 0) && o.length == 7 && !strcmp(buffer, "alalc97"));
+    memset(buffer, '#', sizeof buffer);
+    o = bcp47_match(registry, BCP47_BASIC, "ja", 2, REPEATS, strlen(REPEATS), buffer, 6);
+    CHECK(is_refused(o, BCP47_REPLACEMENT_REPEATS, 2, 0) && o.length == 7 && buffer[0] == '#');
+    for (size_t i = 0; i < sizeof wrong / sizeof *wrong; i++) CHECK(is_ended(MATCH(wrong[i], "en", "en_US"), BCP47_BAD_CALL));
+}
+
 static void others(void) {
     CHECK(is_text(ASK(bcp47_extlang, "yue"), "zh-yue"));
     CHECK(is_ended(bcp47_validate(registry, "zh-yue", 6), BCP47_DONE));
@@ -285,6 +355,7 @@ static void not_open(const bcp47_registry *none) {
     CHECK(is_ended(bcp47_explain(none, "en", 2, buffer, sizeof buffer), BCP47_NOT_OPEN));
     CHECK(is_ended(bcp47_validate(none, "en", 2), BCP47_NOT_OPEN));
     CHECK(is_ended(bcp47_equal(none, "en", 2, "en", 2, buffer, sizeof buffer), BCP47_NOT_OPEN));
+    CHECK(is_ended(bcp47_match(none, BCP47_BASIC, "en", 2, "en", 2, buffer, sizeof buffer), BCP47_NOT_OPEN));
     CHECK(is_ended(bcp47_verify(none, "en", 2, &step, 1, "en", 2), BCP47_NOT_OPEN));
     CHECK(is_ended(bcp47_upgrade_check(none, registry), BCP47_NOT_OPEN));
     CHECK(is_ended(bcp47_upgrade_check(registry, none), BCP47_NOT_OPEN));
@@ -323,6 +394,10 @@ static void bad_calls(void) {
     CHECK(is_ended(bcp47_equal(registry, "en", 2, "en", SIZE_MAX, buffer, 9), BCP47_BAD_CALL));
     CHECK(is_ended(bcp47_equal(registry, "en", 2, over, 6, over, 9), BCP47_BAD_CALL));
     CHECK(is_ended(bcp47_equal(registry, over, 6, over, 6, NULL, 0), BCP47_DONE));
+    CHECK(is_ended(bcp47_match(registry, BCP47_BASIC, NULL, 1, "en", 2, buffer, 9), BCP47_BAD_CALL));
+    CHECK(is_ended(bcp47_match(registry, BCP47_BASIC, "en", 2, "en", SIZE_MAX, buffer, 9), BCP47_BAD_CALL));
+    CHECK(is_ended(bcp47_match(registry, BCP47_BASIC, "en", 2, over, 6, over, 9), BCP47_BAD_CALL));
+    CHECK(is_ended(bcp47_match(registry, BCP47_BASIC, over, 6, over, 6, NULL, 0), BCP47_DONE));
     CHECK(is_ended(bcp47_verify(registry, NULL, 1, &step, 1, "en", 2), BCP47_BAD_CALL));
     CHECK(is_ended(bcp47_verify(registry, "en", 2, NULL, 1, "en", 2), BCP47_BAD_CALL));
     CHECK(is_ended(bcp47_verify(registry, "en", 2, &step, SIZE_MAX / 8, "en", 2), BCP47_BAD_CALL));
@@ -339,7 +414,7 @@ static void bad_calls(void) {
 static void names(void) {
     CHECK(!strcmp(bcp47_version(), BCP47_VERSION));
     CHECK(!strcmp(bcp47_status_name(BCP47_INVALID), "Invalid") && !strcmp(bcp47_status_name(BCP47_TOO_MANY_STEPS), "TooManySteps"));
-    CHECK(!strcmp(bcp47_fault_name(1), "TooLong") && !strcmp(bcp47_fault_name(52), "U6"));
+    CHECK(!strcmp(bcp47_fault_name(1), "TooLong") && !strcmp(bcp47_fault_name(52), "U6") && !strcmp(bcp47_fault_name(53), "BadFirst"));
     CHECK(!strcmp(bcp47_kind_name(BCP47_EXTLANG), "Extlang") && !strcmp(bcp47_kind_name(BCP47_SWAP_FIELDS), "SwapFields"));
     CHECK(!strcmp(bcp47_fault_help(9), "The registry lacks the extlang: correct it, or get a newer registry."));
     CHECK(strstr(bcp47_status_help(BCP47_NOT_OPEN), "open it first") != NULL);
@@ -347,7 +422,7 @@ static void names(void) {
     for (size_t i = 0; i < sizeof none / sizeof *none; i++)
         CHECK(!*bcp47_status_name(none[i]) && !*bcp47_fault_name(none[i]) && !*bcp47_kind_name(none[i]) &&
               !*bcp47_status_help(none[i]) && !*bcp47_fault_help(none[i]));
-    CHECK(!*bcp47_status_name(17) && !*bcp47_status_help(17) && !*bcp47_fault_name(53) && !*bcp47_fault_help(53));
+    CHECK(!*bcp47_status_name(17) && !*bcp47_status_help(17) && !*bcp47_fault_name(54) && !*bcp47_fault_help(54));
     CHECK(!*bcp47_kind_name(0) && !*bcp47_kind_name(15));
     CHECK(!*bcp47_part_kind_name(-1) && !*bcp47_part_kind_name(0) && !*bcp47_part_kind_name(21));
     CHECK(!strcmp(bcp47_part_kind_name(BCP47_PART_GRANDFATHERED), "Grandfathered"));
@@ -429,6 +504,8 @@ int main(int count, char **words) {
     classify(registry);
     classify(NULL);
     equal();
+    match();
+    match_refused();
     others();
     explanations();
     longer();

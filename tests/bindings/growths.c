@@ -26,7 +26,7 @@ void *__wrap_realloc(void *old, size_t size) {
 static const char *const tags[] = {"zh-yue", "en-us", "I-KLINGON", "sgn-dd", "en-t-iw-m0-names", "en-u-nu-latn-ca-buddhist-foo",
                                    "en_US", "xx", "de-1901-1901", "x-own-use", "en-a-bbb-x-own"};
 #define TAGS (sizeof tags / sizeof *tags)
-#define CALLS 10
+#define CALLS 12
 static char buffer[4096];
 static bcp47_part parts[BCP47_PARTS];
 static char wanted[CALLS * TAGS][512];
@@ -72,6 +72,10 @@ static void ask(const bcp47_registry *registry, int is_first, size_t at, const c
     kept(is_first, at + 8, bcp47_classify(NULL, text, n, buffer, sizeof buffer), buffer, before);
     before = growths;
     kept(is_first, at + 9, bcp47_parts(text, n, buffer, sizeof buffer, parts, BCP47_PARTS), buffer, before);
+    before = growths;
+    kept(is_first, at + 10, bcp47_match(registry, BCP47_EXTENDED, "zh-yue", 6, text, n, buffer, sizeof buffer), buffer, before);
+    before = growths;
+    kept(is_first, at + 11, bcp47_match(registry, BCP47_LOOKUP, text, n, "yue", 3, buffer, sizeof buffer), buffer, before);
 }
 
 /* All calls, with the growth of this number refused; answers whether one was. */
@@ -103,6 +107,8 @@ static void first_answers(void) {
         {CALLS + 4, "! UnknownRegion 2\n12"}, {3 * CALLS + 4, "\n6"}, {3 * CALLS + 5, "\n0"}, {3 * CALLS + 6, "\n0"},
         {6 * CALLS + 5, "! BadByte 1\n1"}, {7 * CALLS + 5, "! UnknownLanguage 1\n2"}, {7 * CALLS + 6, "! UnknownLanguage 1\n12"},
         {8 * CALLS + 5, "! DuplicateVariant 3\n2"}, {9, "zh-yue\n0"}, {2 * CALLS + 9, "i-klingon\n0"}, {6 * CALLS + 9, "! BadByte 1\n1"},
+        {10, "\n0"}, {11, "\n0"}, {3 * CALLS + 10, "\n6"}, {6 * CALLS + 10, "! BadByte 1\n21"}, {6 * CALLS + 11, "! BadByte 0\n11"},
+        {7 * CALLS + 10, "! UnknownLanguage 1\n22"}, {7 * CALLS + 11, "\n6"},
     };
     for (size_t i = 0; i < sizeof rows / sizeof *rows; i++) {
         if (strcmp(wanted[rows[i].at], rows[i].line)) fprintf(stderr, "%zu: %s\n", rows[i].at, wanted[rows[i].at]);

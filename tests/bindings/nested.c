@@ -46,6 +46,7 @@ static void call_again(void) {
     CHECK(bcp47_classify(registry, "yue", 3, buffer, sizeof buffer).status == BCP47_BUSY);
     CHECK(bcp47_validate(registry, "yue", 3).status == BCP47_BUSY);
     CHECK(bcp47_equal(registry, "yue", 3, "yue", 3, NULL, 0).status == BCP47_BUSY);
+    CHECK(bcp47_match(registry, BCP47_BASIC, "yue", 3, "yue", 3, NULL, 0).status == BCP47_BUSY);
     CHECK(bcp47_verify(registry, "yue", 3, &step, 1, "yue", 3).status == BCP47_BUSY);
     CHECK(bcp47_upgrade_check(registry, registry).status == BCP47_BUSY);
     CHECK(bcp47_explanation(registry, "yue", 3, 9, &lines).status == BCP47_BUSY && !lines);

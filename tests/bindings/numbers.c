@@ -10,7 +10,7 @@ static void compare(writer *proved, namer *name, int first, int last) {
     for (int number = 0; number < 256; number++) {
         uint8_t buffer[BCP47_LINE];
         bcp47_outcome outcome = proved((uint8_t)number, buffer, sizeof buffer);
-        /* Statuses above 12 are of C alone. */
+        /* Names of statuses above 12 are of C alone. */
         if (first <= number && number <= last) continue;
         CHECK(outcome.length == strlen(name(number)) && !memcmp(buffer, name(number), outcome.length));
     }

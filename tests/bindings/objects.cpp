@@ -37,6 +37,10 @@ static void refusals(const bcp47::registry &registry) {
         CHECK(!std::strcmp(thrown.what(), "UnknownLanguage 1"));
     }
     CHECK(registry.equal("en", "xx").error().outcome.text == 2 && registry.equal("xx", "en").error().outcome.text == 1);
+    CHECK(registry.match("1996", "xx").error().name() == "BadFirst" && registry.match("1996", "xx").error().outcome.text == 1);
+    CHECK(registry.match("*", "xx").error().line() == "UnknownLanguage 1" && registry.match("*", "xx").error().outcome.text == 2);
+    CHECK(registry.match("ja-Latn-hepburn-alalc97-heploc", "ja").error().line() == "ReplacementRepeats alalc97");
+    CHECK(registry.match("en", "en", 0).error().status() == BCP47_BAD_CALL);
     CHECK(registry.explain("sgn-DD", 1).error().status() == BCP47_TOO_MANY_STEPS);
     CHECK(registry.explain("sgn-DD", 1).error().line() == "TooManySteps");
     CHECK(registry.explain("ja-Latn-hepburn-alalc97-heploc").error().line() == "ReplacementRepeats alalc97");
@@ -71,6 +75,8 @@ int main(int count, char **words) {
     CHECK(registry.extlang("yue").value() == "zh-yue" && registry.extlang("yue")->size() == 6);
     CHECK(registry.is_valid("zh-yue") && !registry.is_valid("") && !registry.is_valid(std::string_view()) && registry.validate("en"));
     CHECK(registry.equal("zh-yue", "YUE").value() && !registry.equal("zh-yue", "zh").value());
+    CHECK(registry.match("zh-yue", "yue-GB").value() && !registry.match("zh", "yue-GB").value());
+    CHECK(registry.match("de-DE", "de-Latn-DE").value() && !registry.match("de-DE", "de-Latn-DE", BCP47_BASIC).value());
     CHECK(registry.explain("sgn-DD").value() == "Region 2 27 sgn-DE\nWhole 1 44 gsg\n= gsg\n");
     CHECK(registry.verify("sgn-DD", {{BCP47_REGION, 2, 27}, {BCP47_WHOLE, 1, 44}}, "gsg") && registry.verify("en", {}, "EN"));
     CHECK(registry.upgrade_check(registry).has_value());

@@ -48,6 +48,7 @@ static const struct {
     const char *statement, *wanted;
 } rows[] = {
     {"SELECT bcp47_canonical('en')", NULL},
+    {"SELECT bcp47_match('en', 'en')", NULL},
     {"SELECT bcp47_registry()", "NULL"},
     {"SELECT bcp47_load(?)", "1"},
     {"SELECT bcp47_load(?)", "1"},
@@ -60,6 +61,10 @@ static const struct {
     {"SELECT bcp47_fault('ja-Latn-hepburn-alalc97-heploc')", "ReplacementRepeats alalc97"},
     {"SELECT bcp47_explain('sgn-dd')", "Region 2 27 sgn-DE\nWhole 1 44 gsg\n= gsg"},
     {"SELECT bcp47_equal('en-u-ca-buddhist-nu-latn', 'en-u-nu-latn-ca-buddhist')", "1"},
+    {"SELECT bcp47_match('yue-GB', 'zh-yue')", "1"},
+    {"SELECT bcp47_match('en-u-ca-buddhist-nu-latn', 'de')", "0"},
+    {"SELECT bcp47_match('en', 'e_n') IS NULL AND bcp47_match('e_n', 'en') IS NULL AND bcp47_match(NULL, 'en') IS NULL AND "
+     "bcp47_match('en', NULL) IS NULL", "1"},
     {"SELECT bcp47_part('zh-hant-hk', 'script')", "Hant"},
     {"SELECT substr(bcp47_registry(), 1, 10)", "2024-01-01"},
     {"SELECT bcp47_canonical(NULL) IS NULL AND bcp47_fault(NULL) IS NULL AND bcp47_explain(NULL) IS NULL AND bcp47_equal(NULL, 'en') "

@@ -54,6 +54,8 @@ static void ask_others(void) {
     bcp47_step step = {BCP47_REGION, 2, 1};
     bcp47_validate(registry, text, strlen(text));
     bcp47_equal(registry, text, strlen(text), "sgn-DD", 6, NULL, 0);
+    for (int scheme = BCP47_BASIC; scheme <= BCP47_LOOKUP; scheme++)
+        bcp47_match(registry, scheme, text, strlen(text), text, strlen(text), NULL, 0);
     bcp47_verify(registry, text, strlen(text), &step, 1, text, strlen(text));
 }
 

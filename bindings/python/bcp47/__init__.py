@@ -11,7 +11,7 @@ from __future__ import annotations
 import datetime
 import functools
 import os
-from typing import Any, Dict, Iterable, List, NamedTuple, NoReturn, Optional, Tuple, Type, TypeVar, Union, overload
+from typing import Any, Dict, Iterable, List, Literal, NamedTuple, NoReturn, Optional, Tuple, Type, TypeVar, Union, overload
 
 from . import _bcp47
 
@@ -24,7 +24,9 @@ _CLASSES = {1: "langtag", 2: "privateuse", 3: "grandfathered"}
 _REPEATS = 3
 _OF_EXTENSIONS = ("ExtensionSubtag", "Attribute", "Key", "Type", "SourceLanguage", "SourceExtlang", "SourceScript", "SourceRegion",
                   "SourceVariant", "Separator", "Value")
+_SCHEMES = {"basic": 1, "extended": 2, "lookup": 3}
 Missing = TypeVar("Missing")
+AnyTag = TypeVar("AnyTag", bound="Union[str, Tag]")
 
 
 class Refused(ValueError):
@@ -56,7 +58,8 @@ class Refused(ValueError):
 
 
 class RefusedTag(Refused):
-    """A text is no tag, a tag is not valid, or its replacements can repeat a variant, which `variant` names. `tag` is the text."""
+    """A text is no tag or no language range, a tag is not valid, or its replacements can repeat a variant, which `variant` names.
+    `tag` is the text."""
 
     tag: Optional[str] = None
     variant: Optional[str] = None
@@ -110,7 +113,7 @@ class Info(NamedTuple):
 
 # The names of statuses and of faults, with what to do.
 _STATUSES = tuple(_bcp47.names(number)[0:2] for number in range(17))
-_FAULTS = tuple(_bcp47.names(number)[2:4] for number in range(53))
+_FAULTS = tuple(_bcp47.names(number)[2:4] for number in range(54))
 
 
 def _refusal(name: str, status: int, fault: int, place: int, text: Optional[str], tag: object) -> Refused:
@@ -252,7 +255,7 @@ class Tag:
         return hash(self._text)
 
 
-def _listed(tags: Iterable[object]) -> Iterable[object]:
+def _listed(tags: Iterable[Missing]) -> Iterable[Missing]:
     if isinstance(tags, (str, bytes, Tag)):
         raise TypeError("many tags are a list or a column, and not one text")
     return tags
@@ -324,6 +327,41 @@ class Registry(_bcp47.Registry):
         except RefusedTag:
             return False
         return True
+
+    def matches(self, range: Union[str, Tag], tag: Union[str, Tag],
+                scheme: Literal["basic", "extended", "lookup"] = "extended") -> bool:
+        """Whether a language range matches a tag (RFC 4647), by their canonical forms: by basic filtering (3.3.1), by extended
+        filtering (3.3.2), or by lookup (3.4), where the range, cut from its end, is the tag. A range that is no valid tag, as
+        `zh-*`, is taken as it is written. Raises RefusedTag for the range, or else for the tag."""
+        if scheme not in _SCHEMES:
+            raise ValueError(f"a scheme is basic, extended or lookup, not {scheme!r}")
+        return self._match(_SCHEMES[scheme], range, tag)
+
+    def filter(self, ranges: Iterable[Union[str, Tag]], tags: Iterable[AnyTag],
+               scheme: Literal["basic", "extended"] = "extended") -> List[AnyTag]:
+        """The tags that a list of ranges by priority matches (RFC 4647, 3.3): those that its first range matches, in their order,
+        then of the others those that its second matches, and so on. Raises RefusedTag where any range or tag is refused."""
+        ranges = list(_listed(ranges))
+        found: List[Tuple[int, AnyTag]] = []
+        for tag in _listed(tags):
+            answers = [self.matches(it, tag, scheme) for it in ranges]
+            if True in answers:
+                found.append((answers.index(True), tag))
+        return [tag for _, tag in sorted(found, key=lambda it: it[0])]
+
+    @overload
+    def lookup(self, ranges: Iterable[Union[str, Tag]], tags: Iterable[AnyTag]) -> Optional[AnyTag]: ...
+    @overload
+    def lookup(self, ranges: Iterable[Union[str, Tag]], tags: Iterable[AnyTag], default: Missing) -> Union[AnyTag, Missing]: ...
+
+    def lookup(self, ranges: Iterable[Union[str, Tag]], tags: Iterable[Any], default: Any = None) -> Any:
+        """The tag that is found by a list of ranges by priority (RFC 4647, 3.4): by the first range that finds one, cut from its
+        end as little as it takes, and of equivalent tags the first; else the default. Raises RefusedTag where any range or tag is
+        refused."""
+        tags = list(_listed(tags))
+        found = [[tag for tag in tags if self.matches(it, tag, "lookup")] for it in _listed(ranges)]
+        # What ranges find are fronts of them: the longest text has the most subtags.
+        return next((max(those, key=lambda tag: len(self.canonical(tag))) for those in found if those), default)
 
     def explain(self, tag: Union[str, Tag], most: int = 1_000_000) -> Explanation:
         """The steps from a tag to its canonical form. Raises RefusedTag, also where there are more than `most`."""

@@ -136,6 +136,7 @@ class Calls(unittest.TestCase):
         self.assertRaises(ValueError, registry.canonical_many, ["en"])
         self.assertRaises(ValueError, registry.verify, "en", [])
         self.assertRaises(ValueError, registry.equivalent, "en", "en")
+        self.assertRaises(ValueError, registry.matches, "en", "en")
         self.assertRaises(ValueError, registry.__enter__)
 
     def test_refused_registries(self):
@@ -172,6 +173,73 @@ class Calls(unittest.TestCase):
         for thread in threads:
             thread.join()
         self.assertEqual(wrong, [])
+
+    def test_matches(self):
+        self.assertTrue(self.registry.matches("zh-yue", "yue-GB"))
+        self.assertTrue(self.registry.matches(bcp47.Tag("zh-yue"), bcp47.Tag("yue-GB"), scheme="basic"))
+        self.assertFalse(self.registry.matches("zh", "yue-GB"))
+        self.assertTrue(self.registry.matches("de-DE", "de-Latn-DE"))
+        self.assertFalse(self.registry.matches("de-DE", "de-Latn-DE", "basic"))
+        self.assertTrue(self.registry.matches("de-Latn-DE", "de", "lookup"))
+        repeats = "ja-Latn-hepburn-alalc97-heploc"
+        for range, tag, refused, line, variant in (
+            ("1996-de", "en_US", "1996-de", "BadFirst 0", None),
+            ("en_US", "en", "en_US", "BadByte 0", None),
+            ("xx-*", "xx", "xx", "UnknownLanguage 1", None),
+            (repeats, "e", repeats, "ReplacementRepeats alalc97", "alalc97"),
+            ("*", repeats, repeats, "ReplacementRepeats alalc97", "alalc97"),
+        ):
+            with self.assertRaises(bcp47.RefusedTag) as raised:
+                self.registry.matches(range, tag)
+            self.assertEqual((raised.exception.tag, str(raised.exception), raised.exception.variant), (refused, line, variant))
+        with self.assertRaises(bcp47.RefusedTag) as raised:
+            self.registry.filter(["1de"], ["en"])
+        self.assertEqual((raised.exception.status, raised.exception.fault), ("NotATag", "BadFirst"))
+        self.assertIn("begin with a language of letters", raised.exception.help)
+        for wrong in ("", "Basic", None, 1):
+            self.assertRaises(ValueError, self.registry.matches, "en", "en", wrong)
+            self.assertRaises(ValueError, self.registry.filter, ["en"], ["en"], wrong)
+        for wrong in (1, b"en", None):
+            self.assertRaises(TypeError, self.registry.matches, wrong, "en")
+            self.assertRaises(TypeError, self.registry.matches, "en", wrong)
+        for wrong in ("en", bcp47.Tag("en"), b"en", None):
+            for call in (self.registry.filter, self.registry.lookup):
+                self.assertRaises(TypeError, call, wrong, ["en"])
+                self.assertRaises(TypeError, call, ["en"], wrong)
+
+    def test_filter_and_lookup(self):
+        tags = ["zh", "cmn-Hans-GB", "he-GB", "yue", bcp47.Tag("zh-yue-GB")]
+        self.assertEqual(self.registry.filter(["zh-cmn", "iw"], tags), ["cmn-Hans-GB", "he-GB"])
+        self.assertEqual(self.registry.filter(iter(["iw", "cmn-gb", "*-GB"]), iter(tags)), ["he-GB", "cmn-Hans-GB", tags[4]])
+        self.assertEqual(self.registry.filter(["cmn-gb"], tags, "basic"), [])
+        self.assertEqual(self.registry.filter(["*", "zh"], tags, scheme="basic"), tags)
+        self.assertEqual((self.registry.filter([], tags), self.registry.filter(["*"], [])), ([], []))
+        self.assertEqual(self.registry.lookup(["cmn-gb", "iw-GB-x-own"], tags), "he-GB")
+        self.assertIs(self.registry.lookup(["zh-yue-GB-x-own"], tags), tags[4])
+        self.assertEqual(self.registry.lookup(["yue-Hans-GB"], ["de", "zh-yue", "yue"]), "zh-yue")
+        self.assertIsNone(self.registry.lookup(["*", "cmn"], tags))
+        self.assertEqual(self.registry.lookup(["*"], tags, default="en"), "en")
+        self.assertEqual(self.registry.lookup([], [], 7), 7)
+        for call in (self.registry.filter, self.registry.lookup):
+            self.assertRaises(bcp47.RefusedTag, call, ["zh", "e_n"], tags)
+            self.assertRaises(bcp47.RefusedTag, call, ["zh"], [*tags, "e_n"])
+
+    def test_examples_of_rfc_4647(self):
+        with bcp47.Registry.from_file(IANA) as registry:
+            self.assertTrue(registry.matches("zh-yue", "yue-HK"))
+            # 3.3.1
+            self.assertEqual(registry.filter(["de-de"], ["de-DE-1996", "de-Deva", "de-Latn-DE"], "basic"), ["de-DE-1996"])
+            self.assertEqual(registry.filter(["de-ch"], ["de-CH-1996", "de-CH", "de-DE", "de"], "basic"), ["de-CH-1996", "de-CH"])
+            # 3.3.2
+            found = ["de-DE", "de-de", "de-Latn-DE", "de-Latf-DE", "de-DE-x-goethe", "de-Latn-DE-1996", "de-Deva-DE"]
+            for range in ("de-*-DE", "de-DE"):
+                self.assertEqual(registry.filter([range], [*found, "de", "de-x-DE", "de-Deva"]), found)
+            # 3.4
+            tags = ["zh", "zh-Hant", "zh-Hant-CN", "zh-Hant-CN-x-private1", "zh-Hant-CN-x-private1-private2"]
+            while tags:
+                self.assertEqual(registry.lookup(["zh-Hant-CN-x-private1-private2"], tags), tags.pop())
+            self.assertEqual(registry.lookup(["fr-FR", "zh-Hant"], ["fr", "zh", "ja"]), "fr")
+            self.assertEqual(registry.lookup(["de-CH", "zh-Hant"], ["fr", "zh", "ja"], "ja-JP"), "zh")
 
     def test_iana(self):
         with bcp47.Registry.from_bytes(Path(IANA).read_bytes()) as registry:

@@ -3,3 +3,4 @@ pub mod Refusals
 pub mod Fronts
 pub mod KindNumbers
 pub mod PartKindNumbers
+pub mod MatchAnswers

@@ -7,3 +7,4 @@ pub mod Parts
 pub mod Steps
 pub mod Traces
 pub mod Ends
+pub mod Matches

@@ -8,7 +8,7 @@ status_names =
     codes "BufferTooSmall" ∷ codes "Different" ∷ codes "BadFile" ∷ codes "BadRecord" ∷ codes "Rejected" ∷
     codes "NoUpgrade" ∷ codes "NoSuchStep" ∷ codes "WrongEnd" ∷ []
 
--- those of no fault, of a text, a tag, the bytes of a registry, a record, the check and an upgrade
+-- those of no fault, of a text, a tag, the bytes of a registry, a record, the check, an upgrade and a language range
 unfoldable pub fault_names : List (List ℕ)
 fault_names =
     codes "None" ∷ codes "TooLong" ∷ codes "EmptySubtag" ∷ codes "BadByte" ∷ codes "LongSubtag" ∷
@@ -21,4 +21,4 @@ fault_names =
     codes "BadRange" ∷ codes "BadSubtag" ∷ codes "BadTag" ∷ codes "BadPreferred" ∷ codes "BadPrefix" ∷
     codes "C1" ∷ codes "C2" ∷ codes "C3" ∷ codes "C4" ∷ codes "C5" ∷ codes "C6" ∷ codes "C7" ∷ codes "C8" ∷
     codes "C9" ∷ codes "C10" ∷ codes "C11" ∷ codes "C12" ∷ codes "U1" ∷ codes "U2" ∷ codes "U3" ∷ codes "U4" ∷
-    codes "U5" ∷ codes "U6" ∷ []
+    codes "U5" ∷ codes "U6" ∷ codes "BadFirst" ∷ []

@@ -1,7 +1,11 @@
 -- The numbers of faults, as C sees them; 0 is none, and is beside the status where memory runs out.
 use Rattle.std.specs.Prelude.{ℕ, ◌≡◌, ◌≢◌, Option, Some, None}
+use Rattle.lt_subtag.specs.declared.SubtagFault.{SubtagFault}
+use Rattle.lt_subtag.specs.declared.SubtagFault.TheVariants as subtag_kinds
 use Rattle.lt_tag.specs.declared.faults.TagFaultKind.{TagFaultKind}
 use Rattle.lt_tag.specs.declared.faults.TagFaultKind.TheVariants as tag_kinds
+use Rattle.lt_range.specs.declared.faults.RangeFault.{RangeFault}
+use Rattle.lt_range.specs.declared.faults.RangeFault.TheVariants as range_kinds
 use Rattle.lt_registry.specs.declared.faults.ValidFaultKind.{ValidFaultKind}
 use Rattle.lt_registry.specs.declared.faults.ValidFaultKind.TheVariants as valid_kinds
 use Rattle.lt_jar.specs.declared.faults.JarFaultKind.{JarFaultKind}
@@ -89,6 +93,18 @@ upgrade_condition upgrades.SameExtlang = 49
 upgrade_condition upgrades.SameVariantLanguage = 50
 upgrade_condition upgrades.NoNewVariantLanguage = 51
 upgrade_condition upgrades.SameWhole = 52
+
+-- of a piece of a language range: those of a text
+abbrev pub subtag_fault : SubtagFault → ℕ
+subtag_fault subtag_kinds.Empty = 2
+subtag_fault subtag_kinds.BadByte = 3
+subtag_fault subtag_kinds.TooLong = 4
+
+-- of a language range
+abbrev pub range_fault : RangeFault → ℕ
+range_fault (range_kinds.BadSubtag fault) = subtag_fault fault
+range_fault range_kinds.BadFirst = 53
+range_fault range_kinds.OutOfMemory = 0
 
 -- the three kinds of tag (RFC 5646, 2.1)
 abbrev pub class : Class → ℕ

@@ -14,6 +14,7 @@ ghost use Rattle.lt_canon.specs.ExplanationTexts.{IsExplanationTextOf};
 ghost use Rattle.lt_canon.specs.TextAnswers.{IsExtlangTextOf};
 ghost use Rattle.lt_canon.specs.Texts.{IsCanonicalTextOf, IsTextRefusal};
 ghost use Rattle.bcp47_c.specs.Ends.{ChecksUpgrade, Classifies, Compares, CountsSteps, Opens, Shares, Validates};
+ghost use Rattle.bcp47_c.specs.Matches.{Matches};
 ghost use Rattle.bcp47_c.specs.Names.{fault_names, status_names};
 ghost use Rattle.bcp47_c.specs.Numbers as number_of;
 ghost use Rattle.bcp47_c.specs.Outcomes.{Answers, IsDelivered, ended};
@@ -22,6 +23,7 @@ ghost use Rattle.bcp47_c.specs.Traces.{Verifies};
 mod blocks;
 mod errors;
 mod handle;
+mod matching;
 mod names;
 mod numbers;
 mod opened;
@@ -299,6 +301,35 @@ pub extern "C" fn bcp47_handle_equal(
     outcome
 }
 
+/// Whether a language range matches a tag (RFC 4647), by the scheme of a number: 1 for basic filtering (3.3.1), 2 for
+/// extended filtering (3.3.2), 3 for lookup (3.4), where the range, cut from its end, is the tag. Status 0, or 6 where it
+/// does not. Both are matched by their canonical forms (RFC 5646, 4.5), so that `zh-yue` matches `yue-HK`; a range that is
+/// no valid tag, as `zh-*`, is taken as it is written.
+///
+/// - 1, and 1 as the text: the range is neither a valid tag nor a range (RFC 4647, 2.2), with the number of the fault of
+///   its leftmost piece at fault; 3, and 1 as the text: steps can repeat a variant of it, which is written.
+/// - 1, 2 or 3, and 2 as the text: else the tag is refused as by `bcp47_handle_canonical`.
+/// - 4: memory ran out. 14: the number is that of no scheme.
+#[unsafe(no_mangle)]
+pub extern "C" fn bcp47_handle_match(
+    alloc: Global,
+    handle: &mut Handle,
+    scheme: u32,
+    range: &[u8],
+    tag: &[u8],
+    buffer: &mut [u8],
+) -> Outcome
+    ghost registry: { List EntryParts }
+    requires { handle.old.held ≡ Some registry }
+    ensures kept { handle.new.held ≡ Some registry }
+    ensures answer { Matches registry scheme range.now tag.now buffer.old buffer.new result }
+{
+    let opened = take(alloc, handle);
+    let outcome = opened.matches(alloc, scheme, range, tag, buffer);
+    put(handle, opened);
+    outcome
+}
+
 /// Whether the registry that a handle holds upgrades an older one.
 fn check_newer(alloc: Global, older: &Opened, newer: &mut Handle) -> Outcome
     ghost registry: { List EntryParts }
@@ -347,11 +378,11 @@ pub extern "C" fn bcp47_write_status_name(status: u8, buffer: &mut [u8]) -> Outc
     deliver(ended(DONE), name.as_bytes(), buffer)
 }
 
-/// Writes the name of a fault, 0 to 52, as the program prints it: `BadByte` for 3; nothing for another number.
+/// Writes the name of a fault, 0 to 53, as the program prints it: `BadByte` for 3; nothing for another number.
 #[unsafe(no_mangle)]
 pub extern "C" fn bcp47_write_fault_name(fault: u8, buffer: &mut [u8]) -> Outcome
-    ensures named { fault ≤ 52 → IsDelivered (ended 0) (slice_index_or fault_names fault []) buffer.old buffer.new result }
-    ensures none { 52 < fault → IsDelivered (ended 0) [] buffer.old buffer.new result }
+    ensures named { fault ≤ 53 → IsDelivered (ended 0) (slice_index_or fault_names fault []) buffer.old buffer.new result }
+    ensures none { 53 < fault → IsDelivered (ended 0) [] buffer.old buffer.new result }
 {
     let name = if fault <= LAST_FAULT {
         fault_name(fault)

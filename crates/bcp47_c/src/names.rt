@@ -11,7 +11,7 @@ use crate::numbers::step_kind;
 pub(crate) const LAST_STATUS: u8 = 12;
 
 /// The greatest number of a fault.
-pub(crate) const LAST_FAULT: u8 = 52;
+pub(crate) const LAST_FAULT: u8 = 53;
 
 /// The name of a status.
 #[tactic(auto, unfolding(crate::specs::Names::status_names))]
@@ -40,7 +40,7 @@ pub(crate) fn status_name(status: u8) -> &'static str
 /// The name of a fault, as the program prints it.
 #[tactic(auto, unfolding(crate::specs::Names::fault_names))]
 pub(crate) fn fault_name(fault: u8) -> &'static str
-    requires { fault ≤ 52 }
+    requires { fault ≤ 53 }
     ensures { result.now ≡ slice_index_or fault_names fault [] }
 {
     match fault {
@@ -97,6 +97,7 @@ pub(crate) fn fault_name(fault: u8) -> &'static str
         50 => "U4",
         51 => "U5",
         52 => "U6",
+        53 => "BadFirst",
         _ => unreachable!(),
     }
 }

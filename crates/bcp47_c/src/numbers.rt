@@ -3,8 +3,8 @@ ghost use Rattle.std.specs.Prelude.{◌≡◌};
 ghost use Rattle.bcp47_c.specs.Numbers as numbers;
 
 use bcp47::{
-    Class, Condition, JarFaultKind, RecordFaultKind, StepKind, TagFaultKind, UpgradeCondition,
-    ValidFaultKind,
+    Class, Condition, JarFaultKind, RangeFault, RecordFaultKind, StepKind, SubtagFault,
+    TagFaultKind, UpgradeCondition, ValidFaultKind,
 };
 
 /// What was asked is done.
@@ -19,7 +19,7 @@ pub(crate) const REPLACEMENT_REPEATS: u8 = 3;
 pub(crate) const OUT_OF_MEMORY: u8 = 4;
 /// The text does not fit the buffer.
 pub(crate) const BUFFER_TOO_SMALL: u8 = 5;
-/// The two tags are not equivalent.
+/// The two tags are not equivalent, or the range does not match the tag.
 pub(crate) const DIFFERENT: u8 = 6;
 /// The bytes are not in the format of a registry.
 pub(crate) const BAD_FILE: u8 = 7;
@@ -33,6 +33,8 @@ pub(crate) const NO_UPGRADE: u8 = 10;
 pub(crate) const NO_SUCH_STEP: u8 = 11;
 /// The steps of a trace lead to another tag than its last.
 pub(crate) const WRONG_END: u8 = 12;
+/// The call is wrong: a number is that of no scheme.
+pub(crate) const BAD_CALL: u8 = 14;
 
 /// The number of a fault of a text.
 pub(crate) fn tag_fault(kind: TagFaultKind) -> u8
@@ -134,6 +136,28 @@ pub(crate) fn upgrade_condition(condition: UpgradeCondition) -> u8
         UpgradeCondition::SameVariantLanguage => 50,
         UpgradeCondition::NoNewVariantLanguage => 51,
         UpgradeCondition::SameWhole => 52,
+    }
+}
+
+/// The number of a fault of a piece of a language range.
+fn subtag_fault(fault: SubtagFault) -> u8
+    ensures { result ≡ numbers.subtag_fault fault }
+{
+    match fault {
+        SubtagFault::Empty => 2,
+        SubtagFault::BadByte => 3,
+        SubtagFault::TooLong => 4,
+    }
+}
+
+/// The number of a fault of a language range.
+pub(crate) fn range_fault(fault: RangeFault) -> u8
+    ensures { result ≡ numbers.range_fault fault }
+{
+    match fault {
+        RangeFault::BadSubtag(fault) => subtag_fault(fault),
+        RangeFault::BadFirst => 53,
+        RangeFault::OutOfMemory => 0,
     }
 }
 

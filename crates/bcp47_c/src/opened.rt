@@ -4,12 +4,14 @@ ghost use Rattle.lt_canon.specs.ExplanationTexts.{IsExplanationTextOf};
 ghost use Rattle.lt_canon.specs.Texts.{IsCanonicalTextOf, IsTextRefusal};
 ghost use Rattle.bcp47.specs.Promise.{ReadsBytes};
 ghost use Rattle.bcp47_c.specs.Ends.{ChecksUpgrade, Classifies, Compares, CountsSteps, Validates};
+ghost use Rattle.bcp47_c.specs.Matches.{Matches};
 ghost use Rattle.bcp47_c.specs.Outcomes.{Answers};
 ghost use Rattle.lt_canon.specs.TextAnswers.{IsExtlangTextOf};
 ghost use Rattle.bcp47_c.specs.Traces.{Verifies};
 
 use crate::errors::upgrade_said;
-use crate::numbers::{DIFFERENT, DONE};
+use crate::matching::{answer_match, scheme_of};
+use crate::numbers::{BAD_CALL, DIFFERENT, DONE};
 use crate::outcomes::{Outcome, Said, deliver, ended, refuse};
 use crate::steps::StepNumbers;
 use crate::texts::{classify, equality, read_pair, step_count, validity, write_extlang};
@@ -134,6 +136,23 @@ impl Opened {
             Ok(true) => deliver(ended(DONE), &[], buffer),
             Ok(false) => deliver(ended(DIFFERENT), &[], buffer),
             Err(refusal) => refuse(&refusal, buffer),
+        }
+    }
+
+    /// Whether a language range matches a tag, by the scheme of a number.
+    pub(crate) fn matches(
+        &self,
+        alloc: Global,
+        scheme: u32,
+        range: &[u8],
+        tag: &[u8],
+        buffer: &mut [u8],
+    ) -> Outcome
+        ensures { Matches self.now scheme range.now tag.now buffer.old buffer.new result }
+    {
+        match scheme_of(scheme) {
+            Some(known) => answer_match(alloc, &self.registry, known, range, tag, buffer),
+            None => deliver(ended(BAD_CALL), &[], buffer),
         }
     }
 

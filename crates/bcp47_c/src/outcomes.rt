@@ -13,9 +13,10 @@ use bcp47::TextRefusal;
 #[repr(C)]
 #[derive(Clone, Copy, Drop)]
 pub struct Outcome {
-    /// How the call ended: a status, 0 to 12, whose name `bcp47_write_status_name` writes.
+    /// How the call ended: a status, 0 to 12, whose name `bcp47_write_status_name` writes; or 14 for a wrong number of a
+    /// scheme.
     pub status: u32,
-    /// The number of the fault, 1 to 52, whose name `bcp47_write_fault_name` writes, or that of the class of a tag;
+    /// The number of the fault, 1 to 53, whose name `bcp47_write_fault_name` writes, or that of the class of a tag;
     /// else 0.
     pub detail: u32,
     /// The place of the fault: a subtag, a line, a record or a step, each counted from 1; of parts or steps that are
@@ -23,7 +24,7 @@ pub struct Outcome {
     pub place: u64,
     /// How many bytes the text has, also where it does not fit the buffer.
     pub length: usize,
-    /// 0: room for what the file in C tells, which of two texts is refused.
+    /// Of `bcp47_handle_match` which of its two texts is refused, 1 or 2; else 0, in whose place the file in C tells it.
     pub text: u32,
     /// 0.
     pub reserved: u32,

@@ -130,6 +130,16 @@ extern "C" {
         buffer: *mut c_char,
         room: usize,
     ) -> bcp47_outcome;
+    pub fn bcp47_match(
+        registry: *const bcp47_registry,
+        scheme: c_int,
+        range: *const c_char,
+        range_length: usize,
+        tag: *const c_char,
+        tag_length: usize,
+        buffer: *mut c_char,
+        room: usize,
+    ) -> bcp47_outcome;
     pub fn bcp47_explain(
         registry: *const bcp47_registry,
         text: *const c_char,

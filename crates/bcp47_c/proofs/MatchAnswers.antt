@@ -1,0 +1,54 @@
+-- Whether a range matches a tag, from its parts and the subtags of the tag.
+use Rattle.std.proofs.Common.{ℕ, ◌≡◌, ◌↔◌, Bool, IsTrue, List, [], inl, subst}
+use Rattle.std.specs.Prelude.{if◌then◌else◌}
+use Rattle.lt_tag.specs.Parts.{TagForm}
+use Rattle.lt_registry.specs.Parts.{EntryParts}
+use Rattle.lt_check.specs.Conditions.{IsChecked}
+use Rattle.lt_canon.specs.Texts.{ReadsAs}
+use Rattle.lt_range.specs.Ranges.{RangeParts}
+use Rattle.lt_match.specs.Matched.{HasCanonicalList, IsCanonicalRange, MatchesBy, MatchesTag}
+use Rattle.lt_match.specs.Laws.{MatchingIsDetermined}
+use Rattle.lt_match.proofs.MatchLaws.{determined}
+use Rattle.bcp47_c.specs.Matches.{IsMatchOf, matching, TellsMatch}
+use Rattle.bcp47_c.specs.Outcomes.{ended, IsDelivered}
+use Rattle.bcp47_c.specs.declared.matching.Scheme.{Scheme}
+use Rattle.bcp47_c.specs.declared.outcomes.Outcome.{Outcome}
+use Rattle.bcp47_c.specs.declared.outcomes.Said.{Said}
+
+-- a text matches by one range, and a tag by one list
+by_parts : (R : List EntryParts) → IsChecked R → (scheme : Scheme) (range : List ℕ) (parts : RangeParts) (tag : TagForm)
+    (list : List (List ℕ)) → IsCanonicalRange R range parts → HasCanonicalList R tag list
+    → MatchesTag R (matching scheme) range tag → MatchesBy (matching scheme) parts list
+by_parts R C scheme range parts tag list p l m =
+    let D : MatchingIsDetermined R = determined R C in
+    let listed = subst (λ (x : List (List ℕ)). MatchesBy (matching scheme) m.range x)
+    (D.list tag m.list list m.canonical l) m.matches in
+    subst (λ (x : RangeParts). MatchesBy (matching scheme) x list) (D.range range m.range parts m.is_range p) listed
+
+pub told_by_parts : (R : List EntryParts) → IsChecked R → (scheme : Scheme) (range text : List ℕ) (parts : RangeParts)
+    (list : List (List ℕ)) (answer : Bool) → IsCanonicalRange R range parts
+    → ReadsAs text (λ tag. HasCanonicalList R tag list) → IsTrue answer ↔ MatchesBy (matching scheme) parts list
+    → IsMatchOf R scheme range text answer
+told_by_parts R C scheme range text parts list answer p q d = record {
+  parts = parts;
+  is_range = p;
+  tag = q.tag;
+  read = q.read;
+  list = list;
+  canonical = q.holds;
+  matches = (
+    λ h. record { range = parts; is_range = p; list = list; canonical = q.holds; matches = d.0 h },
+    λ m. d.1 (by_parts R C scheme range parts q.tag list p q.holds m),
+  );
+}
+
+-- what is said of an answer is delivered
+pub told_match : (R : List EntryParts) (scheme : Scheme) (range text before after : List ℕ) (answer : Bool)
+    (said : Said) (o : Outcome) → IsMatchOf R scheme range text answer → said ≡ ended (if answer then 0 else 6)
+    → IsDelivered said [] before after o → TellsMatch R scheme range text before after o
+told_match R scheme range text before after answer said o m e d =
+    inl (record {
+      answer = answer;
+      is_answer = m;
+      delivered = subst (λ (s : Said). IsDelivered s [] before after o) e d;
+    })

@@ -1,0 +1,24 @@
+use Rattle.std.proofs.Common.{◌∙◌, ap, sym}
+use Rattle.std.specs.Prelude.{if◌then◌else◌}
+use Rattle.bcp47_c.specs.Outcomes.{ended}
+use Rattle.bcp47_c.proofs.MatchAnswers.{told_by_parts, told_match}
+use Rattle.bcp47_c.proofs.matching.answer_match.Goals as goal
+
+pub returns-then-is_matched : goal.returns-then-is_matched
+returns-then-is_matched c =
+    let answer = told_by_parts c.args.registry.now c.promise.ensures.checked c.args.scheme c.args.range.now
+    c.args.text.now c.in-Ok.canonical c.in-Ok-subtags_of_text.subtags c.is_matched.result
+    ((c.in-Ok.ensures {u = tt}).range) ((c.in-Ok-subtags_of_text.ensures {u = tt}).subtags) c.is_matched.ensures in
+    let said = c.ended.ensures ∙ ap (λ b. ended (if b then 0 else 6)) (sym c.if-is_matched.true) in
+    told_match c.args.registry.now c.args.scheme c.args.range.now c.args.text.now c.args.buffer.now
+    c.deliver.new.buffer c.is_matched.result c.ended.result c.deliver.result answer said c.deliver.ensures
+
+pub returns : goal.returns
+returns c =
+    let answer = told_by_parts c.args.registry.now c.promise.ensures.checked c.args.scheme c.args.range.now
+    c.args.text.now c.in-Ok.canonical c.in-Ok-subtags_of_text.subtags c.is_matched.result
+    ((c.in-Ok.ensures {u = tt}).range) ((c.in-Ok-subtags_of_text.ensures {u = tt}).subtags) c.is_matched.ensures in
+    let said = c.ended-else-is_matched.ensures ∙ ap (λ b. ended (if b then 0 else 6)) (sym c.if-is_matched.false) in
+    told_match c.args.registry.now c.args.scheme c.args.range.now c.args.text.now c.args.buffer.now
+    c.deliver-else-is_matched.new.buffer c.is_matched.result c.ended-else-is_matched.result
+    c.deliver-else-is_matched.result answer said c.deliver-else-is_matched.ensures

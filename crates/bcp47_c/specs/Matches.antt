@@ -1,0 +1,126 @@
+-- Whether a language range matches a tag (RFC 4647, 3), and how the call ends that tells it.
+use Rattle.std.specs.Prelude.{ℕ, ◌≡◌, ◌≢◌, ◌==◌, ◌⊎◌, ◌↔◌, if◌then◌else◌, Bool, IsTrue, List, [], Option, Some, None}
+use Rattle.lt_tag.specs.Faults.{HasTag}
+use Rattle.lt_tag.specs.Parts.{TagForm}
+use Rattle.lt_registry.specs.Parts.{EntryParts}
+use Rattle.lt_canon.specs.Texts.{IsTextRefusal}
+use Rattle.lt_range.specs.Ranges.{RangeParts}
+use Rattle.lt_match.specs.Matched.{BasicFiltering, ExtendedFiltering, HasCanonicalList, IsCanonicalRange, Lookup}
+use Rattle.lt_match.specs.Matched.{MatchesTag, MatchingScheme}
+use Rattle.lt_match.specs.Refusals.{IsRangeRefusal}
+use Rattle.lt_match.specs.declared.refusals.RangeRefusal.{RangeRefusal}
+use Rattle.lt_match.specs.declared.refusals.RangeRefusal.TheVariants as refusals
+use Rattle.bcp47_c.specs.Numbers.{range_fault}
+use Rattle.bcp47_c.specs.Outcomes.{ended, IsDelivered, IsRefusedAsOwed}
+use Rattle.bcp47_c.specs.declared.matching.Scheme.{Scheme}
+use Rattle.bcp47_c.specs.declared.matching.Scheme.TheVariants as schemes
+use Rattle.bcp47_c.specs.declared.outcomes.Outcome.{Outcome}
+use Rattle.bcp47_c.specs.declared.outcomes.Said.{Said}
+
+-- ---- schemes
+
+-- their numbers
+abbrev pub scheme_number : Scheme → ℕ
+scheme_number schemes.Basic = 1
+scheme_number schemes.Extended = 2
+scheme_number schemes.Lookup = 3
+
+-- the scheme that has a number, or that none has
+abbrev pub IsSchemeOf : ℕ → Option Scheme → Type 0
+IsSchemeOf n (Some scheme) = n ≡ scheme_number scheme
+IsSchemeOf n None = (scheme : Scheme) → n ≢ scheme_number scheme
+
+-- what they are (RFC 4647, 3.3.1, 3.3.2 and 3.4)
+abbrev pub matching : Scheme → MatchingScheme
+matching schemes.Basic = BasicFiltering
+matching schemes.Extended = ExtendedFiltering
+matching schemes.Lookup = Lookup
+
+-- ---- what is answered
+
+-- A range and a tag, of which both have a canonical form, match or do not (RFC 5646, 4.5; RFC 4647, 3).
+pub record IsMatchOf (R : List EntryParts) (scheme : Scheme) (range text : List ℕ) (answer : Bool) : Type 0 where
+  pub parts : RangeParts
+  pub is_range : IsCanonicalRange R range parts
+  pub tag : TagForm
+  pub read : HasTag text tag
+  pub list : List (List ℕ)
+  pub canonical : HasCanonicalList R tag list
+  pub matches : IsTrue answer ↔ MatchesTag R (matching scheme) range tag
+
+-- the status says whether they do
+pub record IsMatchTold (R : List EntryParts) (scheme : Scheme) (range text before after : List ℕ) (o : Outcome)
+    : Type 0 where
+  pub answer : Bool
+  pub is_answer : IsMatchOf R scheme range text answer
+  pub delivered : IsDelivered (ended (if answer then 0 else 6)) [] before after o
+
+-- ---- what is refused
+
+-- what is said of a range that is refused
+abbrev pub range_said : RangeRefusal → Said
+range_said (refusals.NotARange fault) = record { status = 1; detail = range_fault fault; place = 0 }
+range_said (refusals.ReplacementRepeats variant) = ended 3
+range_said refusals.OutOfMemory = ended 4
+
+-- the text that goes with it: the variant that can be repeated
+abbrev pub range_text : RangeRefusal → List ℕ
+range_text (refusals.NotARange fault) = []
+range_text (refusals.ReplacementRepeats variant) = variant
+range_text refusals.OutOfMemory = []
+
+-- an outcome of one of two texts
+abbrev pub told_of : ℕ → Outcome → Outcome
+told_of number o =
+    record {
+      status = o.status;
+      detail = o.detail;
+      place = o.place;
+      length = o.length;
+      text = number;
+      reserved = o.reserved;
+    }
+
+-- which of two texts an outcome is of: of none where memory ran out
+abbrev pub of_text : ℕ → Outcome → Outcome
+of_text number o = if o.status == 4 then o else told_of number o
+
+-- the range is refused
+pub record IsRangeRefused (R : List EntryParts) (range before after : List ℕ) (o : Outcome) : Type 0 where
+  pub refusal : RangeRefusal
+  pub owed : IsRangeRefusal R range refusal
+  pub alone : Outcome
+  pub delivered : IsDelivered (range_said refusal) (range_text refusal) before after alone
+  pub told : o ≡ of_text 1 alone
+
+-- or the tag is, and the range is not
+pub record IsTagRefused (R : List EntryParts) (range text before after : List ℕ) (o : Outcome) : Type 0 where
+  pub parts : RangeParts
+  pub is_range : IsCanonicalRange R range parts
+  pub alone : Outcome
+  pub refused : IsRefusedAsOwed (IsTextRefusal R text) before after alone
+  pub told : o ≡ of_text 2 alone
+
+-- ---- the call
+
+-- it is told whether the range matches the tag, or one of them is refused
+abbrev pub TellsMatch : List EntryParts → Scheme → List ℕ → List ℕ → List ℕ → List ℕ → Outcome → Type 0
+TellsMatch R scheme range text before after o =
+    IsMatchTold R scheme range text before after o
+    ⊎ (IsRangeRefused R range before after o ⊎ IsTagRefused R range text before after o)
+
+-- the number is that of a scheme, by which it is told
+pub record TellsByNumber (R : List EntryParts) (number : ℕ) (range text before after : List ℕ) (o : Outcome)
+    : Type 0 where
+  pub scheme : Scheme
+  pub numbered : number ≡ scheme_number scheme
+  pub told : TellsMatch R scheme range text before after o
+
+-- or it is that of none, and the call is wrong
+pub record IsWrongNumber (number : ℕ) (before after : List ℕ) (o : Outcome) : Type 0 where
+  pub none : (scheme : Scheme) → number ≢ scheme_number scheme
+  pub delivered : IsDelivered (ended 14) [] before after o
+
+abbrev pub Matches : List EntryParts → ℕ → List ℕ → List ℕ → List ℕ → List ℕ → Outcome → Type 0
+Matches R number range text before after o =
+    TellsByNumber R number range text before after o ⊎ IsWrongNumber number before after o

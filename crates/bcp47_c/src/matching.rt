@@ -1,0 +1,133 @@
+//! Whether a language range matches a tag, both by their texts.
+ghost use Rattle.std.specs.Prelude.{◌≡◌, ◌↔◌, IsTrue, IfOk, IfErr};
+ghost use Rattle.lt_canon.specs.Texts.{IsTextRefusal, ReadsAs};
+ghost use Rattle.lt_match.specs.Matched.{HasCanonicalList, MatchesBy};
+ghost use Rattle.bcp47_c.specs.Matches as spec;
+ghost use Rattle.bcp47_c.specs.Matches.{IsSchemeOf, TellsMatch, matching, of_text};
+ghost use Rattle.bcp47_c.specs.Outcomes.{IsDelivered};
+
+use crate::numbers::{DIFFERENT, DONE, NOT_A_TAG, OUT_OF_MEMORY, REPLACEMENT_REPEATS, range_fault};
+use crate::outcomes::{Outcome, Said, deliver, ended, refuse};
+use bcp47::{LanguageRange, RangeRefusal, Registry, Tag, TagSubtags, TextRefusal};
+use std::alloc::Global;
+
+/// The schemes of matching (RFC 4647, 3.3.1, 3.3.2 and 3.4).
+#[derive(Clone, Copy)]
+pub(crate) enum Scheme {
+    Basic,
+    Extended,
+    Lookup,
+}
+
+/// The scheme that has a number, if one has.
+pub(crate) fn scheme_of(number: u32) -> Option<Scheme>
+    ensures { IsSchemeOf number result }
+{
+    Some(match number {
+        1 => Scheme::Basic,
+        2 => Scheme::Extended,
+        3 => Scheme::Lookup,
+        _ => return None,
+    })
+}
+
+/// Whether a range matches a tag by a scheme.
+fn is_matched(scheme: Scheme, range: &LanguageRange, tag: &TagSubtags) -> bool
+    ensures { IsTrue result ↔ MatchesBy (matching scheme) range.now tag.now }
+{
+    match scheme {
+        Scheme::Basic => range.matches_basic(tag),
+        Scheme::Extended => range.matches_extended(tag),
+        Scheme::Lookup => range.falls_back_to(tag),
+    }
+}
+
+/// The subtags by which the tag is matched that a text is read as.
+#[tactic(auto, using(lt_canon::proofs::CanonicalForms::refused))]
+fn subtags_of_text(
+    alloc: Global,
+    registry: &Registry,
+    text: &[u8],
+) -> Result<TagSubtags, TextRefusal>
+    ensures subtags { IfOk result (λ subtags. ReadsAs text.now (λ tag. HasCanonicalList registry.now tag subtags)) }
+    ensures refusal { IfErr result (λ refusal. IsTextRefusal registry.now text.now refusal) }
+{
+    let tag = Tag::read(alloc, text)?;
+    Ok(registry.subtags(alloc, &tag)?)
+}
+
+/// What is said of a range that is refused.
+fn range_said(refusal: &RangeRefusal) -> Said
+    ensures { result ≡ spec.range_said refusal.now }
+{
+    match refusal {
+        RangeRefusal::NotARange(fault) => Said {
+            status: NOT_A_TAG,
+            detail: range_fault(*fault),
+            place: 0,
+        },
+        RangeRefusal::ReplacementRepeats(_) => ended(REPLACEMENT_REPEATS),
+        RangeRefusal::OutOfMemory => ended(OUT_OF_MEMORY),
+    }
+}
+
+/// The text that goes with it: the variant that can be repeated.
+fn range_text(refusal: &RangeRefusal) -> &[u8]
+    ensures { result.now ≡ spec.range_text refusal.now }
+{
+    match refusal {
+        RangeRefusal::ReplacementRepeats(variant) => variant.bytes(),
+        _ => &[],
+    }
+}
+
+/// Answers the refusal of a range.
+fn refuse_range(refusal: &RangeRefusal, buffer: &mut [u8]) -> Outcome
+    ensures { IsDelivered (spec.range_said refusal.now) (spec.range_text refusal.now) buffer.old buffer.new result }
+{
+    deliver(range_said(refusal), range_text(refusal), buffer)
+}
+
+/// The same outcome of the first or the second of two texts: of none where memory ran out.
+fn told_of(number: u32, outcome: Outcome) -> Outcome
+    ensures { result ≡ of_text number outcome }
+{
+    if outcome.status == u32::from(OUT_OF_MEMORY) {
+        return outcome;
+    }
+    Outcome {
+        status: outcome.status,
+        detail: outcome.detail,
+        place: outcome.place,
+        length: outcome.length,
+        text: number,
+        reserved: outcome.reserved,
+    }
+}
+
+/// Tells whether a language range matches a tag by a scheme, or which of the two is refused.
+pub(crate) fn answer_match(
+    alloc: Global,
+    registry: &Registry,
+    scheme: Scheme,
+    range: &[u8],
+    text: &[u8],
+    buffer: &mut [u8],
+) -> Outcome
+    ensures { TellsMatch registry.now scheme range.now text.now buffer.old buffer.new result }
+{
+    registry.promise();
+    let canonical = match registry.range(alloc, range) {
+        Ok(canonical) => canonical,
+        Err(refusal) => return told_of(1, refuse_range(&refusal, buffer)),
+    };
+    let subtags = match subtags_of_text(alloc, registry, text) {
+        Ok(subtags) => subtags,
+        Err(refusal) => return told_of(2, refuse(&refusal, buffer)),
+    };
+    if is_matched(scheme, &canonical, &subtags) {
+        deliver(ended(DONE), &[], buffer)
+    } else {
+        deliver(ended(DIFFERENT), &[], buffer)
+    }
+}
