@@ -62,9 +62,7 @@ pub(crate) fn look_ahead(
     }
     match form {
         LineForm::Tag => None,
-        LineForm::Row(row) => {
-            Some(look_at_row(Separator::Tab, lacks, row.before, text, count))
-        }
+        LineForm::Row(row) => { Some(look_at_row(Separator::Tab, lacks, row.before, text, count)) }
         LineForm::Csv(row, delimiter) => {
             let separator = Separator::Delimiter(delimiter);
             Some(look_at_row(separator, lacks, row.before, text, count))

@@ -115,13 +115,7 @@ fn is_open_from(delimiter: u8, text: &[u8], count: usize, start: usize) -> bool
 /// a text.
 #[tactic(auto, using(crate::proofs::LookLemmas::closed_row))]
 #[inline(always)]
-fn is_open(
-    separator: Separator,
-    lacks: Lacks,
-    text: &[u8],
-    count: usize,
-    start: usize,
-) -> bool
+fn is_open(separator: Separator, lacks: Lacks, text: &[u8], count: usize, start: usize) -> bool
     requires count { (start ≤ count) × (count ≤ length text.now) }
     requires lacks { LacksIn (take count text.now) lacks }
     ensures { (before : ℕ) → Skips separator before (take count text.now) (drop start (take count text.now)) → result ≡ ends_quoted separator (take count text.now) }
@@ -158,13 +152,7 @@ fn text_at(separator: Separator, row: &[u8], start: usize, end: usize) -> TextAt
 /// Looks for the field of a row after this many others, and whether the row ends within quotes. The row is the first
 /// `count` bytes of a text; one that lacks carriage returns by `lacks` has no line feeds either.
 #[inline(always)]
-pub fn look_at(
-    separator: Separator,
-    lacks: Lacks,
-    text: &[u8],
-    count: usize,
-    before: usize,
-) -> Look
+pub fn look_at(separator: Separator, lacks: Lacks, text: &[u8], count: usize, before: usize) -> Look
     requires count { count ≤ length text.now }
     requires lacks { LacksIn (take count text.now) lacks }
     ensures { IsLookAt separator before (take count text.now) result }

@@ -4,6 +4,6 @@ use Rattle.lt_rows.proofs.looks.is_free_of.Goals as goal
 
 pub returns-in-Some : goal.returns-in-Some
 returns-in-Some c = (
-    λ told. let bad : false ≡ true = told in cc,
-    λ free. absurd (no_split c.args.byte c.args.text.now _ _ free c.in-Some.ensures.1),
-  )
+  λ told. let bad : false ≡ true = told in cc,
+  λ free. absurd (no_split c.args.byte c.args.text.now _ _ free c.in-Some.ensures.1),
+)

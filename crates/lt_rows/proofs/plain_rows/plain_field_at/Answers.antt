@@ -8,10 +8,10 @@ use Rattle.lt_rows.proofs.plain_rows.plain_field_at.Goals.{After-loop-field}
 
 pub loop-field-init : goal.loop-field-init
 loop-field-init c = (
-    omega arith,
-    skips_none c.args.separator (take c.args.count c.args.text.now),
-    (c.with_more-near.result.now, c.with_more-near.ensures, c.memchr_iter-places.ensures.value ∙ ap (λ (byte : ℕ). places (is_byte byte) c.with_more-near.result.now) c.byte.ensures),
-  )
+  omega arith,
+  skips_none c.args.separator (take c.args.count c.args.text.now),
+  (c.with_more-near.result.now, c.with_more-near.ensures, c.memchr_iter-places.ensures.value ∙ ap (λ (byte : ℕ). places (is_byte byte) c.with_more-near.result.now) c.byte.ensures),
+)
 
 pub returns-in-None : goal.returns-in-None
 returns-in-None c =

@@ -46,9 +46,9 @@ returns-in_err-write_much g c =
 
 pub loop-line-preserved : goal.loop-line-preserved
 loop-line-preserved g c = (
-    turn_written _ _ _ _ _ _ _ _ (after_line g (goal.at.loop-line-preserved g c).In_ok-end_line) _ _ c.in_ok-write_much.ensures.writes,
-    after_lacks c.in-Some.line.now c.in-Some.after.now c.loop-line.rest.now c.lacks_in-lacks.result c.in-Some.ensures.1 c.loop-line.invariant.1,
-  )
+  turn_written _ _ _ _ _ _ _ _ (after_line g (goal.at.loop-line-preserved g c).In_ok-end_line) _ _ c.in_ok-write_much.ensures.writes,
+  after_lacks c.in-Some.line.now c.in-Some.after.now c.loop-line.rest.now c.lacks_in-lacks.result c.in-Some.ensures.1 c.loop-line.invariant.1,
+)
 
 pub end_line-requires-clause-lacks : goal.end_line-requires-clause-lacks
 end_line-requires-clause-lacks g c =
